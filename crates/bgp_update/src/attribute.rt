@@ -1,0 +1,168 @@
+//! Path attributes, one after the other.
+
+ghost use Rattle.std.specs.Prelude.{◌≡◌, ℕ, ◌≤◌, ◌<◌, Bool, true, IsTrue, List, Ok, Err, IfOk, IfErr, length};
+ghost use Rattle.mrt_frame.specs.declared.fault.Fault.TheVariants.{ShortAttribute};
+ghost use Rattle.mrt_frame.specs.Fields as fields;
+ghost use Rattle.mrt_frame.specs.Fields.{Reads};
+ghost use Rattle.bgp_update.specs.Keys.{keys_in};
+ghost use Rattle.bgp_update.specs.Segments.{number_len, path_in};
+ghost use Rattle.bgp_update.specs.Merging as merging;
+ghost use Rattle.bgp_update.specs.Attributes as attributes;
+ghost use Rattle.bgp_update.specs.Attributes.{length_len, fault_of};
+
+use crate::key::key_count;
+use crate::multiprotocol::{reach_in, unreach_in};
+use crate::route::{Aggregator, Origin};
+use crate::segment::segment_count;
+use crate::width::{Carrier, Width};
+use byteorder::{BigEndian, ByteOrder};
+use mrt_frame::{Fault, byte_at, bytes_at, u16_at};
+
+/// An attribute as it stands in a field.
+#[derive(Drop)]
+pub struct Attribute<'a> {
+    pub flags: u8,
+    pub code: u8,
+    pub value: &'a [u8],
+}
+
+/// The length of a value, in two bytes where the flag Extended Length is set.
+fn value_len_at(flags: u8, bytes: &[u8]) -> Result<(usize, &[u8]), Fault>
+    ensures { Reads (λ x. (x.0, x.1.now)) result (fields.number_at ShortAttribute (length_len flags) bytes.now) }
+{
+    if flags / 16 % 2 == 1 {
+        let (len, rest) = u16_at(bytes, Fault::ShortAttribute)?;
+        return Ok((len as usize, rest));
+    }
+    let (len, rest) = byte_at(bytes, Fault::ShortAttribute)?;
+    Ok((len as usize, rest))
+}
+
+/// An attribute, and the bytes after it.
+#[tactic(auto, unfolding(crate::specs::Attributes::attribute_at))]
+pub fn attribute_at(bytes: &[u8]) -> Result<(Attribute<'_>, &[u8]), Fault>
+    ensures { Reads (λ x. (record { flags = x.0.flags; code = x.0.code; value = x.0.value.now }, x.1.now)) result (attributes.attribute_at bytes.now) }
+{
+    let (flags, rest) = byte_at(bytes, Fault::ShortAttribute)?;
+    let (code, rest) = byte_at(rest, Fault::ShortAttribute)?;
+    let (len, rest) = value_len_at(flags, rest)?;
+    let (value, rest) = bytes_at(rest, len, Fault::ShortAttribute)?;
+    Ok((Attribute { flags, code, value }, rest))
+}
+
+pub fn origin_of(value: &[u8]) -> Option<Origin>
+    ensures { result ≡ attributes.origin_of value.now }
+{
+    if value.len() != 1 {
+        return None;
+    }
+    match value[0] {
+        0 => Some(Origin::Igp),
+        1 => Some(Origin::Egp),
+        2 => Some(Origin::Incomplete),
+        _ => None,
+    }
+}
+
+/// AGGREGATOR, read by its length.
+pub fn aggregator_of(value: &[u8]) -> Option<Aggregator>
+    ensures { result ≡ merging.aggregator_of value.now }
+{
+    if value.len() == 6 {
+        let asn = BigEndian::read_u16(value) as u32;
+        let addr = BigEndian::read_u32(&value[2..]);
+        Some(Aggregator { asn, addr })
+    } else {
+        as4_aggregator_of(value)
+    }
+}
+
+/// AS4_AGGREGATOR. One of another length is discarded.
+pub fn as4_aggregator_of(value: &[u8]) -> Option<Aggregator>
+    ensures { result ≡ merging.as4_aggregator_of value.now }
+{
+    if value.len() != 8 {
+        return None;
+    }
+    let asn = BigEndian::read_u32(value);
+    let addr = BigEndian::read_u32(&value[4..]);
+    Some(Aggregator { asn, addr })
+}
+
+fn fault_unless(is_formed: bool, fault: Fault) -> Option<Fault>
+    ensures { result ≡ attributes.fault_unless is_formed fault }
+{
+    if is_formed { None } else { Some(fault) }
+}
+
+/// The fault of a field of keys.
+#[tactic(auto, using(crate::proofs::Counts::counted_fault), unfolding(crate::specs::Keys::key_count_in))]
+fn keys_fault(bytes: &[u8], add_path: bool) -> Option<Fault>
+    ensures { result ≡ fault_of (keys_in add_path bytes.now) }
+{
+    key_count(bytes, add_path).err()
+}
+
+/// The fault of AS_PATH.
+#[tactic(auto, using(crate::proofs::Counts::counted_fault), unfolding(crate::specs::Segments::segment_count_in))]
+fn path_fault(value: &[u8], width: Width) -> Option<Fault>
+    ensures { result ≡ fault_of (path_in (number_len width) value.now) }
+{
+    segment_count(value, width).err()
+}
+
+/// The fault of attribute 14.
+#[tactic(auto, using(crate::proofs::Counts::fault_of_mapped))]
+fn reached_fault(carrier: Carrier, value: &[u8]) -> Option<Fault>
+    ensures { result ≡ attributes.reached_fault carrier value.now }
+{
+    match carrier {
+        Carrier::RibEntry => None,
+        Carrier::Message { add_path } => match reach_in(value) {
+            Ok(Some((_, keys))) => keys_fault(keys, add_path),
+            Ok(None) => None,
+            Err(fault) => Some(fault),
+        },
+    }
+}
+
+/// The fault of attribute 15.
+fn unreached_fault(carrier: Carrier, value: &[u8]) -> Option<Fault>
+    ensures { result ≡ attributes.unreached_fault carrier value.now }
+{
+    match carrier {
+        Carrier::RibEntry => None,
+        Carrier::Message { add_path } => match unreach_in(value) {
+            Ok(Some(keys)) => keys_fault(keys, add_path),
+            Ok(None) => None,
+            Err(fault) => Some(fault),
+        },
+    }
+}
+
+/// What is wrong with the value of an attribute of this type.
+#[tactic(auto, unfolding(crate::specs::Attributes::value_fault))]
+pub fn value_fault(carrier: Carrier, width: Width, code: u8, value: &[u8]) -> Option<Fault>
+    ensures { result ≡ attributes.value_fault carrier width code value.now }
+{
+    match code {
+        1 => fault_unless(origin_of(value).is_some(), Fault::BadAttribute(1)),
+        2 => path_fault(value, width),
+        3..=5 => fault_unless(value.len() == 4, Fault::BadAttribute(code)),
+        6 => fault_unless(value.is_empty(), Fault::BadAttribute(6)),
+        7 => fault_unless(value.len() == 6 || value.len() == 8, Fault::BadAttribute(7)),
+        14 => reached_fault(carrier, value),
+        15 => unreached_fault(carrier, value),
+        _ => None,
+    }
+}
+
+/// Whether a second attribute of a type is a fault.
+pub fn refuses_repeat(carrier: Carrier, code: u8) -> bool
+    ensures { result ≡ attributes.refuses_repeat carrier code }
+{
+    match carrier {
+        Carrier::RibEntry => false,
+        Carrier::Message { .. } => code == 14 || code == 15,
+    }
+}

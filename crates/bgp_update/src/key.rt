@@ -1,0 +1,97 @@
+//! Keys in messages: prefixes, each with a path identifier before it where ADD-PATH is in force.
+
+ghost use Rattle.std.specs.Prelude.{◌≡◌, ℕ, ◌≤◌, length, Ok, Some, OnOk, IfErr};
+ghost use Rattle.std.specs.Int.{div_ceil};
+ghost use Rattle.mrt_frame.specs.Fields.{Reads};
+ghost use Rattle.bgp_update.specs.Answers.{Gives};
+ghost use Rattle.bgp_update.specs.Keys as keys_spec;
+ghost use Rattle.bgp_update.specs.Keys.{route_keys_in, key_count_in};
+
+use crate::front::front_number;
+use crate::width::AttrError;
+use bgp_prefix::{Prefix, RouteKey};
+use mrt_frame::{Fault, byte_at, bytes_at};
+use std::alloc::Global;
+
+/// The bytes of a prefix of this length.
+#[inline]
+fn octets_at(len: u8, bytes: &[u8]) -> Result<(&[u8], &[u8]), Fault>
+    ensures { Reads (λ x. (x.0.now, x.1.now)) result (keys_spec.octets_at len bytes.now) }
+{
+    if len > 32 {
+        return Err(Fault::BadPrefix);
+    }
+    bytes_at(bytes, len.div_ceil(8) as usize, Fault::BadPrefix)
+}
+
+/// The prefix of this length, at most 32, whose first bytes these are.
+#[inline]
+fn prefix_of(len: u8, octets: &[u8]) -> Option<Prefix>
+    requires { length octets.now ≤ 4 }
+    ensures { len ≤ 32 → result ≡ Some (keys_spec.prefix_of len octets.now) }
+{
+    Prefix::new(front_number(octets), len)
+}
+
+/// A key, and the bytes after it.
+#[tactic(auto, unfolding(crate::specs::Keys::key_at, crate::specs::Keys::written_key_at))]
+#[inline]
+pub fn key_at(bytes: &[u8], add_path: bool) -> Result<(RouteKey, &[u8]), Fault>
+    ensures { Reads (λ x. (x.0, x.1.now)) result (keys_spec.key_at add_path bytes.now) }
+{
+    let identifier_len = if add_path { 4 } else { 0 };
+    let (identifier, rest) = bytes_at(bytes, identifier_len, Fault::BadPrefix)?;
+    let (len, rest) = byte_at(rest, Fault::BadPrefix)?;
+    let (octets, rest) = octets_at(len, rest)?;
+    let prefix = prefix_of(len, octets).ok_or(Fault::BadPrefix)?;
+    let id = front_number(identifier);
+    Ok((RouteKey { prefix, id }, rest))
+}
+
+/// How many keys a field has.
+pub fn key_count(bytes: &[u8], add_path: bool) -> Result<usize, Fault>
+    ensures { Reads (λ n. n) result (key_count_in add_path bytes.now) }
+{
+    let mut count = 0;
+    let mut rest = bytes;
+    while !rest.is_empty() {
+        match key_at(rest, add_path) {
+            Ok((_, after)) => {
+                count += 1;
+                rest = after;
+            }
+            Err(fault) => return Err(fault),
+        }
+    }
+    Ok(count)
+}
+
+/// These keys, and then those of a field.
+pub fn with_keys(
+    keys: Vec<RouteKey>,
+    bytes: &[u8],
+    add_path: bool,
+) -> Result<Vec<RouteKey>, AttrError>
+    ensures { Gives (λ v. v.items) result (keys_spec.with_keys keys.items (route_keys_in add_path bytes.now)) }
+{
+    let mut keys = keys;
+    let mut rest = bytes;
+    while !rest.is_empty() {
+        match key_at(rest, add_path) {
+            Ok((key, after)) => {
+                keys.push(key)?;
+                rest = after;
+            }
+            Err(fault) => return Err(AttrError::Bad(fault)),
+        }
+    }
+    Ok(keys)
+}
+
+/// The keys of a field.
+pub fn read_keys(alloc: Global, bytes: &[u8], add_path: bool) -> Result<Vec<RouteKey>, AttrError>
+    ensures { Gives (λ v. v.items) result (route_keys_in add_path bytes.now) }
+{
+    let count = key_count(bytes, add_path)?;
+    with_keys(Vec::with_capacity(alloc, count)?, bytes, add_path)
+}

@@ -1,0 +1,120 @@
+//! MP_REACH_NLRI and MP_UNREACH_NLRI, read for IPv4 unicast alone.
+
+ghost use Rattle.std.specs.Prelude.{◌≡◌, ℕ, ◌≤◌, IsTrue, length, option_map};
+ghost use Rattle.mrt_frame.specs.Fields.{Reads};
+ghost use Rattle.bgp_update.specs.Answers.{Gives};
+ghost use Rattle.bgp_update.specs.Keys as keys_spec;
+ghost use Rattle.bgp_update.specs.Multiprotocol as multiprotocol;
+ghost use Rattle.bgp_update.specs.Multiprotocol.{is_hop_len};
+
+use crate::key::{read_keys, with_keys};
+use crate::next_hop::NextHop;
+use crate::width::AttrError;
+use bgp_prefix::RouteKey;
+use byteorder::{BigEndian, ByteOrder};
+use mrt_frame::{Fault, byte_at, bytes_at};
+use std::alloc::Global;
+
+/// Whether a value is for AFI 1 and SAFI 1.
+fn is_ipv4_unicast(value: &[u8]) -> bool
+    requires { 3 ≤ length value.now }
+    ensures { result ≡ multiprotocol.is_ipv4_unicast value.now }
+{
+    BigEndian::read_u16(value) == 1 && value[2] == 1
+}
+
+/// The next hop of these bytes.
+#[tactic(auto, unfolding(crate::specs::Multiprotocol::next_hop_of))]
+fn next_hop_of(hop: &[u8]) -> NextHop
+    requires { IsTrue (is_hop_len (length hop.now)) }
+    ensures { result ≡ multiprotocol.next_hop_of hop.now }
+{
+    if hop.len() == 4 {
+        NextHop::V4(BigEndian::read_u32(hop))
+    } else if hop.len() == 16 {
+        NextHop::V6(BigEndian::read_u128(hop))
+    } else {
+        NextHop::V6Pair(BigEndian::read_u128(hop), BigEndian::read_u128(&hop[16..]))
+    }
+}
+
+/// A next hop behind its length, and behind a reserved byte the field of the keys.
+#[tactic(auto, unfolding(crate::specs::Multiprotocol::reach_at))]
+fn reach_at(bytes: &[u8]) -> Result<(NextHop, &[u8]), Fault>
+    ensures { Reads (λ x. (x.0, x.1.now)) result (multiprotocol.reach_at bytes.now) }
+{
+    let (len, rest) = byte_at(bytes, Fault::BadAttribute(14))?;
+    if len != 4 && len != 16 && len != 32 {
+        return Err(Fault::BadAttribute(14));
+    }
+    let (hop, rest) = bytes_at(rest, len as usize, Fault::BadAttribute(14))?;
+    let (_, keys) = byte_at(rest, Fault::BadAttribute(14))?;
+    Ok((next_hop_of(hop), keys))
+}
+
+/// The next hop and the field of keys of an attribute 14; none for another family.
+#[tactic(auto, unfolding(crate::specs::Multiprotocol::reach_in))]
+pub fn reach_in(value: &[u8]) -> Result<Option<(NextHop, &[u8])>, Fault>
+    ensures { Reads (λ o. option_map (λ r. (r.0, r.1.now)) o) result (multiprotocol.reach_in value.now) }
+{
+    if value.len() < 3 {
+        return Err(Fault::BadAttribute(14));
+    }
+    if !is_ipv4_unicast(value) {
+        return Ok(None);
+    }
+    let reach = reach_at(&value[3..])?;
+    Ok(Some(reach))
+}
+
+/// The field of keys of an attribute 15; none for another family.
+#[tactic(auto, unfolding(crate::specs::Multiprotocol::unreach_in))]
+pub fn unreach_in(value: &[u8]) -> Result<Option<&[u8]>, Fault>
+    ensures { Reads (λ o. option_map (λ r. r.now) o) result (multiprotocol.unreach_in value.now) }
+{
+    if value.len() < 3 {
+        return Err(Fault::BadAttribute(15));
+    }
+    if !is_ipv4_unicast(value) {
+        return Ok(None);
+    }
+    Ok(Some(&value[3..]))
+}
+
+/// The next hop and the keys that attribute 14 says.
+#[tactic(auto, unfolding(crate::specs::Multiprotocol::reached_keys, crate::specs::Keys::route_keys_in))]
+pub fn reached(
+    alloc: Global,
+    value: Option<&[u8]>,
+    add_path: bool,
+) -> Result<(Option<NextHop>, Vec<RouteKey>), AttrError>
+    ensures { Gives (λ x. (x.0, x.1.items)) result (multiprotocol.reached_keys add_path (option_map (λ v. v.now) value.entry)) }
+{
+    let Some(value) = value else {
+        return Ok((None, Vec::new(alloc)));
+    };
+    match reach_in(value) {
+        Ok(Some((hop, keys))) => Ok((Some(hop), read_keys(alloc, keys, add_path)?)),
+        Ok(None) => Ok((None, Vec::new(alloc))),
+        Err(fault) => Err(AttrError::Bad(fault)),
+    }
+}
+
+/// These keys, and then those that attribute 15 says.
+#[tactic(auto, unfolding(crate::specs::Multiprotocol::unreached_keys, crate::specs::Keys::route_keys_in))]
+pub fn with_unreached(
+    keys: Vec<RouteKey>,
+    value: Option<&[u8]>,
+    add_path: bool,
+) -> Result<Vec<RouteKey>, AttrError>
+    ensures { Gives (λ v. v.items) result (keys_spec.with_keys keys.items (multiprotocol.unreached_keys add_path (option_map (λ v. v.now) value.entry))) }
+{
+    let Some(value) = value else {
+        return Ok(keys);
+    };
+    match unreach_in(value) {
+        Ok(Some(field)) => with_keys(keys, field, add_path),
+        Ok(None) => Ok(keys),
+        Err(fault) => Err(AttrError::Bad(fault)),
+    }
+}

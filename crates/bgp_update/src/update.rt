@@ -1,0 +1,120 @@
+//! UPDATE messages and the attributes of RIB entries.
+
+ghost use Rattle.std.specs.Prelude.{◌≡◌, Ok, IfOk};
+ghost use Rattle.mrt_frame.specs.Fields.{Reads};
+ghost use Rattle.bgp_update.specs.Answers.{Gives};
+ghost use Rattle.bgp_update.specs.Attributes.{ReadsAsRoute, route_in};
+ghost use Rattle.bgp_update.specs.Updates as updates;
+ghost use Rattle.bgp_update.specs.Updates.{ReadsAsUpdate, said_update, update_in};
+ghost use Rattle.bgp_update.specs.Values.{kept_value};
+
+use crate::key::read_keys;
+use crate::multiprotocol::{reached, with_unreached};
+use crate::route::{Route, Update};
+use crate::saying::route_from;
+use crate::values::{FirstValues, first_values};
+use crate::width::{AttrError, Carrier, Width};
+use bgp_prefix::{RouteKey, Sequence};
+use mrt_frame::{Fault, bytes_at, u16_at};
+use std::alloc::Global;
+
+/// The fields of an UPDATE.
+#[derive(Drop)]
+struct UpdateFields<'a> {
+    withdrawn: &'a [u8],
+    attributes: &'a [u8],
+    announced: &'a [u8],
+}
+
+#[tactic(auto, unfolding(crate::specs::Updates::fields_in))]
+fn fields_in(body: &[u8]) -> Result<UpdateFields<'_>, Fault>
+    ensures { Reads (λ f. record { withdrawn = f.withdrawn.now; attributes = f.attributes.now; announced = f.announced.now }) result (updates.fields_in body.now) }
+{
+    if body.len() < 4 {
+        return Err(Fault::BadLength);
+    }
+    let (len, rest) = u16_at(body, Fault::BadUpdate)?;
+    let (withdrawn, rest) = bytes_at(rest, len as usize, Fault::BadUpdate)?;
+    let (len, rest) = u16_at(rest, Fault::BadUpdate)?;
+    let (attributes, announced) = bytes_at(rest, len as usize, Fault::BadUpdate)?;
+    Ok(UpdateFields {
+        withdrawn,
+        attributes,
+        announced,
+    })
+}
+
+/// The update of these keys and of what the attributes say.
+#[tactic(auto, unfolding(crate::specs::Updates::said_update))]
+fn update_from(
+    alloc: Global,
+    withdrawn: Vec<RouteKey>,
+    first: &FirstValues<'_>,
+    announced: Vec<RouteKey>,
+    width: Width,
+    add_path: bool,
+) -> Result<Update, AttrError>
+    ensures { Gives (λ update. update) result (said_update width add_path withdrawn.items (kept_value first.now) announced.items) }
+{
+    let withdrawn = with_unreached(withdrawn, first.value(15), add_path)?;
+    let (reached_hop, reached) = reached(alloc, first.value(14), add_path)?;
+    let route = route_from(alloc, first, width)?;
+    Ok(Update {
+        withdrawn: Sequence::from_vec(withdrawn),
+        announced: Sequence::from_vec(announced),
+        reached: Sequence::from_vec(reached),
+        route,
+        reached_hop,
+    })
+}
+
+#[tactic(auto, unfolding(crate::specs::Updates::update_in))]
+fn whole_update(
+    alloc: Global,
+    body: &[u8],
+    width: Width,
+    add_path: bool,
+) -> Result<Update, AttrError>
+    ensures { Gives (λ update. update) result (update_in width add_path body.now) }
+{
+    let fields = fields_in(body)?;
+    let withdrawn = read_keys(alloc, fields.withdrawn, add_path)?;
+    let first = first_values(fields.attributes, Carrier::Message { add_path }, width)?;
+    let announced = read_keys(alloc, fields.announced, add_path)?;
+    update_from(alloc, withdrawn, &first, announced, width, add_path)
+}
+
+#[tactic(auto, unfolding(crate::specs::Attributes::route_in))]
+fn whole_route(alloc: Global, bytes: &[u8], width: Width) -> Result<Route, AttrError>
+    ensures { Gives (λ route. route) result (route_in width bytes.now) }
+{
+    let first = first_values(bytes, Carrier::RibEntry, width)?;
+    let route = route_from(alloc, &first, width)?;
+    Ok(route)
+}
+
+/// The route that the attributes of a RIB entry spell.
+pub fn read_attrs(alloc: Global, bytes: &[u8], width: Width) -> Result<Route, AttrError>
+    // What is read is spelled so.
+    ensures found { IfOk result (ReadsAsRoute width bytes.now) }
+    // What is spelled so is read, unless memory runs out.
+    ensures only { (route : Route) → ReadsAsRoute width bytes.now route → Gives (λ r. r) result (Ok route) }
+    // Which fault it is.
+    ensures exact { Gives (λ r. r) result (route_in width bytes.now) }
+{
+    whole_route(alloc, bytes, width)
+}
+
+/// The UPDATE that the bytes after a message header spell.
+pub fn read_update(
+    alloc: Global,
+    body: &[u8],
+    width: Width,
+    add_path: bool,
+) -> Result<Update, AttrError>
+    ensures found { IfOk result (ReadsAsUpdate width add_path body.now) }
+    ensures only { (update : Update) → ReadsAsUpdate width add_path body.now update → Gives (λ u. u) result (Ok update) }
+    ensures exact { Gives (λ u. u) result (update_in width add_path body.now) }
+{
+    whole_update(alloc, body, width, add_path)
+}

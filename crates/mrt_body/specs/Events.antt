@@ -1,0 +1,67 @@
+-- What payloads mean (RFC 4271, 4.1 to 4.3).
+use Rattle.std.specs.Prelude.{◌≡◌, ◌≢◌, ℕ, ◌+◌, ◌^◌, ◌<◌, Bool, slice_index, List, ◌∷◌, ◌++◌, length, take, drop, replicate, Result, Ok, Err, nat_lt, ◌==◌, if◌then◌else◌}
+use Rattle.std.specs.List.{list_all}
+use Rattle.byteorder.specs.Endian.{big_number, big_bytes}
+use Rattle.bgp_prefix.specs.declared.key.RouteKey.{RouteKey}
+use Rattle.mrt_frame.specs.declared.fault.Fault.{Fault}
+use Rattle.mrt_frame.specs.declared.fault.Fault.TheVariants.{BadMarker, BadLength}
+use Rattle.mrt_frame.specs.Fields.{◌>>=◌}
+use Rattle.bgp_update.specs.declared.width.Width.{Width}
+use Rattle.bgp_update.specs.declared.width.Width.TheVariants.{Four}
+use Rattle.bgp_update.specs.Attributes.{ReadsAsRoute, route_in}
+use Rattle.bgp_update.specs.Updates.{ReadsAsUpdate, update_in}
+use Rattle.mrt_body.specs.declared.unit.Payload.{Payload}
+use Rattle.mrt_body.specs.declared.unit.Payload.TheVariants.{State, Message, Entry}
+use Rattle.mrt_body.specs.declared.meaning.Event.{Event}
+use Rattle.mrt_body.specs.declared.meaning.Event.TheVariants as event
+
+-- marker of 16 bytes FF, length 2 that counts the header, type 1
+abbrev pub marker : List ℕ
+marker = replicate 16 255
+
+abbrev pub message_header_len : ℕ
+message_header_len = 19
+
+-- the message of a type with this body
+abbrev pub message_bytes : ℕ → List ℕ → List ℕ
+message_bytes kind body = marker ++ (big_bytes 2 (message_header_len + length body) ++ (kind ∷ body))
+
+-- the type of an UPDATE
+abbrev pub UPDATE : ℕ
+UPDATE = 2
+
+-- A message is an UPDATE with its reading, or of another type, which isn't read.
+abbrev pub IsMessageEvent : Width → Bool → List ℕ → Event → Type 0
+IsMessageEvent width add_path bytes (event.Change update) = (body : List ℕ) × (bytes ≡ message_bytes UPDATE body) × (message_header_len + length body < 256 ^ 2) × ReadsAsUpdate width add_path body update
+IsMessageEvent width add_path bytes event.Other = (kind : ℕ) × (body : List ℕ) × (kind ≢ UPDATE) × (bytes ≡ message_bytes kind body) × (message_header_len + length body < 256 ^ 2)
+IsMessageEvent width add_path bytes (event.State old new) = ⊥
+IsMessageEvent width add_path bytes (event.Rib key route) = ⊥
+
+-- a RIB entry's attributes are read with four-octet AS numbers (RFC 6396, 4.3.4)
+abbrev pub IsEntryEvent : RouteKey → List ℕ → Event → Type 0
+IsEntryEvent key attrs (event.Rib other route) = (other ≡ key) × ReadsAsRoute Four attrs route
+IsEntryEvent key attrs (event.Change update) = ⊥
+IsEntryEvent key attrs (event.State old new) = ⊥
+IsEntryEvent key attrs event.Other = ⊥
+
+-- the event of a payload
+abbrev pub IsEvent : Payload → Event → Type 0
+IsEvent (State from to) e = e ≡ event.State from to
+IsEvent (Message bytes width add_path) e = IsMessageEvent width add_path bytes e
+IsEvent (Entry key attrs) e = IsEntryEvent key attrs e
+
+-- ---- reading, with the first fault
+
+-- the header passes: its type and the body
+unfoldable pub message_in : List ℕ → Result (ℕ × List ℕ) Fault
+message_in bytes =
+    if nat_lt (length bytes) message_header_len then Err BadLength else
+    (if list_all (λ b. b == 255) (take 16 bytes) then (if big_number 2 (drop 16 bytes) == length bytes then Ok (slice_index bytes 18, drop 19 bytes) else Err BadLength) else Err BadMarker)
+
+unfoldable pub message_event_in : Width → Bool → List ℕ → Result Event Fault
+message_event_in width add_path bytes = message_in bytes >>= λ m. if m.0 == UPDATE then (update_in width add_path m.1 >>= λ update. Ok (event.Change update)) else Ok event.Other
+
+unfoldable pub event_in : Payload → Result Event Fault
+event_in (State from to) = Ok (event.State from to)
+event_in (Message bytes width add_path) = message_event_in width add_path bytes
+event_in (Entry key attrs) = route_in Four attrs >>= λ route. Ok (event.Rib key route)

@@ -1,0 +1,57 @@
+//! What payloads mean (RFC 4271, 4.1 to 4.3).
+
+ghost use Rattle.std.specs.Prelude.{◌≡◌, IfOk, Ok};
+ghost use Rattle.bgp_update.specs.Answers.{Gives};
+ghost use Rattle.mrt_body.specs.Events.{event_in, message_event_in};
+
+use crate::meaning::Event;
+use crate::message::message_in;
+use crate::unit::Payload;
+use bgp_update::{AttrError, Width, read_attrs, read_update};
+use std::alloc::Global;
+
+/// The type of an UPDATE message.
+const UPDATE: u8 = 2;
+
+/// The event of a message.
+#[tactic(auto, unfolding(crate::specs::Events::message_event_in))]
+fn message_event(
+    alloc: Global,
+    bytes: &[u8],
+    width: Width,
+    add_path: bool,
+) -> Result<Event, AttrError>
+    ensures { Gives (λ e. e) result (message_event_in width add_path bytes.now) }
+{
+    let (kind, body) = match message_in(bytes) {
+        Ok(message) => message,
+        Err(fault) => return Err(AttrError::Bad(fault)),
+    };
+    if kind != UPDATE {
+        return Ok(Event::Other);
+    }
+    match read_update(alloc, body, width, add_path) {
+        Ok(update) => Ok(Event::Change(update)),
+        Err(error) => Err(error),
+    }
+}
+
+/// The one event of a payload, or its first fault in the order of checks. A fault means that the
+/// unit is damaged and changes no route.
+#[tactic(auto, unfolding(crate::specs::Events::event_in))]
+pub fn event(alloc: Global, payload: &Payload) -> Result<Event, AttrError>
+    ensures exact { Gives (λ e. e) result (event_in payload.now) }
+{
+    match payload {
+        Payload::State { from, to } => Ok(Event::State(*from, *to)),
+        Payload::Message {
+            bytes,
+            width,
+            add_path,
+        } => message_event(alloc, bytes.as_slice(), *width, *add_path),
+        Payload::Entry { key, attrs } => match read_attrs(alloc, attrs.as_slice(), Width::Four) {
+            Ok(route) => Ok(Event::Rib(*key, route)),
+            Err(error) => Err(error),
+        },
+    }
+}

@@ -1,0 +1,15 @@
+use bgp_prefix::RouteKey;
+use bgp_update::{Route, Update};
+
+/// What a payload means.
+#[derive(Drop)]
+pub enum Event {
+    /// A state change: the old and the new state.
+    State(u16, u16),
+    /// An UPDATE.
+    Change(Update),
+    /// A RIB entry, which announces its key.
+    Rib(RouteKey, Route),
+    /// A message of another type, which is not read.
+    Other,
+}

@@ -1,0 +1,67 @@
+use bgp_prefix::{RouteKey, Sequence};
+use bgp_update::Width;
+use mrt_frame::Fault;
+
+/// The address of a peer.
+#[derive(Clone, Copy, Debug, PartialEq, Eq)]
+pub enum PeerAddr {
+    V4(u32),
+    V6(u128),
+}
+
+/// A peer: its AS number as recorded and its address. AS 23456 is not resolved.
+#[derive(Clone, Copy, Debug, PartialEq, Eq)]
+pub struct PeerKey {
+    pub asn: u32,
+    pub addr: PeerAddr,
+}
+
+/// Where a unit or a fault stands: the number of the file from 0, the offset of the record in it in
+/// bytes, and for an entry of a RIB record its number from 1. Ordered in this order.
+#[derive(Clone, Copy, Debug, PartialEq, Eq, PartialOrd, Ord)]
+pub struct Place {
+    pub file: usize,
+    pub offset: u64,
+    pub entry: Option<u16>,
+}
+
+/// A fault, and where it stands.
+#[derive(Clone, Copy, Debug, PartialEq, Eq)]
+pub struct Damage {
+    pub place: Place,
+    pub fault: Fault,
+}
+
+/// What a unit says, as it stands in the record: its bytes are not yet interpreted.
+#[derive(Debug, Drop)]
+pub enum Payload {
+    /// A state change (RFC 6396, 4.4.1): the old and the new state, any numbers.
+    State { from: u16, to: u16 },
+    /// A BGP message (RFC 6396, 4.4.2 and 4.4.3; with identifiers RFC 8050, 3).
+    Message {
+        bytes: Sequence<u8>,
+        width: Width,
+        add_path: bool,
+    },
+    /// An entry of a RIB record (RFC 6396, 4.3.4; with an identifier RFC 8050, 4.1).
+    Entry {
+        key: RouteKey,
+        attrs: Sequence<u8>,
+    },
+}
+
+/// A message, a state change or a RIB entry of one peer. Its time is in microseconds since 1970 UTC.
+#[derive(Debug, Drop)]
+pub struct Unit {
+    pub place: Place,
+    pub time: u64,
+    pub peer: PeerKey,
+    pub payload: Payload,
+}
+
+/// What stands next in the files: a unit, or a record that gives none.
+#[derive(Debug, Drop)]
+pub enum Found {
+    Unit(Unit),
+    Refused(Damage),
+}

@@ -1,0 +1,6 @@
+pub mod Devices
+pub mod Cuts
+pub mod Frames
+pub mod Cutting
+pub mod Writes
+pub mod Fields

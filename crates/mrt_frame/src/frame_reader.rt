@@ -1,0 +1,168 @@
+// Records, one at a time, from a reader.
+ghost use Rattle.std.specs.Prelude.{◌≡◌, ◌<◌, ◌≤◌, ◌≢◌, ◌+◌, ◌^◌, ℕ, List, Option, Some, None, IfOk, IfErr, IfSome, OnOk, OnErr, Ok, Err, option_to_list, length, vec_len};
+ghost use Rattle.std.specs.Io.KnownBytes.{Consumes, IsAtEnd};
+ghost use Rattle.mrt_frame.specs.Frames.{Position, IsFirstCut, TakesCuts, ReadsNoMoreThan, StandsAt, IsReadCause, HasCause, Repeats, phase_after, start_of};
+
+use crate::cut::Cut;
+use crate::device::Source;
+use crate::error::ReplayError;
+use crate::fault::Fault;
+use crate::filling::read_full;
+use crate::header::{HEADER_SIZE, Header, is_within_limits};
+use crate::phase::Phase;
+use bgp_prefix::Sequence;
+use std::alloc::Global;
+use std::marker::Model;
+
+/// Cuts what a reader gives into records, and holds one at a time.
+#[derive(Debug, Drop)]
+pub struct FrameReader {
+    file: usize,
+    offset: u64,
+    phase: Phase,
+}
+
+impl Model for FrameReader {
+    ghost use Rattle.std.specs.Prelude.{◌≤◌, ◌^◌};
+    ghost use Rattle.mrt_frame.specs.Frames.{Position};
+
+    ghost Value = { Position };
+
+    ghost view = { λ r. record { file = r.file; offset = r.offset; phase = r.phase } };
+
+    ghost invariant = { λ r. r.offset ≤ 2 ^ 62 };
+}
+
+impl FrameReader {
+    /// At the start of the file of this number.
+    pub fn new(file: usize) -> FrameReader
+        ensures { result ≡ start_of file }
+    {
+        FrameReader {
+            file,
+            offset: 0,
+            phase: Phase::Reading,
+        }
+    }
+
+    /// The next cut, or `None` at the end and after a broken one.
+    pub fn next<R: Source>(
+        &mut self,
+        alloc: Global,
+        reader: &mut R,
+    ) -> Result<Option<Cut>, ReplayError>
+        ensures first { IfOk result (λ cut. TakesCuts self.old (R.remaining reader.old) self.new (R.remaining reader.new) (option_to_list cut)) }
+        ensures phase { IfOk result (λ cut. self.new.phase ≡ phase_after cut) }
+        ensures place { IfOk result (λ cut. IfSome cut (StandsAt self.old.offset)) }
+        ensures cause { IfErr result (HasCause self.old self.new (R.failure_count reader.old) (R.failure_count reader.new)) }
+        ensures counted { OnOk result (R.failure_count reader.new ≡ R.failure_count reader.old) }
+        ensures reads { ReadsNoMoreThan (12 + 16777216) (R.remaining reader.old) (R.remaining reader.new) }
+        ensures repeats { self.old.phase ≢ Phase.Reading → (self.new ≡ self.old) × (reader.new ≡ reader.old) × Repeats self.old result }
+        ensures file { self.new.file ≡ self.old.file }
+    {
+        match self.phase {
+            Phase::Reading => self.advance(alloc, reader),
+            Phase::Ended => Ok(None),
+            Phase::Failed => Err(ReplayError::Read { file: self.file }),
+            Phase::Spent => Err(ReplayError::Spent),
+        }
+    }
+
+    fn advance<R: Source>(
+        &mut self,
+        alloc: Global,
+        reader: &mut R,
+    ) -> Result<Option<Cut>, ReplayError>
+        requires { self.old.phase ≡ Phase.Reading }
+        ensures first { IfOk result (λ cut. TakesCuts self.old (R.remaining reader.old) self.new (R.remaining reader.new) (option_to_list cut)) }
+        ensures phase { IfOk result (λ cut. self.new.phase ≡ phase_after cut) }
+        ensures place { IfOk result (λ cut. IfSome cut (StandsAt self.old.offset)) }
+        ensures cause { IfErr result (HasCause self.old self.new (R.failure_count reader.old) (R.failure_count reader.new)) }
+        ensures counted { OnOk result (R.failure_count reader.new ≡ R.failure_count reader.old) }
+        ensures reads { ReadsNoMoreThan (12 + 16777216) (R.remaining reader.old) (R.remaining reader.new) }
+        ensures file { self.new.file ≡ self.old.file }
+    {
+        let result = read_cut(alloc, self.file, self.offset, reader);
+        match &result {
+            Ok(Some(Cut::Whole { body, .. })) => {
+                self.offset += u64::from(HEADER_SIZE) + body.as_slice().len() as u64;
+            }
+            Ok(_) => self.phase = Phase::Ended,
+            Err(ReplayError::Read { .. }) => self.phase = Phase::Failed,
+            Err(_) => self.phase = Phase::Spent,
+        }
+        result
+    }
+}
+
+/// The first cut of what the reader still gives, which stands at this offset of the file.
+fn read_cut<R: Source>(
+    alloc: Global,
+    file: usize,
+    offset: u64,
+    reader: &mut R,
+) -> Result<Option<Cut>, ReplayError>
+    ensures first { IfOk result (IsFirstCut offset (R.remaining reader.old) (R.remaining reader.new)) }
+    ensures place { IfOk result (λ cut. IfSome cut (StandsAt offset)) }
+    ensures cause { IfErr result (IsReadCause file (R.failure_count reader.old) (R.failure_count reader.new)) }
+    ensures counted { OnOk result (R.failure_count reader.new ≡ R.failure_count reader.old) }
+    ensures reads { ReadsNoMoreThan (12 + 16777216) (R.remaining reader.old) (R.remaining reader.new) }
+{
+    let mut header = [0; 12];
+    let Ok(count) = read_full(reader, &mut header) else {
+        return Err(ReplayError::Read { file });
+    };
+    if count == 0 {
+        return Ok(None);
+    }
+    if count < header.len() {
+        return Ok(Some(Cut::Broken {
+            offset,
+            fault: Fault::ShortHeader,
+        }));
+    }
+    let header = Header::parse(&header);
+    if !is_within_limits(offset, header.length) {
+        return Ok(Some(Cut::Broken {
+            offset,
+            fault: Fault::BodyTooLong,
+        }));
+    }
+    let bytes = read_body(alloc, file, header.length, reader)?;
+    if bytes.len() < header.length as usize {
+        return Ok(Some(Cut::Broken {
+            offset,
+            fault: Fault::ShortBody,
+        }));
+    }
+    Ok(Some(Cut::Whole {
+        offset,
+        seconds: header.seconds,
+        kind: header.kind,
+        subtype: header.subtype,
+        body: Sequence::from_vec(bytes),
+    }))
+}
+
+/// The next bytes of the reader: so many, or all where it ends before.
+fn read_body<R: Source>(
+    alloc: Global,
+    file: usize,
+    length: u32,
+    reader: &mut R,
+) -> Result<Vec<u8>, ReplayError>
+    ensures bound { IfOk result (λ body. vec_len body ≤ length) }
+    ensures bytes { IfOk result (λ body. Consumes (R.remaining reader.old) (R.remaining reader.new) body.items) }
+    ensures end { IfOk result (λ body. vec_len body < length → IsAtEnd (R.remaining reader.new)) }
+    ensures cause { IfErr result (IsReadCause file (R.failure_count reader.old) (R.failure_count reader.new)) }
+    ensures counted { OnOk result (R.failure_count reader.new ≡ R.failure_count reader.old) }
+    ensures err { OnErr result (ReadsNoMoreThan length (R.remaining reader.old) (R.remaining reader.new)) }
+{
+    let mut bytes = Vec::new(alloc);
+    bytes.resize(length as usize, 0)?;
+    let Ok(count) = read_full(reader, bytes.as_mut_slice()) else {
+        return Err(ReplayError::Read { file });
+    };
+    bytes.truncate(count);
+    Ok(bytes)
+}

@@ -1,0 +1,178 @@
+use super::*;
+use std::alloc::Global;
+use std::io;
+use std::io::{ErrorKind, Read, Write};
+use std::process::Abort;
+use std::test::Fail;
+
+/// An UPDATE that announces 10.0.0.0/8, in a record of 77 bytes.
+const UPDATE: [u8; 77] = [
+    0, 0, 0, 1, 0, 16, 0, 4, 0, 0, 0, 65, 0, 0, 253, 232, 0, 0, 253, 233, 0, 0, 0, 1, 192, 0, 2, 1,
+    192, 0, 2, 2, 255, 255, 255, 255, 255, 255, 255, 255, 255, 255, 255, 255, 255, 255, 255, 255,
+    0, 45, 2, 0, 0, 0, 20, 64, 1, 1, 0, 64, 2, 6, 2, 1, 0, 0, 253, 232, 64, 3, 4, 192, 0, 2, 1, 8,
+    10,
+];
+
+/// Gives its bytes in pieces, and fails in place of the end.
+#[derive(Drop)]
+struct Failing {
+    bytes: Vec<u8>,
+    at: usize,
+    piece: usize,
+    asked: u32,
+}
+
+impl Read for Failing {
+    fn read(&mut self, buf: &mut [u8]) -> io::Result<usize> {
+        if self.at >= self.bytes.len() {
+            self.asked = self.asked.saturating_add(1);
+            return Err(io::Error::from(ErrorKind::Interrupted));
+        }
+        let left = &self.bytes[self.at..];
+        let count = self.piece.min(buf.len()).min(left.len());
+        buf[..count].copy_from_slice(&left[..count]);
+        self.at += count;
+        Ok(count)
+    }
+}
+
+/// The update so many times, and then the first bytes of another.
+fn updates(alloc: Global, times: u8, more: &[u8]) -> Result<Vec<u8>, Fail> {
+    let mut bytes = Vec::new(alloc);
+    for _ in 0..times {
+        bytes.extend_from_slice(&UPDATE)?;
+    }
+    bytes.extend_from_slice(more)?;
+    Ok(bytes)
+}
+
+fn expect_update(rt: &impl Abort, cut: &Option<Cut>, at: u64) {
+    match cut {
+        Some(
+            Cut::Whole {
+                offset,
+                seconds,
+                kind,
+                subtype,
+                body,
+            },
+        ) => {
+            assert!(rt; *offset == at);
+            assert!(rt; *seconds == 1 && *kind == 16 && *subtype == 4);
+            assert!(rt; body.as_slice() == &UPDATE[12..]);
+        }
+        _ => assert!(rt; false),
+    }
+}
+
+fn expect_broken(rt: &impl Abort, cut: &Option<Cut>, at: u64, why: Fault) {
+    match cut {
+        Some(Cut::Broken { offset, fault }) => {
+            assert!(rt; *offset == at);
+            assert!(rt; *fault == why);
+        }
+        _ => assert!(rt; false),
+    }
+}
+
+#[test]
+fn a_whole_record_and_a_short_header(rt: HostRuntime) -> Result<(), Fail> {
+    let alloc = rt.alloc();
+    let bytes = updates(alloc, 1, &[0, 0, 0])?;
+    let mut reader = Counted::new(bytes.as_slice());
+    let mut frames = FrameReader::new(0);
+    expect_update(&rt, &frames.next(alloc, &mut reader)?, 0);
+    expect_broken(&rt, &frames.next(alloc, &mut reader)?, 77, Fault::ShortHeader);
+    assert!(rt; frames.next(alloc, &mut reader)?.is_none());
+    assert!(rt; frames.next(alloc, &mut reader)?.is_none());
+    Ok(())
+}
+
+#[test]
+fn a_failing_read_is_told_and_repeated(rt: HostRuntime) -> Result<(), Fail> {
+    let alloc = rt.alloc();
+    let bytes = updates(alloc, 1, &UPDATE[..12])?;
+    let mut reader = Counted::new(Failing {
+        bytes,
+        at: 0,
+        piece: 5,
+        asked: 0,
+    });
+    let mut frames = FrameReader::new(3);
+    expect_update(&rt, &frames.next(alloc, &mut reader)?, 0);
+    assert!(rt; reader.failures() == 0);
+    for _ in 0..2u8 {
+        match frames.next(alloc, &mut reader) {
+            Err(error) => assert!(rt; error == ReplayError::Read { file: 3 }),
+            Ok(_) => assert!(rt; false),
+        }
+    }
+    assert!(rt; reader.failures() == 1);
+    assert!(rt; reader.device().asked == 1);
+    Ok(())
+}
+
+#[test]
+fn short_reads_cut_the_same_records(rt: HostRuntime) -> Result<(), Fail> {
+    let alloc = rt.alloc();
+    let bytes = updates(alloc, 2, &[])?;
+    let mut reader = Counted::new(Failing {
+        bytes,
+        at: 0,
+        piece: 1,
+        asked: 0,
+    });
+    let mut frames = FrameReader::new(0);
+    expect_update(&rt, &frames.next(alloc, &mut reader)?, 0);
+    expect_update(&rt, &frames.next(alloc, &mut reader)?, 77);
+    Ok(())
+}
+
+#[test]
+fn faults_of_a_rest(rt: HostRuntime) -> Result<(), Fail> {
+    let alloc = rt.alloc();
+    let mut short = Counted::new(&UPDATE[..76]);
+    let mut frames = FrameReader::new(0);
+    expect_broken(&rt, &frames.next(alloc, &mut short)?, 0, Fault::ShortBody);
+    let long = [0, 0, 0, 1, 0, 16, 0, 4, 1, 0, 0, 1, 1, 2, 3, 4, 5];
+    let mut long = Counted::new(long.as_slice());
+    let mut frames = FrameReader::new(0);
+    expect_broken(&rt, &frames.next(alloc, &mut long)?, 0, Fault::BodyTooLong);
+    assert!(rt; frames.next(alloc, &mut long)?.is_none());
+    assert!(rt; long.device().len() == 5);
+    Ok(())
+}
+
+/// Takes a few bytes, and from then on none.
+#[derive(Drop)]
+struct Full {
+    room: usize,
+    flushed: bool,
+}
+
+impl Write for Full {
+    fn write(&mut self, bytes: &[u8]) -> io::Result<usize> {
+        let count = bytes.len().min(self.room);
+        self.room -= count;
+        Ok(count)
+    }
+
+    fn flush(&mut self) -> io::Result<()> {
+        self.flushed = true;
+        Ok(())
+    }
+}
+
+#[test]
+fn a_write_that_takes_nothing_is_a_failure(rt: HostRuntime) -> Result<(), Fail> {
+    let mut writer = Counted::new(Full {
+        room: 10,
+        flushed: false,
+    });
+    assert!(rt; write_full(&mut writer, b"65000 192.0.2.1").is_err());
+    assert!(rt; writer.failures() == 1);
+    assert!(rt; writer.device().room == 0);
+    assert!(rt; writer.flush_all().is_ok());
+    assert!(rt; writer.device().flushed);
+    Ok(())
+}
