@@ -1,5 +1,6 @@
 -- Keys of routes, and lists of entries by key.
-use Rattle.std.specs.Prelude.{◌≡◌, ℕ, ◌+◌, ◌&&◌, not, List, [], ◌∷◌, Bool, true, false, cond, Option, Some, None}
+use Rattle.std.specs.Prelude.{◌≡◌, ℕ, ◌+◌, ◌&&◌, ◌==◌, not, List, [], ◌∷◌, Bool, true, false, cond, Option, Some, None}
+use Rattle.std.specs.List.{list_any}
 use Rattle.std.specs.Option.{option_or}
 use Rattle.std.specs.Borrow.{Bor}
 use Rattle.std.specs.declared.cmp.Ordering.{Ordering}
@@ -11,6 +12,14 @@ use Rattle.bgp_prefix.specs.declared.key.RouteKey.{RouteKey}
 -- by prefix, and then by identifier
 abbrev pub key_cmp : RouteKey → RouteKey → Ordering
 key_cmp j k = ordering_then (prefix_cmp j.prefix k.prefix) (nat_cmp j.id k.id)
+
+-- the same prefix and identifier
+abbrev pub key_eq : RouteKey → RouteKey → Bool
+key_eq j k = prefix_eq j.prefix k.prefix && (j.id == k.id)
+
+-- the key is one of these
+abbrev pub among : List RouteKey → RouteKey → Bool
+among keys k = list_any (key_eq k) keys
 
 -- the list new answers as old does, but v at the key
 abbrev pub Changes : {V : Type 0} → List (RouteKey × V) → List (RouteKey × V) → RouteKey → Option V → Type 0

@@ -1,3 +1,7 @@
 pub mod Prefixes
 pub mod Keys
 pub mod Maps
+pub mod Ordered
+pub mod Searches
+pub mod Tries
+pub mod Places

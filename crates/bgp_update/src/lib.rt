@@ -9,6 +9,7 @@ mod multiprotocol;
 mod next_hop;
 mod path;
 mod route;
+mod same;
 mod saying;
 mod segment;
 mod update;

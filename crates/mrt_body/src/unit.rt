@@ -3,14 +3,14 @@ use bgp_update::Width;
 use mrt_frame::Fault;
 
 /// The address of a peer.
-#[derive(Clone, Copy, Debug, PartialEq, Eq)]
+#[derive(Clone, Copy, Debug, PartialEq, Eq, Hash)]
 pub enum PeerAddr {
     V4(u32),
     V6(u128),
 }
 
 /// A peer: its AS number as recorded and its address. AS 23456 is not resolved.
-#[derive(Clone, Copy, Debug, PartialEq, Eq)]
+#[derive(Clone, Copy, Debug, PartialEq, Eq, Hash)]
 pub struct PeerKey {
     pub asn: u32,
     pub addr: PeerAddr,

@@ -5,3 +5,4 @@ pub mod CuttingLaws
 pub mod Hexadecimal
 pub mod Items
 pub mod FieldLaws
+pub mod PositionLaws

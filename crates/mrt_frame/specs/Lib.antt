@@ -4,3 +4,4 @@ pub mod Frames
 pub mod Cutting
 pub mod Writes
 pub mod Fields
+pub mod Positions

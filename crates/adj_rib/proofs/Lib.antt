@@ -1,0 +1,5 @@
+pub mod After
+pub mod TableLaws
+pub mod HeldPairs
+pub mod Stepping
+pub mod Taking

@@ -1,0 +1,210 @@
+-- What a session keeps after one more unit is what the definitions say of one more unit.
+use Rattle.std.proofs.Common.{◌≡◌, ℕ, ◌==◌, Bool, true, false, not, cond, ◌&&◌, List, [], ◌∷◌, ◌++◌, Option, Some, None, Result, Ok, Err, refl, sym, ap, ◌∙◌}
+use Rattle.std.specs.Prelude.{is_err, unwrap_or, option_map}
+use Rattle.std.specs.Option.{option_map_or}
+use Rattle.std.specs.List.{fold, count_by, filter_map, cons_option, last_or}
+use Rattle.std.specs.FinMap as finite
+use Rattle.std.specs.FinMap.Entries.{find}
+use Rattle.std.proofs.lemmas.List.{append-nil}
+use Rattle.std.proofs.lemmas.List.Elements.{filter_map-append}
+use Rattle.bgp_prefix.specs.Keys.{key_cmp}
+use Rattle.bgp_prefix.specs.declared.key.RouteKey.{RouteKey}
+use Rattle.mrt_frame.specs.Fields.{◌>>=◌}
+use Rattle.mrt_frame.specs.declared.fault.Fault.{Fault}
+use Rattle.mrt_frame.proofs.PositionLaws.{flat_map_after-push}
+use Rattle.bgp_update.specs.declared.width.Width.{Width}
+use Rattle.bgp_update.specs.declared.width.Width.TheVariants.{Four}
+use Rattle.bgp_update.specs.declared.route.Route.{Route}
+use Rattle.bgp_update.specs.declared.route.Update.{Update}
+use Rattle.bgp_update.specs.Attributes.{route_in}
+use Rattle.bgp_update.specs.Updates.{update_in}
+use Rattle.mrt_body.specs.declared.unit.Payload.{Payload}
+use Rattle.mrt_body.specs.declared.unit.Payload.TheVariants.{State, Message, Entry}
+use Rattle.mrt_body.specs.declared.unit.Unit.{Unit as ReplayUnit}
+use Rattle.mrt_body.specs.declared.unit.Damage.{Damage}
+use Rattle.mrt_body.specs.declared.meaning.Event.{Event}
+use Rattle.mrt_body.specs.declared.meaning.Event.TheVariants as event
+use Rattle.mrt_body.specs.Events.{UPDATE, message_in, message_event_in, event_in}
+use Rattle.adj_rib.specs.declared.churn.Churn.{Churn}
+use Rattle.adj_rib.specs.Steps.{Step, ESTABLISHED, new_state, is_up, reading_steps, unit_steps, steps_of}
+use Rattle.adj_rib.specs.Tables.{IsTable, table_of}
+use Rattle.adj_rib.specs.Churns.{outcomes_of, is_routing, reading_of, idle_flags, damage_in, damaged_of, stopped, first_time, churn_of}
+use Rattle.adj_rib.specs.Sessions.{SessionState, session_of}
+use Rattle.adj_rib.specs.Applied.{counted_if, RouteMap, applied, timed, noted, up_after, Kept, START, followed, listed, taken}
+use Rattle.adj_rib.proofs.TableLaws.{last_or-append, find-table_of, entries-IsTable, IsTable_start}
+use Rattle.adj_rib.proofs.After.{steps_of-push}
+use Rattle.adj_rib.proofs.Stepping.{stopped-count_by-push, AreCounts, AreAfter, AreAfter-steps, AgreeBeside, beside_steps}
+
+-- ---- whether the peer is up
+
+-- the new state that a reading tells
+abbrev state_read : Result Event Fault → Option ℕ
+state_read (Ok (event.State old new)) = Some new
+state_read (Ok (event.Change update)) = None
+state_read (Ok (event.Rib key route)) = None
+state_read (Ok event.Other) = None
+state_read (Err fault) = None
+
+no_state_in_update : (r : Result Update Fault) → state_read (r >>= λ update. Ok (event.Change update)) ≡ None
+no_state_in_update (Ok update) = refl
+no_state_in_update (Err fault) = refl
+
+no_state_in_route : (key : RouteKey) (r : Result Route Fault) → state_read (r >>= λ route. Ok (event.Rib key route)) ≡ None
+no_state_in_route key (Ok route) = refl
+no_state_in_route key (Err fault) = refl
+
+no_state_in_message : (width : Width) (add_path : Bool) (r : Result (ℕ × List ℕ) Fault) → state_read (r >>= λ m. cond (m.0 == UPDATE) (update_in width add_path m.1 >>= λ update. Ok (event.Change update)) (Ok event.Other)) ≡ None
+no_state_in_message width add_path (Err fault) = refl
+no_state_in_message width add_path (Ok m) =
+    elim (m.0 == UPDATE) as (λ b. state_read (cond b (update_in width add_path m.1 >>= λ update. Ok (event.Change update)) (Ok event.Other)) ≡ None) [
+      | true ↦ no_state_in_update (update_in width add_path m.1)
+      | false ↦ refl
+    ]
+
+state_of_reading : (payload : Payload) → new_state payload ≡ state_read (event_in payload)
+unfolding event_in message_event_in
+state_of_reading (State from to) = refl
+state_of_reading (Message bytes width add_path) = sym (no_state_in_message width add_path (message_in bytes))
+state_of_reading (Entry key attrs) = sym (no_state_in_route key (route_in Four attrs))
+
+abbrev up_of : Option ℕ → Bool
+up_of state = option_map_or (λ s. s == ESTABLISHED) state true
+
+up_of_read : (o : Option ℕ) (reading : Result Event Fault) → up_of (last_or o (cons_option (state_read reading) [])) ≡ up_after (up_of o) reading
+up_of_read o (Ok (event.State old new)) = refl
+up_of_read o (Ok (event.Change update)) = refl
+up_of_read o (Ok (event.Rib key route)) = refl
+up_of_read o (Ok event.Other) = refl
+up_of_read o (Err fault) = refl
+
+abbrev states_of : List ReplayUnit → List ℕ
+states_of units = filter_map (λ u. new_state u.payload) units
+
+pub is_up-push : (units : List ReplayUnit) (unit : ReplayUnit) → is_up (units ++ unit ∷ []) ≡ up_after (is_up units) (reading_of unit)
+is_up-push units unit =
+    ap (λ states. up_of (last_or None states)) (filter_map-append (λ (u : ReplayUnit). new_state u.payload) units (unit ∷ []))
+    ∙ ap up_of (last_or-append None (states_of units) (cons_option (new_state unit.payload) []))
+    ∙ ap (λ state. up_of (last_or (last_or None (states_of units)) (cons_option state []))) (state_of_reading unit.payload)
+    ∙ up_of_read (last_or None (states_of units)) (reading_of unit)
+
+-- ---- the faults, and the counts of units
+
+listed-is : (faults : List Damage) (damage : Option Damage) → faults ++ cons_option damage [] ≡ listed faults damage
+listed-is faults None = append-nil faults
+listed-is faults (Some damage) = refl
+
+pub damaged_of-push : (units : List ReplayUnit) (unit : ReplayUnit) → damaged_of (units ++ unit ∷ []) ≡ listed (damaged_of units) (damage_in unit (reading_of unit))
+unfolding damaged_of
+damaged_of-push units unit =
+    filter_map-append (λ (u : ReplayUnit). damage_in u (reading_of u)) units (unit ∷ [])
+    ∙ listed-is (filter_map (λ (u : ReplayUnit). damage_in u (reading_of u)) units) (damage_in unit (reading_of unit))
+
+abbrev idle_flag : Bool → ReplayUnit → Bool
+idle_flag up unit = is_routing (reading_of unit) && not up
+
+idle-push : (units : List ReplayUnit) (unit : ReplayUnit) → stopped (count_by (λ flag. flag) (idle_flags (units ++ unit ∷ []))) ≡ counted_if (idle_flag (is_up units) unit) (stopped (count_by (λ flag. flag) (idle_flags units)))
+idle-push units unit =
+    ap (λ flags. stopped (count_by (λ flag. flag) flags)) (flat_map_after-push (λ before u. idle_flag (is_up before) u ∷ []) [] units unit)
+    ∙ stopped-count_by-push (λ (flag : Bool). flag) (idle_flags units) (idle_flag (is_up units) unit)
+
+first_time-push : (units : List ReplayUnit) (unit : ReplayUnit) → first_time (units ++ unit ∷ []) ≡ Some (unwrap_or (first_time units) unit.time)
+first_time-push [] unit = refl
+first_time-push (u ∷ units) unit = refl
+
+abbrev last_time : List ReplayUnit → Option ℕ
+last_time units = option_map (λ (unit : ReplayUnit). unit.time) (last_or None (filter_map (λ (unit : ReplayUnit). Some unit) units))
+
+last_time-push : (units : List ReplayUnit) (unit : ReplayUnit) → last_time (units ++ unit ∷ []) ≡ Some unit.time
+last_time-push units unit =
+    ap (λ us. option_map (λ (u : ReplayUnit). u.time) (last_or None us)) (filter_map-append (λ (u : ReplayUnit). Some u) units (unit ∷ []))
+    ∙ ap (option_map (λ (u : ReplayUnit). u.time)) (last_or-append None (filter_map (λ (u : ReplayUnit). Some u) units) (unit ∷ []))
+
+-- ---- all of it
+
+-- what is kept stands for the units
+pub record Stands (units : List ReplayUnit) (k : Kept) : Type 0 where
+  pub up : k.up ≡ is_up units
+  pub table : finite.entries k.table ≡ table_of (steps_of units)
+  pub churn : k.churn ≡ churn_of units
+  pub faults : k.faults ≡ damaged_of units
+
+table_from_entries : (steps : List Step) (table : RouteMap) → finite.entries table ≡ table_of steps → IsTable steps table
+table_from_entries steps table h p = finite.get-entries table p ∙ ap (find key_cmp p) h ∙ find-table_of steps p
+
+counts_of_churn : (units : List ReplayUnit) (up : Bool) (reading : Result Event Fault) (time : ℕ) → AreCounts (outcomes_of (steps_of units)) (noted up reading (timed time (churn_of units)))
+unfolding churn_of noted timed
+counts_of_churn units up reading time = record { added = refl; changed = refl; same = refl; gone = refl; void = refl; resets = refl }
+
+same_churn : (c : Churn) (units : List ReplayUnit) → AreCounts (outcomes_of (steps_of units)) c → c.idle ≡ stopped (count_by (λ flag. flag) (idle_flags units)) → c.refused ≡ stopped (count_by (λ unit. is_err (reading_of unit)) units) → c.first ≡ first_time units → c.last ≡ last_time units → c ≡ churn_of units
+unfolding churn_of
+same_churn c units h idle refused first last = λ i. record {
+  added = h.added i;
+  changed = h.changed i;
+  same = h.same i;
+  gone = h.gone i;
+  void = h.void i;
+  resets = h.resets i;
+  idle = idle i;
+  refused = refused i;
+  first = first i;
+  last = last i;
+}
+
+-- the table and the counts after one more unit
+abbrev rib_after : Bool → RouteMap → Churn → ReplayUnit → RouteMap × Churn
+rib_after up table churn unit = fold applied (table, noted up (reading_of unit) (timed unit.time churn)) (reading_steps up (reading_of unit))
+
+rib_stands : (units : List ReplayUnit) (unit : ReplayUnit) (table : RouteMap) → finite.entries table ≡ table_of (steps_of units) → AreAfter (steps_of (units ++ unit ∷ [])) (rib_after (is_up units) table (churn_of units) unit)
+unfolding unit_steps
+rib_stands units unit table h =
+    rw (steps_of-push units unit) (AreAfter-steps (steps_of units) (reading_steps (is_up units) (reading_of unit)) (table, noted (is_up units) (reading_of unit) (timed unit.time (churn_of units))) (record { table = table_from_entries (steps_of units) table h; counts = counts_of_churn units (is_up units) (reading_of unit) unit.time }))
+
+rest_of_churn : (units : List ReplayUnit) (unit : ReplayUnit) (table : RouteMap) → AgreeBeside (rib_after (is_up units) table (churn_of units) unit).1 (noted (is_up units) (reading_of unit) (timed unit.time (churn_of units)))
+rest_of_churn units unit table = beside_steps (reading_steps (is_up units) (reading_of unit)) (table, noted (is_up units) (reading_of unit) (timed unit.time (churn_of units))) _ (record { idle = refl; refused = refl; first = refl; last = refl })
+
+churn_stands : (units : List ReplayUnit) (unit : ReplayUnit) (table : RouteMap) → finite.entries table ≡ table_of (steps_of units) → (rib_after (is_up units) table (churn_of units) unit).1 ≡ churn_of (units ++ unit ∷ [])
+churn_stands units unit table h =
+    let rest = rest_of_churn units unit table in
+    same_churn (rib_after (is_up units) table (churn_of units) unit).1 (units ++ unit ∷ []) (rib_stands units unit table h).counts
+    (unfold churn_of noted timed in rest.idle ∙ sym (idle-push units unit))
+    (unfold churn_of noted timed in rest.refused ∙ sym (stopped-count_by-push (λ (u : ReplayUnit). is_err (reading_of u)) units unit))
+    (unfold churn_of noted timed in rest.first ∙ sym (first_time-push units unit))
+    (unfold churn_of noted timed in rest.last ∙ sym (last_time-push units unit))
+
+taken_stands : (units : List ReplayUnit) (unit : ReplayUnit) (table : RouteMap) → finite.entries table ≡ table_of (steps_of units) → Stands (units ++ unit ∷ []) (taken (record { up = is_up units; table = table; churn = churn_of units; faults = damaged_of units }) unit)
+unfolding taken followed
+taken_stands units unit table h = record {
+  up = sym (is_up-push units unit);
+  table = entries-IsTable (steps_of (units ++ unit ∷ [])) (rib_after (is_up units) table (churn_of units) unit).0 (rib_stands units unit table h).table;
+  churn = churn_stands units unit table h;
+  faults = sym (damaged_of-push units unit);
+}
+
+pub Stands-taken : (units : List ReplayUnit) (unit : ReplayUnit) (k : Kept) → Stands units k → Stands (units ++ unit ∷ []) (taken k unit)
+Stands-taken units unit k h =
+    let same : k ≡ record { up = is_up units; table = k.table; churn = churn_of units; faults = damaged_of units } = λ i. record { up = h.up i; table = k.table; churn = h.churn i; faults = h.faults i } in
+    rw same (taken_stands units unit k.table h.table)
+
+-- ---- the session
+
+abbrev pub session_with : Kept → Bool → SessionState
+session_with k spent = record { up = k.up; table = finite.entries k.table; churn = k.churn; faults = k.faults; spent = spent }
+
+stands_from_session : (units : List ReplayUnit) (k : Kept) (spent : Bool) → session_with k spent ≡ session_of units → Stands units k
+unfolding session_of
+stands_from_session units k spent h = record { up = ap (λ s. s.up) h; table = ap (λ s. s.table) h; churn = ap (λ s. s.churn) h; faults = ap (λ s. s.faults) h }
+
+session_from_stands : (units : List ReplayUnit) (k : Kept) → Stands units k → session_with k false ≡ session_of units
+unfolding session_of
+session_from_stands units k h = λ i. record { up = h.up i; table = h.table i; churn = h.churn i; faults = h.faults i; spent = false }
+
+-- a session that stands for units stands for one more after it has taken it
+pub session_after : (before : List ReplayUnit) (unit : ReplayUnit) (k after : Kept) (spent : Bool) → spent ≡ false → session_with k spent ≡ session_of before → after ≡ taken k unit → session_with after spent ≡ session_of (before ++ unit ∷ [])
+session_after before unit k after spent unspent h e =
+    ap (session_with after) unspent
+    ∙ ap (λ k. session_with k false) e
+    ∙ session_from_stands (before ++ unit ∷ []) (taken k unit) (Stands-taken before unit k (stands_from_session before k spent h))
+
+pub session_at_start : session_with START false ≡ session_of []
+unfolding steps_of
+session_at_start = session_from_stands [] START (record { up = refl; table = entries-IsTable [] finite.empty IsTable_start; churn = (unfold churn_of outcomes_of steps_of in refl); faults = (unfold damaged_of in refl) })

@@ -1,0 +1,99 @@
+-- What one step, and one unit, does to what a session keeps: the rules one at a time, as the code follows them.
+use Rattle.std.specs.Prelude.{ℕ, ◌+◌, Bool, true, not, ◌&&◌, List, [], ◌∷◌, ◌++◌, Option, Some, None, Result, Ok, Err, is_some, is_err, unwrap_or, ◌==◌, if◌then◌else◌}
+use Rattle.std.specs.List.{fold}
+use Rattle.std.specs.FinMap as finite
+use Rattle.bgp_prefix.specs.Keys.{key_cmp}
+use Rattle.mrt_frame.specs.declared.fault.Fault.{Fault}
+use Rattle.bgp_update.specs.declared.route.Route.{Route}
+use Rattle.mrt_body.specs.declared.unit.Unit.{Unit as ReplayUnit}
+use Rattle.mrt_body.specs.declared.unit.Damage.{Damage}
+use Rattle.mrt_body.specs.declared.meaning.Event.{Event}
+use Rattle.mrt_body.specs.declared.meaning.Event.TheVariants as event
+use Rattle.adj_rib.specs.declared.churn.Churn.{Churn}
+use Rattle.adj_rib.specs.declared.outcome.Outcome.{Outcome}
+use Rattle.adj_rib.specs.declared.outcome.Outcome.TheVariants.{Added, Changed, Same, Gone, Void, Reset}
+use Rattle.adj_rib.specs.Steps.{Step, break, announce, withdraw, ESTABLISHED, reading_steps}
+use Rattle.adj_rib.specs.Churns.{announced_over, is_outcome, is_routing, reading_of, damage_in, stopped}
+
+-- one more where the flag says so
+abbrev pub counted_if : Bool → ℕ → ℕ
+counted_if flag n = if flag then stopped (n + 1) else n
+
+-- the counts after one more outcome
+unfoldable pub counted : Outcome → Churn → Churn
+counted o c = record {
+  added = counted_if (is_outcome Added o) c.added;
+  changed = counted_if (is_outcome Changed o) c.changed;
+  same = counted_if (is_outcome Same o) c.same;
+  gone = counted_if (is_outcome Gone o) c.gone;
+  void = counted_if (is_outcome Void o) c.void;
+  resets = counted_if (is_outcome Reset o) c.resets;
+  idle = c.idle;
+  refused = c.refused;
+  first = c.first;
+  last = c.last;
+}
+
+abbrev pub RouteMap : Type 0
+RouteMap = finite.FinMap key_cmp Route
+
+abbrev pub outcome_on : RouteMap → Step → Outcome
+outcome_on table break = Reset
+outcome_on table (announce k route) = announced_over (finite.get table k) route
+outcome_on table (withdraw k) = if is_some (finite.get table k) then Gone else Void
+
+abbrev pub table_after : RouteMap → Step → RouteMap
+table_after table break = finite.empty
+table_after table (announce k route) = finite.insert table k route
+table_after table (withdraw k) = finite.remove table k
+
+-- a table with its counts, after one more step
+abbrev pub applied : RouteMap × Churn → Step → RouteMap × Churn
+applied rib step = (table_after rib.0 step, counted (outcome_on rib.0 step) rib.1)
+
+-- the times after one more unit
+unfoldable pub timed : ℕ → Churn → Churn
+timed time c = record c { first = Some (unwrap_or c.first time); last = Some time }
+
+-- the counts of idle and of damaged units after one more, by its reading
+unfoldable pub noted : Bool → Result Event Fault → Churn → Churn
+noted up reading c = record c { idle = counted_if (is_routing reading && not up) c.idle; refused = counted_if (is_err reading) c.refused }
+
+abbrev pub up_after : Bool → Result Event Fault → Bool
+up_after up (Ok (event.State old new)) = new == ESTABLISHED
+up_after up (Ok (event.Change update)) = up
+up_after up (Ok (event.Rib key route)) = up
+up_after up (Ok event.Other) = up
+up_after up (Err fault) = up
+
+-- what a session keeps beside whether it is spent
+pub record Kept : Type 0 where
+  pub up : Bool
+  pub table : RouteMap
+  pub churn : Churn
+  pub faults : List Damage
+
+-- before the first unit
+abbrev pub START : Kept
+START = record { up = true; table = finite.empty; churn = record { added = 0; changed = 0; same = 0; gone = 0; void = 0; resets = 0; idle = 0; refused = 0; first = None; last = None }; faults = [] }
+
+-- after the steps of a reading
+unfoldable pub followed : Kept → Result Event Fault → Kept
+followed k reading =
+    let rib = fold applied (k.table, noted k.up reading k.churn) (reading_steps k.up reading) in
+    record { up = up_after k.up reading; table = rib.0; churn = rib.1; faults = k.faults }
+
+-- the faults after one more, if any
+abbrev pub listed : List Damage → Option Damage → List Damage
+listed faults None = faults
+listed faults (Some damage) = faults ++ damage ∷ []
+
+-- after a damaged unit
+unfoldable pub refused : Kept → Damage → Kept
+refused k damage = record (followed k (Err damage.fault)) { faults = k.faults ++ damage ∷ [] }
+
+-- after one more unit
+unfoldable pub taken : Kept → ReplayUnit → Kept
+taken k unit =
+    let after = followed (record k { churn = timed unit.time k.churn }) (reading_of unit) in
+    record after { faults = listed k.faults (damage_in unit (reading_of unit)) }

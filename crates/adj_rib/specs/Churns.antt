@@ -1,0 +1,91 @@
+-- What a peer's units did, counted.
+use Rattle.std.specs.Prelude.{ℕ, ◌-◌, ◌^◌, Bool, true, false, not, ◌&&◌, List, [], ◌∷◌, min, Option, Some, None, Result, Ok, Err, is_some, is_err, option_map, ◌==◌, if◌then◌else◌}
+use Rattle.std.specs.List.{count_by, filter_map, last_or}
+use Rattle.mrt_frame.specs.declared.fault.Fault.{Fault}
+use Rattle.bgp_update.specs.declared.route.Route.{Route}
+use Rattle.mrt_frame.specs.Positions.{flat_map_after}
+use Rattle.mrt_body.specs.declared.unit.Unit.{Unit as ReplayUnit}
+use Rattle.mrt_body.specs.declared.unit.Damage.{Damage}
+use Rattle.mrt_body.specs.declared.meaning.Event.{Event}
+use Rattle.mrt_body.specs.declared.meaning.Event.TheVariants as event
+use Rattle.mrt_body.specs.Events.{event_in}
+use Rattle.adj_rib.specs.declared.churn.Churn.{Churn}
+use Rattle.adj_rib.specs.declared.outcome.Outcome.{Outcome}
+use Rattle.adj_rib.specs.declared.outcome.Outcome.TheVariants.{Added, Changed, Same, Gone, Void, Reset}
+use Rattle.bgp_update.specs.Equality.{route_eq}
+use Rattle.adj_rib.specs.Steps.{Step, break, announce, withdraw, is_up, steps_of}
+use Rattle.adj_rib.specs.Tables.{route_at}
+
+abbrev pub announced_over : Option Route → Route → Outcome
+announced_over None route = Added
+announced_over (Some old) route = if route_eq old route then Same else Changed
+
+abbrev pub outcome_of : List Step → Step → Outcome
+outcome_of before break = Reset
+outcome_of before (announce k route) = announced_over (route_at before k) route
+outcome_of before (withdraw k) = if is_some (route_at before k) then Gone else Void
+
+-- the outcome of each step, beside the steps before it
+unfoldable pub outcomes_of : List Step → List Outcome
+outcomes_of steps = flat_map_after (λ before step. outcome_of before step ∷ []) [] steps
+
+abbrev pub outcome_number : Outcome → ℕ
+outcome_number Added = 0
+outcome_number Changed = 1
+outcome_number Same = 2
+outcome_number Gone = 3
+outcome_number Void = 4
+outcome_number Reset = 5
+
+abbrev pub is_outcome : Outcome → Outcome → Bool
+is_outcome outcome o = outcome_number o == outcome_number outcome
+
+abbrev pub count_of : Outcome → List Outcome → ℕ
+count_of outcome outcomes = count_by (is_outcome outcome) outcomes
+
+-- an UPDATE or RIB entry, whole
+abbrev pub is_routing : Result Event Fault → Bool
+is_routing (Ok (event.Change update)) = true
+is_routing (Ok (event.Rib key route)) = true
+is_routing (Ok (event.State old new)) = false
+is_routing (Ok event.Other) = false
+is_routing (Err fault) = false
+
+abbrev pub reading_of : ReplayUnit → Result Event Fault
+reading_of unit = event_in unit.payload
+
+-- whether each unit is an UPDATE or RIB entry of a peer that isn't up
+abbrev pub idle_flags : List ReplayUnit → List Bool
+idle_flags units = flat_map_after (λ before unit. (is_routing (reading_of unit) && not (is_up before)) ∷ []) [] units
+
+abbrev pub damage_in : ReplayUnit → Result Event Fault → Option Damage
+damage_in unit (Ok e) = None
+damage_in unit (Err fault) = Some (record { place = unit.place; fault = fault })
+
+-- the damaged units' places and faults, in order
+unfoldable pub damaged_of : List ReplayUnit → List Damage
+damaged_of units = filter_map (λ unit. damage_in unit (reading_of unit)) units
+
+-- a count that stops at the greatest value
+abbrev pub stopped : ℕ → ℕ
+stopped n = min n (2 ^ 64 - 1)
+
+abbrev pub first_time : List ReplayUnit → Option ℕ
+first_time [] = None
+first_time (unit ∷ units) = Some unit.time
+
+unfoldable pub churn_of : List ReplayUnit → Churn
+churn_of units =
+    let outcomes = outcomes_of (steps_of units) in
+    record {
+      added = stopped (count_of Added outcomes);
+      changed = stopped (count_of Changed outcomes);
+      same = stopped (count_of Same outcomes);
+      gone = stopped (count_of Gone outcomes);
+      void = stopped (count_of Void outcomes);
+      resets = stopped (count_of Reset outcomes);
+      idle = stopped (count_by (λ flag. flag) (idle_flags units));
+      refused = stopped (count_by (λ unit. is_err (reading_of unit)) units);
+      first = first_time units;
+      last = option_map (λ unit. unit.time) (last_or None (filter_map (λ (unit : ReplayUnit). Some unit) units));
+    }

@@ -1,0 +1,26 @@
+-- What a session keeps, and the units that it stands for.
+use Rattle.std.specs.Prelude.{◌≡◌, Bool, false, List}
+use Rattle.bgp_prefix.specs.declared.key.RouteKey.{RouteKey}
+use Rattle.bgp_update.specs.declared.route.Route.{Route}
+use Rattle.mrt_body.specs.declared.unit.Unit.{Unit as ReplayUnit}
+use Rattle.mrt_body.specs.declared.unit.Damage.{Damage}
+use Rattle.adj_rib.specs.declared.churn.Churn.{Churn}
+use Rattle.adj_rib.specs.Steps.{is_up, steps_of}
+use Rattle.adj_rib.specs.Tables.{table_of}
+use Rattle.adj_rib.specs.Churns.{churn_of, damaged_of}
+
+-- the table as its entries in order
+pub record SessionState : Type 0 where
+  pub up : Bool
+  pub table : List (RouteKey × Route)
+  pub churn : Churn
+  pub faults : List Damage
+  pub spent : Bool
+
+-- what a session is that took these units, in this order
+unfoldable pub session_of : List ReplayUnit → SessionState
+session_of units = record { up = is_up units; table = table_of (steps_of units); churn = churn_of units; faults = damaged_of units; spent = false }
+
+-- a session that stands for these units
+abbrev pub StandsFor : SessionState → List ReplayUnit → Type 0
+StandsFor session units = session ≡ session_of units

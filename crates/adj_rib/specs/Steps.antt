@@ -1,0 +1,72 @@
+-- What a peer's units do to its table (RFC 4271, 4.3, 8 and 9; RFC 6396, 4.4; RFC 4760, section 3).
+use Rattle.std.specs.Prelude.{ℕ, Bool, true, not, ◌&&◌, ◌||◌, List, [], ◌∷◌, ◌++◌, map, Option, Some, None, Result, Ok, Err, ◌==◌, if◌then◌else◌}
+use Rattle.std.specs.List.{filter, filter_map, last_or}
+use Rattle.std.specs.Option.{option_map_or}
+use Rattle.bgp_prefix.specs.Keys.{among}
+use Rattle.bgp_prefix.specs.declared.key.RouteKey.{RouteKey}
+use Rattle.mrt_frame.specs.Positions.{flat_map_after}
+use Rattle.mrt_frame.specs.declared.fault.Fault.{Fault}
+use Rattle.bgp_update.specs.declared.route.Route.{Route}
+use Rattle.bgp_update.specs.declared.route.Update.{Update}
+use Rattle.bgp_update.specs.Hops.{by_hop}
+use Rattle.mrt_body.specs.declared.unit.Payload.{Payload}
+use Rattle.mrt_body.specs.declared.unit.Payload.TheVariants.{State, Message, Entry}
+use Rattle.mrt_body.specs.declared.unit.Unit.{Unit as ReplayUnit}
+use Rattle.mrt_body.specs.declared.meaning.Event.{Event}
+use Rattle.mrt_body.specs.declared.meaning.Event.TheVariants as event
+use Rattle.mrt_body.specs.Events.{event_in}
+
+-- a change of a table
+pub data Step : Type 0 where
+  break : Step
+  announce : RouteKey → Route → Step
+  withdraw : RouteKey → Step
+
+-- Established, of RFC 4271's states
+abbrev pub ESTABLISHED : ℕ
+ESTABLISHED = 6
+
+-- the new state that a payload tells
+abbrev pub new_state : Payload → Option ℕ
+new_state (State from to) = Some to
+new_state (Message bytes width add_path) = None
+new_state (Entry key attrs) = None
+
+-- The last state change has new state Established, or there is none.
+abbrev pub is_up : List ReplayUnit → Bool
+is_up units = option_map_or (λ state. state == ESTABLISHED) (last_or None (filter_map (λ u. new_state u.payload) units)) true
+
+-- a state change is a break unless both states are Established (own)
+abbrev pub state_steps : ℕ → ℕ → List Step
+state_steps old new = if (old == ESTABLISHED) && (new == ESTABLISHED) then [] else break ∷ []
+
+-- what is withdrawn, and neither announced nor reached (own, after 4.3)
+abbrev pub withdrawals : Update → List Step
+withdrawals u = map withdraw (filter (λ key. not (among u.announced key || among u.reached key)) u.withdrawn)
+
+-- what attribute 14 announces, by its own next hop
+abbrev pub reachings : Update → List Step
+reachings u = map (λ key. announce key (by_hop u.route u.reached_hop)) u.reached
+
+-- the withdrawals, then the announcements, then those of attribute 14, each in order
+abbrev pub update_steps : Update → List Step
+update_steps u = withdrawals u ++ map (λ key. announce key u.route) u.announced ++ reachings u
+
+-- the steps of an event of a peer that is up or not
+abbrev pub event_steps : Bool → Event → List Step
+event_steps up (event.State old new) = state_steps old new
+event_steps up (event.Change update) = if up then update_steps update else []
+event_steps up (event.Rib key route) = if up then announce key route ∷ [] else []
+event_steps up event.Other = []
+
+-- a damaged unit takes no step
+abbrev pub reading_steps : Bool → Result Event Fault → List Step
+reading_steps up (Ok e) = event_steps up e
+reading_steps up (Err fault) = []
+
+unfoldable pub unit_steps : Bool → ReplayUnit → List Step
+unit_steps up unit = reading_steps up (event_in unit.payload)
+
+-- all steps, in order: each unit's, as the peer is up or not before it
+unfoldable pub steps_of : List ReplayUnit → List Step
+steps_of units = flat_map_after (λ before unit. unit_steps (is_up before) unit) [] units

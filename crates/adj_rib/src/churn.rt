@@ -1,0 +1,75 @@
+use crate::outcome::Outcome;
+
+/// What a peer's units did to its table. Each count stops at `u64::MAX`; times are in microseconds
+/// since 1970 UTC.
+#[derive(Clone, Copy, Debug, PartialEq, Eq)]
+pub struct Churn {
+    /// Announcements of keys that had no route.
+    pub added: u64,
+    /// Announcements of keys that had another route.
+    pub changed: u64,
+    /// Announcements of keys that had an equal route.
+    pub same: u64,
+    /// Withdrawals of keys that had a route.
+    pub gone: u64,
+    /// Withdrawals of keys that had none.
+    pub void: u64,
+    /// State changes that emptied the table.
+    pub resets: u64,
+    /// UPDATEs and RIB entries, undamaged, while the peer wasn't up.
+    pub idle: u64,
+    /// Damaged units.
+    pub refused: u64,
+    /// The time of the first unit.
+    pub first: Option<u64>,
+    /// The time of the last unit.
+    pub last: Option<u64>,
+}
+
+impl Churn {
+    ghost use Rattle.std.specs.Prelude.{◌≡◌, None};
+    ghost use Rattle.adj_rib.specs.Applied.{counted, timed};
+    ghost use Rattle.adj_rib.specs.Churns.{churn_of};
+
+    /// Of no unit.
+    pub(crate) fn new() -> Churn
+        ensures { result ≡ record { added = 0; changed = 0; same = 0; gone = 0; void = 0; resets = 0; idle = 0; refused = 0; first = None; last = None } }
+    {
+        Churn {
+            added: 0,
+            changed: 0,
+            same: 0,
+            gone: 0,
+            void: 0,
+            resets: 0,
+            idle: 0,
+            refused: 0,
+            first: None,
+            last: None,
+        }
+    }
+
+    /// Counts what a step did.
+    #[tactic(auto, unfolding(crate::specs::Applied::counted))]
+    pub(crate) fn count(&mut self, outcome: Outcome)
+        ensures { self.new ≡ counted outcome self.old }
+    {
+        match outcome {
+            Outcome::Added => self.added = self.added.saturating_add(1),
+            Outcome::Changed => self.changed = self.changed.saturating_add(1),
+            Outcome::Same => self.same = self.same.saturating_add(1),
+            Outcome::Gone => self.gone = self.gone.saturating_add(1),
+            Outcome::Void => self.void = self.void.saturating_add(1),
+            Outcome::Reset => self.resets = self.resets.saturating_add(1),
+        }
+    }
+
+    /// Notes the time of a unit.
+    #[tactic(auto, unfolding(crate::specs::Applied::timed))]
+    pub(crate) fn note_time(&mut self, time: u64)
+        ensures { self.new ≡ timed time self.old }
+    {
+        self.first = Some(self.first.unwrap_or(time));
+        self.last = Some(time);
+    }
+}

@@ -1,0 +1,99 @@
+ghost use Rattle.std.specs.Prelude.{◌≡◌, ◌||◌, map, not, OnOk};
+ghost use Rattle.std.specs.List.{fold, filter};
+ghost use Rattle.bgp_prefix.specs.Keys.{among};
+ghost use Rattle.adj_rib.specs.Steps.{announce, withdraw, withdrawals, reachings, update_steps};
+ghost use Rattle.adj_rib.specs.Applied.{applied};
+
+use crate::churn::Churn;
+use crate::table::{announce_route, withdraw_key};
+use bgp_prefix::{KeySet, Memory, PrefixMap, RouteKey};
+use bgp_update::{Route, Update};
+use std::alloc::Global;
+
+/// Withdraws the keys that are neither announced nor reached.
+fn withdraw_others<M: PrefixMap<Route>>(
+    table: &mut M,
+    churn: &mut Churn,
+    withdrawn: &[RouteKey],
+    announced: &KeySet,
+    reached: &KeySet,
+)
+    ensures { (M.contents table.new, churn.new) ≡ fold applied (M.contents table.old, churn.old) (map withdraw (filter (λ key. not (among announced.now key || among reached.now key)) withdrawn.now)) }
+{
+    for key in withdrawn {
+        if !announced.contains(key) && !reached.contains(key) {
+            withdraw_key(table, churn, key);
+        }
+    }
+}
+
+/// Announces each key with the route.
+fn announce_all<M: PrefixMap<Route>>(
+    alloc: Global,
+    table: &mut M,
+    churn: &mut Churn,
+    announced: &[RouteKey],
+    route: &Route,
+) -> Result<(), Memory>
+    ensures { OnOk result ((M.contents table.new, churn.new) ≡ fold applied (M.contents table.old, churn.old) (map (λ key. announce key route.now) announced.now)) }
+{
+    for key in announced {
+        announce_route(alloc, table, churn, *key, route)?;
+    }
+    Ok(())
+}
+
+/// Withdraws what an UPDATE withdraws and neither announces nor reaches.
+fn withdraw_update<M: PrefixMap<Route>>(
+    alloc: Global,
+    table: &mut M,
+    churn: &mut Churn,
+    update: &Update,
+) -> Result<(), Memory>
+    ensures { OnOk result ((M.contents table.new, churn.new) ≡ fold applied (M.contents table.old, churn.old) (withdrawals update.now)) }
+{
+    let withdrawn = update.withdrawn.as_slice();
+    if !withdrawn.is_empty() {
+        let announced = KeySet::from_slice(alloc, update.announced.as_slice())?;
+        let reached = KeySet::from_slice(alloc, update.reached.as_slice())?;
+        withdraw_others(table, churn, withdrawn, &announced, &reached);
+    }
+    Ok(())
+}
+
+/// Announces what an UPDATE reaches by its attribute 14.
+fn reach_update<M: PrefixMap<Route>>(
+    alloc: Global,
+    table: &mut M,
+    churn: &mut Churn,
+    update: &Update,
+) -> Result<(), Memory>
+    ensures { OnOk result ((M.contents table.new, churn.new) ≡ fold applied (M.contents table.old, churn.old) (reachings update.now)) }
+{
+    let reached = update.reached.as_slice();
+    if reached.is_empty() {
+        return Ok(());
+    }
+    let route = update.route.with_next_hop(alloc, update.reached_hop)?;
+    announce_all(alloc, table, churn, reached, &route)
+}
+
+/// Takes the steps of an UPDATE.
+pub(crate) fn apply_update<M: PrefixMap<Route>>(
+    alloc: Global,
+    table: &mut M,
+    churn: &mut Churn,
+    update: &Update,
+) -> Result<(), Memory>
+    ensures { OnOk result ((M.contents table.new, churn.new) ≡ fold applied (M.contents table.old, churn.old) (update_steps update.now)) }
+{
+    withdraw_update(alloc, table, churn, update)?;
+    announce_all(
+        alloc,
+        table,
+        churn,
+        update.announced.as_slice(),
+        &update.route,
+    )?;
+    reach_update(alloc, table, churn, update)
+}

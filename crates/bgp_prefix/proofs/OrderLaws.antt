@@ -1,0 +1,155 @@
+-- The routes of a branch stand in the order of their keys.
+use Rattle.std.proofs.Common.{◌≡◌, ℕ, ◌+◌, ◌*◌, ◌-◌, ◌<◌, ◌≤◌, Bool, true, false, ◌&&◌, List, [], ◌∷◌, ◌++◌, refl, sym, ap, ◌∙◌, subst, T, arith, add-zero, inl, inr}
+use Rattle.std.specs.declared.cmp.Ordering.TheVariants.{Less, Equal}
+use Rattle.std.specs.Ordering.{nat_cmp, is_lt, ordering_then}
+use Rattle.std.specs.FinMap.{is_sorted}
+use Rattle.std.specs.FinMap.Entries.{below_all}
+use Rattle.std.proofs.lemmas.Bool.{cases_lt, lt-ltb}
+use Rattle.std.proofs.lemmas.Cmp.{tied_itself, nat_cmp_total}
+use Rattle.std.proofs.lemmas.Nat.{le-div, pow_pos}
+use Rattle.std.proofs.Math.Nat.{div-mul-le_self}
+use Rattle.bgp_prefix.specs.Prefixes.{IpPrefix, IsIpPrefix, leading_bits, block_size, Starts}
+use Rattle.bgp_prefix.specs.Keys.{key_cmp, keyed}
+use Rattle.bgp_prefix.specs.Tries.{routes, IsTrie, IsUnder}
+use Rattle.bgp_prefix.specs.declared.key.RouteKey.{RouteKey}
+use Rattle.bgp_prefix.specs.declared.radix.Branch.{Branch}
+use Rattle.bgp_prefix.specs.declared.radix.Branch.TheVariants.{Nothing, Leaf, Fork'}
+use Rattle.bgp_prefix.proofs.KeyLaws.{prefix_cmp_total}
+use Rattle.bgp_prefix.proofs.TrieLaws.{starts_as_parent}
+
+-- what holds of each key of a list
+abbrev pub AllKeys : {V : Type 0} → (RouteKey → Type 0) → List (RouteKey × V) → Type 0
+AllKeys P [] = Unit {0}
+AllKeys P (e ∷ es) = P e.0 × AllKeys P es
+
+module _ {V : Type 0} (P : RouteKey → Type 0) where
+  pub AllKeys-append : (es fs : List (RouteKey × V)) → AllKeys P es → AllKeys P fs → AllKeys P (es ++ fs)
+  AllKeys-append [] fs a b = b
+  AllKeys-append (e ∷ es) fs a b = (a.0, AllKeys-append es fs a.1 b)
+
+  pub AllKeys-keyed : (p : IpPrefix) (paths : List (ℕ × V)) → ((k : RouteKey) → k.prefix ≡ p → P k) → AllKeys P (keyed p paths)
+  AllKeys-keyed p [] h = tt
+  AllKeys-keyed p (x ∷ xs) h = (h (record { prefix = p; id = x.0 }) refl, AllKeys-keyed p xs h)
+
+  pub AllKeys-weaker : (Q : RouteKey → Type 0) (es : List (RouteKey × V)) → ((k : RouteKey) → P k → Q k) → AllKeys P es → AllKeys Q es
+  AllKeys-weaker Q [] f h = tt
+  AllKeys-weaker Q (e ∷ es) f h = (f e.0 h.0, AllKeys-weaker Q es f h.1)
+
+both : (a b : Bool) → T a → T b → T (a && b)
+both true b p q = q
+both false b p q = p
+
+first : (a b : Bool) → T (a && b) → T a
+first true b p = tt
+first false b p = p
+
+second : (a b : Bool) → T (a && b) → T b
+second true b p = p
+second false b p = absurd p
+
+-- of two addresses the one with the lower leading bits is lower
+addr_rises : (n a b : ℕ) → leading_bits n a < leading_bits n b → a < b
+addr_rises n a b h = elim (cases_lt a b) [
+  | inl lt ↦ lt
+  | inr ge ↦
+      let some : 0 < block_size n = pow_pos (32 - n) in
+      let low : leading_bits n b * block_size n ≤ a = omega (arith, div-mul-le_self b (block_size n), ge) in
+      let le : leading_bits n b ≤ leading_bits n a = le-div (leading_bits n b) a (block_size n) some low in
+      absurd (omega (arith, h, le))
+]
+
+-- a prefix is not above an address that has its bits
+pub network_below : (p : IpPrefix) (a : ℕ) → IsIpPrefix p → leading_bits p.len a ≡ leading_bits p.len p.addr → p.addr ≤ a
+network_below p a known same =
+    let at : leading_bits p.len a * block_size p.len ≡ p.addr = ap (λ (t : ℕ). t * block_size p.len) same ∙ known.cleared in
+    omega (arith, at, div-mul-le_self a (block_size p.len))
+
+number_less : (a b : ℕ) → a < b → nat_cmp a b ≡ Less
+number_less a b h = rw (lt-ltb a b h) refl
+
+less_by_addr : (j k : RouteKey) → j.prefix.addr < k.prefix.addr → key_cmp j k ≡ Less
+less_by_addr j k h = ap (λ r. ordering_then (ordering_then r (nat_cmp j.prefix.len k.prefix.len)) (nat_cmp j.id k.id)) (number_less _ _ h)
+
+pub less_by_len : (j k : RouteKey) → j.prefix.addr ≤ k.prefix.addr → j.prefix.len < k.prefix.len → key_cmp j k ≡ Less
+less_by_len j k le h = elim (cases_lt j.prefix.addr k.prefix.addr) [
+  | inl lt ↦ less_by_addr j k lt
+  | inr ge ↦
+      let same : j.prefix.addr ≡ k.prefix.addr = omega (arith, le, ge) in
+      let tied : nat_cmp j.prefix.addr k.prefix.addr ≡ Equal = ap (nat_cmp j.prefix.addr) (sym same) ∙ tied_itself nat_cmp_total j.prefix.addr in
+      ap (λ r. ordering_then (ordering_then r (nat_cmp j.prefix.len k.prefix.len)) (nat_cmp j.id k.id)) tied
+      ∙ ap (λ r. ordering_then r (nat_cmp j.id k.id)) (number_less _ _ h)
+]
+
+less_by_id : (p : IpPrefix) (i j : ℕ) → key_cmp (record { prefix = p; id = i }) (record { prefix = p; id = j }) ≡ nat_cmp i j
+less_by_id p i j = ap (λ r. ordering_then r (nat_cmp i j)) (tied_itself prefix_cmp_total p)
+
+module _ {V : Type 0} where
+  below_keyed : (p : IpPrefix) (i : ℕ) (paths : List (ℕ × V)) → T (below_all nat_cmp i paths) → T (below_all key_cmp (record { prefix = p; id = i }) (keyed p paths))
+  below_keyed p i [] h = tt
+  below_keyed p i (x ∷ xs) h = both _ _ (subst (λ r. T (is_lt r)) (sym (less_by_id p i x.0)) (first _ _ h)) (below_keyed p i xs (second _ _ h))
+
+  -- the routes of one prefix
+  sorted_keyed : (p : IpPrefix) (paths : List (ℕ × V)) → T (is_sorted nat_cmp paths) → T (is_sorted key_cmp (keyed p paths))
+  sorted_keyed p [] h = tt
+  sorted_keyed p (x ∷ xs) h = both _ _ (below_keyed p x.0 xs (first _ _ h)) (sorted_keyed p xs (second _ _ h))
+
+  below_append : (k : RouteKey) (es fs : List (RouteKey × V)) → T (below_all key_cmp k es) → AllKeys (λ j. key_cmp k j ≡ Less) fs → T (below_all key_cmp k (es ++ fs))
+  below_append k [] [] a b = tt
+  below_append k [] (f ∷ fs) a b = both _ _ (subst (λ r. T (is_lt r)) (sym b.0) tt) (below_append k [] fs tt b.1)
+  below_append k (e ∷ es) fs a b = both _ _ (first _ _ a) (below_append k es fs (second _ _ a) b)
+
+  -- two lists in order, each key of the first below each of the second
+  sorted_append : (es fs : List (RouteKey × V)) → T (is_sorted key_cmp es) → T (is_sorted key_cmp fs) → AllKeys (λ k. AllKeys (λ j. key_cmp k j ≡ Less) fs) es → T (is_sorted key_cmp (es ++ fs))
+  sorted_append [] fs a b c = b
+  sorted_append (e ∷ es) fs a b c = both _ _ (below_append e.0 es fs (first _ _ a) c.0) (sorted_append es fs (second _ _ a) b c.1)
+
+  pub keys_start : (b : Branch V) → IsTrie b → (len bits : ℕ) → IsUnder len bits b → AllKeys (λ k. Starts len bits k.prefix) (routes b)
+  keys_start Nothing ok len bits under = tt
+  keys_start (Leaf l) ok len bits under = AllKeys-keyed (λ k. Starts len bits k.prefix) l.value.prefix l.value.paths (λ k same. rw same (record { long = under.0; shared = under.1 }))
+  keys_start (Fork' p prefix paths low high) ok len bits under =
+      let P = λ (k : RouteKey). Starts len bits k.prefix in
+      let here : Starts len bits prefix = record { long = under.0; shared = under.1 } in
+      let a = keys_start low ok.5 (prefix.len + 1) (2 * leading_bits prefix.len prefix.addr) ok.3 in
+      let b = keys_start high ok.6 (prefix.len + 1) (2 * leading_bits prefix.len prefix.addr + 1) ok.4 in
+      AllKeys-append P (keyed prefix paths) (routes low ++ routes high)
+      (AllKeys-keyed P prefix paths (λ k same. rw same here))
+      (AllKeys-append P (routes low) (routes high)
+      (AllKeys-weaker (λ k. Starts (prefix.len + 1) (2 * leading_bits prefix.len prefix.addr) k.prefix) P (routes low) (λ k s. starts_as_parent len bits prefix k.prefix 0 ok.1 here (omega arith) (record { long = s.long; shared = s.shared ∙ sym (add-zero _) })) a)
+      (AllKeys-weaker (λ k. Starts (prefix.len + 1) (2 * leading_bits prefix.len prefix.addr + 1) k.prefix) P (routes high) (λ k s. starts_as_parent len bits prefix k.prefix 1 ok.1 here (omega arith) s) b))
+
+  pub keys_known : (b : Branch V) → IsTrie b → AllKeys (λ k. IsIpPrefix k.prefix) (routes b)
+  keys_known Nothing ok = tt
+  keys_known (Leaf l) ok = AllKeys-keyed (λ k. IsIpPrefix k.prefix) l.value.prefix l.value.paths (λ k same. rw same ok.0)
+  keys_known (Fork' p prefix paths low high) ok =
+      let P = λ (k : RouteKey). IsIpPrefix k.prefix in
+      AllKeys-append P (keyed prefix paths) (routes low ++ routes high) (AllKeys-keyed P prefix paths (λ k same. rw same ok.0)) (AllKeys-append P (routes low) (routes high) (keys_known low ok.5) (keys_known high ok.6))
+
+  -- a fork's own keys are below those of a branch of it
+  own_below : (p : IpPrefix) (r : ℕ) (k : RouteKey) (b : Branch V) → IsIpPrefix p → p.len < 32 → r < 2 → k.prefix ≡ p → IsTrie b → IsUnder (p.len + 1) (2 * leading_bits p.len p.addr + r) b → AllKeys (λ j. key_cmp k j ≡ Less) (routes b)
+  own_below p r k b known short h same ok under =
+      AllKeys-weaker (λ j. Starts (p.len + 1) (2 * leading_bits p.len p.addr + r) j.prefix) (λ j. key_cmp k j ≡ Less) (routes b)
+      (λ j s.
+      let up : Starts p.len (leading_bits p.len p.addr) j.prefix = starts_as_parent p.len (leading_bits p.len p.addr) p j.prefix r short (record { long = omega arith; shared = refl }) h s in
+      let le : p.addr ≤ j.prefix.addr = network_below p j.prefix.addr known up.shared in
+      let lt : p.len < j.prefix.len = omega (arith, s.long) in
+      less_by_len k j (rw same le) (rw same lt))
+      (keys_start b ok (p.len + 1) (2 * leading_bits p.len p.addr + r) under)
+
+  low_below : (n t : ℕ) (low high : Branch V) → IsTrie low → IsTrie high → IsUnder n t low → IsUnder n (t + 1) high → AllKeys (λ k. AllKeys (λ j. key_cmp k j ≡ Less) (routes high)) (routes low)
+  low_below n t low high a b u v =
+      AllKeys-weaker (λ k. Starts n t k.prefix) (λ k. AllKeys (λ j. key_cmp k j ≡ Less) (routes high)) (routes low)
+      (λ k s. AllKeys-weaker (λ j. Starts n (t + 1) j.prefix) (λ j. key_cmp k j ≡ Less) (routes high) (λ j w. less_by_addr k j (addr_rises n k.prefix.addr j.prefix.addr (omega (arith, s.shared, w.shared)))) (keys_start high b n (t + 1) v))
+      (keys_start low a n t u)
+
+  -- the keys of a branch rise
+  pub routes_sorted : (b : Branch V) → IsTrie b → T (is_sorted key_cmp (routes b))
+  routes_sorted Nothing ok = tt
+  routes_sorted (Leaf l) ok = sorted_keyed l.value.prefix l.value.paths ok.1
+  routes_sorted (Fork' p prefix paths low high) ok =
+      let below : T (is_sorted key_cmp (routes low ++ routes high)) = sorted_append (routes low) (routes high) (routes_sorted low ok.5) (routes_sorted high ok.6) (low_below (prefix.len + 1) (2 * leading_bits prefix.len prefix.addr) low high ok.5 ok.6 ok.3 ok.4) in
+      let in_low : IsUnder (prefix.len + 1) (2 * leading_bits prefix.len prefix.addr + 0) low = subst (λ (t : ℕ). IsUnder (prefix.len + 1) t low) (sym (add-zero _)) ok.3 in
+      sorted_append (keyed prefix paths) (routes low ++ routes high) (sorted_keyed prefix paths ok.2) below
+      (AllKeys-keyed (λ k. AllKeys (λ j. key_cmp k j ≡ Less) (routes low ++ routes high)) prefix paths
+      (λ k same. AllKeys-append (λ j. key_cmp k j ≡ Less) (routes low) (routes high)
+      (own_below prefix 0 k low ok.0 ok.1 (omega arith) same ok.5 in_low)
+      (own_below prefix 1 k high ok.0 ok.1 (omega arith) same ok.6 ok.4)))

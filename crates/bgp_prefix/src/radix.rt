@@ -1,0 +1,507 @@
+ghost use Rattle.std.specs.Prelude.{◌≡◌, ◌≢◌, ℕ, ◌+◌, ◌-◌, ◌*◌, ◌<◌, ◌≤◌, IsTrue, Option, Some, None, [], ◌++◌, map, OnOk, OnErr, IfOk, IfSome, IfNone, if◌then◌else◌};
+ghost use Rattle.std.specs.Option.{option_copied, option_or};
+ghost use Rattle.std.specs.FinMap as finite;
+ghost use Rattle.std.specs.FinMap.{find};
+ghost use Rattle.bgp_prefix.specs.Prefixes.{IpPrefix, IsIpPrefix, leading_bits, Starts};
+ghost use Rattle.bgp_prefix.specs.Keys.{key_cmp, Changes, last_match, matching_prefixes, entries_now, is_nil};
+ghost use Rattle.bgp_prefix.specs.Maps.{IsLongestMatch, HasNoMatch, paths_of};
+ghost use Rattle.bgp_prefix.specs.Places.{IsPlace};
+ghost use Rattle.bgp_prefix.specs.declared.radix.Branch.TheVariants.{Nothing};
+ghost use Rattle.bgp_prefix.specs.Tries.{routes, IsTrie, IsUnder, IsRoot, IsBelowLeaf, IsInserted, IsLeafOf, IsUnpruned, IsRemoved, is_nothing, is_idle, heir};
+
+use crate::key::RouteKey;
+use crate::map::PrefixMap;
+use crate::memory::Memory;
+use crate::paths::Paths;
+use crate::prefix::{Prefix, bit_after, shared_len};
+use std::alloc::Global;
+use std::marker::Model;
+use std::mem;
+
+/// A part of the trie: nothing, one prefix, or a fork with two branches.
+#[cycle(branch)]
+#[derive(Drop)]
+enum Branch<V> {
+    Nothing,
+    Leaf(Box<Leaf<V>>),
+    Fork(Box<Fork<V>>),
+}
+
+/// A prefix with its routes.
+#[derive(Drop)]
+struct Leaf<V> {
+    prefix: Prefix,
+    paths: Paths<V>,
+}
+
+/// A prefix with its routes, if it has any, and the longer prefixes within it by their next bit.
+#[cycle(branch)]
+#[derive(Drop)]
+struct Fork<V> {
+    prefix: Prefix,
+    paths: Paths<V>,
+    low: Branch<V>,
+    high: Branch<V>,
+}
+
+/// Where a prefix belongs in a fork: at its prefix, in a branch, or outside.
+enum Place {
+    Here,
+    Low,
+    High,
+    Apart,
+}
+
+fn place_of(at: &Prefix, prefix: &Prefix) -> Place
+    ensures { IsPlace at.now prefix.now result }
+{
+    if at == prefix {
+        Place::Here
+    } else if at.len() >= prefix.len() || !at.contains(prefix.addr()) {
+        Place::Apart
+    } else if bit_after(prefix.addr(), at.len()) {
+        Place::High
+    } else {
+        Place::Low
+    }
+}
+
+impl<V: Drop> Branch<V> {
+    fn get(&self, key: &RouteKey) -> Option<&V>
+        requires { IsTrie self.now }
+        ensures { option_copied result ≡ find key_cmp key.now (routes self.now) }
+    {
+        match self {
+            Branch::Nothing => None,
+            Branch::Leaf(leaf) => {
+                if leaf.prefix == key.prefix {
+                    leaf.paths.get(key.id)
+                } else {
+                    None
+                }
+            }
+            Branch::Fork(fork) => match place_of(&fork.prefix, &key.prefix) {
+                Place::Here => fork.paths.get(key.id),
+                Place::Low => fork.low.get(key),
+                Place::High => fork.high.get(key),
+                Place::Apart => None,
+            },
+        }
+    }
+
+    /// Sets the value of a key, and gives the one before. An `Err` changes nothing.
+    fn insert(&mut self, alloc: Global, key: RouteKey, value: V) -> Result<Option<V>, Memory>
+        requires trie { IsTrie self.old }
+        requires known { IsIpPrefix key.prefix }
+        ensures before { IfOk result (λ before. before ≡ find key_cmp key (routes self.old)) }
+        ensures ok { OnOk result (IsInserted self.old self.new key value) }
+        ensures err { OnErr result (self.new ≡ self.old) }
+    {
+        match self {
+            Branch::Nothing => {
+                self.set(Branch::leaf(alloc, key, value)?);
+                Ok(None)
+            }
+            Branch::Leaf(leaf) => {
+                let at = leaf.prefix;
+                match place_of(&at, &key.prefix) {
+                    Place::Here => leaf.paths.insert(key.id, value),
+                    Place::Low => {
+                        self.insert_below(alloc, false, key, value)?;
+                        Ok(None)
+                    }
+                    Place::High => {
+                        self.insert_below(alloc, true, key, value)?;
+                        Ok(None)
+                    }
+                    Place::Apart => {
+                        self.insert_apart(alloc, &at, key, value)?;
+                        Ok(None)
+                    }
+                }
+            }
+            Branch::Fork(fork) => {
+                let at = fork.prefix;
+                match place_of(&at, &key.prefix) {
+                    Place::Here => fork.paths.insert(key.id, value),
+                    Place::Low => fork.low.insert(alloc, key, value),
+                    Place::High => fork.high.insert(alloc, key, value),
+                    Place::Apart => {
+                        self.insert_apart(alloc, &at, key, value)?;
+                        Ok(None)
+                    }
+                }
+            }
+        }
+    }
+
+    fn leaf(alloc: Global, key: RouteKey, value: V) -> Result<Branch<V>, Memory>
+        requires { IsIpPrefix key.prefix }
+        ensures { IfOk result (λ leaf. IsLeafOf key value leaf) }
+    {
+        let paths = Paths::one(alloc, key.id, value)?;
+        let leaf = Leaf {
+            prefix: key.prefix,
+            paths,
+        };
+        Ok(Branch::Leaf(Box::new(alloc, leaf)?))
+    }
+
+    /// Adds a route below this leaf, which becomes a fork.
+    fn insert_below(
+        &mut self,
+        alloc: Global,
+        is_high: bool,
+        key: RouteKey,
+        value: V,
+    ) -> Result<(), Memory>
+        requires trie { IsTrie self.old }
+        requires known { IsIpPrefix key.prefix }
+        requires below { IsBelowLeaf self.old is_high key.prefix }
+        ensures ok { OnOk result (IsInserted self.old self.new key value) }
+        ensures err { OnErr result (self.new ≡ self.old) }
+    {
+        let Branch::Leaf(leaf) = self else {
+            unreachable!()
+        };
+        let new = Branch::leaf(alloc, key, value)?;
+        let mut fork = Fork::new(alloc, leaf.prefix, Paths::new(alloc))?;
+        mem::swap(&mut fork.paths, &mut leaf.paths);
+        fork.set_child(is_high, new);
+        self.set(Branch::Fork(fork));
+        Ok(())
+    }
+
+    /// Adds a route whose prefix the root's prefix `at` doesn't cover, by a fork above both.
+    fn insert_apart(
+        &mut self,
+        alloc: Global,
+        at: &Prefix,
+        key: RouteKey,
+        value: V,
+    ) -> Result<(), Memory>
+        requires trie { IsTrie self.old }
+        requires root { IsRoot at.now self.old }
+        requires known { IsIpPrefix key.prefix }
+        requires apart { Starts at.now.len (leading_bits at.now.len at.now.addr) key.prefix → ⊥ }
+        ensures ok { OnOk result (IsInserted self.old self.new key value) }
+        ensures err { OnErr result (self.new ≡ self.old) }
+    {
+        let shared = shared_len(at, &key.prefix);
+        if shared == key.prefix.len() {
+            let paths = Paths::one(alloc, key.id, value)?;
+            let mut fork = Fork::new(alloc, key.prefix, paths)?;
+            let is_high = bit_after(at.addr(), shared);
+            fork.set_child(is_high, mem::replace(self, Branch::Nothing));
+            self.set(Branch::Fork(fork));
+            return Ok(());
+        }
+        let new = Branch::leaf(alloc, key, value)?;
+        let mut fork = Fork::new(alloc, at.shortened(shared), Paths::new(alloc))?;
+        let is_high = bit_after(at.addr(), shared);
+        fork.set_child(!is_high, new);
+        fork.set_child(is_high, mem::replace(self, Branch::Nothing));
+        self.set(Branch::Fork(fork));
+        Ok(())
+    }
+
+    /// Removes a key, and gives its value.
+    fn remove(&mut self, key: &RouteKey) -> Option<V>
+        requires { IsTrie self.old }
+        ensures before { result ≡ find key_cmp key.now (routes self.old) }
+        ensures removed { IsRemoved self.old self.new key.now }
+    {
+        match self {
+            Branch::Nothing => None,
+            Branch::Leaf(leaf) => {
+                let at = leaf.prefix;
+                if at == key.prefix {
+                    let removed = leaf.paths.remove(key.id);
+                    self.prune();
+                    removed
+                } else {
+                    None
+                }
+            }
+            Branch::Fork(fork) => {
+                let at = fork.prefix;
+                match place_of(&at, &key.prefix) {
+                    Place::Here => {
+                        let removed = fork.paths.remove(key.id);
+                        self.prune();
+                        removed
+                    }
+                    Place::Low => {
+                        let removed = fork.low.remove(key);
+                        self.prune();
+                        removed
+                    }
+                    Place::High => {
+                        let removed = fork.high.remove(key);
+                        self.prune();
+                        removed
+                    }
+                    Place::Apart => None,
+                }
+            }
+        }
+    }
+
+    /// Drops the root where it neither holds routes nor forks.
+    fn prune(&mut self)
+        requires { IsUnpruned self.old }
+        ensures trie { IsTrie self.new }
+        ensures routes { routes self.new ≡ routes self.old }
+        ensures under { (len : ℕ) → (bits : ℕ) → IsUnder len bits self.old → IsUnder len bits self.new }
+    {
+        if self.is_idle() {
+            let heir = self.heir();
+            self.set(heir);
+        }
+    }
+
+    /// Whether the root neither holds routes nor forks.
+    fn is_idle(&self) -> bool
+        ensures { result ≡ is_idle self.now }
+    {
+        match self {
+            Branch::Nothing => false,
+            Branch::Leaf(leaf) => leaf.paths.is_empty(),
+            Branch::Fork(fork) => {
+                fork.paths.is_empty() && (fork.low.is_nothing() || fork.high.is_nothing())
+            }
+        }
+    }
+
+    /// What is left below an idle root.
+    fn heir(&mut self) -> Branch<V>
+        ensures { result ≡ heir self.old }
+    {
+        match self {
+            Branch::Nothing => Branch::Nothing,
+            Branch::Leaf(_) => Branch::Nothing,
+            Branch::Fork(fork) => {
+                if fork.low.is_nothing() {
+                    mem::replace(&mut fork.high, Branch::Nothing)
+                } else {
+                    mem::replace(&mut fork.low, Branch::Nothing)
+                }
+            }
+        }
+    }
+
+    fn is_nothing(&self) -> bool
+        ensures { result ≡ is_nothing self.now }
+    {
+        match self {
+            Branch::Nothing => true,
+            _ => false,
+        }
+    }
+
+    /// The longest prefix that contains the address, and how many nodes were looked at.
+    fn longest_steps(&self, addr: u32) -> (Option<Prefix>, u32)
+        requires { IsTrie self.now }
+        ensures prefix { result.0 ≡ last_match (routes self.now) addr }
+        ensures enough { matching_prefixes (routes self.now) addr ≤ result.1 }
+        ensures bound { (len : ℕ) → (bits : ℕ) → IsUnder len bits self.now → result.1 ≤ 33 - len }
+    {
+        match self {
+            Branch::Nothing => (None, 0),
+            Branch::Leaf(leaf) => {
+                if leaf.prefix.contains(addr) {
+                    (Some(leaf.prefix), 1)
+                } else {
+                    (None, 1)
+                }
+            }
+            Branch::Fork(fork) => {
+                if !fork.prefix.contains(addr) {
+                    return (None, 1);
+                }
+                if bit_after(addr, fork.prefix.len()) {
+                    fork.or_here(fork.high.longest_steps(addr))
+                } else {
+                    fork.or_here(fork.low.longest_steps(addr))
+                }
+            }
+        }
+    }
+
+    /// Adds the routes to a list, in the order of their keys.
+    fn list<'a>(&'a self, all: &mut Vec<(RouteKey, &'a V)>) -> Result<(), Memory>
+        ensures { OnOk result (entries_now all.new.items ≡ entries_now all.old.items ++ routes self.now) }
+    {
+        match self {
+            Branch::Nothing => Ok(()),
+            Branch::Leaf(leaf) => leaf.paths.list(&leaf.prefix, all),
+            Branch::Fork(fork) => {
+                fork.paths.list(&fork.prefix, all)?;
+                fork.low.list(all)?;
+                fork.high.list(all)
+            }
+        }
+    }
+
+    /// The identifiers and values of one prefix, ascending by identifier.
+    fn paths(&self, alloc: Global, prefix: &Prefix) -> Result<Vec<(u32, &V)>, Memory>
+        requires { IsTrie self.now }
+        ensures { IfOk result (λ v. map (λ e. (e.0, e.1.now)) v.items ≡ paths_of prefix.now (routes self.now)) }
+    {
+        match self {
+            Branch::Nothing => Ok(Vec::new(alloc)),
+            Branch::Leaf(leaf) => {
+                if leaf.prefix == *prefix {
+                    leaf.paths.to_vec(alloc)
+                } else {
+                    Ok(Vec::new(alloc))
+                }
+            }
+            Branch::Fork(fork) => match place_of(&fork.prefix, prefix) {
+                Place::Here => fork.paths.to_vec(alloc),
+                Place::Low => fork.low.paths(alloc, prefix),
+                Place::High => fork.high.paths(alloc, prefix),
+                Place::Apart => Ok(Vec::new(alloc)),
+            },
+        }
+    }
+
+    fn set(&mut self, branch: Branch<V>)
+        ensures { self.new ≡ branch }
+    {
+        *self = branch;
+    }
+}
+
+impl<V: Drop> Fork<V> {
+    fn new(alloc: Global, prefix: Prefix, paths: Paths<V>) -> Result<Box<Fork<V>>, Memory>
+        ensures { IfOk result (λ fork. fork.value ≡ record { prefix = prefix; paths = paths; low = Nothing; high = Nothing }) }
+    {
+        let fork = Fork {
+            prefix,
+            paths,
+            low: Branch::Nothing,
+            high: Branch::Nothing,
+        };
+        Ok(Box::new(alloc, fork)?)
+    }
+
+    /// The match below, or else this prefix where it has routes.
+    fn or_here(&self, below: (Option<Prefix>, u32)) -> (Option<Prefix>, u32)
+        requires { below.1 < 33 }
+        ensures prefix { result.0 ≡ option_or below.0 (if is_nil self.now.paths then None else Some self.now.prefix) }
+        ensures steps { result.1 ≡ below.1 + 1 }
+    {
+        match below.0 {
+            None => {
+                if self.paths.is_empty() {
+                    (None, below.1 + 1)
+                } else {
+                    (Some(self.prefix), below.1 + 1)
+                }
+            }
+            found => (found, below.1 + 1),
+        }
+    }
+
+    fn set_child(&mut self, is_high: bool, branch: Branch<V>)
+        ensures { self.new ≡ (if is_high then record self.old { high = branch } else record self.old { low = branch }) }
+    {
+        if is_high {
+            self.high.set(branch);
+        } else {
+            self.low.set(branch);
+        }
+    }
+}
+
+/// A finite map from keys to values, as a path-compressed trie of the keys' prefixes.
+#[derive(Drop)]
+pub struct Radix<V> {
+    root: Branch<V>,
+    len: usize,
+}
+
+impl<V> Model for Radix<V> {
+    ghost use Rattle.std.specs.Prelude.{◌≡◌, List, length};
+    ghost use Rattle.bgp_prefix.specs.declared.key.RouteKey.{RouteKey};
+    ghost use Rattle.bgp_prefix.specs.Tries.{routes, IsTrie};
+
+    ghost Value = { List (RouteKey × V) };
+
+    ghost view = { λ m. routes m.root };
+
+    ghost invariant = { λ m. IsTrie m.root × (m.len ≡ length (routes m.root)) };
+}
+
+impl<V: Drop> Radix<V> {
+    /// The longest prefix of a key that contains the address, and how many nodes were looked at:
+    /// at most 33, and at least one for each held prefix that contains the address.
+    pub fn longest_steps(&self, addr: u32) -> (Option<Prefix>, u32)
+        ensures found { IfSome result.0 (IsLongestMatch (finite.from_entries self.now) addr) }
+        ensures none { IfNone result.0 (HasNoMatch (finite.from_entries self.now) addr) }
+        ensures enough { matching_prefixes (finite.entries (finite.from_entries {R = key_cmp} self.now)) addr ≤ result.1 }
+        ensures bound { result.1 ≤ 33 }
+    {
+        self.root.longest_steps(addr)
+    }
+}
+
+impl<V: Drop> PrefixMap<V> for Radix<V> {
+    ghost contents = { λ m. finite.from_entries m };
+
+    fn new(_alloc: Global) -> Self {
+        Radix {
+            root: Branch::Nothing,
+            len: 0,
+        }
+    }
+
+    fn insert(&mut self, alloc: Global, key: RouteKey, value: V) -> Result<Option<V>, Memory> {
+        // Its length is at most 32.
+        let _ = key.prefix.len();
+        let Some(more) = self.len.checked_add(1) else {
+            return Err(Memory);
+        };
+        let before = self.root.insert(alloc, key, value)?;
+        if before.is_none() {
+            self.len = more;
+        }
+        Ok(before)
+    }
+
+    fn remove(&mut self, key: &RouteKey) -> Option<V> {
+        let removed = self.root.remove(key);
+        if removed.is_some() {
+            self.len -= 1;
+        }
+        removed
+    }
+
+    fn get(&self, key: &RouteKey) -> Option<&V> {
+        self.root.get(key)
+    }
+
+    fn longest(&self, addr: u32) -> Option<Prefix> {
+        self.longest_steps(addr).0
+    }
+
+    fn paths(&self, alloc: Global, prefix: &Prefix) -> Result<Vec<(u32, &V)>, Memory> {
+        self.root.paths(alloc, prefix)
+    }
+
+    fn clear(&mut self) {
+        self.root.set(Branch::Nothing);
+        self.len = 0;
+    }
+
+    fn len(&self) -> usize {
+        self.len
+    }
+
+    fn entries(&self, alloc: Global) -> Result<Vec<(RouteKey, &V)>, Memory> {
+        let mut all = Vec::with_capacity(alloc, self.len)?;
+        self.root.list(&mut all)?;
+        Ok(all)
+    }
+}

@@ -1,0 +1,20 @@
+use std::marker::Sync;
+
+/// Is told when units are dealt and taken, and returns. Numbers count from 0 in each lane.
+pub trait Gate: Sync {
+    /// Called by a worker just before it takes the unit with this number of its lane.
+    fn before(&self, worker: usize, number: u64);
+
+    /// Called by the dealer just after its push of the unit with this number to a lane.
+    fn dealt(&self, lane: usize, number: u64);
+}
+
+/// A gate that does nothing.
+#[derive(Clone, Copy, Debug)]
+pub struct NoGate;
+
+impl Gate for NoGate {
+    fn before(&self, _worker: usize, _number: u64) {}
+
+    fn dealt(&self, _lane: usize, _number: u64) {}
+}

@@ -1,0 +1,56 @@
+use super::*;
+use std::test::Fail;
+
+const PLAN: Plan = Plan {
+    workers: 64,
+    ring: 65_536,
+    batch: 1_048_576,
+    looks: 0,
+    max_records: 1 << 47,
+    until: None,
+};
+
+/// The row `plan-ranges`: each number at its greatest, one past it, and 0.
+#[test]
+fn plan_ranges(rt: HostRuntime) {
+    assert!(rt; PLAN.check());
+    for workers in [65, 0] {
+        assert!(rt; !Plan { workers, ..PLAN }.check());
+    }
+    for ring in [65_537, 0] {
+        assert!(rt; !Plan { ring, ..PLAN }.check());
+    }
+    for batch in [1_048_577, 0] {
+        assert!(rt; !Plan { batch, ..PLAN }.check());
+    }
+    for max_records in [(1 << 47) + 1, 0] {
+        assert!(rt; !Plan { max_records, ..PLAN }.check());
+    }
+}
+
+#[test]
+fn peers_by_turns_blocks_and_lists(rt: HostRuntime) -> Result<(), Fail> {
+    let blocks = ByBlocks::new(2);
+    let mut lanes = Vec::new(rt.alloc());
+    for peer in 0..7 {
+        lanes.push(blocks.lane(peer, 3))?;
+    }
+    assert_eq!(rt; lanes.as_slice(), [0, 0, 1, 1, 2, 2, 0].as_slice());
+    let empty = ByList::new(Vec::new(rt.alloc()));
+    for peer in 0..4 {
+        assert_eq!(rt; empty.lane(peer, 3), 0);
+        assert_eq!(rt; ByTurns.lane(peer, 3), peer % 3);
+    }
+    let listed = ByList::new(vec![in rt.alloc(); 1, 1, 0, 5]?);
+    for (peer, lane) in [(0, 1), (1, 1), (2, 0), (3, 2), (4, 0)] {
+        assert_eq!(rt; listed.lane(peer, 3), lane);
+    }
+    Ok(())
+}
+
+/// Both calls of the gate that does nothing return.
+#[test]
+fn no_gate(_rt: HostRuntime) {
+    NoGate.before(0, 0);
+    NoGate.dealt(0, 0);
+}
