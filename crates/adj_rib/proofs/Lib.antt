@@ -2,4 +2,5 @@ pub mod After
 pub mod TableLaws
 pub mod HeldPairs
 pub mod Stepping
+pub mod Announcing
 pub mod Taking

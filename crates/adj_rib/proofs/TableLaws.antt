@@ -1,9 +1,9 @@
 -- The table is the set of the pairs that hold, and each step changes it as a map.
-use Rattle.std.proofs.Common.{◌≡◌, Bool, true, false, cond, ◌||◌, List, [], ◌∷◌, ◌++◌, Option, Some, None, refl, sym, ap, ◌∙◌}
+use Rattle.std.proofs.Common.{◌≡◌, Bool, true, false, cond, ◌||◌, List, [], ◌∷◌, ◌++◌, Option, Some, None, T, refl, sym, ap, ◌∙◌}
 use Rattle.std.specs.Prelude.{unwrap_or}
 use Rattle.std.specs.List.{filter_map, cons_option, last_or, list_any}
 use Rattle.std.specs.FinMap as finite
-use Rattle.std.specs.FinMap.Entries.{find, same_entries}
+use Rattle.std.specs.FinMap.Entries.{find, is_sorted, same_entries}
 use Rattle.std.specs.Ordering.{eq_by_cmp}
 use Rattle.std.proofs.lemmas.List.Elements.{filter_map-append}
 use Rattle.bgp_prefix.specs.Keys.{key_cmp, key_eq}
@@ -95,9 +95,13 @@ find-table_of steps q =
       | false ↦ λ e. sym (none_unless_announced q steps None refl e)
     ] refl
 
+pub is_sorted-table_of : (steps : List Step) → T (is_sorted key_cmp (table_of steps))
+unfolding table_of
+is_sorted-table_of steps = is_sorted-tabulated key_cmp_total (route_at steps) (filter_map announced_key steps)
+
 -- a map that is the table has its entries
 pub entries-IsTable : (steps : List Step) (table : finite.FinMap key_cmp Route) → IsTable steps table → finite.entries table ≡ table_of steps
 unfolding table_of
 entries-IsTable steps table h =
-    same_entries key_cmp key_cmp_total key_cmp_exact (finite.entries table) (table_of steps) (finite.entries_sorted table) (is_sorted-tabulated key_cmp_total (route_at steps) (filter_map announced_key steps))
+    same_entries key_cmp key_cmp_total key_cmp_exact (finite.entries table) (table_of steps) (finite.entries_sorted table) (is_sorted-table_of steps)
     (λ q. sym (finite.get-entries table q) ∙ h q ∙ sym (find-table_of steps q))

@@ -34,6 +34,10 @@ counted o c = record {
   last = c.last;
 }
 
+-- an announcement over another route, or over none
+abbrev pub outcome_over : Option Route → Outcome
+outcome_over old = if is_some old then Changed else Added
+
 abbrev pub RouteMap : Type 0
 RouteMap = finite.FinMap key_cmp Route
 

@@ -44,13 +44,17 @@ state_steps old new = if (old == ESTABLISHED) && (new == ESTABLISHED) then [] el
 abbrev pub withdrawals : Update → List Step
 withdrawals u = map withdraw (filter (λ key. not (among u.announced key || among u.reached key)) u.withdrawn)
 
+-- what is announced, with the route
+abbrev pub announcements : Update → List Step
+announcements u = map (λ key. announce key u.route) u.announced
+
 -- what attribute 14 announces, by its own next hop
 abbrev pub reachings : Update → List Step
 reachings u = map (λ key. announce key (by_hop u.route u.reached_hop)) u.reached
 
 -- the withdrawals, then the announcements, then those of attribute 14, each in order
 abbrev pub update_steps : Update → List Step
-update_steps u = withdrawals u ++ map (λ key. announce key u.route) u.announced ++ reachings u
+update_steps u = withdrawals u ++ announcements u ++ reachings u
 
 -- the steps of an event of a peer that is up or not
 abbrev pub event_steps : Bool → Event → List Step

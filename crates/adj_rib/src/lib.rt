@@ -2,6 +2,7 @@
 #![tactic(auto)]
 
 mod churn;
+mod holding;
 mod outcome;
 mod rib_in;
 mod session;
@@ -9,4 +10,5 @@ mod table;
 mod update;
 
 pub use churn::Churn;
+pub use holding::table_has_what_holds;
 pub use session::Session;

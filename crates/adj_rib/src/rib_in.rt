@@ -2,8 +2,8 @@ use crate::churn::Churn;
 use crate::outcome::Outcome;
 use crate::table::announce_route;
 use crate::update::apply_update;
-use bgp_prefix::{Memory, PrefixMap};
-use bgp_update::{AttrError, Route};
+use bgp_prefix::{Memory, PrefixMap, RouteKey};
+use bgp_update::{AttrError, Route, Update};
 use mrt_body::{Damage, Event, Unit, event};
 use std::alloc::Global;
 
@@ -20,9 +20,9 @@ pub(crate) struct RibIn<M: PrefixMap<Route>> {
 }
 
 impl<M: PrefixMap<Route>> RibIn<M> {
-    ghost use Rattle.std.specs.Prelude.{◌≡◌, Ok, OnOk};
+    ghost use Rattle.std.specs.Prelude.{◌≡◌, true, Ok, OnOk};
     ghost use Rattle.mrt_body.specs.declared.meaning.Event.TheVariants as events;
-    ghost use Rattle.adj_rib.specs.Applied.{START, followed, refused, taken};
+    ghost use Rattle.adj_rib.specs.Applied.{START, counted_if, followed, refused, taken};
     ghost use Rattle.adj_rib.specs.Keeping.{kept_in};
 
     /// Of a peer without units, which is up.
@@ -49,26 +49,49 @@ impl<M: PrefixMap<Route>> RibIn<M> {
         self.up = new == ESTABLISHED_STATE;
     }
 
+    /// Counts an UPDATE or a RIB entry of a peer that isn't up.
+    fn count_idle(&mut self)
+        ensures { self.new ≡ record self.old { churn = record self.old.churn { idle = counted_if true self.old.churn.idle } } }
+    {
+        self.churn.idle = self.churn.idle.saturating_add(1);
+    }
+
+    /// Takes the steps of an UPDATE.
+    #[tactic(auto, unfolding(crate::specs::Applied::followed, crate::specs::Applied::noted))]
+    fn change(&mut self, alloc: Global, update: Update) -> Result<(), Memory>
+        ensures { OnOk result (kept_in M.contents self.new ≡ followed (kept_in M.contents self.old) (Ok (events.Change update))) }
+    {
+        if !self.up {
+            self.count_idle();
+            return Ok(());
+        }
+        apply_update(alloc, &mut self.table, &mut self.churn, update)
+    }
+
+    /// Takes the step of a RIB entry.
+    #[tactic(auto, unfolding(crate::specs::Applied::followed, crate::specs::Applied::noted))]
+    fn enter(&mut self, alloc: Global, key: RouteKey, route: Route) -> Result<(), Memory>
+        ensures { OnOk result (kept_in M.contents self.new ≡ followed (kept_in M.contents self.old) (Ok (events.Rib key route))) }
+    {
+        if !self.up {
+            self.count_idle();
+            return Ok(());
+        }
+        announce_route(alloc, &mut self.table, &mut self.churn, key, route)
+    }
+
     /// Takes the steps of an event.
     #[tactic(auto, unfolding(crate::specs::Applied::followed, crate::specs::Applied::noted))]
-    fn follow(&mut self, alloc: Global, event: &Event) -> Result<(), Memory>
-        ensures { OnOk result (kept_in M.contents self.new ≡ followed (kept_in M.contents self.old) (Ok event.now)) }
+    fn follow(&mut self, alloc: Global, event: Event) -> Result<(), Memory>
+        ensures { OnOk result (kept_in M.contents self.new ≡ followed (kept_in M.contents self.old) (Ok event)) }
     {
         match event {
             Event::State(old, new) => {
-                self.change_state(*old, *new);
+                self.change_state(old, new);
                 Ok(())
             }
-            Event::Change(update) if self.up => {
-                apply_update(alloc, &mut self.table, &mut self.churn, update)
-            }
-            Event::Rib(key, route) if self.up => {
-                announce_route(alloc, &mut self.table, &mut self.churn, *key, route)
-            }
-            Event::Change(_) | Event::Rib(_, _) => {
-                self.churn.idle = self.churn.idle.saturating_add(1);
-                Ok(())
-            }
+            Event::Change(update) => self.change(alloc, update),
+            Event::Rib(key, route) => self.enter(alloc, key, route),
             Event::Other => Ok(()),
         }
     }
@@ -90,7 +113,7 @@ impl<M: PrefixMap<Route>> RibIn<M> {
     {
         self.churn.note_time(unit.time);
         match event(alloc, &unit.payload) {
-            Ok(event) => self.follow(alloc, &event),
+            Ok(event) => self.follow(alloc, event),
             Err(AttrError::Bad(fault)) => self.refuse(Damage {
                 place: unit.place,
                 fault,

@@ -1,11 +1,11 @@
-ghost use Rattle.std.specs.Prelude.{◌≡◌, ◌||◌, map, not, OnOk};
+ghost use Rattle.std.specs.Prelude.{◌≡◌, ◌||◌, ◌++◌, map, not, OnOk};
 ghost use Rattle.std.specs.List.{fold, filter};
 ghost use Rattle.bgp_prefix.specs.Keys.{among};
-ghost use Rattle.adj_rib.specs.Steps.{announce, withdraw, withdrawals, reachings, update_steps};
+ghost use Rattle.adj_rib.specs.Steps.{announce, withdraw, withdrawals, announcements, reachings, update_steps};
 ghost use Rattle.adj_rib.specs.Applied.{applied};
 
 use crate::churn::Churn;
-use crate::table::{announce_route, withdraw_key};
+use crate::table::{announce_copy, announce_route, withdraw_key};
 use bgp_prefix::{KeySet, Memory, PrefixMap, RouteKey};
 use bgp_update::{Route, Update};
 use std::alloc::Global;
@@ -27,7 +27,7 @@ fn withdraw_others<M: PrefixMap<Route>>(
     }
 }
 
-/// Announces each key with the route.
+/// Announces each key with a copy of the route.
 fn announce_all<M: PrefixMap<Route>>(
     alloc: Global,
     table: &mut M,
@@ -38,9 +38,26 @@ fn announce_all<M: PrefixMap<Route>>(
     ensures { OnOk result ((M.contents table.new, churn.new) ≡ fold applied (M.contents table.old, churn.old) (map (λ key. announce key route.now) announced.now)) }
 {
     for key in announced {
-        announce_route(alloc, table, churn, *key, route)?;
+        announce_copy(alloc, table, churn, *key, route)?;
     }
     Ok(())
+}
+
+/// Announces each key with the route, which the last one gets.
+fn announce_each<M: PrefixMap<Route>>(
+    alloc: Global,
+    table: &mut M,
+    churn: &mut Churn,
+    keys: &[RouteKey],
+    route: Route,
+) -> Result<(), Memory>
+    ensures { OnOk result ((M.contents table.new, churn.new) ≡ fold applied (M.contents table.old, churn.old) (map (λ key. announce key route) keys.now)) }
+{
+    let Some((last, others)) = keys.split_last() else {
+        return Ok(());
+    };
+    announce_all(alloc, table, churn, others, &route)?;
+    announce_route(alloc, table, churn, *last, route)
 }
 
 /// Withdraws what an UPDATE withdraws and neither announces nor reaches.
@@ -61,21 +78,28 @@ fn withdraw_update<M: PrefixMap<Route>>(
     Ok(())
 }
 
-/// Announces what an UPDATE reaches by its attribute 14.
-fn reach_update<M: PrefixMap<Route>>(
+/// Announces what an UPDATE announces, and then what it reaches by its attribute 14.
+fn announce_update<M: PrefixMap<Route>>(
     alloc: Global,
     table: &mut M,
     churn: &mut Churn,
-    update: &Update,
+    update: Update,
 ) -> Result<(), Memory>
-    ensures { OnOk result ((M.contents table.new, churn.new) ≡ fold applied (M.contents table.old, churn.old) (reachings update.now)) }
+    ensures { OnOk result ((M.contents table.new, churn.new) ≡ fold applied (M.contents table.old, churn.old) (announcements update ++ reachings update)) }
 {
-    let reached = update.reached.as_slice();
-    if reached.is_empty() {
-        return Ok(());
+    let Update {
+        withdrawn: _,
+        announced,
+        reached,
+        route,
+        reached_hop,
+    } = update;
+    if reached.as_slice().is_empty() {
+        return announce_each(alloc, table, churn, announced.as_slice(), route);
     }
-    let route = update.route.with_next_hop(alloc, update.reached_hop)?;
-    announce_all(alloc, table, churn, reached, &route)
+    announce_all(alloc, table, churn, announced.as_slice(), &route)?;
+    let route = route.with_next_hop(reached_hop);
+    announce_each(alloc, table, churn, reached.as_slice(), route)
 }
 
 /// Takes the steps of an UPDATE.
@@ -83,17 +107,10 @@ pub(crate) fn apply_update<M: PrefixMap<Route>>(
     alloc: Global,
     table: &mut M,
     churn: &mut Churn,
-    update: &Update,
+    update: Update,
 ) -> Result<(), Memory>
-    ensures { OnOk result ((M.contents table.new, churn.new) ≡ fold applied (M.contents table.old, churn.old) (update_steps update.now)) }
+    ensures { OnOk result ((M.contents table.new, churn.new) ≡ fold applied (M.contents table.old, churn.old) (update_steps update)) }
 {
-    withdraw_update(alloc, table, churn, update)?;
-    announce_all(
-        alloc,
-        table,
-        churn,
-        update.announced.as_slice(),
-        &update.route,
-    )?;
-    reach_update(alloc, table, churn, update)
+    withdraw_update(alloc, table, churn, &update)?;
+    announce_update(alloc, table, churn, update)
 }

@@ -5,3 +5,5 @@ pub mod Ordered
 pub mod Searches
 pub mod Tries
 pub mod Places
+pub mod HeldPaths
+pub mod ForkPaths

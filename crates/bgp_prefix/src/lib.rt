@@ -2,10 +2,12 @@
 #![tactic(auto)]
 
 mod flat;
+mod fork_paths;
 mod key;
 mod key_set;
 mod map;
 mod memory;
+mod path_list;
 mod paths;
 mod prefix;
 mod radix;

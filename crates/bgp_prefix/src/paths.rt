@@ -1,13 +1,14 @@
-ghost use Rattle.std.specs.Prelude.{◌≡◌, ℕ, List, [], ◌∷◌, ◌++◌, not, T, map, IfOk, IfErr, OnOk, OnErr};
+ghost use Rattle.std.specs.Prelude.{◌≡◌, ℕ, List, [], ◌∷◌, ◌++◌, not, T, map, IfOk, OnOk, OnErr};
 ghost use Rattle.std.specs.Option.{option_copied};
 ghost use Rattle.std.specs.Ordering.{nat_cmp, eq_by_cmp};
 ghost use Rattle.std.specs.FinMap.{find, put};
 ghost use Rattle.std.specs.FinMap.Entries.{is_sorted, where_key};
-ghost use Rattle.bgp_prefix.specs.Searches.{IsAt, IsGap};
 ghost use Rattle.bgp_prefix.specs.Keys.{is_nil, keyed, entries_now};
+ghost use Rattle.bgp_prefix.specs.HeldPaths.{held_list};
 
 use crate::key::RouteKey;
 use crate::memory::Memory;
+use crate::path_list::PathList;
 use crate::prefix::Prefix;
 use std::alloc::Global;
 use std::marker::Model;
@@ -16,87 +17,112 @@ use std::mem;
 /// The routes of one prefix: values by path identifier, ascending.
 #[derive(Drop)]
 pub struct Paths<V> {
-    items: Vec<(u32, V)>,
+    held: Held<V>,
+}
+
+/// Mostly there is one route, which takes no block of memory of its own.
+#[derive(Drop)]
+enum Held<V> {
+    Empty,
+    One(u32, V),
+    Many(PathList<V>),
 }
 
 impl<V> Model for Paths<V> {
-    ghost use Rattle.std.specs.Prelude.{ℕ, List, T};
-    ghost use Rattle.std.specs.Ordering.{nat_cmp};
-    ghost use Rattle.std.specs.FinMap.Entries.{is_sorted};
+    ghost use Rattle.std.specs.Prelude.{ℕ, List};
 
     ghost Value = { List (ℕ × V) };
 
-    ghost view = { λ p. p.items.items };
+    ghost use Rattle.bgp_prefix.specs.HeldPaths.{held_list};
 
-    ghost invariant = { λ p. T (is_sorted nat_cmp p.items.items) };
+    ghost view = { λ p. held_list p.held };
 }
 
 impl<V: Drop> Paths<V> {
-    pub fn new(alloc: Global) -> Paths<V>
+    pub fn new() -> Paths<V>
         ensures { result ≡ [] }
     {
-        Paths {
-            items: Vec::new(alloc),
-        }
+        Paths { held: Held::Empty }
     }
 
-    pub fn one(alloc: Global, id: u32, value: V) -> Result<Paths<V>, Memory>
-        ensures { IfOk result (λ paths. paths ≡ (id, value) ∷ []) }
+    pub fn one(id: u32, value: V) -> Paths<V>
+        ensures { result ≡ (id, value) ∷ [] }
     {
-        let mut items = Vec::with_capacity(alloc, 1)?;
-        items.push((id, value))?;
-        Ok(Paths { items })
+        Paths {
+            held: Held::One(id, value),
+        }
     }
 
     pub fn get(&self, id: u32) -> Option<&V>
         ensures { option_copied result ≡ find nat_cmp id self.now }
     {
-        match self.search(id) {
-            Ok(at) => Some(&self.items[at].1),
-            Err(_) => None,
+        match &self.held {
+            Held::Empty => None,
+            Held::One(only, value) => { if *only == id { Some(value) } else { None } }
+            Held::Many(list) => list.get(id),
         }
     }
 
-    // Where an identifier is, or would go. The last place is tried first, as dumps come in order.
-    fn search(&self, id: u32) -> Result<usize, usize>
-        ensures found { IfOk result (λ i. IsAt nat_cmp self.now id i) }
-        ensures absent { IfErr result (λ i. IsGap nat_cmp self.now id i) }
-        ensures sorted { T (is_sorted nat_cmp self.now) }
-    {
-        self.items.binary_search_by_key(&id, |item| item.0)
-    }
-
     /// Sets the value of an identifier, and gives the one before. An `Err` changes nothing.
-    pub fn insert(&mut self, id: u32, value: V) -> Result<Option<V>, Memory>
+    pub fn insert(&mut self, alloc: Global, id: u32, value: V) -> Result<Option<V>, Memory>
         ensures before { IfOk result (λ before. before ≡ find nat_cmp id self.old) }
         ensures ok { OnOk result (self.new ≡ put nat_cmp id value self.old) }
         ensures err { OnErr result (self.new ≡ self.old) }
         ensures sorted { T (is_sorted nat_cmp self.new) }
     {
-        match self.search(id) {
-            Ok(at) => Ok(Some(mem::replace(&mut self.items[at].1, value))),
-            Err(at) => {
-                self.items.insert(at, (id, value))?;
+        match &mut self.held {
+            Held::Empty => {
+                self.set(Held::One(id, value));
                 Ok(None)
             }
+            Held::One(only, held) => {
+                if *only == id {
+                    return Ok(Some(mem::replace(held, value)));
+                }
+                let items = Vec::with_capacity(alloc, 2)?;
+                let Held::One(first, other) = mem::replace(&mut self.held, Held::Empty) else {
+                    unreachable!()
+                };
+                self.set(Held::Many(PathList::pair(items, (first, other), (id, value))));
+                Ok(None)
+            }
+            Held::Many(list) => list.insert(id, value),
         }
     }
 
+    /// Removes an identifier, and gives its value.
     pub fn remove(&mut self, id: u32) -> Option<V>
         ensures before { result ≡ find nat_cmp id self.old }
         ensures removed { self.new ≡ where_key nat_cmp (λ x. not (eq_by_cmp nat_cmp id x)) self.old }
         ensures sorted { T (is_sorted nat_cmp self.new) }
     {
-        match self.search(id) {
-            Ok(at) => Some(self.items.remove(at).1),
-            Err(_) => None,
+        match mem::replace(&mut self.held, Held::Empty) {
+            Held::Empty => None,
+            Held::One(only, value) => {
+                if only == id {
+                    return Some(value);
+                }
+                self.set(Held::One(only, value));
+                None
+            }
+            Held::Many(mut list) => {
+                let removed = list.remove(id);
+                if !list.is_empty() {
+                    self.set(Held::Many(list));
+                }
+                removed
+            }
         }
     }
 
     pub fn is_empty(&self) -> bool
         ensures { result ≡ is_nil self.now }
     {
-        self.items.is_empty()
+        match &self.held {
+            Held::Empty => true,
+            Held::One(_, _) => false,
+            Held::Many(list) => list.is_empty(),
+        }
     }
 
     /// Adds the routes to a list, under the keys of a prefix.
@@ -107,26 +133,40 @@ impl<V: Drop> Paths<V> {
     ) -> Result<(), Memory>
         ensures { OnOk result (entries_now all.new.items ≡ entries_now all.old.items ++ keyed prefix.now self.now) }
     {
-        for item in &self.items {
-            let key = RouteKey {
-                prefix: *prefix,
-                id: item.0,
-            };
-            if all.push((key, &item.1)).is_err() {
-                return Err(Memory);
+        match &self.held {
+            Held::Empty => Ok(()),
+            Held::One(only, value) => {
+                let key = RouteKey {
+                    prefix: *prefix,
+                    id: *only,
+                };
+                if all.push((key, value)).is_err() {
+                    return Err(Memory);
+                }
+                Ok(())
             }
+            Held::Many(list) => list.list(prefix, all),
         }
-        Ok(())
     }
 
     /// The identifiers and values.
     pub fn to_vec(&self, alloc: Global) -> Result<Vec<(u32, &V)>, Memory>
         ensures { IfOk result (λ v. map (λ e. (e.0, e.1.now)) v.items ≡ self.now) }
     {
-        let mut all = Vec::with_capacity(alloc, self.items.len())?;
-        for item in &self.items {
-            all.push((item.0, &item.1))?;
+        match &self.held {
+            Held::Empty => Ok(Vec::new(alloc)),
+            Held::One(only, value) => {
+                let mut all = Vec::with_capacity(alloc, 1)?;
+                all.push((*only, value))?;
+                Ok(all)
+            }
+            Held::Many(list) => list.to_vec(alloc),
         }
-        Ok(all)
+    }
+
+    fn set(&mut self, held: Held<V>)
+        ensures { self.new ≡ held_list held }
+    {
+        self.held = held;
     }
 }

@@ -9,6 +9,7 @@ ghost use Rattle.bgp_prefix.specs.Places.{IsPlace};
 ghost use Rattle.bgp_prefix.specs.declared.radix.Branch.TheVariants.{Nothing};
 ghost use Rattle.bgp_prefix.specs.Tries.{routes, IsTrie, IsUnder, IsRoot, IsBelowLeaf, IsInserted, IsLeafOf, IsUnpruned, IsRemoved, is_nothing, is_idle, heir};
 
+use crate::fork_paths::ForkPaths;
 use crate::key::RouteKey;
 use crate::map::PrefixMap;
 use crate::memory::Memory;
@@ -18,7 +19,8 @@ use std::alloc::Global;
 use std::marker::Model;
 use std::mem;
 
-/// A part of the trie: nothing, one prefix, or a fork with two branches.
+/// A part of the trie: nothing, one prefix, or a fork with two branches. Lengths rise strictly on
+/// the way down, so there are at most 33 levels, and the derived recursive drop is shallow.
 #[cycle(branch)]
 #[derive(Drop)]
 enum Branch<V> {
@@ -39,7 +41,7 @@ struct Leaf<V> {
 #[derive(Drop)]
 struct Fork<V> {
     prefix: Prefix,
-    paths: Paths<V>,
+    paths: ForkPaths<V>,
     low: Branch<V>,
     high: Branch<V>,
 }
@@ -105,7 +107,7 @@ impl<V: Drop> Branch<V> {
             Branch::Leaf(leaf) => {
                 let at = leaf.prefix;
                 match place_of(&at, &key.prefix) {
-                    Place::Here => leaf.paths.insert(key.id, value),
+                    Place::Here => leaf.paths.insert(alloc, key.id, value),
                     Place::Low => {
                         self.insert_below(alloc, false, key, value)?;
                         Ok(None)
@@ -123,7 +125,7 @@ impl<V: Drop> Branch<V> {
             Branch::Fork(fork) => {
                 let at = fork.prefix;
                 match place_of(&at, &key.prefix) {
-                    Place::Here => fork.paths.insert(key.id, value),
+                    Place::Here => fork.paths.insert(alloc, key.id, value),
                     Place::Low => fork.low.insert(alloc, key, value),
                     Place::High => fork.high.insert(alloc, key, value),
                     Place::Apart => {
@@ -139,10 +141,9 @@ impl<V: Drop> Branch<V> {
         requires { IsIpPrefix key.prefix }
         ensures { IfOk result (λ leaf. IsLeafOf key value leaf) }
     {
-        let paths = Paths::one(alloc, key.id, value)?;
         let leaf = Leaf {
             prefix: key.prefix,
-            paths,
+            paths: Paths::one(key.id, value),
         };
         Ok(Branch::Leaf(Box::new(alloc, leaf)?))
     }
@@ -165,8 +166,10 @@ impl<V: Drop> Branch<V> {
             unreachable!()
         };
         let new = Branch::leaf(alloc, key, value)?;
-        let mut fork = Fork::new(alloc, leaf.prefix, Paths::new(alloc))?;
-        mem::swap(&mut fork.paths, &mut leaf.paths);
+        let mut paths = Box::new(alloc, Paths::new())?;
+        let mut fork = Fork::new(alloc, leaf.prefix, ForkPaths::new())?;
+        mem::swap(&mut *paths, &mut leaf.paths);
+        fork.paths.set(ForkPaths::from_box(paths));
         fork.set_child(is_high, new);
         self.set(Branch::Fork(fork));
         Ok(())
@@ -189,7 +192,7 @@ impl<V: Drop> Branch<V> {
     {
         let shared = shared_len(at, &key.prefix);
         if shared == key.prefix.len() {
-            let paths = Paths::one(alloc, key.id, value)?;
+            let paths = ForkPaths::one(alloc, key.id, value)?;
             let mut fork = Fork::new(alloc, key.prefix, paths)?;
             let is_high = bit_after(at.addr(), shared);
             fork.set_child(is_high, mem::replace(self, Branch::Nothing));
@@ -197,7 +200,7 @@ impl<V: Drop> Branch<V> {
             return Ok(());
         }
         let new = Branch::leaf(alloc, key, value)?;
-        let mut fork = Fork::new(alloc, at.shortened(shared), Paths::new(alloc))?;
+        let mut fork = Fork::new(alloc, at.shortened(shared), ForkPaths::new())?;
         let is_high = bit_after(at.addr(), shared);
         fork.set_child(!is_high, new);
         fork.set_child(is_high, mem::replace(self, Branch::Nothing));
@@ -374,7 +377,7 @@ impl<V: Drop> Branch<V> {
 }
 
 impl<V: Drop> Fork<V> {
-    fn new(alloc: Global, prefix: Prefix, paths: Paths<V>) -> Result<Box<Fork<V>>, Memory>
+    fn new(alloc: Global, prefix: Prefix, paths: ForkPaths<V>) -> Result<Box<Fork<V>>, Memory>
         ensures { IfOk result (λ fork. fork.value ≡ record { prefix = prefix; paths = paths; low = Nothing; high = Nothing }) }
     {
         let fork = Fork {

@@ -1,11 +1,23 @@
 //! The bodies of MRT records: peer indexes, RIB records and BGP4MP messages, as units.
 #![tactic(auto)]
 
+mod at;
+mod content;
+mod entries;
+mod index;
 mod interpret;
 mod meaning;
 mod message;
+mod payload;
+mod rib;
+mod session;
 mod unit;
+mod units;
 
 pub use interpret::event;
 pub use meaning::Event;
 pub use unit::{Damage, Found, Payload, PeerAddr, PeerKey, Place, Unit};
+pub use units::Units;
+
+#[cfg(test)]
+mod tests;

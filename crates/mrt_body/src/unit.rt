@@ -36,7 +36,10 @@ pub struct Damage {
 #[derive(Debug, Drop)]
 pub enum Payload {
     /// A state change (RFC 6396, 4.4.1): the old and the new state, any numbers.
-    State { from: u16, to: u16 },
+    State {
+        from: u16,
+        to: u16,
+    },
     /// A BGP message (RFC 6396, 4.4.2 and 4.4.3; with identifiers RFC 8050, 3).
     Message {
         bytes: Sequence<u8>,

@@ -2,7 +2,7 @@ use Rattle.std.proofs.Common.{Some, sym, ap, ◌∙◌}
 use Rattle.std.specs.Ordering.{nat_cmp}
 use Rattle.std.proofs.lemmas.Cmp.{nat_cmp_total}
 use Rattle.bgp_prefix.proofs.SearchLaws.{at_find, gap_absent}
-use Rattle.bgp_prefix.proofs.paths.Paths.get.Goals as goal
+use Rattle.bgp_prefix.proofs.path_list.PathList.get.Goals as goal
 
 pub returns-in-Ok : goal.returns-in-Ok
 returns-in-Ok g c =

@@ -1,0 +1,25 @@
+use crate::unit::Place;
+
+/// Where a record stands, and its time in seconds since 1970 UTC.
+#[derive(Clone, Copy, Debug, PartialEq, Eq)]
+pub(crate) struct RecordAt {
+    pub(crate) file: usize,
+    pub(crate) offset: u64,
+    pub(crate) seconds: u32,
+}
+
+impl RecordAt {
+    /// The place of the record, or of the entry of this number in it.
+    pub(crate) fn place(&self, entry: Option<u16>) -> Place {
+        Place {
+            file: self.file,
+            offset: self.offset,
+            entry,
+        }
+    }
+
+    /// The record's time in microseconds since 1970 UTC.
+    pub(crate) fn time(&self, microseconds: u32) -> u64 {
+        u64::from(self.seconds) * 1_000_000 + u64::from(microseconds)
+    }
+}

@@ -1,0 +1,74 @@
+//! What a record holds, by its type and subtype (RFC 6396, 4; RFC 8050, 3 and 4).
+
+use bgp_update::Width;
+
+/// What a record holds.
+#[derive(Clone, Copy, Debug, PartialEq, Eq)]
+pub(crate) enum Content {
+    /// PEER_INDEX_TABLE.
+    IndexTable,
+    /// RIB_IPV4_UNICAST, with path identifiers or without.
+    Rib { add_path: bool },
+    /// A BGP message.
+    Message { width: Width, add_path: bool },
+    /// A state change.
+    States { width: Width },
+    /// What is counted and not read.
+    Aside,
+}
+
+/// TABLE_DUMP_V2.
+const TABLE_DUMP_V2: u16 = 13;
+
+/// BGP4MP.
+const BGP4MP: u16 = 16;
+
+/// BGP4MP with extended timestamps.
+const BGP4MP_ET: u16 = 17;
+
+/// Whether the body of a record begins with microseconds.
+pub(crate) fn is_extended(kind: u16) -> bool {
+    kind == BGP4MP_ET
+}
+
+fn dump_content(subtype: u16) -> Content {
+    match subtype {
+        1 => Content::IndexTable,
+        2 => Content::Rib { add_path: false },
+        8 => Content::Rib { add_path: true },
+        _ => Content::Aside,
+    }
+}
+
+fn session_content(subtype: u16) -> Content {
+    match subtype {
+        0 => Content::States { width: Width::Two },
+        1 => Content::Message {
+            width: Width::Two,
+            add_path: false,
+        },
+        4 => Content::Message {
+            width: Width::Four,
+            add_path: false,
+        },
+        5 => Content::States { width: Width::Four },
+        8 => Content::Message {
+            width: Width::Two,
+            add_path: true,
+        },
+        9 => Content::Message {
+            width: Width::Four,
+            add_path: true,
+        },
+        _ => Content::Aside,
+    }
+}
+
+/// What a record of this type and subtype holds.
+pub(crate) fn content_of(kind: u16, subtype: u16) -> Content {
+    match kind {
+        TABLE_DUMP_V2 => dump_content(subtype),
+        BGP4MP | BGP4MP_ET => session_content(subtype),
+        _ => Content::Aside,
+    }
+}

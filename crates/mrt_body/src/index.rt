@@ -1,0 +1,92 @@
+//! The PEER_INDEX_TABLE record (RFC 6396, 4.3.1).
+
+ghost use Rattle.std.specs.Prelude.{◌≡◌};
+ghost use Rattle.mrt_frame.specs.Fields.{Reads};
+ghost use Rattle.bgp_update.specs.Answers.{Gives};
+ghost use Rattle.mrt_body.specs.Indexes as indexes;
+
+use crate::unit::{PeerAddr, PeerKey};
+use bgp_update::{AttrError, Width};
+use mrt_frame::{Fault, byte_at, bytes_at, u16_at, u32_at, u128_at};
+use std::alloc::Global;
+
+/// An address of sixteen bytes or of four.
+pub(crate) fn addr_at(bytes: &[u8], is_ipv6: bool) -> Result<(PeerAddr, &[u8]), Fault>
+    ensures { Reads (λ x. (x.0, x.1.now)) result (indexes.addr_at is_ipv6 bytes.now) }
+{
+    if is_ipv6 {
+        let (addr, rest) = u128_at(bytes, Fault::ShortRecord)?;
+        Ok((PeerAddr::V6(addr), rest))
+    } else {
+        let (addr, rest) = u32_at(bytes, Fault::ShortRecord)?;
+        Ok((PeerAddr::V4(addr), rest))
+    }
+}
+
+/// An AS number of two bytes or of four.
+pub(crate) fn asn_at(bytes: &[u8], width: Width) -> Result<(u32, &[u8]), Fault>
+    ensures { Reads (λ x. (x.0, x.1.now)) result (indexes.asn_at width bytes.now) }
+{
+    match width {
+        Width::Two => {
+            let (asn, rest) = u16_at(bytes, Fault::ShortRecord)?;
+            Ok((u32::from(asn), rest))
+        }
+        Width::Four => u32_at(bytes, Fault::ShortRecord),
+    }
+}
+
+/// Whether bit 0x01 of a peer type is set: the address is an IPv6 one.
+fn has_ipv6(flags: u8) -> bool
+    ensures { result ≡ indexes.has_ipv6 flags }
+{
+    flags & 0x01 == 0x01
+}
+
+/// How many bytes the AS number has: four where bit 0x02 of the peer type is set.
+fn asn_width(flags: u8) -> Width
+    ensures { result ≡ indexes.asn_width flags }
+{
+    if (flags >> 1) & 1 == 1 {
+        Width::Four
+    } else {
+        Width::Two
+    }
+}
+
+/// A peer of the table, and the bytes after it.
+#[tactic(auto, unfolding(crate::specs::Indexes::peer_at, crate::specs::Indexes::written_peer_at))]
+fn peer_at(bytes: &[u8]) -> Result<(PeerKey, &[u8]), Fault>
+    ensures { Reads (λ x. (x.0, x.1.now)) result (indexes.peer_at bytes.now) }
+{
+    let (flags, rest) = byte_at(bytes, Fault::ShortRecord)?;
+    let (_, rest) = u32_at(rest, Fault::ShortRecord)?;
+    let (addr, rest) = addr_at(rest, has_ipv6(flags))?;
+    let (asn, rest) = asn_at(rest, asn_width(flags))?;
+    Ok((PeerKey { asn, addr }, rest))
+}
+
+/// So many peers, and the bytes after them.
+fn peers_at(alloc: Global, count: u16, bytes: &[u8]) -> Result<(Vec<PeerKey>, &[u8]), AttrError> {
+    let mut peers = Vec::new(alloc);
+    let mut rest = bytes;
+    for _ in 0..count {
+        let (peer, after) = peer_at(rest)?;
+        peers.push(peer)?;
+        rest = after;
+    }
+    Ok((peers, rest))
+}
+
+/// The peers of the table that a body spells.
+pub(crate) fn peers_in(alloc: Global, body: &[u8]) -> Result<Vec<PeerKey>, AttrError> {
+    let (_, rest) = u32_at(body, Fault::ShortRecord)?;
+    let (view_len, rest) = u16_at(rest, Fault::ShortRecord)?;
+    let (_, rest) = bytes_at(rest, view_len as usize, Fault::ShortRecord)?;
+    let (count, rest) = u16_at(rest, Fault::ShortRecord)?;
+    let (peers, rest) = peers_at(alloc, count, rest)?;
+    if !rest.is_empty() {
+        return Err(AttrError::Bad(Fault::TrailingBytes));
+    }
+    Ok(peers)
+}

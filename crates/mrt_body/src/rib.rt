@@ -1,0 +1,134 @@
+//! The RIB_IPV4_UNICAST record (RFC 6396, 4.3.2 and 4.3.4) and its form with path identifiers
+//! (RFC 8050, 4).
+
+ghost use Rattle.std.specs.Prelude.{◌≡◌, ℕ, ◌≤◌, length, Some};
+ghost use Rattle.byteorder.specs.Endian.{big_number};
+ghost use Rattle.mrt_frame.specs.Fields.{Reads};
+ghost use Rattle.bgp_update.specs.Keys as keys_spec;
+ghost use Rattle.mrt_body.specs.RibRecords as ribs;
+
+use bgp_prefix::Prefix;
+use mrt_frame::{Fault, byte_at, bytes_at, u16_at, u32_at};
+
+/// What stands before the entries of a record.
+#[derive(Clone, Copy)]
+pub(crate) struct RibHead {
+    pub(crate) prefix: Prefix,
+    pub(crate) count: u16,
+}
+
+/// An entry, whose attributes are still bytes.
+#[derive(Clone, Copy)]
+pub(crate) struct RibEntry<'a> {
+    pub(crate) peer: u16,
+    pub(crate) identifier: u32,
+    pub(crate) attributes: &'a [u8],
+}
+
+/// The number that up to four bytes begin.
+fn front_number(octets: &[u8]) -> u32
+    requires { length octets.now ≤ 4 }
+    ensures { result ≡ big_number 4 octets.now }
+{
+    match octets {
+        [] => 0,
+        [a] => u32::from_be_bytes([*a, 0, 0, 0]),
+        [a, b] => u32::from_be_bytes([*a, *b, 0, 0]),
+        [a, b, c] => u32::from_be_bytes([*a, *b, *c, 0]),
+        [a, b, c, d] => u32::from_be_bytes([*a, *b, *c, *d]),
+        _ => unreachable!(),
+    }
+}
+
+/// The bytes of a prefix of this length.
+fn octets_at(len: u8, bytes: &[u8]) -> Result<(&[u8], &[u8]), Fault>
+    ensures { Reads (λ x. (x.0.now, x.1.now)) result (keys_spec.octets_at len bytes.now) }
+{
+    if len > 32 {
+        return Err(Fault::BadPrefix);
+    }
+    bytes_at(bytes, len.div_ceil(8) as usize, Fault::BadPrefix)
+}
+
+/// The prefix of this length, at most 32, whose first bytes these are.
+fn prefix_of(len: u8, octets: &[u8]) -> Option<Prefix>
+    requires { length octets.now ≤ 4 }
+    ensures { len ≤ 32 → result ≡ Some (keys_spec.prefix_of len octets.now) }
+{
+    Prefix::new(front_number(octets), len)
+}
+
+/// The fields before the entries, and the bytes after them.
+#[tactic(auto, unfolding(crate::specs::RibRecords::read_head_at, crate::specs::RibRecords::rib_head_at))]
+pub(crate) fn rib_head_at(bytes: &[u8]) -> Result<(RibHead, &[u8]), Fault>
+    ensures { Reads (λ x. (record { prefix = x.0.prefix; count = x.0.count }, x.1.now)) result (ribs.read_head_at bytes.now) }
+{
+    let (_, rest) = u32_at(bytes, Fault::ShortRecord)?;
+    let (len, rest) = byte_at(rest, Fault::ShortRecord)?;
+    let (octets, rest) = octets_at(len, rest)?;
+    let prefix = prefix_of(len, octets).ok_or(Fault::BadPrefix)?;
+    let (count, rest) = u16_at(rest, Fault::ShortRecord)?;
+    Ok((RibHead { prefix, count }, rest))
+}
+
+/// The number of one of so many peers.
+fn peer_index_at(bytes: &[u8], peers: usize) -> Result<(u16, &[u8]), Fault>
+    ensures { Reads (λ x. (x.0, x.1.now)) result (ribs.peer_index_at peers bytes.now) }
+{
+    let (index, rest) = u16_at(bytes, Fault::ShortRecord)?;
+    if index as usize >= peers {
+        return Err(Fault::BadPeerIndex);
+    }
+    Ok((index, rest))
+}
+
+/// A path identifier, 0 in a record without them.
+fn identifier_at(bytes: &[u8], add_path: bool) -> Result<(u32, &[u8]), Fault>
+    ensures { Reads (λ x. (x.0, x.1.now)) result (ribs.identifier_at add_path bytes.now) }
+{
+    if add_path {
+        u32_at(bytes, Fault::ShortRecord)
+    } else {
+        Ok((0, bytes))
+    }
+}
+
+/// An entry beside an index of so many peers, and the bytes after it.
+#[tactic(auto, unfolding(crate::specs::RibRecords::read_entry_at, crate::specs::RibRecords::entry_at))]
+pub(crate) fn entry_at(
+    bytes: &[u8],
+    add_path: bool,
+    peers: usize,
+) -> Result<(RibEntry<'_>, &[u8]), Fault>
+    ensures { Reads (λ x. (record { peer = x.0.peer; identifier = x.0.identifier; attributes = x.0.attributes.now }, x.1.now)) result (ribs.read_entry_at add_path peers bytes.now) }
+{
+    let (peer, rest) = peer_index_at(bytes, peers)?;
+    let (_, rest) = u32_at(rest, Fault::ShortRecord)?;
+    let (identifier, rest) = identifier_at(rest, add_path)?;
+    let (len, rest) = u16_at(rest, Fault::ShortRecord)?;
+    let (attributes, rest) = bytes_at(rest, len as usize, Fault::ShortRecord)?;
+    let entry = RibEntry {
+        peer,
+        identifier,
+        attributes,
+    };
+    Ok((entry, rest))
+}
+
+/// Checks that the bytes are so many entries and nothing more.
+pub(crate) fn check_entries(
+    bytes: &[u8],
+    count: u16,
+    add_path: bool,
+    peers: usize,
+) -> Result<(), Fault> {
+    let mut rest = bytes;
+    for _ in 0..count {
+        let (_, after) = entry_at(rest, add_path, peers)?;
+        rest = after;
+    }
+    if !rest.is_empty() {
+        return Err(Fault::TrailingBytes);
+    }
+    Ok(())
+}

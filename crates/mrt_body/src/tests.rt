@@ -1,0 +1,338 @@
+use crate::{Event, Found, Payload, PeerAddr, Unit, Units, event};
+use bgp_update::{AttrError, Width};
+use mrt_frame::{Counted, Fault, ReplayError};
+use std::alloc::Global;
+use std::process::Abort;
+use std::test::Fail;
+
+/// An UPDATE of second 1 from 192.0.2.1 that announces 10.0.0.0/8.
+const UPDATE: [u8; 77] = [
+    0, 0, 0, 1, 0, 16, 0, 4, 0, 0, 0, 65, 0, 0, 253, 232, 0, 0, 253, 233, 0, 0, 0, 1, 192, 0, 2, 1,
+    192, 0, 2, 2, 255, 255, 255, 255, 255, 255, 255, 255, 255, 255, 255, 255, 255, 255, 255, 255,
+    0, 45, 2, 0, 0, 0, 20, 64, 1, 1, 0, 64, 2, 6, 2, 1, 0, 0, 253, 232, 64, 3, 4, 192, 0, 2, 1, 8,
+    10,
+];
+
+/// A state change of second 2 from Established to Idle.
+const STATES: [u8; 36] = [
+    0, 0, 0, 2, 0, 16, 0, 5, 0, 0, 0, 24, 0, 0, 253, 232, 0, 0, 253, 233, 0, 0, 0, 1, 192, 0, 2, 1,
+    192, 0, 2, 2, 0, 6, 0, 1,
+];
+
+/// A table of two peers.
+const PEERS: [u8; 56] = [
+    0, 0, 0, 3, 0, 13, 0, 1, 0, 0, 0, 44, 192, 0, 2, 99, 0, 0, 0, 2, 1, 192, 0, 2, 1, 32, 1, 13,
+    184, 0, 0, 0, 0, 0, 0, 0, 0, 0, 0, 0, 1, 253, 232, 2, 192, 0, 2, 2, 192, 0, 2, 2, 0, 1, 17,
+    112,
+];
+
+/// A RIB record with an entry of each peer; the attributes of the second are damaged.
+const RIB: [u8; 60] = [
+    0, 0, 0, 3, 0, 13, 0, 2, 0, 0, 0, 48, 0, 0, 0, 0, 8, 10, 0, 2, 0, 0, 0, 0, 0, 1, 0, 20, 64, 1,
+    1, 0, 64, 2, 6, 2, 1, 0, 0, 253, 232, 64, 3, 4, 192, 0, 2, 1, 0, 1, 0, 0, 0, 1, 0, 4, 64, 1, 1,
+    3,
+];
+
+/// A RIB record with one entry of path identifier 7.
+const PATHS: [u8; 52] = [
+    0, 0, 0, 3, 0, 13, 0, 8, 0, 0, 0, 40, 0, 0, 0, 0, 8, 10, 0, 1, 0, 0, 0, 0, 0, 1, 0, 0, 0, 7, 0,
+    20, 64, 1, 1, 0, 64, 2, 6, 2, 1, 0, 0, 253, 232, 64, 3, 4, 192, 0, 2, 1,
+];
+
+/// What the files give, each of them in memory, and then `None`.
+fn all_found(
+    alloc: Global,
+    files: &mut [Counted<&[u8]>],
+    until: Option<u64>,
+) -> Result<Vec<Found>, Fail> {
+    let mut all = Vec::new(alloc);
+    let mut units = Units::new(files.len(), 1000, until);
+    for _ in 0..1000 {
+        if units.count() != files.len() {
+            return Ok(all);
+        }
+        match units.next(alloc, files)? {
+            Some(found) => all.push(found)?,
+            None => return Ok(all),
+        }
+    }
+    Ok(all)
+}
+
+/// What one file gives.
+fn found_in(alloc: Global, parts: &[&[u8]], until: Option<u64>) -> Result<Vec<Found>, Fail> {
+    let mut bytes = Vec::new(alloc);
+    for part in parts {
+        bytes.extend_from_slice(part)?;
+    }
+    let mut files = [Counted::new(bytes.as_slice())];
+    all_found(alloc, &mut files, until)
+}
+
+fn expect_refused(rt: &impl Abort, found: Option<&Found>, file: usize, offset: u64, fault: Fault) {
+    match found {
+        Some(Found::Refused(damage)) => {
+            assert!(rt; damage.fault == fault);
+            assert!(rt; damage.place.file == file && damage.place.offset == offset);
+            assert!(rt; damage.place.entry.is_none());
+        }
+        _ => assert!(rt; false),
+    }
+}
+
+fn expect_entry(rt: &impl Abort, found: Option<&Found>, number: u16, id: u32, attributes: &[u8]) {
+    match found {
+        Some(Found::Unit(unit)) => {
+            assert!(rt; unit.place.entry == Some(number));
+            assert!(rt; unit.place.offset == 56 && unit.time == 3_000_000);
+            match &unit.payload {
+                Payload::Entry { key, attrs } => {
+                    assert!(rt; key.prefix.addr() == 0x0A00_0000 && key.prefix.len() == 8);
+                    assert!(rt; key.id == id);
+                    assert!(rt; attrs.as_slice() == attributes);
+                }
+                _ => assert!(rt; false),
+            }
+        }
+        _ => assert!(rt; false),
+    }
+}
+
+#[test]
+fn entries_are_units(rt: HostRuntime) -> Result<(), Fail> {
+    let found = found_in(rt.alloc(), &[&PEERS, &RIB], None)?;
+    assert_eq!(rt; found.len(), 2);
+    expect_entry(&rt, found.get(0), 1, 0, &RIB[28..48]);
+    expect_entry(&rt, found.get(1), 2, 0, &[0x40, 1, 1, 3]);
+    match &found[0] {
+        Found::Unit(unit) => {
+            assert_eq!(rt; unit.peer.asn, 65000);
+            assert!(rt; unit.peer.addr == PeerAddr::V6(0x2001_0DB8_0000_0000_0000_0000_0000_0001));
+        }
+        Found::Refused(_) => assert!(rt; false),
+    }
+    match &found[1] {
+        Found::Unit(unit) => {
+            assert_eq!(rt; unit.peer.asn, 70000);
+            assert!(rt; unit.peer.addr == PeerAddr::V4(0xC000_0202));
+            match event(rt.alloc(), &unit.payload) {
+                Err(error) => assert!(rt; error == AttrError::Bad(Fault::BadAttribute(1))),
+                Ok(_) => assert!(rt; false),
+            }
+        }
+        Found::Refused(_) => assert!(rt; false),
+    }
+    Ok(())
+}
+
+#[test]
+fn an_identifier_in_a_rib_record(rt: HostRuntime) -> Result<(), Fail> {
+    let found = found_in(rt.alloc(), &[&PEERS, &PATHS], None)?;
+    assert_eq!(rt; found.len(), 1);
+    expect_entry(&rt, found.get(0), 1, 7, &PATHS[32..52]);
+    Ok(())
+}
+
+#[test]
+fn messages_and_state_changes(rt: HostRuntime) -> Result<(), Fail> {
+    let mut with_paths = UPDATE;
+    with_paths[7] = 9;
+    let mut two_bytes = UPDATE;
+    two_bytes[7] = 1;
+    let parts: [&[u8]; 4] = [&UPDATE, &STATES, &with_paths, &two_bytes];
+    let found = found_in(rt.alloc(), &parts, None)?;
+    assert_eq!(rt; found.len(), 4);
+    expect_message(&rt, &found[0], &UPDATE[32..], false);
+    expect_message(&rt, &found[2], &UPDATE[32..], true);
+    match &found[1] {
+        Found::Unit(unit) => {
+            assert!(rt; unit.time == 2_000_000 && unit.place.offset == 77);
+            match &unit.payload {
+                Payload::State { from, to } => assert!(rt; *from == 6 && *to == 1),
+                _ => assert!(rt; false),
+            }
+        }
+        Found::Refused(_) => assert!(rt; false),
+    }
+    // 65000 is read as two AS numbers, and the address family is the second half of 65001.
+    expect_refused(&rt, found.get(3), 0, 77 + 36 + 77, Fault::BadFamily);
+    Ok(())
+}
+
+fn expect_message(rt: &impl Abort, found: &Found, message: &[u8], paths: bool) {
+    match found {
+        Found::Unit(unit) => {
+            assert!(rt; unit.peer.asn == 65000 && unit.peer.addr == PeerAddr::V4(0xC000_0201));
+            assert!(rt; unit.time == 1_000_000 && unit.place.entry.is_none());
+            match &unit.payload {
+                Payload::Message {
+                    bytes,
+                    width,
+                    add_path,
+                } => {
+                    assert!(rt; bytes.as_slice() == message);
+                    assert!(rt; *width == Width::Four && *add_path == paths);
+                }
+                _ => assert!(rt; false),
+            }
+        }
+        Found::Refused(_) => assert!(rt; false),
+    }
+}
+
+#[test]
+fn an_index_holds_in_its_file_alone(rt: HostRuntime) -> Result<(), Fail> {
+    let mut files = [
+        Counted::new(&PEERS[..]),
+        Counted::new(&UPDATE[..]),
+        Counted::new(&RIB[..]),
+    ];
+    let found = all_found(rt.alloc(), &mut files, None)?;
+    assert_eq!(rt; found.len(), 2);
+    expect_refused(&rt, found.get(1), 2, 0, Fault::NoPeerIndex);
+    Ok(())
+}
+
+#[test]
+fn units_past_the_time_are_left_out(rt: HostRuntime) -> Result<(), Fail> {
+    let parts: [&[u8]; 4] = [&UPDATE, &STATES, &PEERS, &RIB];
+    let found = found_in(rt.alloc(), &parts, Some(1))?;
+    assert_eq!(rt; found.len(), 1);
+    let mut extended = [0; 81];
+    extended[..12].copy_from_slice(&UPDATE[..12]);
+    extended[5] = 17;
+    extended[11] = 69;
+    extended[12..16].copy_from_slice(&1_000_000_u32.to_be_bytes());
+    extended[16..].copy_from_slice(&UPDATE[12..]);
+    let found = found_in(rt.alloc(), &[&extended], None)?;
+    assert_eq!(rt; found.len(), 1);
+    match &found[0] {
+        Found::Unit(unit) => assert_eq!(rt; unit.time, 2_000_000),
+        Found::Refused(_) => assert!(rt; false),
+    }
+    let found = found_in(rt.alloc(), &[&extended], Some(1))?;
+    assert!(rt; found.is_empty());
+    Ok(())
+}
+
+/// What a record is refused for, behind a table of two peers.
+fn expect_fault(rt: &impl Abort, alloc: Global, record: &[u8], fault: Fault) -> Result<(), Fail> {
+    let found = found_in(alloc, &[&PEERS, record], None)?;
+    assert_eq!(rt; found.len(), 1);
+    expect_refused(rt, found.get(0), 0, 56, fault);
+    Ok(())
+}
+
+#[test]
+fn records_refused(rt: HostRuntime) -> Result<(), Fail> {
+    let alloc = rt.alloc();
+    expect_fault(
+        &rt,
+        alloc,
+        &[0, 0, 0, 1, 0, 16, 0, 4, 0, 0, 0, 2, 0, 0],
+        Fault::ShortRecord,
+    )?;
+    expect_fault(
+        &rt,
+        alloc,
+        &[0, 0, 0, 1, 0, 17, 0, 4, 0, 0, 0, 3, 0, 0, 0],
+        Fault::ShortRecord,
+    )?;
+    let mut longer = [0; 37];
+    longer[..36].copy_from_slice(&STATES);
+    longer[11] = 25;
+    expect_fault(&rt, alloc, &longer, Fault::TrailingBytes)?;
+    let mut family = UPDATE;
+    family[23] = 3;
+    expect_fault(&rt, alloc, &family, Fault::BadFamily)?;
+    let mut rib = RIB;
+    rib[49] = 2;
+    expect_fault(&rt, alloc, &rib, Fault::BadPeerIndex)?;
+    let mut rib = RIB;
+    rib[16] = 33;
+    expect_fault(&rt, alloc, &rib, Fault::BadPrefix)?;
+    let mut rib = RIB;
+    rib[19] = 1;
+    expect_fault(&rt, alloc, &rib, Fault::TrailingBytes)?;
+    let mut rib = RIB;
+    rib[18] = 255;
+    expect_fault(&rt, alloc, &rib, Fault::ShortRecord)
+}
+
+#[test]
+fn a_damaged_index_puts_none_in_force(rt: HostRuntime) -> Result<(), Fail> {
+    let mut damaged = PEERS;
+    damaged[18] = 255;
+    let found = found_in(rt.alloc(), &[&PEERS, &damaged, &RIB, &PEERS, &RIB], None)?;
+    assert_eq!(rt; found.len(), 4);
+    expect_refused(&rt, found.get(0), 0, 56, Fault::ShortRecord);
+    expect_refused(&rt, found.get(1), 0, 112, Fault::NoPeerIndex);
+    Ok(())
+}
+
+#[test]
+fn records_then_spent(rt: HostRuntime) -> Result<(), Fail> {
+    let alloc = rt.alloc();
+    let mut bytes = [0; 154];
+    bytes[..77].copy_from_slice(&UPDATE);
+    bytes[77..].copy_from_slice(&UPDATE);
+    let mut files = [Counted::new(&bytes[..])];
+    let mut units = Units::new(1, 1, None);
+    assert!(rt; units.count() == 1);
+    assert!(rt; units.next(alloc, &mut files)?.is_some());
+    assert!(rt; units.count() == 1);
+    expect_error(&rt, units.next(alloc, &mut files), ReplayError::Records);
+    assert!(rt; units.count() == 1);
+    expect_error(&rt, units.next(alloc, &mut files), ReplayError::Spent);
+    assert_eq!(rt; units.records(), 1);
+    Ok(())
+}
+
+fn expect_error(rt: &impl Abort, answer: Result<Option<Found>, ReplayError>, error: ReplayError) {
+    match answer {
+        Err(e) => assert!(rt; e == error),
+        Ok(_) => assert!(rt; false),
+    }
+}
+
+#[test]
+fn a_rest_behind_the_last_record(rt: HostRuntime) -> Result<(), Fail> {
+    let alloc = rt.alloc();
+    let mut bytes = [0; 80];
+    bytes[..77].copy_from_slice(&UPDATE);
+    let mut files = [
+        Counted::new(&bytes[..]),
+        Counted::new(&[0, 0, 0, 1, 0, 12, 0, 1][..]),
+    ];
+    let mut units = Units::new(2, 1, None);
+    assert!(rt; units.count() == 2);
+    assert!(rt; units.next(alloc, &mut files)?.is_some());
+    assert!(rt; units.count() == 2);
+    let rest = units.next(alloc, &mut files)?;
+    expect_refused(&rt, rest.as_ref(), 0, 77, Fault::ShortHeader);
+    assert!(rt; units.count() == 2);
+    let rest = units.next(alloc, &mut files)?;
+    expect_refused(&rt, rest.as_ref(), 1, 0, Fault::ShortHeader);
+    assert!(rt; units.count() == 2);
+    assert!(rt; units.next(alloc, &mut files)?.is_none());
+    assert!(rt; units.count() == 2);
+    assert!(rt; units.next(alloc, &mut files)?.is_none());
+    Ok(())
+}
+
+#[test]
+fn records_aside(rt: HostRuntime) -> Result<(), Fail> {
+    let alloc = rt.alloc();
+    let mut bytes = [0; 89];
+    bytes[3] = 1;
+    bytes[5] = 12;
+    bytes[7] = 1;
+    bytes[12..].copy_from_slice(&UPDATE);
+    let mut files = [Counted::new(&bytes[..])];
+    let mut units = Units::new(1, 9, None);
+    assert!(rt; units.count() == 1);
+    assert!(rt; units.next(alloc, &mut files)?.is_some());
+    assert_eq!(rt; units.records(), 2);
+    assert_eq!(rt; units.aside(), 1);
+    Ok(())
+}
