@@ -4,3 +4,4 @@ pub mod HeldPairs
 pub mod Stepping
 pub mod Announcing
 pub mod Taking
+mod Examples

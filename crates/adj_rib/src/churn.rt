@@ -29,7 +29,6 @@ pub struct Churn {
 impl Churn {
     ghost use Rattle.std.specs.Prelude.{◌≡◌, None};
     ghost use Rattle.adj_rib.specs.Applied.{counted, timed};
-    ghost use Rattle.adj_rib.specs.Churns.{churn_of};
 
     /// Of no unit.
     pub(crate) fn new() -> Churn

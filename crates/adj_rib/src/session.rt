@@ -1,6 +1,6 @@
-ghost use Rattle.std.specs.Prelude.{◌≡◌, ℕ, [], ◌∷◌, ◌++◌, List, IfOk, OnOk, is_err, IsErr, IsTrue};
+ghost use Rattle.std.specs.Prelude.{◌≡◌, [], ◌∷◌, ◌++◌, List, OnOk, is_err, IsErr, IsTrue};
 ghost use Rattle.std.specs.FinMap as finite;
-ghost use Rattle.adj_rib.specs.Sessions.{SessionState, StandsFor};
+ghost use Rattle.adj_rib.specs.Sessions.{StandsFor};
 ghost use Rattle.mrt_body.specs.declared.unit.Unit.{Unit as ReplayUnit};
 
 use crate::churn::Churn;
@@ -20,7 +20,7 @@ pub struct Session<M: PrefixMap<Route>> {
 
 impl<M: PrefixMap<Route>> Model for Session<M> {
     ghost use Rattle.std.specs.FinMap as finite;
-    ghost use Rattle.adj_rib.specs.Sessions.{SessionState, StandsFor};
+    ghost use Rattle.adj_rib.specs.Sessions.{SessionState};
 
     ghost Value = { SessionState };
 

@@ -17,15 +17,7 @@ use Rattle.bgp_prefix.specs.declared.key.RouteKey.{RouteKey}
 use Rattle.bgp_prefix.proofs.Bits.{share_fewer}
 use Rattle.bgp_prefix.proofs.KeyLaws.{key_cmp_total, tied_same}
 use Rattle.bgp_prefix.proofs.MapLaws.{found}
-use Rattle.bgp_prefix.proofs.OrderLaws.{AllKeys, AllKeys-weaker, less_by_len, network_below}
-
-first : (a b : Bool) → T (a && b) → T a
-first true b p = tt
-first false b p = p
-
-second : (a b : Bool) → T (a && b) → T b
-second true b p = p
-second false b p = absurd p
+use Rattle.bgp_prefix.proofs.OrderLaws.{AllKeys, AllKeys-weaker, first, second, less_by_len, network_below}
 
 less : (r : Ordering) → T (is_lt r) → r ≡ Less
 less Less p = refl

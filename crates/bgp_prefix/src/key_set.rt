@@ -32,7 +32,7 @@ impl KeySet {
         ensures { IfOk result (λ set. (k : KeyValue) → among set k ≡ among keys.now k) }
     {
         let mut sorted = Vec::from_slice(alloc, keys)?;
-        sorted.sort()?;
+        sorted.sort_unstable();
         Ok(KeySet { sorted })
     }
 

@@ -508,3 +508,85 @@ impl<V: Drop> PrefixMap<V> for Radix<V> {
         Ok(all)
     }
 }
+
+#[cfg(test)]
+mod tests {
+    use super::*;
+    use std::process::Abort;
+    use std::test::Fail;
+
+    const ADDR: u32 = 0x0a01_0203;
+
+    // The prefixes of all lengths that contain the address, each with two identifiers.
+    fn fill<M: PrefixMap<u32>>(alloc: Global, map: &mut M) -> Result<(), Memory> {
+        for len in 0..33u8 {
+            for id in 0..2u32 {
+                if let Some(prefix) = Prefix::new(ADDR, len) {
+                    let value = u32::from(len) * 2 + id;
+                    map.insert(alloc, RouteKey { prefix, id }, value)?;
+                }
+            }
+        }
+        Ok(())
+    }
+
+    fn longest_len<M: PrefixMap<u32>>(map: &M, addr: u32) -> Option<u8> {
+        map.longest(addr).map(|prefix| prefix.len())
+    }
+
+    fn reads<M: PrefixMap<u32>>(rt: &impl Abort, alloc: Global, map: &mut M) -> Result<(), Fail> {
+        fill(alloc, map)?;
+        assert_eq!(rt; map.len(), 66);
+        assert_eq!(rt; longest_len(map, ADDR), Some(32));
+        assert_eq!(rt; longest_len(map, ADDR ^ 1), Some(31));
+        assert_eq!(rt; longest_len(map, ADDR ^ 0x8000_0000), Some(0));
+        let prefix = Prefix::new(ADDR, 16).ok_or("16 bits")?;
+        let of_prefix = map.paths(alloc, &prefix)?;
+        assert_eq!(rt; of_prefix.len(), 2);
+        let all = map.entries(alloc)?;
+        assert_eq!(rt; all.len(), 66);
+        for i in 0..all.len() {
+            assert_eq!(rt; *all[i].1 as usize, i);
+        }
+        Ok(())
+    }
+
+    fn changes<M: PrefixMap<u32>>(rt: &impl Abort, alloc: Global, map: &mut M) -> Result<(), Fail> {
+        fill(alloc, map)?;
+        for len in 0..33u8 {
+            let prefix = Prefix::new(ADDR, len).ok_or("at most 32 bits")?;
+            for id in 0..2u32 {
+                let key = RouteKey { prefix, id };
+                let value = u32::from(len) * 2 + id;
+                assert_eq!(rt; map.get(&key), Some(&value));
+                assert_eq!(rt; map.insert(alloc, key, value)?, Some(value));
+                assert_eq!(rt; map.remove(&key), Some(value));
+                assert_eq!(rt; map.remove(&key), None);
+            }
+        }
+        assert_eq!(rt; map.len(), 0);
+        assert_eq!(rt; longest_len(map, ADDR), None);
+        fill(alloc, map)?;
+        map.clear();
+        assert_eq!(rt; map.len(), 0);
+        Ok(())
+    }
+
+    #[test]
+    fn reads_what_was_inserted(rt: HostRuntime) -> Result<(), Fail> {
+        let alloc = rt.alloc();
+        let mut map: Radix<u32> = PrefixMap::new(alloc);
+        reads(&rt, alloc, &mut map)?;
+        let (longest, steps) = map.longest_steps(ADDR);
+        assert_eq!(rt; longest, Prefix::new(ADDR, 32));
+        assert_eq!(rt; steps, 33);
+        Ok(())
+    }
+
+    #[test]
+    fn keeps_changes(rt: HostRuntime) -> Result<(), Fail> {
+        let alloc = rt.alloc();
+        let mut map: Radix<u32> = PrefixMap::new(alloc);
+        changes(&rt, alloc, &mut map)
+    }
+}

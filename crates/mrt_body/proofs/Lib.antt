@@ -1,0 +1,4 @@
+pub mod IndexLaws
+pub mod Dumps
+pub mod Examples
+pub mod MessageLaws

@@ -8,7 +8,8 @@ use Rattle.bgp_update.specs.declared.width.Width.{Width}
 use Rattle.bgp_update.specs.Segments.{number_len}
 use Rattle.mrt_body.specs.declared.unit.PeerAddr.{PeerAddr}
 use Rattle.mrt_body.specs.declared.unit.PeerKey.{PeerKey}
-use Rattle.mrt_body.specs.Indexes.{addr_bytes, is_ipv6, FitsAddr, asn_bytes, addr_at, asn_at, ended}
+use Rattle.mrt_body.specs.Indexes.{addr_bytes, is_ipv6, FitsAddr, asn_bytes, addr_at, asn_at}
+use Rattle.mrt_body.specs.Many.{ended}
 
 -- peer AS, local AS, interface index 2, address family 2, peer address, local address
 pub record SessionForm : Type 0 where

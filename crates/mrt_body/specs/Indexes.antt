@@ -1,9 +1,9 @@
 -- The PEER_INDEX_TABLE record (RFC 6396, 4.3.1).
-use Rattle.std.specs.Prelude.{◌≡◌, ℕ, zero, suc, ◌/◌, ◌%◌, ◌^◌, ◌<◌, Bool, true, false, List, [], ◌∷◌, ◌++◌, length, map, Result, Ok, Err, ◌==◌, if◌then◌else◌}
+use Rattle.std.specs.Prelude.{◌≡◌, ℕ, ◌/◌, ◌%◌, ◌^◌, ◌<◌, Bool, true, false, List, ◌∷◌, ◌++◌, length, map, Result, Ok, ◌==◌, if◌then◌else◌}
 use Rattle.std.specs.List.{flat_map, AllByRecursion}
 use Rattle.byteorder.specs.Endian.{big_bytes}
 use Rattle.mrt_frame.specs.declared.fault.Fault.{Fault}
-use Rattle.mrt_frame.specs.declared.fault.Fault.TheVariants.{ShortRecord, TrailingBytes}
+use Rattle.mrt_frame.specs.declared.fault.Fault.TheVariants.{ShortRecord}
 use Rattle.mrt_frame.specs.Fields.{Reading, ◌>>=◌, byte_at, number_at, bytes_at}
 use Rattle.bgp_update.specs.declared.width.Width.{Width}
 use Rattle.bgp_update.specs.declared.width.Width.TheVariants.{Two, Four}
@@ -11,6 +11,7 @@ use Rattle.bgp_update.specs.Segments.{number_len}
 use Rattle.mrt_body.specs.declared.unit.PeerAddr.{PeerAddr}
 use Rattle.mrt_body.specs.declared.unit.PeerAddr.TheVariants.{V4, V6}
 use Rattle.mrt_body.specs.declared.unit.PeerKey.{PeerKey}
+use Rattle.mrt_body.specs.Many.{many}
 
 -- ---- addresses and AS numbers
 
@@ -96,18 +97,6 @@ written_peer_at bytes = do
   asn ← asn_at (asn_width flags.0) addr.1
   Ok (record { flags = flags.0; id = id.0; addr = addr.0; asn = asn.0 }, asn.1)
 
--- so many peers
-unfoldable pub written_peers_at : ℕ → List ℕ → Reading (List WrittenPeer)
-written_peers_at zero bytes = Ok ([], bytes)
-written_peers_at (suc count) bytes = do
-  first ← written_peer_at bytes
-  others ← written_peers_at count first.1
-  Ok (first.0 ∷ others.0, others.1)
-
--- nothing stands after the last field
-abbrev pub ended : {A : Type 0} → A → List ℕ → Result A Fault
-ended x bytes = if length bytes == 0 then Ok x else Err TrailingBytes
-
 -- the table that a body spells, or its first fault
 unfoldable pub index_in : List ℕ → Result IndexForm Fault
 index_in body = do
@@ -115,8 +104,8 @@ index_in body = do
   view_len ← number_at ShortRecord 2 collector.1
   view ← bytes_at ShortRecord view_len.0 view_len.1
   count ← number_at ShortRecord 2 view.1
-  peers ← written_peers_at count.0 count.1
-  ended (record { collector = collector.0; view = view.0; peers = peers.0 }) peers.1
+  peers ← many written_peer_at count.0 count.1
+  Ok (record { collector = collector.0; view = view.0; peers = peers })
 
 -- ---- the peers themselves
 
@@ -125,9 +114,6 @@ peers_of form = map peer_of form.peers
 
 unfoldable pub peer_at : List ℕ → Reading PeerKey
 peer_at bytes = written_peer_at bytes >>= λ p. Ok (peer_of p.0, p.1)
-
-unfoldable pub peers_at : ℕ → List ℕ → Reading (List PeerKey)
-peers_at count bytes = written_peers_at count bytes >>= λ ps. Ok (map peer_of ps.0, ps.1)
 
 -- the peers of the table that a body spells
 unfoldable pub peers_in : List ℕ → Result (List PeerKey) Fault

@@ -1,5 +1,5 @@
 -- The RIB_IPV4_UNICAST record (RFC 6396, 4.3.2 and 4.3.4) and its form with path identifiers (RFC 8050, 4).
-use Rattle.std.specs.Prelude.{ℕ, zero, suc, ◌^◌, ◌<◌, ◌≤◌, ◌≡◌, Bool, true, false, List, [], ◌∷◌, ◌++◌, length, Option, Some, None, Result, Ok, Err, nat_lt, if◌then◌else◌}
+use Rattle.std.specs.Prelude.{ℕ, ◌^◌, ◌<◌, ◌≤◌, ◌≡◌, Bool, true, false, List, [], ◌∷◌, ◌++◌, length, Option, Some, None, Result, Ok, Err, nat_lt, if◌then◌else◌}
 use Rattle.std.specs.Int.{div_ceil}
 use Rattle.std.specs.List.{flat_map, AllByRecursion}
 use Rattle.byteorder.specs.Endian.{big_bytes}
@@ -9,7 +9,7 @@ use Rattle.mrt_frame.specs.declared.fault.Fault.TheVariants.{ShortRecord, NoPeer
 use Rattle.mrt_frame.specs.Fields.{Reading, ◌>>=◌, byte_at, number_at, bytes_at}
 use Rattle.bgp_update.specs.Keys.{octets_at, prefix_of}
 use Rattle.mrt_body.specs.declared.unit.PeerKey.{PeerKey}
-use Rattle.mrt_body.specs.Indexes.{ended}
+use Rattle.mrt_body.specs.Many.{many}
 
 -- peer index 2, originated time 4, path identifier 4 where there are some, attributes length 2, attributes
 pub record WrittenEntry : Type 0 where
@@ -75,18 +75,6 @@ entry_at add_path peers bytes = do
   attributes ← bytes_at ShortRecord len.0 len.1
   Ok (record { peer = peer.0; originated = originated.0; identifier = identifier.0; attributes = attributes.0 }, attributes.1)
 
--- so many entries
-unfoldable pub entries_at : Bool → ℕ → ℕ → List ℕ → Reading (List WrittenEntry)
-entries_at add_path peers zero bytes = Ok ([], bytes)
-entries_at add_path peers (suc count) bytes = do
-  first ← entry_at add_path peers bytes
-  others ← entries_at add_path peers count first.1
-  Ok (first.0 ∷ others.0, others.1)
-
--- so many entries, and nothing more
-unfoldable pub entries_in : Bool → ℕ → ℕ → List ℕ → Result (List WrittenEntry) Fault
-entries_in add_path peers count bytes = entries_at add_path peers count bytes >>= λ entries. ended entries.0 entries.1
-
 -- what stands before the entries
 pub record RibHead : Type 0 where
   pub sequence : ℕ
@@ -104,7 +92,7 @@ rib_head_at bytes = do
 
 -- the record that a body spells beside an index of so many peers, or its first fault
 unfoldable pub rib_in : Bool → ℕ → List ℕ → Result RibForm Fault
-rib_in add_path peers body = rib_head_at body >>= λ head. entries_in add_path peers head.0.count head.1 >>= λ entries. Ok (record { sequence = head.0.sequence; len = head.0.len; octets = head.0.octets; entries = entries })
+rib_in add_path peers body = rib_head_at body >>= λ head. many (entry_at add_path peers) head.0.count head.1 >>= λ entries. Ok (record { sequence = head.0.sequence; len = head.0.len; octets = head.0.octets; entries = entries })
 
 -- without an index no record is read
 abbrev pub rib_beside : Bool → Option (List PeerKey) → List ℕ → Result RibForm Fault

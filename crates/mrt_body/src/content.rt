@@ -1,5 +1,8 @@
 //! What a record holds, by its type and subtype (RFC 6396, 4; RFC 8050, 3 and 4).
 
+ghost use Rattle.std.specs.Prelude.{◌≡◌};
+ghost use Rattle.mrt_body.specs.Units as units_spec;
+
 use bgp_update::Width;
 
 /// What a record holds.
@@ -27,11 +30,15 @@ const BGP4MP: u16 = 16;
 const BGP4MP_ET: u16 = 17;
 
 /// Whether the body of a record begins with microseconds.
-pub(crate) fn is_extended(kind: u16) -> bool {
+pub(crate) fn is_extended(kind: u16) -> bool
+    ensures { result ≡ units_spec.is_extended kind }
+{
     kind == BGP4MP_ET
 }
 
-fn dump_content(subtype: u16) -> Content {
+fn dump_content(subtype: u16) -> Content
+    ensures { result ≡ units_spec.dump_content subtype }
+{
     match subtype {
         1 => Content::IndexTable,
         2 => Content::Rib { add_path: false },
@@ -40,7 +47,9 @@ fn dump_content(subtype: u16) -> Content {
     }
 }
 
-fn session_content(subtype: u16) -> Content {
+fn session_content(subtype: u16) -> Content
+    ensures { result ≡ units_spec.session_content subtype }
+{
     match subtype {
         0 => Content::States { width: Width::Two },
         1 => Content::Message {
@@ -65,7 +74,10 @@ fn session_content(subtype: u16) -> Content {
 }
 
 /// What a record of this type and subtype holds.
-pub(crate) fn content_of(kind: u16, subtype: u16) -> Content {
+#[tactic(auto, unfolding(crate::specs::Units::content_of))]
+pub(crate) fn content_of(kind: u16, subtype: u16) -> Content
+    ensures { result ≡ units_spec.content_of kind subtype }
+{
     match kind {
         TABLE_DUMP_V2 => dump_content(subtype),
         BGP4MP | BGP4MP_ET => session_content(subtype),

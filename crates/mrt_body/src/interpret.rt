@@ -2,7 +2,7 @@
 
 ghost use Rattle.std.specs.Prelude.{◌≡◌, IfOk, Ok};
 ghost use Rattle.bgp_update.specs.Answers.{Gives};
-ghost use Rattle.mrt_body.specs.Events.{event_in, message_event_in};
+ghost use Rattle.mrt_body.specs.Events.{IsEvent, IsMessageEvent, event_in, message_event_in};
 
 use crate::meaning::Event;
 use crate::message::message_in;
@@ -21,7 +21,9 @@ fn message_event(
     width: Width,
     add_path: bool,
 ) -> Result<Event, AttrError>
-    ensures { Gives (λ e. e) result (message_event_in width add_path bytes.now) }
+    ensures found { IfOk result (IsMessageEvent width add_path bytes.now) }
+    ensures only { (e : Event) → IsMessageEvent width add_path bytes.now e → Gives (λ e. e) result (Ok e) }
+    ensures exact { Gives (λ e. e) result (message_event_in width add_path bytes.now) }
 {
     let (kind, body) = match message_in(bytes) {
         Ok(message) => message,
@@ -40,6 +42,11 @@ fn message_event(
 /// unit is damaged and changes no route.
 #[tactic(auto, unfolding(crate::specs::Events::event_in))]
 pub fn event(alloc: Global, payload: &Payload) -> Result<Event, AttrError>
+    // What is answered is what the payload means.
+    ensures found { IfOk result (IsEvent payload.now) }
+    // What it means is answered, unless memory runs out.
+    ensures only { (e : Event) → IsEvent payload.now e → Gives (λ e. e) result (Ok e) }
+    // Which fault it is.
     ensures exact { Gives (λ e. e) result (event_in payload.now) }
 {
     match payload {

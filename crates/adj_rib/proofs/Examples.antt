@@ -1,0 +1,123 @@
+-- Examples of what a session is after some units, by computation.
+use Rattle.std.proofs.Common.{◌≡◌, ℕ, ◌*◌, Bool, refl, true, false, Some, None, List, [], ◌∷◌, ◌++◌}
+use Rattle.std.specs.Prelude.{codes}
+use Rattle.bgp_prefix.specs.declared.key.RouteKey.{RouteKey}
+use Rattle.mrt_frame.proofs.Hexadecimal.{hex}
+use Rattle.mrt_frame.specs.declared.fault.Fault.TheVariants.{BadAttribute}
+use Rattle.mrt_frame.specs.Fields.{items_after}
+use Rattle.bgp_update.specs.declared.width.Width.TheVariants.{Four}
+use Rattle.bgp_update.specs.declared.path.SegmentKind.TheVariants.{AsSequence}
+use Rattle.bgp_update.specs.declared.next_hop.NextHop.TheVariants as hop
+use Rattle.bgp_update.specs.declared.route.Origin.TheVariants.{Igp}
+use Rattle.bgp_update.specs.declared.route.Route.{Route}
+use Rattle.bgp_update.specs.Equality.{route_eq}
+use Rattle.bgp_update.specs.Segments.{path_in, segment_at, segment_field_at}
+use Rattle.bgp_update.specs.Keys.{written_key_at, keys_in, route_keys_in, key_at}
+use Rattle.bgp_update.specs.Multiprotocol.{reach_in, reach_at, unreach_in, next_hop_of, reached_keys, unreached_keys}
+use Rattle.bgp_update.specs.Attributes.{attribute_at, attributes_in, value_fault, route_from, route_in}
+use Rattle.bgp_update.specs.Updates.{fields_in, said_update, update_in}
+use Rattle.mrt_body.specs.declared.unit.Place.{Place}
+use Rattle.mrt_body.specs.declared.unit.Payload.{Payload}
+use Rattle.mrt_body.specs.declared.unit.Payload.TheVariants.{State, Message, Entry}
+use Rattle.mrt_body.specs.declared.unit.PeerAddr.TheVariants as addr
+use Rattle.mrt_body.specs.declared.unit.Unit.{Unit as ReplayUnit}
+use Rattle.mrt_body.specs.Events.{message_in, message_event_in, event_in}
+use Rattle.adj_rib.specs.declared.churn.Churn.{Churn}
+use Rattle.adj_rib.specs.Steps.{unit_steps, steps_of}
+use Rattle.adj_rib.specs.Tables.{table_of}
+use Rattle.adj_rib.specs.Churns.{outcomes_of, churn_of, damaged_of}
+use Rattle.adj_rib.specs.Sessions.{session_of}
+
+abbrev somewhere : Place
+somewhere = record { file = 0; offset = 0; entry = None }
+
+-- of a second
+abbrev unit_of : ℕ → Payload → ReplayUnit
+unit_of seconds payload = record { place = somewhere; time = seconds * 1000000; peer = record { asn = 65000; addr = addr.V4 0xC0000201 }; payload = payload }
+
+abbrev message : ℕ → Bool → List ℕ → ReplayUnit
+message seconds add_path bytes = unit_of seconds (Message (hex (codes "FFFFFFFF FFFFFFFF FFFFFFFF FFFFFFFF") ++ bytes) Four add_path)
+
+-- origin IGP, path 65000, next hop 192.0.2.1
+abbrev plain_attributes : List ℕ
+plain_attributes = hex (codes "40010100 4002060201 0000FDE8 400304 C0000201")
+
+abbrev plain_route : Route
+plain_route = record { origin = Some Igp; path = Some (record { kind = AsSequence; numbers = 65000 ∷ [] } ∷ []); next_hop = Some (hop.V4 0xC0000201); med = None; local_pref = None; atomic = false; aggregator = None }
+
+-- an UPDATE of second 1 that announces 10.0.0.0/8
+abbrev announcement : ReplayUnit
+announcement = message 1 false (hex (codes "002D 02 0000 0014") ++ plain_attributes ++ hex (codes "080A"))
+
+-- one of second 2 that withdraws it
+abbrev withdrawal : ReplayUnit
+withdrawal = message 2 false (hex (codes "0019 02 0002 080A 0000"))
+
+-- one that withdraws 10.0.0.0/8 and 11.0.0.0/8, announces 12.0.0.0/8, and by attribute 14 the first by 192.0.2.9
+abbrev reaching : ReplayUnit
+reaching = message 2 false (hex (codes "003F 02 0004 080A 080B 0022") ++ plain_attributes ++ hex (codes "800E0B 0001 01 04 C0000209 00 080A 080C"))
+
+-- one that announces 10.0.0.0/8 by two paths, in another order than that of their identifiers
+abbrev two_paths : ReplayUnit
+two_paths = message 1 true (hex (codes "0037 02 0000 0014") ++ plain_attributes ++ hex (codes "00000007 080A 00000003 080A"))
+
+-- one whose ORIGIN is 3
+abbrev damaged : ReplayUnit
+damaged = message 1 false (hex (codes "002D 02 0000 0014 40010103 4002060201 0000FDE8 400304 C0000201 080A"))
+
+abbrev key : ℕ → ℕ → RouteKey
+key addr id = record { prefix = record { addr = addr; len = 8 }; id = id }
+
+abbrev ten : RouteKey
+ten = key 0x0A000000 0
+
+abbrev state_change : ℕ → ℕ → ReplayUnit
+state_change from to = unit_of 2 (State from to)
+
+-- eight counts, then the times of the first and the last unit in seconds
+abbrev churn_with : List ℕ → ℕ → ℕ → Churn
+churn_with (added ∷ changed ∷ same ∷ gone ∷ void ∷ resets ∷ idle ∷ refused ∷ []) first last =
+    record { added = added; changed = changed; same = same; gone = gone; void = void; resets = resets; idle = idle; refused = refused; first = Some (first * 1000000); last = Some (last * 1000000) }
+churn_with _ first last = record { added = 0; changed = 0; same = 0; gone = 0; void = 0; resets = 0; idle = 0; refused = 0; first = None; last = None }
+
+announced_twice : session_of (announcement ∷ announcement ∷ []) ≡ record { up = true; table = (ten, plain_route) ∷ []; churn = churn_with (1 ∷ 0 ∷ 1 ∷ 0 ∷ 0 ∷ 0 ∷ 0 ∷ 0 ∷ []) 1 1; faults = []; spent = false }
+unfolding items_after attribute_at attributes_in value_fault route_from route_in path_in segment_at segment_field_at written_key_at keys_in route_keys_in key_at reach_in reach_at unreach_in next_hop_of reached_keys unreached_keys fields_in said_update update_in message_in message_event_in event_in unit_steps steps_of route_eq outcomes_of churn_of damaged_of table_of session_of
+announced_twice = refl
+
+withdrawn_twice : session_of (announcement ∷ withdrawal ∷ withdrawal ∷ []) ≡ record { up = true; table = []; churn = churn_with (1 ∷ 0 ∷ 0 ∷ 1 ∷ 1 ∷ 0 ∷ 0 ∷ 0 ∷ []) 1 2; faults = []; spent = false }
+unfolding items_after attribute_at attributes_in value_fault route_from route_in path_in segment_at segment_field_at written_key_at keys_in route_keys_in key_at reach_in reach_at unreach_in next_hop_of reached_keys unreached_keys fields_in said_update update_in message_in message_event_in event_in unit_steps steps_of route_eq outcomes_of churn_of damaged_of table_of session_of
+withdrawn_twice = refl
+
+-- an announcement while the peer isn't up is idle
+left_established : session_of (announcement ∷ state_change 6 1 ∷ announcement ∷ []) ≡ record { up = false; table = []; churn = churn_with (1 ∷ 0 ∷ 0 ∷ 0 ∷ 0 ∷ 1 ∷ 1 ∷ 0 ∷ []) 1 1; faults = []; spent = false }
+unfolding items_after attribute_at attributes_in value_fault route_from route_in path_in segment_at segment_field_at written_key_at keys_in route_keys_in key_at reach_in reach_at unreach_in next_hop_of reached_keys unreached_keys fields_in said_update update_in message_in message_event_in event_in unit_steps steps_of route_eq outcomes_of churn_of damaged_of table_of session_of
+left_established = refl
+
+came_back : session_of (announcement ∷ state_change 6 1 ∷ announcement ∷ state_change 5 6 ∷ announcement ∷ []) ≡ record { up = true; table = (ten, plain_route) ∷ []; churn = churn_with (2 ∷ 0 ∷ 0 ∷ 0 ∷ 0 ∷ 2 ∷ 1 ∷ 0 ∷ []) 1 1; faults = []; spent = false }
+unfolding items_after attribute_at attributes_in value_fault route_from route_in path_in segment_at segment_field_at written_key_at keys_in route_keys_in key_at reach_in reach_at unreach_in next_hop_of reached_keys unreached_keys fields_in said_update update_in message_in message_event_in event_in unit_steps steps_of route_eq outcomes_of churn_of damaged_of table_of session_of
+came_back = refl
+
+stayed_established : session_of (announcement ∷ state_change 6 6 ∷ []) ≡ record { up = true; table = (ten, plain_route) ∷ []; churn = churn_with (1 ∷ 0 ∷ 0 ∷ 0 ∷ 0 ∷ 0 ∷ 0 ∷ 0 ∷ []) 1 2; faults = []; spent = false }
+unfolding items_after attribute_at attributes_in value_fault route_from route_in path_in segment_at segment_field_at written_key_at keys_in route_keys_in key_at reach_in reach_at unreach_in next_hop_of reached_keys unreached_keys fields_in said_update update_in message_in message_event_in event_in unit_steps steps_of route_eq outcomes_of churn_of damaged_of table_of session_of
+stayed_established = refl
+
+four_changes : session_of (state_change 5 6 ∷ state_change 6 6 ∷ state_change 6 0 ∷ state_change 0 0 ∷ []) ≡ record { up = false; table = []; churn = churn_with (0 ∷ 0 ∷ 0 ∷ 0 ∷ 0 ∷ 3 ∷ 0 ∷ 0 ∷ []) 2 2; faults = []; spent = false }
+unfolding items_after attribute_at attributes_in value_fault route_from route_in path_in segment_at segment_field_at written_key_at keys_in route_keys_in key_at reach_in reach_at unreach_in next_hop_of reached_keys unreached_keys fields_in said_update update_in message_in message_event_in event_in unit_steps steps_of route_eq outcomes_of churn_of damaged_of table_of session_of
+four_changes = refl
+
+-- what is reached is not withdrawn, and goes by the next hop of attribute 14
+reached : session_of (announcement ∷ reaching ∷ []) ≡ record { up = true; table = (ten, record plain_route { next_hop = Some (hop.V4 0xC0000209) }) ∷ (key 0x0C000000 0, plain_route) ∷ []; churn = churn_with (2 ∷ 1 ∷ 0 ∷ 0 ∷ 1 ∷ 0 ∷ 0 ∷ 0 ∷ []) 1 2; faults = []; spent = false }
+unfolding items_after attribute_at attributes_in value_fault route_from route_in path_in segment_at segment_field_at written_key_at keys_in route_keys_in key_at reach_in reach_at unreach_in next_hop_of reached_keys unreached_keys fields_in said_update update_in message_in message_event_in event_in unit_steps steps_of route_eq outcomes_of churn_of damaged_of table_of session_of
+reached = refl
+
+by_two_paths : session_of (two_paths ∷ announcement ∷ []) ≡ record { up = true; table = (ten, plain_route) ∷ (key 0x0A000000 3, plain_route) ∷ (key 0x0A000000 7, plain_route) ∷ []; churn = churn_with (3 ∷ 0 ∷ 0 ∷ 0 ∷ 0 ∷ 0 ∷ 0 ∷ 0 ∷ []) 1 1; faults = []; spent = false }
+unfolding items_after attribute_at attributes_in value_fault route_from route_in path_in segment_at segment_field_at written_key_at keys_in route_keys_in key_at reach_in reach_at unreach_in next_hop_of reached_keys unreached_keys fields_in said_update update_in message_in message_event_in event_in unit_steps steps_of route_eq outcomes_of churn_of damaged_of table_of session_of
+by_two_paths = refl
+
+damaged_unit : session_of (damaged ∷ []) ≡ record { up = true; table = []; churn = churn_with (0 ∷ 0 ∷ 0 ∷ 0 ∷ 0 ∷ 0 ∷ 0 ∷ 1 ∷ []) 1 1; faults = record { place = somewhere; fault = BadAttribute 1 } ∷ []; spent = false }
+unfolding items_after attribute_at attributes_in value_fault route_from route_in path_in segment_at segment_field_at written_key_at keys_in route_keys_in key_at reach_in reach_at unreach_in next_hop_of reached_keys unreached_keys fields_in said_update update_in message_in message_event_in event_in unit_steps steps_of route_eq outcomes_of churn_of damaged_of table_of session_of
+damaged_unit = refl
+
+entry_of_key : session_of (unit_of 3 (Entry (key 0x0A000000 5) plain_attributes) ∷ announcement ∷ []) ≡ record { up = true; table = (ten, plain_route) ∷ (key 0x0A000000 5, plain_route) ∷ []; churn = churn_with (2 ∷ 0 ∷ 0 ∷ 0 ∷ 0 ∷ 0 ∷ 0 ∷ 0 ∷ []) 3 1; faults = []; spent = false }
+unfolding items_after attribute_at attributes_in value_fault route_from route_in path_in segment_at segment_field_at written_key_at keys_in route_keys_in key_at reach_in reach_at unreach_in next_hop_of reached_keys unreached_keys fields_in said_update update_in message_in message_event_in event_in unit_steps steps_of route_eq outcomes_of churn_of damaged_of table_of session_of
+entry_of_key = refl

@@ -1,0 +1,228 @@
+-- The units and refusals of dumps (RFC 6396, sections 2, 4.3 and 4.4; 3 for extended timestamps; RFC 8050).
+use Rattle.std.specs.Prelude.{ℕ, ◌+◌, ◌*◌, ◌/◌, Bool, true, false, List, [], ◌∷◌, ◌++◌, map, Option, Some, None, Result, Ok, Err, nat_lt, slice_index_or, ◌==◌, ◌||◌, if◌then◌else◌}
+use Rattle.std.specs.List.{filter, filter_map, count_by, flat_map, last_or}
+use Rattle.std.specs.Option.{option_and_then}
+use Rattle.bgp_prefix.specs.Prefixes.{IpPrefix}
+use Rattle.mrt_frame.specs.Positions.{flat_map_after}
+use Rattle.mrt_frame.specs.declared.fault.Fault.{Fault}
+use Rattle.mrt_frame.specs.declared.cut.Cut.{Cut}
+use Rattle.mrt_frame.specs.declared.cut.Cut.TheVariants.{Whole, Broken}
+use Rattle.mrt_frame.specs.Fields.{◌>>=◌}
+use Rattle.mrt_frame.specs.Cuts.{cuts}
+use Rattle.bgp_update.specs.declared.width.Width.{Width}
+use Rattle.bgp_update.specs.declared.width.Width.TheVariants.{Two, Four}
+use Rattle.mrt_body.specs.declared.at.RecordAt.{RecordAt}
+use Rattle.mrt_body.specs.declared.content.Content.{Content}
+use Rattle.mrt_body.specs.declared.content.Content.TheVariants as content
+use Rattle.mrt_body.specs.declared.unit.PeerAddr.TheVariants.{V4}
+use Rattle.mrt_body.specs.declared.unit.PeerKey.{PeerKey}
+use Rattle.mrt_body.specs.declared.unit.Place.{Place}
+use Rattle.mrt_body.specs.declared.unit.Damage.{Damage}
+use Rattle.mrt_body.specs.declared.unit.Payload.{Payload}
+use Rattle.mrt_body.specs.declared.unit.Payload.TheVariants.{State, Message, Entry}
+use Rattle.mrt_body.specs.declared.unit.Unit.{Unit as ReplayUnit}
+use Rattle.mrt_body.specs.declared.unit.Found.{Found}
+use Rattle.mrt_body.specs.declared.unit.Found.TheVariants as found
+use Rattle.mrt_body.specs.Indexes.{peers_in}
+use Rattle.mrt_body.specs.RibRecords.{RibForm, WrittenEntry, rib_beside, rib_prefix}
+use Rattle.mrt_body.specs.Bgp4mp.{session_peer_at, states_in, microseconds_at}
+
+-- ---- kinds of record
+
+-- TABLE_DUMP_V2 (RFC 6396, 4.3; RFC 8050, 4)
+abbrev pub dump_content : ℕ → Content
+dump_content subtype = if subtype == 1 then content.IndexTable else (if subtype == 2 then content.Rib false else (if subtype == 8 then content.Rib true else content.Aside))
+
+-- BGP4MP, and BGP4MP_ET (RFC 6396, 4.4; RFC 8050, 3)
+abbrev pub session_content : ℕ → Content
+session_content subtype =
+    if subtype == 0 then content.States Two else
+    (if subtype == 1 then content.Message Two false else
+    (if subtype == 4 then content.Message Four false else
+    (if subtype == 5 then content.States Four else
+    (if subtype == 8 then content.Message Two true else
+    (if subtype == 9 then content.Message Four true else content.Aside)))))
+
+unfoldable pub content_of : ℕ → ℕ → Content
+content_of kind subtype = if kind == 13 then dump_content subtype else (if kind == 16 || kind == 17 then session_content subtype else content.Aside)
+
+-- the type with extended timestamps
+abbrev pub is_extended : ℕ → Bool
+is_extended kind = kind == 17
+
+-- ---- what one record gives
+
+abbrev pub place_of : RecordAt → Option ℕ → Place
+place_of at entry = record { file = at.file; offset = at.offset; entry = entry }
+
+-- in microseconds
+abbrev pub time_of : RecordAt → ℕ → ℕ
+time_of at microseconds = at.seconds * 1000000 + microseconds
+
+-- no peer: never asked for, since the indexes of a record that is read are below the peer count
+abbrev pub no_peer : PeerKey
+no_peer = record { asn = 0; addr = V4 0 }
+
+-- the unit of the entry of this number
+abbrev pub entry_unit : RecordAt → List PeerKey → IpPrefix → ℕ → WrittenEntry → ReplayUnit
+entry_unit at peers prefix number e =
+    record { place = place_of at (Some number); time = time_of at 0; peer = slice_index_or peers e.peer no_peer; payload = Entry (record { prefix = prefix; id = e.identifier }) e.attributes }
+
+-- the units of entries, the first of which has this number
+abbrev pub entry_units : RecordAt → List PeerKey → IpPrefix → ℕ → List WrittenEntry → List ReplayUnit
+entry_units at peers prefix number [] = []
+entry_units at peers prefix number (e ∷ entries) = entry_unit at peers prefix number e ∷ entry_units at peers prefix (number + 1) entries
+
+-- the entries of a RIB record, numbered from 1
+abbrev pub rib_units : RecordAt → Option (List PeerKey) → RibForm → List ReplayUnit
+rib_units at None form = []
+rib_units at (Some peers) form = entry_units at peers (rib_prefix form) 1 form.entries
+
+-- the unit of a message or state change
+abbrev pub session_unit : RecordAt → ℕ → PeerKey → Payload → ReplayUnit
+session_unit at microseconds peer payload = record { place = place_of at None; time = time_of at microseconds; peer = peer; payload = payload }
+
+unfoldable pub message_unit : RecordAt → Bool → Width → Bool → List ℕ → Result ReplayUnit Fault
+message_unit at extended width add_path body = do
+  microseconds ← microseconds_at extended body
+  peer ← session_peer_at width microseconds.1
+  Ok (session_unit at microseconds.0 peer.0 (Message peer.1 width add_path))
+
+unfoldable pub states_unit : RecordAt → Bool → Width → List ℕ → Result ReplayUnit Fault
+states_unit at extended width body = do
+  microseconds ← microseconds_at extended body
+  peer ← session_peer_at width microseconds.1
+  states ← states_in peer.1
+  Ok (session_unit at microseconds.0 peer.0 (State states.0 states.1))
+
+abbrev pub alone : Result ReplayUnit Fault → Result (List ReplayUnit) Fault
+alone read = read >>= λ unit. Ok (unit ∷ [])
+
+-- the units of a whole record, or its fault; index tables and records aside give none
+abbrev pub units_in : RecordAt → Bool → Option (List PeerKey) → Content → List ℕ → Result (List ReplayUnit) Fault
+units_in at extended index content.IndexTable body = peers_in body >>= λ peers. Ok []
+units_in at extended index (content.Rib add_path) body = rib_beside add_path index body >>= λ form. Ok (rib_units at index form)
+units_in at extended index (content.Message width add_path) body = alone (message_unit at extended width add_path body)
+units_in at extended index (content.States width) body = alone (states_unit at extended width body)
+units_in at extended index content.Aside body = Ok []
+
+-- whether a unit of this time is left out
+abbrev pub is_past : Option ℕ → ℕ → Bool
+is_past None time = false
+is_past (Some until) time = nat_lt until (time / 1000000)
+
+abbrev pub is_within : Option ℕ → ReplayUnit → Bool
+is_within until unit = if is_past until unit.time then false else true
+
+-- the refusal of a record
+abbrev pub refused_at : RecordAt → Fault → Found
+refused_at at fault = found.Refused (record { place = place_of at None; fault = fault })
+
+-- a refused record is listed whatever its time
+abbrev pub found_units : Option ℕ → RecordAt → Result (List ReplayUnit) Fault → List Found
+found_units until at (Ok units) = map (λ u. found.Unit u) (filter (is_within until) units)
+found_units until at (Err fault) = refused_at at fault ∷ []
+
+abbrev pub at_record : ℕ → ℕ → ℕ → RecordAt
+at_record file offset seconds = record { file = file; offset = offset; seconds = seconds }
+
+-- what a cut gives beside the index in force
+unfoldable pub found_at : ℕ → Option ℕ → Option (List PeerKey) → Cut → List Found
+found_at file until index (Whole offset seconds kind subtype body) = let at = at_record file offset seconds in found_units until at (units_in at (is_extended kind) index (content_of kind subtype) body)
+found_at file until index (Broken offset fault) = refused_at (at_record file offset 0) fault ∷ []
+
+-- ---- the index in force
+
+abbrev pub is_index_content : Content → Bool
+is_index_content content.IndexTable = true
+is_index_content (content.Rib add_path) = false
+is_index_content (content.Message width add_path) = false
+is_index_content (content.States width) = false
+is_index_content content.Aside = false
+
+abbrev pub if_read : Result (List PeerKey) Fault → Option (List PeerKey)
+if_read (Ok peers) = Some peers
+if_read (Err fault) = None
+
+-- what an index table puts in force: nothing, where it is damaged
+abbrev pub index_of_body : List ℕ → Option (List PeerKey)
+index_of_body body = if_read (peers_in body)
+
+-- the bodies of index tables
+abbrev pub index_body : Cut → Option (List ℕ)
+index_body (Whole offset seconds kind subtype body) = if is_index_content (content_of kind subtype) then Some body else None
+index_body (Broken offset fault) = None
+
+-- ---- what files give
+
+-- the index in force after these cuts: that of the last index table among them
+abbrev pub index_before : List Cut → Option (List PeerKey)
+index_before earlier = option_and_then index_of_body (last_or None (filter_map index_body earlier))
+
+-- an index holds in its own file alone
+abbrev pub found_in_file : Option ℕ → ℕ → List ℕ → List Found
+found_in_file until file bytes = flat_map_after (λ earlier cut. found_at file until (index_before earlier) cut) [] (cuts 0 bytes)
+
+-- the files from this number on
+abbrev pub found_in_files : Option ℕ → ℕ → List (List ℕ) → List Found
+found_in_files until file [] = []
+found_in_files until file (bytes ∷ files) = found_in_file until file bytes ++ found_in_files until (file + 1) files
+
+unfoldable pub found_in : Option ℕ → List (List ℕ) → List Found
+found_in until files = found_in_files until 0 files
+
+-- ---- the same, as a reading goes on
+
+-- the index in force after a whole record
+abbrev pub index_with : Option (List PeerKey) → Content → List ℕ → Option (List PeerKey)
+index_with index content body = if is_index_content content then index_of_body body else index
+
+-- the index in force after a cut
+abbrev pub index_after : Option (List PeerKey) → Cut → Option (List PeerKey)
+index_after index (Whole offset seconds kind subtype body) = index_with index (content_of kind subtype) body
+index_after index (Broken offset fault) = index
+
+-- what the cuts give, where this index is in force before the first
+abbrev pub found_from : ℕ → Option ℕ → Option (List PeerKey) → List Cut → List Found
+found_from file until index [] = []
+found_from file until index (cut ∷ others) = found_at file until index cut ++ found_from file until (index_after index cut) others
+
+abbrev pub unit_of : Found → Option ReplayUnit
+unit_of (found.Unit unit) = Some unit
+unit_of (found.Refused damage) = None
+
+abbrev pub damage_of : Found → Option Damage
+damage_of (found.Unit unit) = None
+damage_of (found.Refused damage) = Some damage
+
+unfoldable pub units_of : Option ℕ → List (List ℕ) → List ReplayUnit
+units_of until files = filter_map unit_of (found_in until files)
+
+unfoldable pub refused_of : Option ℕ → List (List ℕ) → List Damage
+refused_of until files = filter_map damage_of (found_in until files)
+
+-- ---- counts of cut records, whatever their time
+
+abbrev pub is_whole : Cut → Bool
+is_whole (Whole offset seconds kind subtype body) = true
+is_whole (Broken offset fault) = false
+
+abbrev pub is_aside_content : Content → Bool
+is_aside_content content.Aside = true
+is_aside_content content.IndexTable = false
+is_aside_content (content.Rib add_path) = false
+is_aside_content (content.Message width add_path) = false
+is_aside_content (content.States width) = false
+
+abbrev pub is_aside : Cut → Bool
+is_aside (Whole offset seconds kind subtype body) = is_aside_content (content_of kind subtype)
+is_aside (Broken offset fault) = false
+
+abbrev pub all_cuts : List (List ℕ) → List Cut
+all_cuts files = flat_map (cuts 0) files
+
+abbrev pub records_of : List (List ℕ) → ℕ
+records_of files = count_by is_whole (all_cuts files)
+
+abbrev pub aside_of : List (List ℕ) → ℕ
+aside_of files = count_by is_aside (all_cuts files)
