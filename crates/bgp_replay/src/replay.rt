@@ -1,0 +1,110 @@
+//! The replay of dumps into a report.
+
+ghost use Rattle.std.specs.Prelude.{◌≡◌, length};
+ghost use Rattle.lane_deal.specs.Plans.{IsPlan};
+
+use crate::request::Request;
+use crate::seats::Seats;
+use crate::summary::Summary;
+use bgp_prefix::PrefixMap;
+use bgp_update::Route;
+use lane_deal::{Dealing, Gate, Plan};
+use mrt_body::{Found, Units};
+use mrt_frame::{ReplayError, Sink, Source};
+use rib_report::{
+    Tables, churn, collect, faults, matches, origins, table_rows, visibility, write_churn,
+    write_faults, write_origins, write_rows, write_visibility,
+};
+use std::alloc::Global;
+use std::thread::Threads;
+
+/// Replays the files in order and writes the report on them, and then flushes the writer once.
+///
+/// Nothing is written before the last record was read and the report's rows are made, so `Read`,
+/// `Memory` and `Records` leave nothing written; `Write` leaves a front of the report. Workers, ring,
+/// batch and dealing have no part in what is written.
+pub fn run<M, T, R, W, D, G>(
+    _rt: &T,
+    alloc: Global,
+    files: &mut [R],
+    request: &Request,
+    plan: &Plan,
+    dealing: &D,
+    gate: &G,
+    out: &mut W,
+) -> Result<Summary, ReplayError>
+where
+    M: PrefixMap<Route> + Drop,
+    T: Threads,
+    R: Source,
+    W: Sink,
+    D: Dealing,
+    G: Gate,
+    requires { IsPlan plan.now }
+{
+    let mut units = Units::new(files.len(), plan.max_records, plan.until);
+    let mut seats = Seats::<M>::new(alloc, plan.workers)?;
+    replay_all(alloc, &mut units, files, &mut seats, dealing, gate)?;
+    let replayed = seats.units();
+    let tables = match collect(alloc, seats.into_gathered(alloc)?) {
+        Ok(tables) => tables,
+        Err(_) => return Err(ReplayError::Memory),
+    };
+    write_report(alloc, request, &tables, out)?;
+    if out.flush_all().is_err() {
+        return Err(ReplayError::Write);
+    }
+    Ok(Summary {
+        records: units.records(),
+        units: replayed,
+        aside: units.aside(),
+        damaged: tables.damaged(),
+        rounds: 1,
+        peers: tables.peers(),
+    })
+}
+
+/// Gives every unit and refusal of the files to the seats.
+fn replay_all<M, R, D, G>(
+    alloc: Global,
+    units: &mut Units,
+    files: &mut [R],
+    seats: &mut Seats<M>,
+    dealing: &D,
+    gate: &G,
+) -> Result<(), ReplayError>
+where
+    M: PrefixMap<Route> + Drop,
+    R: Source,
+    D: Dealing,
+    G: Gate,
+    requires { length files.old ≡ units.old.count }
+{
+    for _ in 0..u64::MAX {
+        match units.next(alloc, files)? {
+            Some(Found::Unit(unit)) => {
+                seats.take(alloc, &unit, dealing, gate)?;
+            }
+            Some(Found::Refused(damage)) => seats.refuse(damage)?,
+            None => break,
+        }
+    }
+    Ok(())
+}
+
+/// Writes the report that is asked for.
+fn write_report<M: PrefixMap<Route> + Drop, W: Sink>(
+    alloc: Global,
+    request: &Request,
+    tables: &Tables<M>,
+    out: &mut W,
+) -> Result<(), ReplayError> {
+    match request {
+        Request::Tables => write_rows(out, table_rows(alloc, tables)?.as_slice()),
+        Request::Visibility => write_visibility(out, visibility(alloc, tables)?.as_slice()),
+        Request::Origins => write_origins(out, origins(alloc, tables)?.as_slice()),
+        Request::Churn => write_churn(out, churn(alloc, tables)?.as_slice()),
+        Request::Match(addr) => write_rows(out, matches(alloc, tables, *addr)?.as_slice()),
+        Request::Faults => write_faults(out, faults(alloc, tables)?.as_slice()),
+    }
+}

@@ -1,0 +1,16 @@
+/// Which report is asked for.
+#[derive(Clone, Copy, Debug, PartialEq, Eq)]
+pub enum Request {
+    /// Every route of every peer's table.
+    Tables,
+    /// For each prefix, the number of peers whose table has it.
+    Visibility,
+    /// The prefixes with routes of two or more origin ASes.
+    Origins,
+    /// For each peer, what its units did to its table.
+    Churn,
+    /// For each peer, the routes of the longest prefix that contains this address.
+    Match(u32),
+    /// The records and units that are damaged.
+    Faults,
+}

@@ -1,0 +1,12 @@
+//! Worked rows: dumps as bytes, and what a replay of them reports.
+
+mod addpath;
+mod devices;
+mod dumps;
+mod faults;
+mod harness;
+mod hostile;
+mod layers;
+mod maps;
+mod rows;
+mod words;

@@ -1,0 +1,281 @@
+//! Rows on devices that fail: at each read, at each write, and past the limit on records.
+
+use super::dumps::dump;
+use super::harness::{PLAN, replay};
+use crate::replay::run;
+use crate::request::Request;
+use crate::summary::{Summary, status};
+use bgp_prefix::Radix;
+use bgp_update::Route;
+use lane_deal::{ByTurns, NoGate, Plan};
+use mrt_frame::{Counted, ReplayError};
+use std::alloc::Global;
+use std::io::{self, ErrorKind, Read, Write};
+use std::process::Abort;
+use std::test::Fail;
+use std::thread::Threads;
+
+const THREE_PEERS: &str = "M MB M MC MB";
+
+const THREE_LINES: &str = "65000 192.0.2.1|10.0.0.0/8|65000|192.0.2.1|IGP|-|-|-|-
+65000 192.0.2.2|10.0.0.0/8|65000|192.0.2.1|IGP|-|-|-|-
+65000 192.0.2.3|10.0.0.0/8|65000|192.0.2.1|IGP|-|-|-|-
+";
+
+/// Gives its bytes one a read, and fails in place of the end.
+#[derive(Drop)]
+struct Breaking<'a> {
+    rest: &'a [u8],
+}
+
+impl Read for Breaking<'_> {
+    fn read(&mut self, buf: &mut [u8]) -> io::Result<usize> {
+        match (self.rest.split_first(), buf.first_mut()) {
+            (Some((first, rest)), Some(place)) => {
+                *place = *first;
+                self.rest = rest;
+                Ok(1)
+            }
+            (Some(_), None) => Ok(0),
+            (None, _) => Err(io::Error::from(ErrorKind::Interrupted)),
+        }
+    }
+}
+
+/// Takes so many bytes and no more: then it fails, or takes none.
+#[derive(Drop)]
+struct Full {
+    room: usize,
+    fails: bool,
+    flushes: bool,
+    written: Vec<u8>,
+}
+
+impl Write for Full {
+    fn write(&mut self, bytes: &[u8]) -> io::Result<usize> {
+        let count = bytes.len().min(self.room);
+        if count == 0 && self.fails {
+            return Err(io::Error::from(ErrorKind::BrokenPipe));
+        }
+        if self.written.extend_from_slice(&bytes[..count]).is_err() {
+            return Err(io::Error::from(ErrorKind::OutOfMemory));
+        }
+        self.room -= count;
+        Ok(count)
+    }
+
+    fn flush(&mut self) -> io::Result<()> {
+        if self.flushes {
+            Ok(())
+        } else {
+            Err(io::Error::from(ErrorKind::BrokenPipe))
+        }
+    }
+}
+
+/// What a run over readers that fail in place of their ends answers, and how much it wrote.
+fn run_breaking(
+    rt: &impl Threads,
+    alloc: Global,
+    files: &[&[u8]],
+) -> Result<(Result<Summary, ReplayError>, usize), Fail> {
+    let mut readers = Vec::new(alloc);
+    for bytes in files {
+        readers.push(Counted::new(Breaking { rest: *bytes }))?;
+    }
+    let mut out = Counted::new(Vec::<u8>::new(alloc));
+    let result = run::<Radix<Route>, _, _, _, _, _>(
+        rt,
+        alloc,
+        readers.as_mut_slice(),
+        &Request::Tables,
+        &PLAN,
+        &ByTurns,
+        &NoGate,
+        &mut out,
+    );
+    Ok((result, out.device().len()))
+}
+
+#[test]
+fn every_read_failed(rt: HostRuntime) -> Result<(), Fail> {
+    let alloc = rt.alloc();
+    let bytes = dump(alloc, THREE_PEERS)?;
+    assert_eq!(rt; bytes.len(), 385);
+    for k in 0..=bytes.len() {
+        let (result, written) = run_breaking(&rt, alloc, &[&bytes.as_slice()[..k]])?;
+        let is_read = match &result {
+            Err(error) => *error == ReplayError::Read { file: 0 },
+            Ok(_) => false,
+        };
+        assert!(rt; is_read && written == 0, "a read that fails at {k}");
+        assert_eq!(rt; status(&result), 3);
+    }
+    Ok(())
+}
+
+/// What a run over one file in memory answers, to a writer.
+fn run_into(
+    rt: &impl Threads,
+    alloc: Global,
+    bytes: &[u8],
+    writer: Full,
+) -> Result<(Result<Summary, ReplayError>, Vec<u8>), Fail> {
+    let mut readers = [Counted::new(bytes)];
+    let mut out = Counted::new(writer);
+    let result = run::<Radix<Route>, _, _, _, _, _>(
+        rt,
+        alloc,
+        &mut readers,
+        &Request::Tables,
+        &PLAN,
+        &ByTurns,
+        &NoGate,
+        &mut out,
+    );
+    let written = Vec::from_slice(alloc, out.device().written.as_slice())?;
+    Ok((result, written))
+}
+
+fn is_write_error(result: &Result<Summary, ReplayError>) -> bool {
+    match result {
+        Err(error) => *error == ReplayError::Write,
+        Ok(_) => false,
+    }
+}
+
+#[test]
+fn every_write_failed(rt: HostRuntime) -> Result<(), Fail> {
+    let alloc = rt.alloc();
+    let bytes = dump(alloc, THREE_PEERS)?;
+    let text = THREE_LINES.as_bytes();
+    for k in 0..text.len() {
+        for fails in [true, false] {
+            let writer = Full {
+                room: k,
+                fails,
+                flushes: true,
+                written: Vec::new(alloc),
+            };
+            let (result, written) = run_into(&rt, alloc, bytes.as_slice(), writer)?;
+            assert!(rt; is_write_error(&result), "a write that fails at {k}");
+            assert!(rt; written.as_slice() == &text[..k], "what was written before {k}");
+        }
+    }
+    let writer = Full {
+        room: 1000,
+        fails: true,
+        flushes: false,
+        written: Vec::new(alloc),
+    };
+    let (result, written) = run_into(&rt, alloc, bytes.as_slice(), writer)?;
+    assert!(rt; is_write_error(&result) && written.as_slice() == text, "a flush that fails");
+    assert_eq!(rt; status(&result), 3);
+    Ok(())
+}
+
+#[test]
+fn writer_fails_after_ten_bytes(rt: HostRuntime) -> Result<(), Fail> {
+    let alloc = rt.alloc();
+    let bytes = dump(alloc, "M")?;
+    let writer = Full {
+        room: 10,
+        fails: true,
+        flushes: true,
+        written: Vec::new(alloc),
+    };
+    let (result, written) = run_into(&rt, alloc, bytes.as_slice(), writer)?;
+    assert!(rt; is_write_error(&result) && status(&result) == 3);
+    assert!(rt; written.as_slice() == b"65000 192.".as_slice());
+    Ok(())
+}
+
+/// A file whose second record is cut off by a failure.
+#[test]
+fn reader_fails_inside_a_record(rt: HostRuntime) -> Result<(), Fail> {
+    let alloc = rt.alloc();
+    let bytes = dump(alloc, "M 00000001 0010 0004 00000041")?;
+    let (result, written) = run_breaking(&rt, alloc, &[bytes.as_slice()])?;
+    match result {
+        Err(error) => assert!(rt; error == ReplayError::Read { file: 0 } && written == 0),
+        Ok(_) => assert!(rt; false, "inside a record"),
+    }
+    Ok(())
+}
+
+/// A reader that ends, or fails in place of its end.
+#[derive(Drop)]
+enum Ending<'a> {
+    Ends(&'a [u8]),
+    Fails,
+}
+
+impl Read for Ending<'_> {
+    fn read(&mut self, buf: &mut [u8]) -> io::Result<usize> {
+        match self {
+            Ending::Ends(rest) => rest.read(buf),
+            Ending::Fails => Err(io::Error::from(ErrorKind::Other)),
+        }
+    }
+}
+
+#[test]
+fn second_file_fails_at_once(rt: HostRuntime) -> Result<(), Fail> {
+    let alloc = rt.alloc();
+    let bytes = dump(alloc, "M")?;
+    let mut readers = [
+        Counted::new(Ending::Ends(bytes.as_slice())),
+        Counted::new(Ending::Fails),
+    ];
+    let mut out = Counted::new(Vec::<u8>::new(alloc));
+    let result = run::<Radix<Route>, _, _, _, _, _>(
+        &rt,
+        alloc,
+        &mut readers,
+        &Request::Tables,
+        &PLAN,
+        &ByTurns,
+        &NoGate,
+        &mut out,
+    );
+    match result {
+        Err(error) => assert!(rt; error == ReplayError::Read { file: 1 }),
+        Ok(_) => assert!(rt; false, "the second file"),
+    }
+    assert!(rt; out.device().is_empty());
+    Ok(())
+}
+
+fn text_is(rt: &impl Abort, text: &[u8], expected: &str) {
+    assert!(rt; text == expected.as_bytes(), "{expected}");
+}
+
+#[test]
+fn limits_on_records(rt: HostRuntime) -> Result<(), Fail> {
+    let alloc = rt.alloc();
+    let two = [dump(alloc, "M M")?];
+    let line = "65000 192.0.2.1|10.0.0.0/8|65000|192.0.2.1|IGP|-|-|-|-\n";
+    let one_record = Plan {
+        max_records: 1,
+        ..PLAN
+    };
+    let two_records = Plan {
+        max_records: 2,
+        ..PLAN
+    };
+    let outcome = replay::<Radix<Route>>(&rt, alloc, &two, &Request::Tables, &one_record)?;
+    match &outcome.result {
+        Err(error) => assert!(rt; *error == ReplayError::Records && outcome.text.is_empty()),
+        Ok(_) => assert!(rt; false, "too many records"),
+    }
+    assert_eq!(rt; status(&outcome.result), 3);
+    let outcome = replay::<Radix<Route>>(&rt, alloc, &two, &Request::Tables, &two_records)?;
+    text_is(&rt, outcome.text.as_slice(), line);
+    let rest = [dump(alloc, "M 000000")?];
+    let outcome = replay::<Radix<Route>>(&rt, alloc, &rest, &Request::Tables, &one_record)?;
+    text_is(&rt, outcome.text.as_slice(), line);
+    let outcome = replay::<Radix<Route>>(&rt, alloc, &rest, &Request::Faults, &one_record)?;
+    text_is(&rt, outcome.text.as_slice(), "1|77|-|1|ShortHeader\n");
+    assert_eq!(rt; outcome.result?.damaged, 1);
+    Ok(())
+}

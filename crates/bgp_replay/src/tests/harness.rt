@@ -1,0 +1,222 @@
+//! Runs rows that stand as text: what files hold, and what each report on them is.
+
+use super::dumps::dump;
+use crate::address::read_address;
+use crate::replay::run;
+use crate::request::Request;
+use crate::summary::{Summary, status};
+use bgp_prefix::{Flat, PrefixMap, Radix};
+use bgp_update::Route;
+use lane_deal::{ByTurns, NoGate, Plan};
+use mrt_frame::{Counted, ReplayError};
+use std::alloc::Global;
+use std::io::{self, Read};
+use std::process::Abort;
+use std::test::Fail;
+use std::thread::Threads;
+
+/// The plan of the rows.
+pub const PLAN: Plan = Plan {
+    workers: 2,
+    ring: 4,
+    batch: 8,
+    looks: 0,
+    max_records: 1 << 47,
+    until: None,
+};
+
+/// A reader that gives one byte a read.
+#[derive(Drop)]
+pub struct Dripping<'a> {
+    rest: &'a [u8],
+}
+
+impl Read for Dripping<'_> {
+    fn read(&mut self, buf: &mut [u8]) -> io::Result<usize> {
+        match (self.rest.split_first(), buf.first_mut()) {
+            (Some((first, rest)), Some(place)) => {
+                *place = *first;
+                self.rest = rest;
+                Ok(1)
+            }
+            _ => Ok(0),
+        }
+    }
+}
+
+/// What a run answered, and what it wrote.
+#[derive(Drop)]
+pub struct Outcome {
+    pub result: Result<Summary, ReplayError>,
+    pub text: Vec<u8>,
+}
+
+/// Replays files in memory.
+pub fn replay<M: PrefixMap<Route> + Drop>(
+    rt: &impl Threads,
+    alloc: Global,
+    files: &[Vec<u8>],
+    request: &Request,
+    plan: &Plan,
+) -> Result<Outcome, Fail> {
+    let mut readers = Vec::new(alloc);
+    for file in files {
+        readers.push(Counted::new(file.as_slice()))?;
+    }
+    let mut out = Counted::new(Vec::<u8>::new(alloc));
+    let result = run::<M, _, _, _, _, _>(
+        rt,
+        alloc,
+        readers.as_mut_slice(),
+        request,
+        plan,
+        &ByTurns,
+        &NoGate,
+        &mut out,
+    );
+    let text = Vec::from_slice(alloc, out.device().as_slice())?;
+    Ok(Outcome { result, text })
+}
+
+/// Replays files from readers that give one byte a read.
+pub fn replay_slowly(
+    rt: &impl Threads,
+    alloc: Global,
+    files: &[Vec<u8>],
+    request: &Request,
+) -> Result<Outcome, Fail> {
+    let mut readers = Vec::new(alloc);
+    for file in files {
+        readers.push(Counted::new(Dripping {
+            rest: file.as_slice(),
+        }))?;
+    }
+    let mut out = Counted::new(Vec::<u8>::new(alloc));
+    let result = run::<Radix<Route>, _, _, _, _, _>(
+        rt,
+        alloc,
+        readers.as_mut_slice(),
+        request,
+        &PLAN,
+        &ByTurns,
+        &NoGate,
+        &mut out,
+    );
+    let text = Vec::from_slice(alloc, out.device().as_slice())?;
+    Ok(Outcome { result, text })
+}
+
+/// A row as far as it was read.
+#[derive(Drop)]
+struct Row<'a> {
+    name: &'a str,
+    files: Vec<Vec<u8>>,
+    request: Option<Request>,
+    expected: Vec<u8>,
+    damaged: Option<u64>,
+    until: Option<u64>,
+}
+
+impl<'a> Row<'a> {
+    fn new(alloc: Global, name: &'a str) -> Row<'a> {
+        Row {
+            name,
+            files: Vec::new(alloc),
+            request: None,
+            expected: Vec::new(alloc),
+            damaged: None,
+            until: None,
+        }
+    }
+
+    fn expect(&self, rt: &impl Abort, outcome: &Outcome) {
+        let name = self.name;
+        let same = outcome.text.as_slice() == self.expected.as_slice();
+        assert!(rt; same, "the report of {name}");
+        match &outcome.result {
+            Ok(summary) => {
+                if let Some(damaged) = self.damaged {
+                    assert!(rt; summary.damaged == damaged, "damaged in {name}");
+                    let expected = if damaged == 0 { 0 } else { 1 };
+                    assert!(rt; status(&outcome.result) == expected, "status of {name}");
+                }
+            }
+            Err(_) => assert!(rt; false, "{name} failed"),
+        }
+    }
+
+    /// Replays the row by every plan, map and reader, and compares.
+    fn check(&self, rt: &(impl Threads + Abort), alloc: Global) -> Result<(), Fail> {
+        let Some(request) = &self.request else {
+            return Ok(());
+        };
+        let files = self.files.as_slice();
+        let plan = Plan {
+            until: self.until,
+            ..PLAN
+        };
+        self.expect(rt, &replay::<Radix<Route>>(rt, alloc, files, request, &plan)?);
+        self.expect(rt, &replay::<Flat<Route>>(rt, alloc, files, request, &plan)?);
+        for workers in [1, 64] {
+            let plan = Plan {
+                workers,
+                ring: 1,
+                batch: 1,
+                ..plan
+            };
+            self.expect(rt, &replay::<Radix<Route>>(rt, alloc, files, request, &plan)?);
+        }
+        if self.until.is_none() {
+            self.expect(rt, &replay_slowly(rt, alloc, files, request)?);
+        }
+        Ok(())
+    }
+}
+
+/// The request that a line names.
+fn request_of(line: &str) -> Option<Request> {
+    match line {
+        "tables" => Some(Request::Tables),
+        "visibility" => Some(Request::Visibility),
+        "origins" => Some(Request::Origins),
+        "churn" => Some(Request::Churn),
+        "faults" => Some(Request::Faults),
+        _ => match line.strip_prefix("match ") {
+            Some(address) => read_address(address).map(Request::Match),
+            None => None,
+        },
+    }
+}
+
+/// Runs the rows of a table. A line `row NAME` begins a row, `file RECORDS` adds a file, the name of
+/// a request asks for its report, `> LINE` is a line of it, `damaged N` the number of listed faults,
+/// and `until N` leaves out what came later.
+pub fn run_rows(rt: &(impl Threads + Abort), alloc: Global, table: &str) -> Result<usize, Fail> {
+    let mut row = Row::new(alloc, "");
+    let mut checked = 0usize;
+    for line in table.lines() {
+        if let Some(name) = line.strip_prefix("row ") {
+            row.check(rt, alloc)?;
+            row = Row::new(alloc, name);
+            checked = checked.wrapping_add(1);
+        } else if let Some(words) = line.strip_prefix("file") {
+            row.files.push(dump(alloc, words)?)?;
+        } else if let Some(text) = line.strip_prefix("> ") {
+            row.expected.extend_from_slice(text.as_bytes())?;
+            row.expected.push(b'\n')?;
+        } else if let Some(count) = line.strip_prefix("damaged ") {
+            row.damaged = count.parse::<u64>().ok();
+        } else if let Some(second) = line.strip_prefix("until ") {
+            row.until = second.parse::<u64>().ok();
+        } else if let Some(request) = request_of(line) {
+            row.check(rt, alloc)?;
+            row.request = Some(request);
+            row.expected = Vec::new(alloc);
+            row.damaged = None;
+        } else {
+            assert!(rt; line.is_empty(), "a line that says nothing: {line}");
+        }
+    }
+    row.check(rt, alloc)?;
+    Ok(checked)
+}

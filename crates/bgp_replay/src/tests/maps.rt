@@ -1,0 +1,130 @@
+//! Rows on prefixes and maps, with each map.
+
+use bgp_prefix::{Flat, Prefix, PrefixMap, Radix, RouteKey};
+use std::alloc::Global;
+use std::process::Abort;
+use std::test::Fail;
+
+/// A prefix of dotted numbers.
+fn prefix(octets: [u8; 4], len: u8) -> Result<Prefix, Fail> {
+    Ok(Prefix::new(u32::from_be_bytes(octets), len).ok_or("a length of at most 32")?)
+}
+
+fn key(octets: [u8; 4], len: u8) -> Result<RouteKey, Fail> {
+    Ok(RouteKey {
+        prefix: prefix(octets, len)?,
+        id: 0,
+    })
+}
+
+fn addr(octets: [u8; 4]) -> u32 {
+    u32::from_be_bytes(octets)
+}
+
+#[test]
+fn prefix_relations(rt: HostRuntime) -> Result<(), Fail> {
+    assert!(rt; Prefix::new(0, 33).is_none());
+    let ten = prefix([10, 0, 0, 0], 8)?;
+    let inner = prefix([10, 1, 0, 0], 16)?;
+    assert!(rt; ten.covers(&inner) && ten.covers(&ten) && !inner.covers(&ten));
+    assert!(rt; prefix([0, 0, 0, 0], 0)?.contains(addr([255, 255, 255, 255])));
+    assert!(rt; !ten.contains(addr([11, 0, 0, 0])));
+    let host = prefix([10, 1, 2, 3], 8)?;
+    assert!(rt; host == ten && host.addr() == addr([10, 0, 0, 0]) && host.len() == 8);
+    assert!(rt; ten < inner && prefix([9, 0, 0, 0], 32)? < ten && ten < prefix([10, 0, 0, 0], 9)?);
+    Ok(())
+}
+
+fn basic_calls<M: PrefixMap<u32>>(
+    rt: &impl Abort,
+    alloc: Global,
+    map: &mut M,
+) -> Result<(), Fail> {
+    let ten = key([10, 0, 0, 0], 8)?;
+    let inner = key([10, 1, 0, 0], 16)?;
+    assert!(rt; map.insert(alloc, ten, 1)?.is_none());
+    assert!(rt; map.insert(alloc, ten, 2)? == Some(1));
+    assert!(rt; map.insert(alloc, inner, 3)?.is_none());
+    match map.entries(alloc)?.as_slice() {
+        [(first, two), (second, three)] => {
+            assert!(rt; *first == ten && **two == 2 && *second == inner && **three == 3);
+        }
+        _ => assert!(rt; false, "two entries"),
+    }
+    assert!(rt; map.len() == 2);
+    assert!(rt; map.longest(addr([10, 1, 2, 3])) == Some(inner.prefix));
+    assert!(rt; map.remove(&ten) == Some(2));
+    assert!(rt; map.remove(&ten).is_none());
+    assert!(rt; map.longest(addr([10, 2, 0, 0])).is_none());
+    assert!(rt; map.get(&inner).is_some() && map.get(&ten).is_none());
+    map.clear();
+    assert!(rt; map.len() == 0);
+    Ok(())
+}
+
+fn paths_of_a_prefix<M: PrefixMap<u32>>(
+    rt: &impl Abort,
+    alloc: Global,
+    map: &mut M,
+) -> Result<(), Fail> {
+    let ten = prefix([10, 0, 0, 0], 8)?;
+    let seven = RouteKey { prefix: ten, id: 7 };
+    let plain = RouteKey { prefix: ten, id: 0 };
+    assert!(rt; map.insert(alloc, seven, 70)?.is_none());
+    assert!(rt; map.insert(alloc, plain, 1)?.is_none());
+    match map.paths(alloc, &ten)?.as_slice() {
+        [(first, one), (second, seventy)] => {
+            assert!(rt; *first == 0 && **one == 1 && *second == 7 && **seventy == 70);
+        }
+        _ => assert!(rt; false, "two paths"),
+    }
+    assert!(rt; map.longest(addr([10, 0, 0, 1])) == Some(ten));
+    assert!(rt; map.len() == 2);
+    Ok(())
+}
+
+#[test]
+fn calls_of_each_map(rt: HostRuntime) -> Result<(), Fail> {
+    let alloc = rt.alloc();
+    let mut flat = <Flat<u32> as PrefixMap<u32>>::new(alloc);
+    let mut radix = <Radix<u32> as PrefixMap<u32>>::new(alloc);
+    basic_calls(&rt, alloc, &mut flat)?;
+    basic_calls(&rt, alloc, &mut radix)?;
+    paths_of_a_prefix(&rt, alloc, &mut flat)?;
+    paths_of_a_prefix(&rt, alloc, &mut radix)?;
+    Ok(())
+}
+
+#[test]
+fn all_33_prefixes(rt: HostRuntime) -> Result<(), Fail> {
+    let alloc = rt.alloc();
+    let ones = addr([255, 255, 255, 255]);
+    let mut map = <Radix<u32> as PrefixMap<u32>>::new(alloc);
+    for len in 0..33u8 {
+        let before = PrefixMap::insert(&mut map, alloc, key([255, 255, 255, 255], len)?, 0)?;
+        assert!(rt; before.is_none());
+    }
+    let (longest, steps) = map.longest_steps(ones);
+    assert!(rt; longest == Some(prefix([255, 255, 255, 255], 32)?) && steps == 33);
+    assert!(rt; PrefixMap::len(&map) == 33);
+    let host = key([255, 255, 255, 255], 32)?;
+    assert!(rt; PrefixMap::remove(&mut map, &host).is_some());
+    assert!(rt; PrefixMap::longest(&map, ones) == Some(prefix([255, 255, 255, 255], 31)?));
+    Ok(())
+}
+
+#[test]
+fn fork_goes_with_its_branch(rt: HostRuntime) -> Result<(), Fail> {
+    let alloc = rt.alloc();
+    let mut map = <Radix<u32> as PrefixMap<u32>>::new(alloc);
+    let low = key([10, 0, 0, 0], 16)?;
+    let high = key([10, 1, 0, 0], 16)?;
+    let _ = PrefixMap::insert(&mut map, alloc, low, 1)?;
+    let _ = PrefixMap::insert(&mut map, alloc, high, 2)?;
+    assert!(rt; PrefixMap::remove(&mut map, &low) == Some(1));
+    assert!(rt; PrefixMap::longest(&map, addr([10, 0, 0, 1])).is_none());
+    assert!(rt; PrefixMap::longest(&map, addr([10, 1, 0, 1])) == Some(high.prefix));
+    assert!(rt; PrefixMap::remove(&mut map, &high) == Some(2));
+    assert!(rt; PrefixMap::entries(&map, alloc)?.is_empty());
+    Ok(())
+}

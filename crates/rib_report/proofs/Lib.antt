@@ -1,0 +1,10 @@
+pub mod TextLaws
+pub mod JoinLaws
+pub mod CollectLaws
+pub mod RowLaws
+pub mod RunLaws
+pub mod SortedRuns
+pub mod StableSort
+pub mod ListedLaws
+pub mod SeenLaws
+pub mod OriginLaws

@@ -1,0 +1,104 @@
+-- What the calls of a buffer do to the text.
+use Rattle.std.proofs.Common.{◌≡◌, ℕ, inl, inr, true, false, List, [], ◌++◌, Option, refl, sym, ap, ◌∙◌, subst, append_assoc, append-nil, arith, length, take, drop, take-append-drop, length-append}
+use Rattle.std.proofs.lemmas.Bool.{cases_lt, false≢true}
+use Rattle.std.proofs.lemmas.List.{take_at}
+use Rattle.std.specs.Io.KnownBytes.{Appends}
+use Rattle.std.proofs.KnownBytes.{Appends-trans, Appends-nil}
+use Rattle.mrt_frame.specs.Devices.{HasFailed, one_more, greatest_count}
+use Rattle.mrt_frame.specs.Writes.{WritesFront}
+use Rattle.rib_report.specs.Texts.{TextState, empty_buffer, IsText, IsWritten, IsCutOff, Adds}
+
+pub Adds_trans : {s t u : TextState} {p q : List ℕ} → Adds s t p → Adds t u q → Adds s u (p ++ q)
+Adds_trans {p = p} {q = q} f g = record { adds = λ contents failures text h. subst (IsText contents failures _) (append_assoc text p q) (g.adds contents failures (text ++ p) (f.adds contents failures text h)) }
+
+-- the same text, written another way
+pub Adds_as : {s t : TextState} {p q : List ℕ} → p ≡ q → Adds s t p → Adds s t q
+Adds_as {s = s} {t = t} e f = subst (Adds s t) e f
+
+-- a piece joined to those that wait
+pub Adds_grown : {s t : TextState} {p : List ℕ} → t.contents ≡ s.contents → t.failures ≡ s.failures → t.buffer.waiting ≡ s.buffer.waiting ++ p → t.buffer.failed ≡ s.buffer.failed → Adds s t p
+Adds_grown {s = s} {t = t} {p = p} same count more failed = record {
+  adds = λ contents failures text h. record {
+    front = h.front;
+    rest = h.rest ++ p;
+    held = subst (λ c. Appends contents c h.front) (sym same) h.held;
+    whole = ap (λ l. l ++ p) h.whole ∙ append_assoc h.front h.rest p;
+    waits = λ e. ap (λ l. l ++ p) (h.waits (sym failed ∙ e)) ∙ sym more;
+    sound = λ e. count ∙ h.sound (sym failed ∙ e);
+    risen = λ e. subst (HasFailed failures) (sym count) (h.risen (sym failed ∙ e));
+  };
+}
+
+-- all that waited was written
+pub Adds_handed : {s t : TextState} → s.buffer.failed ≡ false → Appends s.contents t.contents s.buffer.waiting → t.failures ≡ s.failures → t.buffer.waiting ≡ [] → t.buffer.failed ≡ false → Adds s t []
+Adds_handed {s = s} {t = t} well held count none still = record {
+  adds = λ contents failures text h. record {
+    front = h.front ++ s.buffer.waiting;
+    rest = [];
+    held = Appends-trans _ _ _ h.front s.buffer.waiting h.held held;
+    whole = append-nil text ∙ h.whole ∙ ap (λ l. h.front ++ l) (h.waits well) ∙ sym (append-nil (h.front ++ s.buffer.waiting));
+    waits = λ e. sym none;
+    sound = λ e. count ∙ h.sound well;
+    risen = λ e. cc;
+  };
+}
+
+risen-one_more : (old new : ℕ) → new ≡ one_more old → HasFailed old new
+risen-one_more old new e = elim (cases_lt old greatest_count) [ inl lt ↦ inl (omega (arith, e)) | inr le ↦ inr le ]
+
+-- the write of what waited failed
+pub Adds_lost : {s t : TextState} → s.buffer.failed ≡ false → WritesFront s.contents t.contents s.buffer.waiting → t.failures ≡ one_more s.failures → t.buffer.failed ≡ true → Adds s t []
+Adds_lost {s = s} {t = t} well front count lost = record {
+  adds = λ contents failures text h. record {
+    front = h.front ++ take front.0 s.buffer.waiting;
+    rest = drop front.0 s.buffer.waiting;
+    held = Appends-trans _ _ _ h.front (take front.0 s.buffer.waiting) h.held front.2;
+    whole = append-nil text ∙ h.whole ∙ ap (λ l. h.front ++ l) (h.waits well ∙ sym (take-append-drop front.0 s.buffer.waiting)) ∙ sym (append_assoc h.front (take front.0 s.buffer.waiting) (drop front.0 s.buffer.waiting));
+    waits = λ e. cc;
+    sound = λ e. cc;
+    risen = λ e. subst (λ n. HasFailed n t.failures) (h.sound well) (risen-one_more s.failures t.failures count);
+  };
+}
+
+-- after a failure what waits is dropped
+pub Adds_dropped : {s t : TextState} {p : List ℕ} → s.buffer.failed ≡ true → t.contents ≡ s.contents → t.failures ≡ s.failures → t.buffer.failed ≡ true → Adds s t p
+Adds_dropped {s = s} {t = t} {p = p} lost same count still = record {
+  adds = λ contents failures text h. record {
+    front = h.front;
+    rest = h.rest ++ p;
+    held = subst (λ c. Appends contents c h.front) (sym same) h.held;
+    whole = ap (λ l. l ++ p) h.whole ∙ append_assoc h.front h.rest p;
+    waits = λ e. cc;
+    sound = λ e. cc;
+    risen = λ e. subst (HasFailed failures) (sym count) (h.risen lost);
+  };
+}
+
+pub written_whole : {s t : TextState} (contents : Option (List ℕ)) (failures : ℕ) (text : List ℕ) → Adds s t [] → t.buffer.waiting ≡ [] → t.buffer.failed ≡ false → IsText contents failures s text
+    → IsWritten contents failures t.contents t.failures text
+written_whole {s = s} {t = t} contents failures text f none well h =
+    let k = f.adds contents failures text h in
+    record {
+      held = subst (Appends contents t.contents) (sym (sym (append-nil text) ∙ k.whole ∙ ap (λ l. k.front ++ l) (k.waits well ∙ none) ∙ append-nil k.front)) k.held;
+      sound = k.sound well;
+    }
+
+pub written_in_part : {s t : TextState} (contents : Option (List ℕ)) (failures : ℕ) (text : List ℕ) → Adds s t [] → t.buffer.failed ≡ true → IsText contents failures s text
+    → IsCutOff contents failures t.contents t.failures text
+written_in_part contents failures text f lost h =
+    let k = f.adds contents failures text h in
+    let whole : text ≡ k.front ++ k.rest = sym (append-nil text) ∙ k.whole in
+    let front : k.front ≡ take (length k.front) text = sym (take_at k.front k.rest (length k.front) refl) ∙ ap (take (length k.front)) (sym whole) in
+    record { held = (length k.front, omega (arith, ap length whole, length-append k.front k.rest), subst (Appends contents _) front k.held); risen = k.risen lost }
+
+-- what a fresh buffer was given
+pub text_begun : {s t : TextState} {p : List ℕ} → s.buffer ≡ empty_buffer → Adds s t p → IsText s.contents s.failures t p
+text_begun {s = s} fresh f = f.adds s.contents s.failures [] (record {
+  front = [];
+  rest = [];
+  held = Appends-nil s.contents;
+  whole = refl;
+  waits = λ _. sym (ap (λ b. b.waiting) fresh);
+  sound = λ _. refl;
+  risen = λ e. absurd (false≢true (sym (ap (λ b. b.failed) fresh) ∙ e));
+})

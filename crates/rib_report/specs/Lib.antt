@@ -1,0 +1,10 @@
+pub mod Texts
+pub mod Digits
+pub mod Peers
+pub mod Tables
+pub mod Seats
+pub mod Gathers
+pub mod Runs
+pub mod Rows
+pub mod Reports
+pub mod Lines

@@ -1,0 +1,125 @@
+-- The lines of the reports.
+use Rattle.std.specs.Prelude.{ℕ, zero, suc, ◌+◌, Bool, List, [], ◌∷◌, ◌++◌, map, codes, decimal, if◌then◌else◌}
+use Rattle.std.specs.List.{join_with_byte}
+use Rattle.rib_report.specs.Digits.{line, field, time_text, ipv4_text, ipv6_text, numbers_text}
+use Rattle.bgp_prefix.specs.Prefixes.{IpPrefix}
+use Rattle.bgp_prefix.specs.declared.key.RouteKey.{RouteKey}
+use Rattle.mrt_frame.specs.declared.fault.Fault.{Fault}
+use Rattle.mrt_frame.specs.declared.fault.Fault.TheVariants.{ShortHeader, ShortBody, BodyTooLong, ShortRecord, TrailingBytes, BadFamily, NoPeerIndex, BadPeerIndex, BadPrefix, BadMarker, BadLength, BadUpdate, ShortAttribute, BadAttribute, BadPath}
+use Rattle.bgp_update.specs.declared.path.SegmentKind.{SegmentKind}
+use Rattle.bgp_update.specs.declared.path.SegmentKind.TheVariants.{AsSet, AsSequence, ConfedSequence, ConfedSet}
+use Rattle.bgp_update.specs.declared.next_hop.NextHop.{NextHop}
+use Rattle.bgp_update.specs.declared.next_hop.NextHop.TheVariants as next_hop
+use Rattle.bgp_update.specs.declared.route.Origin.{Origin}
+use Rattle.bgp_update.specs.declared.route.Origin.TheVariants.{Igp, Egp, Incomplete}
+use Rattle.bgp_update.specs.declared.route.Aggregator.{Aggregator}
+use Rattle.bgp_update.specs.Paths.{PathSegment}
+use Rattle.mrt_body.specs.declared.unit.PeerAddr.{PeerAddr}
+use Rattle.mrt_body.specs.declared.unit.PeerAddr.TheVariants.{V4, V6}
+use Rattle.mrt_body.specs.declared.unit.PeerKey.{PeerKey}
+use Rattle.mrt_body.specs.declared.unit.Damage.{Damage}
+use Rattle.rib_report.specs.Rows.{RouteRow, VisibilityRow, PrefixOrigins, PeerChurn}
+
+-- ---- peers and routes
+
+abbrev pub addr_text : PeerAddr → List ℕ
+addr_text (V4 addr) = ipv4_text addr
+addr_text (V6 addr) = ipv6_text addr
+
+-- an AS and an address
+abbrev pub peer_text : PeerKey → List ℕ
+peer_text peer = decimal peer.asn ++ 32 ∷ addr_text peer.addr
+
+abbrev pub prefix_text : IpPrefix → List ℕ
+prefix_text p = ipv4_text p.addr ++ 47 ∷ decimal p.len
+
+-- nothing for identifier 0, which stands for none (RFC 7911, 3)
+abbrev pub identifier_text : ℕ → List ℕ
+identifier_text zero = []
+identifier_text (suc id) = 35 ∷ decimal (suc id)
+
+abbrev pub key_text : RouteKey → List ℕ
+key_text key = prefix_text key.prefix ++ identifier_text key.id
+
+-- a sequence plain, a set in braces, of a confederation in parentheses and brackets
+abbrev pub kind_text : SegmentKind → List ℕ → List ℕ
+kind_text AsSequence numbers = numbers_text 32 numbers
+kind_text AsSet numbers = 123 ∷ numbers_text 44 numbers ++ 125 ∷ []
+kind_text ConfedSequence numbers = 40 ∷ numbers_text 32 numbers ++ 41 ∷ []
+kind_text ConfedSet numbers = 91 ∷ numbers_text 44 numbers ++ 93 ∷ []
+
+abbrev pub path_text : List PathSegment → List ℕ
+path_text path = join_with_byte 32 (map (λ s. kind_text s.kind s.numbers) path)
+
+-- one address, or a global and a link-local one (RFC 2545, 3; RFC 8950, 3)
+abbrev pub next_hop_text : NextHop → List ℕ
+next_hop_text (next_hop.V4 addr) = ipv4_text addr
+next_hop_text (next_hop.V6 addr) = ipv6_text addr
+next_hop_text (next_hop.V6Pair global local) = ipv6_text global ++ 32 ∷ ipv6_text local
+
+abbrev pub origin_text : Origin → List ℕ
+origin_text Igp = codes "IGP"
+origin_text Egp = codes "EGP"
+origin_text Incomplete = codes "INCOMPLETE"
+
+abbrev pub aggregator_text : Aggregator → List ℕ
+aggregator_text a = decimal a.asn ++ 32 ∷ ipv4_text a.addr
+
+abbrev pub atomic_text : Bool → List ℕ
+atomic_text atomic = if atomic then codes "atomic" else codes "-"
+
+-- peer, key, path, next hop, origin, MED, LOCAL_PREF, atomic, aggregator
+abbrev pub route_line : RouteRow → List ℕ
+route_line row = line (peer_text row.peer ∷ key_text row.key ∷ field path_text row.route.path ∷ field next_hop_text row.route.next_hop ∷ field origin_text row.route.origin
+    ∷ field decimal row.route.med ∷ field decimal row.route.local_pref ∷ atomic_text row.route.atomic ∷ field aggregator_text row.route.aggregator ∷ [])
+
+abbrev pub visibility_line : VisibilityRow → List ℕ
+visibility_line row = line (prefix_text row.prefix ∷ decimal row.peers ∷ [])
+
+abbrev pub origin_line : PrefixOrigins → List ℕ
+origin_line row = line (prefix_text row.prefix ∷ numbers_text 32 row.origins ∷ [])
+
+-- peer, new, changed, same, gone, void, resets, idle, refused, first and last time
+abbrev pub churn_line : PeerChurn → List ℕ
+churn_line row = line (peer_text row.peer ∷ decimal row.churn.added ∷ decimal row.churn.changed ∷ decimal row.churn.same ∷ decimal row.churn.gone ∷ decimal row.churn.void
+    ∷ decimal row.churn.resets ∷ decimal row.churn.idle ∷ decimal row.churn.refused ∷ field time_text row.churn.first ∷ field time_text row.churn.last ∷ [])
+
+-- ---- faults
+
+abbrev pub fault_number : Fault → ℕ
+fault_number ShortHeader = 1
+fault_number ShortBody = 2
+fault_number BodyTooLong = 3
+fault_number ShortRecord = 4
+fault_number TrailingBytes = 5
+fault_number BadFamily = 6
+fault_number NoPeerIndex = 7
+fault_number BadPeerIndex = 8
+fault_number BadPrefix = 9
+fault_number BadMarker = 10
+fault_number BadLength = 11
+fault_number BadUpdate = 12
+fault_number ShortAttribute = 13
+fault_number (BadAttribute code) = 14
+fault_number BadPath = 15
+
+abbrev pub fault_name : Fault → List ℕ
+fault_name ShortHeader = codes "ShortHeader"
+fault_name ShortBody = codes "ShortBody"
+fault_name BodyTooLong = codes "BodyTooLong"
+fault_name ShortRecord = codes "ShortRecord"
+fault_name TrailingBytes = codes "TrailingBytes"
+fault_name BadFamily = codes "BadFamily"
+fault_name NoPeerIndex = codes "NoPeerIndex"
+fault_name BadPeerIndex = codes "BadPeerIndex"
+fault_name BadPrefix = codes "BadPrefix"
+fault_name BadMarker = codes "BadMarker"
+fault_name BadLength = codes "BadLength"
+fault_name BadUpdate = codes "BadUpdate"
+fault_name ShortAttribute = codes "ShortAttribute"
+fault_name (BadAttribute code) = codes "BadAttribute(" ++ decimal code ++ codes ")"
+fault_name BadPath = codes "BadPath"
+
+-- file from 1, offset, entry, number and name
+abbrev pub fault_line : Damage → List ℕ
+fault_line d = line (decimal (d.place.file + 1) ∷ decimal d.place.offset ∷ field decimal d.place.entry ∷ decimal (fault_number d.fault) ∷ fault_name d.fault ∷ [])

@@ -1,0 +1,135 @@
+-- Reports over the tables of all peers.
+use Rattle.std.specs.Prelude.{◌≡◌, ℕ, IsTrue, Bool, not, ◌&&◌, ◌||◌, List, [], ◌∷◌, ◌++◌, length, map, Option, Some, None, IfSome, IfNone, nat_le, if◌then◌else◌}
+use Rattle.std.specs.List.{flat_map, filter, filter_map, count_by, list_any, list_all}
+use Rattle.std.specs.Option.{option_and_then, option_map, option_cmp}
+use Rattle.std.specs.declared.cmp.Ordering.{Ordering}
+use Rattle.std.specs.Ordering.{nat_cmp, ordering_then, is_lt}
+use Rattle.std.specs.FinMap.{is_sorted}
+use Rattle.bgp_prefix.specs.Prefixes.{IpPrefix, prefix_cmp, prefix_eq, contains}
+use Rattle.bgp_prefix.specs.Keys.{key_cmp}
+use Rattle.bgp_prefix.specs.Ordered.{in_order}
+use Rattle.bgp_prefix.specs.declared.key.RouteKey.{RouteKey}
+use Rattle.bgp_update.specs.declared.route.Route.{Route}
+use Rattle.bgp_update.specs.Paths.{origin_as_of}
+use Rattle.mrt_body.specs.declared.unit.PeerKey.{PeerKey}
+use Rattle.mrt_body.specs.declared.unit.Place.{Place}
+use Rattle.mrt_body.specs.declared.unit.Damage.{Damage}
+use Rattle.rib_report.specs.Tables.{Seat, TablesState, all_faults}
+use Rattle.rib_report.specs.Rows.{RouteRow, VisibilityRow, PrefixOrigins, PeerChurn}
+
+-- ---- entries
+
+abbrev pub entry_row : PeerKey → RouteKey × Route → RouteRow
+entry_row peer e = record { peer = peer; key = e.0; route = e.1 }
+
+-- every entry of a peer's table, keys in order
+abbrev pub rows_of_seat : Seat → List RouteRow
+rows_of_seat seat = map (entry_row seat.key) seat.session.table
+
+-- every entry of every table: peers by number, keys in order
+abbrev pub route_rows : TablesState → List RouteRow
+route_rows tables = flat_map rows_of_seat tables.seats
+
+-- ---- longest match
+
+-- the prefix of the entry contains the address
+abbrev pub matches_entry : ℕ → RouteKey × Route → Bool
+matches_entry addr e = contains e.0.prefix addr
+
+-- it contains the address, and no longer prefix in the table does
+abbrev pub is_longest : ℕ → List (RouteKey × Route) → RouteKey × Route → Bool
+is_longest addr table e = matches_entry addr e && list_all (λ f. not (matches_entry addr f) || nat_le f.0.prefix.len e.0.prefix.len) table
+
+-- all entries of the longest match in a peer's table (RFC 1812, 5.2.4.3)
+abbrev pub matches_of_seat : ℕ → Seat → List RouteRow
+matches_of_seat addr seat = map (entry_row seat.key) (filter (is_longest addr seat.session.table) seat.session.table)
+
+abbrev pub match_rows : TablesState → ℕ → List RouteRow
+match_rows tables addr = flat_map (matches_of_seat addr) tables.seats
+
+-- ---- visibility
+
+-- its keys strictly rise
+abbrev pub HasOrder : Seat → Type 0
+HasOrder seat = IsTrue (is_sorted key_cmp seat.session.table)
+
+-- the prefix of each entry of a peer's table, once for each identifier
+abbrev pub seat_prefixes : Seat → List IpPrefix
+seat_prefixes seat = map (λ e. e.0.prefix) seat.session.table
+
+-- the prefixes of all tables, one table after another
+abbrev pub table_prefixes : TablesState → List IpPrefix
+table_prefixes tables = flat_map seat_prefixes tables.seats
+
+-- every prefix of any table, each once, in order
+abbrev pub prefixes_in_tables : TablesState → List IpPrefix
+prefixes_in_tables tables = in_order prefix_cmp (table_prefixes tables)
+
+-- a key of the peer's table has this prefix
+abbrev pub is_visible_at : IpPrefix → Seat → Bool
+is_visible_at p seat = list_any (prefix_eq p) (seat_prefixes seat)
+
+-- at how many peers a prefix is visible
+abbrev pub visibility_of : TablesState → IpPrefix → ℕ
+visibility_of tables p = count_by (is_visible_at p) tables.seats
+
+abbrev pub visibility_rows : TablesState → List VisibilityRow
+visibility_rows tables = map (λ p. record { prefix = p; peers = visibility_of tables p }) (prefixes_in_tables tables)
+
+-- ---- origins
+
+-- the origin AS of a route, where it has one (RFC 6811, section 2)
+abbrev pub route_origin : Route → Option ℕ
+route_origin route = option_and_then origin_as_of route.path
+
+abbrev pub origin_pair : RouteKey × Route → Option (IpPrefix × ℕ)
+origin_pair e = option_map (λ origin. (e.0.prefix, origin)) (route_origin e.1)
+
+-- the prefix and the origin AS of each route that has one
+abbrev pub seat_origins : Seat → List (IpPrefix × ℕ)
+seat_origins seat = filter_map origin_pair seat.session.table
+
+abbrev pub table_origins : TablesState → List (IpPrefix × ℕ)
+table_origins tables = flat_map seat_origins tables.seats
+
+-- the set of the origin ASes of a prefix's routes, ascending
+abbrev pub origins_among : List (IpPrefix × ℕ) → IpPrefix → PrefixOrigins
+origins_among pairs p = record { prefix = p; origins = in_order nat_cmp (map (λ e. e.1) (filter (λ e. prefix_eq p e.0) pairs)) }
+
+abbrev pub has_several : PrefixOrigins → Bool
+has_several row = nat_le 2 (length row.origins)
+
+-- each prefix that has an origin AS, in order
+abbrev pub grouped_origins : List (IpPrefix × ℕ) → List PrefixOrigins
+grouped_origins pairs = map (origins_among pairs) (in_order prefix_cmp (map (λ e. e.0) pairs))
+
+-- the prefixes with at least two different origins
+abbrev pub origin_rows : TablesState → List PrefixOrigins
+origin_rows tables = filter has_several (grouped_origins (table_origins tables))
+
+-- ---- churn
+
+abbrev pub peer_churn : Seat → PeerChurn
+peer_churn seat = record { peer = seat.key; churn = seat.session.churn }
+
+abbrev pub churn_rows : TablesState → List PeerChurn
+churn_rows tables = map peer_churn tables.seats
+
+-- ---- faults
+
+-- by file, offset and entry, none first
+abbrev pub place_cmp : Place → Place → Ordering
+place_cmp a b = ordering_then (nat_cmp a.file b.file) (ordering_then (nat_cmp a.offset b.offset) (option_cmp nat_cmp a.entry b.entry))
+
+-- behind those that stand earlier
+abbrev pub placed : Damage → List Damage → List Damage
+placed d [] = d ∷ []
+placed d (e ∷ es) = if is_lt (place_cmp e.place d.place) then e ∷ placed d es else d ∷ e ∷ es
+
+-- in place order; those of one place as they stood
+abbrev pub in_place_order : List Damage → List Damage
+in_place_order [] = []
+in_place_order (d ∷ ds) = placed d (in_place_order ds)
+
+abbrev pub fault_rows : TablesState → List Damage
+fault_rows tables = in_place_order (all_faults tables)

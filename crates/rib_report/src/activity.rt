@@ -1,0 +1,28 @@
+//! What each peer's units did.
+
+ghost use Rattle.std.specs.Prelude.{◌≡◌, IfOk, map};
+ghost use Rattle.rib_report.specs.Rows.{churn_row};
+ghost use Rattle.rib_report.specs.Reports.{churn_rows};
+
+use crate::row::ChurnRow;
+use crate::tables::Tables;
+use bgp_prefix::{Memory, PrefixMap};
+use bgp_update::Route;
+use std::alloc::Global;
+
+/// The churn of each peer, by number.
+pub fn churn<M: PrefixMap<Route>>(
+    alloc: Global,
+    tables: &Tables<M>,
+) -> Result<Vec<ChurnRow>, Memory>
+    ensures { IfOk result (λ rows. map churn_row rows.items ≡ churn_rows tables.now) }
+{
+    let mut rows = Vec::new(alloc);
+    for seat in tables.seats() {
+        rows.push(ChurnRow {
+            peer: seat.key,
+            churn: seat.session.churn(),
+        })?;
+    }
+    Ok(rows)
+}

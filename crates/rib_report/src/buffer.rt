@@ -1,0 +1,101 @@
+//! Text on its way to a writer, through a fixed buffer.
+
+ghost use Rattle.std.specs.Prelude.{◌≡◌, ℕ, ◌+◌, ◌≤◌, ◌++◌, [], ◌∷◌, List, Option, OnOk, OnErr, length};
+ghost use Rattle.rib_report.specs.Texts.{BufferState, empty_buffer, text_state, IsText, IsWritten, IsCutOff, Writes};
+
+use mrt_frame::{Failed, Sink, write_full};
+use std::marker::Model;
+
+/// How many bytes wait at most: the size of the writes.
+const CAPACITY: usize = 65536;
+
+/// Text that waits for a writer. After a failed write the rest is dropped.
+#[derive(Drop)]
+pub(crate) struct TextBuffer {
+    bytes: [u8; CAPACITY],
+    len: usize,
+    failed: bool,
+}
+
+impl Model for TextBuffer {
+    ghost use Rattle.std.specs.Prelude.{◌≤◌, take};
+    ghost use Rattle.rib_report.specs.Texts.{BufferState};
+
+    ghost Value = { BufferState };
+
+    ghost view = { λ b. record { waiting = take b.len b.bytes; failed = b.failed } };
+
+    ghost invariant = { λ b. b.len ≤ 65536 };
+}
+
+impl TextBuffer {
+    /// An empty buffer, before any write.
+    pub(crate) fn new() -> TextBuffer
+        ensures { result ≡ empty_buffer }
+    {
+        TextBuffer {
+            bytes: [0; CAPACITY],
+            len: 0,
+            failed: false,
+        }
+    }
+
+    /// Copies the bytes behind those that wait.
+    fn append(&mut self, bytes: &[u8])
+        requires { length self.old.waiting + length bytes.now ≤ 65536 }
+        ensures waiting { self.new.waiting ≡ self.old.waiting ++ bytes.now }
+        ensures failed { self.new.failed ≡ self.old.failed }
+    {
+        let end = self.len + bytes.len();
+        self.bytes[self.len..end].copy_from_slice(bytes);
+        self.len = end;
+    }
+
+    /// How many bytes may still wait.
+    fn room(&self) -> usize
+        ensures { result + length self.now.waiting ≡ 65536 }
+    {
+        CAPACITY - self.len
+    }
+
+    /// Hands on all that waits.
+    #[tactic(auto, using(crate::proofs::TextLaws::Adds_dropped, crate::proofs::TextLaws::Adds_handed, crate::proofs::TextLaws::Adds_lost))]
+    fn hand_on<W: Sink>(&mut self, out: &mut W)
+        ensures writes { Writes W.contents W.failure_count out.old self.old out.new self.new [] }
+        ensures empty { self.new.waiting ≡ [] }
+    {
+        let len = self.len;
+        self.len = 0;
+        if self.failed {
+            return;
+        }
+        match write_full(out, &self.bytes[..len]) {
+            Ok(()) => {}
+            Err(Failed) => self.failed = true,
+        }
+    }
+
+    /// Adds a short text.
+    #[tactic(auto, using(crate::proofs::TextLaws::Adds_trans, crate::proofs::TextLaws::Adds_grown))]
+    pub(crate) fn put<W: Sink>(&mut self, out: &mut W, bytes: &[u8])
+        requires { length bytes.now ≤ 65536 }
+        ensures { Writes W.contents W.failure_count out.old self.old out.new self.new bytes.now }
+    {
+        if bytes.len() > self.room() {
+            self.hand_on(out);
+        }
+        self.append(bytes);
+    }
+
+    /// Hands on all that waits, and tells whether a write failed.
+    pub(crate) fn finish<W: Sink>(&mut self, out: &mut W) -> Result<(), Failed>
+        ensures ok { (contents : Option (List ℕ)) (failures : ℕ) (text : List ℕ) → IsText contents failures (text_state W.contents W.failure_count out.old self.old) text → OnOk result (IsWritten contents failures (W.contents out.new) (W.failure_count out.new) text) }
+        ensures err { (contents : Option (List ℕ)) (failures : ℕ) (text : List ℕ) → IsText contents failures (text_state W.contents W.failure_count out.old self.old) text → OnErr result (IsCutOff contents failures (W.contents out.new) (W.failure_count out.new) text) }
+    {
+        self.hand_on(out);
+        if self.failed {
+            return Err(Failed);
+        }
+        Ok(())
+    }
+}

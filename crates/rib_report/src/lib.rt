@@ -1,0 +1,26 @@
+//! Reports over the tables of all peers, and their lines.
+#![tactic(auto)]
+
+mod activity;
+mod buffer;
+mod entries;
+mod fields;
+mod line;
+mod listed;
+mod matching;
+mod numbers;
+mod origin;
+mod row;
+mod seen;
+mod tables;
+mod write;
+
+pub use activity::churn;
+pub use entries::{seat_rows, table_rows};
+pub use listed::faults;
+pub use matching::matches;
+pub use origin::origins;
+pub use row::{ChurnRow, OriginRow, SeenRow, TableRow};
+pub use seen::visibility;
+pub use tables::{Gathered, Seated, Tables, collect};
+pub use write::{write_churn, write_faults, write_origins, write_rows, write_visibility};

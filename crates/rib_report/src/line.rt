@@ -1,0 +1,121 @@
+//! The lines of the reports.
+
+ghost use Rattle.std.specs.Prelude.{◌≡◌, ℕ, [], ◌∷◌, ◌++◌, List};
+ghost use Rattle.rib_report.specs.Texts.{Writes};
+ghost use Rattle.rib_report.specs.Rows.{route_row, seen_row, origin_row, churn_row};
+ghost use Rattle.rib_report.specs.Lines.{route_line, visibility_line, origin_line, churn_line, fault_line};
+
+use crate::buffer::TextBuffer;
+use crate::fields::{
+    put_aggregator, put_atomic, put_entry, put_fault, put_fault_number, put_file, put_key,
+    put_next_hop, put_optional_number, put_optional_time, put_origin, put_path, put_peer,
+    put_prefix,
+};
+use crate::row::{ChurnRow, OriginRow, SeenRow, TableRow};
+use mrt_body::Damage;
+use mrt_frame::Sink;
+
+/// What one line of a report tells.
+pub(crate) trait Line {
+    /// The line, its end with it.
+    ghost line: { Self → List ℕ };
+
+    /// Adds the line.
+    fn put<W: Sink>(&self, text: &mut TextBuffer, out: &mut W)
+        ensures { Writes W.contents W.failure_count out.old text.old out.new text.new (line self.now) };
+}
+
+impl Line for TableRow<'_> {
+    ghost line = { λ row. route_line (route_row row) };
+
+    fn put<W: Sink>(&self, text: &mut TextBuffer, out: &mut W) {
+        let route = self.route;
+        put_peer(text, out, &self.peer);
+        text.put_byte(out, b'|');
+        put_key(text, out, &self.key);
+        text.put_byte(out, b'|');
+        put_path(text, out, &route.path);
+        text.put_byte(out, b'|');
+        put_next_hop(text, out, route.next_hop);
+        text.put_byte(out, b'|');
+        put_origin(text, out, route.origin);
+        text.put_byte(out, b'|');
+        put_optional_number(text, out, route.med);
+        text.put_byte(out, b'|');
+        put_optional_number(text, out, route.local_pref);
+        text.put_byte(out, b'|');
+        put_atomic(text, out, route.atomic);
+        text.put_byte(out, b'|');
+        put_aggregator(text, out, route.aggregator);
+        text.put_byte(out, b'\n');
+    }
+}
+
+impl Line for SeenRow {
+    ghost line = { λ row. visibility_line (seen_row row) };
+
+    fn put<W: Sink>(&self, text: &mut TextBuffer, out: &mut W) {
+        put_prefix(text, out, &self.prefix);
+        text.put_byte(out, b'|');
+        text.put_number(out, self.peers as u64);
+        text.put_byte(out, b'\n');
+    }
+}
+
+impl Line for OriginRow {
+    ghost line = { λ row. origin_line (origin_row row) };
+
+    fn put<W: Sink>(&self, text: &mut TextBuffer, out: &mut W) {
+        put_prefix(text, out, &self.prefix);
+        text.put_byte(out, b'|');
+        text.put_numbers(out, b' ', self.origins.as_slice());
+        text.put_byte(out, b'\n');
+    }
+}
+
+impl Line for ChurnRow {
+    ghost line = { λ row. churn_line (churn_row row) };
+
+    fn put<W: Sink>(&self, text: &mut TextBuffer, out: &mut W) {
+        let churn = self.churn;
+        put_peer(text, out, &self.peer);
+        text.put_byte(out, b'|');
+        text.put_number(out, churn.added);
+        text.put_byte(out, b'|');
+        text.put_number(out, churn.changed);
+        text.put_byte(out, b'|');
+        text.put_number(out, churn.same);
+        text.put_byte(out, b'|');
+        text.put_number(out, churn.gone);
+        text.put_byte(out, b'|');
+        text.put_number(out, churn.void);
+        text.put_byte(out, b'|');
+        text.put_number(out, churn.resets);
+        text.put_byte(out, b'|');
+        text.put_number(out, churn.idle);
+        text.put_byte(out, b'|');
+        text.put_number(out, churn.refused);
+        text.put_byte(out, b'|');
+        put_optional_time(text, out, churn.first);
+        text.put_byte(out, b'|');
+        put_optional_time(text, out, churn.last);
+        text.put_byte(out, b'\n');
+    }
+}
+
+impl Line for Damage {
+    ghost line = { fault_line };
+
+    fn put<W: Sink>(&self, text: &mut TextBuffer, out: &mut W) {
+        put_file(text, out, self.place.file);
+        text.put_byte(out, b'|');
+        text.put_number(out, self.place.offset);
+        text.put_byte(out, b'|');
+        put_entry(text, out, self.place.entry);
+        text.put_byte(out, b'|');
+        put_fault_number(text, out, self.fault);
+        text.put_byte(out, b'|');
+        put_fault(text, out, self.fault);
+        text.put_byte(out, b'\n');
+    }
+}

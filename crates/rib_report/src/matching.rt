@@ -1,0 +1,59 @@
+//! The longest match of an address at each peer.
+
+ghost use Rattle.std.specs.Prelude.{◌≡◌, ◌++◌, IfOk, OnOk, map};
+ghost use Rattle.std.specs.FinMap as finite;
+ghost use Rattle.bgp_prefix.specs.Maps.{paths_of};
+ghost use Rattle.rib_report.specs.Rows.{route_row};
+ghost use Rattle.rib_report.specs.Seats.{seat_of};
+
+use crate::row::TableRow;
+use crate::tables::{Seated, Tables};
+use bgp_prefix::{Memory, Prefix, PrefixMap, RouteKey};
+use bgp_update::Route;
+use std::alloc::Global;
+
+/// Adds the entries of a prefix in one peer's table.
+fn add_paths<'a, M: PrefixMap<Route>>(
+    alloc: Global,
+    rows: &mut Vec<TableRow<'a>>,
+    seat: &'a Seated<M>,
+    prefix: Prefix,
+) -> Result<(), Memory> {
+    let peer = seat.key;
+    let paths = seat.session.table().paths(alloc, &prefix)?;
+    for path in paths.as_slice() {
+        let (id, route) = *path;
+        let key = RouteKey { prefix, id };
+        let Ok(()) = rows.push(TableRow { peer, key, route }) else {
+            return Err(Memory);
+        };
+    }
+    Ok(())
+}
+
+/// Adds the entries of the longest match in one peer's table, where there is one.
+fn add_matches<'a, M: PrefixMap<Route>>(
+    alloc: Global,
+    rows: &mut Vec<TableRow<'a>>,
+    seat: &'a Seated<M>,
+    addr: u32,
+) -> Result<(), Memory> {
+    match seat.session.table().longest(addr) {
+        Some(prefix) => add_paths(alloc, rows, seat, prefix),
+        None => Ok(()),
+    }
+}
+
+/// For each peer, by number, all entries of the longest prefix that contains the address, by identifier
+/// (RFC 1812, 5.2.4.3). A peer with no such prefix has none.
+pub fn matches<M: PrefixMap<Route>>(
+    alloc: Global,
+    tables: &Tables<M>,
+    addr: u32,
+) -> Result<Vec<TableRow<'_>>, Memory> {
+    let mut rows = Vec::new(alloc);
+    for seat in tables.seats() {
+        add_matches(alloc, &mut rows, seat, addr)?;
+    }
+    Ok(rows)
+}

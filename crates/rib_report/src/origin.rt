@@ -1,0 +1,124 @@
+//! The prefixes with several origin ASes.
+
+ghost use Rattle.std.specs.Prelude.{◌≡◌, ◌≢◌, ◌<◌, ◌≤◌, ◌++◌, [], ◌∷◌, IfOk, OnOk, map, length};
+ghost use Rattle.std.specs.List.{AllWithin, HoldsAt, filter, filter_map};
+ghost use Rattle.std.specs.List.Sorted.{IsStrictlySortedBy};
+ghost use Rattle.rib_report.specs.Rows.{origin_row};
+ghost use Rattle.rib_report.specs.Runs.{pair_cmp};
+ghost use Rattle.rib_report.specs.Reports.{route_origin, origin_pair, seat_origins, table_origins, has_several, grouped_origins, origin_rows};
+ghost use Rattle.rib_report.specs.Seats.{seat_of};
+
+use crate::row::OriginRow;
+use crate::tables::{Seated, Tables};
+use bgp_prefix::{Memory, Prefix, PrefixMap, RouteKey, Sequence};
+use bgp_update::Route;
+use std::alloc::Global;
+
+/// The origin AS of a route (RFC 6811, 2).
+fn origin_of(route: &Route) -> Option<u32>
+    ensures { result ≡ route_origin route.now }
+{
+    match &route.path {
+        Some(path) => path.origin_as(),
+        None => None,
+    }
+}
+
+/// Adds the prefix and the origin AS of a route that has one.
+fn add_origin(pairs: &mut Vec<(Prefix, u32)>, key: RouteKey, route: &Route) -> Result<(), Memory>
+    ensures { OnOk result (pairs.new.items ≡ pairs.old.items ++ filter_map origin_pair ((key, route.now) ∷ [])) }
+{
+    if let Some(origin) = origin_of(route) {
+        pairs.push((key.prefix, origin))?;
+    }
+    Ok(())
+}
+
+/// Adds the prefix and the origin AS of each route of one peer that has one.
+fn add_origins<M: PrefixMap<Route>>(
+    alloc: Global,
+    pairs: &mut Vec<(Prefix, u32)>,
+    seat: &Seated<M>,
+) -> Result<(), Memory>
+    ensures { OnOk result (pairs.new.items ≡ pairs.old.items ++ seat_origins (seat_of seat.now)) }
+{
+    let entries = seat.session.table().entries(alloc)?;
+    for entry in entries.as_slice() {
+        let (key, route) = *entry;
+        add_origin(pairs, key, route)?;
+    }
+    Ok(())
+}
+
+/// The prefix and the origin AS of each route that has one.
+fn all_origins<M: PrefixMap<Route>>(
+    alloc: Global,
+    tables: &Tables<M>,
+) -> Result<Vec<(Prefix, u32)>, Memory>
+    ensures { IfOk result (λ pairs. pairs.items ≡ table_origins tables.now) }
+{
+    let mut pairs = Vec::new(alloc);
+    for seat in tables.seats() {
+        add_origins(alloc, &mut pairs, seat)?;
+    }
+    Ok(pairs)
+}
+
+/// How many pairs at the front have this prefix.
+fn run_length(pairs: &[(Prefix, u32)], first: Prefix) -> usize
+    ensures within { result ≤ length pairs.now }
+    ensures same { AllWithin (λ e. e.0 ≡ first) pairs.now 0 result }
+    ensures other { result < length pairs.now → HoldsAt (λ e. e.0 ≢ first) pairs.now result }
+{
+    for i in 0..pairs.len() {
+        if pairs[i].0 != first {
+            return i;
+        }
+    }
+    pairs.len()
+}
+
+/// The row of a prefix, from the pairs of its origins.
+fn row_of_run(alloc: Global, prefix: Prefix, run: &[(Prefix, u32)]) -> Result<OriginRow, Memory>
+    ensures { IfOk result (λ row. origin_row row ≡ record { prefix = prefix; origins = map (λ e. e.1) run.now }) }
+{
+    let mut origins = Vec::with_capacity(alloc, run.len())?;
+    for pair in run {
+        origins.push(pair.1)?;
+    }
+    Ok(OriginRow {
+        prefix,
+        origins: Sequence::from_vec(origins),
+    })
+}
+
+/// A row for each run of pairs of one prefix that has at least two.
+fn group_runs(alloc: Global, pairs: &[(Prefix, u32)]) -> Result<Vec<OriginRow>, Memory>
+    requires { IsStrictlySortedBy pair_cmp pairs.now }
+    ensures { IfOk result (λ rows. map origin_row rows.items ≡ filter has_several (grouped_origins pairs.now)) }
+{
+    let mut rows = Vec::new(alloc);
+    let mut rest = pairs;
+    while let [first, ..] = rest {
+        let (run, later) = rest.split_at(run_length(rest, first.0));
+        if run.len() >= 2 {
+            rows.push(row_of_run(alloc, first.0, run)?)?;
+        }
+        rest = later;
+    }
+    Ok(rows)
+}
+
+/// The prefixes whose routes have at least two different origin ASes, by prefix, each with its origin
+/// ASes, ascending.
+pub fn origins<M: PrefixMap<Route>>(
+    alloc: Global,
+    tables: &Tables<M>,
+) -> Result<Vec<OriginRow>, Memory>
+    ensures { IfOk result (λ rows. map origin_row rows.items ≡ origin_rows tables.now) }
+{
+    let mut pairs = all_origins(alloc, tables)?;
+    pairs.sort_unstable();
+    pairs.dedup();
+    group_runs(alloc, pairs.as_slice())
+}

@@ -1,0 +1,108 @@
+//! At how many peers each prefix is visible.
+
+ghost use Rattle.std.specs.Prelude.{◌≡◌, ◌≢◌, ◌<◌, ◌≤◌, ◌++◌, IfOk, OnOk, map, length};
+ghost use Rattle.std.specs.List.{AllWithin, AllByRecursion, HoldsAt, flat_map};
+ghost use Rattle.std.specs.List.Sorted.{IsSorted};
+ghost use Rattle.bgp_prefix.specs.Prefixes.{prefix_cmp};
+ghost use Rattle.rib_report.specs.Rows.{seen_row, seen_pair};
+ghost use Rattle.rib_report.specs.Runs.{counted, is_last, without_repeats};
+ghost use Rattle.rib_report.specs.Reports.{HasOrder, seat_prefixes, visibility_rows};
+ghost use Rattle.rib_report.specs.Seats.{seat_of};
+
+use crate::row::SeenRow;
+use crate::tables::{Seated, Tables};
+use bgp_prefix::{Memory, Prefix, PrefixMap};
+use bgp_update::Route;
+use std::alloc::Global;
+
+/// Whether the prefix is the last one.
+fn is_repeat(last: Option<Prefix>, prefix: Prefix) -> bool
+    ensures { result ≡ is_last last prefix }
+{
+    match last {
+        Some(last) => last == prefix,
+        None => false,
+    }
+}
+
+/// Adds the prefixes of one peer's table, each once, whatever its identifiers.
+fn add_prefixes<M: PrefixMap<Route>>(
+    alloc: Global,
+    prefixes: &mut Vec<Prefix>,
+    seat: &Seated<M>,
+) -> Result<(), Memory>
+    ensures prefixes { OnOk result (prefixes.new.items ≡ prefixes.old.items ++ without_repeats (seat_prefixes (seat_of seat.now))) }
+    ensures ordered { OnOk result (HasOrder (seat_of seat.now)) }
+{
+    let entries = seat.session.table().entries(alloc)?;
+    let mut last = None;
+    for entry in entries.as_slice() {
+        let prefix = entry.0.prefix;
+        if !is_repeat(last, prefix) {
+            prefixes.push(prefix)?;
+        }
+        last = Some(prefix);
+    }
+    Ok(())
+}
+
+/// The prefixes of all tables, one table after another.
+fn all_prefixes<M: PrefixMap<Route>>(
+    alloc: Global,
+    tables: &Tables<M>,
+) -> Result<Vec<Prefix>, Memory>
+    ensures prefixes { IfOk result (λ prefixes. prefixes.items ≡ flat_map (λ seat. without_repeats (seat_prefixes seat)) tables.now.seats) }
+    ensures ordered { OnOk result (AllByRecursion HasOrder tables.now.seats) }
+{
+    let mut prefixes = Vec::new(alloc);
+    for seat in tables.seats() {
+        add_prefixes(alloc, &mut prefixes, seat)?;
+    }
+    Ok(prefixes)
+}
+
+/// How many prefixes at the front are this one.
+fn run_length(prefixes: &[Prefix], first: Prefix) -> usize
+    ensures within { result ≤ length prefixes.now }
+    ensures same { AllWithin (λ p. p ≡ first) prefixes.now 0 result }
+    ensures other { result < length prefixes.now → HoldsAt (λ p. p ≢ first) prefixes.now result }
+{
+    for i in 0..prefixes.len() {
+        if prefixes[i] != first {
+            return i;
+        }
+    }
+    prefixes.len()
+}
+
+/// A row for each run of equal prefixes.
+fn count_runs(alloc: Global, prefixes: &[Prefix]) -> Result<Vec<SeenRow>, Memory>
+    requires { IsSorted prefix_cmp prefixes.now }
+    ensures { IfOk result (λ rows. map seen_pair rows.items ≡ counted prefix_cmp prefixes.now) }
+{
+    let mut rows = Vec::new(alloc);
+    let mut rest = prefixes;
+    while let [first, ..] = rest {
+        let peers = run_length(rest, *first);
+        rows.push(SeenRow {
+            prefix: *first,
+            peers,
+        })?;
+        let (_, later) = rest.split_at(peers);
+        rest = later;
+    }
+    Ok(rows)
+}
+
+/// At how many peers each prefix is visible that is visible at any, by prefix. A peer counts once for a
+/// prefix, whatever the identifiers of its routes.
+pub fn visibility<M: PrefixMap<Route>>(
+    alloc: Global,
+    tables: &Tables<M>,
+) -> Result<Vec<SeenRow>, Memory>
+    ensures { IfOk result (λ rows. map seen_row rows.items ≡ visibility_rows tables.now) }
+{
+    let mut prefixes = all_prefixes(alloc, tables)?;
+    prefixes.sort_unstable();
+    count_runs(alloc, prefixes.as_slice())
+}
