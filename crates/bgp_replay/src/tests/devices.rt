@@ -137,8 +137,8 @@ fn run_into(
     Ok((result, written))
 }
 
-fn is_write_error(result: &Result<Summary, ReplayError>) -> bool {
-    match result {
+fn is_write_error(outcome: &Result<Summary, ReplayError>) -> bool {
+    match outcome {
         Err(error) => *error == ReplayError::Write,
         Ok(_) => false,
     }
