@@ -59,7 +59,7 @@ impl<V: Drop> PathList<V> {
         }
     }
 
-    // Where an identifier is, or would go. The last place is tried first, as dumps come in order.
+    // Where an identifier is, or would go.
     fn search(&self, id: u32) -> Result<usize, usize>
         ensures found { IfOk result (λ i. IsAt nat_cmp self.now id i) }
         ensures absent { IfErr result (λ i. IsGap nat_cmp self.now id i) }
