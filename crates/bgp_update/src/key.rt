@@ -33,8 +33,20 @@ fn prefix_of(len: u8, octets: &[u8]) -> Option<Prefix>
     Prefix::new(front_number(octets), len)
 }
 
+/// The prefix of this length in bits that the bytes begin with, and the bytes after it (RFC 4271,
+/// 4.3). Bits past the length may be anything, and are put to 0. `BadPrefix` where the length is over
+/// 32, or fewer bytes are left than hold so many bits.
+#[inline]
+pub fn prefix_at(len: u8, bytes: &[u8]) -> Result<(Prefix, &[u8]), Fault>
+    ensures { Reads (λ x. (x.0, x.1.now)) result (keys_spec.prefix_at len bytes.now) }
+{
+    let (octets, rest) = octets_at(len, bytes)?;
+    let prefix = prefix_of(len, octets).ok_or(Fault::BadPrefix)?;
+    Ok((prefix, rest))
+}
+
 /// A key, and the bytes after it.
-#[tactic(auto, unfolding(crate::specs::Keys::key_at, crate::specs::Keys::written_key_at))]
+#[tactic(auto, using(crate::proofs::KeyParts::key_parts))]
 #[inline]
 pub fn key_at(bytes: &[u8], add_path: bool) -> Result<(RouteKey, &[u8]), Fault>
     ensures { Reads (λ x. (x.0, x.1.now)) result (keys_spec.key_at add_path bytes.now) }
@@ -42,10 +54,13 @@ pub fn key_at(bytes: &[u8], add_path: bool) -> Result<(RouteKey, &[u8]), Fault>
     let identifier_len = if add_path { 4 } else { 0 };
     let (identifier, rest) = bytes_at(bytes, identifier_len, Fault::BadPrefix)?;
     let (len, rest) = byte_at(rest, Fault::BadPrefix)?;
-    let (octets, rest) = octets_at(len, rest)?;
-    let prefix = prefix_of(len, octets).ok_or(Fault::BadPrefix)?;
-    let id = front_number(identifier);
-    Ok((RouteKey { prefix, id }, rest))
+    match prefix_at(len, rest) {
+        Ok((prefix, rest)) => {
+            let id = front_number(identifier);
+            Ok((RouteKey { prefix, id }, rest))
+        }
+        Err(fault) => Err(fault),
+    }
 }
 
 /// How many keys a field has.

@@ -16,6 +16,7 @@ mod update;
 mod values;
 mod width;
 
+pub use key::prefix_at;
 pub use next_hop::NextHop;
 pub use path::{AsPath, Segment, SegmentKind};
 pub use route::{Aggregator, Origin, Route, Update};

@@ -1,11 +1,11 @@
 //! MP_REACH_NLRI and MP_UNREACH_NLRI, read for IPv4 unicast alone.
 
-ghost use Rattle.std.specs.Prelude.{◌≡◌, ℕ, ◌≤◌, IsTrue, length, option_map};
+ghost use Rattle.std.specs.Prelude.{◌≡◌, ℕ, ◌≤◌, ◌++◌, List, Option, Some, Ok, IsTrue, IfOk, length, option_map};
 ghost use Rattle.mrt_frame.specs.Fields.{Reads};
 ghost use Rattle.bgp_update.specs.Answers.{Gives};
 ghost use Rattle.bgp_update.specs.Keys as keys_spec;
 ghost use Rattle.bgp_update.specs.Multiprotocol as multiprotocol;
-ghost use Rattle.bgp_update.specs.Multiprotocol.{is_hop_len};
+ghost use Rattle.bgp_update.specs.Multiprotocol.{is_hop_len, SaysReach, SaysUnreach, reached_keys, unreached_keys};
 
 use crate::key::{read_keys, with_keys};
 use crate::next_hop::NextHop;
@@ -81,18 +81,14 @@ pub fn unreach_in(value: &[u8]) -> Result<Option<&[u8]>, Fault>
     Ok(Some(&value[3..]))
 }
 
-/// The next hop and the keys that attribute 14 says.
 #[tactic(auto, unfolding(crate::specs::Multiprotocol::reached_keys, crate::specs::Keys::route_keys_in))]
-pub fn reached(
+fn whole_reach(
     alloc: Global,
-    value: Option<&[u8]>,
+    value: &[u8],
     add_path: bool,
 ) -> Result<(Option<NextHop>, Vec<RouteKey>), AttrError>
-    ensures { Gives (λ x. (x.0, x.1.items)) result (multiprotocol.reached_keys add_path (option_map (λ v. v.now) value.entry)) }
+    ensures { Gives (λ x. (x.0, x.1.items)) result (reached_keys add_path (Some value.now)) }
 {
-    let Some(value) = value else {
-        return Ok((None, Vec::new(alloc)));
-    };
     match reach_in(value) {
         Ok(Some((hop, keys))) => Ok((Some(hop), read_keys(alloc, keys, add_path)?)),
         Ok(None) => Ok((None, Vec::new(alloc))),
@@ -100,21 +96,73 @@ pub fn reached(
     }
 }
 
-/// These keys, and then those that attribute 15 says.
+/// The next hop and the keys that a value of attribute 14 spells.
+fn read_reach(
+    alloc: Global,
+    value: &[u8],
+    add_path: bool,
+) -> Result<(Option<NextHop>, Vec<RouteKey>), AttrError>
+    ensures found { IfOk result (λ x. SaysReach add_path value.now x.0 x.1.items) }
+    ensures only { (hop : Option NextHop) (keys : List RouteKey) → SaysReach add_path value.now hop keys → Gives {Y = Option NextHop × List RouteKey} (λ x. (x.0, x.1.items)) result (Ok (hop, keys)) }
+    ensures exact { Gives (λ x. (x.0, x.1.items)) result (reached_keys add_path (Some value.now)) }
+{
+    whole_reach(alloc, value, add_path)
+}
+
+/// The next hop and the keys that attribute 14 says, where it is there.
+#[tactic(auto, unfolding(crate::specs::Multiprotocol::reached_keys))]
+pub fn reached(
+    alloc: Global,
+    value: Option<&[u8]>,
+    add_path: bool,
+) -> Result<(Option<NextHop>, Vec<RouteKey>), AttrError>
+    ensures { Gives (λ x. (x.0, x.1.items)) result (reached_keys add_path (option_map (λ v. v.now) value.entry)) }
+{
+    match value {
+        Some(value) => read_reach(alloc, value, add_path),
+        None => Ok((None, Vec::new(alloc))),
+    }
+}
+
 #[tactic(auto, unfolding(crate::specs::Multiprotocol::unreached_keys, crate::specs::Keys::route_keys_in))]
+fn with_whole_unreach(
+    keys: Vec<RouteKey>,
+    value: &[u8],
+    add_path: bool,
+) -> Result<Vec<RouteKey>, AttrError>
+    ensures { Gives (λ v. v.items) result (keys_spec.with_keys keys.items (unreached_keys add_path (Some value.now))) }
+{
+    match unreach_in(value) {
+        Ok(Some(field)) => with_keys(keys, field, add_path),
+        Ok(None) => Ok(keys),
+        Err(fault) => Err(AttrError::Bad(fault)),
+    }
+}
+
+/// These keys, and then those that a value of attribute 15 spells.
+fn with_unreach(
+    keys: Vec<RouteKey>,
+    value: &[u8],
+    add_path: bool,
+) -> Result<Vec<RouteKey>, AttrError>
+    ensures found { IfOk result (λ v. (said : List RouteKey) × SaysUnreach add_path value.now said × (v.items ≡ keys.items ++ said)) }
+    ensures only { (said : List RouteKey) → SaysUnreach add_path value.now said → Gives (λ v. v.items) result (Ok (keys.items ++ said)) }
+    ensures exact { Gives (λ v. v.items) result (keys_spec.with_keys keys.items (unreached_keys add_path (Some value.now))) }
+{
+    with_whole_unreach(keys, value, add_path)
+}
+
+/// These keys, and then those that attribute 15 says, where it is there.
+#[tactic(auto, unfolding(crate::specs::Multiprotocol::unreached_keys))]
 pub fn with_unreached(
     keys: Vec<RouteKey>,
     value: Option<&[u8]>,
     add_path: bool,
 ) -> Result<Vec<RouteKey>, AttrError>
-    ensures { Gives (λ v. v.items) result (keys_spec.with_keys keys.items (multiprotocol.unreached_keys add_path (option_map (λ v. v.now) value.entry))) }
+    ensures { Gives (λ v. v.items) result (keys_spec.with_keys keys.items (unreached_keys add_path (option_map (λ v. v.now) value.entry))) }
 {
-    let Some(value) = value else {
-        return Ok(keys);
-    };
-    match unreach_in(value) {
-        Ok(Some(field)) => with_keys(keys, field, add_path),
-        Ok(None) => Ok(keys),
-        Err(fault) => Err(AttrError::Bad(fault)),
+    match value {
+        Some(value) => with_unreach(keys, value, add_path),
+        None => Ok(keys),
     }
 }

@@ -2,3 +2,11 @@ pub mod IndexLaws
 pub mod Dumps
 pub mod Examples
 pub mod MessageLaws
+pub mod ManyLaws
+pub mod EntryLaws
+pub mod PeerLaws
+pub mod Behind
+pub mod SessionLaws
+pub mod TakeLaws
+pub mod StepLaws
+pub mod FilesLaws

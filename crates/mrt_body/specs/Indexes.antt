@@ -97,15 +97,23 @@ written_peer_at bytes = do
   asn ← asn_at (asn_width flags.0) addr.1
   Ok (record { flags = flags.0; id = id.0; addr = addr.0; asn = asn.0 }, asn.1)
 
--- the table that a body spells, or its first fault
-unfoldable pub index_in : List ℕ → Result IndexForm Fault
-index_in body = do
+-- what stands before the peers
+pub record IndexHead : Type 0 where
+  pub collector : ℕ
+  pub view : List ℕ
+  pub count : ℕ
+
+unfoldable pub index_head_at : List ℕ → Reading IndexHead
+index_head_at body = do
   collector ← number_at ShortRecord 4 body
   view_len ← number_at ShortRecord 2 collector.1
   view ← bytes_at ShortRecord view_len.0 view_len.1
   count ← number_at ShortRecord 2 view.1
-  peers ← many written_peer_at count.0 count.1
-  Ok (record { collector = collector.0; view = view.0; peers = peers })
+  Ok (record { collector = collector.0; view = view.0; count = count.0 }, count.1)
+
+-- the table that a body spells, or its first fault
+unfoldable pub index_in : List ℕ → Result IndexForm Fault
+index_in body = index_head_at body >>= λ head. many written_peer_at head.0.count head.1 >>= λ peers. Ok (record { collector = head.0.collector; view = head.0.view; peers = peers })
 
 -- ---- the peers themselves
 
@@ -114,6 +122,9 @@ peers_of form = map peer_of form.peers
 
 unfoldable pub peer_at : List ℕ → Reading PeerKey
 peer_at bytes = written_peer_at bytes >>= λ p. Ok (peer_of p.0, p.1)
+
+unfoldable pub peer_count_at : List ℕ → Reading ℕ
+peer_count_at body = index_head_at body >>= λ head. Ok (head.0.count, head.1)
 
 -- the peers of the table that a body spells
 unfoldable pub peers_in : List ℕ → Result (List PeerKey) Fault

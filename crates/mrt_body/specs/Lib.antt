@@ -4,4 +4,5 @@ pub mod Indexes
 pub mod RibRecords
 pub mod Bgp4mp
 pub mod Units
+pub mod Pending
 pub mod ToCome

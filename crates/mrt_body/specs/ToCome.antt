@@ -1,13 +1,160 @@
--- Where a reading of files stands.
-use Rattle.std.specs.Prelude.{ℕ, ◌+◌, ◌-◌}
+-- What files still give, from where a reading of them stands.
+use Rattle.std.specs.Prelude.{◌≡◌, ◌⊎◌, ℕ, ◌+◌, ◌-◌, ◌*◌, ◌≤◌, ◌^◌, Bool, true, false, List, [], ◌∷◌, ◌++◌, map, drop, length, Option, Some, None, option_to_list, ⊤}
+use Rattle.std.specs.List.{count_by}
+use Rattle.mrt_frame.specs.Frames.{Position, start_of, to_come, TakesCuts}
+use Rattle.mrt_frame.specs.declared.cut.Cut.{Cut}
+use Rattle.mrt_frame.specs.declared.cut.Cut.TheVariants.{Whole, Broken}
+use Rattle.mrt_frame.specs.declared.error.ReplayError.{ReplayError}
+use Rattle.mrt_frame.specs.declared.error.ReplayError.TheVariants as errors
+use Rattle.mrt_frame.specs.declared.phase.Phase.{Phase}
+use Rattle.mrt_frame.specs.declared.phase.Phase.TheVariants.{Reading, Ended, Failed, Spent}
+use Rattle.mrt_body.specs.declared.at.RecordAt.{RecordAt}
+use Rattle.mrt_body.specs.declared.content.Content.{Content}
+use Rattle.mrt_body.specs.declared.unit.PeerKey.{PeerKey}
+use Rattle.mrt_body.specs.declared.unit.Unit.{Unit as ReplayUnit}
+use Rattle.mrt_body.specs.declared.unit.Found.{Found}
+use Rattle.mrt_body.specs.declared.unit.Found.TheVariants as found
+use Rattle.mrt_body.specs.Pending.{IndexState}
+use Rattle.mrt_body.specs.Units.{found_from, found_in_files, found_units, units_in, index_with, aside_count, all_cuts, is_whole, is_aside}
 
+-- Where a reading stands: the current file and its reader, the index in force, the units of the RIB record cut last that are
+-- still to be given, and what was counted.
 pub record UnitsState : Type 0 where
   pub count : ℕ
   pub file : ℕ
+  pub frames : Position
+  pub until : Option ℕ
+  pub index : Option (List PeerKey)
+  pub pending : List ReplayUnit
   pub max_records : ℕ
   pub records : ℕ
   pub aside : ℕ
+  pub is_spent : Bool
+
+abbrev pub fresh_units : ℕ → ℕ → Option ℕ → UnitsState
+fresh_units count max_records until = record { count = count; file = 0; frames = start_of 0; until = until; index = None; pending = []; max_records = max_records; records = 0; aside = 0; is_spent = false }
+
+-- at the start of the next file
+abbrev pub in_next_file : UnitsState → UnitsState
+in_next_file u = record u { file = u.file + 1; frames = start_of (u.file + 1); index = None; pending = [] }
+
+-- ---- what is to come
+
+abbrev pub as_found : List ReplayUnit → List Found
+as_found units = map (λ u. found.Unit u) units
+
+-- of the current file behind the pending units, where it still gives these bytes
+abbrev pub found_here : UnitsState → List ℕ → List Found
+found_here u bytes = found_from u.file u.until u.index (to_come u.frames bytes)
+
+-- of the current file and the later ones, which still give these bytes
+abbrev pub found_left : UnitsState → List (List ℕ) → List Found
+found_left u [] = []
+found_left u (bytes ∷ later) = found_here u bytes ++ found_in_files u.until (u.file + 1) later
+
+-- all the units and refusals to come
+abbrev pub found_to_come : UnitsState → List (List ℕ) → List Found
+found_to_come u contents = as_found u.pending ++ found_left u contents
+
+-- all the cuts to come
+abbrev pub cuts_to_come : UnitsState → List (List ℕ) → List Cut
+cuts_to_come u [] = []
+cuts_to_come u (bytes ∷ later) = to_come u.frames bytes ++ all_cuts later
+
+-- ---- steps of a reading
+
+-- where the bytes to come are these before and those after: what was given, and the counts of what was cut
+pub record Passes (old : UnitsState) (contents : List (List ℕ)) (new : UnitsState) (rest : List (List ℕ)) (taken : List Found) : Type 0 where
+  pub found : found_to_come old contents ≡ taken ++ found_to_come new rest
+  pub records : old.records + count_by is_whole (cuts_to_come old contents) ≡ new.records + count_by is_whole (cuts_to_come new rest)
+  pub aside : old.aside + count_by is_aside (cuts_to_come old contents) ≡ new.aside + count_by is_aside (cuts_to_come new rest)
+
+-- Of each file the bytes that it still gives, where they are known. Where those of the current and the later files are known,
+-- this was given of them, and the others are known and to come now.
+abbrev pub TakesFound : UnitsState → List (Option (List ℕ)) → UnitsState → List (Option (List ℕ)) → List Found → Type 0
+TakesFound old before new after taken =
+    (contents : List (List ℕ)) → drop old.file before ≡ map (λ bytes. Some bytes) contents → (rest : List (List ℕ)) × (drop new.file after ≡ map (λ bytes. Some bytes) rest) × Passes old contents new rest taken
+
+-- where the bytes of the current and the later files are known, nothing is to come of them
+abbrev pub NothingToCome : UnitsState → List (Option (List ℕ)) → Type 0
+NothingToCome u known = (contents : List (List ℕ)) → drop u.file known ≡ map (λ bytes. Some bytes) contents → found_to_come u contents ≡ []
 
 -- at most so many records and file ends are still to come
 abbrev pub steps_left : UnitsState → ℕ
 steps_left u = (u.max_records - u.records) + (u.count - u.file)
+
+-- at most so many answers can still come, whatever the readers give: each record gives at most 65,535, and each file one rest
+abbrev pub answers_left : UnitsState → ℕ
+answers_left u = (u.max_records - u.records) * 65535 + length u.pending + (u.count - u.file)
+
+-- the reader of a file that isn't at its end, while no growth was refused
+abbrev pub IsOpen : Phase → Type 0
+IsOpen Reading = ⊤
+IsOpen Ended = ⊥
+IsOpen Failed = ⊤
+IsOpen Spent = ⊥
+
+-- every later call answers Spent after this error
+abbrev pub is_lasting : ReplayError → Bool
+is_lasting (errors.Read file) = false
+is_lasting errors.Write = true
+is_lasting errors.Memory = true
+is_lasting errors.Records = true
+is_lasting errors.Spent = true
+
+-- what always holds
+pub record StandsWithin (count file : ℕ) (frames : Position) (max_records records aside : ℕ) (is_spent : Bool) : Type 0 where
+  pub file_in : file ≤ count
+  pub frames_of : frames.file ≡ file
+  pub records_in : records ≤ max_records
+  pub aside_in : aside ≤ records
+  pub limit : max_records ≤ 2 ^ 47
+  pub going : is_spent ≡ false → IsOpen frames.phase
+
+abbrev pub index_peers : Option IndexState → Option (List PeerKey)
+index_peers None = None
+index_peers (Some index) = Some index.peers
+
+abbrev pub index_pending : Option IndexState → List ReplayUnit
+index_pending None = []
+index_pending (Some index) = index.pending
+
+-- ---- single steps
+
+-- some of the pending units were given
+abbrev pub GivesPending : UnitsState → UnitsState → List ReplayUnit → Type 0
+GivesPending old new given = (new ≡ record old { pending = new.pending }) × (old.pending ≡ given ++ new.pending)
+
+-- these were the last cuts of the current file, where its bytes are known
+abbrev pub EndsFile : UnitsState → Option (List ℕ) → UnitsState → Option (List ℕ) → List Cut → Type 0
+EndsFile old known new left cuts = (new ≡ in_next_file old) × ((bytes : List ℕ) → known ≡ Some bytes → (rest : List ℕ) × (left ≡ Some rest) × (to_come old.frames bytes ≡ cuts))
+
+-- one cut of the current file
+abbrev pub CutsOne : UnitsState → Option (List ℕ) → UnitsState → Option (List ℕ) → Option Cut → Type 0
+CutsOne old known new left None = EndsFile old known new left []
+CutsOne old known new left (Some (Broken offset fault)) = (offset ≡ old.frames.offset) × EndsFile old known new left (Broken offset fault ∷ [])
+CutsOne old known new left (Some (Whole offset seconds kind subtype body)) =
+    (new ≡ record old { frames = new.frames; records = old.records + 1 }) × (new.frames.phase ≡ Reading) × TakesCuts old.frames known new.frames left (Whole offset seconds kind subtype body ∷ [])
+
+-- what comes of a whole record: what was given, and what pends
+pub record TakesRecord (old : UnitsState) (at : RecordAt) (extended : Bool) (content : Content) (body : List ℕ) (new : UnitsState) (given : Option Found) : Type 0 where
+  pub state : new ≡ record old { index = index_with old.index content body; pending = new.pending; aside = old.aside + aside_count content }
+  pub found : option_to_list given ++ as_found new.pending ≡ found_units old.until at (units_in at extended old.index content body)
+
+-- more of the current file is to come, where it gave these bytes before and gives those now
+pub record StaysInFile (old : UnitsState) (bytes : List ℕ) (new : UnitsState) (rest : List ℕ) (taken : List Found) : Type 0 where
+  pub state : new ≡ record old { frames = new.frames; index = new.index; pending = new.pending; records = new.records; aside = new.aside }
+  pub found : found_here old bytes ≡ taken ++ (as_found new.pending ++ found_here new rest)
+  pub records : old.records + count_by is_whole (to_come old.frames bytes) ≡ new.records + count_by is_whole (to_come new.frames rest)
+  pub aside : old.aside + count_by is_aside (to_come old.frames bytes) ≡ new.aside + count_by is_aside (to_come new.frames rest)
+
+-- no more of the file is to come
+pub record LeavesFile (old : UnitsState) (bytes : List ℕ) (new : UnitsState) (taken : List Found) : Type 0 where
+  pub state : new ≡ in_next_file old
+  pub found : found_here old bytes ≡ taken
+  pub records : count_by is_whole (to_come old.frames bytes) ≡ 0
+  pub aside : count_by is_aside (to_come old.frames bytes) ≡ 0
+
+-- where the bytes of the current file are known, this was given of them
+abbrev pub Steps : UnitsState → Option (List ℕ) → UnitsState → Option (List ℕ) → List Found → Type 0
+Steps old known new left taken = (bytes : List ℕ) → known ≡ Some bytes → (rest : List ℕ) × (left ≡ Some rest) × (StaysInFile old bytes new rest taken ⊎ LeavesFile old bytes new taken)

@@ -78,6 +78,9 @@ abbrev pub rib_units : RecordAt → Option (List PeerKey) → RibForm → List R
 rib_units at None form = []
 rib_units at (Some peers) form = entry_units at peers (rib_prefix form) 1 form.entries
 
+abbrev pub rib_units_in : RecordAt → Bool → Option (List PeerKey) → List ℕ → Result (List ReplayUnit) Fault
+rib_units_in at add_path index body = rib_beside add_path index body >>= λ form. Ok (rib_units at index form)
+
 -- the unit of a message or state change
 abbrev pub session_unit : RecordAt → ℕ → PeerKey → Payload → ReplayUnit
 session_unit at microseconds peer payload = record { place = place_of at None; time = time_of at microseconds; peer = peer; payload = payload }
@@ -101,7 +104,7 @@ alone read = read >>= λ unit. Ok (unit ∷ [])
 -- the units of a whole record, or its fault; index tables and records aside give none
 abbrev pub units_in : RecordAt → Bool → Option (List PeerKey) → Content → List ℕ → Result (List ReplayUnit) Fault
 units_in at extended index content.IndexTable body = peers_in body >>= λ peers. Ok []
-units_in at extended index (content.Rib add_path) body = rib_beside add_path index body >>= λ form. Ok (rib_units at index form)
+units_in at extended index (content.Rib add_path) body = rib_units_in at add_path index body
 units_in at extended index (content.Message width add_path) body = alone (message_unit at extended width add_path body)
 units_in at extended index (content.States width) body = alone (states_unit at extended width body)
 units_in at extended index content.Aside body = Ok []
@@ -213,6 +216,10 @@ is_aside_content content.IndexTable = false
 is_aside_content (content.Rib add_path) = false
 is_aside_content (content.Message width add_path) = false
 is_aside_content (content.States width) = false
+
+-- one for a record aside
+abbrev pub aside_count : Content → ℕ
+aside_count content = if is_aside_content content then 1 else 0
 
 abbrev pub is_aside : Cut → Bool
 is_aside (Whole offset seconds kind subtype body) = is_aside_content (content_of kind subtype)

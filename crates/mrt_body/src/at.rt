@@ -1,3 +1,6 @@
+ghost use Rattle.std.specs.Prelude.{◌≡◌};
+ghost use Rattle.mrt_body.specs.Units.{place_of, time_of};
+
 use crate::unit::Place;
 
 /// Where a record stands, and its time in seconds since 1970 UTC.
@@ -10,7 +13,9 @@ pub(crate) struct RecordAt {
 
 impl RecordAt {
     /// The place of the record, or of the entry of this number in it.
-    pub(crate) fn place(&self, entry: Option<u16>) -> Place {
+    pub(crate) fn place(&self, entry: Option<u16>) -> Place
+        ensures { result ≡ place_of self.now entry }
+    {
         Place {
             file: self.file,
             offset: self.offset,
@@ -19,7 +24,9 @@ impl RecordAt {
     }
 
     /// The record's time in microseconds since 1970 UTC.
-    pub(crate) fn time(&self, microseconds: u32) -> u64 {
+    pub(crate) fn time(&self, microseconds: u32) -> u64
+        ensures { result ≡ time_of self.now microseconds }
+    {
         u64::from(self.seconds) * 1_000_000 + u64::from(microseconds)
     }
 }

@@ -1,5 +1,10 @@
 //! The entries of a RIB record that are still to be given out.
 
+ghost use Rattle.std.specs.Prelude.{◌≡◌, ◌≤◌, ◌++◌, [], length, drop, Some, None, IfOk, option_to_list};
+ghost use Rattle.mrt_frame.specs.Fields.{Reads};
+ghost use Rattle.mrt_body.specs.Units.{rib_units_in, time_of};
+ghost use Rattle.mrt_body.specs.Pending.{AreEntries, units_left};
+
 use crate::at::RecordAt;
 use crate::rib::{check_entries, entry_at, rib_head_at};
 use crate::unit::{Payload, PeerKey, Unit};
@@ -10,77 +15,108 @@ use std::alloc::Global;
 /// The entries of a RIB record that are still to be given out, one after the other.
 #[derive(Drop)]
 pub(crate) struct Entries {
-    at: RecordAt,
-    prefix: Prefix,
-    add_path: bool,
-    body: Vec<u8>,
+    pub(crate) at: RecordAt,
+    pub(crate) prefix: Prefix,
+    pub(crate) add_path: bool,
+    pub(crate) body: Sequence<u8>,
     /// Where the next entry begins in the body.
-    next: usize,
+    pub(crate) next: usize,
     /// How many entries were given out.
-    given: u16,
-    count: u16,
+    pub(crate) given: u16,
+    pub(crate) count: u16,
+}
+
+/// The unit of an entry.
+fn entry_unit(
+    alloc: Global,
+    at: RecordAt,
+    key: RouteKey,
+    number: u16,
+    peer: PeerKey,
+    attributes: &[u8],
+) -> Result<Unit, Memory>
+    ensures { IfOk result (λ unit. unit ≡ record { place = record { file = at.file; offset = at.offset; entry = Some number }; time = time_of at 0; peer = peer; payload = Payload.Entry key attributes.now }) }
+{
+    let mut attrs = Vec::with_capacity(alloc, attributes.len())?;
+    attrs.extend_from_slice(attributes)?;
+    Ok(Unit {
+        place: at.place(Some(number)),
+        time: at.time(0),
+        peer,
+        payload: Payload::Entry {
+            key,
+            attrs: Sequence::from_vec(attrs),
+        },
+    })
+}
+
+/// The bytes behind the first n.
+fn behind(bytes: &[u8], n: usize) -> &[u8]
+    requires { n ≤ length bytes.now }
+    ensures { result.now ≡ drop n bytes.now }
+{
+    &bytes[n..]
 }
 
 impl Entries {
-    /// The entries of a record, each checked.
+    /// The entries of a record beside this index, each checked.
     pub(crate) fn read(
         at: RecordAt,
         body: Sequence<u8>,
         add_path: bool,
-        peers: usize,
-    ) -> Result<Entries, Fault> {
+        peers: &[PeerKey],
+    ) -> Result<Entries, Fault>
+        ensures units { Reads (units_left peers.now) result (rib_units_in at add_path (Some peers.now) body) }
+        ensures spelled { IfOk result (AreEntries peers.now) }
+        ensures at { IfOk result (λ e. e.at ≡ at) }
+    {
         let bytes = body.as_slice();
         match rib_head_at(bytes) {
-            Ok((head, rest)) => {
-                check_entries(rest, head.count, add_path, peers)?;
-                let next = bytes.len() - rest.len().min(bytes.len());
-                Ok(Entries {
-                    at,
-                    prefix: head.prefix,
-                    add_path,
-                    body: body.into_vec(),
-                    next,
-                    given: 0,
-                    count: head.count,
-                })
-            }
+            Ok((head, rest)) => match check_entries(rest, head.count, add_path, peers.len()) {
+                Ok(()) => {
+                    let next = bytes.len() - rest.len();
+                    Ok(Entries {
+                        at,
+                        prefix: head.prefix,
+                        add_path,
+                        body,
+                        next,
+                        given: 0,
+                        count: head.count,
+                    })
+                }
+                Err(fault) => Err(fault),
+            },
             Err(fault) => Err(fault),
         }
     }
 
-    /// The next entry as a unit of its peer in the index, or `None` at the end.
-    pub(crate) fn next(
-        &mut self,
-        alloc: Global,
-        peers: &[PeerKey],
-    ) -> Result<Option<Unit>, Memory> {
-        if self.given >= self.count || self.next > self.body.len() {
+    /// The next entry as a unit of its peer, or `None` at the end.
+    pub(crate) fn next(&mut self, alloc: Global, peers: &[PeerKey]) -> Result<Option<Unit>, Memory>
+        requires { AreEntries peers.now self.old }
+        ensures gives { IfOk result (λ unit. units_left peers.now self.old ≡ option_to_list unit ++ units_left peers.now self.new) }
+        ensures ended { IfOk result (λ unit. unit ≡ None → units_left peers.now self.old ≡ []) }
+        ensures spelled { AreEntries peers.now self.new }
+    {
+        if self.given == self.count {
             return Ok(None);
         }
-        let Ok((entry, rest)) = entry_at(&self.body[self.next..], self.add_path, peers.len()) else {
-            return Ok(None);
-        };
-        let mut attrs = Vec::with_capacity(alloc, entry.attributes.len())?;
-        attrs.extend_from_slice(entry.attributes)?;
-        let Some(peer) = peers.get(entry.peer as usize) else {
-            return Ok(None);
-        };
-        let left = rest.len();
         let number = self.given + 1;
-        let unit = Unit {
-            place: self.at.place(Some(number)),
-            time: self.at.time(0),
-            peer: *peer,
-            payload: Payload::Entry {
-                key: RouteKey {
+        let bytes = self.body.as_slice();
+        match entry_at(behind(bytes, self.next), self.add_path, peers.len()) {
+            Ok((entry, rest)) => {
+                let next = bytes.len() - rest.len();
+                let key = RouteKey {
                     prefix: self.prefix,
                     id: entry.identifier,
-                },
-                attrs: Sequence::from_vec(attrs),
-            },
-        };
-        self.given = number;
-        self.next = self.body.len() - left.min(self.body.len());
-        Ok(Some(unit))
+                };
+                let peer = peers[entry.peer as usize];
+                let unit = entry_unit(alloc, self.at, key, number, peer, entry.attributes)?;
+                self.next = next;
+                self.given = number;
+                Ok(Some(unit))
+            }
+            Err(_) => unreachable!(),
+        }
     }
 }

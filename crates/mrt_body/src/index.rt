@@ -4,6 +4,7 @@ ghost use Rattle.std.specs.Prelude.{◌≡◌};
 ghost use Rattle.mrt_frame.specs.Fields.{Reads};
 ghost use Rattle.bgp_update.specs.Answers.{Gives};
 ghost use Rattle.mrt_body.specs.Indexes as indexes;
+ghost use Rattle.mrt_body.specs.Many.{many};
 
 use crate::unit::{PeerAddr, PeerKey};
 use bgp_update::{AttrError, Width};
@@ -66,27 +67,44 @@ fn peer_at(bytes: &[u8]) -> Result<(PeerKey, &[u8]), Fault>
     Ok((PeerKey { asn, addr }, rest))
 }
 
-/// So many peers, and the bytes after them.
-fn peers_at(alloc: Global, count: u16, bytes: &[u8]) -> Result<(Vec<PeerKey>, &[u8]), AttrError> {
+/// So many peers, and nothing more.
+fn peers_of(alloc: Global, count: u16, bytes: &[u8]) -> Result<Vec<PeerKey>, AttrError>
+    ensures { Gives (λ v. v.items) result (many indexes.peer_at count bytes.now) }
+{
     let mut peers = Vec::new(alloc);
     let mut rest = bytes;
     for _ in 0..count {
-        let (peer, after) = peer_at(rest)?;
-        peers.push(peer)?;
-        rest = after;
+        match peer_at(rest) {
+            Ok((peer, after)) => {
+                peers.push(peer)?;
+                rest = after;
+            }
+            Err(fault) => return Err(AttrError::Bad(fault)),
+        }
     }
-    Ok((peers, rest))
-}
-
-/// The peers of the table that a body spells.
-pub(crate) fn peers_in(alloc: Global, body: &[u8]) -> Result<Vec<PeerKey>, AttrError> {
-    let (_, rest) = u32_at(body, Fault::ShortRecord)?;
-    let (view_len, rest) = u16_at(rest, Fault::ShortRecord)?;
-    let (_, rest) = bytes_at(rest, view_len as usize, Fault::ShortRecord)?;
-    let (count, rest) = u16_at(rest, Fault::ShortRecord)?;
-    let (peers, rest) = peers_at(alloc, count, rest)?;
     if !rest.is_empty() {
         return Err(AttrError::Bad(Fault::TrailingBytes));
     }
     Ok(peers)
+}
+
+/// How many peers the table of a body has, and the bytes after their count.
+#[tactic(auto, unfolding(crate::specs::Indexes::peer_count_at, crate::specs::Indexes::index_head_at))]
+fn peer_count_at(body: &[u8]) -> Result<(u16, &[u8]), Fault>
+    ensures { Reads (λ x. (x.0, x.1.now)) result (indexes.peer_count_at body.now) }
+{
+    let (_, rest) = u32_at(body, Fault::ShortRecord)?;
+    let (view_len, rest) = u16_at(rest, Fault::ShortRecord)?;
+    let (_, rest) = bytes_at(rest, view_len as usize, Fault::ShortRecord)?;
+    u16_at(rest, Fault::ShortRecord)
+}
+
+/// The peers of the table that a body spells.
+pub(crate) fn peers_in(alloc: Global, body: &[u8]) -> Result<Vec<PeerKey>, AttrError>
+    ensures { Gives (λ v. v.items) result (indexes.peers_in body.now) }
+{
+    match peer_count_at(body) {
+        Ok((count, rest)) => peers_of(alloc, count, rest),
+        Err(fault) => Err(AttrError::Bad(fault)),
+    }
 }

@@ -4,6 +4,7 @@
 mod at;
 mod content;
 mod entries;
+mod in_force;
 mod index;
 mod interpret;
 mod meaning;

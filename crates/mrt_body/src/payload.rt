@@ -1,6 +1,8 @@
 //! The units of BGP4MP records.
 
 ghost use Rattle.std.specs.Prelude.{◌≤◌, ◌≡◌, drop, vec_len};
+ghost use Rattle.mrt_frame.specs.Fields.{Reads};
+ghost use Rattle.mrt_body.specs.Units as units_spec;
 
 use crate::at::RecordAt;
 use crate::session::{microseconds_at, session_peer_at, states_in};
@@ -9,7 +11,7 @@ use bgp_prefix::Sequence;
 use bgp_update::Width;
 use mrt_frame::Fault;
 
-/// The bytes behind the first n.
+/// The bytes behind the first n, in the same memory.
 fn without_front(bytes: Vec<u8>, n: usize) -> Vec<u8>
     requires { n ≤ vec_len bytes }
     ensures { result.items ≡ drop n bytes.items }
@@ -21,23 +23,22 @@ fn without_front(bytes: Vec<u8>, n: usize) -> Vec<u8>
     bytes
 }
 
-/// The unit of a message.
+/// The unit of a message, whose bytes are the end of the body.
+#[tactic(auto, unfolding(crate::specs::Units::message_unit))]
 pub(crate) fn message_unit(
     at: RecordAt,
     is_extended: bool,
     width: Width,
     add_path: bool,
     body: Sequence<u8>,
-) -> Result<Unit, Fault> {
+) -> Result<Unit, Fault>
+    ensures { Reads (λ unit. unit) result (units_spec.message_unit at is_extended width add_path body) }
+{
     let bytes = body.as_slice();
-    let (microseconds, rest) = microseconds_at(bytes, is_extended)?;
-    let (peer, rest) = session_peer_at(rest, width)?;
-    let left = rest.len();
-    let mut message = body.into_vec();
-    if left <= message.len() {
-        let front = message.len() - left;
-        message = without_front(message, front);
-    }
+    let (microseconds, after) = microseconds_at(bytes, is_extended)?;
+    let (peer, rest) = session_peer_at(after, width)?;
+    let front = bytes.len() - rest.len();
+    let message = without_front(body.into_vec(), front);
     Ok(Unit {
         place: at.place(None),
         time: at.time(microseconds),
@@ -51,12 +52,15 @@ pub(crate) fn message_unit(
 }
 
 /// The unit of a state change.
+#[tactic(auto, unfolding(crate::specs::Units::states_unit))]
 pub(crate) fn states_unit(
     at: RecordAt,
     is_extended: bool,
     width: Width,
     body: &[u8],
-) -> Result<Unit, Fault> {
+) -> Result<Unit, Fault>
+    ensures { Reads (λ unit. unit) result (units_spec.states_unit at is_extended width body.now) }
+{
     let (microseconds, rest) = microseconds_at(body, is_extended)?;
     let (peer, rest) = session_peer_at(rest, width)?;
     let (from, to) = states_in(rest)?;

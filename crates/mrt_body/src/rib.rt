@@ -5,6 +5,7 @@ ghost use Rattle.std.specs.Prelude.{◌≡◌, ℕ, ◌≤◌, length, Some};
 ghost use Rattle.byteorder.specs.Endian.{big_number};
 ghost use Rattle.mrt_frame.specs.Fields.{Reads};
 ghost use Rattle.bgp_update.specs.Keys as keys_spec;
+ghost use Rattle.mrt_body.specs.Many.{many, checked};
 ghost use Rattle.mrt_body.specs.RibRecords as ribs;
 
 use bgp_prefix::Prefix;
@@ -121,11 +122,15 @@ pub(crate) fn check_entries(
     count: u16,
     add_path: bool,
     peers: usize,
-) -> Result<(), Fault> {
+) -> Result<(), Fault>
+    ensures { Reads (λ x. x) result (checked (many (ribs.entry_at add_path peers) count bytes.now)) }
+{
     let mut rest = bytes;
     for _ in 0..count {
-        let (_, after) = entry_at(rest, add_path, peers)?;
-        rest = after;
+        match entry_at(rest, add_path, peers) {
+            Ok((_, after)) => rest = after,
+            Err(fault) => return Err(fault),
+        }
     }
     if !rest.is_empty() {
         return Err(Fault::TrailingBytes);

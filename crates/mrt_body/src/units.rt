@@ -1,14 +1,16 @@
 //! The units and refusals of files.
 
-ghost use Rattle.std.specs.Prelude.{◌≡◌, ◌<◌, ◌≤◌, ◌+◌, ◌-◌, ◌^◌, length, vec_len, IfOk};
-ghost use Rattle.mrt_body.specs.ToCome.{UnitsState, steps_left};
+ghost use Rattle.std.specs.Prelude.{◌≡◌, ◌<◌, ◌≤◌, ◌+◌, ◌^◌, Some, None, true, false, [], map, IfOk, length, option_to_list};
+ghost use Rattle.mrt_body.specs.Units.{alone, found_units, is_past, refused_at, at_record};
+ghost use Rattle.mrt_body.specs.ToCome.{UnitsState, GivesPending, CutsOne, TakesRecord, TakesFound, NothingToCome, Steps, steps_left, fresh_units, is_lasting};
+ghost use Rattle.mrt_body.specs.declared.content.Content.TheVariants as content_spec;
 
 use crate::at::RecordAt;
 use crate::content::{Content, content_of, is_extended};
-use crate::entries::Entries;
+use crate::in_force::Index;
 use crate::index::peers_in;
 use crate::payload::{message_unit, states_unit};
-use crate::unit::{Damage, Found, PeerKey, Unit};
+use crate::unit::{Damage, Found, Unit};
 use bgp_prefix::Sequence;
 use bgp_update::AttrError;
 use mrt_frame::{Cut, Fault, FrameReader, ReplayError, Source};
@@ -21,8 +23,7 @@ pub struct Units {
     count: usize,
     file: usize,
     frames: FrameReader,
-    index: Option<Vec<PeerKey>>,
-    entries: Option<Entries>,
+    index: Option<Index>,
     until: Option<u64>,
     max_records: u64,
     records: u64,
@@ -31,14 +32,13 @@ pub struct Units {
 }
 
 impl Model for Units {
-    ghost use Rattle.std.specs.Prelude.{◌≤◌, ◌<◌, ◌^◌};
-    ghost use Rattle.mrt_body.specs.ToCome.{UnitsState};
+    ghost use Rattle.mrt_body.specs.ToCome.{UnitsState, StandsWithin, index_peers, index_pending};
 
     ghost Value = { UnitsState };
 
-    ghost view = { λ u. record { count = u.count; file = u.file; max_records = u.max_records; records = u.records; aside = u.aside } };
+    ghost view = { λ u. record { count = u.count; file = u.file; frames = u.frames; until = u.until; index = index_peers u.index; pending = index_pending u.index; max_records = u.max_records; records = u.records; aside = u.aside; is_spent = u.is_spent } };
 
-    ghost invariant = { λ u. (u.file ≤ u.count) × (u.count < 2 ^ 64) × (u.aside ≤ u.records) × (u.records ≤ u.max_records) × (u.max_records ≤ 2 ^ 47) };
+    ghost invariant = { λ u. StandsWithin u.count u.file u.frames u.max_records u.records u.aside u.is_spent };
 }
 
 impl Units {
@@ -46,14 +46,13 @@ impl Units {
     /// whose whole second is past `until` is left out.
     pub fn new(count: usize, max_records: u64, until: Option<u64>) -> Units
         requires { (0 < max_records) × (max_records ≤ 2 ^ 47) }
-        ensures { result.count ≡ count }
+        ensures { result ≡ fresh_units count max_records until }
     {
         Units {
             count,
             file: 0,
             frames: FrameReader::new(0),
             index: None,
-            entries: None,
             until,
             max_records,
             records: 0,
@@ -92,74 +91,119 @@ impl Units {
         files: &mut [R],
     ) -> Result<Option<Found>, ReplayError>
         requires { length files.old ≡ self.old.count }
+        // It is the first of what is still to come, and leaves the others.
+        ensures found { IfOk result (λ found. TakesFound self.old (map R.remaining files.old) self.new (map R.remaining files.new) (option_to_list found)) }
+        // None is answered only where nothing is to come.
+        ensures ended { IfOk result (λ found. found ≡ None → NothingToCome self.old (map R.remaining files.old)) }
         ensures count { self.new.count ≡ self.old.count }
-        ensures files { length files.new ≡ length files.old }
     {
         if self.is_spent {
             return Err(ReplayError::Spent);
         }
-        match self.find(alloc, files) {
-            Ok(found) => Ok(found),
-            Err(ReplayError::Read { file }) => Err(ReplayError::Read { file }),
-            Err(error) => {
-                self.is_spent = true;
-                Err(error)
-            }
-        }
+        self.find(alloc, files)
     }
 
-    /// The first unit or refusal of what is left of the entries and the files.
+    /// The first of what is still to come.
     fn find<R: Source>(
         &mut self,
         alloc: Global,
         files: &mut [R],
     ) -> Result<Option<Found>, ReplayError>
-        requires { length files.old ≡ self.old.count }
+        requires files { length files.old ≡ self.old.count }
+        requires going { self.old.is_spent ≡ false }
+        ensures found { IfOk result (λ found. TakesFound self.old (map R.remaining files.old) self.new (map R.remaining files.new) (option_to_list found)) }
+        ensures ended { IfOk result (λ found. found ≡ None → NothingToCome self.old (map R.remaining files.old)) }
         ensures count { self.new.count ≡ self.old.count }
     {
-        if let Some(unit) = self.next_entry(alloc)? {
-            return Ok(Some(Found::Unit(unit)));
-        }
-        while self.file < self.count {
-            if let Some(found) = self.next_cut(alloc, &mut files[self.file])? {
+        'files: loop {
+            if let Some(unit) = self.next_entry(alloc)? {
+                return Ok(Some(Found::Unit(unit)));
+            }
+            if self.file == self.count {
+                return Ok(None);
+            }
+            if let Some(found) = self.step(alloc, &mut files[self.file])? {
                 return Ok(Some(found));
             }
         }
-        Ok(None)
     }
 
-    /// The next entry of the RIB record that was cut last.
+    /// The unit of the next entry of the RIB record that was cut last.
     fn next_entry(&mut self, alloc: Global) -> Result<Option<Unit>, ReplayError>
-        ensures { self.new ≡ self.old }
+        ensures gives { IfOk result (λ unit. GivesPending self.old self.new (option_to_list unit)) }
+        ensures ended { IfOk result (λ unit. unit ≡ None → self.old.pending ≡ []) }
+        ensures count { self.new.count ≡ self.old.count }
     {
-        let (Some(entries), Some(peers)) = (&mut self.entries, &self.index) else {
+        let Some(index) = &mut self.index else {
             return Ok(None);
         };
-        match entries.next(alloc, peers.as_slice()) {
+        match index.next(alloc) {
             Ok(unit) => Ok(unit),
-            Err(_) => Err(ReplayError::Memory),
+            Err(_) => {
+                self.is_spent = true;
+                Err(ReplayError::Memory)
+            }
         }
     }
 
-    /// Cuts one record of the current file, and gives what comes of it first, if anything does.
-    fn next_cut<R: Source>(
+    /// Cuts the current file once. At its end the next file is the current one.
+    fn cut<R: Source>(&mut self, alloc: Global, reader: &mut R) -> Result<Option<Cut>, ReplayError>
+        requires going { self.old.is_spent ≡ false }
+        requires within { self.old.file < self.old.count }
+        ensures cuts { IfOk result (CutsOne self.old (R.remaining reader.old) self.new (R.remaining reader.new)) }
+        ensures counted { self.old.aside ≤ self.old.records }
+        ensures count { self.new.count ≡ self.old.count }
+        ensures fewer { IfOk result (λ _. steps_left self.new < steps_left self.old) }
+    {
+        let cut = match self.frames.next(alloc, reader) {
+            Ok(cut) => cut,
+            Err(error) => {
+                self.is_spent = is_lasting(error);
+                return Err(error);
+            }
+        };
+        match &cut {
+            Some(Cut::Whole { .. }) => {
+                if self.records == self.max_records {
+                    self.is_spent = true;
+                    return Err(ReplayError::Records);
+                }
+                self.records += 1;
+                Ok(cut)
+            }
+            _ => {
+                self.file += 1;
+                self.frames = FrameReader::new(self.file);
+                self.index = None;
+                Ok(cut)
+            }
+        }
+    }
+
+    /// Cuts the current file once, and gives what comes of it first, if anything does but entries.
+    fn step<R: Source>(
         &mut self,
         alloc: Global,
         reader: &mut R,
     ) -> Result<Option<Found>, ReplayError>
-        requires { self.old.file < self.old.count }
+        requires going { self.old.is_spent ≡ false }
+        requires within { self.old.file < self.old.count }
+        requires given { self.old.pending ≡ [] }
+        ensures steps { IfOk result (λ found. Steps self.old (R.remaining reader.old) self.new (R.remaining reader.new) (option_to_list found)) }
         ensures fewer { IfOk result (λ _. steps_left self.new < steps_left self.old) }
+        ensures going { IfOk result (λ _. self.new.is_spent ≡ false) }
         ensures count { self.new.count ≡ self.old.count }
     {
-        match self.frames.next(alloc, reader)? {
-            None => {
-                self.end_file();
-                Ok(None)
-            }
+        let file = self.file;
+        match self.cut(alloc, reader)? {
+            None => Ok(None),
             Some(Cut::Broken { offset, fault }) => {
-                let place = self.at(offset, 0).place(None);
-                self.end_file();
-                Ok(Some(Found::Refused(Damage { place, fault })))
+                let at = RecordAt {
+                    file,
+                    offset,
+                    seconds: 0,
+                };
+                Ok(Some(refused(at, fault)))
             }
             Some(
                 Cut::Whole {
@@ -170,37 +214,23 @@ impl Units {
                     body,
                 },
             ) => {
-                if self.records == self.max_records {
-                    return Err(ReplayError::Records);
-                }
-                self.records += 1;
-                let at = self.at(offset, seconds);
-                let content = content_of(kind, subtype);
-                self.take(alloc, at, is_extended(kind), content, body)
+                let at = RecordAt {
+                    file,
+                    offset,
+                    seconds,
+                };
+                self.take(
+                    alloc,
+                    at,
+                    is_extended(kind),
+                    content_of(kind, subtype),
+                    body,
+                )
             }
         }
     }
 
-    /// The next file is the current one.
-    fn end_file(&mut self)
-        requires { self.old.file < self.old.count }
-        ensures { self.new ≡ record self.old { file = self.old.file + 1 } }
-    {
-        self.file += 1;
-        self.frames = FrameReader::new(self.file);
-        self.index = None;
-    }
-
-    /// Where a record of the current file stands.
-    fn at(&self, offset: u64, seconds: u32) -> RecordAt {
-        RecordAt {
-            file: self.file,
-            offset,
-            seconds,
-        }
-    }
-
-    /// What comes first of a whole record.
+    /// What comes of a whole record. Entries are still to be given out afterwards.
     fn take(
         &mut self,
         alloc: Global,
@@ -209,13 +239,14 @@ impl Units {
         content: Content,
         body: Sequence<u8>,
     ) -> Result<Option<Found>, ReplayError>
-        requires { self.old.aside < self.old.records }
-        ensures steps { steps_left self.new ≡ steps_left self.old }
+        requires given { self.old.pending ≡ [] }
+        requires counted { self.old.aside < self.old.records }
+        ensures takes { IfOk result (TakesRecord self.old at is_extended content body self.new) }
         ensures count { self.new.count ≡ self.old.count }
     {
         match content {
-            Content::IndexTable => self.take_index(alloc, at, body.as_slice()),
-            Content::Rib { add_path } => self.take_rib(alloc, at, add_path, body),
+            Content::IndexTable => self.take_index(alloc, at, is_extended, body.as_slice()),
+            Content::Rib { add_path } => Ok(self.take_rib(at, is_extended, add_path, body)),
             Content::Message { width, add_path } => {
                 let unit = message_unit(at, is_extended, width, add_path, body);
                 Ok(self.found(at, unit))
@@ -232,19 +263,25 @@ impl Units {
     }
 
     /// A unit that isn't left out, or the refusal of its record.
-    fn found(&self, at: RecordAt, unit: Result<Unit, Fault>) -> Option<Found> {
+    fn found(&self, at: RecordAt, unit: Result<Unit, Fault>) -> Option<Found>
+        ensures { option_to_list result ≡ found_units self.now.until at (alone unit) }
+    {
         match unit {
-            Ok(unit) => if self.is_past(unit.time) {
-                None
-            } else {
-                Some(Found::Unit(unit))
-            },
+            Ok(unit) => {
+                if self.is_past(unit.time) {
+                    None
+                } else {
+                    Some(Found::Unit(unit))
+                }
+            }
             Err(fault) => Some(refused(at, fault)),
         }
     }
 
     /// Whether a unit of this time is left out.
-    fn is_past(&self, time: u64) -> bool {
+    fn is_past(&self, time: u64) -> bool
+        ensures { result ≡ is_past self.now.until time }
+    {
         match self.until {
             Some(until) => time / 1_000_000 > until,
             None => false,
@@ -256,50 +293,65 @@ impl Units {
         &mut self,
         alloc: Global,
         at: RecordAt,
+        is_extended: bool,
         body: &[u8],
     ) -> Result<Option<Found>, ReplayError>
-        ensures { self.new ≡ self.old }
+        requires { self.old.pending ≡ [] }
+        ensures takes { IfOk result (TakesRecord self.old at is_extended content_spec.IndexTable body.now self.new) }
+        ensures count { self.new.count ≡ self.old.count }
     {
         self.index = None;
         match peers_in(alloc, body) {
             Ok(peers) => {
-                self.index = Some(peers);
+                self.index = Some(Index::new(peers));
                 Ok(None)
             }
             Err(AttrError::Bad(fault)) => Ok(Some(refused(at, fault))),
-            Err(AttrError::Memory) => Err(ReplayError::Memory),
+            Err(AttrError::Memory) => {
+                self.is_spent = true;
+                Err(ReplayError::Memory)
+            }
         }
     }
 
-    /// The first entry of a RIB record, beside the index in force.
+    /// Reads a RIB record beside the index in force.
     fn take_rib(
         &mut self,
-        alloc: Global,
         at: RecordAt,
+        is_extended: bool,
         add_path: bool,
         body: Sequence<u8>,
-    ) -> Result<Option<Found>, ReplayError>
-        ensures { self.new ≡ self.old }
+    ) -> Option<Found>
+        requires { self.old.pending ≡ [] }
+        ensures { TakesRecord self.old at is_extended (content_spec.Rib add_path) body self.new result }
     {
-        let Some(peers) = &self.index else {
-            return Ok(Some(refused(at, Fault::NoPeerIndex)));
+        let is_past = self.is_past(at.time(0));
+        let Some(index) = &mut self.index else {
+            return Some(refused(at, Fault::NoPeerIndex));
         };
-        match Entries::read(at, body, add_path, peers.len()) {
-            Ok(entries) => {
-                if self.is_past(at.time(0)) {
-                    return Ok(None);
-                }
-                self.entries = Some(entries);
-                let unit = self.next_entry(alloc)?;
-                Ok(unit.map(Found::Unit))
-            }
-            Err(fault) => Ok(Some(refused(at, fault))),
+        let entries = match index.read(at, add_path, body) {
+            Ok(entries) => entries,
+            Err(fault) => return Some(refused(at, fault)),
+        };
+        if is_past {
+            return None;
         }
+        index.put(entries);
+        None
     }
 }
 
+/// Whether each later call answers `Spent` after this error.
+fn is_lasting(error: ReplayError) -> bool
+    ensures { result ≡ is_lasting error }
+{
+    !matches!(error, ReplayError::Read { .. })
+}
+
 /// The refusal of a record.
-fn refused(at: RecordAt, fault: Fault) -> Found {
+fn refused(at: RecordAt, fault: Fault) -> Found
+    ensures { result ≡ refused_at at fault }
+{
     Found::Refused(Damage {
         place: at.place(None),
         fault,

@@ -1,9 +1,14 @@
-use Rattle.std.proofs.Common.{◌≡◌, length}
-use Rattle.mrt_body.specs.ToCome.{steps_left}
+use Rattle.std.proofs.Common.{◌≡◌, false, [], map, length}
+use Rattle.mrt_body.specs.ToCome.{TakesFound, steps_left}
 use Rattle.mrt_body.proofs.units.Units.find.Given as goal
 
-abbrev pub invariant-loop-self : goal.invariant-loop-self
-invariant-loop-self g l = (length l.files ≡ l.self.count) × (l.self.count ≡ l.initial.self.count)
+abbrev pub invariant-files : goal.invariant-files
+invariant-files g l = record {
+  files : length l.files ≡ l.self.count;
+  count : l.self.count ≡ l.initial.self.count;
+  going : l.self.is_spent ≡ false;
+  taken : TakesFound l.initial.self (map g.R.Source.remaining l.initial.files) l.self (map g.R.Source.remaining l.files) [];
+}
 
-abbrev pub decreases-loop-self : goal.decreases-loop-self
-decreases-loop-self g l = steps_left l.self
+abbrev pub decreases-files : goal.decreases-files
+decreases-files g l = steps_left l.self

@@ -1,0 +1,259 @@
+-- Attributes 14 and 15 are read as they are written, and what is read was written so.
+use Rattle.std.proofs.Common.{◌≡◌, ℕ, ◌^◌, ◌<◌, ◌≤◌, Bool, true, false, ◌&&◌, ◌||◌, cond, eqb, ltb, List, [], ◌∷◌, ◌++◌, length, slice_index, take, drop, Option, Some, None, Result, Ok, Err, refl, sym, ap, subst, ◌∙◌, append-nil, arith, inl, inr}
+use Rattle.std.specs.Prelude.{IfOk}
+use Rattle.std.proofs.lemmas.Bool.{eqb-true, ltb-false, le-ltb}
+use Rattle.std.proofs.lemmas.List.{take_all, take_at, drop_at, take-append-drop, length-drop}
+use Rattle.byteorder.specs.Endian.{big_number, big_bytes}
+use Rattle.byteorder.specs.Numbers.{big_number-reads_back, length-bytes_high_first, big_from-lt}
+use Rattle.mrt_frame.specs.declared.fault.Fault.{Fault}
+use Rattle.mrt_frame.specs.declared.fault.Fault.TheVariants.{BadAttribute}
+use Rattle.mrt_frame.specs.Fields.{◌>>=◌, byte_at, bytes_at}
+use Rattle.mrt_frame.proofs.Items.{bind_ok, ok_is}
+use Rattle.mrt_frame.proofs.FieldLaws.{IsBytes, IsBytes-take, IsBytes-drop, big_bytes-number, bytes_at-takes, byte_at-takes, bytes_at-again, byte_at-again}
+use Rattle.bgp_prefix.specs.declared.key.RouteKey.{RouteKey}
+use Rattle.bgp_update.specs.declared.width.AttrError.{AttrError}
+use Rattle.bgp_update.specs.declared.next_hop.NextHop.{NextHop}
+use Rattle.bgp_update.specs.declared.next_hop.NextHop.TheVariants.{V4, V6, V6Pair}
+use Rattle.bgp_update.specs.Answers.{Gives}
+use Rattle.bgp_update.specs.Keys.{WrittenKey, keys_bytes, keys_of, with_keys}
+use Rattle.bgp_update.specs.Multiprotocol.{family_bytes, hop_bytes, FitsHop, IsOfAnotherFamily, IsReach, IsUnreach, SaysReach, SaysUnreach, is_ipv4_unicast, is_hop_len, next_hop_of, reach_at, reach_in, unreach_in, keys_beside, field_of, hop_of, reached_in, unreached_in, reached_keys, unreached_keys}
+use Rattle.bgp_update.proofs.KeyLaws.{keys_in-bytes, keys_in-is}
+
+both : (a b : Bool) → (a && b) ≡ true → (a ≡ true) × (b ≡ true)
+both true b e = (refl, e)
+both false b e = absurd cc
+
+not_both : (b : Bool) → b ≡ false → b ≡ true → ⊥
+not_both true e h = absurd cc
+not_both false e h = absurd cc
+
+-- a test that passed
+test_ok : {A : Type 0} (b : Bool) (fault : Fault) (r : Result A Fault) (y : A) → cond b r (Err fault) ≡ Ok y → (b ≡ true) × (r ≡ Ok y)
+test_ok true fault r y e = (refl, e)
+test_ok false fault r y e = absurd cc
+
+-- the front of bytes is bytes
+front_fine : (front rest : List ℕ) → IsBytes (front ++ rest) → IsBytes front
+front_fine front rest h = subst IsBytes (take_at front rest (length front) refl) (IsBytes-take (length front) (front ++ rest) h)
+
+-- ---- next hops
+
+-- the bytes of a next hop are those it was read from
+abbrev HopIs : List ℕ → NextHop → Type 0
+HopIs octets hop = (octets ≡ hop_bytes hop) × FitsHop hop
+
+read_back : (n : ℕ) (octets : List ℕ) → length octets ≡ n → IsBytes octets → octets ≡ big_bytes n (big_number n octets)
+read_back n octets e fine = sym (big_bytes-number n octets (omega (arith, e)) fine ∙ take_all n octets (omega (arith, e)))
+
+four_is : (octets : List ℕ) → length octets ≡ 4 → IsBytes octets → HopIs octets (V4 (big_number 4 octets))
+four_is octets e fine = (read_back 4 octets e fine, big_from-lt 0 4 octets fine)
+
+sixteen_is : (octets : List ℕ) → length octets ≡ 16 → IsBytes octets → HopIs octets (V6 (big_number 16 octets))
+sixteen_is octets e fine = (read_back 16 octets e fine, big_from-lt 0 16 octets fine)
+
+pair_is : (octets : List ℕ) → length octets ≡ 32 → IsBytes octets → HopIs octets (V6Pair (big_number 16 octets) (big_number 16 (drop 16 octets)))
+pair_is octets e fine =
+    let second = IsBytes-drop 16 octets fine in
+    let front : big_bytes 16 (big_number 16 octets) ≡ take 16 octets = big_bytes-number 16 octets (omega (arith, e)) fine in
+    let back : drop 16 octets ≡ big_bytes 16 (big_number 16 (drop 16 octets)) = read_back 16 (drop 16 octets) (omega (arith, e, length-drop 16 octets)) second in
+    (sym (take-append-drop 16 octets) ∙ ap (λ (t : List ℕ). t ++ drop 16 octets) (sym front) ∙ ap (λ (t : List ℕ). big_bytes 16 (big_number 16 octets) ++ t) back, (big_from-lt 0 16 octets fine, big_from-lt 0 16 (drop 16 octets) second))
+
+hop_is : (octets : List ℕ) → is_hop_len (length octets) ≡ true → IsBytes octets → HopIs octets (next_hop_of octets)
+unfolding next_hop_of
+hop_is octets known fine = by_len (eqb (length octets) 4) (eqb (length octets) 16) refl refl known
+  where
+    by_len : (four sixteen : Bool) → eqb (length octets) 4 ≡ four → eqb (length octets) 16 ≡ sixteen → (four || sixteen || eqb (length octets) 32) ≡ true
+        → HopIs octets (cond four (V4 (big_number 4 octets)) (cond sixteen (V6 (big_number 16 octets)) (V6Pair (big_number 16 octets) (big_number 16 (drop 16 octets)))))
+    by_len true sixteen e h known = four_is octets (eqb-true (length octets) 4 e) fine
+    by_len false true e h known = sixteen_is octets (eqb-true (length octets) 16 h) fine
+    by_len false false e h known = pair_is octets (eqb-true (length octets) 32 known) fine
+
+reads : (n addr : ℕ) → addr < 256 ^ n → big_number n (big_bytes n addr) ≡ addr
+reads n addr fits = ap (big_number n) (sym (append-nil (big_bytes n addr))) ∙ big_number-reads_back n addr [] fits
+
+hop_again : (hop : NextHop) → FitsHop hop → (is_hop_len (length (hop_bytes hop)) ≡ true) × (next_hop_of (hop_bytes hop) ≡ hop)
+unfolding next_hop_of
+hop_again (V4 addr) fits = (refl, ap (λ (n : ℕ). V4 n) (reads 4 addr fits))
+hop_again (V6 addr) fits = (refl, ap (λ (n : ℕ). V6 n) (reads 16 addr fits))
+hop_again (V6Pair addr link) fits =
+    let first : big_number 16 (big_bytes 16 addr ++ big_bytes 16 link) ≡ addr = big_number-reads_back 16 addr (big_bytes 16 link) fits.0 in
+    let second : big_number 16 (drop 16 (big_bytes 16 addr ++ big_bytes 16 link)) ≡ link = ap (big_number 16) (drop_at (big_bytes 16 addr) (big_bytes 16 link) 16 (length-bytes_high_first 16 addr)) ∙ reads 16 link fits.1 in
+    (refl, ap (λ (n : ℕ). V6Pair n (big_number 16 (drop 16 (big_bytes 16 addr ++ big_bytes 16 link)))) first ∙ ap (λ (n : ℕ). V6Pair addr n) second)
+
+-- ---- families
+
+family_is : (value : List ℕ) → 3 ≤ length value → IsBytes value → value ≡ family_bytes (big_number 2 value) (slice_index value 2) ++ drop 3 value
+family_is [] long fine = absurd (omega (arith, long))
+family_is (a ∷ []) long fine = absurd (omega (arith, long))
+family_is (a ∷ b ∷ []) long fine = absurd (omega (arith, long))
+family_is (a ∷ b ∷ c ∷ rest) long fine =
+    ap (λ (t : List ℕ). (t ++ (c ∷ [])) ++ rest) (sym (big_bytes-number 2 (a ∷ b ∷ c ∷ rest) (omega arith) fine))
+
+-- bytes for IPv4 unicast
+is_unicast : (value : List ℕ) → 3 ≤ length value → IsBytes value → is_ipv4_unicast value ≡ true → value ≡ family_bytes 1 1 ++ drop 3 value
+is_unicast value long fine e =
+    let tests = both (eqb (big_number 2 value) 1) (eqb (slice_index value 2) 1) e in
+    family_is value long fine ∙ ap (λ (afi : ℕ). family_bytes afi (slice_index value 2) ++ drop 3 value) (eqb-true (big_number 2 value) 1 tests.0) ∙ ap (λ (safi : ℕ). family_bytes 1 safi ++ drop 3 value) (eqb-true (slice_index value 2) 1 tests.1)
+
+is_another : (value : List ℕ) → 3 ≤ length value → IsBytes value → is_ipv4_unicast value ≡ false → IsOfAnotherFamily value
+is_another value long fine e =
+    record {
+      afi = big_number 2 value;
+      safi = slice_index value 2;
+      others = drop 3 value;
+      fits = big_from-lt 0 2 value fine;
+      other = λ same. not_both (is_ipv4_unicast value) e (rw (same.0, same.1) refl);
+      spelled = family_is value long fine;
+    }
+
+another_again : (value : List ℕ) → IsOfAnotherFamily value → (3 ≤ length value) × (is_ipv4_unicast value ≡ false)
+another_again value h =
+    subst (λ (v : List ℕ). (3 ≤ length v) × (is_ipv4_unicast v ≡ false)) (sym h.spelled)
+    (omega arith, by_test (is_ipv4_unicast (family_bytes h.afi h.safi ++ h.others)) refl)
+  where
+    afi_is : big_number 2 (family_bytes h.afi h.safi ++ h.others) ≡ h.afi
+    afi_is = big_number-reads_back 2 h.afi (h.safi ∷ h.others) h.fits
+
+    by_test : (b : Bool) → is_ipv4_unicast (family_bytes h.afi h.safi ++ h.others) ≡ b → b ≡ false
+    by_test false e = refl
+    by_test true e =
+        let tests = both (eqb (big_number 2 (family_bytes h.afi h.safi ++ h.others)) 1) (eqb h.safi 1) e in
+        absurd (h.other (sym afi_is ∙ eqb-true _ 1 tests.0, eqb-true h.safi 1 tests.1))
+
+-- ---- attribute 14
+
+pub record TakesReach (bytes : List ℕ) (hop : NextHop) (rest : List ℕ) : Type 0 where
+  pub reserved : ℕ
+  pub fits : FitsHop hop
+  pub parts : bytes ≡ length (hop_bytes hop) ∷ hop_bytes hop ++ (reserved ∷ rest)
+  pub fine : IsBytes rest
+
+reach_takes : (bytes : List ℕ) (x : NextHop × List ℕ) → IsBytes bytes → reach_at bytes ≡ Ok x → TakesReach bytes x.0 x.1
+unfolding reach_at
+reach_takes bytes x fine e =
+    let fault : Fault = BadAttribute 14 in
+    let a = bind_ok (byte_at fault bytes) (λ len. cond (is_hop_len len.0) (bytes_at fault len.0 len.1) (Err fault) >>= λ hop. byte_at fault hop.1 >>= λ reserved. Ok (next_hop_of hop.0, reserved.1)) x e in
+    let b = bind_ok (cond (is_hop_len a.0.0) (bytes_at fault a.0.0 a.0.1) (Err fault)) (λ hop. byte_at fault hop.1 >>= λ reserved. Ok (next_hop_of hop.0, reserved.1)) x a.2 in
+    let c = bind_ok (byte_at fault b.0.1) (λ reserved. Ok (next_hop_of b.0.0, reserved.1)) x b.2 in
+    let test = test_ok (is_hop_len a.0.0) fault (bytes_at fault a.0.0 a.0.1) b.0 b.1 in
+    let ta = byte_at-takes fault bytes a.0 a.1 in
+    let tb = bytes_at-takes fault a.0.0 a.0.1 b.0 test.1 in
+    let tc = byte_at-takes fault b.0.1 c.0 c.1 in
+    let known : is_hop_len (length b.0.0) ≡ true = ap is_hop_len tb.1 ∙ test.0 in
+    let hop = hop_is b.0.0 known (front_fine b.0.0 b.0.1 (subst IsBytes tb.0 (ta.1 fine))) in
+    let parts : bytes ≡ length (hop_bytes (next_hop_of b.0.0)) ∷ hop_bytes (next_hop_of b.0.0) ++ (c.0.0 ∷ c.0.1) =
+    ta.0 ∙ ap (λ (t : List ℕ). a.0.0 ∷ t) tb.0 ∙ ap (λ (n : ℕ). n ∷ b.0.0 ++ b.0.1) (sym tb.1) ∙ ap (λ (t : List ℕ). length b.0.0 ∷ b.0.0 ++ t) tc.0 ∙ ap (λ (os : List ℕ). length os ∷ os ++ (c.0.0 ∷ c.0.1)) hop.0 in
+    subst (λ (y : NextHop × List ℕ). TakesReach bytes y.0 y.1) (ok_is (next_hop_of b.0.0, c.0.1) x c.2)
+    (record { reserved = c.0.0; fits = hop.1; parts = parts; fine = tc.1 (tb.2 (ta.1 fine)) })
+
+reach_again : (hop : NextHop) (reserved : ℕ) (rest : List ℕ) → FitsHop hop → reach_at (length (hop_bytes hop) ∷ hop_bytes hop ++ (reserved ∷ rest)) ≡ Ok (hop, rest)
+unfolding reach_at
+reach_again hop reserved rest fits =
+    let fault : Fault = BadAttribute 14 in
+    let known = hop_again hop fits in
+    rw (byte_at-again fault (length (hop_bytes hop)) (hop_bytes hop ++ (reserved ∷ rest)), known.0, bytes_at-again fault (length (hop_bytes hop)) (hop_bytes hop) (reserved ∷ rest) refl, byte_at-again fault reserved rest, known.1) refl
+
+-- what is read of an attribute 14 before its keys
+abbrev ReachParts : List ℕ → Option (NextHop × List ℕ) → Type 0
+ReachParts value None = IsOfAnotherFamily value
+ReachParts value (Some reach) = TakesReach (drop 3 value) reach.0 reach.1 × (value ≡ family_bytes 1 1 ++ drop 3 value)
+
+reach_parts : (value : List ℕ) (o : Option (NextHop × List ℕ)) → IsBytes value → reach_in value ≡ Ok o → ReachParts value o
+unfolding reach_in
+reach_parts value o fine e = by_tests (ltb (length value) 3) (is_ipv4_unicast value) refl refl e
+  where
+    by_tests : (short unicast : Bool) → ltb (length value) 3 ≡ short → is_ipv4_unicast value ≡ unicast
+        → cond short (Err (BadAttribute 14)) (cond unicast (◌>>=◌ {B = Option (NextHop × List ℕ)} (reach_at (drop 3 value)) (λ reach. Ok (Some reach))) (Ok None)) ≡ Ok o → ReachParts value o
+    by_tests true unicast s u h = absurd cc
+    by_tests false false s u h = subst (ReachParts value) (ok_is None o h) (is_another value (ltb-false _ _ s) fine u)
+    by_tests false true s u h =
+        let r = bind_ok (reach_at (drop 3 value)) (λ reach. Ok (Some reach)) o h in
+        subst (ReachParts value) (ok_is (Some r.0) o r.2) (reach_takes (drop 3 value) r.0 (IsBytes-drop 3 value fine) r.1, is_unicast value (ltb-false _ _ s) fine u)
+
+pub reached_in-is : (add_path : Bool) (value : List ℕ) (x : Option NextHop × List WrittenKey) → IsBytes value → reached_in add_path value ≡ Ok x → IsReach add_path value x.0 x.1
+reached_in-is add_path value x fine e =
+    let a = bind_ok (reach_in value) (λ reach. keys_beside add_path (field_of reach) >>= λ keys. Ok (hop_of reach, keys)) x e in
+    let b = bind_ok (keys_beside add_path (field_of a.0)) (λ keys. Ok (hop_of a.0, keys)) x a.2 in
+    subst (λ (y : Option NextHop × List WrittenKey). IsReach add_path value y.0 y.1) (ok_is (hop_of a.0, b.0) x b.2) (by_parts a.0 b.0 (reach_parts value a.0 fine a.1) b.1)
+  where
+    by_parts : (o : Option (NextHop × List ℕ)) (keys : List WrittenKey) → ReachParts value o → keys_beside add_path (field_of o) ≡ Ok keys → IsReach add_path value (hop_of o) keys
+    by_parts None keys parts k = (parts, sym (ok_is [] keys k))
+    by_parts (Some reach) keys parts k =
+        let law = keys_in-is add_path reach.1 keys parts.0.fine k in
+        record {
+          reserved = parts.0.reserved;
+          fits = parts.0.fits;
+          formed = law.1;
+          spelled = parts.1 ∙ ap (λ (t : List ℕ). family_bytes 1 1 ++ t) parts.0.parts ∙ ap (λ (t : List ℕ). family_bytes 1 1 ++ (length (hop_bytes reach.0) ∷ hop_bytes reach.0 ++ (parts.0.reserved ∷ t))) law.0;
+        }
+
+pub reached_in-bytes : (add_path : Bool) (value : List ℕ) (hop : Option NextHop) (keys : List WrittenKey) → IsReach add_path value hop keys → reached_in add_path value ≡ Ok (hop, keys)
+unfolding reach_in
+reached_in-bytes add_path value None keys h =
+    let f = another_again value h.0 in
+    rw (le-ltb (length value) 3 f.0, f.1, h.1) refl
+reached_in-bytes add_path value (Some hop) keys h =
+    let tail : List ℕ = length (hop_bytes hop) ∷ hop_bytes hop ++ (h.reserved ∷ keys_bytes keys) in
+    let long : ltb (length (family_bytes 1 1 ++ tail)) 3 ≡ false = le-ltb _ _ (omega arith) in
+    ap (reached_in add_path) h.spelled ∙ rw (long, reach_again hop h.reserved (keys_bytes keys) h.fits, keys_in-bytes add_path keys h.formed) refl
+
+-- ---- attribute 15
+
+abbrev UnreachParts : List ℕ → Option (List ℕ) → Type 0
+UnreachParts value None = IsOfAnotherFamily value
+UnreachParts value (Some field) = IsBytes field × (value ≡ family_bytes 1 1 ++ field)
+
+unreach_parts : (value : List ℕ) (o : Option (List ℕ)) → IsBytes value → unreach_in value ≡ Ok o → UnreachParts value o
+unfolding unreach_in
+unreach_parts value o fine e = by_tests (ltb (length value) 3) (is_ipv4_unicast value) refl refl e
+  where
+    by_tests : (short unicast : Bool) → ltb (length value) 3 ≡ short → is_ipv4_unicast value ≡ unicast → cond short (Err (BadAttribute 15)) (cond unicast (Ok (Some (drop 3 value))) (Ok None)) ≡ Ok o → UnreachParts value o
+    by_tests true unicast s u h = absurd cc
+    by_tests false false s u h = subst (UnreachParts value) (ok_is None o h) (is_another value (ltb-false _ _ s) fine u)
+    by_tests false true s u h = subst (UnreachParts value) (ok_is (Some (drop 3 value)) o h) (IsBytes-drop 3 value fine, is_unicast value (ltb-false _ _ s) fine u)
+
+pub unreached_in-is : (add_path : Bool) (value : List ℕ) (keys : List WrittenKey) → IsBytes value → unreached_in add_path value ≡ Ok keys → IsUnreach add_path value keys
+unreached_in-is add_path value keys fine e =
+    let a = bind_ok (unreach_in value) (λ field. keys_beside add_path field) keys e in
+    by_parts a.0 (unreach_parts value a.0 fine a.1) a.2
+  where
+    by_parts : (o : Option (List ℕ)) → UnreachParts value o → keys_beside add_path o ≡ Ok keys → IsUnreach add_path value keys
+    by_parts None parts k = inr (parts, sym (ok_is [] keys k))
+    by_parts (Some field) parts k =
+        let law = keys_in-is add_path field keys parts.0 k in
+        inl (record { formed = law.1; spelled = parts.1 ∙ ap (λ (t : List ℕ). family_bytes 1 1 ++ t) law.0 })
+
+pub unreached_in-bytes : (add_path : Bool) (value : List ℕ) (keys : List WrittenKey) → IsUnreach add_path value keys → unreached_in add_path value ≡ Ok keys
+unfolding unreach_in
+unreached_in-bytes add_path value keys (inr h) =
+    let f = another_again value h.0 in
+    rw (le-ltb (length value) 3 f.0, f.1, h.1) refl
+unreached_in-bytes add_path value keys (inl h) =
+    let long : ltb (length (family_bytes 1 1 ++ keys_bytes keys)) 3 ≡ false = le-ltb _ _ (omega arith) in
+    ap (unreached_in add_path) h.spelled ∙ rw (long, keys_in-bytes add_path keys h.formed) refl
+
+-- ---- the same as keys of routes
+
+pub reach_is_found : {X : Type 0} (view : X → Option NextHop × List RouteKey) (add_path : Bool) (value : List ℕ) (r : Result X AttrError) → IsBytes value → Gives view r (reached_keys add_path (Some value)) → IfOk r (λ x. SaysReach add_path value (view x).0 (view x).1)
+unfolding reached_keys
+reach_is_found view add_path value (Err error) fine e = tt
+reach_is_found view add_path value (Ok x) fine e =
+    let b = bind_ok (reached_in add_path value) (λ reached. Ok (reached.0, keys_of reached.1)) (view x) e in
+    subst (λ (y : Option NextHop × List RouteKey). SaysReach add_path value y.0 y.1) (ok_is (b.0.0, keys_of b.0.1) (view x) b.2) (b.0.1, reached_in-is add_path value b.0 fine b.1, refl)
+
+pub reach_again_said : (add_path : Bool) (value : List ℕ) (hop : Option NextHop) (keys : List RouteKey) → SaysReach add_path value hop keys → reached_keys add_path (Some value) ≡ Ok (hop, keys)
+unfolding reached_keys
+reach_again_said add_path value hop keys h = rw (reached_in-bytes add_path value hop h.0 h.1) (ap (λ (ks : List RouteKey). Ok (hop, ks)) (sym h.2))
+
+pub unreach_is_found : {X : Type 0} (view : X → List RouteKey) (add_path : Bool) (front : List RouteKey) (value : List ℕ) (r : Result X AttrError) → IsBytes value → Gives view r (with_keys front (unreached_keys add_path (Some value)))
+    → IfOk r (λ x. (keys : List RouteKey) × SaysUnreach add_path value keys × (view x ≡ front ++ keys))
+unfolding unreached_keys
+unreach_is_found view add_path front value (Err error) fine e = tt
+unreach_is_found view add_path front value (Ok x) fine e =
+    let a = bind_ok (unreached_keys add_path (Some value)) (λ keys. Ok (front ++ keys)) (view x) e in
+    let b = bind_ok (unreached_in add_path value) (λ keys. Ok (keys_of keys)) a.0 a.1 in
+    (a.0, (b.0, unreached_in-is add_path value b.0 fine b.1, sym (ok_is (keys_of b.0) a.0 b.2)), sym (ok_is (front ++ a.0) (view x) a.2))
+
+pub unreach_again_said : (add_path : Bool) (front : List RouteKey) (value : List ℕ) (keys : List RouteKey) → SaysUnreach add_path value keys → with_keys front (unreached_keys add_path (Some value)) ≡ Ok (front ++ keys)
+unfolding unreached_keys
+unreach_again_said add_path front value keys h = rw (unreached_in-bytes add_path value h.0 h.1) (ap (λ (ks : List RouteKey). Ok (front ++ ks)) (sym h.2))

@@ -1,0 +1,54 @@
+-- What is left behind a reading is the end of what was read from.
+use Rattle.std.proofs.Common.{◌≡◌, ℕ, ◌-◌, ◌≤◌, List, [], ◌∷◌, ◌++◌, length, take, drop, Ok, refl, sym, ap, subst, ◌∙◌, arith, append_assoc}
+use Rattle.std.proofs.lemmas.List.{take-append-drop, length-append, drop_at}
+use Rattle.mrt_frame.specs.declared.fault.Fault.{Fault}
+use Rattle.mrt_frame.specs.Fields.{Reading, ◌>>=◌, byte_at, bytes_at, number_at}
+use Rattle.mrt_frame.proofs.Items.{bind_ok, ok_is}
+use Rattle.mrt_frame.proofs.FieldLaws.{bytes_at-takes, byte_at-takes, number_at-long}
+use Rattle.mrt_body.proofs.ManyLaws.{done}
+
+pub record Behind (bytes rest : List ℕ) : Type 0 where
+  pub front : List ℕ
+  pub parts : bytes ≡ front ++ rest
+
+pub behind_all : (bytes : List ℕ) → Behind bytes bytes
+behind_all bytes = record { front = []; parts = refl }
+
+pub behind_more : (a b c : List ℕ) → Behind a b → Behind b c → Behind a c
+behind_more a b c p q = record { front = p.front ++ q.front; parts = p.parts ∙ ap (λ (l : List ℕ). p.front ++ l) q.parts ∙ sym (append_assoc p.front q.front c) }
+
+pub behind-le : (bytes rest : List ℕ) → Behind bytes rest → length rest ≤ length bytes
+behind-le bytes rest p = omega (arith, ap length p.parts, length-append p.front rest)
+
+-- it is found by its length
+pub behind-drop : (bytes rest : List ℕ) → Behind bytes rest → drop (length bytes - length rest) bytes ≡ rest
+behind-drop bytes rest p =
+    let e : length bytes - length rest ≡ length p.front = omega (arith, ap length p.parts, length-append p.front rest) in
+    ap (λ (n : ℕ). drop n bytes) e ∙ ap (drop (length p.front)) p.parts ∙ drop_at p.front rest (length p.front) refl
+
+-- behind the first n bytes
+pub behind_front : (n : ℕ) (bytes : List ℕ) → Behind bytes (drop n bytes)
+behind_front n bytes = record { front = take n bytes; parts = sym (take-append-drop n bytes) }
+
+pub number_behind : (fault : Fault) (n : ℕ) (bytes : List ℕ) (x : ℕ × List ℕ) → number_at fault n bytes ≡ Ok x → Behind bytes x.1
+number_behind fault n bytes x e = subst (λ (l : List ℕ). Behind bytes l) (sym (number_at-long fault n bytes x e).1) (behind_front n bytes)
+
+pub bytes_behind : (fault : Fault) (n : ℕ) (bytes : List ℕ) (x : List ℕ × List ℕ) → bytes_at fault n bytes ≡ Ok x → Behind bytes x.1
+bytes_behind fault n bytes x e = record { front = x.0; parts = (bytes_at-takes fault n bytes x e).0 }
+
+pub byte_behind : (fault : Fault) (bytes : List ℕ) (x : ℕ × List ℕ) → byte_at fault bytes ≡ Ok x → Behind bytes x.1
+byte_behind fault bytes x e = record { front = x.0 ∷ []; parts = (byte_at-takes fault bytes x e).0 }
+
+-- ---- readings one after the other
+
+abbrev pub LeavesEnd : {A : Type 0} → (List ℕ → Reading A) → Type 0
+LeavesEnd {A} read = (bytes : List ℕ) (x : A × List ℕ) → read bytes ≡ Ok x → Behind bytes x.1
+
+pub then_behind : {A B : Type 0} (bytes : List ℕ) (r : Reading A) (f : A × List ℕ → Reading B) → ((x : A × List ℕ) → r ≡ Ok x → Behind bytes x.1) → ((x : A × List ℕ) (y : B × List ℕ) → f x ≡ Ok y → Behind x.1 y.1)
+    → (y : B × List ℕ) → (r >>= f) ≡ Ok y → Behind bytes y.1
+then_behind bytes r f first more y e =
+    let a = bind_ok r f y e in
+    behind_more bytes a.0.1 y.1 (first a.0 a.1) (more a.0 y a.2)
+
+pub ok_behind : {B : Type 0} (b : B) (rest : List ℕ) (y : B × List ℕ) → done (b, rest) ≡ Ok y → Behind rest y.1
+ok_behind {B} b rest y e = subst (λ (z : B × List ℕ). Behind rest z.1) (ok_is (b, rest) y e) (behind_all rest)

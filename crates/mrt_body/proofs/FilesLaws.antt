@@ -1,0 +1,155 @@
+-- Steps of a reading of files, one after the other.
+use Rattle.std.proofs.Common.{◌≡◌, inl, inr, ℕ, ◌+◌, ◌<◌, Bool, cond, List, [], ◌∷◌, ◌++◌, length, map, drop, get_or, set, Option, Some, refl, sym, ap, subst, ◌∙◌, arith, append_assoc, add-one}
+use Rattle.std.specs.List.{count_by}
+use Rattle.std.proofs.Math.Seq.{drop-cons}
+use Rattle.std.proofs.lemmas.List.{map-set, map-append, drop-set, drop-set-lt, length-map, get_or-map}
+use Rattle.std.proofs.lemmas.List.Sums.{sum_by-append}
+use Rattle.mrt_frame.specs.declared.cut.Cut.{Cut}
+use Rattle.mrt_frame.specs.Frames.{Position, to_come}
+use Rattle.mrt_body.specs.declared.unit.PeerKey.{PeerKey}
+use Rattle.mrt_body.specs.declared.unit.Unit.{Unit as ReplayUnit}
+use Rattle.mrt_body.specs.declared.unit.Found.{Found}
+use Rattle.mrt_body.specs.declared.unit.Found.TheVariants as found
+use Rattle.mrt_body.specs.Units.{found_in_files, all_cuts, is_whole, is_aside}
+use Rattle.mrt_body.specs.ToCome.{UnitsState, in_next_file, as_found, found_here, found_left, found_to_come, cuts_to_come, Passes, TakesFound, GivesPending, StaysInFile, LeavesFile, Steps}
+use Rattle.mrt_body.proofs.IndexLaws.{found_in_file-is}
+
+abbrev Bytes : Type 0
+Bytes = List ℕ
+
+abbrev known_all : List Bytes → List (Option Bytes)
+known_all contents = map (λ bytes. Some bytes) contents
+
+pub TakesFound-none : (u : UnitsState) (files : List (Option Bytes)) → TakesFound u files u files []
+TakesFound-none u files contents h = (contents, h, record { found = refl; records = refl; aside = refl })
+
+pub TakesFound-more : (a b c : UnitsState) (first second third : List (Option Bytes)) (taken more : List Found) → TakesFound a first b second taken → TakesFound b second c third more → TakesFound a first c third (taken ++ more)
+TakesFound-more a b c first second third taken more p q contents h =
+    let x = p contents h in
+    let y = q x.0 x.1 in (
+      y.0,
+      y.1,
+      record {
+        found = x.2.found ∙ ap (λ (l : List Found). taken ++ l) y.2.found ∙ sym (append_assoc taken more (found_to_come c y.0));
+        records = x.2.records ∙ y.2.records;
+        aside = x.2.aside ∙ y.2.aside;
+      },
+    )
+
+-- units that were pending
+module _ (old : UnitsState) (pending : List ReplayUnit) where
+  abbrev gave : UnitsState
+  gave = record old { pending = pending }
+
+  gave_left : (contents : List Bytes) → found_left old contents ≡ found_left gave contents
+  gave_left [] = refl
+  gave_left (bytes ∷ later) = refl
+
+  gave_cuts : (contents : List Bytes) → cuts_to_come old contents ≡ cuts_to_come gave contents
+  gave_cuts [] = refl
+  gave_cuts (bytes ∷ later) = refl
+
+  gave_found : (files : List (Option Bytes)) (given : List ReplayUnit) → old.pending ≡ given ++ pending → TakesFound old files gave files (as_found given)
+  gave_found files given parts contents known = (
+    contents,
+    known,
+    record {
+      found = ap (λ (l : List ReplayUnit). as_found l ++ found_left old contents) parts ∙ ap (λ (l : List Found). l ++ found_left old contents) (map-append (λ u. found.Unit u) given pending) ∙ append_assoc (as_found given) (as_found pending) (found_left old contents)
+          ∙ ap (λ (l : List Found). as_found given ++ (as_found pending ++ l)) (gave_left contents);
+      records = ap (λ (cs : List Cut). old.records + count_by is_whole cs) (gave_cuts contents);
+      aside = ap (λ (cs : List Cut). old.aside + count_by is_aside cs) (gave_cuts contents);
+    },
+  )
+
+pub gives_found : (old new : UnitsState) (files : List (Option Bytes)) (given : List ReplayUnit) → GivesPending old new given → TakesFound old files new files (as_found given)
+gives_found old new files given h = subst (λ (n : UnitsState). TakesFound old files n files (as_found given)) (sym h.0) (gave_found old new.pending files given h.1)
+
+counted_on : (p : Cut → Bool) (a b : ℕ) (xs ys others : List Cut) → a + count_by p xs ≡ b + count_by p ys → a + count_by p (xs ++ others) ≡ b + count_by p (ys ++ others)
+counted_on p a b xs ys others h = omega (arith, h, sum_by-append (λ (c : Cut). cond (p c) 1 0) xs others, sum_by-append (λ (c : Cut). cond (p c) 1 0) ys others)
+
+-- more of the current file is to come
+module _ (old : UnitsState) (frames : Position) (index : Option (List PeerKey)) (pending : List ReplayUnit) (records aside : ℕ) (bytes rest : Bytes) (later : List Bytes) where
+  abbrev stayed : UnitsState
+  stayed = record old { frames = frames; index = index; pending = pending; records = records; aside = aside }
+
+  stay_passes : (taken : List Found) → old.pending ≡ [] → StaysInFile old bytes stayed rest taken → Passes old (bytes ∷ later) stayed (rest ∷ later) taken
+  stay_passes taken none s =
+      let others = found_in_files old.until (old.file + 1) later in
+      record {
+        found = ap (λ (l : List ReplayUnit). as_found l ++ (found_here old bytes ++ others)) none ∙ ap (λ (l : List Found). l ++ others) s.found ∙ append_assoc taken (as_found pending ++ found_here stayed rest) others
+            ∙ ap (λ (l : List Found). taken ++ l) (append_assoc (as_found pending) (found_here stayed rest) others);
+        records = counted_on is_whole old.records records (to_come old.frames bytes) (to_come frames rest) (all_cuts later) s.records;
+        aside = counted_on is_aside old.aside aside (to_come old.frames bytes) (to_come frames rest) (all_cuts later) s.aside;
+      }
+
+-- no more of it is to come
+module _ (old : UnitsState) where
+  next_left : (later : List Bytes) → found_in_files old.until (old.file + 1) later ≡ found_left (in_next_file old) later
+  next_left [] = refl
+  next_left (bytes ∷ later) = ap (λ (l : List Found). l ++ found_in_files old.until ((old.file + 1) + 1) later) (found_in_file-is old.until (old.file + 1) bytes)
+
+  next_cuts : (later : List Bytes) → all_cuts later ≡ cuts_to_come (in_next_file old) later
+  next_cuts [] = refl
+  next_cuts (bytes ∷ later) = refl
+
+  counted_next : (p : Cut → Bool) (a : ℕ) (xs : List Cut) (later : List Bytes) → count_by p xs ≡ 0 → a + count_by p (xs ++ all_cuts later) ≡ a + count_by p (cuts_to_come (in_next_file old) later)
+  counted_next p a xs later none = omega (arith, none, sum_by-append (λ (c : Cut). cond (p c) 1 0) xs (all_cuts later), ap (count_by p) (next_cuts later))
+
+  leave_passes : (bytes : Bytes) (later : List Bytes) (taken : List Found) → old.pending ≡ [] → LeavesFile old bytes (in_next_file old) taken → Passes old (bytes ∷ later) (in_next_file old) later taken
+  leave_passes bytes later taken none s =
+      let others = found_in_files old.until (old.file + 1) later in
+      record {
+        found = ap (λ (l : List ReplayUnit). as_found l ++ (found_here old bytes ++ others)) none ∙ ap (λ (l : List Found). l ++ others) s.found ∙ ap (λ (l : List Found). taken ++ l) (next_left later);
+        records = counted_next is_whole old.records (to_come old.frames bytes) later s.records;
+        aside = counted_next is_aside old.aside (to_come old.frames bytes) later s.aside;
+      }
+
+module _ (old new : UnitsState) (before : List (Option Bytes)) (known left : Option Bytes) (taken : List Found) where
+  in_reader : old.pending ≡ [] → old.file < length before → get_or before old.file known ≡ known → Steps old known new left taken
+      → (contents : List Bytes) → known ∷ drop (old.file + 1) before ≡ known_all contents → (rest : List Bytes) × (drop new.file (set before old.file left) ≡ known_all rest) × Passes old contents new rest taken
+  in_reader none within at steps [] h = absurd cc
+  in_reader none within at steps (bytes ∷ later) h =
+      let first : known ≡ Some bytes = cc in
+      let others : drop (old.file + 1) before ≡ known_all later = cc in
+      let s = steps bytes first in
+      elim s.2 [
+        | inl stay ↦
+            let n = new in
+            let same : new ≡ record old { frames = n.frames; index = n.index; pending = n.pending; records = n.records; aside = n.aside } = stay.state in
+            let file : new.file ≡ old.file = ap (λ (u : UnitsState). u.file) same in
+            let put : drop old.file (set before old.file left) ≡ left ∷ drop (old.file + 1) before = drop-set before old.file left within in (
+              s.0 ∷ later,
+              ap (λ (i : ℕ). drop i (set before old.file left)) file ∙ put ∙ ap (λ (o : Option Bytes). o ∷ drop (old.file + 1) before) s.1 ∙ ap (λ (l : List (Option Bytes)). Some s.0 ∷ l) others,
+              subst (λ (u : UnitsState). Passes old (bytes ∷ later) u (s.0 ∷ later) taken) (sym same)
+                  (stay_passes old n.frames n.index n.pending n.records n.aside bytes s.0 later taken none (subst (λ (u : UnitsState). StaysInFile old bytes u s.0 taken) same stay)),
+            )
+        | inr leave ↦
+            let same : new ≡ in_next_file old = leave.state in
+            let file : new.file ≡ old.file + 1 = ap (λ (u : UnitsState). u.file) same in
+            let below : old.file < old.file + 1 = omega arith in (
+              later,
+              ap (λ (i : ℕ). drop i (set before old.file left)) file ∙ drop-set-lt (old.file + 1) before old.file left below ∙ others,
+              subst (λ (u : UnitsState). Passes old (bytes ∷ later) u later taken) (sym same) (leave_passes old bytes later taken none (subst (λ (u : UnitsState). LeavesFile old bytes u taken) same leave)),
+            )
+      ]
+
+  pub step_found : old.pending ≡ [] → old.file < length before → get_or before old.file known ≡ known → Steps old known new left taken → TakesFound old before new (set before old.file left) taken
+  step_found none within at steps contents h =
+      let i = old.file in
+      let parts : drop i before ≡ known ∷ drop (i + 1) before = drop-cons before i known within ∙ ap (λ (n : ℕ). get_or before i known ∷ drop n before) (sym (add-one i)) ∙ ap (λ (o : Option Bytes). o ∷ drop (i + 1) before) at in
+      in_reader none within at steps contents (sym parts ∙ h)
+
+-- after a reading with nothing pending, a step in the file of this number
+module _ {R : Type 0} (remaining : R → Option Bytes) (a b u v : UnitsState) (start files : List R) (i : ℕ) (d next : R) (taken : List Found) where
+  pub one_more_step : TakesFound a (map remaining start) b (map remaining files) [] → GivesPending b u [] → b.pending ≡ [] → i ≡ u.file → i < length files → Steps u (remaining (get_or files i d)) v (remaining next) taken
+      → TakesFound a (map remaining start) v (map remaining (set files i next)) taken
+  one_more_step before gives none same within steps =
+      let reader = get_or files i d in
+      let pending : u.pending ≡ [] = sym gives.1 ∙ none in
+      let inside : i < length (map remaining files) = omega (arith, length-map files remaining) in
+      let at : get_or (map remaining files) i (remaining reader) ≡ remaining reader = get_or-map remaining files i d (remaining reader) within in
+      let to_u = TakesFound-more a b u (map remaining start) (map remaining files) (map remaining files) [] [] before (gives_found b u (map remaining files) [] gives) in
+      let step = step_found u v (map remaining files) (remaining reader) (remaining next) taken pending (subst (λ (n : ℕ). n < length (map remaining files)) same inside) (subst (λ (n : ℕ). get_or (map remaining files) n (remaining reader) ≡ remaining reader) same at) steps in
+      let put : map remaining (set files i next) ≡ set (map remaining files) u.file (remaining next) = map-set remaining files i next ∙ ap (λ (n : ℕ). set (map remaining files) n (remaining next)) same in
+      subst (λ (l : List (Option Bytes)). TakesFound a (map remaining start) v l taken) (sym put)
+      (TakesFound-more a u v (map remaining start) (map remaining files) (set (map remaining files) u.file (remaining next)) [] taken to_u step)
