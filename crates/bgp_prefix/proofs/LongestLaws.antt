@@ -17,6 +17,7 @@ use Rattle.bgp_prefix.specs.declared.key.RouteKey.{RouteKey}
 use Rattle.bgp_prefix.proofs.Bits.{share_fewer}
 use Rattle.bgp_prefix.proofs.KeyLaws.{key_cmp_total, tied_same}
 use Rattle.bgp_prefix.proofs.MapLaws.{found}
+use Rattle.bgp_prefix.proofs.NetworkLaws.{network_is, shorter_than_network}
 use Rattle.bgp_prefix.proofs.OrderLaws.{AllKeys, AllKeys-weaker, first, second, less_by_len, network_below}
 
 less : (r : Ordering) → T (is_lt r) → r ≡ Less
@@ -130,10 +131,13 @@ module _ {V : Type 0} (addr : ℕ) where
     longest_found None is = tt
     longest_found (Some p) is =
         let of_list = last_is_longest es p h known (sym is) in
+        let known_p : IsIpPrefix p = held_key (λ j. IsIpPrefix j.prefix) (record { prefix = p; id = of_list.id }) es known of_list.held in
         record {
           held_by = (of_list.id, ap is_some (found es (record { prefix = p; id = of_list.id })) ∙ of_list.held);
           matches = of_list.matches;
-          longest = λ k there within. held_key (λ j. contains j.prefix addr ≡ true → j.prefix.len ≤ p.len) k es of_list.longest (in_list k there) within;
+          longest = λ k there within other.
+              let no_longer = held_key (λ j. contains j.prefix addr ≡ true → j.prefix.len ≤ p.len) k es of_list.longest (in_list k there) within in
+              shorter_than_network addr p.len k.prefix (held_key (λ j. IsIpPrefix j.prefix) k es known (in_list k there)) within (λ same. other (same ∙ sym (network_is addr p known_p of_list.matches))) no_longer;
         }
 
     pub longest_none : (o : Option IpPrefix) → o ≡ last_match es addr → IfNone o (HasNoMatch (finite.from_entries {R = key_cmp} es) addr)

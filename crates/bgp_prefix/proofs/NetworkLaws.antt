@@ -1,5 +1,5 @@
 -- The networks of an address, and the longest match among them.
-use Rattle.std.proofs.Common.{◌≡◌, ℕ, get_or, ◌*◌, ◌<◌, ◌≤◌, Bool, true, false, List, refl, sym, ap, subst, ◌∙◌, inl, inr}
+use Rattle.std.proofs.Common.{◌≡◌, ◌≢◌, ℕ, get_or, ◌*◌, ◌<◌, ◌≤◌, Bool, true, false, List, refl, sym, ap, subst, ◌∙◌, arith, inl, inr}
 use Rattle.std.proofs.lemmas.Bool.{cases_lt, eqb-true, eq-eqb}
 use Rattle.std.proofs.lemmas.List.Folds.{list_any_at}
 use Rattle.std.specs.List.{All, list_any}
@@ -28,6 +28,13 @@ network_is addr p is within =
     let same : p.addr ≡ network_of addr p.len = sym is.cleared ∙ ap (λ (t : ℕ). t * block_size p.len) (sym bits) in
     ap (λ (a : ℕ). record { addr = a; len = p.len }) same
 
+-- so another prefix that contains the address and is no longer is shorter
+pub shorter_than_network : (addr n : ℕ) (p : IpPrefix) → IsIpPrefix p → contains p addr ≡ true → p ≢ network addr n → p.len ≤ n → p.len < n
+shorter_than_network addr n p is within other le = elim (cases_lt p.len n) [
+  | inl lt ↦ lt
+  | inr ge ↦ let same : p.len ≡ n = omega (arith, le, ge) in absurd (other (network_is addr p is within ∙ ap (network addr) same))
+]
+
 same_itself : (p : IpPrefix) → prefix_eq p p ≡ true
 same_itself p = rw (eq-eqb p.addr p.addr refl, eq-eqb p.len p.len refl)
 
@@ -54,11 +61,12 @@ module _ {V : Type 0} (es : List (RouteKey × V)) (addr : ℕ) where
       record {
         held_by = (key.0, holds _ ∙ key.1);
         matches = contains_network addr n;
-        longest = λ k held within.
-            let has_it = has_network k known (sym (holds k) ∙ held) within in
-            elim (cases_lt n k.prefix.len) [
+        longest = λ k held within other.
+            let some = sym (holds k) ∙ held in
+            let has_it = has_network k known some within in
+            elim (cases_lt n k.prefix.len) as (λ _. k.prefix.len < n) [
               | inl longer ↦ let no = none k.prefix.len longer has_it.0 in let yes = has_it.1 in cc
-              | inr le ↦ le
+              | inr le ↦ shorter_than_network addr n k.prefix (of_found (λ q. IsIpPrefix q.prefix) es k known some) within other le
             ];
       }
 

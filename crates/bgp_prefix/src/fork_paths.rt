@@ -1,4 +1,4 @@
-ghost use Rattle.std.specs.Prelude.{◌≡◌, ℕ, List, [], ◌∷◌, ◌++◌, not, T, map, IfOk, OnOk, OnErr};
+ghost use Rattle.std.specs.Prelude.{◌≡◌, ℕ, List, [], ◌∷◌, ◌++◌, not, T, map, IfOk, OnOk, OnErr, None, IsSome, IfSome};
 ghost use Rattle.std.specs.Option.{option_copied};
 ghost use Rattle.std.specs.Ordering.{nat_cmp, eq_by_cmp};
 ghost use Rattle.std.specs.FinMap.{find, put};
@@ -45,9 +45,16 @@ impl<V: Drop> ForkPaths<V> {
         }
     }
 
-    pub fn one(alloc: Global, id: u32, value: V) -> Result<ForkPaths<V>, Memory>
-        ensures { IfOk result (λ paths. paths ≡ (id, value) ∷ []) }
+    /// One route, whose value is taken from a slot.
+    #[inline(never)]
+    pub fn taken(alloc: Global, id: u32, slot: &mut Option<V>) -> Result<ForkPaths<V>, Memory>
+        requires { IsSome slot.old }
+        ensures paths { IfOk result (λ paths. IfSome slot.old (λ value. paths ≡ (id, value) ∷ [])) }
+        ensures taken { slot.new ≡ None }
     {
+        let Some(value) = slot.take() else {
+            unreachable!()
+        };
         let paths = Box::new(alloc, Paths::one(id, value))?;
         Ok(ForkPaths::from_box(paths))
     }
@@ -69,20 +76,22 @@ impl<V: Drop> ForkPaths<V> {
         }
     }
 
-    /// Sets the value of an identifier, and gives the one before. An `Err` changes nothing.
-    pub fn insert(&mut self, alloc: Global, id: u32, value: V) -> Result<Option<V>, Memory>
-        ensures before { IfOk result (λ before. before ≡ find nat_cmp id self.old) }
-        ensures ok { OnOk result (self.new ≡ put nat_cmp id value self.old) }
+    /// Sets the value of an identifier to that of a slot, which is left with the one before. An
+    /// `Err` changes nothing but the slot.
+    #[inline(never)]
+    pub fn exchange(&mut self, alloc: Global, id: u32, slot: &mut Option<V>) -> Result<(), Memory>
+        requires { IsSome slot.old }
+        ensures before { OnOk result (slot.new ≡ find nat_cmp id self.old) }
+        ensures ok { OnOk result (IfSome slot.old (λ value. self.new ≡ put nat_cmp id value self.old)) }
         ensures err { OnErr result (self.new ≡ self.old) }
         ensures sorted { T (is_sorted nat_cmp self.new) }
     {
         match &mut self.boxed {
             Boxed::Absent => {
-                let paths = ForkPaths::one(alloc, id, value)?;
-                self.set(paths);
-                Ok(None)
+                self.set(ForkPaths::taken(alloc, id, slot)?);
+                Ok(())
             }
-            Boxed::Present(paths) => paths.insert(alloc, id, value),
+            Boxed::Present(paths) => paths.exchange(alloc, id, slot),
         }
     }
 

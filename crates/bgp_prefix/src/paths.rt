@@ -1,4 +1,4 @@
-ghost use Rattle.std.specs.Prelude.{◌≡◌, ℕ, List, [], ◌∷◌, ◌++◌, not, T, map, IfOk, OnOk, OnErr};
+ghost use Rattle.std.specs.Prelude.{◌≡◌, ℕ, List, [], ◌∷◌, ◌++◌, not, T, map, IfOk, OnOk, OnErr, IsSome, IfSome};
 ghost use Rattle.std.specs.Option.{option_copied};
 ghost use Rattle.std.specs.Ordering.{nat_cmp, eq_by_cmp};
 ghost use Rattle.std.specs.FinMap.{find, put};
@@ -88,6 +88,23 @@ impl<V: Drop> Paths<V> {
             }
             Held::Many(list) => list.insert(id, value),
         }
+    }
+
+    /// Sets the value of an identifier to that of a slot, which is left with the one before. An
+    /// `Err` changes nothing but the slot.
+    #[inline(never)]
+    pub fn exchange(&mut self, alloc: Global, id: u32, slot: &mut Option<V>) -> Result<(), Memory>
+        requires { IsSome slot.old }
+        ensures before { OnOk result (slot.new ≡ find nat_cmp id self.old) }
+        ensures ok { OnOk result (IfSome slot.old (λ value. self.new ≡ put nat_cmp id value self.old)) }
+        ensures err { OnErr result (self.new ≡ self.old) }
+        ensures sorted { T (is_sorted nat_cmp self.new) }
+    {
+        let Some(value) = slot.take() else {
+            unreachable!()
+        };
+        *slot = self.insert(alloc, id, value)?;
+        Ok(())
     }
 
     /// Removes an identifier, and gives its value.

@@ -89,7 +89,11 @@ pub fn shared_len(p: &Prefix, q: &Prefix) -> u8
 {
     let same = (p.addr() ^ q.addr()).leading_zeros();
     let shorter = p.len().min(q.len());
-    if same < shorter as u32 { same as u8 } else { shorter }
+    if same < shorter as u32 {
+        same as u8
+    } else {
+        shorter
+    }
 }
 
 /// The bit of the address after the first `len`.

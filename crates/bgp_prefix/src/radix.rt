@@ -1,4 +1,4 @@
-ghost use Rattle.std.specs.Prelude.{◌≡◌, ◌≢◌, ℕ, ◌+◌, ◌-◌, ◌*◌, ◌<◌, ◌≤◌, IsTrue, Option, Some, None, [], ◌++◌, map, OnOk, OnErr, IfOk, IfSome, IfNone, if◌then◌else◌};
+ghost use Rattle.std.specs.Prelude.{◌≡◌, ◌≢◌, ℕ, ◌+◌, ◌-◌, ◌*◌, ◌<◌, ◌≤◌, IsTrue, Option, Some, None, IsSome, [], ◌++◌, map, OnOk, OnErr, IfOk, IfSome, IfNone, if◌then◌else◌};
 ghost use Rattle.std.specs.Option.{option_copied, option_or};
 ghost use Rattle.std.specs.FinMap as finite;
 ghost use Rattle.std.specs.FinMap.{find};
@@ -57,9 +57,13 @@ enum Place {
 fn place_of(at: &Prefix, prefix: &Prefix) -> Place
     ensures { IsPlace at.now prefix.now result }
 {
-    if at == prefix {
-        Place::Here
-    } else if at.len() >= prefix.len() || !at.contains(prefix.addr()) {
+    if at.len() >= prefix.len() {
+        if at == prefix {
+            Place::Here
+        } else {
+            Place::Apart
+        }
+    } else if !at.contains(prefix.addr()) {
         Place::Apart
     } else if bit_after(prefix.addr(), at.len()) {
         Place::High
@@ -91,56 +95,52 @@ impl<V: Drop> Branch<V> {
         }
     }
 
-    /// Sets the value of a key, and gives the one before. An `Err` changes nothing.
-    fn insert(&mut self, alloc: Global, key: RouteKey, value: V) -> Result<Option<V>, Memory>
+    /// Sets the value of a key to that of a slot, which is left with the one before. An `Err`
+    /// changes nothing but the slot.
+    ///
+    /// A value is wide, and a function clears the room of its locals at entry: so neither this
+    /// recursion nor what is inlined into it has a value among its locals.
+    fn insert(&mut self, alloc: Global, key: &RouteKey, slot: &mut Option<V>) -> Result<(), Memory>
         requires trie { IsTrie self.old }
-        requires known { IsIpPrefix key.prefix }
-        ensures before { IfOk result (λ before. before ≡ find key_cmp key (routes self.old)) }
-        ensures ok { OnOk result (IsInserted self.old self.new key value) }
+        requires known { IsIpPrefix key.now.prefix }
+        requires given { IsSome slot.old }
+        ensures before { OnOk result (slot.new ≡ find key_cmp key.now (routes self.old)) }
+        ensures ok { OnOk result (IfSome slot.old (IsInserted self.old self.new key.now)) }
         ensures err { OnErr result (self.new ≡ self.old) }
     {
         match self {
-            Branch::Nothing => {
-                self.set(Branch::leaf(alloc, key, value)?);
-                Ok(None)
-            }
+            Branch::Nothing => self.insert_leaf(alloc, key, slot),
             Branch::Leaf(leaf) => {
                 let at = leaf.prefix;
                 match place_of(&at, &key.prefix) {
-                    Place::Here => leaf.paths.insert(alloc, key.id, value),
-                    Place::Low => {
-                        self.insert_below(alloc, false, key, value)?;
-                        Ok(None)
-                    }
-                    Place::High => {
-                        self.insert_below(alloc, true, key, value)?;
-                        Ok(None)
-                    }
-                    Place::Apart => {
-                        self.insert_apart(alloc, &at, key, value)?;
-                        Ok(None)
-                    }
+                    Place::Here => leaf.paths.exchange(alloc, key.id, slot),
+                    Place::Low => self.insert_below(alloc, false, key, slot),
+                    Place::High => self.insert_below(alloc, true, key, slot),
+                    Place::Apart => self.insert_apart(alloc, &at, key, slot),
                 }
             }
             Branch::Fork(fork) => {
                 let at = fork.prefix;
                 match place_of(&at, &key.prefix) {
-                    Place::Here => fork.paths.insert(alloc, key.id, value),
-                    Place::Low => fork.low.insert(alloc, key, value),
-                    Place::High => fork.high.insert(alloc, key, value),
-                    Place::Apart => {
-                        self.insert_apart(alloc, &at, key, value)?;
-                        Ok(None)
-                    }
+                    Place::Here => fork.paths.exchange(alloc, key.id, slot),
+                    Place::Low => fork.low.insert(alloc, key, slot),
+                    Place::High => fork.high.insert(alloc, key, slot),
+                    Place::Apart => self.insert_apart(alloc, &at, key, slot),
                 }
             }
         }
     }
 
-    fn leaf(alloc: Global, key: RouteKey, value: V) -> Result<Branch<V>, Memory>
-        requires { IsIpPrefix key.prefix }
-        ensures { IfOk result (λ leaf. IsLeafOf key value leaf) }
+    /// A leaf with one route, whose value is taken from a slot.
+    fn leaf(alloc: Global, key: &RouteKey, slot: &mut Option<V>) -> Result<Branch<V>, Memory>
+        requires known { IsIpPrefix key.now.prefix }
+        requires given { IsSome slot.old }
+        ensures leaf { IfOk result (λ leaf. IfSome slot.old (λ value. IsLeafOf key.now value leaf)) }
+        ensures taken { slot.new ≡ None }
     {
+        let Some(value) = slot.take() else {
+            unreachable!()
+        };
         let leaf = Leaf {
             prefix: key.prefix,
             paths: Paths::one(key.id, value),
@@ -148,24 +148,46 @@ impl<V: Drop> Branch<V> {
         Ok(Branch::Leaf(Box::new(alloc, leaf)?))
     }
 
+    /// Adds a route where there was nothing.
+    #[inline(never)]
+    fn insert_leaf(
+        &mut self,
+        alloc: Global,
+        key: &RouteKey,
+        slot: &mut Option<V>,
+    ) -> Result<(), Memory>
+        requires nothing { self.old ≡ Nothing }
+        requires known { IsIpPrefix key.now.prefix }
+        requires given { IsSome slot.old }
+        ensures taken { slot.new ≡ None }
+        ensures ok { OnOk result (IfSome slot.old (IsInserted self.old self.new key.now)) }
+        ensures err { OnErr result (self.new ≡ self.old) }
+    {
+        self.set(Branch::leaf(alloc, key, slot)?);
+        Ok(())
+    }
+
     /// Adds a route below this leaf, which becomes a fork.
+    #[inline(never)]
     fn insert_below(
         &mut self,
         alloc: Global,
         is_high: bool,
-        key: RouteKey,
-        value: V,
+        key: &RouteKey,
+        slot: &mut Option<V>,
     ) -> Result<(), Memory>
         requires trie { IsTrie self.old }
-        requires known { IsIpPrefix key.prefix }
-        requires below { IsBelowLeaf self.old is_high key.prefix }
-        ensures ok { OnOk result (IsInserted self.old self.new key value) }
+        requires known { IsIpPrefix key.now.prefix }
+        requires below { IsBelowLeaf self.old is_high key.now.prefix }
+        requires given { IsSome slot.old }
+        ensures taken { slot.new ≡ None }
+        ensures ok { OnOk result (IfSome slot.old (IsInserted self.old self.new key.now)) }
         ensures err { OnErr result (self.new ≡ self.old) }
     {
         let Branch::Leaf(leaf) = self else {
             unreachable!()
         };
-        let new = Branch::leaf(alloc, key, value)?;
+        let new = Branch::leaf(alloc, key, slot)?;
         let mut paths = Box::new(alloc, Paths::new())?;
         let mut fork = Fork::new(alloc, leaf.prefix, ForkPaths::new())?;
         mem::swap(&mut *paths, &mut leaf.paths);
@@ -176,30 +198,33 @@ impl<V: Drop> Branch<V> {
     }
 
     /// Adds a route whose prefix the root's prefix `at` doesn't cover, by a fork above both.
+    #[inline(never)]
     fn insert_apart(
         &mut self,
         alloc: Global,
         at: &Prefix,
-        key: RouteKey,
-        value: V,
+        key: &RouteKey,
+        slot: &mut Option<V>,
     ) -> Result<(), Memory>
         requires trie { IsTrie self.old }
         requires root { IsRoot at.now self.old }
-        requires known { IsIpPrefix key.prefix }
-        requires apart { Starts at.now.len (leading_bits at.now.len at.now.addr) key.prefix → ⊥ }
-        ensures ok { OnOk result (IsInserted self.old self.new key value) }
+        requires known { IsIpPrefix key.now.prefix }
+        requires apart { Starts at.now.len (leading_bits at.now.len at.now.addr) key.now.prefix → ⊥ }
+        requires given { IsSome slot.old }
+        ensures taken { slot.new ≡ None }
+        ensures ok { OnOk result (IfSome slot.old (IsInserted self.old self.new key.now)) }
         ensures err { OnErr result (self.new ≡ self.old) }
     {
         let shared = shared_len(at, &key.prefix);
         if shared == key.prefix.len() {
-            let paths = ForkPaths::one(alloc, key.id, value)?;
+            let paths = ForkPaths::taken(alloc, key.id, slot)?;
             let mut fork = Fork::new(alloc, key.prefix, paths)?;
             let is_high = bit_after(at.addr(), shared);
             fork.set_child(is_high, mem::replace(self, Branch::Nothing));
             self.set(Branch::Fork(fork));
             return Ok(());
         }
-        let new = Branch::leaf(alloc, key, value)?;
+        let new = Branch::leaf(alloc, key, slot)?;
         let mut fork = Fork::new(alloc, at.shortened(shared), ForkPaths::new())?;
         let is_high = bit_after(at.addr(), shared);
         fork.set_child(!is_high, new);
@@ -466,11 +491,12 @@ impl<V: Drop> PrefixMap<V> for Radix<V> {
         let Some(more) = self.len.checked_add(1) else {
             return Err(Memory);
         };
-        let before = self.root.insert(alloc, key, value)?;
-        if before.is_none() {
+        let mut slot = Some(value);
+        self.root.insert(alloc, &key, &mut slot)?;
+        if slot.is_none() {
             self.len = more;
         }
-        Ok(before)
+        Ok(slot)
     }
 
     fn remove(&mut self, key: &RouteKey) -> Option<V> {

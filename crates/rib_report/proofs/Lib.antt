@@ -8,3 +8,6 @@ pub mod StableSort
 pub mod ListedLaws
 pub mod SeenLaws
 pub mod OriginLaws
+pub mod MatchLaws
+pub mod SeatOrder
+pub mod Examples

@@ -70,7 +70,7 @@ pub any_dedup : (f : IpPrefix × ℕ → Bool) (xs : List (IpPrefix × ℕ)) →
 any_dedup f [] = refl
 any_dedup f (x ∷ xs) = any_from f x xs
 
-any_map : {X Y : Type 0} (f : Y → Bool) (g : X → Y) (xs : List X) → list_any f (map g xs) ≡ list_any (λ x. f (g x)) xs
+pub any_map : {X Y : Type 0} (f : Y → Bool) (g : X → Y) (xs : List X) → list_any f (map g xs) ≡ list_any (λ x. f (g x)) xs
 any_map f g [] = refl
 any_map f g (x ∷ xs) = ap (λ b. f (g x) || b) (any_map f g xs)
 
@@ -111,7 +111,7 @@ unfolding IsStrictlySortedBy
 rising o [] h = refl
 rising {cmp = cmp} o (x ∷ xs) h = ap (λ es. map (λ (e : _ × Unit {0}). e.0) es) (put_front o x (set_of cmp xs) (below_set o x xs h.0)) ∙ ap (λ l. x ∷ l) (rising o xs h.1)
 
-own_itself : (p : IpPrefix) → prefix_eq p p ≡ true
+pub own_itself : (p : IpPrefix) → prefix_eq p p ≡ true
 own_itself p = sym (prefix_tied p p) ∙ ap is_eq (tied_itself prefix_cmp_total p)
 
 keep_own : (p : IpPrefix) (xs : List (IpPrefix × ℕ)) → AllByRecursion (λ e. e.0 ≡ p) xs → filter (own p) xs ≡ xs

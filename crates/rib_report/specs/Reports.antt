@@ -1,5 +1,5 @@
 -- Reports over the tables of all peers.
-use Rattle.std.specs.Prelude.{◌≡◌, ℕ, IsTrue, Bool, not, ◌&&◌, ◌||◌, List, [], ◌∷◌, ◌++◌, length, map, Option, Some, None, IfSome, IfNone, nat_le, if◌then◌else◌}
+use Rattle.std.specs.Prelude.{ℕ, IsTrue, Bool, not, ◌&&◌, ◌||◌, List, [], ◌∷◌, length, map, Option, nat_le, nat_lt, if◌then◌else◌}
 use Rattle.std.specs.List.{flat_map, filter, filter_map, count_by, list_any, list_all}
 use Rattle.std.specs.Option.{option_and_then, option_map, option_cmp}
 use Rattle.std.specs.declared.cmp.Ordering.{Ordering}
@@ -32,13 +32,21 @@ route_rows tables = flat_map rows_of_seat tables.seats
 
 -- ---- longest match
 
+-- a row of a route of a prefix, by its identifier
+abbrev pub path_row : PeerKey → IpPrefix → ℕ × Route → RouteRow
+path_row peer p e = record { peer = peer; key = record { prefix = p; id = e.0 }; route = e.1 }
+
 -- the prefix of the entry contains the address
 abbrev pub matches_entry : ℕ → RouteKey × Route → Bool
 matches_entry addr e = contains e.0.prefix addr
 
--- it contains the address, and no longer prefix in the table does
+-- the other entry's prefix is the same, is shorter, or doesn't contain the address
+abbrev pub yields : ℕ → RouteKey × Route → RouteKey × Route → Bool
+yields addr e other = not (matches_entry addr other) || (prefix_eq e.0.prefix other.0.prefix || nat_lt other.0.prefix.len e.0.prefix.len)
+
+-- its prefix contains the address, and every other prefix of the table that does is shorter
 abbrev pub is_longest : ℕ → List (RouteKey × Route) → RouteKey × Route → Bool
-is_longest addr table e = matches_entry addr e && list_all (λ f. not (matches_entry addr f) || nat_le f.0.prefix.len e.0.prefix.len) table
+is_longest addr table e = matches_entry addr e && list_all (yields addr e) table
 
 -- all entries of the longest match in a peer's table (RFC 1812, 5.2.4.3)
 abbrev pub matches_of_seat : ℕ → Seat → List RouteRow

@@ -1,6 +1,6 @@
 //! Text on its way to a writer, through a fixed buffer.
 
-ghost use Rattle.std.specs.Prelude.{◌≡◌, ℕ, ◌+◌, ◌≤◌, ◌++◌, [], ◌∷◌, List, Option, OnOk, OnErr, length};
+ghost use Rattle.std.specs.Prelude.{◌≡◌, ℕ, ◌+◌, ◌<◌, ◌≤◌, ◌++◌, [], ◌∷◌, List, Option, OnOk, OnErr, length};
 ghost use Rattle.rib_report.specs.Texts.{BufferState, empty_buffer, text_state, IsText, IsWritten, IsCutOff, Writes};
 
 use mrt_frame::{Failed, Sink, write_full};
@@ -51,7 +51,19 @@ impl TextBuffer {
         self.len = end;
     }
 
+    /// Puts a byte behind those that wait.
+    #[inline]
+    fn append_byte(&mut self, byte: u8)
+        requires { length self.old.waiting < 65536 }
+        ensures waiting { self.new.waiting ≡ self.old.waiting ++ byte ∷ [] }
+        ensures failed { self.new.failed ≡ self.old.failed }
+    {
+        self.bytes[self.len] = byte;
+        self.len += 1;
+    }
+
     /// How many bytes may still wait.
+    #[inline]
     fn room(&self) -> usize
         ensures { result + length self.now.waiting ≡ 65536 }
     {
@@ -85,6 +97,17 @@ impl TextBuffer {
             self.hand_on(out);
         }
         self.append(bytes);
+    }
+
+    /// Adds a byte.
+    #[inline]
+    pub(crate) fn put_byte<W: Sink>(&mut self, out: &mut W, byte: u8)
+        ensures { Writes W.contents W.failure_count out.old self.old out.new self.new (byte ∷ []) }
+    {
+        if self.room() == 0 {
+            self.hand_on(out);
+        }
+        self.append_byte(byte);
     }
 
     /// Hands on all that waits, and tells whether a write failed.

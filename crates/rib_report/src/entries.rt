@@ -22,6 +22,7 @@ fn add_entries<'a, M: PrefixMap<Route>>(
 {
     let peer = seat.key;
     let entries = seat.session.table().entries(alloc)?;
+    rows.reserve(entries.len())?;
     for entry in entries.as_slice() {
         let (key, route) = *entry;
         let Ok(()) = rows.push(TableRow { peer, key, route }) else {

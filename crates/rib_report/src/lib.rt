@@ -24,3 +24,6 @@ pub use row::{ChurnRow, OriginRow, SeenRow, TableRow};
 pub use seen::visibility;
 pub use tables::{Gathered, Seated, Tables, collect};
 pub use write::{write_churn, write_faults, write_origins, write_rows, write_visibility};
+
+#[cfg(test)]
+mod tests;

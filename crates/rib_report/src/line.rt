@@ -20,6 +20,9 @@ pub(crate) trait Line {
     /// The line, its end with it.
     ghost line: { Self → List ℕ };
 
+    /// Reads a little of what the row stands over, where it lies elsewhere in memory.
+    fn touch(&self) -> usize;
+
     /// Adds the line.
     fn put<W: Sink>(&self, text: &mut TextBuffer, out: &mut W)
         ensures { Writes W.contents W.failure_count out.old text.old out.new text.new (line self.now) };
@@ -27,6 +30,16 @@ pub(crate) trait Line {
 
 impl Line for TableRow<'_> {
     ghost line = { λ row. route_line (route_row row) };
+
+    fn touch(&self) -> usize {
+        match &self.route.path {
+            Some(path) => match path.segments().first() {
+                Some(segment) => segment.numbers().len(),
+                None => 0,
+            },
+            None => 0,
+        }
+    }
 
     fn put<W: Sink>(&self, text: &mut TextBuffer, out: &mut W) {
         let route = self.route;
@@ -54,6 +67,10 @@ impl Line for TableRow<'_> {
 impl Line for SeenRow {
     ghost line = { λ row. visibility_line (seen_row row) };
 
+    fn touch(&self) -> usize {
+        0
+    }
+
     fn put<W: Sink>(&self, text: &mut TextBuffer, out: &mut W) {
         put_prefix(text, out, &self.prefix);
         text.put_byte(out, b'|');
@@ -65,6 +82,10 @@ impl Line for SeenRow {
 impl Line for OriginRow {
     ghost line = { λ row. origin_line (origin_row row) };
 
+    fn touch(&self) -> usize {
+        0
+    }
+
     fn put<W: Sink>(&self, text: &mut TextBuffer, out: &mut W) {
         put_prefix(text, out, &self.prefix);
         text.put_byte(out, b'|');
@@ -75,6 +96,10 @@ impl Line for OriginRow {
 
 impl Line for ChurnRow {
     ghost line = { λ row. churn_line (churn_row row) };
+
+    fn touch(&self) -> usize {
+        0
+    }
 
     fn put<W: Sink>(&self, text: &mut TextBuffer, out: &mut W) {
         let churn = self.churn;
@@ -105,6 +130,10 @@ impl Line for ChurnRow {
 
 impl Line for Damage {
     ghost line = { fault_line };
+
+    fn touch(&self) -> usize {
+        0
+    }
 
     fn put<W: Sink>(&self, text: &mut TextBuffer, out: &mut W) {
         put_file(text, out, self.place.file);

@@ -1,9 +1,9 @@
 //! The longest match of an address at each peer.
 
 ghost use Rattle.std.specs.Prelude.{◌≡◌, ◌++◌, IfOk, OnOk, map};
-ghost use Rattle.std.specs.FinMap as finite;
 ghost use Rattle.bgp_prefix.specs.Maps.{paths_of};
 ghost use Rattle.rib_report.specs.Rows.{route_row};
+ghost use Rattle.rib_report.specs.Reports.{path_row, matches_of_seat, match_rows};
 ghost use Rattle.rib_report.specs.Seats.{seat_of};
 
 use crate::row::TableRow;
@@ -18,7 +18,9 @@ fn add_paths<'a, M: PrefixMap<Route>>(
     rows: &mut Vec<TableRow<'a>>,
     seat: &'a Seated<M>,
     prefix: Prefix,
-) -> Result<(), Memory> {
+) -> Result<(), Memory>
+    ensures { OnOk result (map route_row rows.new.items ≡ map route_row rows.old.items ++ map (path_row seat.now.key prefix) (paths_of prefix (seat_of seat.now).session.table)) }
+{
     let peer = seat.key;
     let paths = seat.session.table().paths(alloc, &prefix)?;
     for path in paths.as_slice() {
@@ -37,7 +39,9 @@ fn add_matches<'a, M: PrefixMap<Route>>(
     rows: &mut Vec<TableRow<'a>>,
     seat: &'a Seated<M>,
     addr: u32,
-) -> Result<(), Memory> {
+) -> Result<(), Memory>
+    ensures { OnOk result (map route_row rows.new.items ≡ map route_row rows.old.items ++ matches_of_seat addr (seat_of seat.now)) }
+{
     match seat.session.table().longest(addr) {
         Some(prefix) => add_paths(alloc, rows, seat, prefix),
         None => Ok(()),
@@ -50,7 +54,9 @@ pub fn matches<M: PrefixMap<Route>>(
     alloc: Global,
     tables: &Tables<M>,
     addr: u32,
-) -> Result<Vec<TableRow<'_>>, Memory> {
+) -> Result<Vec<TableRow<'_>>, Memory>
+    ensures { IfOk result (λ rows. map route_row rows.items ≡ match_rows tables.now addr) }
+{
     let mut rows = Vec::new(alloc);
     for seat in tables.seats() {
         add_matches(alloc, &mut rows, seat, addr)?;

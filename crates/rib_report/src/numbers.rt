@@ -27,12 +27,6 @@ fn hexadecimal_digit(digit: u16) -> u8
 }
 
 impl TextBuffer {
-    pub(crate) fn put_byte<W: Sink>(&mut self, out: &mut W, byte: u8)
-        ensures { Writes W.contents W.failure_count out.old self.old out.new self.new (byte ∷ []) }
-    {
-        self.put(out, &[byte]);
-    }
-
     /// Adds a number in decimal.
     pub(crate) fn put_number<W: Sink>(&mut self, out: &mut W, number: u64)
         ensures { Writes W.contents W.failure_count out.old self.old out.new self.new (decimal number) }

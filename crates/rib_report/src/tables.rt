@@ -1,7 +1,8 @@
 //! The tables of all peers, collected from the lanes.
 
-ghost use Rattle.std.specs.Prelude.{◌≡◌, ◌+◌, ◌-◌, ◌^◌, ◌<◌, ◌≤◌, ◌++◌, IfOk, IfErr, IfSome, IsPermutation, length, map, get_or, nat_eq, min, vec_len};
+ghost use Rattle.std.specs.Prelude.{◌≡◌, ◌+◌, ◌-◌, ◌^◌, ◌<◌, ◌≤◌, ◌++◌, IfOk, IfErr, IfSome, IsPermutation, List, length, map, get_or, nat_eq, min, vec_len};
 ghost use Rattle.std.specs.List.{IsDistinct, flat_map};
+ghost use Rattle.std.specs.List.Sorted.{IsStrictlyIncreasing};
 ghost use Rattle.std.specs.Vec.{vec_capacity};
 ghost use Rattle.rib_report.specs.Tables.{Seat, TablesState, IsCollected, all_faults};
 ghost use Rattle.rib_report.specs.Gathers.{gathered_seats};
@@ -120,6 +121,7 @@ pub fn collect<M: PrefixMap<Route> + Drop>(
 ) -> Result<Tables<M>, (Gathered<M>, Memory)>
     requires { IsDistinct nat_eq (map (λ seat. seat.number) (gathered_seats gathered)) }
     ensures ok { IfOk result (λ tables. IsCollected (gathered_seats gathered) gathered.refused tables) }
+    ensures only { (seats : List Seat) → IsPermutation (gathered_seats gathered) seats → IsStrictlyIncreasing (map (λ seat. seat.number) seats) → IfOk result (λ tables. tables ≡ record { seats = seats; refused = gathered.refused }) }
     ensures err { IfErr result (λ back. back.0 ≡ gathered) }
 {
     let Some(count) = count_of(gathered.lanes.as_slice()) else {

@@ -15,6 +15,27 @@ use crate::row::{ChurnRow, OriginRow, SeenRow, TableRow};
 use mrt_body::Damage;
 use mrt_frame::{Failed, ReplayError, Sink};
 
+/// How many rows are touched together before their lines are written.
+const NEAR_ROWS: usize = 64;
+
+/// The same where rows stand over much.
+const NEAR_LONG_ROWS: usize = 16;
+
+/// Reads a little of what each row stands over, and answers how many rows to touch next. Routes lie
+/// far apart in memory, and reads that don't wait for one another overlap, so that the lines are then
+/// written from the processor's cache.
+fn touch_all<R: Line>(rows: &[R]) -> usize {
+    let mut touched = 0usize;
+    for row in rows {
+        touched = touched.saturating_add(row.touch());
+    }
+    if touched > 32 * NEAR_ROWS {
+        NEAR_LONG_ROWS
+    } else {
+        NEAR_ROWS
+    }
+}
+
 /// Writes a line for each row.
 fn write_lines<W: Sink, R: Line>(out: &mut W, rows: &[R]) -> Result<(), ReplayError>
     ensures ok { OnOk result (Appends (W.contents out.old) (W.contents out.new) (flat_map R.line rows.now)) }
@@ -24,7 +45,17 @@ fn write_lines<W: Sink, R: Line>(out: &mut W, rows: &[R]) -> Result<(), ReplayEr
     ensures risen { OnErr result (HasFailed (W.failure_count out.old) (W.failure_count out.new)) }
 {
     let mut text = TextBuffer::new();
+    let mut ahead = rows;
+    let mut near = 0usize;
+    let mut next = NEAR_ROWS;
     for row in rows {
+        if near == 0 {
+            let (block, later) = ahead.split_at(next.min(ahead.len()));
+            near = block.len();
+            next = touch_all(block);
+            ahead = later;
+        }
+        near = near.saturating_sub(1);
         row.put(&mut text, out);
     }
     match text.finish(out) {

@@ -1,4 +1,4 @@
-use Rattle.std.proofs.Common.{◌≡◌, ℕ, ◌≢◌, zero, suc, ◌∷◌, [], List, refl, decimal}
+use Rattle.std.proofs.Common.{◌≡◌, ℕ, ◌≢◌, zero, suc, ◌∷◌, refl, decimal}
 use Rattle.rib_report.specs.Lines.{identifier_text}
 use Rattle.rib_report.proofs.TextLaws.{Adds_trans, Adds_as}
 use Rattle.rib_report.proofs.fields.put_identifier.Goals as goal

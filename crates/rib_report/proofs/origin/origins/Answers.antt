@@ -1,4 +1,4 @@
-use Rattle.std.proofs.Common.{◌≡◌, ◌∙◌, List, ℕ, ap, sym, subst, map}
+use Rattle.std.proofs.Common.{◌≡◌, ◌∙◌, ℕ, ap, sym, subst, map}
 use Rattle.std.specs.List.{dedup, filter, list_any}
 use Rattle.std.specs.List.Sorted.{IsStrictlySortedBy}
 use Rattle.std.proofs.lemmas.Result.{IfOk-weaker}
@@ -8,7 +8,7 @@ use Rattle.std.proofs.lemmas.List.Sorted.{list_any-IsPermutation}
 use Rattle.bgp_prefix.specs.Prefixes.{IpPrefix}
 use Rattle.rib_report.specs.Rows.{origin_row}
 use Rattle.rib_report.specs.Runs.{pair_cmp, pair_eq}
-use Rattle.rib_report.specs.Reports.{has_several, grouped_origins, origin_rows, table_origins}
+use Rattle.rib_report.specs.Reports.{has_several, grouped_origins, origin_rows}
 use Rattle.rib_report.proofs.OriginLaws.{pair_cmp_total, pair_tied, any_dedup, grouped_same}
 use Rattle.rib_report.proofs.origin.origins.Goals as goal
 
