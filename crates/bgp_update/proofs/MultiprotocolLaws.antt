@@ -2,14 +2,14 @@
 use Rattle.std.proofs.Common.{◌≡◌, ℕ, ◌^◌, ◌<◌, ◌≤◌, Bool, true, false, ◌&&◌, ◌||◌, cond, eqb, ltb, List, [], ◌∷◌, ◌++◌, length, slice_index, take, drop, Option, Some, None, Result, Ok, Err, refl, sym, ap, subst, ◌∙◌, append-nil, arith, inl, inr}
 use Rattle.std.specs.Prelude.{IfOk}
 use Rattle.std.proofs.lemmas.Bool.{eqb-true, ltb-false, le-ltb}
-use Rattle.std.proofs.lemmas.List.{take_all, take_at, drop_at, take-append-drop, length-drop}
+use Rattle.std.proofs.lemmas.List.{take_all, drop_at, take-append-drop, length-drop}
 use Rattle.byteorder.specs.Endian.{big_number, big_bytes}
 use Rattle.byteorder.specs.Numbers.{big_number-reads_back, length-bytes_high_first, big_from-lt}
 use Rattle.mrt_frame.specs.declared.fault.Fault.{Fault}
 use Rattle.mrt_frame.specs.declared.fault.Fault.TheVariants.{BadAttribute}
 use Rattle.mrt_frame.specs.Fields.{◌>>=◌, byte_at, bytes_at}
 use Rattle.mrt_frame.proofs.Items.{bind_ok, ok_is}
-use Rattle.mrt_frame.proofs.FieldLaws.{IsBytes, IsBytes-take, IsBytes-drop, big_bytes-number, bytes_at-takes, byte_at-takes, bytes_at-again, byte_at-again}
+use Rattle.mrt_frame.proofs.FieldLaws.{IsBytes, IsBytes-front, IsBytes-drop, big_bytes-number, bytes_at-takes, byte_at-takes, bytes_at-again, byte_at-again}
 use Rattle.bgp_prefix.specs.declared.key.RouteKey.{RouteKey}
 use Rattle.bgp_update.specs.declared.width.AttrError.{AttrError}
 use Rattle.bgp_update.specs.declared.next_hop.NextHop.{NextHop}
@@ -31,10 +31,6 @@ not_both false e h = absurd cc
 test_ok : {A : Type 0} (b : Bool) (fault : Fault) (r : Result A Fault) (y : A) → cond b r (Err fault) ≡ Ok y → (b ≡ true) × (r ≡ Ok y)
 test_ok true fault r y e = (refl, e)
 test_ok false fault r y e = absurd cc
-
--- the front of bytes is bytes
-front_fine : (front rest : List ℕ) → IsBytes (front ++ rest) → IsBytes front
-front_fine front rest h = subst IsBytes (take_at front rest (length front) refl) (IsBytes-take (length front) (front ++ rest) h)
 
 -- ---- next hops
 
@@ -140,7 +136,7 @@ reach_takes bytes x fine e =
     let tb = bytes_at-takes fault a.0.0 a.0.1 b.0 test.1 in
     let tc = byte_at-takes fault b.0.1 c.0 c.1 in
     let known : is_hop_len (length b.0.0) ≡ true = ap is_hop_len tb.1 ∙ test.0 in
-    let hop = hop_is b.0.0 known (front_fine b.0.0 b.0.1 (subst IsBytes tb.0 (ta.1 fine))) in
+    let hop = hop_is b.0.0 known (IsBytes-front b.0.0 b.0.1 (subst IsBytes tb.0 (ta.1 fine))) in
     let parts : bytes ≡ length (hop_bytes (next_hop_of b.0.0)) ∷ hop_bytes (next_hop_of b.0.0) ++ (c.0.0 ∷ c.0.1) =
     ta.0 ∙ ap (λ (t : List ℕ). a.0.0 ∷ t) tb.0 ∙ ap (λ (n : ℕ). n ∷ b.0.0 ++ b.0.1) (sym tb.1) ∙ ap (λ (t : List ℕ). length b.0.0 ∷ b.0.0 ++ t) tc.0 ∙ ap (λ (os : List ℕ). length os ∷ os ++ (c.0.0 ∷ c.0.1)) hop.0 in
     subst (λ (y : NextHop × List ℕ). TakesReach bytes y.0 y.1) (ok_is (next_hop_of b.0.0, c.0.1) x c.2)

@@ -17,7 +17,7 @@ use Rattle.mrt_body.specs.RibRecords.{WrittenEntry, RibHead, RibForm, RibSummary
 use Rattle.mrt_body.specs.Units.{place_of, time_of, no_peer, entry_units, rib_units, rib_units_in}
 use Rattle.mrt_body.specs.Pending.{AreEntries, entries_left, units_left, read_or_none}
 use Rattle.mrt_body.proofs.Behind.{Behind, behind_more, behind-le, behind-drop, behind_front, number_behind, bytes_behind, byte_behind, ok_behind}
-use Rattle.mrt_body.proofs.ManyLaws.{done, seen_ok, seen_err, many-first}
+use Rattle.mrt_body.proofs.ManyLaws.{done, seen_ok, seen_err, many-first, many-length}
 
 pub written_entry : (add_path : Bool) (peers : ℕ) (bytes : List ℕ) (e : ReadEntry) (after : List ℕ) → read_entry_at add_path peers bytes ≡ Ok (e, after) → (w : WrittenEntry) × (entry_at add_path peers bytes ≡ Ok (w, after)) × (read_of w ≡ e)
 unfolding read_entry_at
@@ -233,3 +233,15 @@ module _ (at : RecordAt) (peers : List PeerKey) (add_path : Bool) (body : List �
 
 pub units_fail_early : (at : RecordAt) (peers : List PeerKey) (add_path : Bool) (body : List ℕ) (fault : Fault) → read_head_at body ≡ Err fault → rib_units_in at add_path (Some peers) body ≡ Err fault
 units_fail_early at peers add_path body fault h = ap (λ (r : Result RibForm Fault). r >>= λ form. Ok (rib_units at (Some peers) form)) (head_fails add_path (length peers) body fault h)
+
+-- ---- how many there are
+
+entry_units-length : (at : RecordAt) (peers : List PeerKey) (prefix : IpPrefix) (n : ℕ) (entries : List WrittenEntry) → length (entry_units at peers prefix n entries) ≡ length entries
+entry_units-length at peers prefix n [] = refl
+entry_units-length at peers prefix n (e ∷ entries) = ap suc (entry_units-length at peers prefix (n + 1) entries)
+
+-- at most as many as the record says
+pub units_left-few : (peers : List PeerKey) (e : Entries) → AreEntries peers e → length (units_left peers e) ≤ e.count
+units_left-few peers e h =
+    let same = many-length (entry_at e.add_path (length peers)) (e.count - e.given) (drop e.next e.body) (read_or_none (entries_left peers e)) h.spelled in
+    omega (arith, same, entry_units-length e.at peers e.prefix (e.given + 1) (read_or_none (entries_left peers e)))

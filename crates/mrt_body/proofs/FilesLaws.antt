@@ -1,17 +1,21 @@
 -- Steps of a reading of files, one after the other.
-use Rattle.std.proofs.Common.{◌≡◌, inl, inr, ℕ, ◌+◌, ◌<◌, Bool, cond, List, [], ◌∷◌, ◌++◌, length, map, drop, get_or, set, Option, Some, refl, sym, ap, subst, ◌∙◌, arith, append_assoc, add-one}
+use Rattle.std.proofs.Common.{suc, ◌≡◌, inl, inr, ℕ, ◌+◌, ◌<◌, Bool, cond, List, [], ◌∷◌, ◌++◌, length, map, drop, get_or, set, Option, Some, refl, sym, ap, subst, ◌∙◌, arith, append_assoc, add-one, ◌≤◌, ◌*◌, ◌-◌}
 use Rattle.std.specs.List.{count_by}
-use Rattle.std.proofs.Math.Seq.{drop-cons}
-use Rattle.std.proofs.lemmas.List.{map-set, map-append, drop-set, drop-set-lt, length-map, get_or-map}
+use Rattle.std.proofs.Math.Seq.{drop-cons, map-set_same}
+use Rattle.std.proofs.lemmas.List.{map-set, map-append, drop-set, drop-set-lt, length-map, get_or-map, get_or-set_same}
 use Rattle.std.proofs.lemmas.List.Sums.{sum_by-append}
 use Rattle.mrt_frame.specs.declared.cut.Cut.{Cut}
+use Rattle.mrt_frame.specs.Devices.{HasFailed}
+use Rattle.mrt_frame.specs.declared.error.ReplayError.{ReplayError}
+use Rattle.mrt_frame.specs.declared.error.ReplayError.TheVariants as errors
+use Rattle.mrt_body.specs.declared.standing.Standing.TheVariants.{Going}
 use Rattle.mrt_frame.specs.Frames.{Position, to_come}
 use Rattle.mrt_body.specs.declared.unit.PeerKey.{PeerKey}
 use Rattle.mrt_body.specs.declared.unit.Unit.{Unit as ReplayUnit}
 use Rattle.mrt_body.specs.declared.unit.Found.{Found}
 use Rattle.mrt_body.specs.declared.unit.Found.TheVariants as found
-use Rattle.mrt_body.specs.Units.{found_in_files, all_cuts, is_whole, is_aside}
-use Rattle.mrt_body.specs.ToCome.{UnitsState, in_next_file, as_found, found_here, found_left, found_to_come, cuts_to_come, Passes, TakesFound, GivesPending, StaysInFile, LeavesFile, Steps}
+use Rattle.mrt_body.specs.Units.{found_in, found_in_files, all_cuts, is_whole, is_aside}
+use Rattle.mrt_body.specs.ToCome.{TakesFound-more, UnitsState, in_next_file, as_found, found_here, found_left, found_to_come, cuts_to_come, Passes, TakesFound, GivesPending, StaysInFile, LeavesFile, Steps, HasRecord, HasMoreRecords, StopsAt, Stops, answers_left, fresh_units}
 use Rattle.mrt_body.proofs.IndexLaws.{found_in_file-is}
 
 abbrev Bytes : Type 0
@@ -19,22 +23,6 @@ Bytes = List ℕ
 
 abbrev known_all : List Bytes → List (Option Bytes)
 known_all contents = map (λ bytes. Some bytes) contents
-
-pub TakesFound-none : (u : UnitsState) (files : List (Option Bytes)) → TakesFound u files u files []
-TakesFound-none u files contents h = (contents, h, record { found = refl; records = refl; aside = refl })
-
-pub TakesFound-more : (a b c : UnitsState) (first second third : List (Option Bytes)) (taken more : List Found) → TakesFound a first b second taken → TakesFound b second c third more → TakesFound a first c third (taken ++ more)
-TakesFound-more a b c first second third taken more p q contents h =
-    let x = p contents h in
-    let y = q x.0 x.1 in (
-      y.0,
-      y.1,
-      record {
-        found = x.2.found ∙ ap (λ (l : List Found). taken ++ l) y.2.found ∙ sym (append_assoc taken more (found_to_come c y.0));
-        records = x.2.records ∙ y.2.records;
-        aside = x.2.aside ∙ y.2.aside;
-      },
-    )
 
 -- units that were pending
 module _ (old : UnitsState) (pending : List ReplayUnit) where
@@ -153,3 +141,65 @@ module _ {R : Type 0} (remaining : R → Option Bytes) (a b u v : UnitsState) (s
       let put : map remaining (set files i next) ≡ set (map remaining files) u.file (remaining next) = map-set remaining files i next ∙ ap (λ (n : ℕ). set (map remaining files) n (remaining next)) same in
       subst (λ (l : List (Option Bytes)). TakesFound a (map remaining start) v l taken) (sym put)
       (TakesFound-more a u v (map remaining start) (map remaining files) (set (map remaining files) u.file (remaining next)) [] taken to_u step)
+
+-- ---- why a reading stops
+
+module _ {R : Type 0} (fails : R → ℕ) (a b u v : UnitsState) (start files : List R) (i : ℕ) (d next : R) where
+  pub still_sound : map fails files ≡ map fails start → fails next ≡ fails (get_or files i d) → map fails (set files i next) ≡ map fails start
+  still_sound same sound = map-set_same fails files i next d sound ∙ same
+
+  failed_in : (file : ℕ) → map fails files ≡ map fails start → i ≡ file → i < length files → HasFailed (fails (get_or files i d)) (fails next) → HasFailed (get_or (map fails start) file 0) (get_or (map fails (set files i next)) file 0)
+  failed_in file same at within h =
+      let before : fails (get_or files i d) ≡ get_or (map fails start) file 0 = sym (get_or-map fails files i d 0 within) ∙ ap (λ (l : List ℕ). get_or l i 0) same ∙ ap (λ (n : ℕ). get_or (map fails start) n 0) at in
+      let inside : i < length (map fails files) = omega (arith, length-map files fails) in
+      let after : fails next ≡ get_or (map fails (set files i next)) file 0 = sym (get_or-set_same (map fails files) i (fails next) 0 inside) ∙ ap (λ (l : List ℕ). get_or l i 0) (sym (map-set fails files i next)) ∙ ap (λ (n : ℕ). get_or (map fails (set files i next)) n 0) at in
+      subst (λ (n : ℕ). HasFailed n (get_or (map fails (set files i next)) file 0)) before (subst (λ (n : ℕ). HasFailed (fails (get_or files i d)) n) after h)
+
+  known_first : (remaining : R → Option Bytes) (contents : List Bytes) → i < length files → drop i (map remaining files) ≡ known_all contents → (bytes : Bytes) × (later : List Bytes) × (remaining (get_or files i d) ≡ Some bytes) × (contents ≡ bytes ∷ later)
+  known_first remaining contents within h = by_contents contents (sym parts ∙ h)
+    where
+      inside : i < length (map remaining files)
+      inside = omega (arith, length-map files remaining)
+
+      parts : drop i (map remaining files) ≡ remaining (get_or files i d) ∷ drop (suc i) (map remaining files)
+      parts = drop-cons (map remaining files) i (remaining d) inside ∙ ap (λ (o : Option Bytes). o ∷ drop (suc i) (map remaining files)) (get_or-map remaining files i d (remaining d) within)
+
+      by_contents : (cs : List Bytes) → remaining (get_or files i d) ∷ drop (suc i) (map remaining files) ≡ known_all cs → (bytes : Bytes) × (later : List Bytes) × (remaining (get_or files i d) ≡ Some bytes) × (cs ≡ bytes ∷ later)
+      by_contents [] e = absurd cc
+      by_contents (bytes ∷ later) e = (bytes, later, cc, refl)
+
+  more_in : (remaining : R → Option Bytes) → b.max_records ≡ a.max_records → TakesFound a (map remaining start) b (map remaining files) [] → GivesPending b u [] → i ≡ u.file → i < length files → HasRecord u (remaining (get_or files i d)) → HasMoreRecords a (map remaining start)
+  more_in remaining limit before gives at within h contents known =
+      let to_u = TakesFound-more a b u (map remaining start) (map remaining files) (map remaining files) [] [] before (gives_found b u (map remaining files) [] gives) contents known in
+      let k = known_first remaining to_u.0 within (ap (λ (n : ℕ). drop n (map remaining files)) at ∙ to_u.1) in
+      let more : 0 < count_by is_whole (to_come u.frames k.0) = h.1 k.0 k.2 in
+      let most : u.max_records ≡ a.max_records = ap (λ (s : UnitsState). s.max_records) gives.0 ∙ limit in
+      let all : count_by is_whole (cuts_to_come u to_u.0) ≡ count_by is_whole (to_come u.frames k.0) + count_by is_whole (all_cuts k.1) = ap (λ (cs : List Bytes). count_by is_whole (cuts_to_come u cs)) k.3 ∙ sum_by-append (λ (c : Cut). cond (is_whole c) 1 0) (to_come u.frames k.0) (all_cuts k.1) in
+      omega (arith, more, most, all, h.0, to_u.2.records)
+
+  pub stops_in : (remaining : R → Option Bytes) (e : ReplayError) → map fails files ≡ map fails start → a.standing ≡ Going → b.max_records ≡ a.max_records → TakesFound a (map remaining start) b (map remaining files) [] → GivesPending b u [] → i ≡ u.file → i < length files
+      → StopsAt u (remaining (get_or files i d)) v (fails (get_or files i d)) (fails next) e → Stops a (map remaining start) v (map fails start) (map fails (set files i next)) e
+  stops_in remaining (errors.Read file) same going limit before gives at within h =
+      (ap (λ (s : UnitsState). s.file) h.1 ∙ sym h.0, ap (λ (s : UnitsState). s.standing) h.1, inr (failed_in file same (at ∙ sym h.0) within h.2))
+  stops_in remaining errors.Write same going limit before gives at within h = absurd h
+  stops_in remaining errors.Memory same going limit before gives at within h = (going, h)
+  stops_in remaining errors.Records same going limit before gives at within h = (going, h.0, h.1, more_in remaining limit before gives at within h.2)
+  stops_in remaining errors.Spent same going limit before gives at within h = absurd h
+
+-- ---- how many answers can still come
+
+pub fewer_than : (a b u v : UnitsState) → answers_left b ≤ answers_left a → GivesPending b u [] → answers_left v + 0 ≤ answers_left u → answers_left v ≤ answers_left a
+fewer_than a b u v h gives step =
+    let same : answers_left u ≡ answers_left b = ap answers_left gives.0 ∙ ap (λ (l : List ReplayUnit). (b.max_records - b.records) * 65535 + length l + (b.count - b.file)) (sym gives.1) in
+    omega (arith, h, same, step)
+
+-- ---- a reading that begins
+
+pub fresh_found : (count max_records : ℕ) (until : Option ℕ) (contents : List Bytes) → found_to_come (fresh_units count max_records until) contents ≡ found_in until contents
+unfolding found_in
+fresh_found count max_records until [] = refl
+fresh_found count max_records until (bytes ∷ later) = ap (λ (l : List Found). l ++ found_in_files until 1 later) (sym (found_in_file-is until 0 bytes))
+
+pub fresh_cuts : (count max_records : ℕ) (until : Option ℕ) (contents : List Bytes) → cuts_to_come (fresh_units count max_records until) contents ≡ all_cuts contents
+fresh_cuts count max_records until [] = refl
+fresh_cuts count max_records until (bytes ∷ later) = refl

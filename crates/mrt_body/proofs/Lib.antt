@@ -10,3 +10,4 @@ pub mod SessionLaws
 pub mod TakeLaws
 pub mod StepLaws
 pub mod FilesLaws
+pub mod HeadParts

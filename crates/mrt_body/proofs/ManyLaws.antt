@@ -26,6 +26,16 @@ module _ {A : Type 0} (read : List ℕ → Reading A) where
   pub many-with : (n : ℕ) (bytes : List ℕ) (x : A) (after : List ℕ) → read bytes ≡ Ok (x, after) → many read (suc n) bytes ≡ (many read n after >>= λ others. Ok (x ∷ others))
   many-with n bytes x after h = rw h refl
 
+  pub many-length : (n : ℕ) (bytes : List ℕ) (xs : List A) → many read n bytes ≡ Ok xs → length xs ≡ n
+  many-length zero bytes xs e = none (eqb (length bytes) 0) xs e
+    where
+      none : (b : Bool) (ys : List A) → cond b (Ok []) (Err TrailingBytes) ≡ Ok ys → length ys ≡ 0
+      none true ys h = ap length (sym (ok_is [] ys h))
+      none false ys h = absurd cc
+  many-length (suc n) bytes xs e =
+      let f = many-first n bytes xs e in
+      ap length f.4 ∙ ap suc (many-length n f.0.1 f.2 f.3)
+
   -- ---- a loop over the items
 
   pub goes_on : {B : Type 0} (step : B → A → B) (b : B) (count i : ℕ) (bytes : List ℕ) (x : A) (after : List ℕ) (total : Result B Fault) → i < count → read bytes ≡ Ok (x, after)

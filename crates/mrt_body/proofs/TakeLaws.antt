@@ -3,9 +3,6 @@ use Rattle.std.proofs.Common.{◌≡◌, ℕ, ◌+◌, Bool, true, false, List, 
 use Rattle.std.specs.Prelude.{option_to_list, option_map}
 use Rattle.std.specs.List.{filter}
 use Rattle.bgp_prefix.specs.Prefixes.{IpPrefix}
-use Rattle.mrt_frame.specs.declared.error.ReplayError.{ReplayError}
-use Rattle.mrt_frame.specs.declared.error.ReplayError.TheVariants as errors
-use Rattle.mrt_frame.specs.Frames.{Position, HasCause}
 use Rattle.mrt_body.specs.declared.at.RecordAt.{RecordAt}
 use Rattle.mrt_body.specs.declared.content.Content.TheVariants as content
 use Rattle.mrt_body.specs.declared.entries.Entries.{Entries}
@@ -15,15 +12,7 @@ use Rattle.mrt_body.specs.declared.unit.Found.TheVariants as found
 use Rattle.mrt_body.specs.RibRecords.{WrittenEntry}
 use Rattle.mrt_body.specs.Units.{time_of, entry_unit, entry_units, rib_units_in, is_past, is_within, found_units}
 use Rattle.mrt_body.specs.Pending.{IndexState, units_left, entries_left, read_or_none}
-use Rattle.mrt_body.specs.ToCome.{UnitsState, index_peers, index_pending, IsOpen, TakesRecord, as_found, is_lasting}
-
--- a reader that failed is not at its end
-pub open_after : (old new : Position) (before after : ℕ) (e : ReplayError) → HasCause old new before after e → is_lasting e ≡ false → IsOpen new.phase
-open_after old new before after (errors.Read file) h same = subst IsOpen (sym h.1) tt
-open_after old new before after errors.Write h same = absurd h
-open_after old new before after errors.Memory h same = absurd cc
-open_after old new before after errors.Records h same = absurd h
-open_after old new before after errors.Spent h same = absurd cc
+use Rattle.mrt_body.specs.ToCome.{UnitsState, index_peers, index_pending, TakesRecord, as_found}
 
 module _ (until : Option ℕ) (at : RecordAt) (peers : List PeerKey) (prefix : IpPrefix) where
   pub all_past : (n : ℕ) (entries : List WrittenEntry) → is_past until (time_of at 0) ≡ true → filter (is_within until) (entry_units at peers prefix n entries) ≡ []

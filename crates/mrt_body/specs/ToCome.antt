@@ -1,15 +1,18 @@
 -- What files still give, from where a reading of them stands.
-use Rattle.std.specs.Prelude.{◌≡◌, ◌⊎◌, ℕ, ◌+◌, ◌-◌, ◌*◌, ◌≤◌, ◌^◌, Bool, true, false, List, [], ◌∷◌, ◌++◌, map, drop, length, Option, Some, None, option_to_list, ⊤}
+use Rattle.std.specs.Prelude.{◌<◌, ◌≡◌, ◌⊎◌, ℕ, ◌+◌, ◌-◌, ◌*◌, ◌≤◌, ◌^◌, Bool, List, [], ◌∷◌, ◌++◌, map, drop, length, Option, Some, None, option_to_list, slice_index}
+use Rattle.std.proofs.Common.{refl, sym, ap, ◌∙◌, append_assoc}
 use Rattle.std.specs.List.{count_by}
+use Rattle.mrt_frame.specs.Devices.{HasFailed}
 use Rattle.mrt_frame.specs.Frames.{Position, start_of, to_come, TakesCuts}
 use Rattle.mrt_frame.specs.declared.cut.Cut.{Cut}
 use Rattle.mrt_frame.specs.declared.cut.Cut.TheVariants.{Whole, Broken}
 use Rattle.mrt_frame.specs.declared.error.ReplayError.{ReplayError}
 use Rattle.mrt_frame.specs.declared.error.ReplayError.TheVariants as errors
-use Rattle.mrt_frame.specs.declared.phase.Phase.{Phase}
-use Rattle.mrt_frame.specs.declared.phase.Phase.TheVariants.{Reading, Ended, Failed, Spent}
+use Rattle.mrt_frame.specs.declared.phase.Phase.TheVariants.{Reading}
 use Rattle.mrt_body.specs.declared.at.RecordAt.{RecordAt}
 use Rattle.mrt_body.specs.declared.content.Content.{Content}
+use Rattle.mrt_body.specs.declared.standing.Standing.{Standing}
+use Rattle.mrt_body.specs.declared.standing.Standing.TheVariants.{Going, Failed as FailedRead, Spent as SpentAll}
 use Rattle.mrt_body.specs.declared.unit.PeerKey.{PeerKey}
 use Rattle.mrt_body.specs.declared.unit.Unit.{Unit as ReplayUnit}
 use Rattle.mrt_body.specs.declared.unit.Found.{Found}
@@ -29,10 +32,10 @@ pub record UnitsState : Type 0 where
   pub max_records : ℕ
   pub records : ℕ
   pub aside : ℕ
-  pub is_spent : Bool
+  pub standing : Standing
 
 abbrev pub fresh_units : ℕ → ℕ → Option ℕ → UnitsState
-fresh_units count max_records until = record { count = count; file = 0; frames = start_of 0; until = until; index = None; pending = []; max_records = max_records; records = 0; aside = 0; is_spent = false }
+fresh_units count max_records until = record { count = count; file = 0; frames = start_of 0; until = until; index = None; pending = []; max_records = max_records; records = 0; aside = 0; standing = Going }
 
 -- at the start of the next file
 abbrev pub in_next_file : UnitsState → UnitsState
@@ -75,6 +78,23 @@ abbrev pub TakesFound : UnitsState → List (Option (List ℕ)) → UnitsState �
 TakesFound old before new after taken =
     (contents : List (List ℕ)) → drop old.file before ≡ map (λ bytes. Some bytes) contents → (rest : List (List ℕ)) × (drop new.file after ≡ map (λ bytes. Some bytes) rest) × Passes old contents new rest taken
 
+-- no step, and one step after another
+pub TakesFound-none : (u : UnitsState) (files : List (Option (List ℕ))) → TakesFound u files u files []
+TakesFound-none u files contents h = (contents, h, record { found = refl; records = refl; aside = refl })
+
+pub TakesFound-more : (a b c : UnitsState) (first second third : List (Option (List ℕ))) (taken more : List Found) → TakesFound a first b second taken → TakesFound b second c third more → TakesFound a first c third (taken ++ more)
+TakesFound-more a b c first second third taken more p q contents h =
+    let x = p contents h in
+    let y = q x.0 x.1 in (
+      y.0,
+      y.1,
+      record {
+        found = x.2.found ∙ ap (λ (l : List Found). taken ++ l) y.2.found ∙ sym (append_assoc taken more (found_to_come c y.0));
+        records = x.2.records ∙ y.2.records;
+        aside = x.2.aside ∙ y.2.aside;
+      },
+    )
+
 -- where the bytes of the current and the later files are known, nothing is to come of them
 abbrev pub NothingToCome : UnitsState → List (Option (List ℕ)) → Type 0
 NothingToCome u known = (contents : List (List ℕ)) → drop u.file known ≡ map (λ bytes. Some bytes) contents → found_to_come u contents ≡ []
@@ -87,29 +107,22 @@ steps_left u = (u.max_records - u.records) + (u.count - u.file)
 abbrev pub answers_left : UnitsState → ℕ
 answers_left u = (u.max_records - u.records) * 65535 + length u.pending + (u.count - u.file)
 
--- the reader of a file that isn't at its end, while no growth was refused
-abbrev pub IsOpen : Phase → Type 0
-IsOpen Reading = ⊤
-IsOpen Ended = ⊥
-IsOpen Failed = ⊤
-IsOpen Spent = ⊥
-
--- every later call answers Spent after this error
-abbrev pub is_lasting : ReplayError → Bool
-is_lasting (errors.Read file) = false
-is_lasting errors.Write = true
-is_lasting errors.Memory = true
-is_lasting errors.Records = true
-is_lasting errors.Spent = true
+-- how a reading stands after an error
+abbrev pub standing_after : ReplayError → Standing
+standing_after (errors.Read file) = FailedRead
+standing_after errors.Write = SpentAll
+standing_after errors.Memory = SpentAll
+standing_after errors.Records = SpentAll
+standing_after errors.Spent = SpentAll
 
 -- what always holds
-pub record StandsWithin (count file : ℕ) (frames : Position) (max_records records aside : ℕ) (is_spent : Bool) : Type 0 where
+pub record StandsWithin (count file : ℕ) (frames : Position) (max_records records aside : ℕ) (standing : Standing) : Type 0 where
   pub file_in : file ≤ count
   pub frames_of : frames.file ≡ file
   pub records_in : records ≤ max_records
   pub aside_in : aside ≤ records
   pub limit : max_records ≤ 2 ^ 47
-  pub going : is_spent ≡ false → IsOpen frames.phase
+  pub going : standing ≡ Going → frames.phase ≡ Reading
 
 abbrev pub index_peers : Option IndexState → Option (List PeerKey)
 index_peers None = None
@@ -158,3 +171,34 @@ pub record LeavesFile (old : UnitsState) (bytes : List ℕ) (new : UnitsState) (
 -- where the bytes of the current file are known, this was given of them
 abbrev pub Steps : UnitsState → Option (List ℕ) → UnitsState → Option (List ℕ) → List Found → Type 0
 Steps old known new left taken = (bytes : List ℕ) → known ≡ Some bytes → (rest : List ℕ) × (left ≡ Some rest) × (StaysInFile old bytes new rest taken ⊎ LeavesFile old bytes new taken)
+
+-- the number of files, the greatest number of records and the last second stay
+abbrev pub KeepsPlan : UnitsState → UnitsState → Type 0
+KeepsPlan old new = (new.count ≡ old.count) × (new.max_records ≡ old.max_records) × (new.until ≡ old.until)
+
+-- ---- why a reading stops
+
+-- the greatest number was cut, and one more stands in the current file, where its bytes are known
+abbrev pub HasRecord : UnitsState → Option (List ℕ) → Type 0
+HasRecord u known = (u.records ≡ u.max_records) × ((bytes : List ℕ) → known ≡ Some bytes → 0 < count_by is_whole (to_come u.frames bytes))
+
+-- where the bytes of the current and the later files are known, there are more records than the greatest number
+abbrev pub HasMoreRecords : UnitsState → List (Option (List ℕ)) → Type 0
+HasMoreRecords u known = (contents : List (List ℕ)) → drop u.file known ≡ map (λ bytes. Some bytes) contents → u.max_records < u.records + count_by is_whole (cuts_to_come u contents)
+
+-- at one file, whose count of failures was this before and is that after
+abbrev pub StopsAt : UnitsState → Option (List ℕ) → UnitsState → ℕ → ℕ → ReplayError → Type 0
+StopsAt old known new before after (errors.Read file) = (file ≡ old.file) × (new ≡ record old { frames = new.frames; standing = FailedRead }) × HasFailed before after
+StopsAt old known new before after errors.Write = ⊥
+StopsAt old known new before after errors.Memory = new.standing ≡ SpentAll
+StopsAt old known new before after errors.Records = (new.standing ≡ SpentAll) × (new.records ≡ new.max_records) × HasRecord old known
+StopsAt old known new before after errors.Spent = ⊥
+
+-- The reader of this file failed in this call or in an earlier one; or a growth was refused, or the greatest number of records
+-- was cut, and each later call answers Spent.
+abbrev pub Stops : UnitsState → List (Option (List ℕ)) → UnitsState → List ℕ → List ℕ → ReplayError → Type 0
+Stops old known new before after (errors.Read file) = (new.file ≡ file) × (new.standing ≡ FailedRead) × ((old.standing ≡ FailedRead) ⊎ HasFailed (slice_index before file) (slice_index after file))
+Stops old known new before after errors.Write = ⊥
+Stops old known new before after errors.Memory = (old.standing ≡ Going) × (new.standing ≡ SpentAll)
+Stops old known new before after errors.Records = (old.standing ≡ Going) × (new.standing ≡ SpentAll) × (new.records ≡ new.max_records) × HasMoreRecords old known
+Stops old known new before after errors.Spent = (old.standing ≡ SpentAll) × (new ≡ old)

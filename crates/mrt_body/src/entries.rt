@@ -69,6 +69,7 @@ impl Entries {
         ensures units { Reads (units_left peers.now) result (rib_units_in at add_path (Some peers.now) body) }
         ensures spelled { IfOk result (AreEntries peers.now) }
         ensures at { IfOk result (λ e. e.at ≡ at) }
+        ensures few { IfOk result (λ e. length (units_left peers.now e) ≤ 65535) }
     {
         let bytes = body.as_slice();
         match rib_head_at(bytes) {

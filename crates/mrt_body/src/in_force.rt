@@ -1,6 +1,6 @@
 //! The index in force, and what it is still needed for.
 
-ghost use Rattle.std.specs.Prelude.{◌≡◌, ◌++◌, [], Some, None, IfOk, option_to_list};
+ghost use Rattle.std.specs.Prelude.{◌≡◌, ◌≤◌, ◌++◌, [], length, Some, None, IfOk, option_to_list};
 ghost use Rattle.mrt_frame.specs.Fields.{Reads};
 ghost use Rattle.mrt_body.specs.Units.{rib_units_in};
 ghost use Rattle.mrt_body.specs.Pending.{AreEntries, units_left};
@@ -51,6 +51,7 @@ impl Index {
         ensures units { Reads (units_left self.now.peers) result (rib_units_in at add_path (Some self.now.peers) body) }
         ensures spelled { IfOk result (AreEntries self.now.peers) }
         ensures at { IfOk result (λ e. e.at ≡ at) }
+        ensures few { IfOk result (λ e. length (units_left self.now.peers e) ≤ 65535) }
     {
         Entries::read(at, body, add_path, self.peers.as_slice())
     }

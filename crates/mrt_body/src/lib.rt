@@ -12,6 +12,7 @@ mod message;
 mod payload;
 mod rib;
 mod session;
+mod standing;
 mod unit;
 mod units;
 

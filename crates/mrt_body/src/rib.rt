@@ -1,14 +1,13 @@
 //! The RIB_IPV4_UNICAST record (RFC 6396, 4.3.2 and 4.3.4) and its form with path identifiers
 //! (RFC 8050, 4).
 
-ghost use Rattle.std.specs.Prelude.{◌≡◌, ℕ, ◌≤◌, length, Some};
-ghost use Rattle.byteorder.specs.Endian.{big_number};
+ghost use Rattle.std.specs.Prelude.{◌≡◌, ◌≤◌, IfOk};
 ghost use Rattle.mrt_frame.specs.Fields.{Reads};
-ghost use Rattle.bgp_update.specs.Keys as keys_spec;
 ghost use Rattle.mrt_body.specs.Many.{many, checked};
 ghost use Rattle.mrt_body.specs.RibRecords as ribs;
 
 use bgp_prefix::Prefix;
+use bgp_update::prefix_at;
 use mrt_frame::{Fault, byte_at, bytes_at, u16_at, u32_at};
 
 /// What stands before the entries of a record.
@@ -26,50 +25,21 @@ pub(crate) struct RibEntry<'a> {
     pub(crate) attributes: &'a [u8],
 }
 
-/// The number that up to four bytes begin.
-fn front_number(octets: &[u8]) -> u32
-    requires { length octets.now ≤ 4 }
-    ensures { result ≡ big_number 4 octets.now }
-{
-    match octets {
-        [] => 0,
-        [a] => u32::from_be_bytes([*a, 0, 0, 0]),
-        [a, b] => u32::from_be_bytes([*a, *b, 0, 0]),
-        [a, b, c] => u32::from_be_bytes([*a, *b, *c, 0]),
-        [a, b, c, d] => u32::from_be_bytes([*a, *b, *c, *d]),
-        _ => unreachable!(),
-    }
-}
-
-/// The bytes of a prefix of this length.
-fn octets_at(len: u8, bytes: &[u8]) -> Result<(&[u8], &[u8]), Fault>
-    ensures { Reads (λ x. (x.0.now, x.1.now)) result (keys_spec.octets_at len bytes.now) }
-{
-    if len > 32 {
-        return Err(Fault::BadPrefix);
-    }
-    bytes_at(bytes, len.div_ceil(8) as usize, Fault::BadPrefix)
-}
-
-/// The prefix of this length, at most 32, whose first bytes these are.
-fn prefix_of(len: u8, octets: &[u8]) -> Option<Prefix>
-    requires { length octets.now ≤ 4 }
-    ensures { len ≤ 32 → result ≡ Some (keys_spec.prefix_of len octets.now) }
-{
-    Prefix::new(front_number(octets), len)
-}
-
 /// The fields before the entries, and the bytes after them.
-#[tactic(auto, unfolding(crate::specs::RibRecords::read_head_at, crate::specs::RibRecords::rib_head_at))]
+#[tactic(auto, using(crate::proofs::HeadParts::head_parts))]
 pub(crate) fn rib_head_at(bytes: &[u8]) -> Result<(RibHead, &[u8]), Fault>
-    ensures { Reads (λ x. (record { prefix = x.0.prefix; count = x.0.count }, x.1.now)) result (ribs.read_head_at bytes.now) }
+    ensures reads { Reads (λ x. (record { prefix = x.0.prefix; count = x.0.count }, x.1.now)) result (ribs.read_head_at bytes.now) }
+    ensures few { IfOk result (λ x. x.0.count ≤ 65535) }
 {
     let (_, rest) = u32_at(bytes, Fault::ShortRecord)?;
     let (len, rest) = byte_at(rest, Fault::ShortRecord)?;
-    let (octets, rest) = octets_at(len, rest)?;
-    let prefix = prefix_of(len, octets).ok_or(Fault::BadPrefix)?;
-    let (count, rest) = u16_at(rest, Fault::ShortRecord)?;
-    Ok((RibHead { prefix, count }, rest))
+    match prefix_at(len, rest) {
+        Ok((prefix, rest)) => {
+            let (count, rest) = u16_at(rest, Fault::ShortRecord)?;
+            Ok((RibHead { prefix, count }, rest))
+        }
+        Err(fault) => Err(fault),
+    }
 }
 
 /// The number of one of so many peers.

@@ -1,15 +1,17 @@
 //! The units and refusals of files.
 
-ghost use Rattle.std.specs.Prelude.{◌≡◌, ◌<◌, ◌≤◌, ◌+◌, ◌^◌, Some, None, true, false, [], map, IfOk, length, option_to_list};
-ghost use Rattle.mrt_body.specs.Units.{alone, found_units, is_past, refused_at, at_record};
-ghost use Rattle.mrt_body.specs.ToCome.{UnitsState, GivesPending, CutsOne, TakesRecord, TakesFound, NothingToCome, Steps, steps_left, fresh_units, is_lasting};
+ghost use Rattle.std.specs.Prelude.{◌≡◌, ℕ, List, ◌<◌, ◌≤◌, ◌+◌, ◌^◌, Some, None, true, false, [], map, Err, IfOk, IfErr, OnOk, length, option_to_list};
+ghost use Rattle.mrt_body.specs.Units.{alone, all_cuts, found_in, found_units, is_past, refused_at, at_record};
+ghost use Rattle.mrt_body.specs.ToCome.{UnitsState, GivesPending, CutsOne, TakesRecord, TakesFound, NothingToCome, Steps, StopsAt, Stops, KeepsPlan, answers_left, cuts_to_come, found_to_come, steps_left, fresh_units, standing_after};
 ghost use Rattle.mrt_body.specs.declared.content.Content.TheVariants as content_spec;
+ghost use Rattle.mrt_body.specs.declared.standing.Standing.TheVariants as standings;
 
 use crate::at::RecordAt;
 use crate::content::{Content, content_of, is_extended};
 use crate::in_force::Index;
 use crate::index::peers_in;
 use crate::payload::{message_unit, states_unit};
+use crate::standing::Standing;
 use crate::unit::{Damage, Found, Unit};
 use bgp_prefix::Sequence;
 use bgp_update::AttrError;
@@ -28,7 +30,7 @@ pub struct Units {
     max_records: u64,
     records: u64,
     aside: u64,
-    is_spent: bool,
+    standing: Standing,
 }
 
 impl Model for Units {
@@ -36,9 +38,9 @@ impl Model for Units {
 
     ghost Value = { UnitsState };
 
-    ghost view = { λ u. record { count = u.count; file = u.file; frames = u.frames; until = u.until; index = index_peers u.index; pending = index_pending u.index; max_records = u.max_records; records = u.records; aside = u.aside; is_spent = u.is_spent } };
+    ghost view = { λ u. record { count = u.count; file = u.file; frames = u.frames; until = u.until; index = index_peers u.index; pending = index_pending u.index; max_records = u.max_records; records = u.records; aside = u.aside; standing = u.standing } };
 
-    ghost invariant = { λ u. StandsWithin u.count u.file u.frames u.max_records u.records u.aside u.is_spent };
+    ghost invariant = { λ u. StandsWithin u.count u.file u.frames u.max_records u.records u.aside u.standing };
 }
 
 impl Units {
@@ -46,7 +48,10 @@ impl Units {
     /// whose whole second is past `until` is left out.
     pub fn new(count: usize, max_records: u64, until: Option<u64>) -> Units
         requires { (0 < max_records) × (max_records ≤ 2 ^ 47) }
-        ensures { result ≡ fresh_units count max_records until }
+        ensures fresh { result ≡ fresh_units count max_records until }
+        // All that the files hold is to come.
+        ensures all { (contents : List (List ℕ)) → found_to_come result contents ≡ found_in until contents }
+        ensures cuts { (contents : List (List ℕ)) → cuts_to_come result contents ≡ all_cuts contents }
     {
         Units {
             count,
@@ -57,7 +62,7 @@ impl Units {
             max_records,
             records: 0,
             aside: 0,
-            is_spent: false,
+            standing: Standing::Going,
         }
     }
 
@@ -95,12 +100,21 @@ impl Units {
         ensures found { IfOk result (λ found. TakesFound self.old (map R.remaining files.old) self.new (map R.remaining files.new) (option_to_list found)) }
         // None is answered only where nothing is to come.
         ensures ended { IfOk result (λ found. found ≡ None → NothingToCome self.old (map R.remaining files.old)) }
-        ensures count { self.new.count ≡ self.old.count }
+        // Each answer lowers the number of those that can still come, whatever the readers give.
+        ensures fewer { IfOk result (λ found. answers_left self.new + length (option_to_list found) ≤ answers_left self.old) }
+        // An error has its cause, which stays.
+        ensures cause { IfErr result (Stops self.old (map R.remaining files.old) self.new (map R.failure_count files.old) (map R.failure_count files.new)) }
+        ensures spent { self.old.standing ≡ standings.Spent → (result ≡ Err ReplayError.Spent) × (self.new ≡ self.old) }
+        // After Read each call answers the same Read, and reads nothing.
+        ensures again { self.old.standing ≡ standings.Failed → (result ≡ Err (ReplayError.Read self.old.file)) × (self.new ≡ self.old) × (files.new ≡ files.old) }
+        ensures sound { OnOk result (map R.failure_count files.new ≡ map R.failure_count files.old) }
+        ensures plan { KeepsPlan self.old self.new }
     {
-        if self.is_spent {
-            return Err(ReplayError::Spent);
+        match self.standing {
+            Standing::Going => self.find(alloc, files),
+            Standing::Failed => Err(ReplayError::Read { file: self.file }),
+            Standing::Spent => Err(ReplayError::Spent),
         }
-        self.find(alloc, files)
     }
 
     /// The first of what is still to come.
@@ -110,10 +124,13 @@ impl Units {
         files: &mut [R],
     ) -> Result<Option<Found>, ReplayError>
         requires files { length files.old ≡ self.old.count }
-        requires going { self.old.is_spent ≡ false }
+        requires going { self.old.standing ≡ standings.Going }
         ensures found { IfOk result (λ found. TakesFound self.old (map R.remaining files.old) self.new (map R.remaining files.new) (option_to_list found)) }
         ensures ended { IfOk result (λ found. found ≡ None → NothingToCome self.old (map R.remaining files.old)) }
-        ensures count { self.new.count ≡ self.old.count }
+        ensures fewer { IfOk result (λ found. answers_left self.new + length (option_to_list found) ≤ answers_left self.old) }
+        ensures cause { IfErr result (Stops self.old (map R.remaining files.old) self.new (map R.failure_count files.old) (map R.failure_count files.new)) }
+        ensures sound { OnOk result (map R.failure_count files.new ≡ map R.failure_count files.old) }
+        ensures plan { KeepsPlan self.old self.new }
     {
         'files: loop {
             if let Some(unit) = self.next_entry(alloc)? {
@@ -122,8 +139,10 @@ impl Units {
             if self.file == self.count {
                 return Ok(None);
             }
-            if let Some(found) = self.step(alloc, &mut files[self.file])? {
-                return Ok(Some(found));
+            match self.step(alloc, &mut files[self.file]) {
+                Ok(Some(found)) => return Ok(Some(found)),
+                Ok(None) => {}
+                Err(error) => return Err(error),
             }
         }
     }
@@ -132,7 +151,8 @@ impl Units {
     fn next_entry(&mut self, alloc: Global) -> Result<Option<Unit>, ReplayError>
         ensures gives { IfOk result (λ unit. GivesPending self.old self.new (option_to_list unit)) }
         ensures ended { IfOk result (λ unit. unit ≡ None → self.old.pending ≡ []) }
-        ensures count { self.new.count ≡ self.old.count }
+        ensures want { IfErr result (λ e. (e ≡ ReplayError.Memory) × (self.new.standing ≡ standings.Spent)) }
+        ensures plan { KeepsPlan self.old self.new }
     {
         let Some(index) = &mut self.index else {
             return Ok(None);
@@ -140,7 +160,7 @@ impl Units {
         match index.next(alloc) {
             Ok(unit) => Ok(unit),
             Err(_) => {
-                self.is_spent = true;
+                self.standing = Standing::Spent;
                 Err(ReplayError::Memory)
             }
         }
@@ -148,34 +168,49 @@ impl Units {
 
     /// Cuts the current file once. At its end the next file is the current one.
     fn cut<R: Source>(&mut self, alloc: Global, reader: &mut R) -> Result<Option<Cut>, ReplayError>
-        requires going { self.old.is_spent ≡ false }
+        requires going { self.old.standing ≡ standings.Going }
         requires within { self.old.file < self.old.count }
         ensures cuts { IfOk result (CutsOne self.old (R.remaining reader.old) self.new (R.remaining reader.new)) }
         ensures counted { self.old.aside ≤ self.old.records }
-        ensures count { self.new.count ≡ self.old.count }
+        ensures cause { IfErr result (StopsAt self.old (R.remaining reader.old) self.new (R.failure_count reader.old) (R.failure_count reader.new)) }
+        ensures sound { OnOk result (R.failure_count reader.new ≡ R.failure_count reader.old) }
+        ensures plan { KeepsPlan self.old self.new }
         ensures fewer { IfOk result (λ _. steps_left self.new < steps_left self.old) }
     {
-        let cut = match self.frames.next(alloc, reader) {
-            Ok(cut) => cut,
-            Err(error) => {
-                self.is_spent = is_lasting(error);
-                return Err(error);
-            }
-        };
-        match &cut {
-            Some(Cut::Whole { .. }) => {
+        match self.frames.next(alloc, reader) {
+            Ok(
+                Some(
+                    Cut::Whole {
+                        offset,
+                        seconds,
+                        kind,
+                        subtype,
+                        body,
+                    },
+                ),
+            ) => {
                 if self.records == self.max_records {
-                    self.is_spent = true;
+                    self.standing = Standing::Spent;
                     return Err(ReplayError::Records);
                 }
                 self.records += 1;
-                Ok(cut)
+                Ok(Some(Cut::Whole {
+                    offset,
+                    seconds,
+                    kind,
+                    subtype,
+                    body,
+                }))
             }
-            _ => {
+            Ok(end) => {
                 self.file += 1;
                 self.frames = FrameReader::new(self.file);
                 self.index = None;
-                Ok(cut)
+                Ok(end)
+            }
+            Err(error) => {
+                self.standing = standing_after(error);
+                Err(error)
             }
         }
     }
@@ -186,13 +221,16 @@ impl Units {
         alloc: Global,
         reader: &mut R,
     ) -> Result<Option<Found>, ReplayError>
-        requires going { self.old.is_spent ≡ false }
+        requires going { self.old.standing ≡ standings.Going }
         requires within { self.old.file < self.old.count }
         requires given { self.old.pending ≡ [] }
+        ensures fewer_answers { IfOk result (λ found. answers_left self.new + length (option_to_list found) ≤ answers_left self.old) }
         ensures steps { IfOk result (λ found. Steps self.old (R.remaining reader.old) self.new (R.remaining reader.new) (option_to_list found)) }
         ensures fewer { IfOk result (λ _. steps_left self.new < steps_left self.old) }
-        ensures going { IfOk result (λ _. self.new.is_spent ≡ false) }
-        ensures count { self.new.count ≡ self.old.count }
+        ensures going { IfOk result (λ _. self.new.standing ≡ standings.Going) }
+        ensures cause { IfErr result (StopsAt self.old (R.remaining reader.old) self.new (R.failure_count reader.old) (R.failure_count reader.new)) }
+        ensures sound { OnOk result (R.failure_count reader.new ≡ R.failure_count reader.old) }
+        ensures plan { KeepsPlan self.old self.new }
     {
         let file = self.file;
         match self.cut(alloc, reader)? {
@@ -242,7 +280,9 @@ impl Units {
         requires given { self.old.pending ≡ [] }
         requires counted { self.old.aside < self.old.records }
         ensures takes { IfOk result (TakesRecord self.old at is_extended content body self.new) }
-        ensures count { self.new.count ≡ self.old.count }
+        ensures few { IfOk result (λ found. length (option_to_list found) + length self.new.pending ≤ 65535) }
+        ensures want { IfErr result (λ e. (e ≡ ReplayError.Memory) × (self.new.standing ≡ standings.Spent)) }
+        ensures plan { KeepsPlan self.old self.new }
     {
         match content {
             Content::IndexTable => self.take_index(alloc, at, is_extended, body.as_slice()),
@@ -298,7 +338,9 @@ impl Units {
     ) -> Result<Option<Found>, ReplayError>
         requires { self.old.pending ≡ [] }
         ensures takes { IfOk result (TakesRecord self.old at is_extended content_spec.IndexTable body.now self.new) }
-        ensures count { self.new.count ≡ self.old.count }
+        ensures few { IfOk result (λ found. length (option_to_list found) + length self.new.pending ≤ 65535) }
+        ensures want { IfErr result (λ e. (e ≡ ReplayError.Memory) × (self.new.standing ≡ standings.Spent)) }
+        ensures plan { KeepsPlan self.old self.new }
     {
         self.index = None;
         match peers_in(alloc, body) {
@@ -308,7 +350,7 @@ impl Units {
             }
             Err(AttrError::Bad(fault)) => Ok(Some(refused(at, fault))),
             Err(AttrError::Memory) => {
-                self.is_spent = true;
+                self.standing = Standing::Spent;
                 Err(ReplayError::Memory)
             }
         }
@@ -323,7 +365,8 @@ impl Units {
         body: Sequence<u8>,
     ) -> Option<Found>
         requires { self.old.pending ≡ [] }
-        ensures { TakesRecord self.old at is_extended (content_spec.Rib add_path) body self.new result }
+        ensures takes { TakesRecord self.old at is_extended (content_spec.Rib add_path) body self.new result }
+        ensures few { length (option_to_list result) + length self.new.pending ≤ 65535 }
     {
         let is_past = self.is_past(at.time(0));
         let Some(index) = &mut self.index else {
@@ -341,11 +384,14 @@ impl Units {
     }
 }
 
-/// Whether each later call answers `Spent` after this error.
-fn is_lasting(error: ReplayError) -> bool
-    ensures { result ≡ is_lasting error }
+/// How a reading stands after this error.
+fn standing_after(error: ReplayError) -> Standing
+    ensures { result ≡ standing_after error }
 {
-    !matches!(error, ReplayError::Read { .. })
+    match error {
+        ReplayError::Read { .. } => Standing::Failed,
+        _ => Standing::Spent,
+    }
 }
 
 /// The refusal of a record.

@@ -82,7 +82,12 @@ fn a_whole_record_and_a_short_header(rt: HostRuntime) -> Result<(), Fail> {
     let mut reader = Counted::new(bytes.as_slice());
     let mut frames = FrameReader::new(0);
     expect_update(&rt, &frames.next(alloc, &mut reader)?, 0);
-    expect_broken(&rt, &frames.next(alloc, &mut reader)?, 77, Fault::ShortHeader);
+    expect_broken(
+        &rt,
+        &frames.next(alloc, &mut reader)?,
+        77,
+        Fault::ShortHeader,
+    );
     assert!(rt; frames.next(alloc, &mut reader)?.is_none());
     assert!(rt; frames.next(alloc, &mut reader)?.is_none());
     Ok(())

@@ -2,36 +2,51 @@ use Rattle.std.proofs.Common.{◌<◌, Some, ap, ◌∙◌, sym, arith, length, 
 use Rattle.std.specs.Prelude.{option_to_list}
 use Rattle.std.proofs.lemmas.List.{length-set}
 use Rattle.mrt_body.specs.ToCome.{UnitsState}
-use Rattle.mrt_body.proofs.FilesLaws.{one_more_step}
+use Rattle.mrt_body.proofs.FilesLaws.{one_more_step, still_sound, stops_in, fewer_than}
 use Rattle.mrt_body.proofs.units.Units.find.Goals as goal
 
-pub returns-in-Some-2-clause-found : goal.returns-in-Some-2-clause-found
-returns-in-Some-2-clause-found g c =
+pub returns-in-Ok-Some-clause-found : goal.returns-in-Ok-Some-clause-found
+returns-in-Ok-Some-clause-found g c =
     let file = ap (λ (u : UnitsState). u.file) c.step.view_is in
     let file' = ap (λ (u : UnitsState). u.file) c.self.view_is in
     let count = ap (λ (u : UnitsState). u.count) c.self.view_is in
-    let within : c.step.inside.file < length c.files.files = omega (arith, file, file', count, c.next_entry.ensures.count, c.files.invariant.files, c.self.invariant.file_in, c.if-self.false) in
-    one_more_step g.R.Source.remaining c.args.self.now c.files.self c.next_entry.new.self c.step-in-files.new.self c.args.files.now c.files.files c.step.inside.file c.index-files-self.result c.step-in-files.new.reader (option_to_list (Some c.in-Some-2.found))
+    let within : c.step.inside.file < length c.files.files = omega (arith, file, file', count, c.next_entry.ensures.plan.0, c.files.invariant.files, c.self.invariant.file_in, c.if-self.false) in
+    one_more_step g.R.Source.remaining c.args.self.now c.files.self c.next_entry.new.self c.step-in-files.new.self c.args.files.now c.files.files c.step.inside.file c.index-files-self.result c.step-in-files.new.reader (option_to_list (Some c.in-Ok-Some.found))
     c.files.invariant.taken
     (rw c.in_default.is at c.in_ok-unit.ensures.gives)
     (c.in_ok-unit.ensures.ended c.in_default.is)
     file within
-    (rw c.in-Some-2.is at c.in_ok-found.ensures.steps)
+    (rw c.in-Ok-Some.field-0-is at c.in-Ok-Some.ensures.steps)
+
+pub returns-in-Ok-Some-clause-sound : goal.returns-in-Ok-Some-clause-sound
+returns-in-Ok-Some-clause-sound g c =
+    still_sound g.R.Failures.failure_count c.args.self.now c.files.self c.next_entry.new.self c.step-in-files.new.self c.args.files.now c.files.files c.step.inside.file c.index-files-self.result c.step-in-files.new.reader c.files.invariant.counts c.in-Ok-Some.ensures.sound
+
+pub returns-in-Err-clause-cause : goal.returns-in-Err-clause-cause
+returns-in-Err-clause-cause g c =
+    let file = ap (λ (u : UnitsState). u.file) c.step.view_is in
+    let file' = ap (λ (u : UnitsState). u.file) c.self.view_is in
+    let count = ap (λ (u : UnitsState). u.count) c.self.view_is in
+    let within : c.step.inside.file < length c.files.files = omega (arith, file, file', count, c.next_entry.ensures.plan.0, c.files.invariant.files, c.self.invariant.file_in, c.if-self.false) in
+    stops_in g.R.Failures.failure_count c.args.self.now c.files.self c.next_entry.new.self c.step-in-files.new.self c.args.files.now c.files.files c.step.inside.file c.index-files-self.result c.step-in-files.new.reader g.R.Source.remaining c.in-Err.error
+    c.files.invariant.counts c.requires.going c.files.invariant.plan.1 c.files.invariant.taken (rw c.in_default.is at c.in_ok-unit.ensures.gives) file within c.in-Err.ensures.cause
 
 pub files-preserved : goal.files-preserved
 files-preserved g c =
     let file = ap (λ (u : UnitsState). u.file) c.step.view_is in
     let file' = ap (λ (u : UnitsState). u.file) c.self.view_is in
     let count = ap (λ (u : UnitsState). u.count) c.self.view_is in
-    let within : c.step.inside.file < length c.files.files = omega (arith, file, file', count, c.next_entry.ensures.count, c.files.invariant.files, c.self.invariant.file_in, c.if-self.false) in
+    let within : c.step.inside.file < length c.files.files = omega (arith, file, file', count, c.next_entry.ensures.plan.0, c.files.invariant.files, c.self.invariant.file_in, c.if-self.false) in
     record {
-      files = length-set c.files.files c.step.inside.file c.step-in-files.new.reader ∙ c.files.invariant.files ∙ sym c.next_entry.ensures.count ∙ sym c.step-in-files.ensures.count;
-      count = c.step-in-files.ensures.count ∙ c.next_entry.ensures.count ∙ c.files.invariant.count;
-      going = c.in_ok-found.ensures.going;
+      files = length-set c.files.files c.step.inside.file c.step-in-files.new.reader ∙ c.files.invariant.files ∙ sym c.next_entry.ensures.plan.0 ∙ sym c.step-in-files.ensures.plan.0;
+      plan = (c.step-in-files.ensures.plan.0 ∙ c.next_entry.ensures.plan.0 ∙ c.files.invariant.plan.0, c.step-in-files.ensures.plan.1 ∙ c.next_entry.ensures.plan.1 ∙ c.files.invariant.plan.1, c.step-in-files.ensures.plan.2 ∙ c.next_entry.ensures.plan.2 ∙ c.files.invariant.plan.2);
+      going = c.in-Ok-None.ensures.going;
+      counts = still_sound g.R.Failures.failure_count c.args.self.now c.files.self c.next_entry.new.self c.step-in-files.new.self c.args.files.now c.files.files c.step.inside.file c.index-files-self.result c.step-in-files.new.reader c.files.invariant.counts c.in-Ok-None.ensures.sound;
+      answers = fewer_than c.args.self.now c.files.self c.next_entry.new.self c.step-in-files.new.self c.files.invariant.answers (rw c.in_default.is at c.in_ok-unit.ensures.gives) (rw c.in-Ok-None.field-0-is at c.in-Ok-None.ensures.fewer_answers);
       taken = one_more_step g.R.Source.remaining c.args.self.now c.files.self c.next_entry.new.self c.step-in-files.new.self c.args.files.now c.files.files c.step.inside.file c.index-files-self.result c.step-in-files.new.reader []
           c.files.invariant.taken
           (rw c.in_default.is at c.in_ok-unit.ensures.gives)
           (c.in_ok-unit.ensures.ended c.in_default.is)
           file within
-          (rw c.in_default-2.is at c.in_ok-found.ensures.steps);
+          (rw c.in-Ok-None.field-0-is at c.in-Ok-None.ensures.steps);
     }

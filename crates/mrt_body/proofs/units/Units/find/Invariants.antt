@@ -1,12 +1,15 @@
-use Rattle.std.proofs.Common.{◌≡◌, false, [], map, length}
-use Rattle.mrt_body.specs.ToCome.{TakesFound, steps_left}
+use Rattle.std.proofs.Common.{◌≡◌, ◌≤◌, [], map, length}
+use Rattle.mrt_body.specs.declared.standing.Standing.TheVariants.{Going}
+use Rattle.mrt_body.specs.ToCome.{TakesFound, KeepsPlan, answers_left, steps_left}
 use Rattle.mrt_body.proofs.units.Units.find.Given as goal
 
 abbrev pub invariant-files : goal.invariant-files
 invariant-files g l = record {
   files : length l.files ≡ l.self.count;
-  count : l.self.count ≡ l.initial.self.count;
-  going : l.self.is_spent ≡ false;
+  plan : KeepsPlan l.initial.self l.self;
+  going : l.self.standing ≡ Going;
+  counts : map g.R.Failures.failure_count l.files ≡ map g.R.Failures.failure_count l.initial.files;
+  answers : answers_left l.self ≤ answers_left l.initial.self;
   taken : TakesFound l.initial.self (map g.R.Source.remaining l.initial.files) l.self (map g.R.Source.remaining l.files) [];
 }
 
