@@ -1,5 +1,5 @@
 -- Lists of entries as finite maps.
-use Rattle.std.proofs.Common.{◌≡◌, List, Option, Some, None, Result, IfOk, refl, sym, ap, ◌∙◌, Bool, true, false, not, cond}
+use Rattle.std.proofs.Common.{◌≡◌, List, Some, None, refl, sym, ap, ◌∙◌, Bool, true, false, not, cond}
 use Rattle.std.specs.Cmp.{alike_right, eq_by_cmp_equiv}
 use Rattle.std.specs.FinMap.Entries.{find-put, find-where_key, where_key}
 use Rattle.std.specs.Ordering.{eq_by_cmp, is_eq}

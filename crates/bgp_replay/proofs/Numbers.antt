@@ -5,6 +5,9 @@ use Rattle.std.proofs.lemmas.Bool.{ne_eqb}
 use Rattle.std.proofs.lemmas.List.{map-append, append-nil}
 use Rattle.std.proofs.lemmas.Simd.{map-map}
 use Rattle.rib_report.specs.declared.tables.Seated.{Seated}
+use Rattle.rib_report.specs.declared.tables.Gathered.{Gathered}
+use Rattle.rib_report.specs.Gathers.{gathered_seats}
+use Rattle.std.specs.List.{flat_map}
 use Rattle.rib_report.specs.Tables.{Seat}
 use Rattle.rib_report.specs.Seats.{seat_of}
 
@@ -38,3 +41,16 @@ numbered_distinct lane n seats numbers is =
     let plain : map (λ (seat : Seat). seat.number) seats ≡ range_with_len 0 n =
     ap (map (λ (seat : Seat). seat.number)) (is ∙ append-nil (map seat_of lane)) ∙ map-map (λ (seat : Seat). seat.number) seat_of lane ∙ numbers in
     subst (IsDistinct nat_eq) (sym plain) (range_differs 0 n)
+
+-- two lanes of one seat each, with numbers 1 and 0
+pub two_numbers : {M : Type 0} (gathered : Gathered M) (first second : List (Seated M)) → gathered.lanes ≡ first ∷ second ∷ [] → map (λ seat. seat.number) first ≡ 1 ∷ [] → map (λ seat. seat.number) second ≡ 0 ∷ [] → IsDistinct nat_eq (map (λ seat. seat.number) (gathered_seats gathered))
+unfolding IsDistinct
+two_numbers {M} gathered first second lanes one none =
+    let number : Seat → ℕ = λ seat. seat.number in
+    let plain : map number (gathered_seats gathered) ≡ 1 ∷ 0 ∷ [] =
+    ap (λ (ls : List (List (Seated M))). map number (flat_map (λ lane. map seat_of lane) ls)) lanes
+    ∙ map-append number (map seat_of first) (map seat_of second ++ [])
+    ∙ ap (λ (l : List Seat). map number (map seat_of first) ++ map number l) (append-nil (map seat_of second))
+    ∙ ap (λ l. l ++ map number (map seat_of second)) (map-map number seat_of first ∙ one)
+    ∙ ap (λ l. 1 ∷ l) (map-map number seat_of second ∙ none) in
+    subst (IsDistinct nat_eq) (sym plain) ((refl, tt), (tt, tt))

@@ -9,10 +9,9 @@ mod replay;
 mod request;
 mod seats;
 mod summary;
-mod words;
-
 #[cfg(test)]
 mod tests;
+mod words;
 
 use bgp_prefix::Radix;
 use bgp_update::Route;
@@ -20,13 +19,10 @@ use input::{Input, OpenError, open_all};
 use lane_deal::{ByTurns, NoGate, Plan};
 use mrt_frame::{Counted, ReplayError};
 use replay::run;
-use std::io::{BufWriter, ErrorKind};
+use std::io::ErrorKind;
 use std::process::ExitCode;
 use summary::{Summary, status};
 use words::{Job, Usage, read_words};
-
-/// How many bytes of the report are written at once.
-const BLOCK: usize = 65_536;
 
 /// How many units are dealt in a round at most.
 const BATCH: u64 = 65_536;
@@ -148,10 +144,7 @@ fn main(rt: HostRuntime) -> ExitCode {
         Ok(inputs) => inputs,
         Err(code) => return ExitCode::from(code),
     };
-    let Ok(writer) = BufWriter::with_capacity(rt.alloc(), BLOCK, rt.stdout()) else {
-        return ExitCode::from(without_memory(&rt));
-    };
-    let mut out = Counted::new(writer);
+    let mut out = Counted::new(rt.stdout());
     let outcome = run::<Radix<Route>, _, _, _, _, _>(
         &rt,
         rt.alloc(),

@@ -12,8 +12,8 @@ use lane_deal::{Dealing, Gate, Plan};
 use mrt_body::{Found, Units};
 use mrt_frame::{ReplayError, Sink, Source};
 use rib_report::{
-    Tables, churn, collect, faults, matches, origins, table_rows, visibility, write_churn,
-    write_faults, write_origins, write_rows, write_visibility,
+    Tables, churn, collect, faults, matches, origins, visibility, write_churn, write_faults,
+    write_origins, write_rows, write_tables, write_visibility,
 };
 use std::alloc::Global;
 use std::mem;
@@ -104,7 +104,7 @@ fn write_report<M: PrefixMap<Route> + Drop, W: Sink>(
     out: &mut W,
 ) -> Result<(), ReplayError> {
     match request {
-        Request::Tables => write_rows(out, table_rows(alloc, tables)?.as_slice()),
+        Request::Tables => write_tables(alloc, out, tables),
         Request::Visibility => write_visibility(out, visibility(alloc, tables)?.as_slice()),
         Request::Origins => write_origins(out, origins(alloc, tables)?.as_slice()),
         Request::Churn => write_churn(out, churn(alloc, tables)?.as_slice()),

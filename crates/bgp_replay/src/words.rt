@@ -8,7 +8,8 @@ use clap::error::ErrorKind;
 use clap::{Arg, ArgAction, ArgMatches, Command, Error, value_parser};
 use std::alloc::{AllocError, AllocFailed, Global};
 
-static ABOUT: &str = "Replays MRT route-collector dumps into one routing table (Adj-RIB-In) per BGP peer, and prints a report.";
+static ABOUT: &str =
+    "Replays MRT route-collector dumps into one routing table (Adj-RIB-In) per BGP peer, and prints a report.";
 
 static AFTER: &str = "Examples:
   bgp_replay tables rib.mrt updates.mrt
@@ -26,6 +27,7 @@ Status:
      were too many records; standard error says which";
 
 static WORKERS_DEFAULT: usize = 4;
+
 static RING_DEFAULT: usize = 1024;
 
 /// What the words ask for.
@@ -77,7 +79,9 @@ fn workers_option<'a>(alloc: Global) -> Arg<'a> {
         .value_parser(value_parser!(usize).range(1..=64))
         .allow_negative_numbers(true)
         .default_value("4")
-        .help("Threads that build tables, 1 to 64 (checked, but of no effect yet: one thread replays)")
+        .help(
+            "Threads that build tables, 1 to 64 (checked, but of no effect yet: one thread replays)",
+        )
 }
 
 fn ring_option<'a>(alloc: Global) -> Arg<'a> {
@@ -143,7 +147,11 @@ fn command<'a>(alloc: Global) -> Result<Command<'a>, AllocError> {
         "origins",
         "Print the prefixes that have more than one origin AS",
     )?;
-    let churn = report_command(alloc, "churn", "Count what each peer announced and withdrew")?;
+    let churn = report_command(
+        alloc,
+        "churn",
+        "Count what each peer announced and withdrew",
+    )?;
     let faults = report_command(alloc, "faults", "List the damaged records of the dumps")?;
     Command::new(alloc, "bgp_replay")
         .version("0.1.0")

@@ -24,7 +24,13 @@ fn plan_ranges(rt: HostRuntime) {
         assert!(rt; !Plan { batch, ..PLAN }.check());
     }
     for max_records in [(1 << 47) + 1, 0] {
-        assert!(rt; !Plan { max_records, ..PLAN }.check());
+        assert!(rt;
+            !Plan {
+                max_records,
+                ..PLAN
+            }
+            .check()
+        );
     }
 }
 

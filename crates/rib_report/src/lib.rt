@@ -16,7 +16,7 @@ mod tables;
 mod write;
 
 pub use activity::churn;
-pub use entries::{seat_rows, table_rows};
+pub use entries::{seat_rows, table_rows, write_tables};
 pub use listed::faults;
 pub use matching::matches;
 pub use origin::origins;

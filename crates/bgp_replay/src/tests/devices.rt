@@ -159,7 +159,10 @@ fn every_write_failed(rt: HostRuntime) -> Result<(), Fail> {
             };
             let (result, written) = run_into(&rt, alloc, bytes.as_slice(), writer)?;
             assert!(rt; is_write_error(&result), "a write that fails at {k}");
-            assert!(rt; written.as_slice() == &text[..k], "what was written before {k}");
+            assert!(rt;
+                written.as_slice() == &text[..k],
+                "what was written before {k}"
+            );
         }
     }
     let writer = Full {
@@ -169,7 +172,10 @@ fn every_write_failed(rt: HostRuntime) -> Result<(), Fail> {
         written: Vec::new(alloc),
     };
     let (result, written) = run_into(&rt, alloc, bytes.as_slice(), writer)?;
-    assert!(rt; is_write_error(&result) && written.as_slice() == text, "a flush that fails");
+    assert!(rt;
+        is_write_error(&result) && written.as_slice() == text,
+        "a flush that fails"
+    );
     assert_eq!(rt; status(&result), 3);
     Ok(())
 }

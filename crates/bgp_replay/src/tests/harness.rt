@@ -53,7 +53,7 @@ pub struct Outcome {
 
 /// Replays files in memory.
 pub fn replay<M: PrefixMap<Route> + Drop>(
-    rt: &impl Threads,
+    rt: &(impl Threads + Abort),
     alloc: Global,
     files: &[Vec<u8>],
     request: &Request,
@@ -63,6 +63,7 @@ pub fn replay<M: PrefixMap<Route> + Drop>(
     for file in files {
         readers.push(Counted::new(file.as_slice()))?;
     }
+    assert!(rt; plan.check());
     let mut out = Counted::new(Vec::<u8>::new(alloc));
     let result = run::<M, _, _, _, _, _>(
         rt,
@@ -155,8 +156,14 @@ impl<'a> Row<'a> {
             until: self.until,
             ..PLAN
         };
-        self.expect(rt, &replay::<Radix<Route>>(rt, alloc, files, request, &plan)?);
-        self.expect(rt, &replay::<Flat<Route>>(rt, alloc, files, request, &plan)?);
+        self.expect(
+            rt,
+            &replay::<Radix<Route>>(rt, alloc, files, request, &plan)?,
+        );
+        self.expect(
+            rt,
+            &replay::<Flat<Route>>(rt, alloc, files, request, &plan)?,
+        );
         for workers in [1, 64] {
             let plan = Plan {
                 workers,
@@ -164,7 +171,10 @@ impl<'a> Row<'a> {
                 batch: 1,
                 ..plan
             };
-            self.expect(rt, &replay::<Radix<Route>>(rt, alloc, files, request, &plan)?);
+            self.expect(
+                rt,
+                &replay::<Radix<Route>>(rt, alloc, files, request, &plan)?,
+            );
         }
         if self.until.is_none() {
             self.expect(rt, &replay_slowly(rt, alloc, files, request)?);

@@ -11,6 +11,7 @@ use mrt_body::Units;
 use mrt_frame::{Counted, ReplayError};
 use std::alloc::Global;
 use std::io::{self, Read};
+use std::process::Abort;
 use std::test::Fail;
 use std::thread::Threads;
 
@@ -129,12 +130,13 @@ fn endless_zeros(rt: HostRuntime) -> Result<(), Fail> {
 
 /// The bytes that a replay of one file with this dealing writes.
 fn text_by<D: Dealing>(
-    rt: &impl Threads,
+    rt: &(impl Threads + Abort),
     alloc: Global,
     bytes: &[u8],
     plan: &Plan,
     dealing: &D,
 ) -> Result<Vec<u8>, Fail> {
+    assert!(rt; plan.check());
     let mut readers = [Counted::new(bytes)];
     let mut out = Counted::new(Vec::<u8>::new(alloc));
     let _summary = run::<Flat<Route>, _, _, _, _, _>(
@@ -156,7 +158,9 @@ fn three_hundred(alloc: Global) -> Result<Vec<u8>, Fail> {
     for peer in 0..300u32 {
         let high = peer / 256;
         let low = peer % 256;
-        let text = format!(in alloc; "00000001 0010 0004 00000041 0000FDE8 0000FDE9 0000 0001 C612{high:02X}{low:02X} C0000202 FF16 002D 02 0000 0014 A4 080A")?;
+        let text = format!(in alloc;
+            "00000001 0010 0004 00000041 0000FDE8 0000FDE9 0000 0001 C612{high:02X}{low:02X} C0000202 FF16 002D 02 0000 0014 A4 080A"
+        )?;
         let record = dump(alloc, text.as_str())?;
         bytes.extend_from_slice(record.as_slice())?;
     }

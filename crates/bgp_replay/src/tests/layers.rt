@@ -1,10 +1,12 @@
 //! Rows on the calls below `run`: records, units, sessions and collecting.
 
+ghost use Rattle.std.specs.Prelude.{◌≡◌, [], ◌∷◌, IfOk, map};
+
 use super::dumps::dump;
 use adj_rib::Session;
-use bgp_prefix::{Prefix, PrefixMap, Radix, RouteKey, Sequence};
+use bgp_prefix::{PrefixMap, Radix, Sequence};
 use bgp_update::{AttrError, Route};
-use mrt_body::{Damage, Event, Found, Payload, PeerAddr, PeerKey, Place, Unit, Units, event};
+use mrt_body::{Damage, Found, Payload, PeerAddr, PeerKey, Place, Unit, Units, event};
 use mrt_frame::{Counted, Cut, Fault, FrameReader, ReplayError};
 use rib_report::{Gathered, Seated, collect, table_rows};
 use std::alloc::Global;
@@ -50,6 +52,14 @@ fn unit_of(found: &Found) -> Option<&Unit> {
     }
 }
 
+/// The unit at a place among the answers.
+fn unit_at(found: &[Found], place: usize) -> Option<&Unit> {
+    match found.get(place) {
+        Some(found) => unit_of(found),
+        None => None,
+    }
+}
+
 fn refusal_of(found: &Found) -> Option<Damage> {
     match found {
         Found::Unit(_) => None,
@@ -57,31 +67,37 @@ fn refusal_of(found: &Found) -> Option<Damage> {
     }
 }
 
+/// Whether a unit is the entry of this number of the RIB record behind the index.
+fn is_entry(unit: &Unit, number: u16, peer: PeerKey) -> bool {
+    unit.place == place(0, 56, Some(number)) && unit.time == 3_000_000 && unit.peer == peer
+}
+
 #[test]
 fn entries_are_units(rt: HostRuntime) -> Result<(), Fail> {
     let alloc = rt.alloc();
     let found = found_in(&rt, alloc, &["P T"])?;
-    let [first, second] = found.as_slice() else {
-        assert!(rt; false, "two units");
-        return Ok(());
+    assert_eq!(rt; found.len(), 2);
+    let v6 = PeerKey {
+        asn: 65_000,
+        addr: PeerAddr::V6(0x2001_0DB8_0000_0000_0000_0000_0000_0001),
     };
-    let first = unit_of(first).ok_or("a unit")?;
-    assert!(rt; first.place == place(0, 56, Some(1)));
-    assert!(rt; first.time == 3_000_000);
-    let v6 = PeerAddr::V6(0x2001_0DB8_0000_0000_0000_0000_0000_0001);
-    assert!(rt; first.peer == PeerKey { asn: 65_000, addr: v6 });
-    let second = unit_of(second).ok_or("a unit")?;
-    assert!(rt; second.place == place(0, 56, Some(2)));
-    assert!(rt; second.time == 3_000_000);
-    let v4 = PeerAddr::V4(0xC000_0202);
-    assert!(rt; second.peer == PeerKey { asn: 70_000, addr: v4 });
-    match event(alloc, &second.payload) {
-        Err(error) => assert!(rt; error == AttrError::Bad(Fault::BadAttribute(1))),
-        Ok(_) => assert!(rt; false, "a damaged entry"),
+    let v4 = PeerKey {
+        asn: 70_000,
+        addr: PeerAddr::V4(0xC000_0202),
+    };
+    match unit_at(found.as_slice(), 0) {
+        Some(unit) => assert!(rt; is_entry(unit, 1, v6)),
+        None => assert!(rt; false, "the first entry"),
     }
-    match event(alloc, &first.payload)? {
-        Event::Rib(key, _) => assert!(rt; key.id == 0 && key.prefix.len() == 8),
-        _ => assert!(rt; false, "a RIB entry"),
+    match unit_at(found.as_slice(), 1) {
+        Some(unit) => {
+            assert!(rt; is_entry(unit, 2, v4));
+            match event(alloc, &unit.payload) {
+                Err(error) => assert!(rt; error == AttrError::Bad(Fault::BadAttribute(1))),
+                Ok(_) => assert!(rt; false, "a damaged entry"),
+            }
+        }
+        None => assert!(rt; false, "the second entry"),
     }
     Ok(())
 }
@@ -122,7 +138,11 @@ fn refused_records(rt: HostRuntime) -> Result<(), Fail> {
     let rows = [
         ("00000001 0010 0004 00000002 0000", 0, Fault::ShortRecord),
         ("00000001 0011 0004 00000003 000000", 0, Fault::ShortRecord),
-        ("00000002 0010 0005 00000019 H4 0006 0001 00", 0, Fault::TrailingBytes),
+        (
+            "00000002 0010 0005 00000019 H4 0006 0001 00",
+            0,
+            Fault::TrailingBytes,
+        ),
         (
             "00000001 0010 0004 00000041 0000FDE8 0000FDE9 0000 0003 C0000201 C0000202 FF16 002D 02 0000 0014 A4 080A",
             0,
@@ -161,6 +181,7 @@ fn units_records_then_spent(rt: HostRuntime) -> Result<(), Fail> {
     let mut units = Units::new(1, 1, None);
     assert!(rt; units.next(alloc, &mut readers)?.is_some());
     for expected in [ReplayError::Records, ReplayError::Spent, ReplayError::Spent] {
+        assert!(rt; readers.len() == units.count());
         match units.next(alloc, &mut readers) {
             Err(error) => assert!(rt; error == expected),
             Ok(_) => assert!(rt; false, "past the limit"),
@@ -228,7 +249,8 @@ fn state_changes_of_a_new_session(rt: HostRuntime) -> Result<(), Fail> {
 fn session_lists_a_damaged_unit(rt: HostRuntime) -> Result<(), Fail> {
     let alloc = rt.alloc();
     let mut session = Session::<Radix<Route>>::new(alloc);
-    let damaged = "00000001 0010 0004 00000041 H4 FF16 002D 02 0000 0014 40010103 4002060201 0000FDE8 400304 C0000201 080A";
+    let damaged =
+        "00000001 0010 0004 00000041 H4 FF16 002D 02 0000 0014 40010103 4002060201 0000FDE8 400304 C0000201 080A";
     session.take(alloc, &unit_in(&rt, alloc, damaged)?)?;
     assert_eq!(rt; session.churn().refused, 1);
     assert_eq!(rt; session.faults().len(), 1);
@@ -237,44 +259,59 @@ fn session_lists_a_damaged_unit(rt: HostRuntime) -> Result<(), Fail> {
 }
 
 /// A session that took the announcement of 10.0.0.0/8.
-fn seat_of(
-    rt: &impl Abort,
-    alloc: Global,
-    number: usize,
-) -> Result<Seated<Radix<Route>>, Fail> {
+fn session_of(rt: &impl Abort, alloc: Global) -> Result<Session<Radix<Route>>, Fail> {
     let mut session = Session::new(alloc);
     let unit = unit_in(rt, alloc, "M")?;
     session.take(alloc, &unit)?;
-    Ok(Seated {
-        number,
-        key: PeerKey {
-            asn: 65_000,
-            addr: PeerAddr::V4(number as u32),
-        },
-        session,
-    })
+    Ok(session)
 }
 
+/// One lane with one peer, which has this number and an address of this number.
 fn lane_of(
-    rt: &impl Abort,
     alloc: Global,
     number: usize,
-) -> Result<Sequence<Seated<Radix<Route>>>, Fail> {
+    addr: u32,
+    session: Session<Radix<Route>>,
+) -> Result<Sequence<Seated<Radix<Route>>>, Fail>
+    ensures { IfOk result (λ lane. map (λ seat. seat.number) lane ≡ number ∷ []) }
+{
     let mut lane = Vec::new(alloc);
-    lane.push(seat_of(rt, alloc, number)?)?;
+    let key = PeerKey {
+        asn: 65_000,
+        addr: PeerAddr::V4(addr),
+    };
+    lane.push(Seated {
+        number,
+        key,
+        session,
+    })?;
     Ok(Sequence::from_vec(lane))
 }
 
+/// What two lanes hand in, without refusals.
+fn two_lanes(
+    alloc: Global,
+    first: Sequence<Seated<Radix<Route>>>,
+    second: Sequence<Seated<Radix<Route>>>,
+) -> Result<Gathered<Radix<Route>>, Fail>
+    ensures { IfOk result (λ gathered. gathered.lanes ≡ first ∷ second ∷ []) }
+{
+    let mut lanes = Vec::new(alloc);
+    lanes.push(first)?;
+    lanes.push(second)?;
+    Ok(Gathered {
+        lanes: Sequence::from_vec(lanes),
+        refused: Sequence::from_vec(Vec::new(alloc)),
+    })
+}
+
+#[tactic(auto, using(crate::proofs::Numbers::two_numbers))]
 #[test]
 fn collect_orders_by_number(rt: HostRuntime) -> Result<(), Fail> {
     let alloc = rt.alloc();
-    let mut lanes = Vec::new(alloc);
-    lanes.push(lane_of(&rt, alloc, 1)?)?;
-    lanes.push(lane_of(&rt, alloc, 0)?)?;
-    let gathered = Gathered {
-        lanes: Sequence::from_vec(lanes),
-        refused: Sequence::from_vec(Vec::new(alloc)),
-    };
+    let later = lane_of(alloc, 1, 1, session_of(&rt, alloc)?)?;
+    let earlier = lane_of(alloc, 0, 0, session_of(&rt, alloc)?)?;
+    let gathered = two_lanes(alloc, later, earlier)?;
     match collect(alloc, gathered) {
         Ok(tables) => {
             assert_eq!(rt; tables.peers(), 2);

@@ -35,11 +35,7 @@ fn prefix_relations(rt: HostRuntime) -> Result<(), Fail> {
     Ok(())
 }
 
-fn basic_calls<M: PrefixMap<u32>>(
-    rt: &impl Abort,
-    alloc: Global,
-    map: &mut M,
-) -> Result<(), Fail> {
+fn basic_calls<M: PrefixMap<u32>>(rt: &impl Abort, alloc: Global, map: &mut M) -> Result<(), Fail> {
     let ten = key([10, 0, 0, 0], 8)?;
     let inner = key([10, 1, 0, 0], 16)?;
     assert!(rt; map.insert(alloc, ten, 1)?.is_none());

@@ -22,18 +22,27 @@ fn refused_words(rt: HostRuntime) -> Result<(), Fail> {
         ("match --address 10.1.2 x", "10.1.2"),
         ("match --address 10.1.2.03 x", "10.1.2.03"),
     ] {
-        match job_of(alloc, text)? {
+        let refused = job_of(alloc, text)?;
+        match &refused {
             Err(Usage::Address(address)) => assert!(rt; address.as_str() == expected, "{text}"),
             _ => assert!(rt; false, "{text}"),
         }
     }
-    for text in ["tables --workers 0 x", "tables", "match --address 10.1.2", "tables --ring 65537 x", "nothing x"] {
-        match job_of(alloc, text)? {
+    for text in [
+        "tables --workers 0 x",
+        "tables",
+        "match --address 10.1.2",
+        "tables --ring 65537 x",
+        "nothing x",
+    ] {
+        let refused = job_of(alloc, text)?;
+        match &refused {
             Err(Usage::Words(_)) => {}
             _ => assert!(rt; false, "{text}"),
         }
     }
-    match job_of(alloc, "--help")? {
+    let refused = job_of(alloc, "--help")?;
+    match &refused {
         Err(Usage::Help(_)) => {}
         _ => assert!(rt; false, "help"),
     }
@@ -71,7 +80,10 @@ fn jobs(rt: HostRuntime) -> Result<(), Fail> {
     ] {
         let text = format!(in alloc; "{name} --until 5 --ring 65536 x")?;
         match job_of(alloc, text.as_str())? {
-            Ok(job) => assert!(rt; job.request == request && job.until == Some(5) && job.ring == 65_536, "{name}"),
+            Ok(job) => assert!(rt;
+                job.request == request && job.until == Some(5) && job.ring == 65_536,
+                "{name}"
+            ),
             Err(_) => assert!(rt; false, "{name}"),
         }
     }
