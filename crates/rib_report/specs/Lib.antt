@@ -7,4 +7,5 @@ pub mod Gathers
 pub mod Runs
 pub mod Rows
 pub mod Reports
+pub mod Listings
 pub mod Lines
