@@ -154,6 +154,7 @@ fn command<'a>(alloc: Global) -> Result<Command<'a>, AllocError> {
     )?;
     let faults = report_command(alloc, "faults", "List the damaged records of the dumps")?;
     Command::new(alloc, "bgp_replay")
+        .bin_name("bgp_replay")?
         .version("0.1.0")
         .about(ABOUT)
         .after_help(AFTER)
