@@ -40,17 +40,17 @@ inserted_box old key value f box is done =
 pub root_under : {V : Type 0} (b : Branch V) (at : IpPrefix) (len bits : ℕ) → IsRoot at b → Starts len bits at → IsUnder len bits b
 root_under Nothing at len bits root s = tt
 root_under (Leaf l) at len bits root s = rw root (s.long, s.shared)
-root_under (Fork' p prefix paths low high) at len bits root s = rw root (s.long, s.shared)
+root_under (Fork' p prefix low high paths) at len bits root s = rw root (s.long, s.shared)
 
 pub root_starts : {V : Type 0} (b : Branch V) (at : IpPrefix) (len bits : ℕ) → IsRoot at b → IsUnder len bits b → Starts len bits at
 root_starts Nothing at len bits root u = absurd root
 root_starts (Leaf l) at len bits root u = subst (Starts len bits) root (record { long = u.0; shared = u.1 })
-root_starts (Fork' p prefix paths low high) at len bits root u = subst (Starts len bits) root (record { long = u.0; shared = u.1 })
+root_starts (Fork' p prefix low high paths) at len bits root u = subst (Starts len bits) root (record { long = u.0; shared = u.1 })
 
 root_is : {V : Type 0} (b : Branch V) (at : IpPrefix) → IsRoot at b → is_nothing b ≡ false
 root_is Nothing at root = absurd root
 root_is (Leaf l) at root = refl
-root_is (Fork' p prefix paths low high) at root = refl
+root_is (Fork' p prefix low high paths) at root = refl
 
 or_first : (a b : Bool) → T a → T (a || b)
 or_first true b h = tt

@@ -77,7 +77,7 @@ module _ {V : Type 0} (addr : ℕ) where
   pub no_match : (b : Branch V) → IsTrie b → (len bits : ℕ) → IsUnder len bits b → (leading_bits len addr ≡ bits → ⊥) → (last_match (routes b) addr ≡ None) × (matching_prefixes (routes b) addr ≡ 0)
   no_match Nothing ok len bits under out = (refl, refl)
   no_match (Leaf l) ok len bits under out = no_match_keyed l.value.prefix l.value.paths (not_contained addr l.value.prefix len bits ok.0.short (record { long = under.0; shared = under.1 }) out)
-  no_match (Fork' p prefix paths low high) ok len bits under out =
+  no_match (Fork' p prefix low high paths) ok len bits under out =
       let here : Starts len bits prefix = record { long = under.0; shared = under.1 } in
       let outer : (r : ℕ) → r < 2 → leading_bits (prefix.len + 1) addr ≡ 2 * leading_bits prefix.len prefix.addr + r → ⊥ = λ r h e. out ((starts_as_parent len bits prefix (record { addr = addr; len = 32 }) r ok.1 here h (record { long = omega (arith, ok.1); shared = e })).shared) in
       let a = no_match_keyed prefix paths (not_contained addr prefix len bits ok.0.short here out) in
@@ -112,6 +112,21 @@ module _ {V : Type 0} (addr : ℕ) where
         let lb = matching-append (routes f.low) (routes f.high) in
         (last_match-append (keyed f.prefix f.paths) (routes f.low ++ routes f.high) ∙ ap (λ o. option_or o (last_match (keyed f.prefix f.paths) addr)) (last_match-append (routes f.low) (routes f.high) ∙ ap (λ o. option_or o (last_match (routes f.low) addr)) high.0) ∙ ap (option_or (last_match (routes f.low) addr)) own_match, omega (arith, la, lb, high.1, own_count))
 
+    -- and the search goes on in that branch
+    pub match_child : (is_high : Bool) → leading_bits (f.prefix.len + 1) addr ≡ 2 * leading_bits f.prefix.len addr + cond is_high 1 0 → let child : Branch V = cond is_high f.high f.low in (last_match (fork_routes f) addr ≡ option_or (last_match (routes child) addr) (cond (is_nil f.paths) None (Some f.prefix))) × (matching_prefixes (fork_routes f) addr ≤ matching_prefixes (routes child) addr + 1) × IsTrie child × ((bits : ℕ) × IsUnder (f.prefix.len + 1) bits child)
+    match_child true bit = let both = match_high bit in (both.0, both.1, ok.6, (2 * leading_bits f.prefix.len f.prefix.addr + 1, ok.4))
+    match_child false bit = let both = match_low bit in (both.0, both.1, ok.5, (2 * leading_bits f.prefix.len f.prefix.addr, ok.3))
+
+-- the match so far, with the fork's own in its place where there is one
+pub match_kept : {A : Type 0} (below own longest longer whole : Option A) → option_or (option_or below own) longest ≡ whole → option_or own longest ≡ longer → option_or below longer ≡ whole
+match_kept below own longest longer whole e is = ap (option_or below) (sym is) ∙ sym (or_assoc below own longest) ∙ e
+
+pub own_kept : {V : Type 0} (p : IpPrefix) (paths : List (ℕ × V)) (longest longer : Option IpPrefix) → is_nil paths ≡ false → longer ≡ Some p → option_or (cond (is_nil paths) None (Some p)) longest ≡ longer
+own_kept p paths longest longer held is = ap (λ b. option_or (cond b None (Some p)) longest) held ∙ sym is
+
+pub own_none : {V : Type 0} (p : IpPrefix) (paths : List (ℕ × V)) (longest longer : Option IpPrefix) → is_nil paths ≡ true → longer ≡ longest → option_or (cond (is_nil paths) None (Some p)) longest ≡ longer
+own_none p paths longest longer none is = ap (λ b. option_or (cond b None (Some p)) longest) none ∙ sym is
+
 held_first : {V : Type 0} (paths : List (ℕ × V)) → T (not (is_nil paths)) → is_nil paths ≡ false
 held_first [] h = absurd h
 held_first (x ∷ xs) h = refl
@@ -129,4 +144,4 @@ missed addr p miss same = let clash : true ≡ false = sym (eq-eqb _ _ same) ∙
 pub under_none : {V : Type 0} (b : Branch V) → (bits : ℕ) × IsUnder 0 bits b
 under_none Nothing = (0, tt)
 under_none (Leaf l) = (leading_bits 0 l.value.prefix.addr, (omega arith, refl))
-under_none (Fork' p prefix paths low high) = (leading_bits 0 prefix.addr, (omega arith, refl))
+under_none (Fork' p prefix low high paths) = (leading_bits 0 prefix.addr, (omega arith, refl))

@@ -106,7 +106,7 @@ module _ {V : Type 0} where
   pub keys_start : (b : Branch V) → IsTrie b → (len bits : ℕ) → IsUnder len bits b → AllKeys (λ k. Starts len bits k.prefix) (routes b)
   keys_start Nothing ok len bits under = tt
   keys_start (Leaf l) ok len bits under = AllKeys-keyed (λ k. Starts len bits k.prefix) l.value.prefix l.value.paths (λ k same. rw same (record { long = under.0; shared = under.1 }))
-  keys_start (Fork' p prefix paths low high) ok len bits under =
+  keys_start (Fork' p prefix low high paths) ok len bits under =
       let P = λ (k : RouteKey). Starts len bits k.prefix in
       let here : Starts len bits prefix = record { long = under.0; shared = under.1 } in
       let a = keys_start low ok.5 (prefix.len + 1) (2 * leading_bits prefix.len prefix.addr) ok.3 in
@@ -120,7 +120,7 @@ module _ {V : Type 0} where
   pub keys_known : (b : Branch V) → IsTrie b → AllKeys (λ k. IsIpPrefix k.prefix) (routes b)
   keys_known Nothing ok = tt
   keys_known (Leaf l) ok = AllKeys-keyed (λ k. IsIpPrefix k.prefix) l.value.prefix l.value.paths (λ k same. rw same ok.0)
-  keys_known (Fork' p prefix paths low high) ok =
+  keys_known (Fork' p prefix low high paths) ok =
       let P = λ (k : RouteKey). IsIpPrefix k.prefix in
       AllKeys-append P (keyed prefix paths) (routes low ++ routes high) (AllKeys-keyed P prefix paths (λ k same. rw same ok.0)) (AllKeys-append P (routes low) (routes high) (keys_known low ok.5) (keys_known high ok.6))
 
@@ -145,7 +145,7 @@ module _ {V : Type 0} where
   pub routes_sorted : (b : Branch V) → IsTrie b → T (is_sorted key_cmp (routes b))
   routes_sorted Nothing ok = tt
   routes_sorted (Leaf l) ok = sorted_keyed l.value.prefix l.value.paths ok.1
-  routes_sorted (Fork' p prefix paths low high) ok =
+  routes_sorted (Fork' p prefix low high paths) ok =
       let below : T (is_sorted key_cmp (routes low ++ routes high)) = sorted_append (routes low) (routes high) (routes_sorted low ok.5) (routes_sorted high ok.6) (low_below (prefix.len + 1) (2 * leading_bits prefix.len prefix.addr) low high ok.5 ok.6 ok.3 ok.4) in
       let in_low : IsUnder (prefix.len + 1) (2 * leading_bits prefix.len prefix.addr + 0) low = subst (λ (t : ℕ). IsUnder (prefix.len + 1) t low) (sym (add-zero _)) ok.3 in
       sorted_append (keyed prefix paths) (routes low ++ routes high) (sorted_keyed prefix paths ok.2) below

@@ -14,13 +14,13 @@ use Rattle.bgp_prefix.specs.declared.radix.Branch.{Branch}
 use Rattle.bgp_prefix.specs.declared.radix.Branch.TheVariants.{Nothing, Leaf, Fork'}
 use Rattle.bgp_prefix.specs.declared.radix.Fork.{Fork as ForkOf}
 use Rattle.bgp_prefix.proofs.KeyLaws.{Changes-keyed, tied_same}
-use Rattle.bgp_prefix.proofs.TrieLaws.{IsFork, fork_routes, starts_as_parent, Changes_here}
+use Rattle.bgp_prefix.proofs.TrieLaws.{IsFork, fork_routes, no_branch, starts_as_parent, Changes_here}
 
 -- a child lies where its parent does
 pub child_under : {V : Type 0} (b : Branch V) (p : IpPrefix) (r len bits : ℕ) → p.len < 32 → r < 2 → IsUnder (p.len + 1) (2 * leading_bits p.len p.addr + r) b → Starts len bits p → IsUnder len bits b
 child_under Nothing p r len bits short h u s = tt
 child_under (Leaf l) p r len bits short h u s = let t = starts_as_parent len bits p l.value.prefix r short s h (record { long = u.0; shared = u.1 }) in (t.long, t.shared)
-child_under (Fork' q prefix paths low high) p r len bits short h u s = let t = starts_as_parent len bits p prefix r short s h (record { long = u.0; shared = u.1 }) in (t.long, t.shared)
+child_under (Fork' q prefix low high paths) p r len bits short h u s = let t = starts_as_parent len bits p prefix r short s h (record { long = u.0; shared = u.1 }) in (t.long, t.shared)
 
 turned : {A : Type 0} (b : Bool) (x y : A) → cond (not b) x y ≡ cond b y x
 turned true x y = refl
@@ -70,26 +70,21 @@ held false e = tt
 pub busy_trie : {V : Type 0} (b : Branch V) → IsUnpruned b → is_idle b ≡ false → IsTrie b
 busy_trie Nothing ok e = tt
 busy_trie (Leaf l) ok e = (ok.0, ok.1, held (is_nil l.value.paths) e)
-busy_trie (Fork' p prefix paths low high) ok e = (ok.0, ok.1, ok.2, ok.3, ok.4, ok.5, ok.6, busy (is_nil paths) (is_nothing low) (is_nothing high) e)
+busy_trie (Fork' p prefix low high paths) ok e = (ok.0, ok.1, ok.2, ok.3, ok.4, ok.5, ok.6, busy (is_nil paths) (is_nothing low) (is_nothing high) e)
 
 no_routes : {V : Type 0} (p : IpPrefix) (paths : List (ℕ × V)) → is_nil paths ≡ true → keyed p paths ≡ []
 no_routes p [] e = refl
 no_routes p (x ∷ xs) e = cc
 
-no_branch : {V : Type 0} (b : Branch V) → is_nothing b ≡ true → routes b ≡ []
-no_branch Nothing e = refl
-no_branch (Leaf l) e = cc
-no_branch (Fork' p prefix paths low high) e = cc
-
 pub heir_trie : {V : Type 0} (b : Branch V) → IsUnpruned b → IsTrie (heir b)
 heir_trie Nothing ok = tt
 heir_trie (Leaf l) ok = tt
-heir_trie (Fork' p prefix paths low high) ok = elim (is_nothing low) as (λ b. IsTrie (if b then high else low)) [ true ↦ ok.6 | false ↦ ok.5 ]
+heir_trie (Fork' p prefix low high paths) ok = elim (is_nothing low) as (λ b. IsTrie (if b then high else low)) [ true ↦ ok.6 | false ↦ ok.5 ]
 
 pub heir_under : {V : Type 0} (b : Branch V) → IsUnpruned b → (len bits : ℕ) → IsUnder len bits b → IsUnder len bits (heir b)
 heir_under Nothing ok len bits u = tt
 heir_under (Leaf l) ok len bits u = tt
-heir_under (Fork' p prefix paths low high) ok len bits u =
+heir_under (Fork' p prefix low high paths) ok len bits u =
     let s : Starts len bits prefix = record { long = u.0; shared = u.1 } in
     elim (is_nothing low) as (λ b. IsUnder len bits (if b then high else low)) [
       | true ↦ child_under high prefix 1 len bits ok.1 (omega arith) ok.4 s
@@ -111,7 +106,7 @@ other_true false b n e = e
 pub heir_routes : {V : Type 0} (b : Branch V) → is_idle b ≡ true → routes (heir b) ≡ routes b
 heir_routes Nothing e = refl
 heir_routes (Leaf l) e = sym (no_routes l.value.prefix l.value.paths e)
-heir_routes (Fork' p prefix paths low high) e =
+heir_routes (Fork' p prefix low high paths) e =
     let here = no_routes prefix paths (first_true _ _ e) in
     let child = second_true (is_nil paths) _ e in
     elim (is_nothing low) as (λ b. is_nothing low ≡ b → routes (if b then high else low) ≡ keyed prefix paths ++ (routes low ++ routes high)) [

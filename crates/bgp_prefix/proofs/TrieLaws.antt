@@ -1,5 +1,5 @@
 -- Lookups in a branch of the trie.
-use Rattle.std.proofs.Common.{◌≡◌, ℕ, ◌+◌, ◌-◌, ◌*◌, ◌/◌, ◌^◌, ◌<◌, ◌≤◌, not, ◌||◌, ◌&&◌, List, ◌++◌, Option, None, refl, sym, ap, add-zero, ◌∙◌, T, arith, subst}
+use Rattle.std.proofs.Common.{◌≡◌, ℕ, ◌+◌, ◌-◌, ◌*◌, ◌/◌, ◌^◌, ◌<◌, ◌≤◌, true, not, ◌||◌, ◌&&◌, List, [], ◌++◌, Option, None, refl, sym, ap, add-zero, ◌∙◌, T, arith, subst}
 use Rattle.std.specs.Ordering.{nat_cmp}
 use Rattle.std.specs.Option.{option_or}
 use Rattle.std.specs.FinMap.{find, is_sorted}
@@ -32,13 +32,18 @@ module _ {V : Type 0} where
   pub find_outside : (b : Branch V) → IsTrie b → (len bits : ℕ) → IsUnder len bits b → (q : RouteKey) → (Starts len bits q.prefix → ⊥) → find key_cmp q (routes b) ≡ None
   find_outside Nothing ok len bits under q out = refl
   find_outside (Leaf l) ok len bits under q out = find_keyed-other q l.value.prefix l.value.paths (λ same. out (rw same (record { long = under.0; shared = under.1 })))
-  find_outside (Fork' p prefix paths low high) ok len bits under q out =
+  find_outside (Fork' p prefix low high paths) ok len bits under q out =
       let here : Starts len bits prefix = record { long = under.0; shared = under.1 } in
       find-parts q (keyed prefix paths) (routes low ++ routes high)
       ∙ ap (λ o. option_or o (find key_cmp q (routes low ++ routes high))) (find_keyed-other q prefix paths (λ same. out (rw same here)))
       ∙ find-parts q (routes low) (routes high)
       ∙ ap (λ o. option_or o (find key_cmp q (routes high))) (find_outside low ok.5 (prefix.len + 1) (2 * leading_bits prefix.len prefix.addr) ok.3 q (λ s. out (starts_as_parent len bits prefix q.prefix 0 ok.1 here (omega arith) (record { long = s.long; shared = s.shared ∙ sym (add-zero _) }))))
       ∙ find_outside high ok.6 (prefix.len + 1) (2 * leading_bits prefix.len prefix.addr + 1) ok.4 q (λ s. out (starts_as_parent len bits prefix q.prefix 1 ok.1 here (omega arith) s))
+
+  pub no_branch : (b : Branch V) → is_nothing b ≡ true → routes b ≡ []
+  no_branch Nothing e = refl
+  no_branch (Leaf l) e = cc
+  no_branch (Fork' p prefix low high paths) e = cc
 
   -- what holds of a fork
   abbrev pub IsFork : Fork V → Type 0
@@ -82,6 +87,19 @@ module _ {V : Type 0} where
 
     pub find_in_high : Starts (f.prefix.len + 1) (2 * leading_bits f.prefix.len f.prefix.addr + 1) q.prefix → find key_cmp q (fork_routes f) ≡ find key_cmp q (routes f.high)
     find_in_high s = in_parts ∙ rw (not_here _ s, not_low (λ u. two_halves _ u s)) refl
+
+    -- a key longer than the fork's prefix is in no branch but that of its next bit
+    pub find_in_low_half : f.prefix.len < q.prefix.len → leading_bits (f.prefix.len + 1) q.prefix.addr ≡ 2 * leading_bits f.prefix.len q.prefix.addr → find key_cmp q (fork_routes f) ≡ find key_cmp q (routes f.low)
+    find_in_low_half longer bit = in_parts ∙ rw (find_keyed-other q f.prefix f.paths longer_other, not_high (λ s. omega (arith, s.shared, bit))) (or_none _)
+      where
+        longer_other : q.prefix ≡ f.prefix → ⊥
+        longer_other same = let long : f.prefix.len < f.prefix.len = subst (λ (p : IpPrefix). f.prefix.len < p.len) same longer in omega (arith, long)
+
+    pub find_in_high_half : f.prefix.len < q.prefix.len → leading_bits (f.prefix.len + 1) q.prefix.addr ≡ 2 * leading_bits f.prefix.len q.prefix.addr + 1 → find key_cmp q (fork_routes f) ≡ find key_cmp q (routes f.high)
+    find_in_high_half longer bit = in_parts ∙ rw (find_keyed-other q f.prefix f.paths longer_other, not_low (λ s. omega (arith, s.shared, bit))) refl
+      where
+        longer_other : q.prefix ≡ f.prefix → ⊥
+        longer_other same = let long : f.prefix.len < f.prefix.len = subst (λ (p : IpPrefix). f.prefix.len < p.len) same longer in omega (arith, long)
 
     pub Changes_here : (paths : List (ℕ × V)) (v : Option V) → q.prefix ≡ f.prefix → Changes (keyed f.prefix f.paths) (keyed f.prefix paths) q v → Changes (fork_routes f) (keyed f.prefix paths ++ (routes f.low ++ routes f.high)) q v
     Changes_here paths v same h =

@@ -7,4 +7,4 @@ use Rattle.bgp_prefix.specs.declared.paths.Held.TheVariants.{Empty, One, Many}
 abbrev pub held_list : {V : Type 0} → Held V → List (ℕ × V)
 held_list Empty = []
 held_list (One id value) = (id, value) ∷ []
-held_list (Many list) = list
+held_list (Many list) = list.value

@@ -95,20 +95,19 @@ impl<V: Drop> ForkPaths<V> {
         }
     }
 
-    /// Removes an identifier, and gives its value.
-    pub fn remove(&mut self, id: u32) -> Option<V>
-        ensures before { result ≡ find nat_cmp id self.old }
+    /// Removes an identifier, and leaves a slot with its value.
+    pub fn take(&mut self, id: u32, slot: &mut Option<V>)
+        ensures before { slot.new ≡ find nat_cmp id self.old }
         ensures removed { self.new ≡ where_key nat_cmp (λ x. not (eq_by_cmp nat_cmp id x)) self.old }
         ensures sorted { T (is_sorted nat_cmp self.new) }
     {
         match mem::replace(&mut self.boxed, Boxed::Absent) {
-            Boxed::Absent => None,
+            Boxed::Absent => *slot = None,
             Boxed::Present(mut paths) => {
-                let removed = paths.remove(id);
+                paths.take(id, slot);
                 if !paths.is_empty() {
                     self.set(ForkPaths::from_box(paths));
                 }
-                removed
             }
         }
     }

@@ -12,6 +12,8 @@ mod paths;
 mod prefix;
 mod radix;
 mod sequence;
+#[cfg(test)]
+mod tests;
 
 pub use flat::Flat;
 pub use key::RouteKey;

@@ -32,6 +32,14 @@ impl<V> Model for PathList<V> {
 }
 
 impl<V: Drop> PathList<V> {
+    pub fn new(alloc: Global) -> PathList<V>
+        ensures { result ≡ [] }
+    {
+        PathList {
+            items: Vec::new(alloc),
+        }
+    }
+
     /// The list of two routes, in a list that has room for them.
     pub fn pair(mut items: Vec<(u32, V)>, first: (u32, V), second: (u32, V)) -> PathList<V>
         requires empty { items.items ≡ [] }
@@ -130,5 +138,11 @@ impl<V: Drop> PathList<V> {
             all.push((item.0, &item.1))?;
         }
         Ok(all)
+    }
+    /// Puts another list in place of this one.
+    pub fn set(&mut self, list: PathList<V>)
+        ensures { self.new ≡ list }
+    {
+        *self = list;
     }
 }

@@ -20,12 +20,13 @@ pub struct Paths<V> {
     held: Held<V>,
 }
 
-/// Mostly there is one route, which takes no block of memory of its own.
+/// Mostly there is one route, which takes no block of memory of its own; a list stands in its own
+/// block, since it would widen each.
 #[derive(Drop)]
 enum Held<V> {
     Empty,
     One(u32, V),
-    Many(PathList<V>),
+    Many(Box<PathList<V>>),
 }
 
 impl<V> Model for Paths<V> {
@@ -80,10 +81,12 @@ impl<V: Drop> Paths<V> {
                     return Ok(Some(mem::replace(held, value)));
                 }
                 let items = Vec::with_capacity(alloc, 2)?;
+                let mut list = Box::new(alloc, PathList::new(alloc))?;
                 let Held::One(first, other) = mem::replace(&mut self.held, Held::Empty) else {
                     unreachable!()
                 };
-                self.set(Held::Many(PathList::pair(items, (first, other), (id, value))));
+                list.set(PathList::pair(items, (first, other), (id, value)));
+                self.set(Held::Many(list));
                 Ok(None)
             }
             Held::Many(list) => list.insert(id, value),
@@ -130,6 +133,16 @@ impl<V: Drop> Paths<V> {
                 removed
             }
         }
+    }
+
+    /// Removes an identifier, and leaves a slot with its value.
+    #[inline(never)]
+    pub fn take(&mut self, id: u32, slot: &mut Option<V>)
+        ensures before { slot.new ≡ find nat_cmp id self.old }
+        ensures removed { self.new ≡ where_key nat_cmp (λ x. not (eq_by_cmp nat_cmp id x)) self.old }
+        ensures sorted { T (is_sorted nat_cmp self.new) }
+    {
+        *slot = self.remove(id);
     }
 
     pub fn is_empty(&self) -> bool

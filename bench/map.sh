@@ -1,0 +1,35 @@
+#!/usr/bin/env bash
+# Measures the radix map beside std's BTreeMap over the same million prefixes, sorted and in random order: nanoseconds an
+# operation (the best of N runs, which take turns), their ratios, and the bytes that an entry adds to the peak of memory.
+# Both must find the same. The program is made in bench/out/map, a repository of its own over this one's crate.
+#   bench/map.sh [ROUNDS]          Needs rt, rustc and GNU time.
+set -eu
+rounds=${1:-5}
+here=$(dirname "$(realpath "$0")"); out=$here/out/map; program=$out/crates/map_bench
+mkdir -p "$program/src"
+cp "$here/../HANDLES" "$out/"
+printf 'bgp_prefix:\nmap_bench: bgp_prefix anyhow\n' > "$out/crates.txt"
+rm -rf "$out/crates/bgp_prefix"; cp -a "$here/../crates/bgp_prefix" "$out/crates/"
+cp "$here/map_bench.rt" "$program/src/main.rt"
+(cd "$program" && rt run -- keys > "$out/build.log" 2>&1) || { cat "$out/build.log"; exit 1; }
+rustc --edition 2021 -O -o "$out/map_baseline" "$here/map_baseline.rs"
+
+ours=$program/out/map_bench; theirs=$out/map_baseline; runs=$(mktemp -d); trap 'rm -rf "$runs"' EXIT
+peak() { command time -f %M "$@" 2>&1 > /dev/null | tail -1; }
+for order in sorted random; do
+  for i in $(seq "$rounds"); do
+    "$ours" "$order" all >> "$runs/ours.$order"
+    "$theirs" "$order" all >> "$runs/theirs.$order"
+  done
+  for who in ours theirs; do
+    echo "bytes $(( ($(peak "${!who}" "$order" fill) - $(peak "${!who}" "$order" keys)) * 1024 ))" >> "$runs/$who.$order"
+  done
+done
+printf '%-8s %-8s %10s %10s %8s\n' '' '' 'radix' 'BTreeMap' 'ratio'
+for order in sorted random; do for pass in insert get longest walk remove bytes; do
+  for who in ours theirs; do
+    grep "^$pass " "$runs/$who.$order" | sort -k2n | head -1 | sed "s/^/$who /"
+  done | awk -v order="$order" '{ took[$1] = $3; found[$1] = $4; pass = $2 }
+    END { printf "%-8s %-8s %10.1f %10.1f %8.2f%s\n", order, pass, took["ours"] / 1e6, took["theirs"] / 1e6,
+          took["ours"] / took["theirs"], found["ours"] == found["theirs"] ? "" : "  DIFFERS" }'
+done; done
