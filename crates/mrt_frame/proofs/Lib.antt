@@ -6,3 +6,5 @@ pub mod Hexadecimal
 pub mod Items
 pub mod FieldLaws
 pub mod PositionLaws
+pub mod FrameLaws
+pub mod WriteLaws

@@ -14,7 +14,7 @@ mod phase;
 mod writing;
 
 pub use cut::Cut;
-pub use cutting::cutting_is_unique;
+pub use cutting::{cutting_is_unique, readings_give_all_cuts};
 pub use device::{Counted, Failed, Failures, Sink, Source};
 pub use error::ReplayError;
 pub use fault::Fault;
