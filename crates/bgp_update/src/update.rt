@@ -93,7 +93,8 @@ fn whole_route(alloc: Global, bytes: &[u8], width: Width) -> Result<Route, AttrE
     Ok(route)
 }
 
-/// The route that the attributes of a RIB entry spell.
+/// The route that the attributes of a RIB entry spell (RFC 6396, 4.3.4). MP_REACH_NLRI and
+/// MP_UNREACH_NLRI are skipped. `Bad` has the first fault from left to right.
 pub fn read_attrs(alloc: Global, bytes: &[u8], width: Width) -> Result<Route, AttrError>
     // What is read is spelled so.
     ensures found { IfOk result (ReadsAsRoute width bytes.now) }
@@ -105,7 +106,9 @@ pub fn read_attrs(alloc: Global, bytes: &[u8], width: Width) -> Result<Route, At
     whole_route(alloc, bytes, width)
 }
 
-/// The UPDATE that the bytes after a message header spell.
+/// The UPDATE that the bytes after a message header spell (RFC 4271, 4.3), with a path identifier
+/// before each prefix where `add_path` is set (RFC 7911, 3). `Bad` has the first fault from left to
+/// right, and the message is then no UPDATE at all: none of it may be used.
 pub fn read_update(
     alloc: Global,
     body: &[u8],

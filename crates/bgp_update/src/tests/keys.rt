@@ -1,0 +1,71 @@
+//! Prefixes and path identifiers.
+
+use super::bytes::*;
+use crate::*;
+use bgp_prefix::Prefix;
+use mrt_frame::Fault;
+use std::test::Fail;
+
+#[test]
+fn keys_of_messages(rt: HostRuntime) -> Result<(), Fail> {
+    let ten = (0x0A000000, 8, 0);
+    for (text, add_path, withdrawn, announced) in [
+        (ANNOUNCE, false, [].as_slice(), [ten].as_slice()),
+        (REPLACE, false, [ten].as_slice(), [ten].as_slice()),
+        (
+            THREE_LENGTHS,
+            false,
+            [].as_slice(),
+            [(0, 0, 0), ten, (0x0A010000, 16, 0)].as_slice(),
+        ),
+        // Bits past the length are put to 0.
+        (
+            "0000 0014 40010100 4002060201 0000FDE8 400304 C0000201 0C0AFF",
+            false,
+            [].as_slice(),
+            [(0x0AF00000, 12, 0)].as_slice(),
+        ),
+        (
+            WITH_IDENTIFIER,
+            true,
+            [].as_slice(),
+            [(0x0A000000, 8, 7)].as_slice(),
+        ),
+        (
+            "0006 00000007 080A 0000",
+            true,
+            [(0x0A000000, 8, 7)].as_slice(),
+            [].as_slice(),
+        ),
+        ("0002 080A 0000", false, [ten].as_slice(), [].as_slice()),
+    ] {
+        let update = update_of(rt.alloc(), text, Width::Four, add_path)?;
+        expect_keys(&rt, update.withdrawn.as_slice(), withdrawn);
+        expect_keys(&rt, update.announced.as_slice(), announced);
+        assert!(rt; update.reached.as_slice().is_empty() && update.reached_hop.is_none());
+    }
+    Ok(())
+}
+
+#[test]
+fn identifier_past_its_field(rt: HostRuntime) -> Result<(), Fail> {
+    let text = "0000 0014 40010100 4002060201 0000FDE8 400304 C0000201 000007";
+    let body = bytes_of(rt.alloc(), text)?;
+    let fault = fault_in(rt.alloc(), body.as_slice(), Width::Four, true)?;
+    assert!(rt; fault == Some(Fault::BadPrefix));
+    Ok(())
+}
+
+#[test]
+fn prefixes(rt: HostRuntime) -> Result<(), Fail> {
+    match prefix_at(12, &[0x0A, 0xFF, 1]) {
+        Ok((prefix, rest)) => {
+            assert!(rt; Some(prefix) == Prefix::new(0x0AF00000, 12));
+            assert!(rt; rest.len() == 1);
+        }
+        Err(_) => assert!(rt; false),
+    }
+    assert!(rt; prefix_at(33, &[0; 5]).is_err());
+    assert!(rt; prefix_at(9, &[0x0A]).is_err());
+    Ok(())
+}
