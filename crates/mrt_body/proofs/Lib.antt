@@ -5,6 +5,15 @@ pub mod MessageLaws
 pub mod ManyLaws
 pub mod EntryLaws
 pub mod PeerLaws
+pub mod PeerForms
+pub mod RibForms
+pub mod SessionForms
+pub mod AgreementLaws
+pub mod ShortFields
+pub mod PeerFaults
+pub mod RibFaults
+pub mod SessionFaults
+pub mod RefusalLaws
 pub mod Behind
 pub mod SessionLaws
 pub mod TakeLaws

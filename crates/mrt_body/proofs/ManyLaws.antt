@@ -1,15 +1,24 @@
 -- Items as often as a count says, as a loop reads them.
-use Rattle.std.proofs.Common.{◌≡◌, ℕ, zero, suc, ◌+◌, ◌-◌, ◌<◌, ◌≤◌, Bool, true, false, cond, eqb, List, [], ◌∷◌, ◌++◌, length, map, Result, Ok, Err, refl, sym, ap, ◌∙◌, arith, append-nil, append_assoc}
-use Rattle.std.specs.List.{fold}
+use Rattle.std.proofs.Common.{◌≡◌, ℕ, zero, suc, ◌+◌, ◌-◌, ◌<◌, ◌≤◌, Bool, true, false, cond, eqb, List, [], ◌∷◌, ◌++◌, length, map, Result, Ok, Err, refl, sym, ap, subst, ◌∙◌, arith, append-nil, append_assoc, ◌⊎◌, inl, inr}
+use Rattle.std.specs.List.{fold, flat_map, AllByRecursion}
 use Rattle.mrt_frame.specs.declared.fault.Fault.{Fault}
 use Rattle.mrt_frame.specs.declared.fault.Fault.TheVariants.{TrailingBytes}
 use Rattle.mrt_frame.specs.Fields.{Reading, ◌>>=◌}
 use Rattle.mrt_frame.proofs.Items.{bind_ok, ok_is, still}
+use Rattle.mrt_frame.proofs.FieldLaws.{IsBytes}
 use Rattle.mrt_body.specs.Many.{many, checked}
 
 still_cons : {A B : Type 0} (step : B → A → B) (b : B) (x : A) (r : Result (List A) Fault) → still step b (r >>= λ others. Ok (x ∷ others)) ≡ still step (step b x) r
 still_cons step b x (Ok xs) = refl
 still_cons step b x (Err e) = refl
+
+-- a step that failed, or one after it
+pub bind_err : {A B : Type 0} (r : Result A Fault) (f : A → Result B Fault) (fault : Fault) → (r >>= f) ≡ Err fault → (r ≡ Err fault) ⊎ ((x : A) × (r ≡ Ok x) × (f x ≡ Err fault))
+bind_err (Ok x) f fault e = inr (x, refl, e)
+bind_err (Err other) f fault e = inl cc
+
+abbrev failed : {A : Type 0} → Fault → Result (List A) Fault
+failed fault = Err fault
 
 -- what is read, seen by f
 abbrev pub seen : {A B : Type 0} → (A → B) → Reading A → Reading B
@@ -121,3 +130,131 @@ no_minus n = omega arith
 pub checked_starts : {A : Type 0} (r : Result (List A) Fault) → still pass tt r ≡ checked r
 checked_starts (Ok xs) = refl
 checked_starts (Err f) = refl
+
+-- ---- what is read was written so, and what is written is read
+
+module _ {A : Type 0} (read : List ℕ → Reading A) (spell : A → List ℕ) (IsGood : A → Type 0) where
+  abbrev pub Takes : Type 0
+  Takes = (bytes : List ℕ) (x : A × List ℕ) → IsBytes bytes → read bytes ≡ Ok x → (bytes ≡ spell x.0 ++ x.1) × IsGood x.0 × IsBytes x.1
+
+  abbrev pub Again : Type 0
+  Again = (x : A) (rest : List ℕ) → IsGood x → read (spell x ++ rest) ≡ Ok (x, rest)
+
+  many-nil : (bytes : List ℕ) (xs : List A) → many read 0 bytes ≡ Ok xs → (bytes ≡ []) × (xs ≡ [])
+  many-nil [] xs e = (refl, sym (ok_is [] xs e))
+  many-nil (b ∷ bytes) xs e = absurd (some (eqb (length (b ∷ bytes)) 0) (grind arith) e)
+    where
+      some : (t : Bool) → t ≡ false → cond t (Ok []) (Err TrailingBytes) ≡ Ok xs → ⊥
+      some true is_false h = absurd cc
+      some false is_false h = absurd cc
+
+  -- so many items, and nothing behind them
+  pub record AreMany (n : ℕ) (bytes : List ℕ) (xs : List A) : Type 0 where
+    pub parts : bytes ≡ flat_map spell xs
+    pub good : AllByRecursion IsGood xs
+    pub number : length xs ≡ n
+
+  pub many-is : Takes → (n : ℕ) (bytes : List ℕ) (xs : List A) → IsBytes bytes → many read n bytes ≡ Ok xs → AreMany n bytes xs
+  many-is takes zero bytes xs fine e =
+      let none = many-nil bytes xs e in
+      subst (AreMany 0 bytes) (sym none.1) (record { parts = none.0; good = tt; number = refl })
+  many-is takes (suc n) bytes xs fine e =
+      let f = many-first read n bytes xs e in
+      let t = takes bytes f.0 fine f.1 in
+      let others = many-is takes n f.0.1 f.2 t.2 f.3 in
+      subst (AreMany (suc n) bytes) (sym f.4) (record {
+        parts = t.0 ∙ ap (λ (l : List ℕ). spell f.0.0 ++ l) others.parts;
+        good = (t.1, others.good);
+        number = ap suc others.number;
+      })
+
+  pub many-again : Again → (xs : List A) → AllByRecursion IsGood xs → many read (length xs) (flat_map spell xs) ≡ Ok xs
+  many-again again [] good = refl
+  many-again again (x ∷ xs) good = rw (again x (flat_map spell xs) good.0, many-again again xs good.1) refl
+
+-- ---- what is not read
+
+module _ {A : Type 0} (read : List ℕ → Reading A) (spell : A → List ℕ) (IsGood : A → Type 0) where
+  -- fewer items, and then bytes that begin with none
+  pub record BreaksOff (n : ℕ) (bytes : List ℕ) (fault : Fault) : Type 0 where
+    pub front : List A
+    pub rest : List ℕ
+    pub good : AllByRecursion IsGood front
+    pub fewer : length front < n
+    pub parts : bytes ≡ flat_map spell front ++ rest
+    pub fine : IsBytes rest
+    pub refused : read rest ≡ Err fault
+
+  -- so many items, and then more bytes
+  pub record GoesOn (n : ℕ) (bytes : List ℕ) : Type 0 where
+    pub items : List A
+    pub more : List ℕ
+    pub good : AllByRecursion IsGood items
+    pub number : length items ≡ n
+    pub parts : bytes ≡ flat_map spell items ++ more
+    pub some : 0 < length more
+
+  abbrev pub IsUnread : ℕ → List ℕ → Fault → Type 0
+  IsUnread n bytes fault = BreaksOff n bytes fault ⊎ ((fault ≡ TrailingBytes) × GoesOn n bytes)
+
+  none-unread : (bytes : List ℕ) (fault : Fault) → many read 0 bytes ≡ Err fault → IsUnread 0 bytes fault
+  none-unread [] fault e = absurd cc
+  none-unread (b ∷ bytes) fault e = inr (told (eqb (length (b ∷ bytes)) 0) (grind arith) e, record { items = []; more = b ∷ bytes; good = tt; number = refl; parts = refl; some = omega arith })
+    where
+      told : (t : Bool) → t ≡ false → cond t (Ok []) (Err TrailingBytes) ≡ failed {A = A} fault → fault ≡ TrailingBytes
+      told true is_false h = absurd cc
+      told false is_false h = cc
+
+  more-unread : (n : ℕ) (bytes : List ℕ) (x : A × List ℕ) (fault : Fault) → bytes ≡ spell x.0 ++ x.1 → IsGood x.0 → IsUnread n x.1 fault → IsUnread (suc n) bytes fault
+  more-unread n bytes x fault parts good (inl b) = inl (record {
+    front = x.0 ∷ b.front;
+    rest = b.rest;
+    good = (good, b.good);
+    fewer = (let lt = b.fewer in omega arith);
+    parts = parts ∙ ap (λ (l : List ℕ). spell x.0 ++ l) b.parts ∙ sym (append_assoc (spell x.0) (flat_map spell b.front) b.rest);
+    fine = b.fine;
+    refused = b.refused;
+  })
+  more-unread n bytes x fault parts good (inr m) = inr (
+    m.0,
+    record {
+      items = x.0 ∷ m.1.items;
+      more = m.1.more;
+      good = (good, m.1.good);
+      number = ap suc m.1.number;
+      parts = parts ∙ ap (λ (l : List ℕ). spell x.0 ++ l) m.1.parts ∙ sym (append_assoc (spell x.0) (flat_map spell m.1.items) m.1.more);
+      some = m.1.some;
+    },
+  )
+
+  pub many-unread : Takes read spell IsGood → (n : ℕ) (bytes : List ℕ) (fault : Fault) → IsBytes bytes → many read n bytes ≡ Err fault → IsUnread n bytes fault
+  many-unread takes zero bytes fault fine e = none-unread bytes fault e
+  many-unread takes (suc n) bytes fault fine e = first (λ others f h. many-unread takes n others fault f h) (bind_err (read bytes) (λ x. many read n x.1 >>= λ others. Ok (x.0 ∷ others)) fault e)
+    where
+      others_fail : (x : A × List ℕ) → (many read n x.1 >>= λ others. Ok (x.0 ∷ others)) ≡ Err fault → many read n x.1 ≡ Err fault
+      others_fail x h = by_case (many read n x.1) h
+        where
+          by_case : (r : Result (List A) Fault) → (r >>= λ others. Ok (x.0 ∷ others)) ≡ Err fault → r ≡ Err fault
+          by_case (Ok xs) k = absurd cc
+          by_case (Err f) k = cc
+
+      first : ((others : List ℕ) → IsBytes others → many read n others ≡ Err fault → IsUnread n others fault) → (read bytes ≡ Err fault) ⊎ ((x : A × List ℕ) × (read bytes ≡ Ok x) × ((many read n x.1 >>= λ others. Ok (x.0 ∷ others)) ≡ Err fault)) → IsUnread (suc n) bytes fault
+      first others (inl h) = inl (record { front = []; rest = bytes; good = tt; fewer = omega arith; parts = refl; fine = fine; refused = h })
+      first others (inr h) = let t = takes bytes h.0 fine h.1 in more-unread n bytes h.0 fault t.0 t.1 (others h.0.1 t.2 (others_fail h.0 h.2))
+
+  pub many-goes_on : Again read spell IsGood → (xs : List A) (more : List ℕ) → AllByRecursion IsGood xs → 0 < length more → many read (length xs) (flat_map spell xs ++ more) ≡ Err TrailingBytes
+  many-goes_on again [] [] good some = absurd (omega (arith, some))
+  many-goes_on again [] (b ∷ more) good some = told (eqb (length (b ∷ more)) 0) (grind arith)
+    where
+      told : (t : Bool) → t ≡ false → cond t (Ok []) (Err TrailingBytes) ≡ failed {A = A} TrailingBytes
+      told true is_false = absurd cc
+      told false is_false = refl
+  many-goes_on again (x ∷ xs) more good some =
+      ap (λ (l : List ℕ). many read (suc (length xs)) l) (append_assoc (spell x) (flat_map spell xs) more) ∙ rw (again x (flat_map spell xs ++ more) good.0, many-goes_on again xs more good.1 some) refl
+
+  pub many-breaks_off : Again read spell IsGood → (xs : List A) (n : ℕ) (rest : List ℕ) (fault : Fault) → AllByRecursion IsGood xs → length xs < n → read rest ≡ Err fault → many read n (flat_map spell xs ++ rest) ≡ Err fault
+  many-breaks_off again [] zero rest fault good fewer e = absurd (omega (arith, fewer))
+  many-breaks_off again [] (suc n) rest fault good fewer e = rw e refl
+  many-breaks_off again (x ∷ xs) zero rest fault good fewer e = absurd (omega (arith, fewer))
+  many-breaks_off again (x ∷ xs) (suc n) rest fault good fewer e =
+      ap (λ (l : List ℕ). many read (suc n) l) (append_assoc (spell x) (flat_map spell xs) rest) ∙ rw (again x (flat_map spell xs ++ rest) good.0, many-breaks_off again xs n rest fault good.1 (omega (arith, fewer)) e) refl

@@ -1,5 +1,5 @@
 -- The BGP4MP records: messages and state changes (RFC 6396, 4.4), with extended timestamps (RFC 6396, 3).
-use Rattle.std.specs.Prelude.{◌≡◌, ℕ, ◌^◌, ◌<◌, Bool, true, false, List, ◌++◌, Result, Ok, Err, ◌==◌, if◌then◌else◌}
+use Rattle.std.specs.Prelude.{◌≡◌, ℕ, ◌^◌, ◌<◌, Bool, true, false, List, [], ◌++◌, Result, Ok, Err, ◌==◌, if◌then◌else◌}
 use Rattle.byteorder.specs.Endian.{big_bytes}
 use Rattle.mrt_frame.specs.declared.fault.Fault.{Fault}
 use Rattle.mrt_frame.specs.declared.fault.Fault.TheVariants.{ShortRecord, BadFamily}
@@ -34,6 +34,15 @@ pub record FitsSession (width : Width) (f : SessionForm) : Type 0 where
   pub family : is_ipv6 f.local_addr ≡ is_ipv6 f.peer_addr
   pub peer_addr : FitsAddr f.peer_addr
   pub local_addr : FitsAddr f.local_addr
+
+-- an extended timestamp has four bytes of microseconds, any number; another timestamp has none, and they are 0
+abbrev pub microseconds_bytes : Bool → ℕ → List ℕ
+microseconds_bytes true microseconds = big_bytes 4 microseconds
+microseconds_bytes false microseconds = []
+
+abbrev pub FitsMicroseconds : Bool → ℕ → Type 0
+FitsMicroseconds true microseconds = microseconds < 256 ^ 4
+FitsMicroseconds false microseconds = microseconds ≡ 0
 
 abbrev pub session_peer : SessionForm → PeerKey
 session_peer f = record { asn = f.peer_as; addr = f.peer_addr }

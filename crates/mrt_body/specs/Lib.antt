@@ -4,5 +4,7 @@ pub mod Indexes
 pub mod RibRecords
 pub mod Bgp4mp
 pub mod Units
+pub mod Agreement
+pub mod Refusals
 pub mod Pending
 pub mod ToCome

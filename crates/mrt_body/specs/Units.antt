@@ -1,5 +1,5 @@
 -- The units and refusals of dumps (RFC 6396, sections 2, 4.3 and 4.4; 3 for extended timestamps; RFC 8050).
-use Rattle.std.specs.Prelude.{ℕ, ◌+◌, ◌*◌, ◌/◌, Bool, true, false, List, [], ◌∷◌, ◌++◌, map, Option, Some, None, Result, Ok, Err, nat_lt, slice_index_or, ◌==◌, ◌||◌, if◌then◌else◌}
+use Rattle.std.specs.Prelude.{ℕ, ◌+◌, ◌*◌, ◌/◌, Bool, true, false, List, [], ◌∷◌, ◌++◌, map, Option, Some, None, Result, Ok, Err, nat_lt, slice_index_or, ◌==◌, ◌||◌, if◌then◌else◌, ◌≤◌, ⊤, length}
 use Rattle.std.specs.List.{filter, filter_map, count_by, flat_map, last_or}
 use Rattle.std.specs.Option.{option_and_then}
 use Rattle.bgp_prefix.specs.Prefixes.{IpPrefix}
@@ -203,6 +203,22 @@ units_of until files = filter_map unit_of (found_in until files)
 
 unfoldable pub refused_of : Option ℕ → List (List ℕ) → List Damage
 refused_of until files = filter_map damage_of (found_in until files)
+
+-- ---- how many bytes a unit carries
+
+-- those of a message, or of an entry's attributes
+abbrev pub payload_bytes : Payload → List ℕ
+payload_bytes (State from to) = []
+payload_bytes (Message bytes width add_path) = bytes
+payload_bytes (Entry key attrs) = attrs
+
+-- no more than the greatest body of a record
+abbrev pub IsSmallUnit : ReplayUnit → Type 0
+IsSmallUnit unit = length (payload_bytes unit.payload) ≤ 16777216
+
+abbrev pub IsSmall : Found → Type 0
+IsSmall (found.Unit unit) = IsSmallUnit unit
+IsSmall (found.Refused damage) = ⊤
 
 -- ---- counts of cut records, whatever their time
 

@@ -1,8 +1,8 @@
 //! The entries of a RIB record that are still to be given out.
 
-ghost use Rattle.std.specs.Prelude.{◌≡◌, ◌≤◌, ◌++◌, [], length, drop, Some, None, IfOk, option_to_list};
+ghost use Rattle.std.specs.Prelude.{◌≡◌, ◌≤◌, ◌++◌, [], length, drop, Some, None, IfOk, IfSome, option_to_list};
 ghost use Rattle.mrt_frame.specs.Fields.{Reads};
-ghost use Rattle.mrt_body.specs.Units.{rib_units_in, time_of};
+ghost use Rattle.mrt_body.specs.Units.{IsSmallUnit, rib_units_in, time_of};
 ghost use Rattle.mrt_body.specs.Pending.{AreEntries, units_left};
 
 use crate::at::RecordAt;
@@ -98,6 +98,7 @@ impl Entries {
         ensures gives { IfOk result (λ unit. units_left peers.now self.old ≡ option_to_list unit ++ units_left peers.now self.new) }
         ensures ended { IfOk result (λ unit. unit ≡ None → units_left peers.now self.old ≡ []) }
         ensures spelled { AreEntries peers.now self.new }
+        ensures small { IfOk result (λ unit. IfSome unit IsSmallUnit) }
     {
         if self.given == self.count {
             return Ok(None);

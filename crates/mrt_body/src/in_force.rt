@@ -1,8 +1,8 @@
 //! The index in force, and what it is still needed for.
 
-ghost use Rattle.std.specs.Prelude.{◌≡◌, ◌≤◌, ◌++◌, [], length, Some, None, IfOk, option_to_list};
+ghost use Rattle.std.specs.Prelude.{◌≡◌, ◌≤◌, ◌++◌, [], length, Some, None, IfOk, IfSome, option_to_list};
 ghost use Rattle.mrt_frame.specs.Fields.{Reads};
-ghost use Rattle.mrt_body.specs.Units.{rib_units_in};
+ghost use Rattle.mrt_body.specs.Units.{IsSmallUnit, rib_units_in};
 ghost use Rattle.mrt_body.specs.Pending.{AreEntries, units_left};
 
 use crate::at::RecordAt;
@@ -69,10 +69,16 @@ impl Index {
         ensures gives { IfOk result (λ unit. self.old.pending ≡ option_to_list unit ++ self.new.pending) }
         ensures ended { IfOk result (λ unit. unit ≡ None → self.old.pending ≡ []) }
         ensures peers { self.new.peers ≡ self.old.peers }
+        ensures small { IfOk result (λ unit. IfSome unit IsSmallUnit) }
     {
-        match &mut self.entries {
-            Some(entries) => entries.next(alloc, self.peers.as_slice()),
-            None => Ok(None),
+        let Some(entries) = &mut self.entries else {
+            return Ok(None);
+        };
+        let unit = entries.next(alloc, self.peers.as_slice())?;
+        if unit.is_none() {
+            // The record's body is let go before the next one is read.
+            self.entries = None;
         }
+        Ok(unit)
     }
 }

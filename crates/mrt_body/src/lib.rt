@@ -1,6 +1,7 @@
 //! The bodies of MRT records: peer indexes, RIB records and BGP4MP messages, as units.
 #![tactic(auto)]
 
+mod agreement;
 mod at;
 mod content;
 mod entries;
@@ -16,6 +17,7 @@ mod standing;
 mod unit;
 mod units;
 
+pub use agreement::bodies_agree_with_their_forms;
 pub use interpret::event;
 pub use meaning::Event;
 pub use unit::{Damage, Found, Payload, PeerAddr, PeerKey, Place, Unit};

@@ -1,8 +1,9 @@
 //! The units of BGP4MP records.
 
-ghost use Rattle.std.specs.Prelude.{◌≤◌, ◌≡◌, drop, vec_len};
+ghost use Rattle.std.specs.Prelude.{◌≤◌, ◌≡◌, [], IfOk, drop, length, vec_len};
 ghost use Rattle.mrt_frame.specs.Fields.{Reads};
 ghost use Rattle.mrt_body.specs.Units as units_spec;
+ghost use Rattle.mrt_body.specs.Units.{payload_bytes};
 
 use crate::at::RecordAt;
 use crate::session::{microseconds_at, session_peer_at, states_in};
@@ -32,7 +33,8 @@ pub(crate) fn message_unit(
     add_path: bool,
     body: Sequence<u8>,
 ) -> Result<Unit, Fault>
-    ensures { Reads (λ unit. unit) result (units_spec.message_unit at is_extended width add_path body) }
+    ensures reads { Reads (λ unit. unit) result (units_spec.message_unit at is_extended width add_path body) }
+    ensures small { IfOk result (λ unit. length (payload_bytes unit.payload) ≤ length body) }
 {
     let bytes = body.as_slice();
     let (microseconds, after) = microseconds_at(bytes, is_extended)?;
@@ -59,7 +61,8 @@ pub(crate) fn states_unit(
     width: Width,
     body: &[u8],
 ) -> Result<Unit, Fault>
-    ensures { Reads (λ unit. unit) result (units_spec.states_unit at is_extended width body.now) }
+    ensures reads { Reads (λ unit. unit) result (units_spec.states_unit at is_extended width body.now) }
+    ensures small { IfOk result (λ unit. payload_bytes unit.payload ≡ []) }
 {
     let (microseconds, rest) = microseconds_at(body, is_extended)?;
     let (peer, rest) = session_peer_at(rest, width)?;

@@ -1,7 +1,7 @@
 //! The RIB_IPV4_UNICAST record (RFC 6396, 4.3.2 and 4.3.4) and its form with path identifiers
 //! (RFC 8050, 4).
 
-ghost use Rattle.std.specs.Prelude.{◌≡◌, ◌≤◌, IfOk};
+ghost use Rattle.std.specs.Prelude.{◌≡◌, ◌≤◌, IfOk, length};
 ghost use Rattle.mrt_frame.specs.Fields.{Reads};
 ghost use Rattle.mrt_body.specs.Many.{many, checked};
 ghost use Rattle.mrt_body.specs.RibRecords as ribs;
@@ -71,7 +71,8 @@ pub(crate) fn entry_at(
     add_path: bool,
     peers: usize,
 ) -> Result<(RibEntry<'_>, &[u8]), Fault>
-    ensures { Reads (λ x. (record { peer = x.0.peer; identifier = x.0.identifier; attributes = x.0.attributes.now }, x.1.now)) result (ribs.read_entry_at add_path peers bytes.now) }
+    ensures reads { Reads (λ x. (record { peer = x.0.peer; identifier = x.0.identifier; attributes = x.0.attributes.now }, x.1.now)) result (ribs.read_entry_at add_path peers bytes.now) }
+    ensures small { IfOk result (λ x. length x.0.attributes.now ≤ 65535) }
 {
     let (peer, rest) = peer_index_at(bytes, peers)?;
     let (_, rest) = u32_at(rest, Fault::ShortRecord)?;

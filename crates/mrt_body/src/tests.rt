@@ -1,3 +1,11 @@
+//! Tests on records in memory.
+
+mod devices;
+mod dumps;
+mod lines;
+mod rows;
+mod sizes;
+
 use crate::{Event, Found, Payload, PeerAddr, Unit, Units, event};
 use bgp_update::{AttrError, Width};
 use mrt_frame::{Counted, Fault, ReplayError};
@@ -181,96 +189,6 @@ fn expect_message(rt: &impl Abort, found: &Found, message: &[u8], paths: bool) {
 }
 
 #[test]
-fn an_index_holds_in_its_file_alone(rt: HostRuntime) -> Result<(), Fail> {
-    let mut files = [
-        Counted::new(&PEERS[..]),
-        Counted::new(&UPDATE[..]),
-        Counted::new(&RIB[..]),
-    ];
-    let found = all_found(rt.alloc(), &mut files, None)?;
-    assert_eq!(rt; found.len(), 2);
-    expect_refused(&rt, found.get(1), 2, 0, Fault::NoPeerIndex);
-    Ok(())
-}
-
-#[test]
-fn units_past_the_time_are_left_out(rt: HostRuntime) -> Result<(), Fail> {
-    let parts: [&[u8]; 4] = [&UPDATE, &STATES, &PEERS, &RIB];
-    let found = found_in(rt.alloc(), &parts, Some(1))?;
-    assert_eq!(rt; found.len(), 1);
-    let mut extended = [0; 81];
-    extended[..12].copy_from_slice(&UPDATE[..12]);
-    extended[5] = 17;
-    extended[11] = 69;
-    extended[12..16].copy_from_slice(&1_000_000_u32.to_be_bytes());
-    extended[16..].copy_from_slice(&UPDATE[12..]);
-    let found = found_in(rt.alloc(), &[&extended], None)?;
-    assert_eq!(rt; found.len(), 1);
-    match &found[0] {
-        Found::Unit(unit) => assert_eq!(rt; unit.time, 2_000_000),
-        Found::Refused(_) => assert!(rt; false),
-    }
-    let found = found_in(rt.alloc(), &[&extended], Some(1))?;
-    assert!(rt; found.is_empty());
-    Ok(())
-}
-
-/// What a record is refused for, behind a table of two peers.
-fn expect_fault(rt: &impl Abort, alloc: Global, record: &[u8], fault: Fault) -> Result<(), Fail> {
-    let found = found_in(alloc, &[&PEERS, record], None)?;
-    assert_eq!(rt; found.len(), 1);
-    expect_refused(rt, found.get(0), 0, 56, fault);
-    Ok(())
-}
-
-#[test]
-fn records_refused(rt: HostRuntime) -> Result<(), Fail> {
-    let alloc = rt.alloc();
-    expect_fault(
-        &rt,
-        alloc,
-        &[0, 0, 0, 1, 0, 16, 0, 4, 0, 0, 0, 2, 0, 0],
-        Fault::ShortRecord,
-    )?;
-    expect_fault(
-        &rt,
-        alloc,
-        &[0, 0, 0, 1, 0, 17, 0, 4, 0, 0, 0, 3, 0, 0, 0],
-        Fault::ShortRecord,
-    )?;
-    let mut longer = [0; 37];
-    longer[..36].copy_from_slice(&STATES);
-    longer[11] = 25;
-    expect_fault(&rt, alloc, &longer, Fault::TrailingBytes)?;
-    let mut family = UPDATE;
-    family[23] = 3;
-    expect_fault(&rt, alloc, &family, Fault::BadFamily)?;
-    let mut rib = RIB;
-    rib[49] = 2;
-    expect_fault(&rt, alloc, &rib, Fault::BadPeerIndex)?;
-    let mut rib = RIB;
-    rib[16] = 33;
-    expect_fault(&rt, alloc, &rib, Fault::BadPrefix)?;
-    let mut rib = RIB;
-    rib[19] = 1;
-    expect_fault(&rt, alloc, &rib, Fault::TrailingBytes)?;
-    let mut rib = RIB;
-    rib[18] = 255;
-    expect_fault(&rt, alloc, &rib, Fault::ShortRecord)
-}
-
-#[test]
-fn a_damaged_index_puts_none_in_force(rt: HostRuntime) -> Result<(), Fail> {
-    let mut damaged = PEERS;
-    damaged[18] = 255;
-    let found = found_in(rt.alloc(), &[&PEERS, &damaged, &RIB, &PEERS, &RIB], None)?;
-    assert_eq!(rt; found.len(), 4);
-    expect_refused(&rt, found.get(0), 0, 56, Fault::ShortRecord);
-    expect_refused(&rt, found.get(1), 0, 112, Fault::NoPeerIndex);
-    Ok(())
-}
-
-#[test]
 fn records_then_spent(rt: HostRuntime) -> Result<(), Fail> {
     let alloc = rt.alloc();
     let mut bytes = [0; 154];
@@ -317,22 +235,5 @@ fn a_rest_behind_the_last_record(rt: HostRuntime) -> Result<(), Fail> {
     assert!(rt; units.next(alloc, &mut files)?.is_none());
     assert!(rt; units.count() == 2);
     assert!(rt; units.next(alloc, &mut files)?.is_none());
-    Ok(())
-}
-
-#[test]
-fn records_aside(rt: HostRuntime) -> Result<(), Fail> {
-    let alloc = rt.alloc();
-    let mut bytes = [0; 89];
-    bytes[3] = 1;
-    bytes[5] = 12;
-    bytes[7] = 1;
-    bytes[12..].copy_from_slice(&UPDATE);
-    let mut files = [Counted::new(&bytes[..])];
-    let mut units = Units::new(1, 9, None);
-    assert!(rt; units.count() == 1);
-    assert!(rt; units.next(alloc, &mut files)?.is_some());
-    assert_eq!(rt; units.records(), 2);
-    assert_eq!(rt; units.aside(), 1);
     Ok(())
 }

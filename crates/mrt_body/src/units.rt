@@ -1,7 +1,8 @@
 //! The units and refusals of files.
 
-ghost use Rattle.std.specs.Prelude.{◌≡◌, ℕ, List, ◌<◌, ◌≤◌, ◌+◌, ◌^◌, Some, None, true, false, [], map, Err, IfOk, IfErr, OnOk, length, option_to_list};
-ghost use Rattle.mrt_body.specs.Units.{alone, all_cuts, found_in, found_units, is_past, refused_at, at_record};
+ghost use Rattle.std.specs.Prelude.{◌≡◌, ℕ, List, ◌<◌, ◌≤◌, ◌+◌, ◌^◌, Some, None, true, false, [], map, Err, IfOk, IfErr, IfSome, OnOk, length, option_to_list};
+ghost use Rattle.mrt_body.specs.Units.{IsSmall, IsSmallUnit, alone, all_cuts, found_in, found_units, is_past, refused_at, at_record};
+ghost use Rattle.mrt_frame.specs.Frames.{StandsAt};
 ghost use Rattle.mrt_body.specs.ToCome.{UnitsState, GivesPending, CutsOne, TakesRecord, TakesFound, NothingToCome, Steps, StopsAt, Stops, KeepsPlan, answers_left, cuts_to_come, found_to_come, steps_left, fresh_units, standing_after};
 ghost use Rattle.mrt_body.specs.declared.content.Content.TheVariants as content_spec;
 ghost use Rattle.mrt_body.specs.declared.standing.Standing.TheVariants as standings;
@@ -109,6 +110,8 @@ impl Units {
         ensures again { self.old.standing ≡ standings.Failed → (result ≡ Err (ReplayError.Read self.old.file)) × (self.new ≡ self.old) × (files.new ≡ files.old) }
         ensures sound { OnOk result (map R.failure_count files.new ≡ map R.failure_count files.old) }
         ensures plan { KeepsPlan self.old self.new }
+        // A unit's bytes number at most 16,777,216.
+        ensures small { IfOk result (λ found. IfSome found IsSmall) }
     {
         match self.standing {
             Standing::Going => self.find(alloc, files),
@@ -131,6 +134,7 @@ impl Units {
         ensures cause { IfErr result (Stops self.old (map R.remaining files.old) self.new (map R.failure_count files.old) (map R.failure_count files.new)) }
         ensures sound { OnOk result (map R.failure_count files.new ≡ map R.failure_count files.old) }
         ensures plan { KeepsPlan self.old self.new }
+        ensures small { IfOk result (λ found. IfSome found IsSmall) }
     {
         'files: loop {
             if let Some(unit) = self.next_entry(alloc)? {
@@ -153,6 +157,7 @@ impl Units {
         ensures ended { IfOk result (λ unit. unit ≡ None → self.old.pending ≡ []) }
         ensures want { IfErr result (λ e. (e ≡ ReplayError.Memory) × (self.new.standing ≡ standings.Spent)) }
         ensures plan { KeepsPlan self.old self.new }
+        ensures small { IfOk result (λ unit. IfSome unit IsSmallUnit) }
     {
         let Some(index) = &mut self.index else {
             return Ok(None);
@@ -176,6 +181,7 @@ impl Units {
         ensures sound { OnOk result (R.failure_count reader.new ≡ R.failure_count reader.old) }
         ensures plan { KeepsPlan self.old self.new }
         ensures fewer { IfOk result (λ _. steps_left self.new < steps_left self.old) }
+        ensures place { IfOk result (λ cut. IfSome cut (StandsAt self.old.frames.offset)) }
     {
         match self.frames.next(alloc, reader) {
             Ok(
@@ -231,6 +237,7 @@ impl Units {
         ensures cause { IfErr result (StopsAt self.old (R.remaining reader.old) self.new (R.failure_count reader.old) (R.failure_count reader.new)) }
         ensures sound { OnOk result (R.failure_count reader.new ≡ R.failure_count reader.old) }
         ensures plan { KeepsPlan self.old self.new }
+        ensures small { IfOk result (λ found. IfSome found IsSmall) }
     {
         let file = self.file;
         match self.cut(alloc, reader)? {
@@ -279,10 +286,12 @@ impl Units {
     ) -> Result<Option<Found>, ReplayError>
         requires given { self.old.pending ≡ [] }
         requires counted { self.old.aside < self.old.records }
+        requires small { length body ≤ 16777216 }
         ensures takes { IfOk result (TakesRecord self.old at is_extended content body self.new) }
         ensures few { IfOk result (λ found. length (option_to_list found) + length self.new.pending ≤ 65535) }
         ensures want { IfErr result (λ e. (e ≡ ReplayError.Memory) × (self.new.standing ≡ standings.Spent)) }
         ensures plan { KeepsPlan self.old self.new }
+        ensures small { IfOk result (λ found. IfSome found IsSmall) }
     {
         match content {
             Content::IndexTable => self.take_index(alloc, at, is_extended, body.as_slice()),
@@ -304,7 +313,8 @@ impl Units {
 
     /// A unit that isn't left out, or the refusal of its record.
     fn found(&self, at: RecordAt, unit: Result<Unit, Fault>) -> Option<Found>
-        ensures { option_to_list result ≡ found_units self.now.until at (alone unit) }
+        ensures found { option_to_list result ≡ found_units self.now.until at (alone unit) }
+        ensures small { IfOk unit IsSmallUnit → IfSome result IsSmall }
     {
         match unit {
             Ok(unit) => {
@@ -341,6 +351,7 @@ impl Units {
         ensures few { IfOk result (λ found. length (option_to_list found) + length self.new.pending ≤ 65535) }
         ensures want { IfErr result (λ e. (e ≡ ReplayError.Memory) × (self.new.standing ≡ standings.Spent)) }
         ensures plan { KeepsPlan self.old self.new }
+        ensures small { IfOk result (λ found. IfSome found IsSmall) }
     {
         self.index = None;
         match peers_in(alloc, body) {
@@ -367,6 +378,7 @@ impl Units {
         requires { self.old.pending ≡ [] }
         ensures takes { TakesRecord self.old at is_extended (content_spec.Rib add_path) body self.new result }
         ensures few { length (option_to_list result) + length self.new.pending ≤ 65535 }
+        ensures small { IfSome result IsSmall }
     {
         let is_past = self.is_past(at.time(0));
         let Some(index) = &mut self.index else {

@@ -1,0 +1,88 @@
+-- Which fault refuses a body that doesn't agree with the form of its record: that of the first field that is broken.
+use Rattle.std.specs.Prelude.{◌≡◌, ◌≢◌, ◌⊎◌, ℕ, ◌^◌, ◌<◌, ◌≤◌, Bool, List, ◌∷◌, ◌++◌, length, Option, Some, None}
+use Rattle.std.specs.Int.{div_ceil}
+use Rattle.std.specs.List.{flat_map}
+use Rattle.byteorder.specs.Endian.{big_bytes}
+use Rattle.mrt_frame.specs.declared.fault.Fault.{Fault}
+use Rattle.mrt_frame.specs.declared.fault.Fault.TheVariants.{ShortRecord, TrailingBytes, BadFamily, NoPeerIndex, BadPeerIndex, BadPrefix}
+use Rattle.bgp_update.specs.declared.width.Width.{Width}
+use Rattle.bgp_update.specs.Segments.{number_len}
+use Rattle.mrt_body.specs.declared.at.RecordAt.{RecordAt}
+use Rattle.mrt_body.specs.declared.content.Content.{Content}
+use Rattle.mrt_body.specs.declared.content.Content.TheVariants as content
+use Rattle.mrt_body.specs.declared.unit.PeerKey.{PeerKey}
+use Rattle.mrt_body.specs.declared.unit.Unit.{Unit as ReplayUnit}
+use Rattle.mrt_body.specs.Indexes.{asn_bytes}
+use Rattle.mrt_body.specs.RibRecords.{RibForm, FitsRib, entry_bytes}
+use Rattle.mrt_body.specs.Bgp4mp.{microseconds_bytes, FitsMicroseconds}
+use Rattle.mrt_body.specs.Agreement.{Agrees}
+
+-- bytes stand behind a body that agrees
+pub record HasMore (at : RecordAt) (extended : Bool) (index : Option (List PeerKey)) (c : Content) (body : List ℕ) : Type 0 where
+  pub front : List ℕ
+  pub more : List ℕ
+  pub units : List ReplayUnit
+  pub parts : body ≡ front ++ more
+  pub some : 0 < length more
+  pub agrees : Agrees at extended index c front units
+
+-- behind the fields before it stands an address family that is neither IPv4 nor IPv6
+pub record HasOtherFamily (extended : Bool) (width : Width) (body : List ℕ) : Type 0 where
+  pub microseconds : ℕ
+  pub peer_as : ℕ
+  pub local_as : ℕ
+  pub interface : ℕ
+  pub family : ℕ
+  pub rest : List ℕ
+  pub fits_microseconds : FitsMicroseconds extended microseconds
+  pub fits_peer_as : peer_as < 256 ^ number_len width
+  pub fits_local_as : local_as < 256 ^ number_len width
+  pub fits_interface : interface < 256 ^ 2
+  pub fits_family : family < 256 ^ 2
+  pub other : (family ≢ 1) × (family ≢ 2)
+  pub spelled : body ≡ microseconds_bytes extended microseconds ++ (asn_bytes width peer_as ++ (asn_bytes width local_as ++ (big_bytes 2 interface ++ (big_bytes 2 family ++ rest))))
+
+-- behind the sequence number stands the length of a prefix that is over 32, or has more bytes than are left
+pub record HasBadPrefix (body : List ℕ) : Type 0 where
+  pub sequence : ℕ
+  pub len : ℕ
+  pub rest : List ℕ
+  pub fits_sequence : sequence < 256 ^ 4
+  pub bad : (32 < len) ⊎ (length rest < div_ceil len 8)
+  pub spelled : body ≡ big_bytes 4 sequence ++ (len ∷ rest)
+
+-- behind fewer entries than the count says stands an index that is that of none of so many peers
+pub record HasUnknownPeer (add_path : Bool) (peers : ℕ) (body : List ℕ) : Type 0 where
+  pub form : RibForm
+  pub count : ℕ
+  pub peer : ℕ
+  pub rest : List ℕ
+  pub fits : FitsRib add_path peers form
+  pub fewer : length form.entries < count
+  pub fits_count : count < 256 ^ 2
+  pub fits_peer : peer < 256 ^ 2
+  pub unknown : peers ≤ peer
+  pub spelled : body ≡ big_bytes 4 form.sequence ++ ((form.len ∷ form.octets) ++ (big_bytes 2 count ++ (flat_map (entry_bytes add_path) form.entries ++ (big_bytes 2 peer ++ rest))))
+
+-- what is wrong with a RIB record beside this index, other than a field that runs past the body
+abbrev pub HasRibFault : RecordAt → Bool → Bool → Option (List PeerKey) → List ℕ → Fault → Type 0
+HasRibFault at extended add_path None body fault = fault ≡ NoPeerIndex
+HasRibFault at extended add_path (Some peers) body fault =
+    ((fault ≡ BadPrefix) × HasBadPrefix body)
+    ⊎ (((fault ≡ BadPeerIndex) × HasUnknownPeer add_path (length peers) body)
+    ⊎ ((fault ≡ TrailingBytes) × HasMore at extended (Some peers) (content.Rib add_path) body))
+
+-- what is wrong with a body, other than a field that runs past it
+abbrev pub HasFault : RecordAt → Bool → Option (List PeerKey) → Content → List ℕ → Fault → Type 0
+HasFault at extended index content.IndexTable body fault = (fault ≡ TrailingBytes) × HasMore at extended index content.IndexTable body
+HasFault at extended index (content.Rib add_path) body fault = HasRibFault at extended add_path index body fault
+HasFault at extended index (content.Message width add_path) body fault = (fault ≡ BadFamily) × HasOtherFamily extended width body
+HasFault at extended index (content.States width) body fault =
+    ((fault ≡ BadFamily) × HasOtherFamily extended width body) ⊎ ((fault ≡ TrailingBytes) × HasMore at extended index (content.States width) body)
+HasFault at extended index content.Aside body fault = ⊥
+
+-- A body that doesn't agree is refused for what is wrong with it, and where nothing else is, for a field that runs past it.
+abbrev pub IsRefused : RecordAt → Bool → Option (List PeerKey) → Content → List ℕ → Fault → Type 0
+IsRefused at extended index c body fault =
+    HasFault at extended index c body fault
+    ⊎ ((fault ≡ ShortRecord) × ((units : List ReplayUnit) → Agrees at extended index c body units → ⊥) × ((other : Fault) → HasFault at extended index c body other → ⊥))

@@ -1,0 +1,29 @@
+// The law of bodies.
+ghost use Rattle.std.specs.Prelude.{◌≡◌, ◌↔◌, ℕ, Bool, List, Option, Ok, Err};
+ghost use Rattle.mrt_frame.specs.declared.fault.Fault.{Fault};
+ghost use Rattle.mrt_body.specs.declared.at.RecordAt.{RecordAt};
+ghost use Rattle.mrt_body.specs.declared.content.Content.{Content};
+ghost use Rattle.mrt_body.specs.declared.unit.PeerKey.{PeerKey};
+ghost use Rattle.mrt_body.specs.declared.unit.Unit.{Unit as ReplayUnit};
+ghost use Rattle.mrt_body.specs.Indexes.{peers_in};
+ghost use Rattle.mrt_body.specs.Units.{units_in};
+ghost use Rattle.mrt_body.specs.Agreement.{AreBytes, IsIndexBody, Agrees};
+ghost use Rattle.mrt_body.specs.Refusals.{IsRefused};
+
+/// A record gives units exactly where its body agrees with its form (RFC 6396, 4.3 and 4.4; RFC 8050),
+/// and these units alone: the bytes can be read in no other way. Another record is refused for the
+/// first of its fields that is broken.
+pub fn bodies_agree_with_their_forms()
+    ensures peers { (body : List ℕ) (peers : List PeerKey) → AreBytes body →
+        (peers_in body ≡ Ok peers) ↔ IsIndexBody body peers }
+    ensures units { (at : RecordAt) (extended : Bool) (index : Option (List PeerKey))
+        (content : Content) (body : List ℕ) (units : List ReplayUnit) → AreBytes body →
+        (units_in at extended index content body ≡ Ok units) ↔ Agrees at extended index content body units }
+    ensures only { (at : RecordAt) (extended : Bool) (index : Option (List PeerKey))
+        (content : Content) (body : List ℕ) (units others : List ReplayUnit) →
+        Agrees at extended index content body units →
+        Agrees at extended index content body others → units ≡ others }
+    ensures refused { (at : RecordAt) (extended : Bool) (index : Option (List PeerKey))
+        (content : Content) (body : List ℕ) (fault : Fault) → AreBytes body →
+        (units_in at extended index content body ≡ Err fault) ↔ IsRefused at extended index content body fault }
+{}
