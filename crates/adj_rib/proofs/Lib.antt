@@ -2,6 +2,6 @@ pub mod After
 pub mod TableLaws
 pub mod HeldPairs
 pub mod Stepping
-pub mod Announcing
 pub mod Taking
+pub mod SourceLaws
 mod Examples

@@ -55,16 +55,6 @@ IsTable_withdraw steps table p h q =
     ∙ chosen (key_eq q p) None (finite.get table q) (route_at steps q) (h q)
     ∙ sym (route_at-push steps (withdraw p) q)
 
--- an announcement of the route that stands changes nothing
-pub insert_same : (table : finite.FinMap key_cmp Route) (p : RouteKey) (route : Route) → finite.get table p ≡ Some route → finite.insert table p route ≡ table
-insert_same table p route h =
-    finite.same_map key_cmp_total key_cmp_exact (finite.insert table p route) table (λ q.
-    finite.get-insert key_cmp_total table p route q
-    ∙ elim (eq_by_cmp key_cmp q p) as (λ b. eq_by_cmp key_cmp q p ≡ b → cond b (Some route) (finite.get table q) ≡ finite.get table q) [
-      | true ↦ λ tied. sym h ∙ ap (finite.get table) (sym (tied_same q p tied))
-      | false ↦ λ apart. refl
-    ] refl)
-
 -- ---- the table as entries
 
 -- where no announcement names q, what the steps say of it is that it has no route

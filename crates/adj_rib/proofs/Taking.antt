@@ -30,7 +30,7 @@ use Rattle.adj_rib.specs.Steps.{Step, ESTABLISHED, new_state, is_up, reading_ste
 use Rattle.adj_rib.specs.Tables.{IsTable, table_of}
 use Rattle.adj_rib.specs.Churns.{outcomes_of, is_routing, reading_of, idle_flags, damage_in, damaged_of, stopped, first_time, churn_of}
 use Rattle.adj_rib.specs.Sessions.{SessionState, session_of}
-use Rattle.adj_rib.specs.Applied.{counted_if, RouteMap, applied, timed, noted, up_after, Kept, START, followed, listed, taken}
+use Rattle.adj_rib.specs.Applied.{counted_if, RouteMap, applied, timed, noted, up_after, Kept, START, followed, listed, taken, read_as, refused}
 use Rattle.adj_rib.proofs.TableLaws.{last_or-append, find-table_of, entries-IsTable, IsTable_start}
 use Rattle.adj_rib.proofs.After.{steps_of-push}
 use Rattle.adj_rib.proofs.Stepping.{stopped-count_by-push, AreCounts, AreAfter, AreAfter-steps, AgreeBeside, beside_steps}
@@ -184,6 +184,14 @@ pub Stands-taken : (units : List ReplayUnit) (unit : ReplayUnit) (k : Kept) → 
 Stands-taken units unit k h =
     let same : k ≡ record { up = is_up units; table = k.table; churn = churn_of units; faults = damaged_of units } = λ i. record { up = h.up i; table = k.table; churn = h.churn i; faults = h.faults i } in
     rw same (taken_stands units unit k.table h.table)
+
+-- a unit is taken as its reading says
+pub taken_as : (k : Kept) (unit : ReplayUnit) → read_as (record k { churn = timed unit.time k.churn }) unit.place (reading_of unit) ≡ taken k unit
+unfolding taken followed refused
+taken_as k unit = elim (reading_of unit) as (λ r. read_as (record k { churn = timed unit.time k.churn }) unit.place r ≡ record (followed (record k { churn = timed unit.time k.churn }) r) { faults = listed k.faults (damage_in unit r) }) [
+  | Ok e ↦ refl
+  | Err fault ↦ refl
+]
 
 -- ---- the session
 

@@ -6,6 +6,9 @@ use Rattle.bgp_prefix.specs.Keys.{key_cmp}
 use Rattle.mrt_frame.specs.declared.fault.Fault.{Fault}
 use Rattle.bgp_update.specs.declared.route.Route.{Route}
 use Rattle.mrt_body.specs.declared.unit.Unit.{Unit as ReplayUnit}
+use Rattle.mrt_body.specs.declared.unit.Payload.{Payload}
+use Rattle.mrt_body.specs.declared.unit.Payload.TheVariants.{State, Message, Entry}
+use Rattle.mrt_body.specs.declared.unit.Place.{Place}
 use Rattle.mrt_body.specs.declared.unit.Damage.{Damage}
 use Rattle.mrt_body.specs.declared.meaning.Event.{Event}
 use Rattle.mrt_body.specs.declared.meaning.Event.TheVariants as event
@@ -33,10 +36,6 @@ counted o c = record {
   first = c.first;
   last = c.last;
 }
-
--- an announcement over another route, or over none
-abbrev pub outcome_over : Option Route → Outcome
-outcome_over old = if is_some old then Changed else Added
 
 abbrev pub RouteMap : Type 0
 RouteMap = finite.FinMap key_cmp Route
@@ -95,6 +94,17 @@ listed faults (Some damage) = faults ++ damage ∷ []
 -- after a damaged unit
 unfoldable pub refused : Kept → Damage → Kept
 refused k damage = record (followed k (Err damage.fault)) { faults = k.faults ++ damage ∷ [] }
+
+-- after a unit at a place, by its reading
+abbrev pub read_as : Kept → Place → Result Event Fault → Kept
+read_as k place (Ok e) = followed k (Ok e)
+read_as k place (Err fault) = refused k (record { place = place; fault = fault })
+
+-- a message or a state change
+abbrev pub IsNoEntry : Payload → Type 0
+IsNoEntry (State from to) = Unit {0}
+IsNoEntry (Message bytes width add_path) = Unit {0}
+IsNoEntry (Entry key attrs) = ⊥
 
 -- after one more unit
 unfoldable pub taken : Kept → ReplayUnit → Kept

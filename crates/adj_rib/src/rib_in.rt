@@ -1,10 +1,12 @@
+use crate::attr_cache::{Ahead, AttrCache};
 use crate::churn::Churn;
 use crate::outcome::Outcome;
+use crate::shared_route::SharedRoute;
 use crate::table::announce_route;
 use crate::update::apply_update;
 use bgp_prefix::{Memory, PrefixMap, RouteKey};
-use bgp_update::{AttrError, Route, Update};
-use mrt_body::{Damage, Event, Unit, event};
+use bgp_update::{AttrError, Update};
+use mrt_body::{Damage, Event, Payload, Place, Unit, event};
 use std::alloc::Global;
 
 /// The state Established (RFC 4271, 8.2.2).
@@ -12,17 +14,20 @@ const ESTABLISHED_STATE: u16 = 6;
 
 /// A peer's Adj-RIB-In, with what is counted and listed of the peer.
 #[derive(Drop)]
-pub(crate) struct RibIn<M: PrefixMap<Route>> {
+pub(crate) struct RibIn<M: PrefixMap<SharedRoute>> {
     pub(crate) up: bool,
     pub(crate) table: M,
     pub(crate) churn: Churn,
     pub(crate) faults: Vec<Damage>,
+    cache: AttrCache,
 }
 
-impl<M: PrefixMap<Route>> RibIn<M> {
+impl<M: PrefixMap<SharedRoute>> RibIn<M> {
     ghost use Rattle.std.specs.Prelude.{◌≡◌, true, Ok, OnOk};
+    ghost use Rattle.mrt_body.specs.Events.{event_in};
     ghost use Rattle.mrt_body.specs.declared.meaning.Event.TheVariants as events;
-    ghost use Rattle.adj_rib.specs.Applied.{START, counted_if, followed, refused, taken};
+    ghost use Rattle.mrt_body.specs.declared.unit.Payload.TheVariants as payloads;
+    ghost use Rattle.adj_rib.specs.Applied.{START, counted_if, followed, refused, IsNoEntry, read_as, taken};
     ghost use Rattle.adj_rib.specs.Keeping.{kept_in};
 
     /// Of a peer without units, which is up.
@@ -34,6 +39,7 @@ impl<M: PrefixMap<Route>> RibIn<M> {
             table: M::new(alloc),
             churn: Churn::new(),
             faults: Vec::new(alloc),
+            cache: AttrCache::new(alloc),
         }
     }
 
@@ -68,34 +74,6 @@ impl<M: PrefixMap<Route>> RibIn<M> {
         apply_update(alloc, &mut self.table, &mut self.churn, update)
     }
 
-    /// Takes the step of a RIB entry.
-    #[tactic(auto, unfolding(crate::specs::Applied::followed, crate::specs::Applied::noted))]
-    fn enter(&mut self, alloc: Global, key: RouteKey, route: Route) -> Result<(), Memory>
-        ensures { OnOk result (kept_in M.contents self.new ≡ followed (kept_in M.contents self.old) (Ok (events.Rib key route))) }
-    {
-        if !self.up {
-            self.count_idle();
-            return Ok(());
-        }
-        announce_route(alloc, &mut self.table, &mut self.churn, key, route)
-    }
-
-    /// Takes the steps of an event.
-    #[tactic(auto, unfolding(crate::specs::Applied::followed, crate::specs::Applied::noted))]
-    fn follow(&mut self, alloc: Global, event: Event) -> Result<(), Memory>
-        ensures { OnOk result (kept_in M.contents self.new ≡ followed (kept_in M.contents self.old) (Ok event)) }
-    {
-        match event {
-            Event::State(old, new) => {
-                self.change_state(old, new);
-                Ok(())
-            }
-            Event::Change(update) => self.change(alloc, update),
-            Event::Rib(key, route) => self.enter(alloc, key, route),
-            Event::Other => Ok(()),
-        }
-    }
-
     /// Lists a damaged unit.
     #[tactic(auto, unfolding(crate::specs::Applied::refused, crate::specs::Applied::followed, crate::specs::Applied::noted))]
     fn refuse(&mut self, damage: Damage) -> Result<(), Memory>
@@ -106,19 +84,64 @@ impl<M: PrefixMap<Route>> RibIn<M> {
         Ok(())
     }
 
+    /// Takes a RIB entry.
+    #[tactic(auto, unfolding(crate::specs::Applied::followed, crate::specs::Applied::noted, mrt_body::specs::Events::event_in))]
+    fn enter(
+        &mut self,
+        alloc: Global,
+        place: Place,
+        key: RouteKey,
+        attrs: &[u8],
+    ) -> Result<(), Memory>
+        ensures { OnOk result (kept_in M.contents self.new ≡ read_as (kept_in M.contents self.old) place (event_in (payloads.Entry key attrs.now))) }
+    {
+        self.cache.forget_old(alloc, self.table.len());
+        match self.cache.read(alloc, attrs) {
+            Ok(_) if !self.up => {
+                self.count_idle();
+                Ok(())
+            }
+            Ok(route) => announce_route(alloc, &mut self.table, &mut self.churn, key, &route),
+            Err(AttrError::Bad(fault)) => self.refuse(Damage { place, fault }),
+            Err(AttrError::Memory) => Err(Memory),
+        }
+    }
+
+    /// Takes a message or a state change.
+    #[tactic(auto, unfolding(crate::specs::Applied::followed, crate::specs::Applied::noted))]
+    fn follow(&mut self, alloc: Global, place: Place, payload: &Payload) -> Result<(), Memory>
+        requires { IsNoEntry payload.now }
+        ensures { OnOk result (kept_in M.contents self.new ≡ read_as (kept_in M.contents self.old) place (event_in payload.now)) }
+    {
+        match event(alloc, payload) {
+            Ok(Event::State(old, new)) => {
+                self.change_state(old, new);
+                Ok(())
+            }
+            Ok(Event::Change(update)) => self.change(alloc, update),
+            Ok(Event::Other) => Ok(()),
+            Ok(Event::Rib(_, _)) => unreachable!(),
+            Err(AttrError::Bad(fault)) => self.refuse(Damage { place, fault }),
+            Err(AttrError::Memory) => Err(Memory),
+        }
+    }
+
+    /// Where `take` will look for what a unit's attributes spell.
+    pub(crate) fn ahead(&self, unit: &Unit) -> Ahead<'_> {
+        match &unit.payload {
+            Payload::Entry { attrs, .. } => self.cache.ahead(attrs.as_slice()),
+            _ => Ahead::nowhere(),
+        }
+    }
+
     /// Takes the next unit.
-    #[tactic(auto, unfolding(crate::specs::Applied::taken, crate::specs::Applied::refused, crate::specs::Applied::followed))]
     pub(crate) fn take(&mut self, alloc: Global, unit: &Unit) -> Result<(), Memory>
         ensures { OnOk result (kept_in M.contents self.new ≡ taken (kept_in M.contents self.old) unit.now) }
     {
         self.churn.note_time(unit.time);
-        match event(alloc, &unit.payload) {
-            Ok(event) => self.follow(alloc, event),
-            Err(AttrError::Bad(fault)) => self.refuse(Damage {
-                place: unit.place,
-                fault,
-            }),
-            Err(AttrError::Memory) => Err(Memory),
+        match &unit.payload {
+            Payload::Entry { key, attrs } => self.enter(alloc, unit.place, *key, attrs.as_slice()),
+            payload => self.follow(alloc, unit.place, payload),
         }
     }
 }

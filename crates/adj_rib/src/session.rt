@@ -3,22 +3,23 @@ ghost use Rattle.std.specs.FinMap as finite;
 ghost use Rattle.adj_rib.specs.Sessions.{StandsFor};
 ghost use Rattle.mrt_body.specs.declared.unit.Unit.{Unit as ReplayUnit};
 
+use crate::attr_cache::Ahead;
 use crate::churn::Churn;
 use crate::rib_in::RibIn;
+use crate::shared_route::SharedRoute;
 use bgp_prefix::{Memory, PrefixMap};
-use bgp_update::Route;
 use mrt_body::{Damage, Unit};
 use std::alloc::Global;
 use std::marker::Model;
 
 /// A peer's session with the collector, as far as its units were taken.
 #[derive(Drop)]
-pub struct Session<M: PrefixMap<Route>> {
+pub struct Session<M: PrefixMap<SharedRoute>> {
     rib: RibIn<M>,
     spent: bool,
 }
 
-impl<M: PrefixMap<Route>> Model for Session<M> {
+impl<M: PrefixMap<SharedRoute>> Model for Session<M> {
     ghost use Rattle.std.specs.FinMap as finite;
     ghost use Rattle.adj_rib.specs.Sessions.{SessionState};
 
@@ -27,7 +28,7 @@ impl<M: PrefixMap<Route>> Model for Session<M> {
     ghost view = { λ s. record { up = s.rib.up; table = finite.entries (M.contents s.rib.table); churn = s.rib.churn; faults = s.rib.faults.items; spent = s.spent } };
 }
 
-impl<M: PrefixMap<Route>> Session<M> {
+impl<M: PrefixMap<SharedRoute>> Session<M> {
     /// Of a peer without units, which is up and has no route. It takes no memory.
     pub fn new(alloc: Global) -> Session<M>
         ensures { StandsFor result [] }
@@ -56,6 +57,11 @@ impl<M: PrefixMap<Route>> Session<M> {
                 Err(memory)
             }
         }
+    }
+
+    /// Where `take` will look for what the attributes of a unit spell.
+    pub fn ahead(&self, unit: &Unit) -> Ahead<'_> {
+        self.rib.ahead(unit)
     }
 
     /// Whether the last state change led to Established, or there was none.

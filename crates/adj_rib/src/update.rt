@@ -5,13 +5,14 @@ ghost use Rattle.adj_rib.specs.Steps.{announce, withdraw, withdrawals, announcem
 ghost use Rattle.adj_rib.specs.Applied.{applied};
 
 use crate::churn::Churn;
-use crate::table::{announce_copy, announce_route, withdraw_key};
+use crate::shared_route::SharedRoute;
+use crate::table::{announce_route, withdraw_key};
 use bgp_prefix::{KeySet, Memory, PrefixMap, RouteKey};
 use bgp_update::{Route, Update};
 use std::alloc::Global;
 
 /// Withdraws the keys that are neither announced nor reached.
-fn withdraw_others<M: PrefixMap<Route>>(
+fn withdraw_others<M: PrefixMap<SharedRoute>>(
     table: &mut M,
     churn: &mut Churn,
     withdrawn: &[RouteKey],
@@ -27,24 +28,24 @@ fn withdraw_others<M: PrefixMap<Route>>(
     }
 }
 
-/// Announces each key with a copy of the route.
-fn announce_all<M: PrefixMap<Route>>(
+/// Announces each key with the route.
+fn announce_all<M: PrefixMap<SharedRoute>>(
     alloc: Global,
     table: &mut M,
     churn: &mut Churn,
-    announced: &[RouteKey],
-    route: &Route,
+    keys: &[RouteKey],
+    route: &SharedRoute,
 ) -> Result<(), Memory>
-    ensures { OnOk result ((M.contents table.new, churn.new) ≡ fold applied (M.contents table.old, churn.old) (map (λ key. announce key route.now) announced.now)) }
+    ensures { OnOk result ((M.contents table.new, churn.new) ≡ fold applied (M.contents table.old, churn.old) (map (λ key. announce key route.now) keys.now)) }
 {
-    for key in announced {
-        announce_copy(alloc, table, churn, *key, route)?;
+    for key in keys {
+        announce_route(alloc, table, churn, *key, route)?;
     }
     Ok(())
 }
 
-/// Announces each key with the route, which the last one gets.
-fn announce_each<M: PrefixMap<Route>>(
+/// Announces each key, if any, with the one route that they share.
+fn announce_keys<M: PrefixMap<SharedRoute>>(
     alloc: Global,
     table: &mut M,
     churn: &mut Churn,
@@ -53,15 +54,15 @@ fn announce_each<M: PrefixMap<Route>>(
 ) -> Result<(), Memory>
     ensures { OnOk result ((M.contents table.new, churn.new) ≡ fold applied (M.contents table.old, churn.old) (map (λ key. announce key route) keys.now)) }
 {
-    let Some((last, others)) = keys.split_last() else {
+    if keys.is_empty() {
         return Ok(());
-    };
-    announce_all(alloc, table, churn, others, &route)?;
-    announce_route(alloc, table, churn, *last, route)
+    }
+    let route = SharedRoute::new(alloc, route)?;
+    announce_all(alloc, table, churn, keys, &route)
 }
 
 /// Withdraws what an UPDATE withdraws and neither announces nor reaches.
-fn withdraw_update<M: PrefixMap<Route>>(
+fn withdraw_update<M: PrefixMap<SharedRoute>>(
     alloc: Global,
     table: &mut M,
     churn: &mut Churn,
@@ -79,7 +80,7 @@ fn withdraw_update<M: PrefixMap<Route>>(
 }
 
 /// Announces what an UPDATE announces, and then what it reaches by its attribute 14.
-fn announce_update<M: PrefixMap<Route>>(
+fn announce_update<M: PrefixMap<SharedRoute>>(
     alloc: Global,
     table: &mut M,
     churn: &mut Churn,
@@ -94,16 +95,19 @@ fn announce_update<M: PrefixMap<Route>>(
         route,
         reached_hop,
     } = update;
-    if reached.as_slice().is_empty() {
-        return announce_each(alloc, table, churn, announced.as_slice(), route);
+    let (announced, reached) = (announced.as_slice(), reached.as_slice());
+    if reached.is_empty() {
+        return announce_keys(alloc, table, churn, announced, route);
     }
-    announce_all(alloc, table, churn, announced.as_slice(), &route)?;
+    if !announced.is_empty() {
+        announce_keys(alloc, table, churn, announced, route.try_copy(alloc)?)?;
+    }
     let route = route.with_next_hop(reached_hop);
-    announce_each(alloc, table, churn, reached.as_slice(), route)
+    announce_keys(alloc, table, churn, reached, route)
 }
 
 /// Takes the steps of an UPDATE.
-pub(crate) fn apply_update<M: PrefixMap<Route>>(
+pub(crate) fn apply_update<M: PrefixMap<SharedRoute>>(
     alloc: Global,
     table: &mut M,
     churn: &mut Churn,

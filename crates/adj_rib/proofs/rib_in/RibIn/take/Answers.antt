@@ -1,0 +1,11 @@
+use Rattle.std.proofs.Common.{ap}
+use Rattle.mrt_body.specs.Events.{event_in}
+use Rattle.adj_rib.specs.Keeping.{kept_in}
+use Rattle.adj_rib.proofs.Taking.{taken_as}
+use Rattle.adj_rib.proofs.rib_in.RibIn.take.Goals as goal
+
+pub returns-in-Entry : goal.returns-in-Entry
+returns-in-Entry g c = rw (← taken_as (kept_in g.M.PrefixMap.contents c.args.self.now) c.args.unit.now, ap event_in c.in-Entry.is, ← c.as_slice.ensures, ← c.note_time.ensures) c.enter.ensures
+
+pub returns-in_default : goal.returns-in_default
+returns-in_default g c = rw (← taken_as (kept_in g.M.PrefixMap.contents c.args.self.now) c.args.unit.now, ← c.note_time.ensures) c.follow.ensures

@@ -1,0 +1,38 @@
+-- Where the routes of a table come from (RFC 4271, 3.2 and 8).
+use Rattle.std.specs.Prelude.{◌≡◌, ◌⊎◌, List, ◌∷◌, ◌++◌, Ok, true}
+use Rattle.std.specs.List.{Contains, AllByRecursion}
+use Rattle.bgp_prefix.specs.declared.key.RouteKey.{RouteKey}
+use Rattle.bgp_update.specs.declared.route.Route.{Route}
+use Rattle.bgp_update.specs.Hops.{by_hop}
+use Rattle.mrt_body.specs.declared.unit.Payload.{Payload}
+use Rattle.mrt_body.specs.declared.unit.Payload.TheVariants.{State, Message, Entry}
+use Rattle.mrt_body.specs.declared.unit.Unit.{Unit as ReplayUnit}
+use Rattle.mrt_body.specs.declared.meaning.Event.{Event}
+use Rattle.mrt_body.specs.declared.meaning.Event.TheVariants as event
+use Rattle.adj_rib.specs.Steps.{ESTABLISHED, is_up}
+use Rattle.adj_rib.specs.Churns.{reading_of}
+
+-- an event that announces the key with the route: as prefix of the message, by its attribute 14, or as a RIB entry
+abbrev pub Announces : Event → RouteKey → Route → Type 0
+Announces (event.Change u) key route = (Contains u.announced key × (u.route ≡ route)) ⊎ (Contains u.reached key × (by_hop u.route u.reached_hop ≡ route))
+Announces (event.Rib other entered) key route = (other ≡ key) × (entered ≡ route)
+Announces (event.State old new) key route = ⊥
+Announces event.Other key route = ⊥
+
+-- a state change but from Established to Established
+abbrev pub IsBreak : Payload → Type 0
+IsBreak (State from to) = (from ≡ ESTABLISHED) × (to ≡ ESTABLISHED) → ⊥
+IsBreak (Message bytes width add_path) = ⊥
+IsBreak (Entry key attrs) = ⊥
+
+-- A unit that came while the peer was up announces the key with the route, and no unit after it is a break.
+pub record ComesFrom (units : List ReplayUnit) (key : RouteKey) (route : Route) : Type 0 where
+  pub before : List ReplayUnit
+  pub unit : ReplayUnit
+  pub after : List ReplayUnit
+  pub parts : units ≡ before ++ unit ∷ after
+  pub up : is_up before ≡ true
+  pub meaning : Event
+  pub reading : reading_of unit ≡ Ok meaning
+  pub announces : Announces meaning key route
+  pub unbroken : AllByRecursion (λ u. IsBreak u.payload → ⊥) after

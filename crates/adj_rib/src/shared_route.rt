@@ -1,0 +1,52 @@
+//! A route with several owners.
+
+ghost use Rattle.std.specs.Prelude.{◌≡◌, IfOk};
+
+use bgp_prefix::Memory;
+use bgp_update::Route;
+use std::alloc::Global;
+use std::marker::Model;
+use std::sync::Arc;
+
+/// A route that is kept once for all the keys that have it, and that contracts see as the route.
+#[derive(Drop)]
+pub struct SharedRoute {
+    route: Arc<Route>,
+}
+
+impl Model for SharedRoute {
+    ghost use Rattle.std.specs.Arc.{arc_value};
+    ghost use Rattle.bgp_update.specs.declared.route.Route.{Route};
+
+    ghost Value = { Route };
+
+    ghost view = { λ s. arc_value s.route };
+}
+
+impl SharedRoute {
+    /// With one owner.
+    pub fn new(alloc: Global, route: Route) -> Result<SharedRoute, Memory>
+        ensures { IfOk result (λ shared. shared ≡ route) }
+    {
+        let route = Arc::new(alloc, route)?;
+        Ok(SharedRoute { route })
+    }
+
+    /// One more owner of the same route, which takes no memory; of an equal one where no further owner
+    /// can be counted.
+    pub fn share(&self, alloc: Global) -> Result<SharedRoute, Memory>
+        ensures { IfOk result (λ shared. shared ≡ self.now) }
+    {
+        match Arc::try_clone(&self.route) {
+            Ok(route) => Ok(SharedRoute { route }),
+            Err(_) => SharedRoute::new(alloc, self.route().try_copy(alloc)?),
+        }
+    }
+
+    /// The route itself.
+    pub fn route(&self) -> &Route
+        ensures { result.now ≡ self.now }
+    {
+        &self.route
+    }
+}
