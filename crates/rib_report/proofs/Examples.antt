@@ -1,18 +1,22 @@
 -- Reports and their lines, by computation.
-use Rattle.std.proofs.Common.{◌≡◌, ℕ, true, false, List, [], ◌∷◌, ◌++◌, Some, None, refl}
+use Rattle.std.proofs.Common.{◌≡◌, ℕ, ◌+◌, Option, true, false, List, [], ◌∷◌, ◌++◌, Some, None, refl}
 use Rattle.std.specs.Prelude.{codes}
 use Rattle.std.specs.List.{flat_map}
 use Rattle.std.specs.Fmt.{digits}
 use Rattle.bgp_prefix.specs.declared.key.RouteKey.{RouteKey}
-use Rattle.mrt_frame.specs.declared.fault.Fault.TheVariants.{BadAttribute}
+use Rattle.mrt_frame.specs.declared.fault.Fault.{Fault}
+use Rattle.mrt_frame.specs.declared.fault.Fault.TheVariants.{ShortHeader, ShortBody, BodyTooLong, ShortRecord, TrailingBytes, BadFamily, NoPeerIndex, BadPeerIndex, BadPrefix, BadMarker, BadLength, BadUpdate, ShortAttribute, BadAttribute, BadPath}
 use Rattle.bgp_update.specs.declared.next_hop.NextHop.TheVariants as next_hop
-use Rattle.bgp_update.specs.declared.path.SegmentKind.TheVariants.{AsSet, AsSequence}
+use Rattle.bgp_update.specs.declared.path.SegmentKind.TheVariants.{AsSet, AsSequence, ConfedSequence, ConfedSet}
 use Rattle.bgp_update.specs.declared.route.Origin.TheVariants.{Igp, Incomplete}
 use Rattle.bgp_update.specs.declared.route.Route.{Route}
 use Rattle.bgp_update.specs.Paths.{PathSegment}
-use Rattle.mrt_body.specs.declared.unit.PeerAddr.TheVariants.{V4}
+use Rattle.mrt_body.specs.declared.unit.PeerAddr.TheVariants.{V4, V6}
+use Rattle.mrt_body.specs.declared.unit.PeerKey.{PeerKey}
+use Rattle.mrt_body.specs.declared.unit.Damage.{Damage}
+use Rattle.adj_rib.specs.declared.churn.Churn.{Churn}
 use Rattle.rib_report.specs.Tables.{Seat, TablesState}
-use Rattle.rib_report.specs.Reports.{route_rows, match_rows, visibility_rows, origin_rows, churn_rows, fault_rows}
+use Rattle.rib_report.specs.Reports.{route_rows, match_rows, visibility_rows, origin_rows, churn_rows, fault_rows, in_place_order}
 use Rattle.rib_report.specs.Lines.{route_line, visibility_line, origin_line, churn_line, fault_line}
 
 abbrev end : List ℕ
@@ -88,3 +92,89 @@ whole : flat_map route_line (route_rows (record { seats = seat_at 0 0xc0000201 (
     ≡ codes "65000 192.0.2.1|10.0.0.0/8#4294967295||2001:0db8:0000:0000:0000:0000:0000:0001 fe80:0000:0000:0000:0000:0000:0000:0002|INCOMPLETE|0|100|atomic|65000 192.0.2.1" ++ end
 unfolding digits
 whole = refl
+
+-- ---- lines of rows with each field at its greatest, or absent
+
+abbrev peer : PeerKey
+peer = record { asn = 65000; addr = V4 0xc0000201 }
+
+abbrev last_peer : PeerKey
+last_peer = record { asn = 0xffffffff; addr = V6 0xffffffffffffffffffffffffffffffff }
+
+abbrev bare_route : Route
+bare_route = record { origin = None; path = None; next_hop = None; med = None; local_pref = None; atomic = false; aggregator = None }
+
+-- an absent path is not an empty one
+absent_path : route_line (record { peer = peer; key = key_of 0 0 0; route = bare_route }) ≡ codes "65000 192.0.2.1|0.0.0.0/0|-|-|-|-|-|-|-" ++ end
+unfolding digits
+absent_path = refl
+
+empty_path : route_line (record { peer = peer; key = key_of 0x0a000000 8 1; route = record bare_route { path = Some []; next_hop = Some (next_hop.V6 0x20010db8000000000000000000000001) } })
+    ≡ codes "65000 192.0.2.1|10.0.0.0/8#1||2001:0db8:0000:0000:0000:0000:0000:0001|-|-|-|-|-" ++ end
+unfolding digits
+empty_path = refl
+
+-- a path with a segment of each kind
+abbrev greatest_route : Route
+greatest_route = record {
+  origin = Some Incomplete;
+  path = Some (record { kind = ConfedSequence; numbers = 64512 ∷ 1 ∷ [] } ∷ record { kind = ConfedSet; numbers = 3 ∷ 2 ∷ [] }
+      ∷ record { kind = AsSequence; numbers = 0xffffffff ∷ 0 ∷ 10 ∷ [] } ∷ record { kind = AsSet; numbers = 70001 ∷ 70000 ∷ [] } ∷ []);
+  next_hop = Some (next_hop.V6Pair 0xffffffffffffffffffffffffffffffff 0xfe800000000000000000000000000000);
+  med = Some 0xffffffff;
+  local_pref = Some 0xffffffff;
+  atomic = true;
+  aggregator = Some (record { asn = 0xffffffff; addr = 0xffffffff });
+}
+
+greatest_entry : route_line (record { peer = last_peer; key = key_of 0xffffffff 32 0xffffffff; route = greatest_route })
+    ≡ codes "4294967295 ffff:ffff:ffff:ffff:ffff:ffff:ffff:ffff|255.255.255.255/32#4294967295|(64512 1) [3,2] 4294967295 0 10 {70001,70000}"
+    ++ codes "|ffff:ffff:ffff:ffff:ffff:ffff:ffff:ffff fe80:0000:0000:0000:0000:0000:0000:0000|INCOMPLETE|4294967295|4294967295|atomic|4294967295 255.255.255.255" ++ end
+unfolding digits
+greatest_entry = refl
+
+greatest_visibility : visibility_line (record { prefix = record { addr = 0xffffffff; len = 32 }; peers = 0xffffffffffffffff }) ≡ codes "255.255.255.255/32|18446744073709551615" ++ end
+unfolding digits
+greatest_visibility = refl
+
+greatest_origins : origin_line (record { prefix = record { addr = 0xfffffffe; len = 31 }; origins = 0 ∷ 65000 ∷ 0xffffffff ∷ [] }) ≡ codes "255.255.255.254/31|0 65000 4294967295" ++ end
+unfolding digits
+greatest_origins = refl
+
+abbrev churn_between : Option ℕ → Option ℕ → Churn
+churn_between first last = record { added = 0xffffffffffffffff; changed = 0; same = 0; gone = 0; void = 0; resets = 0; idle = 0; refused = 0xffffffffffffffff; first = first; last = last }
+
+-- second 1 and 4,294,967,295 microseconds; and the greatest time
+greatest_churn : churn_line (record { peer = last_peer; churn = churn_between (Some (1000000 + 0xffffffff)) (Some 0xffffffffffffffff) })
+    ≡ codes "4294967295 ffff:ffff:ffff:ffff:ffff:ffff:ffff:ffff|18446744073709551615|0|0|0|0|0|0|18446744073709551615|4295.967295|18446744073709.551615" ++ end
+unfolding digits
+greatest_churn = refl
+
+without_times : churn_line (record { peer = peer; churn = churn_between None None }) ≡ codes "65000 192.0.2.1|18446744073709551615|0|0|0|0|0|0|18446744073709551615|-|-" ++ end
+unfolding digits
+without_times = refl
+
+-- ---- faults
+
+abbrev damage_at : ℕ → ℕ → Option ℕ → Fault → Damage
+damage_at file offset entry fault = record { place = record { file = file; offset = offset; entry = entry }; fault = fault }
+
+each_fault : flat_map fault_line (damage_at 0 0 None ShortHeader ∷ damage_at 0 0 None ShortBody ∷ damage_at 0 77 None BodyTooLong ∷ damage_at 1 0 None ShortRecord ∷ damage_at 1 0 None TrailingBytes
+    ∷ damage_at 1 0 None BadFamily ∷ damage_at 1 0 None NoPeerIndex ∷ damage_at 1 0 None BadPeerIndex ∷ damage_at 1 0 None BadPrefix ∷ damage_at 1 0 None BadMarker ∷ damage_at 1 0 None BadLength
+    ∷ damage_at 1 0 None BadUpdate ∷ damage_at 1 0 None ShortAttribute ∷ damage_at 1 0 None (BadAttribute 0) ∷ damage_at 1 0 None BadPath ∷ [])
+    ≡ codes "1|0|-|1|ShortHeader" ++ end ++ codes "1|0|-|2|ShortBody" ++ end ++ codes "1|77|-|3|BodyTooLong" ++ end ++ codes "2|0|-|4|ShortRecord" ++ end ++ codes "2|0|-|5|TrailingBytes" ++ end
+    ++ codes "2|0|-|6|BadFamily" ++ end ++ codes "2|0|-|7|NoPeerIndex" ++ end ++ codes "2|0|-|8|BadPeerIndex" ++ end ++ codes "2|0|-|9|BadPrefix" ++ end ++ codes "2|0|-|10|BadMarker" ++ end
+    ++ codes "2|0|-|11|BadLength" ++ end ++ codes "2|0|-|12|BadUpdate" ++ end ++ codes "2|0|-|13|ShortAttribute" ++ end ++ codes "2|0|-|14|BadAttribute(0)" ++ end ++ codes "2|0|-|15|BadPath" ++ end
+unfolding digits
+each_fault = refl
+
+greatest_fault : fault_line (damage_at 0xffffffffffffffff 0xffffffffffffffff (Some 65535) (BadAttribute 255)) ≡ codes "18446744073709551616|18446744073709551615|65535|14|BadAttribute(255)" ++ end
+unfolding digits
+greatest_fault = refl
+
+-- by file, then offset, then entry with none first; those of one place as they stood
+by_place : in_place_order (damage_at 1 0 None ShortHeader ∷ damage_at 0 100 (Some 2) BadPath ∷ damage_at 0 100 None BadPrefix ∷ damage_at 0 100 (Some 1) BadMarker ∷ damage_at 0 9 None NoPeerIndex
+    ∷ damage_at 0 100 None BadLength ∷ [])
+    ≡ damage_at 0 9 None NoPeerIndex ∷ damage_at 0 100 None BadPrefix ∷ damage_at 0 100 None BadLength ∷ damage_at 0 100 (Some 1) BadMarker ∷ damage_at 0 100 (Some 2) BadPath
+    ∷ damage_at 1 0 None ShortHeader ∷ []
+by_place = refl

@@ -10,5 +10,11 @@ pub mod ListedLaws
 pub mod SeenLaws
 pub mod OriginLaws
 pub mod MatchLaws
+pub mod OctetLaws
 pub mod SeatOrder
+pub mod StandingLaws
+pub mod UnitReportLaws
+pub mod DefinedLaws
+pub mod SeatNumbers
 pub mod Examples
+pub mod ExamplesOfUnits

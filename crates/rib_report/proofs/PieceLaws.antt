@@ -6,7 +6,8 @@ use Rattle.std.specs.Io.KnownBytes.{Appends}
 use Rattle.std.proofs.lemmas.List.Concat.{flat_map-append}
 use Rattle.std.proofs.KnownBytes.{Appends-trans}
 use Rattle.mrt_frame.specs.Devices.{HasFailed}
-use Rattle.mrt_frame.specs.Writes.{WritesFront, WritesFront-more}
+use Rattle.mrt_frame.specs.Writes.{WritesFront}
+use Rattle.mrt_frame.proofs.WriteLaws.{WritesFront-more}
 use Rattle.bgp_prefix.specs.declared.key.RouteKey.{RouteKey}
 use Rattle.bgp_update.specs.declared.route.Route.{Route}
 use Rattle.mrt_body.specs.declared.unit.PeerKey.{PeerKey}

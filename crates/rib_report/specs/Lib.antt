@@ -2,6 +2,7 @@ pub mod Texts
 pub mod Digits
 pub mod Peers
 pub mod Tables
+pub mod Standing
 pub mod Seats
 pub mod Gathers
 pub mod Runs
@@ -9,3 +10,4 @@ pub mod Rows
 pub mod Reports
 pub mod Listings
 pub mod Lines
+pub mod UnitReports

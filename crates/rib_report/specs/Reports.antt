@@ -104,6 +104,10 @@ table_origins tables = flat_map seat_origins tables.seats
 abbrev pub origins_among : List (IpPrefix × ℕ) → IpPrefix → PrefixOrigins
 origins_among pairs p = record { prefix = p; origins = in_order nat_cmp (map (λ e. e.1) (filter (λ e. prefix_eq p e.0) pairs)) }
 
+-- the set of the origin ASes of a prefix's routes at all peers, ascending
+abbrev pub origins_of : TablesState → IpPrefix → List ℕ
+origins_of tables p = (origins_among (table_origins tables) p).origins
+
 abbrev pub has_several : PrefixOrigins → Bool
 has_several row = nat_le 2 (length row.origins)
 

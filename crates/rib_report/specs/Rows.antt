@@ -45,3 +45,9 @@ churn_row row = record { peer = row.peer; churn = row.churn }
 
 abbrev pub seen_pair : SeenRow → IpPrefix × ℕ
 seen_pair row = (row.prefix, row.peers)
+
+abbrev pub visibility_pair : VisibilityRow → IpPrefix × ℕ
+visibility_pair row = (row.prefix, row.peers)
+
+abbrev pub origins_pair : PrefixOrigins → IpPrefix × List ℕ
+origins_pair row = (row.prefix, row.origins)

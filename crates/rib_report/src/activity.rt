@@ -4,14 +4,14 @@ ghost use Rattle.std.specs.Prelude.{◌≡◌, IfOk, map};
 ghost use Rattle.rib_report.specs.Rows.{churn_row};
 ghost use Rattle.rib_report.specs.Reports.{churn_rows};
 
+use adj_rib::SharedRoute;
 use crate::row::ChurnRow;
 use crate::tables::Tables;
 use bgp_prefix::{Memory, PrefixMap};
-use bgp_update::Route;
 use std::alloc::Global;
 
 /// The churn of each peer, by number.
-pub fn churn<M: PrefixMap<Route>>(
+pub fn churn<M: PrefixMap<SharedRoute>>(
     alloc: Global,
     tables: &Tables<M>,
 ) -> Result<Vec<ChurnRow>, Memory>

@@ -1,6 +1,6 @@
 //! Text on its way to a writer, through a fixed buffer.
 
-ghost use Rattle.std.specs.Prelude.{◌≡◌, ℕ, ◌+◌, ◌<◌, ◌≤◌, ◌++◌, [], ◌∷◌, List, Option, OnOk, OnErr, length};
+ghost use Rattle.std.specs.Prelude.{◌≡◌, ℕ, ◌+◌, ◌<◌, ◌≤◌, ◌++◌, [], ◌∷◌, List, Option, OnOk, OnErr, length, decimal};
 ghost use Rattle.rib_report.specs.Texts.{BufferState, empty_buffer, text_state, IsText, IsWritten, IsCutOff, Writes};
 
 use mrt_frame::{Failed, Sink, write_full};
@@ -62,6 +62,26 @@ impl TextBuffer {
         self.len += 1;
     }
 
+    /// Puts a number of at most three digits behind the bytes that wait.
+    #[inline]
+    #[tactic(auto, using(crate::proofs::OctetLaws::decimal_ones, crate::proofs::OctetLaws::decimal_tens, crate::proofs::OctetLaws::decimal_hundreds))]
+    fn append_octet(&mut self, octet: u8)
+        requires { length self.old.waiting + 3 ≤ 65536 }
+        ensures waiting { self.new.waiting ≡ self.old.waiting ++ decimal octet }
+        ensures failed { self.new.failed ≡ self.old.failed }
+    {
+        if octet < 10 {
+            self.append_byte(b'0' + octet);
+        } else if octet < 100 {
+            self.append_byte(b'0' + octet / 10);
+            self.append_byte(b'0' + octet % 10);
+        } else {
+            self.append_byte(b'0' + octet / 100);
+            self.append_byte(b'0' + octet / 10 % 10);
+            self.append_byte(b'0' + octet % 10);
+        }
+    }
+
     /// How many bytes may still wait.
     #[inline]
     fn room(&self) -> usize
@@ -108,6 +128,17 @@ impl TextBuffer {
             self.hand_on(out);
         }
         self.append_byte(byte);
+    }
+
+    /// Adds a number of at most three digits in decimal.
+    #[inline]
+    pub(crate) fn put_octet<W: Sink>(&mut self, out: &mut W, octet: u8)
+        ensures { Writes W.contents W.failure_count out.old self.old out.new self.new (decimal octet) }
+    {
+        if self.room() < 3 {
+            self.hand_on(out);
+        }
+        self.append_octet(octet);
     }
 
     /// Hands on all that waits, and tells whether a write failed.

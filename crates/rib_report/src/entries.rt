@@ -1,13 +1,12 @@
 //! Every entry of every table.
 
-ghost use Rattle.std.specs.Prelude.{◌≡◌, ◌<◌, ◌≤◌, ◌⊎◌, ◌++◌, IfOk, IfErr, OnOk, OnErr, IsErr, Err, length, map, get_or};
+ghost use Rattle.std.specs.Prelude.{◌≡◌, ◌≤◌, ◌⊎◌, ◌++◌, IfOk, IfErr, OnOk, OnErr, IsErr, Err, length, map};
 ghost use Rattle.std.specs.List.{flat_map};
 ghost use Rattle.std.specs.Vec.{vec_capacity};
 ghost use Rattle.std.specs.Io.KnownBytes.{Appends};
 ghost use Rattle.mrt_frame.specs.Devices.{HasFailed};
 ghost use Rattle.mrt_frame.specs.Writes.{WritesFront};
 ghost use Rattle.mrt_frame.specs.declared.error.ReplayError.TheVariants as errors;
-ghost use Rattle.rib_report.specs.Tables.{Seat};
 ghost use Rattle.rib_report.specs.Seats.{seat_of};
 ghost use Rattle.rib_report.specs.Rows.{route_row};
 ghost use Rattle.rib_report.specs.Reports.{rows_of_seat, route_rows};
@@ -15,17 +14,17 @@ ghost use Rattle.rib_report.specs.Listings.{reached_lines, listed_rows, listed_l
 ghost use Rattle.rib_report.specs.Lines.{route_line};
 ghost use Rattle.rib_report.specs.Texts.{IsWritten, IsCutOff};
 
+use adj_rib::SharedRoute;
 use crate::row::TableRow;
 use crate::tables::{Seated, Tables};
 use crate::write::write_rows;
 use bgp_prefix::{Memory, PrefixMap, RouteKey};
-use bgp_update::Route;
 use mrt_body::PeerKey;
 use mrt_frame::{ReplayError, Sink};
 use std::alloc::Global;
 
 /// Adds the entries of one peer's table.
-fn add_entries<'a, M: PrefixMap<Route>>(
+fn add_entries<'a, M: PrefixMap<SharedRoute>>(
     alloc: Global,
     rows: &mut Vec<TableRow<'a>>,
     seat: &'a Seated<M>,
@@ -36,7 +35,8 @@ fn add_entries<'a, M: PrefixMap<Route>>(
     let entries = seat.session.table().entries(alloc)?;
     rows.reserve(entries.len())?;
     for entry in entries.as_slice() {
-        let (key, route) = *entry;
+        let (key, shared) = *entry;
+        let route = shared.route();
         let Ok(()) = rows.push(TableRow { peer, key, route }) else {
             return Err(Memory);
         };
@@ -45,7 +45,7 @@ fn add_entries<'a, M: PrefixMap<Route>>(
 }
 
 /// Every entry of every table: peers by number, keys in order.
-pub fn table_rows<M: PrefixMap<Route>>(
+pub fn table_rows<M: PrefixMap<SharedRoute>>(
     alloc: Global,
     tables: &Tables<M>,
 ) -> Result<Vec<TableRow<'_>>, Memory>
@@ -58,21 +58,6 @@ pub fn table_rows<M: PrefixMap<Route>>(
     Ok(rows)
 }
 
-/// Every entry of the table of one peer, given by its place among the peers: the part of
-/// `table_rows` that is this peer's.
-pub fn seat_rows<M: PrefixMap<Route>>(
-    alloc: Global,
-    tables: &Tables<M>,
-    place: usize,
-) -> Result<Vec<TableRow<'_>>, Memory>
-    requires { place < length tables.now.seats }
-    ensures { IfOk result (λ rows. (d : Seat) → map route_row rows.items ≡ rows_of_seat (get_or tables.now.seats place d)) }
-{
-    let mut rows = Vec::new(alloc);
-    add_entries(alloc, &mut rows, tables.seat(place))?;
-    Ok(rows)
-}
-
 /// How many rows are made and written at once.
 const BLOCK_ROWS: usize = 4_096;
 
@@ -80,11 +65,11 @@ const BLOCK_ROWS: usize = 4_096;
 #[derive(Drop)]
 struct Listed<'a> {
     peer: PeerKey,
-    entries: Vec<(RouteKey, &'a Route)>,
+    entries: Vec<(RouteKey, &'a SharedRoute)>,
 }
 
 /// The entries of every table, by the place of its peer.
-fn all_entries<M: PrefixMap<Route>>(
+fn all_entries<M: PrefixMap<SharedRoute>>(
     alloc: Global,
     tables: &Tables<M>,
 ) -> Result<Vec<Listed<'_>>, Memory>
@@ -106,7 +91,7 @@ fn write_block<'a, W: Sink>(
     out: &mut W,
     rows: &mut Vec<TableRow<'a>>,
     peer: PeerKey,
-    block: &[(RouteKey, &'a Route)],
+    block: &[(RouteKey, &'a SharedRoute)],
 ) -> Result<(), ReplayError>
     requires { length block.now ≤ vec_capacity rows.old }
     ensures ok { OnOk result (IsWritten (W.contents out.old) (W.failure_count out.old) (W.contents out.new) (W.failure_count out.new) (reached_lines peer block.now)) }
@@ -116,7 +101,8 @@ fn write_block<'a, W: Sink>(
 {
     rows.clear();
     for entry in block {
-        let (key, route) = *entry;
+        let (key, shared) = *entry;
+        let route = shared.route();
         let row = TableRow { peer, key, route };
         let Ok(()) = rows.push(row) else {
             unreachable!()
@@ -130,7 +116,7 @@ fn write_entries<'a, W: Sink>(
     out: &mut W,
     rows: &mut Vec<TableRow<'a>>,
     peer: PeerKey,
-    entries: &[(RouteKey, &'a Route)],
+    entries: &[(RouteKey, &'a SharedRoute)],
 ) -> Result<(), ReplayError>
     requires { 4096 ≤ vec_capacity rows.old }
     ensures ok { OnOk result (IsWritten (W.contents out.old) (W.failure_count out.old) (W.contents out.new) (W.failure_count out.new) (reached_lines peer entries.now)) }
@@ -164,7 +150,7 @@ fn write_lists<'a, W: Sink>(
 /// Writes what `write_rows` writes of `table_rows`, without a list of all rows. All memory is taken
 /// before anything is written: where it answers `Memory`, nothing is. Where it answers `Write`, a
 /// front of the text is written.
-pub fn write_tables<M: PrefixMap<Route>, W: Sink>(
+pub fn write_tables<M: PrefixMap<SharedRoute>, W: Sink>(
     alloc: Global,
     out: &mut W,
     tables: &Tables<M>,

@@ -34,7 +34,7 @@ pub(crate) fn put_prefix<W: Sink>(text: &mut TextBuffer, out: &mut W, prefix: &P
 {
     text.put_ipv4(out, prefix.addr());
     text.put_byte(out, b'/');
-    text.put_number(out, prefix.len() as u64);
+    text.put_octet(out, prefix.len());
 }
 
 /// `#` and the identifier, where there is one.

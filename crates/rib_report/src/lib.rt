@@ -3,6 +3,7 @@
 
 mod activity;
 mod buffer;
+mod defined;
 mod entries;
 mod fields;
 mod line;
@@ -12,16 +13,21 @@ mod numbers;
 mod origin;
 mod row;
 mod seen;
+mod standing;
 mod tables;
 mod write;
 
 pub use activity::churn;
-pub use entries::{seat_rows, table_rows, write_tables};
+pub use defined::{faults_stand_by_place, origins_are_of_all_routes, visibility_counts_peers};
+pub use entries::{table_rows, write_tables};
 pub use listed::faults;
 pub use matching::matches;
 pub use origin::origins;
 pub use row::{ChurnRow, OriginRow, SeenRow, TableRow};
 pub use seen::visibility;
+pub use standing::{
+    collected_stand_for_units, lanes_make_no_difference, reports_are_of_units, tables_are_of_units,
+};
 pub use tables::{Gathered, Seated, Tables, collect};
 pub use write::{write_churn, write_faults, write_origins, write_rows, write_visibility};
 

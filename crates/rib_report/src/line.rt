@@ -32,12 +32,14 @@ impl Line for TableRow<'_> {
     ghost line = { λ row. route_line (route_row row) };
 
     fn touch(&self) -> usize {
-        match &self.route.path {
+        let route = self.route;
+        let ends = route.next_hop.is_some() as usize + route.atomic as usize;
+        match &route.path {
             Some(path) => match path.segments().first() {
-                Some(segment) => segment.numbers().len(),
-                None => 0,
+                Some(segment) => ends.saturating_add(segment.numbers().len()),
+                None => ends,
             },
-            None => 0,
+            None => ends,
         }
     }
 

@@ -6,14 +6,14 @@ ghost use Rattle.rib_report.specs.Rows.{route_row};
 ghost use Rattle.rib_report.specs.Reports.{path_row, matches_of_seat, match_rows};
 ghost use Rattle.rib_report.specs.Seats.{seat_of};
 
+use adj_rib::SharedRoute;
 use crate::row::TableRow;
 use crate::tables::{Seated, Tables};
 use bgp_prefix::{Memory, Prefix, PrefixMap, RouteKey};
-use bgp_update::Route;
 use std::alloc::Global;
 
 /// Adds the entries of a prefix in one peer's table.
-fn add_paths<'a, M: PrefixMap<Route>>(
+fn add_paths<'a, M: PrefixMap<SharedRoute>>(
     alloc: Global,
     rows: &mut Vec<TableRow<'a>>,
     seat: &'a Seated<M>,
@@ -24,8 +24,9 @@ fn add_paths<'a, M: PrefixMap<Route>>(
     let peer = seat.key;
     let paths = seat.session.table().paths(alloc, &prefix)?;
     for path in paths.as_slice() {
-        let (id, route) = *path;
+        let (id, shared) = *path;
         let key = RouteKey { prefix, id };
+        let route = shared.route();
         let Ok(()) = rows.push(TableRow { peer, key, route }) else {
             return Err(Memory);
         };
@@ -34,7 +35,7 @@ fn add_paths<'a, M: PrefixMap<Route>>(
 }
 
 /// Adds the entries of the longest match in one peer's table, where there is one.
-fn add_matches<'a, M: PrefixMap<Route>>(
+fn add_matches<'a, M: PrefixMap<SharedRoute>>(
     alloc: Global,
     rows: &mut Vec<TableRow<'a>>,
     seat: &'a Seated<M>,
@@ -50,7 +51,7 @@ fn add_matches<'a, M: PrefixMap<Route>>(
 
 /// For each peer, by number, all entries of the longest prefix that contains the address, by identifier
 /// (RFC 1812, 5.2.4.3). A peer with no such prefix has none.
-pub fn matches<M: PrefixMap<Route>>(
+pub fn matches<M: PrefixMap<SharedRoute>>(
     alloc: Global,
     tables: &Tables<M>,
     addr: u32,

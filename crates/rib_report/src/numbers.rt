@@ -63,14 +63,13 @@ impl TextBuffer {
     pub(crate) fn put_ipv4<W: Sink>(&mut self, out: &mut W, addr: u32)
         ensures { Writes W.contents W.failure_count out.old self.old out.new self.new (ipv4_text addr) }
     {
-        let addr = addr as u64;
-        self.put_number(out, addr / 16_777_216 % 256);
+        self.put_octet(out, (addr / 16_777_216 % 256) as u8);
         self.put_byte(out, b'.');
-        self.put_number(out, addr / 65_536 % 256);
+        self.put_octet(out, (addr / 65_536 % 256) as u8);
         self.put_byte(out, b'.');
-        self.put_number(out, addr / 256 % 256);
+        self.put_octet(out, (addr / 256 % 256) as u8);
         self.put_byte(out, b'.');
-        self.put_number(out, addr % 256);
+        self.put_octet(out, (addr % 256) as u8);
     }
 
     /// Four hexadecimal digits.

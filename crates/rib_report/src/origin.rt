@@ -8,6 +8,7 @@ ghost use Rattle.rib_report.specs.Runs.{pair_cmp};
 ghost use Rattle.rib_report.specs.Reports.{route_origin, origin_pair, seat_origins, table_origins, has_several, grouped_origins, origin_rows};
 ghost use Rattle.rib_report.specs.Seats.{seat_of};
 
+use adj_rib::SharedRoute;
 use crate::row::OriginRow;
 use crate::tables::{Seated, Tables};
 use bgp_prefix::{Memory, Prefix, PrefixMap, RouteKey, Sequence};
@@ -35,7 +36,7 @@ fn add_origin(pairs: &mut Vec<(Prefix, u32)>, key: RouteKey, route: &Route) -> R
 }
 
 /// Adds the prefix and the origin AS of each route of one peer that has one.
-fn add_origins<M: PrefixMap<Route>>(
+fn add_origins<M: PrefixMap<SharedRoute>>(
     alloc: Global,
     pairs: &mut Vec<(Prefix, u32)>,
     seat: &Seated<M>,
@@ -44,14 +45,14 @@ fn add_origins<M: PrefixMap<Route>>(
 {
     let entries = seat.session.table().entries(alloc)?;
     for entry in entries.as_slice() {
-        let (key, route) = *entry;
-        add_origin(pairs, key, route)?;
+        let (key, shared) = *entry;
+        add_origin(pairs, key, shared.route())?;
     }
     Ok(())
 }
 
 /// The prefix and the origin AS of each route that has one.
-fn all_origins<M: PrefixMap<Route>>(
+fn all_origins<M: PrefixMap<SharedRoute>>(
     alloc: Global,
     tables: &Tables<M>,
 ) -> Result<Vec<(Prefix, u32)>, Memory>
@@ -111,7 +112,7 @@ fn group_runs(alloc: Global, pairs: &[(Prefix, u32)]) -> Result<Vec<OriginRow>, 
 
 /// The prefixes whose routes have at least two different origin ASes, by prefix, each with its origin
 /// ASes, ascending.
-pub fn origins<M: PrefixMap<Route>>(
+pub fn origins<M: PrefixMap<SharedRoute>>(
     alloc: Global,
     tables: &Tables<M>,
 ) -> Result<Vec<OriginRow>, Memory>

@@ -9,10 +9,10 @@ ghost use Rattle.rib_report.specs.Runs.{counted, is_last, without_repeats};
 ghost use Rattle.rib_report.specs.Reports.{HasOrder, seat_prefixes, visibility_rows};
 ghost use Rattle.rib_report.specs.Seats.{seat_of};
 
+use adj_rib::SharedRoute;
 use crate::row::SeenRow;
 use crate::tables::{Seated, Tables};
 use bgp_prefix::{Memory, Prefix, PrefixMap};
-use bgp_update::Route;
 use std::alloc::Global;
 
 /// Whether the prefix is the last one.
@@ -26,7 +26,7 @@ fn is_repeat(last: Option<Prefix>, prefix: Prefix) -> bool
 }
 
 /// Adds the prefixes of one peer's table, each once, whatever its identifiers.
-fn add_prefixes<M: PrefixMap<Route>>(
+fn add_prefixes<M: PrefixMap<SharedRoute>>(
     alloc: Global,
     prefixes: &mut Vec<Prefix>,
     seat: &Seated<M>,
@@ -47,7 +47,7 @@ fn add_prefixes<M: PrefixMap<Route>>(
 }
 
 /// The prefixes of all tables, one table after another.
-fn all_prefixes<M: PrefixMap<Route>>(
+fn all_prefixes<M: PrefixMap<SharedRoute>>(
     alloc: Global,
     tables: &Tables<M>,
 ) -> Result<Vec<Prefix>, Memory>
@@ -96,7 +96,7 @@ fn count_runs(alloc: Global, prefixes: &[Prefix]) -> Result<Vec<SeenRow>, Memory
 
 /// At how many peers each prefix is visible that is visible at any, by prefix. A peer counts once for a
 /// prefix, whatever the identifiers of its routes.
-pub fn visibility<M: PrefixMap<Route>>(
+pub fn visibility<M: PrefixMap<SharedRoute>>(
     alloc: Global,
     tables: &Tables<M>,
 ) -> Result<Vec<SeenRow>, Memory>

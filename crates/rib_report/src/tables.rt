@@ -1,6 +1,6 @@
 //! The tables of all peers, collected from the lanes.
 
-ghost use Rattle.std.specs.Prelude.{◌≡◌, ◌+◌, ◌-◌, ◌^◌, ◌<◌, ◌≤◌, ◌++◌, IfOk, IfErr, IfSome, IsPermutation, List, length, map, get_or, nat_eq, min, vec_len};
+ghost use Rattle.std.specs.Prelude.{◌≡◌, ◌+◌, ◌-◌, ◌^◌, ◌≤◌, ◌++◌, IfOk, IfErr, IfSome, IsPermutation, List, length, map, nat_eq, min, vec_len};
 ghost use Rattle.std.specs.List.{IsDistinct, flat_map};
 ghost use Rattle.std.specs.List.Sorted.{IsStrictlyIncreasing};
 ghost use Rattle.std.specs.Vec.{vec_capacity};
@@ -8,16 +8,15 @@ ghost use Rattle.rib_report.specs.Tables.{Seat, TablesState, IsCollected, all_fa
 ghost use Rattle.rib_report.specs.Gathers.{gathered_seats};
 ghost use Rattle.rib_report.specs.Seats.{seat_of};
 
-use adj_rib::Session;
+use adj_rib::{Session, SharedRoute};
 use bgp_prefix::{Memory, PrefixMap, Sequence};
-use bgp_update::Route;
 use mrt_body::{Damage, PeerKey};
 use std::alloc::Global;
 use std::marker::Model;
 
 /// A session under its peer's number.
 #[derive(Drop)]
-pub struct Seated<M: PrefixMap<Route>> {
+pub struct Seated<M: PrefixMap<SharedRoute>> {
     pub number: usize,
     pub key: PeerKey,
     pub session: Session<M>,
@@ -25,19 +24,19 @@ pub struct Seated<M: PrefixMap<Route>> {
 
 /// What the lanes hand in.
 #[derive(Drop)]
-pub struct Gathered<M: PrefixMap<Route>> {
+pub struct Gathered<M: PrefixMap<SharedRoute>> {
     pub lanes: Sequence<Sequence<Seated<M>>>,
     pub refused: Sequence<Damage>,
 }
 
 /// One session for each peer, by number, and the refusals.
 #[derive(Drop)]
-pub struct Tables<M: PrefixMap<Route>> {
+pub struct Tables<M: PrefixMap<SharedRoute>> {
     seats: Vec<Seated<M>>,
     refused: Vec<Damage>,
 }
 
-impl<M: PrefixMap<Route>> Model for Tables<M> {
+impl<M: PrefixMap<SharedRoute>> Model for Tables<M> {
     ghost use Rattle.std.specs.Prelude.{map};
     ghost use Rattle.rib_report.specs.Tables.{TablesState};
     ghost use Rattle.rib_report.specs.Seats.{seat_of};
@@ -47,7 +46,7 @@ impl<M: PrefixMap<Route>> Model for Tables<M> {
     ghost view = { λ t. record { seats = map seat_of t.seats.items; refused = t.refused.items } };
 }
 
-impl<M: PrefixMap<Route>> Tables<M> {
+impl<M: PrefixMap<SharedRoute>> Tables<M> {
     /// The sessions, by number.
     pub(crate) fn seats(&self) -> &[Seated<M>]
         ensures { map seat_of result.now ≡ self.now.seats }
@@ -60,14 +59,6 @@ impl<M: PrefixMap<Route>> Tables<M> {
         ensures { result.now ≡ self.now.refused }
     {
         self.refused.as_slice()
-    }
-
-    /// The session at a place among the peers.
-    pub(crate) fn seat(&self, place: usize) -> &Seated<M>
-        requires { place < length self.now.seats }
-        ensures { (d : Seat) → seat_of result.now ≡ get_or self.now.seats place d }
-    {
-        &self.seats[place]
     }
 
     /// The number of peers.
@@ -115,7 +106,7 @@ fn move_all<T: Drop>(mut lanes: Vec<Sequence<T>>, all: &mut Vec<T>)
 
 /// Each session handed in, once, by its peer's number, and the refusals. An `Err` gives back what was
 /// handed in, unchanged.
-pub fn collect<M: PrefixMap<Route> + Drop>(
+pub fn collect<M: PrefixMap<SharedRoute> + Drop>(
     alloc: Global,
     gathered: Gathered<M>,
 ) -> Result<Tables<M>, (Gathered<M>, Memory)>

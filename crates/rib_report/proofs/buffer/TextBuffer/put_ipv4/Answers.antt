@@ -4,4 +4,4 @@ use Rattle.rib_report.proofs.buffer.TextBuffer.put_ipv4.Goals as goal
 
 pub returns : goal.returns
 returns g c =
-    rw (div-one c.args.addr) (Adds_trans c.put_number.ensures (Adds_trans c.put_byte.ensures (Adds_trans c.put_number-2.ensures (Adds_trans c.put_byte-2.ensures (Adds_trans c.put_number-3.ensures (Adds_trans c.put_byte-3.ensures c.put_number-4.ensures))))))
+    rw (div-one c.args.addr) (Adds_trans c.put_octet.ensures (Adds_trans c.put_byte.ensures (Adds_trans c.put_octet-2.ensures (Adds_trans c.put_byte-2.ensures (Adds_trans c.put_octet-3.ensures (Adds_trans c.put_byte-3.ensures c.put_octet-4.ensures))))))

@@ -1,0 +1,218 @@
+-- What the rows of visibility, of origins and of faults say.
+use Rattle.std.proofs.Common.{◌≡◌, ℕ, zero, suc, ◌+◌, ◌<◌, ◌≤◌, Bool, true, false, cond, ◌||◌, List, [], ◌∷◌, Some, None, refl, sym, ap, ◌∙◌, subst, get_or, length, map, arith}
+use Rattle.std.specs.Prelude.{IsTrue, nat_le}
+use Rattle.std.specs.declared.cmp.Ordering.{Ordering}
+use Rattle.std.specs.declared.cmp.Ordering.TheVariants.{Less, Equal, Greater}
+use Rattle.std.specs.Ordering.{eq_by_cmp, is_eq, is_lt, nat_cmp}
+use Rattle.std.specs.Cmp.{IsStrictWeakOrder}
+use Rattle.std.specs.List.{AllByRecursion, flat_map, filter, count_by, list_any}
+use Rattle.std.specs.List.Sorted.{ties, IsSortedBy, IsSortedByKey, IsStableByKey}
+use Rattle.std.specs.FinMap.Entries.{find, is_sorted, put, by_order, find-where_key, is_sorted-where_key}
+use Rattle.std.proofs.lemmas.Bool.{leb-true, le-leb}
+use Rattle.std.proofs.lemmas.List.Folds.{list_any-append}
+use Rattle.std.proofs.lemmas.List.Sorted.{ranks_by}
+use Rattle.std.proofs.lemmas.List.Sums.{sum_by-cons}
+use Rattle.bgp_prefix.specs.Prefixes.{IpPrefix, prefix_cmp, prefix_eq}
+use Rattle.bgp_prefix.specs.Ordered.{tabulated, in_order}
+use Rattle.bgp_prefix.proofs.KeyLaws.{prefix_cmp_total, prefix_cmp_exact, prefix_tied}
+use Rattle.bgp_prefix.proofs.OrderedLaws.{is_sorted-tabulated, find-tabulated}
+use Rattle.mrt_body.specs.declared.unit.Damage.{Damage}
+use Rattle.rib_report.specs.Tables.{Seat, TablesState}
+use Rattle.rib_report.specs.Rows.{VisibilityRow, PrefixOrigins, visibility_pair, origins_pair}
+use Rattle.rib_report.specs.Reports.{seat_prefixes, table_prefixes, is_visible_at, visibility_of, visibility_rows, table_origins, origins_among, origins_of, has_several, grouped_origins, origin_rows, place_cmp, in_place_order}
+use Rattle.rib_report.proofs.ListedLaws.{place_cmp_total, insertion_is}
+use Rattle.rib_report.proofs.RowLaws.{map_twice}
+use Rattle.rib_report.proofs.RunLaws.{set_of}
+use Rattle.rib_report.proofs.SeenLaws.{true_of}
+use Rattle.rib_report.proofs.StableSort.{Ascends, ascends_insertion, stable_insertion, insertion_by}
+
+-- ---- a value for each key of a set
+
+module _ {K V : Type 0} (cmp : K → K → Ordering) (exact : (x y : K) → cmp x y ≡ Equal → x ≡ y) (value : K → V) where
+  abbrev pair_of : K × Unit {0} → K × V
+  pair_of e = (e.0, value e.0)
+
+  paired_put : (k : K) (es : List (K × Unit {0})) → map pair_of (put cmp k tt es) ≡ put cmp k (value k) (map pair_of es)
+  paired_put k [] = refl
+  paired_put k (e ∷ es) =
+      elim (cmp k e.0) as (λ r. cmp k e.0 ≡ r
+      → map pair_of (by_order r ((k, tt) ∷ e ∷ es) ((e.0, tt) ∷ es) (e ∷ put cmp k tt es))
+      ≡ by_order r ((k, value k) ∷ map pair_of (e ∷ es)) ((e.0, value k) ∷ map pair_of es) (pair_of e ∷ put cmp k (value k) (map pair_of es))) [
+        | Less ↦ λ h. refl
+        | Equal ↦ λ h. ap (λ v. (e.0, v) ∷ map pair_of es) (ap value (sym (exact k e.0 h)))
+        | Greater ↦ λ h. ap (λ l. pair_of e ∷ l) (paired_put k es)
+      ] refl
+
+  pub paired_set : (ks : List K) → map pair_of (set_of cmp ks) ≡ tabulated cmp (λ k. Some (value k)) ks
+  paired_set [] = refl
+  paired_set (k ∷ ks) = paired_put k (set_of cmp ks) ∙ ap (put cmp k (value k)) (paired_set ks)
+
+-- ---- visibility
+
+abbrev row_for : TablesState → IpPrefix → VisibilityRow
+row_for tables p = record { prefix = p; peers = visibility_of tables p }
+
+rows_are : (tables : TablesState) → map visibility_pair (visibility_rows tables) ≡ tabulated prefix_cmp (λ p. Some (visibility_of tables p)) (table_prefixes tables)
+rows_are tables =
+    sym (map_twice (row_for tables) visibility_pair (in_order prefix_cmp (table_prefixes tables)))
+    ∙ sym (map_twice (λ (e : IpPrefix × Unit {0}). e.0) (λ p. (p, visibility_of tables p)) (set_of prefix_cmp (table_prefixes tables)))
+    ∙ paired_set prefix_cmp prefix_cmp_exact (visibility_of tables) (table_prefixes tables)
+
+is_equal : (r : Ordering) → is_eq r ≡ true → r ≡ Equal
+is_equal Less h = absurd cc
+is_equal Equal h = refl
+is_equal Greater h = absurd cc
+
+found : (tables : TablesState) (p : IpPrefix) → find prefix_cmp p (map visibility_pair (visibility_rows tables)) ≡ cond (list_any (eq_by_cmp prefix_cmp p) (table_prefixes tables)) (Some (visibility_of tables p)) None
+found tables p =
+    ap (find prefix_cmp p) (rows_are tables)
+    ∙ find-tabulated prefix_cmp_total (λ q. Some (visibility_of tables q)) (λ q k tied. ap (λ r. Some (visibility_of tables r)) (sym (prefix_cmp_exact q k (is_equal (prefix_cmp q k) tied)))) p (table_prefixes tables)
+
+same_tests : (p : IpPrefix) (ps : List IpPrefix) → list_any (eq_by_cmp prefix_cmp p) ps ≡ list_any (prefix_eq p) ps
+same_tests p [] = refl
+same_tests p (q ∷ ps) = ap (λ b. b || list_any (eq_by_cmp prefix_cmp p) ps) (prefix_tied p q) ∙ ap (λ b. prefix_eq p q || b) (same_tests p ps)
+
+-- a prefix of some table is visible at a peer
+visible_or : (b c : Bool) (n m : ℕ) → (c ≡ true → 1 ≤ n) → (1 ≤ n → c ≡ true) → m ≡ cond b 1 0 + n → ((b || c) ≡ true → 1 ≤ m) × (1 ≤ m → (b || c) ≡ true)
+visible_or true c n m there back e = ((λ h. omega arith), (λ h. refl))
+visible_or false c n m there back e = ((λ h. let low = there h in omega arith), (λ h. back (omega arith)))
+
+visible_somewhere : (p : IpPrefix) (seats : List Seat)
+    → (list_any (prefix_eq p) (flat_map seat_prefixes seats) ≡ true → 1 ≤ count_by (is_visible_at p) seats)
+    × (1 ≤ count_by (is_visible_at p) seats → list_any (prefix_eq p) (flat_map seat_prefixes seats) ≡ true)
+visible_somewhere p [] = ((λ h. absurd cc), (λ h. absurd (omega arith)))
+visible_somewhere p (s ∷ seats) =
+    let later = visible_somewhere p seats in
+    let split = list_any-append (prefix_eq p) (seat_prefixes s) (flat_map seat_prefixes seats) in
+    let both = visible_or (is_visible_at p s) (list_any (prefix_eq p) (flat_map seat_prefixes seats)) (count_by (is_visible_at p) seats) (count_by (is_visible_at p) (s ∷ seats)) later.0 later.1 (sum_by-cons (λ t. cond (is_visible_at p t) 1 0) s seats) in
+    ((λ h. both.0 (sym split ∙ h)), (λ h. split ∙ both.1 h))
+
+counted_where : (b : Bool) (m n : ℕ) → (b ≡ true → 1 ≤ m) → cond b (Some m) None ≡ Some n → (m ≡ n) × (1 ≤ n)
+counted_where true m n low e =
+    let same : m ≡ n = cc in
+    let least : 1 ≤ m = low refl in
+    (same, omega (arith, same, least))
+counted_where false m n low e = absurd cc
+
+pub visibility_from_row : (tables : TablesState) (p : IpPrefix) (n : ℕ) → find prefix_cmp p (map visibility_pair (visibility_rows tables)) ≡ Some n → (visibility_of tables p ≡ n) × (1 ≤ n)
+visibility_from_row tables p n e =
+    counted_where (list_any (eq_by_cmp prefix_cmp p) (table_prefixes tables)) (visibility_of tables p) n
+    (λ h. (visible_somewhere p tables.seats).0 (sym (same_tests p (table_prefixes tables)) ∙ h)) (sym (found tables p) ∙ e)
+
+pub row_from_visibility : (tables : TablesState) (p : IpPrefix) (n : ℕ) → (visibility_of tables p ≡ n) × (1 ≤ n) → find prefix_cmp p (map visibility_pair (visibility_rows tables)) ≡ Some n
+row_from_visibility tables p n h =
+    let low : 1 ≤ visibility_of tables p = omega (arith, h.0, h.1) in
+    let shown = same_tests p (table_prefixes tables) ∙ (visible_somewhere p tables.seats).1 low in
+    found tables p ∙ ap (λ b. cond b (Some (visibility_of tables p)) None) shown ∙ ap Some h.0
+
+pub rows_sorted : (tables : TablesState) → IsTrue (is_sorted prefix_cmp (map visibility_pair (visibility_rows tables)))
+rows_sorted tables = subst (λ es. IsTrue (is_sorted prefix_cmp es)) (sym (rows_are tables)) (true_of _ (is_sorted-tabulated prefix_cmp_total (λ p. Some (visibility_of tables p)) (table_prefixes tables)))
+
+-- ---- origins
+
+-- a test of values that the keys determine
+kept_by_key : {K V : Type 0} (value : K → V) (keeps : V → Bool) (es : List (K × Unit {0}))
+    → filter (λ (e : K × V). keeps e.1) (map (λ (e : K × Unit {0}). (e.0, value e.0)) es) ≡ filter (λ (e : K × V). keeps (value e.0)) (map (λ (e : K × Unit {0}). (e.0, value e.0)) es)
+kept_by_key value keeps [] = refl
+kept_by_key {K} {V} value keeps (e ∷ es) =
+    ap (λ (l : List (K × V)). cond (keeps (value e.0)) ((e.0, value e.0) ∷ l) l) (kept_by_key value keeps es)
+
+paired_filter : (rows : List PrefixOrigins) → map origins_pair (filter has_several rows) ≡ filter (λ (e : IpPrefix × List ℕ). nat_le 2 (length e.1)) (map origins_pair rows)
+paired_filter [] = refl
+paired_filter (row ∷ rows) =
+    elim (has_several row) as (λ b. map origins_pair (cond b (row ∷ filter has_several rows) (filter has_several rows))
+    ≡ cond b (origins_pair row ∷ filter (λ (e : IpPrefix × List ℕ). nat_le 2 (length e.1)) (map origins_pair rows)) (filter (λ (e : IpPrefix × List ℕ). nat_le 2 (length e.1)) (map origins_pair rows))) [
+      | true ↦ ap (λ l. origins_pair row ∷ l) (paired_filter rows)
+      | false ↦ paired_filter rows
+    ]
+
+abbrev all_prefixes : TablesState → List IpPrefix
+all_prefixes tables = map (λ e. e.0) (table_origins tables)
+
+abbrev is_kept : TablesState → IpPrefix → Bool
+is_kept tables p = nat_le 2 (length (origins_of tables p))
+
+abbrev all_pairs : TablesState → List (IpPrefix × List ℕ)
+all_pairs tables = tabulated prefix_cmp (λ p. Some (origins_of tables p)) (all_prefixes tables)
+
+pairs_are : (tables : TablesState) → map origins_pair (origin_rows tables) ≡ filter (λ (e : IpPrefix × List ℕ). is_kept tables e.0) (all_pairs tables)
+pairs_are tables =
+    let set = set_of prefix_cmp (all_prefixes tables) in
+    let plain : map origins_pair (grouped_origins (table_origins tables)) ≡ map (λ (e : IpPrefix × Unit {0}). (e.0, origins_of tables e.0)) set =
+    sym (map_twice (origins_among (table_origins tables)) origins_pair (in_order prefix_cmp (all_prefixes tables)))
+    ∙ sym (map_twice (λ (e : IpPrefix × Unit {0}). e.0) (λ p. (p, origins_of tables p)) set) in
+    paired_filter (grouped_origins (table_origins tables))
+    ∙ ap (filter (λ (e : IpPrefix × List ℕ). nat_le 2 (length e.1))) plain
+    ∙ kept_by_key (origins_of tables) (λ origins. nat_le 2 (length origins)) set
+    ∙ ap (filter (λ (e : IpPrefix × List ℕ). is_kept tables e.0)) (paired_set prefix_cmp prefix_cmp_exact (origins_of tables) (all_prefixes tables))
+
+origins_found : (tables : TablesState) (p : IpPrefix)
+    → find prefix_cmp p (map origins_pair (origin_rows tables)) ≡ cond (is_kept tables p) (cond (list_any (eq_by_cmp prefix_cmp p) (all_prefixes tables)) (Some (origins_of tables p)) None) None
+origins_found tables p =
+    ap (find prefix_cmp p) (pairs_are tables)
+    ∙ find-where_key prefix_cmp (is_kept tables) p (λ q h. ap (is_kept tables) (sym (prefix_cmp_exact p q h))) (all_pairs tables)
+    ∙ ap (λ o. cond (is_kept tables p) o None) (find-tabulated prefix_cmp_total (λ q. Some (origins_of tables q)) (λ q k tied. ap (λ r. Some (origins_of tables r)) (sym (prefix_cmp_exact q k (is_equal (prefix_cmp q k) tied)))) p (all_prefixes tables))
+
+kept_where : (kept shown : Bool) (found origins : List ℕ) → (kept ≡ true → 2 ≤ length found) → cond kept (cond shown (Some found) None) None ≡ Some origins → (found ≡ origins) × (2 ≤ length origins)
+kept_where true true found origins low e =
+    let same : found ≡ origins = cc in
+    let least : 2 ≤ length found = low refl in
+    (same, subst (λ l. 2 ≤ length l) same least)
+kept_where true false found origins low e = absurd cc
+kept_where false shown found origins low e = absurd cc
+
+pub origins_from_row : (tables : TablesState) (p : IpPrefix) (origins : List ℕ) → find prefix_cmp p (map origins_pair (origin_rows tables)) ≡ Some origins → (origins_of tables p ≡ origins) × (2 ≤ length origins)
+origins_from_row tables p origins e =
+    kept_where (is_kept tables p) (list_any (eq_by_cmp prefix_cmp p) (all_prefixes tables)) (origins_of tables p) origins (leb-true 2 (length (origins_of tables p))) (sym (origins_found tables p) ∙ e)
+
+-- a prefix without any pair has no origin
+none_of_prefix : (p : IpPrefix) (pairs : List (IpPrefix × ℕ)) → list_any (prefix_eq p) (map (λ e. e.0) pairs) ≡ false → filter (λ e. prefix_eq p e.0) pairs ≡ []
+none_of_prefix p [] h = refl
+none_of_prefix p (e ∷ pairs) h =
+    elim (prefix_eq p e.0) as (λ b. (b || list_any (prefix_eq p) (map (λ e. e.0) pairs)) ≡ false → cond b (e ∷ filter (λ e. prefix_eq p e.0) pairs) (filter (λ e. prefix_eq p e.0) pairs) ≡ []) [
+      | true ↦ λ k. absurd cc
+      | false ↦ λ k. none_of_prefix p pairs k
+    ] h
+
+shown_where : (tables : TablesState) (p : IpPrefix) (shown : Bool) → list_any (prefix_eq p) (all_prefixes tables) ≡ shown → 2 ≤ length (origins_of tables p) → shown ≡ true
+shown_where tables p true e h = refl
+shown_where tables p false e h =
+    let none : origins_of tables p ≡ [] = ap (λ pairs. in_order nat_cmp (map (λ e. e.1) pairs)) (none_of_prefix p (table_origins tables) e) in
+    absurd (omega (arith, h, ap length none))
+
+pub row_from_origins : (tables : TablesState) (p : IpPrefix) (origins : List ℕ) → (origins_of tables p ≡ origins) × (2 ≤ length origins) → find prefix_cmp p (map origins_pair (origin_rows tables)) ≡ Some origins
+row_from_origins tables p origins h =
+    let low : 2 ≤ length (origins_of tables p) = subst (λ l. 2 ≤ length l) (sym h.0) h.1 in
+    let shown = same_tests p (all_prefixes tables) ∙ shown_where tables p (list_any (prefix_eq p) (all_prefixes tables)) refl low in
+    origins_found tables p ∙ ap (λ b. cond b (cond (list_any (eq_by_cmp prefix_cmp p) (all_prefixes tables)) (Some (origins_of tables p)) None) None) (le-leb 2 (length (origins_of tables p)) low)
+    ∙ ap (λ b. cond b (Some (origins_of tables p)) None) shown ∙ ap Some h.0
+
+pub origins_sorted : (tables : TablesState) → IsTrue (is_sorted prefix_cmp (map origins_pair (origin_rows tables)))
+origins_sorted tables = subst (λ es. IsTrue (is_sorted prefix_cmp es)) (sym (pairs_are tables))
+    (true_of _ (is_sorted-where_key prefix_cmp (is_kept tables) (all_pairs tables) (is_sorted-tabulated prefix_cmp_total (λ p. Some (origins_of tables p)) (all_prefixes tables))))
+
+-- ---- faults
+
+module _ {X : Type 0} (lt : X → X → Bool) where
+  step_at : (x : X) (xs : List X) (k : ℕ) (d : X) → AllByRecursion (λ y. lt y x ≡ false) xs → IsSortedBy lt xs → k + 1 < length (x ∷ xs) → lt (get_or (x ∷ xs) (k + 1) d) (get_or (x ∷ xs) k d) ≡ false
+  step_at x [] k d low up inside = absurd (omega arith)
+  step_at x (y ∷ ys) zero d low up inside = low.0
+  step_at x (y ∷ ys) (suc k) d low up inside =
+      let next : suc k + 1 ≡ suc (k + 1) = omega arith in
+      ap (λ m. lt (get_or (x ∷ y ∷ ys) m d) (get_or (y ∷ ys) k d)) next ∙ up k d (omega arith) (omega arith)
+
+  pub sorted_from_ascends : (xs : List X) → Ascends lt xs → IsSortedBy lt xs
+  sorted_from_ascends [] h = λ k d low high. absurd (omega arith)
+  sorted_from_ascends (x ∷ xs) h = λ k d low high. step_at x xs k d h.0 (sorted_from_ascends xs h.1) high
+
+abbrev earlier : Damage → Damage → Bool
+earlier a b = is_lt (place_cmp a.place b.place)
+
+earlier_weak : IsStrictWeakOrder earlier
+earlier_weak = ranks_by place_cmp_total (λ (d : Damage). d.place)
+
+pub faults_sorted : (ds : List Damage) → IsSortedByKey (λ (d : Damage). d.place) place_cmp (in_place_order ds)
+faults_sorted ds = subst (IsSortedBy earlier) (insertion_is earlier_weak ds) (sorted_from_ascends earlier (insertion_by earlier earlier_weak ds) (ascends_insertion earlier earlier_weak ds))
+
+pub faults_stable : (ds : List Damage) → IsStableByKey (λ (d : Damage). d.place) place_cmp ds (in_place_order ds)
+faults_stable ds x = ap (filter (ties earlier x)) (sym (insertion_is earlier_weak ds)) ∙ stable_insertion earlier earlier_weak x ds

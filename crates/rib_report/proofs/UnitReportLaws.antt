@@ -1,0 +1,72 @@
+-- Reports on tables that stand for units and refusals, over these alone.
+use Rattle.std.proofs.Common.{◌≡◌, ℕ, ◌+◌, Bool, cond, List, [], ◌∷◌, ◌++◌, refl, ap, ◌∙◌, subst, sym, map}
+use Rattle.std.specs.List.{flat_map, filter, filter_map, count_by}
+use Rattle.std.proofs.lemmas.List.Sums.{sum_by-cons}
+use Rattle.bgp_prefix.specs.Prefixes.{IpPrefix, prefix_cmp}
+use Rattle.bgp_prefix.specs.Ordered.{in_order}
+use Rattle.mrt_body.specs.declared.unit.Damage.{Damage}
+use Rattle.mrt_body.specs.declared.unit.PeerKey.{PeerKey}
+use Rattle.mrt_body.specs.declared.unit.Unit.{Unit as ReplayUnit}
+use Rattle.adj_rib.specs.Sessions.{session_of}
+use Rattle.adj_rib.specs.Churns.{churn_of, damaged_of}
+use Rattle.rib_report.specs.Peers.{peers_of, units_of_peer}
+use Rattle.rib_report.specs.Tables.{Seat, TablesState, tables_of}
+use Rattle.rib_report.specs.Standing.{StandFor}
+use Rattle.rib_report.specs.Rows.{PeerChurn}
+use Rattle.rib_report.specs.Reports.{entry_row, is_longest, origin_pair, grouped_origins, has_several, in_place_order, rows_of_seat, matches_of_seat, seat_prefixes, is_visible_at, seat_origins, peer_churn}
+use Rattle.rib_report.specs.UnitReports.{table_at, prefixes_at, is_visible, HasReportsOf, HaveSameTexts}
+use Rattle.rib_report.proofs.StandingLaws.{peer_seat, seats_from, StandFor-only}
+
+module _ (units : List ReplayUnit) where
+  -- what each peer's seat gives, peer after peer, whatever the numbers
+  pieces_of_peers : {Y : Type 0} (g : Seat → List Y) (f : PeerKey → List Y) → ((n : ℕ) (q : PeerKey) → g (peer_seat units (n, q)) ≡ f q)
+      → (n : ℕ) (qs : List PeerKey) → flat_map g (seats_from units n qs) ≡ flat_map f qs
+  pieces_of_peers g f same n [] = refl
+  pieces_of_peers g f same n (q ∷ qs) = ap (λ l. l ++ flat_map g (seats_from units (n + 1) qs)) (same n q) ∙ ap (λ l. f q ++ l) (pieces_of_peers g f same (n + 1) qs)
+
+  rows_of_peers : {Y : Type 0} (g : Seat → Y) (f : PeerKey → Y) → ((n : ℕ) (q : PeerKey) → g (peer_seat units (n, q)) ≡ f q)
+      → (n : ℕ) (qs : List PeerKey) → map g (seats_from units n qs) ≡ map f qs
+  rows_of_peers g f same n [] = refl
+  rows_of_peers g f same n (q ∷ qs) = ap (λ y. y ∷ map g (seats_from units (n + 1) qs)) (same n q) ∙ ap (λ l. f q ∷ l) (rows_of_peers g f same (n + 1) qs)
+
+  count_of_peers : (g : Seat → Bool) (f : PeerKey → Bool) → ((n : ℕ) (q : PeerKey) → g (peer_seat units (n, q)) ≡ f q)
+      → (n : ℕ) (qs : List PeerKey) → count_by g (seats_from units n qs) ≡ count_by f qs
+  count_of_peers g f same n [] = refl
+  count_of_peers g f same n (q ∷ qs) =
+      sum_by-cons (λ s. cond (g s) 1 0) (peer_seat units (n, q)) (seats_from units (n + 1) qs)
+      ∙ ap (λ b. cond b 1 0 + count_by g (seats_from units (n + 1) qs)) (same n q) ∙ ap (λ m. cond (f q) 1 0 + m) (count_of_peers g f same (n + 1) qs)
+      ∙ sym (sum_by-cons (λ p. cond (f p) 1 0) q qs)
+
+  prefixes : flat_map seat_prefixes (seats_from units 0 (peers_of units)) ≡ flat_map (prefixes_at units) (peers_of units)
+  unfolding session_of
+  prefixes = pieces_of_peers seat_prefixes (prefixes_at units) (λ n q. refl) 0 (peers_of units)
+
+  visible_at : (p : IpPrefix) → count_by (is_visible_at p) (seats_from units 0 (peers_of units)) ≡ count_by (is_visible units p) (peers_of units)
+  unfolding session_of
+  visible_at p = count_of_peers (is_visible_at p) (is_visible units p) (λ n q. refl) 0 (peers_of units)
+
+  churn_at : PeerKey → PeerChurn
+  churn_at q = record { peer = q; churn = churn_of (units_of_peer units q) }
+
+pub HasReportsOf-tables_of : (units : List ReplayUnit) (refused : List Damage) → HasReportsOf units refused (tables_of units refused)
+unfolding tables_of session_of churn_at
+HasReportsOf-tables_of units refused =
+    let peers : List PeerKey = peers_of units in
+    let shown : flat_map seat_prefixes (seats_from units 0 peers) ≡ flat_map (prefixes_at units) peers = prefixes units in
+    record {
+      routes = pieces_of_peers units rows_of_seat (λ q. map (entry_row q) (table_at units q)) (λ n q. refl) 0 peers;
+      matches = λ addr. pieces_of_peers units (matches_of_seat addr) (λ q. map (entry_row q) (filter (is_longest addr (table_at units q)) (table_at units q))) (λ n q. refl) 0 peers;
+      visibility = λ i. map (λ p. record { prefix = p; peers = visible_at units p i }) (in_order prefix_cmp (shown i));
+      origins = ap (λ pairs. filter has_several (grouped_origins pairs)) (pieces_of_peers units seat_origins (λ q. filter_map origin_pair (table_at units q)) (λ n q. refl) 0 peers);
+      churn = rows_of_peers units peer_churn (churn_at units) (λ n q. refl) 0 peers;
+      faults = ap (λ listed. in_place_order (refused ++ listed)) (pieces_of_peers units (λ s. s.session.faults) (λ q. damaged_of (units_of_peer units q)) (λ n q. refl) 0 peers);
+    }
+
+pub HasReportsOf-standing : (tables : TablesState) (units : List ReplayUnit) (refused : List Damage) → StandFor tables units refused → HasReportsOf units refused tables
+HasReportsOf-standing tables units refused h = subst (HasReportsOf units refused) (sym (StandFor-only tables units refused h)) (HasReportsOf-tables_of units refused)
+
+same_texts : (one : TablesState) → HaveSameTexts one one
+same_texts one = record { routes = refl; matches = λ addr. refl; visibility = refl; origins = refl; churn = refl; faults = refl }
+
+pub HaveSameTexts-standing : (one other : TablesState) (units : List ReplayUnit) (refused : List Damage) → StandFor one units refused → StandFor other units refused → HaveSameTexts one other
+HaveSameTexts-standing one other units refused a b = subst (HaveSameTexts one) (StandFor-only one units refused a ∙ sym (StandFor-only other units refused b)) (same_texts one)

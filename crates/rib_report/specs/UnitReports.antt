@@ -1,0 +1,72 @@
+-- The reports over units and refusals alone.
+use Rattle.std.specs.Prelude.{◌≡◌, ℕ, Bool, List, ◌++◌, map}
+use Rattle.std.specs.List.{flat_map, filter, filter_map, count_by, list_any}
+use Rattle.bgp_prefix.specs.Prefixes.{IpPrefix, prefix_cmp, prefix_eq}
+use Rattle.bgp_prefix.specs.Ordered.{in_order}
+use Rattle.bgp_prefix.specs.declared.key.RouteKey.{RouteKey}
+use Rattle.bgp_update.specs.declared.route.Route.{Route}
+use Rattle.mrt_body.specs.declared.unit.Damage.{Damage}
+use Rattle.mrt_body.specs.declared.unit.PeerKey.{PeerKey}
+use Rattle.mrt_body.specs.declared.unit.Unit.{Unit as ReplayUnit}
+use Rattle.adj_rib.specs.Steps.{steps_of}
+use Rattle.adj_rib.specs.Tables.{table_of}
+use Rattle.adj_rib.specs.Churns.{churn_of, damaged_of}
+use Rattle.rib_report.specs.Peers.{peers_of, units_of_peer}
+use Rattle.rib_report.specs.Tables.{TablesState}
+use Rattle.rib_report.specs.Rows.{RouteRow, VisibilityRow, PrefixOrigins, PeerChurn}
+use Rattle.rib_report.specs.Reports.{entry_row, is_longest, origin_pair, grouped_origins, has_several, in_place_order, route_rows, match_rows, visibility_rows, origin_rows, churn_rows, fault_rows}
+use Rattle.rib_report.specs.Lines.{route_line, visibility_line, origin_line, churn_line, fault_line}
+
+-- the table that a peer's own units leave
+abbrev pub table_at : List ReplayUnit → PeerKey → List (RouteKey × Route)
+table_at units q = table_of (steps_of (units_of_peer units q))
+
+-- every entry of every peer's table
+abbrev pub unit_routes : List ReplayUnit → List RouteRow
+unit_routes units = flat_map (λ q. map (entry_row q) (table_at units q)) (peers_of units)
+
+-- at each peer, all entries of the longest match (RFC 1812, 5.2.4.3)
+abbrev pub unit_matches : List ReplayUnit → ℕ → List RouteRow
+unit_matches units addr = flat_map (λ q. map (entry_row q) (filter (is_longest addr (table_at units q)) (table_at units q))) (peers_of units)
+
+abbrev pub prefixes_at : List ReplayUnit → PeerKey → List IpPrefix
+prefixes_at units q = map (λ e. e.0.prefix) (table_at units q)
+
+-- a key of the peer's table has this prefix
+abbrev pub is_visible : List ReplayUnit → IpPrefix → PeerKey → Bool
+is_visible units p q = list_any (prefix_eq p) (prefixes_at units q)
+
+-- each prefix of any table once, in order, and at how many peers it is visible
+abbrev pub unit_visibility : List ReplayUnit → List VisibilityRow
+unit_visibility units =
+    map (λ p. record { prefix = p; peers = count_by (is_visible units p) (peers_of units) }) (in_order prefix_cmp (flat_map (prefixes_at units) (peers_of units)))
+
+-- the prefixes with at least two different origins, over all peers
+abbrev pub unit_origins : List ReplayUnit → List PrefixOrigins
+unit_origins units = filter has_several (grouped_origins (flat_map (λ q. filter_map origin_pair (table_at units q)) (peers_of units)))
+
+-- what each peer's own units did
+abbrev pub unit_churn : List ReplayUnit → List PeerChurn
+unit_churn units = map (λ q. record { peer = q; churn = churn_of (units_of_peer units q) }) (peers_of units)
+
+-- the refusals and every peer's damaged units, in place order
+abbrev pub unit_faults : List ReplayUnit → List Damage → List Damage
+unit_faults units refused = in_place_order (refused ++ flat_map (λ q. damaged_of (units_of_peer units q)) (peers_of units))
+
+-- Each report on the tables has the rows of the report over units and refusals.
+pub record HasReportsOf (units : List ReplayUnit) (refused : List Damage) (tables : TablesState) : Type 0 where
+  pub routes : route_rows tables ≡ unit_routes units
+  pub matches : (addr : ℕ) → match_rows tables addr ≡ unit_matches units addr
+  pub visibility : visibility_rows tables ≡ unit_visibility units
+  pub origins : origin_rows tables ≡ unit_origins units
+  pub churn : churn_rows tables ≡ unit_churn units
+  pub faults : fault_rows tables ≡ unit_faults units refused
+
+-- The text of each report is the same.
+pub record HaveSameTexts (one other : TablesState) : Type 0 where
+  pub routes : flat_map route_line (route_rows one) ≡ flat_map route_line (route_rows other)
+  pub matches : (addr : ℕ) → flat_map route_line (match_rows one addr) ≡ flat_map route_line (match_rows other addr)
+  pub visibility : flat_map visibility_line (visibility_rows one) ≡ flat_map visibility_line (visibility_rows other)
+  pub origins : flat_map origin_line (origin_rows one) ≡ flat_map origin_line (origin_rows other)
+  pub churn : flat_map churn_line (churn_rows one) ≡ flat_map churn_line (churn_rows other)
+  pub faults : flat_map fault_line (fault_rows one) ≡ flat_map fault_line (fault_rows other)

@@ -1,0 +1,38 @@
+//! What the rows of reports say, in words without an order of work. These are laws about definitions:
+//! nothing is computed.
+
+ghost use Rattle.std.specs.Prelude.{◌≡◌, ◌≤◌, ◌↔◌, ℕ, IsTrue, List, Some, length, map};
+ghost use Rattle.std.specs.FinMap.{find, is_sorted};
+ghost use Rattle.std.specs.List.Sorted.{IsSortedByKey, IsStableByKey};
+ghost use Rattle.bgp_prefix.specs.Prefixes.{IpPrefix, prefix_cmp};
+ghost use Rattle.rib_report.specs.Tables.{TablesState, all_faults};
+ghost use Rattle.rib_report.specs.Rows.{visibility_pair, origins_pair};
+ghost use Rattle.rib_report.specs.Reports.{place_cmp, visibility_of, visibility_rows, origins_of, origin_rows, fault_rows};
+
+/// The rows of visibility are exactly the prefixes that are visible at a peer, each once and in order,
+/// with the number of these peers.
+pub fn visibility_counts_peers()
+    ensures rows { (tables : TablesState) (prefix : IpPrefix) (peers : ℕ) →
+        (find prefix_cmp prefix (map visibility_pair (visibility_rows tables)) ≡ Some peers)
+        ↔ ((visibility_of tables prefix ≡ peers) × (1 ≤ peers)) }
+    ensures sorted { (tables : TablesState) →
+        IsTrue (is_sorted prefix_cmp (map visibility_pair (visibility_rows tables))) }
+{}
+
+/// The rows of origins are exactly the prefixes whose routes have at least two different origin ASes, each
+/// once and in order, with all origin ASes of its routes at all peers (RFC 6811, 2).
+pub fn origins_are_of_all_routes()
+    ensures rows { (tables : TablesState) (prefix : IpPrefix) (origins : List ℕ) →
+        (find prefix_cmp prefix (map origins_pair (origin_rows tables)) ≡ Some origins)
+        ↔ ((origins_of tables prefix ≡ origins) × (2 ≤ length origins)) }
+    ensures sorted { (tables : TablesState) →
+        IsTrue (is_sorted prefix_cmp (map origins_pair (origin_rows tables))) }
+{}
+
+/// The listed faults stand by place. Those of one place are the same, in the same order, as among all
+/// faults: the refusals come first, then the peers' by number.
+pub fn faults_stand_by_place()
+    ensures sorted { (tables : TablesState) → IsSortedByKey (λ d. d.place) place_cmp (fault_rows tables) }
+    ensures stable { (tables : TablesState) →
+        IsStableByKey (λ d. d.place) place_cmp (all_faults tables) (fault_rows tables) }
+{}

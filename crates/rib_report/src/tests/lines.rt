@@ -1,0 +1,278 @@
+//! The lines of rows, each beside its text.
+
+use crate::{
+    ChurnRow, OriginRow, SeenRow, TableRow, write_churn, write_faults, write_origins, write_rows,
+    write_visibility,
+};
+use adj_rib::Churn;
+use bgp_prefix::{Memory, Prefix, RouteKey, Sequence};
+use bgp_update::{Aggregator, AsPath, NextHop, Origin, Route, Segment, SegmentKind};
+use mrt_body::{Damage, PeerAddr, PeerKey, Place};
+use mrt_frame::{Counted, Fault};
+use std::alloc::Global;
+use std::test::Fail;
+
+/// 65000 192.0.2.1.
+const PEER: PeerKey = PeerKey {
+    asn: 65_000,
+    addr: PeerAddr::V4(0xC000_0201),
+};
+
+/// The greatest peer.
+const LAST_PEER: PeerKey = PeerKey {
+    asn: u32::MAX,
+    addr: PeerAddr::V6(u128::MAX),
+};
+
+fn key(addr: u32, len: u8, id: u32) -> Result<RouteKey, Fail> {
+    let prefix = Prefix::new(addr, len).ok_or("a length of at most 32")?;
+    Ok(RouteKey { prefix, id })
+}
+
+/// A route without any attribute.
+fn bare_route() -> Route {
+    Route {
+        origin: None,
+        path: None,
+        next_hop: None,
+        med: None,
+        local_pref: None,
+        atomic: false,
+        aggregator: None,
+    }
+}
+
+/// A segment of each kind, one after the other.
+fn all_kinds(alloc: Global) -> Result<AsPath, Memory> {
+    let mut path = AsPath::new(alloc);
+    path.push(Segment::new(alloc, SegmentKind::ConfedSequence, &[64_512, 1])?)?;
+    path.push(Segment::new(alloc, SegmentKind::ConfedSet, &[3, 2])?)?;
+    path.push(Segment::new(alloc, SegmentKind::AsSequence, &[u32::MAX, 0, 10])?)?;
+    path.push(Segment::new(alloc, SegmentKind::AsSet, &[70_001, 70_000])?)?;
+    Ok(path)
+}
+
+/// Every field at its greatest, and a path of every kind of segment.
+fn greatest_route(alloc: Global) -> Result<Route, Memory> {
+    Ok(Route {
+        origin: Some(Origin::Incomplete),
+        path: Some(all_kinds(alloc)?),
+        next_hop: Some(NextHop::V6Pair(u128::MAX, 0xFE80 << 112)),
+        med: Some(u32::MAX),
+        local_pref: Some(u32::MAX),
+        atomic: true,
+        aggregator: Some(Aggregator {
+            asn: u32::MAX,
+            addr: u32::MAX,
+        }),
+    })
+}
+
+#[test]
+fn routes(rt: HostRuntime) -> Result<(), Fail> {
+    let alloc = rt.alloc();
+    let bare = bare_route();
+    let greatest = greatest_route(alloc)?;
+    let empty_path = Route {
+        origin: Some(Origin::Egp),
+        path: Some(AsPath::new(alloc)),
+        next_hop: Some(NextHop::V6(0x2001_0DB8_0000_0000_0000_0000_0000_0001)),
+        med: Some(0),
+        ..bare_route()
+    };
+    let short = Route {
+        origin: Some(Origin::Igp),
+        next_hop: Some(NextHop::V4(0x0A00_0001)),
+        local_pref: Some(0),
+        aggregator: Some(Aggregator { asn: 0, addr: 0 }),
+        ..bare_route()
+    };
+    let rows = [
+        TableRow {
+            peer: PEER,
+            key: key(0, 0, 0)?,
+            route: &bare,
+        },
+        TableRow {
+            peer: PEER,
+            key: key(0x0A00_0000, 8, 1)?,
+            route: &empty_path,
+        },
+        TableRow {
+            peer: PEER,
+            key: key(0x0A0F_FFFF, 12, 10)?,
+            route: &short,
+        },
+        TableRow {
+            peer: LAST_PEER,
+            key: key(u32::MAX, 32, u32::MAX)?,
+            route: &greatest,
+        },
+    ];
+    let lines = "65000 192.0.2.1|0.0.0.0/0|-|-|-|-|-|-|-
+65000 192.0.2.1|10.0.0.0/8#1||2001:0db8:0000:0000:0000:0000:0000:0001|EGP|0|-|-|-
+65000 192.0.2.1|10.0.0.0/12#10|-|10.0.0.1|IGP|-|0|-|0 0.0.0.0
+4294967295 ffff:ffff:ffff:ffff:ffff:ffff:ffff:ffff|255.255.255.255/32#4294967295|(64512 1) [3,2] 4294967295 0 10 {70001,70000}|ffff:ffff:ffff:ffff:ffff:ffff:ffff:ffff fe80:0000:0000:0000:0000:0000:0000:0000|INCOMPLETE|4294967295|4294967295|atomic|4294967295 255.255.255.255
+";
+    let mut out = Counted::new(Vec::<u8>::new(alloc));
+    assert!(rt; write_rows(&mut out, &rows).is_ok());
+    assert!(rt; out.device().as_slice() == lines.as_bytes());
+    Ok(())
+}
+
+#[test]
+fn prefixes(rt: HostRuntime) -> Result<(), Fail> {
+    let alloc = rt.alloc();
+    let visible = [
+        SeenRow {
+            prefix: key(0, 0, 0)?.prefix,
+            peers: 1,
+        },
+        SeenRow {
+            prefix: key(u32::MAX, 32, 0)?.prefix,
+            peers: usize::MAX,
+        },
+    ];
+    let origins = [
+        OriginRow {
+            prefix: key(0x0A0F_FFFF, 12, 0)?.prefix,
+            origins: Sequence::from_vec(vec![in alloc; 0, 65_000, u32::MAX]?),
+        },
+        OriginRow {
+            prefix: key(u32::MAX, 31, 0)?.prefix,
+            origins: Sequence::from_vec(vec![in alloc; 23_456, 23_457]?),
+        },
+    ];
+    let lines = "0.0.0.0/0|1
+255.255.255.255/32|18446744073709551615
+10.0.0.0/12|0 65000 4294967295
+255.255.255.254/31|23456 23457
+";
+    let mut out = Counted::new(Vec::<u8>::new(alloc));
+    assert!(rt; write_visibility(&mut out, &visible).is_ok());
+    assert!(rt; write_origins(&mut out, &origins).is_ok());
+    assert!(rt; out.device().as_slice() == lines.as_bytes());
+    Ok(())
+}
+
+/// Counts 1 to 8 in the order of the line, and these times.
+fn counts(first: Option<u64>, last: Option<u64>) -> Churn {
+    Churn {
+        added: 1,
+        changed: 2,
+        same: 3,
+        gone: 4,
+        void: 5,
+        resets: 6,
+        idle: 7,
+        refused: 8,
+        first,
+        last,
+    }
+}
+
+/// A record's microseconds may be past a second, and are then carried over: second 1 and
+/// 4,294,967,295 microseconds are 4295.967295.
+#[test]
+fn churns(rt: HostRuntime) -> Result<(), Fail> {
+    let alloc = rt.alloc();
+    let most = u64::MAX;
+    let greatest = Churn {
+        added: most,
+        changed: most,
+        same: most,
+        gone: most,
+        void: most,
+        resets: most,
+        idle: most,
+        refused: most,
+        first: Some(4_294_967_295_000_000 + 4_294_967_295),
+        last: Some(most),
+    };
+    let rows = [
+        ChurnRow {
+            peer: PEER,
+            churn: counts(None, None),
+        },
+        ChurnRow {
+            peer: PEER,
+            churn: counts(Some(0), Some(1_000_000 + 4_294_967_295)),
+        },
+        ChurnRow {
+            peer: PEER,
+            churn: counts(Some(999_999), Some(1_000_001)),
+        },
+        ChurnRow {
+            peer: LAST_PEER,
+            churn: greatest,
+        },
+    ];
+    let lines = "65000 192.0.2.1|1|2|3|4|5|6|7|8|-|-
+65000 192.0.2.1|1|2|3|4|5|6|7|8|0.000000|4295.967295
+65000 192.0.2.1|1|2|3|4|5|6|7|8|0.999999|1.000001
+4294967295 ffff:ffff:ffff:ffff:ffff:ffff:ffff:ffff|18446744073709551615|18446744073709551615|18446744073709551615|18446744073709551615|18446744073709551615|18446744073709551615|18446744073709551615|18446744073709551615|4294971589.967295|18446744073709.551615
+";
+    let mut out = Counted::new(Vec::<u8>::new(alloc));
+    assert!(rt; write_churn(&mut out, &rows).is_ok());
+    assert!(rt; out.device().as_slice() == lines.as_bytes());
+    Ok(())
+}
+
+fn damage(file: usize, offset: u64, entry: Option<u16>, fault: Fault) -> Damage {
+    Damage {
+        place: Place {
+            file,
+            offset,
+            entry,
+        },
+        fault,
+    }
+}
+
+#[test]
+fn all_faults(rt: HostRuntime) -> Result<(), Fail> {
+    let rows = [
+        damage(0, 0, None, Fault::ShortHeader),
+        damage(0, 0, None, Fault::ShortBody),
+        damage(0, 77, None, Fault::BodyTooLong),
+        damage(1, 0, None, Fault::ShortRecord),
+        damage(1, 0, None, Fault::TrailingBytes),
+        damage(1, 0, None, Fault::BadFamily),
+        damage(1, 0, None, Fault::NoPeerIndex),
+        damage(1, 0, None, Fault::BadPeerIndex),
+        damage(1, 0, None, Fault::BadPrefix),
+        damage(2, 9, Some(1), Fault::BadMarker),
+        damage(2, 9, Some(2), Fault::BadLength),
+        damage(2, 9, Some(3), Fault::BadUpdate),
+        damage(2, 9, Some(10), Fault::ShortAttribute),
+        damage(2, 10, None, Fault::BadAttribute(0)),
+        damage(2, 10, None, Fault::BadPath),
+        damage(
+            usize::MAX,
+            u64::MAX,
+            Some(u16::MAX),
+            Fault::BadAttribute(255),
+        ),
+    ];
+    let lines = "1|0|-|1|ShortHeader
+1|0|-|2|ShortBody
+1|77|-|3|BodyTooLong
+2|0|-|4|ShortRecord
+2|0|-|5|TrailingBytes
+2|0|-|6|BadFamily
+2|0|-|7|NoPeerIndex
+2|0|-|8|BadPeerIndex
+2|0|-|9|BadPrefix
+3|9|1|10|BadMarker
+3|9|2|11|BadLength
+3|9|3|12|BadUpdate
+3|9|10|13|ShortAttribute
+3|10|-|14|BadAttribute(0)
+3|10|-|15|BadPath
+18446744073709551616|18446744073709551615|65535|14|BadAttribute(255)
+";
+    let mut out = Counted::new(Vec::<u8>::new(rt.alloc()));
+    assert!(rt; write_faults(&mut out, &rows).is_ok());
+    assert!(rt; out.device().as_slice() == lines.as_bytes());
+    Ok(())
+}
