@@ -1,5 +1,5 @@
 ghost use Rattle.std.specs.Prelude.{◌≡◌, ℕ, ◌<◌, ◌≤◌, ◌%◌, ◌/◌, slice_index};
-ghost use Rattle.lane_deal.specs.Plans.{mod_lt};
+ghost use Rattle.std.proofs.lemmas.Nat.{mod_below};
 
 /// Which lane a peer's units go to. The answer depends on the arguments and the value alone, so a
 /// peer keeps its lane in every file.
@@ -27,7 +27,7 @@ impl Dealing for ByTurns {
         peer % workers
     }
 
-    ghost is_below = { λ d peer workers h. mod_lt peer workers h };
+    ghost is_below = { λ d peer workers h. mod_below peer workers h };
 }
 
 /// So many peers in a row go to each lane in turn: `(peer / size) % workers`.
@@ -58,7 +58,7 @@ impl Dealing for ByBlocks {
         peer / self.size % workers
     }
 
-    ghost is_below = { λ d peer workers h. mod_lt (peer / block_size d) workers h };
+    ghost is_below = { λ d peer workers h. mod_below (peer / block_size d) workers h };
 }
 
 /// A list says each peer's lane: `list[peer] % workers`, or 0 past its end.
@@ -90,5 +90,5 @@ impl Dealing for ByList {
         }
     }
 
-    ghost is_below = { λ d peer workers h. mod_lt (slice_index (listed_lanes d) peer) workers h };
+    ghost is_below = { λ d peer workers h. mod_below (slice_index (listed_lanes d) peer) workers h };
 }

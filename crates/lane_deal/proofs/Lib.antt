@@ -1,0 +1,6 @@
+pub mod Classes
+pub mod Peers
+pub mod Numbering
+pub mod ScheduleLaws
+pub mod SeatLaws
+pub mod SettledLaws

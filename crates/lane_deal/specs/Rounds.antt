@@ -1,0 +1,59 @@
+-- What a round does between two states of a replayer, and why it stops dealing.
+use Rattle.std.specs.Prelude.{◌≡◌, ℕ, ◌+◌, ◌≤◌, List, [], ◌++◌, length, map, Option, Some, None, option_to_list, slice_get, ◌==◌}
+use Rattle.std.specs.List.{filter_map, count_by, position_or_len}
+use Rattle.mrt_body.specs.declared.unit.Damage.{Damage}
+use Rattle.mrt_body.specs.declared.unit.Found.{Found}
+use Rattle.mrt_body.specs.declared.unit.Found.TheVariants as found
+use Rattle.mrt_body.specs.declared.unit.Unit.{Unit as ReplayUnit}
+use Rattle.mrt_body.specs.Units.{unit_of, damage_of}
+use Rattle.rib_report.specs.Peers.{peer_eq}
+use Rattle.lane_deal.specs.Replayers.{LaneState, ReplayerState, ReplayerStandsFor}
+
+-- what is to be dealt and listed: the kept unit, if there is one, and then what the files still give
+abbrev pub to_deal : Option ReplayUnit → List Found → List Found
+to_deal kept coming = map (λ unit. found.Unit unit) (option_to_list kept) ++ coming
+
+-- the lane of a unit, by the numbers that a replayer gave
+abbrev pub lane_in : (ℕ → ℕ → ℕ) → ReplayerState → ReplayUnit → ℕ
+lane_in dealing r unit = dealing (position_or_len (peer_eq unit.peer) r.peers) (length r.lanes)
+
+-- how many of these units belong to a lane
+abbrev pub share_of : (ℕ → ℕ → ℕ) → ReplayerState → ℕ → List ReplayUnit → ℕ
+share_of dealing r lane units = count_by (λ unit. lane_in dealing r unit == lane) units
+
+-- What a round, or as much of it as a failed read left, did with what was to come: these are, in order, the units that it dealt and the
+-- refusals that it listed. The next one is kept or still to come. What waited in a ring was taken.
+pub record PlaysRound (dealing : ℕ → ℕ → ℕ) (capacity : ℕ) (old new : ReplayerState) (coming left done : List Found) : Type 0 where
+  pub order : to_deal old.kept coming ≡ done ++ to_deal new.kept left
+  pub lanes : length new.lanes ≡ length old.lanes
+  pub stands : (units : List ReplayUnit) (refused : List Damage) → ReplayerStandsFor dealing capacity units refused old
+      → ReplayerStandsFor dealing capacity (units ++ filter_map unit_of done) (refused ++ filter_map damage_of done) new
+  pub taken : (lane : ℕ) (state : LaneState) → slice_get new.lanes lane ≡ Some state → length state.ring.sent ≤ share_of dealing new lane (filter_map unit_of done)
+
+-- ---- why it stopped
+
+-- Blocked: a unit is kept, and those that waited in its lane and those dealt there would leave no slot
+abbrev pub IsBlocked : (ℕ → ℕ → ℕ) → ℕ → ReplayerState → ReplayerState → List ReplayUnit → Type 0
+IsBlocked dealing capacity old new dealt =
+    (unit : ReplayUnit) × (state : LaneState) × (new.kept ≡ Some unit) × (slice_get old.lanes (lane_in dealing new unit) ≡ Some state)
+    × (capacity ≤ length state.ring.sent + share_of dealing new (lane_in dealing new unit) dealt)
+
+-- FullBatch: as many units were dealt as a round deals at most
+abbrev pub IsFullBatch : ℕ → List ReplayUnit → Type 0
+IsFullBatch batch dealt = length dealt ≡ batch
+
+-- End: nothing is kept, and nothing is to come
+abbrev pub IsEnd : ReplayerState → List Found → Type 0
+IsEnd new left = (new.kept ≡ None) × (left ≡ [])
+
+-- ---- all is taken
+
+-- nothing waits
+abbrev pub IsSettled : ReplayerState → Type 0
+IsSettled r = (lane : ℕ) (state : LaneState) → slice_get r.lanes lane ≡ Some state → state.ring.sent ≡ []
+
+-- A settling takes what waits and changes nothing else.
+pub record Settles (dealing : ℕ → ℕ → ℕ) (capacity : ℕ) (old new : ReplayerState) : Type 0 where
+  pub settled : IsSettled new
+  pub kept : new.kept ≡ old.kept
+  pub stands : (units : List ReplayUnit) (refused : List Damage) → ReplayerStandsFor dealing capacity units refused old → ReplayerStandsFor dealing capacity units refused new
