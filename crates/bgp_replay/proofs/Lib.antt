@@ -1,1 +1,4 @@
 pub mod Numbers
+pub mod Dumps
+pub mod Examples
+pub mod HeadlineLaws

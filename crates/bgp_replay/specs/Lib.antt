@@ -1,1 +1,4 @@
 pub mod Statuses
+pub mod Reports
+pub mod Premises
+pub mod Headline

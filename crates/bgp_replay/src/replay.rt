@@ -3,13 +3,13 @@
 ghost use Rattle.std.specs.Prelude.{◌≡◌, length};
 ghost use Rattle.lane_deal.specs.Plans.{IsPlan};
 
+use adj_rib::SharedRoute;
 use crate::request::Request;
 use crate::seats::Seats;
 use crate::summary::Summary;
 use bgp_prefix::PrefixMap;
-use bgp_update::Route;
 use lane_deal::{Dealing, Gate, Plan};
-use mrt_body::{Found, Units};
+use mrt_body::{Found, Unit, Units};
 use mrt_frame::{ReplayError, Sink, Source};
 use rib_report::{
     Tables, churn, collect, faults, matches, origins, visibility, write_churn, write_faults,
@@ -35,7 +35,7 @@ pub fn run<M, T, R, W, D, G>(
     out: &mut W,
 ) -> Result<Summary, ReplayError>
 where
-    M: PrefixMap<Route> + Drop,
+    M: PrefixMap<SharedRoute> + Drop,
     T: Threads,
     R: Source,
     W: Sink,
@@ -63,10 +63,13 @@ where
         rounds: 1,
         peers: tables.peers(),
     };
-    // Taking tables apart route by route takes a fifth of a run, and the process ends after it.
+    // Tables aren't taken apart route by route, since the process ends after the run (docs/DECISIONS.md).
     mem::forget(tables);
     Ok(summary)
 }
+
+/// How many units at most are touched together before the first of them is taken.
+const NEAR_UNITS: usize = 32;
 
 /// Gives every unit and refusal of the files to the seats.
 fn replay_all<M, R, D, G>(
@@ -78,26 +81,54 @@ fn replay_all<M, R, D, G>(
     gate: &G,
 ) -> Result<(), ReplayError>
 where
-    M: PrefixMap<Route> + Drop,
+    M: PrefixMap<SharedRoute> + Drop,
     R: Source,
     D: Dealing,
     G: Gate,
     requires { length files.old ≡ units.old.count }
 {
-    for _ in 0..u64::MAX {
-        match units.next(alloc, files)? {
-            Some(Found::Unit(unit)) => {
-                seats.take(alloc, &unit, dealing, gate)?;
-            }
-            Some(Found::Refused(damage)) => seats.refuse(damage)?,
-            None => break,
+    let mut near = Vec::with_capacity(alloc, NEAR_UNITS)?;
+    let mut wanted = 1;
+    while let Some(found) = units.next(alloc, files)? {
+        match found {
+            Found::Unit(unit) => near.push(unit)?,
+            Found::Refused(damage) => seats.refuse(damage)?,
+        }
+        if near.len() >= wanted {
+            wanted = take_all(alloc, &mut near, seats, dealing, gate)?;
         }
     }
+    take_all(alloc, &mut near, seats, dealing, gate)?;
     Ok(())
 }
 
+/// Gives units to the seats in their order, leaves none, and answers how many to gather for the next
+/// time: more than one where what they need lies apart in memory.
+fn take_all<M, D, G>(
+    alloc: Global,
+    units: &mut Vec<Unit>,
+    seats: &mut Seats<M>,
+    dealing: &D,
+    gate: &G,
+) -> Result<usize, ReplayError>
+where
+    M: PrefixMap<SharedRoute> + Drop,
+    D: Dealing,
+    G: Gate,
+{
+    let wanted = if seats.touch(alloc, units.as_slice())? > 0 {
+        NEAR_UNITS
+    } else {
+        1
+    };
+    for unit in units.drain(..) {
+        seats.take(alloc, &unit, dealing, gate)?;
+    }
+    Ok(wanted)
+}
+
 /// Writes the report that is asked for.
-fn write_report<M: PrefixMap<Route> + Drop, W: Sink>(
+fn write_report<M: PrefixMap<SharedRoute> + Drop, W: Sink>(
     alloc: Global,
     request: &Request,
     tables: &Tables<M>,

@@ -5,9 +5,8 @@ ghost use Rattle.std.specs.List.{IsDistinct, range_with_len};
 ghost use Rattle.rib_report.specs.Gathers.{gathered_seats};
 ghost use Rattle.rib_report.specs.Seats.{seat_of};
 
-use adj_rib::Session;
+use adj_rib::{Session, SharedRoute};
 use bgp_prefix::{Memory, PrefixMap, Sequence};
-use bgp_update::Route;
 use lane_deal::{Dealing, Gate};
 use mrt_body::{Damage, PeerKey, Unit};
 use rib_report::{Gathered, Seated};
@@ -17,7 +16,7 @@ use std::collections::hash_map::Entry;
 
 /// The sessions of all peers so far, and what was refused.
 #[derive(Drop)]
-pub struct Seats<M: PrefixMap<Route> + Drop> {
+pub struct Seats<M: PrefixMap<SharedRoute> + Drop> {
     seats: HashMap<PeerKey, Seated<M>>,
     refused: Vec<Damage>,
     /// How many units each lane was dealt.
@@ -25,7 +24,7 @@ pub struct Seats<M: PrefixMap<Route> + Drop> {
     units: u64,
 }
 
-impl<M: PrefixMap<Route> + Drop> Seats<M> {
+impl<M: PrefixMap<SharedRoute> + Drop> Seats<M> {
     /// Without peers, for so many lanes.
     pub fn new(alloc: Global, lanes: usize) -> Result<Seats<M>, Memory> {
         Ok(Seats {
@@ -39,6 +38,24 @@ impl<M: PrefixMap<Route> + Drop> Seats<M> {
     /// How many units were taken.
     pub fn units(&self) -> u64 {
         self.units
+    }
+
+    /// Reads a little of what `take` will need of each unit, so that the reads overlap.
+    pub fn touch(&self, alloc: Global, units: &[Unit]) -> Result<usize, Memory> {
+        let mut places = Vec::with_capacity(alloc, units.len())?;
+        for unit in units {
+            if let Some(seat) = self.seats.get(&unit.peer) {
+                places.push(seat.session.ahead(unit))?;
+            }
+        }
+        let mut touched = 0usize;
+        for place in places.as_slice() {
+            touched = touched.saturating_add(place.touch_slots());
+        }
+        for place in places.as_slice() {
+            touched = touched.saturating_add(place.touch_reading());
+        }
+        Ok(touched)
     }
 
     /// Gives a unit to its peer's session. A peer is numbered by its first unit.
@@ -90,7 +107,7 @@ impl<M: PrefixMap<Route> + Drop> Seats<M> {
 }
 
 /// The seats of one lane, and the refusals.
-fn one_lane<M: PrefixMap<Route> + Drop>(
+fn one_lane<M: PrefixMap<SharedRoute> + Drop>(
     alloc: Global,
     lane: Vec<Seated<M>>,
     refused: Vec<Damage>,
@@ -106,7 +123,7 @@ fn one_lane<M: PrefixMap<Route> + Drop>(
 }
 
 /// The seats in their order, numbered from 0.
-fn numbered<M: PrefixMap<Route> + Drop>(
+fn numbered<M: PrefixMap<SharedRoute> + Drop>(
     alloc: Global,
     seats: Vec<Seated<M>>,
 ) -> Result<Vec<Seated<M>>, Memory>

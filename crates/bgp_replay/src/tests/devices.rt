@@ -1,12 +1,12 @@
 //! Rows on devices that fail: at each read, at each write, and past the limit on records.
 
+use adj_rib::SharedRoute;
 use super::dumps::dump;
 use super::harness::{PLAN, replay};
 use crate::replay::run;
 use crate::request::Request;
 use crate::summary::{Summary, status};
 use bgp_prefix::Radix;
-use bgp_update::Route;
 use lane_deal::{ByTurns, NoGate, Plan};
 use mrt_frame::{Counted, ReplayError};
 use std::alloc::Global;
@@ -84,7 +84,7 @@ fn run_breaking(
         readers.push(Counted::new(Breaking { rest: *bytes }))?;
     }
     let mut out = Counted::new(Vec::<u8>::new(alloc));
-    let result = run::<Radix<Route>, _, _, _, _, _>(
+    let result = run::<Radix<SharedRoute>, _, _, _, _, _>(
         rt,
         alloc,
         readers.as_mut_slice(),
@@ -123,7 +123,7 @@ fn run_into(
 ) -> Result<(Result<Summary, ReplayError>, Vec<u8>), Fail> {
     let mut readers = [Counted::new(bytes)];
     let mut out = Counted::new(writer);
-    let result = run::<Radix<Route>, _, _, _, _, _>(
+    let result = run::<Radix<SharedRoute>, _, _, _, _, _>(
         rt,
         alloc,
         &mut readers,
@@ -234,7 +234,7 @@ fn second_file_fails_at_once(rt: HostRuntime) -> Result<(), Fail> {
         Counted::new(Ending::Fails),
     ];
     let mut out = Counted::new(Vec::<u8>::new(alloc));
-    let result = run::<Radix<Route>, _, _, _, _, _>(
+    let result = run::<Radix<SharedRoute>, _, _, _, _, _>(
         &rt,
         alloc,
         &mut readers,
@@ -269,18 +269,18 @@ fn limits_on_records(rt: HostRuntime) -> Result<(), Fail> {
         max_records: 2,
         ..PLAN
     };
-    let outcome = replay::<Radix<Route>>(&rt, alloc, &two, &Request::Tables, &one_record)?;
+    let outcome = replay::<Radix<SharedRoute>>(&rt, alloc, &two, &Request::Tables, &one_record)?;
     match &outcome.result {
         Err(error) => assert!(rt; *error == ReplayError::Records && outcome.text.is_empty()),
         Ok(_) => assert!(rt; false, "too many records"),
     }
     assert_eq!(rt; status(&outcome.result), 3);
-    let outcome = replay::<Radix<Route>>(&rt, alloc, &two, &Request::Tables, &two_records)?;
+    let outcome = replay::<Radix<SharedRoute>>(&rt, alloc, &two, &Request::Tables, &two_records)?;
     text_is(&rt, outcome.text.as_slice(), line);
     let rest = [dump(alloc, "M 000000")?];
-    let outcome = replay::<Radix<Route>>(&rt, alloc, &rest, &Request::Tables, &one_record)?;
+    let outcome = replay::<Radix<SharedRoute>>(&rt, alloc, &rest, &Request::Tables, &one_record)?;
     text_is(&rt, outcome.text.as_slice(), line);
-    let outcome = replay::<Radix<Route>>(&rt, alloc, &rest, &Request::Faults, &one_record)?;
+    let outcome = replay::<Radix<SharedRoute>>(&rt, alloc, &rest, &Request::Faults, &one_record)?;
     text_is(&rt, outcome.text.as_slice(), "1|77|-|1|ShortHeader\n");
     assert_eq!(rt; outcome.result?.damaged, 1);
     Ok(())

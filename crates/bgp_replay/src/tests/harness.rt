@@ -1,12 +1,12 @@
 //! Runs rows that stand as text: what files hold, and what each report on them is.
 
+use adj_rib::SharedRoute;
 use super::dumps::dump;
 use crate::address::read_address;
 use crate::replay::run;
 use crate::request::Request;
 use crate::summary::{Summary, status};
 use bgp_prefix::{Flat, PrefixMap, Radix};
-use bgp_update::Route;
 use lane_deal::{ByTurns, NoGate, Plan};
 use mrt_frame::{Counted, ReplayError};
 use std::alloc::Global;
@@ -52,7 +52,7 @@ pub struct Outcome {
 }
 
 /// Replays files in memory.
-pub fn replay<M: PrefixMap<Route> + Drop>(
+pub fn replay<M: PrefixMap<SharedRoute> + Drop>(
     rt: &(impl Threads + Abort),
     alloc: Global,
     files: &[Vec<u8>],
@@ -93,7 +93,7 @@ pub fn replay_slowly(
         }))?;
     }
     let mut out = Counted::new(Vec::<u8>::new(alloc));
-    let result = run::<Radix<Route>, _, _, _, _, _>(
+    let result = run::<Radix<SharedRoute>, _, _, _, _, _>(
         rt,
         alloc,
         readers.as_mut_slice(),
@@ -158,11 +158,11 @@ impl<'a> Row<'a> {
         };
         self.expect(
             rt,
-            &replay::<Radix<Route>>(rt, alloc, files, request, &plan)?,
+            &replay::<Radix<SharedRoute>>(rt, alloc, files, request, &plan)?,
         );
         self.expect(
             rt,
-            &replay::<Flat<Route>>(rt, alloc, files, request, &plan)?,
+            &replay::<Flat<SharedRoute>>(rt, alloc, files, request, &plan)?,
         );
         for workers in [1, 64] {
             let plan = Plan {
@@ -173,7 +173,7 @@ impl<'a> Row<'a> {
             };
             self.expect(
                 rt,
-                &replay::<Radix<Route>>(rt, alloc, files, request, &plan)?,
+                &replay::<Radix<SharedRoute>>(rt, alloc, files, request, &plan)?,
             );
         }
         if self.until.is_none() {

@@ -1,11 +1,11 @@
 //! Rows on truncated, malicious and endless input.
 
+use adj_rib::SharedRoute;
 use super::dumps::dump;
 use super::harness::{PLAN, replay, run_rows};
 use crate::replay::run;
 use crate::request::Request;
 use bgp_prefix::{Flat, Radix};
-use bgp_update::Route;
 use lane_deal::{ByBlocks, ByList, ByTurns, Dealing, NoGate, Plan};
 use mrt_body::Units;
 use mrt_frame::{Counted, ReplayError};
@@ -58,7 +58,7 @@ fn every_prefix_of_three_records(rt: HostRuntime) -> Result<(), Fail> {
     assert_eq!(rt; bytes.len(), 193);
     for k in 0..=bytes.len() {
         let front = [Vec::from_slice(alloc, &bytes.as_slice()[..k])?];
-        let outcome = replay::<Radix<Route>>(&rt, alloc, &front, &Request::Tables, &PLAN)?;
+        let outcome = replay::<Radix<SharedRoute>>(&rt, alloc, &front, &Request::Tables, &PLAN)?;
         let at_an_end = k == 0 || k == 56 || k == 116 || k == 193;
         let rest = if at_an_end { 0 } else { 1 };
         let entry = if k >= 116 { 1 } else { 0 };
@@ -77,7 +77,7 @@ fn longest_message(rt: HostRuntime) -> Result<(), Fail> {
     )?;
     bytes.resize(bytes.len().saturating_add(65_492), 0)?;
     let file = [bytes];
-    let outcome = replay::<Radix<Route>>(&rt, alloc, &file, &Request::Churn, &PLAN)?;
+    let outcome = replay::<Radix<SharedRoute>>(&rt, alloc, &file, &Request::Churn, &PLAN)?;
     let line = b"65000 192.0.2.1|1|0|65491|0|0|0|0|0|1.000000|1.000000\n";
     assert!(rt; outcome.text.as_slice() == line.as_slice());
     Ok(())
@@ -103,7 +103,7 @@ fn endless_zeros(rt: HostRuntime) -> Result<(), Fail> {
         ..PLAN
     };
     let mut out = Counted::new(Vec::<u8>::new(alloc));
-    let result = run::<Radix<Route>, _, _, _, _, _>(
+    let result = run::<Radix<SharedRoute>, _, _, _, _, _>(
         &rt,
         alloc,
         &mut readers,
@@ -139,7 +139,7 @@ fn text_by<D: Dealing>(
     assert!(rt; plan.check());
     let mut readers = [Counted::new(bytes)];
     let mut out = Counted::new(Vec::<u8>::new(alloc));
-    let _summary = run::<Flat<Route>, _, _, _, _, _>(
+    let _summary = run::<Flat<SharedRoute>, _, _, _, _, _>(
         rt,
         alloc,
         &mut readers,
@@ -172,7 +172,7 @@ fn three_hundred_peers(rt: HostRuntime) -> Result<(), Fail> {
     let alloc = rt.alloc();
     let bytes = three_hundred(alloc)?;
     let file = [Vec::from_slice(alloc, bytes.as_slice())?];
-    let outcome = replay::<Radix<Route>>(&rt, alloc, &file, &Request::Tables, &PLAN)?;
+    let outcome = replay::<Radix<SharedRoute>>(&rt, alloc, &file, &Request::Tables, &PLAN)?;
     assert_eq!(rt; outcome.result?.peers, 300);
     let expected = outcome.text.as_slice();
     let first = b"65000 198.18.0.0|10.0.0.0/8|65000|192.0.2.1|IGP|-|-|-|-\n";

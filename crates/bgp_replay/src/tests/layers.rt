@@ -3,7 +3,7 @@
 ghost use Rattle.std.specs.Prelude.{◌≡◌, [], ◌∷◌, IfOk, map};
 
 use super::dumps::dump;
-use adj_rib::Session;
+use adj_rib::{Session, SharedRoute};
 use bgp_prefix::{PrefixMap, Radix, Sequence};
 use bgp_update::{AttrError, Route};
 use mrt_body::{Damage, Found, Payload, PeerAddr, PeerKey, Place, Unit, Units, event};
@@ -229,7 +229,7 @@ fn unit_in(rt: &impl Abort, alloc: Global, words: &str) -> Result<Unit, Fail> {
 #[test]
 fn state_changes_of_a_new_session(rt: HostRuntime) -> Result<(), Fail> {
     let alloc = rt.alloc();
-    let mut session = Session::<Radix<Route>>::new(alloc);
+    let mut session = Session::<Radix<SharedRoute>>::new(alloc);
     assert!(rt; session.is_up() && !session.is_spent());
     assert!(rt; session.churn().first.is_none() && session.faults().is_empty());
     for (record, is_up, resets) in [
@@ -248,7 +248,7 @@ fn state_changes_of_a_new_session(rt: HostRuntime) -> Result<(), Fail> {
 #[test]
 fn session_lists_a_damaged_unit(rt: HostRuntime) -> Result<(), Fail> {
     let alloc = rt.alloc();
-    let mut session = Session::<Radix<Route>>::new(alloc);
+    let mut session = Session::<Radix<SharedRoute>>::new(alloc);
     let damaged =
         "00000001 0010 0004 00000041 H4 FF16 002D 02 0000 0014 40010103 4002060201 0000FDE8 400304 C0000201 080A";
     session.take(alloc, &unit_in(&rt, alloc, damaged)?)?;
@@ -259,7 +259,7 @@ fn session_lists_a_damaged_unit(rt: HostRuntime) -> Result<(), Fail> {
 }
 
 /// A session that took the announcement of 10.0.0.0/8.
-fn session_of(rt: &impl Abort, alloc: Global) -> Result<Session<Radix<Route>>, Fail> {
+fn session_of(rt: &impl Abort, alloc: Global) -> Result<Session<Radix<SharedRoute>>, Fail> {
     let mut session = Session::new(alloc);
     let unit = unit_in(rt, alloc, "M")?;
     session.take(alloc, &unit)?;
@@ -271,8 +271,8 @@ fn lane_of(
     alloc: Global,
     number: usize,
     addr: u32,
-    session: Session<Radix<Route>>,
-) -> Result<Sequence<Seated<Radix<Route>>>, Fail>
+    session: Session<Radix<SharedRoute>>,
+) -> Result<Sequence<Seated<Radix<SharedRoute>>>, Fail>
     ensures { IfOk result (λ lane. map (λ seat. seat.number) lane ≡ number ∷ []) }
 {
     let mut lane = Vec::new(alloc);
@@ -291,9 +291,9 @@ fn lane_of(
 /// What two lanes hand in, without refusals.
 fn two_lanes(
     alloc: Global,
-    first: Sequence<Seated<Radix<Route>>>,
-    second: Sequence<Seated<Radix<Route>>>,
-) -> Result<Gathered<Radix<Route>>, Fail>
+    first: Sequence<Seated<Radix<SharedRoute>>>,
+    second: Sequence<Seated<Radix<SharedRoute>>>,
+) -> Result<Gathered<Radix<SharedRoute>>, Fail>
     ensures { IfOk result (λ gathered. gathered.lanes ≡ first ∷ second ∷ []) }
 {
     let mut lanes = Vec::new(alloc);

@@ -1,0 +1,69 @@
+-- The aim: what a run that completes has done. These are statements that no contract names yet, so they are not proved of `run`.
+use Rattle.std.specs.Prelude.{◌≡◌, ℕ, ◌<◌, true, List, ◌∷◌, ◌++◌, Option, Result, IfOk, IfErr, length, slice_index}
+use Rattle.std.specs.List.{Contains}
+use Rattle.std.specs.Io.KnownBytes.{Appends, Keeps}
+use Rattle.bgp_prefix.specs.declared.key.RouteKey.{RouteKey}
+use Rattle.mrt_frame.specs.Devices.{HasFailed}
+use Rattle.mrt_frame.specs.Writes.{WritesFront}
+use Rattle.mrt_frame.specs.declared.error.ReplayError.{ReplayError}
+use Rattle.mrt_frame.specs.declared.error.ReplayError.TheVariants as errors
+use Rattle.bgp_update.specs.declared.route.Route.{Route}
+use Rattle.mrt_body.specs.declared.unit.Unit.{Unit as ReplayUnit}
+use Rattle.adj_rib.specs.Steps.{announce, is_up, unit_steps}
+use Rattle.lane_deal.specs.declared.plan.Plan.{Plan}
+use Rattle.bgp_replay.specs.declared.request.Request.{Request}
+use Rattle.bgp_replay.specs.declared.summary.Summary.{Summary}
+use Rattle.bgp_replay.specs.Reports.{report, IsSummary}
+use Rattle.bgp_replay.specs.Premises.{AreSound, AreWithin, AreHonest}
+
+-- What a run is given, and what it leaves: the bytes that the readers tell, those that the writer holds, and how often each failed.
+pub record RunState : Type 0 where
+  pub request : Request
+  pub plan : Plan
+  pub told : List (Option (List ℕ))
+  pub held : Option (List ℕ)
+  pub held_after : Option (List ℕ)
+  pub readers : List ℕ
+  pub readers_after : List ℕ
+  pub writer : ℕ
+  pub writer_after : ℕ
+  pub result : Result Summary ReplayError
+
+-- ---- a run that completes
+
+-- It wrote byte for byte the report that is defined over the records alone, and counted them.
+pub record IsReplayed (run : RunState) (files : List (List ℕ)) (summary : Summary) : Type 0 where
+  pub written : Appends run.held run.held_after (report run.request run.plan.until files)
+  pub counted : IsSummary run.plan files summary
+
+-- For every list of files, every plan and every dealing, a run that completes has replayed them.
+abbrev pub Headline : RunState → Type 0
+Headline run = (files : List (List ℕ)) → AreHonest run.told run.held files → IfOk run.result (IsReplayed run files)
+
+-- One of these units, at which the peer is up, announces the key with the route.
+pub record IsAnnouncedWhileUp (units : List ReplayUnit) (key : RouteKey) (route : Route) : Type 0 where
+  pub before : List ReplayUnit
+  pub unit : ReplayUnit
+  pub after : List ReplayUnit
+  pub whole : units ≡ before ++ unit ∷ after
+  pub up : is_up before ≡ true
+  pub announced : Contains (unit_steps true unit) (announce key route)
+
+-- ---- a run that doesn't
+
+-- why it stops, and what it leaves: nothing written, or a front of the report
+abbrev pub IsStopped : RunState → List (List ℕ) → ReplayError → Type 0
+IsStopped run files (errors.Read file) = (file < length run.readers) × HasFailed (slice_index run.readers file) (slice_index run.readers_after file) × Keeps run.held run.held_after
+IsStopped run files errors.Write = HasFailed run.writer run.writer_after × WritesFront run.held run.held_after (report run.request run.plan.until files)
+IsStopped run files errors.Memory = Keeps run.held run.held_after
+IsStopped run files errors.Records = (AreWithin run.plan.max_records files → ⊥) × Keeps run.held run.held_after
+IsStopped run files errors.Spent = ⊥
+
+abbrev pub StopsWithCause : RunState → Type 0
+StopsWithCause run = (files : List (List ℕ)) → AreHonest run.told run.held files → IfErr run.result (IsStopped run files)
+
+-- With sound devices and records within the limit a run completes, unless it wants memory.
+abbrev pub Completes : RunState → Type 0
+Completes run =
+    (files : List (List ℕ)) → AreHonest run.told run.held files → AreSound run.readers run.readers_after run.writer run.writer_after → AreWithin run.plan.max_records files
+    → IfErr run.result (λ error. error ≡ errors.Memory)
