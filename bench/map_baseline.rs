@@ -65,6 +65,9 @@ fn main() {
     if !has("all") { return; }
     timed("get", || keys.iter().filter_map(|key| map.get(key)).fold(0, |sum, value| sum.wrapping_add(*value)));
     timed("longest", || keys.iter().filter_map(|key| longest(&map, key.0)).fold(0, |sum, addr| sum.wrapping_add(addr as u64)));
-    timed("walk", || map.iter().fold(0u64, |sum, (_, value)| sum.wrapping_mul(31).wrapping_add(*value)));
+    timed("walk", || {
+        let entries: Vec<(Key, &u64)> = map.iter().map(|(key, value)| (*key, value)).collect();
+        entries.iter().fold(0, |sum, entry| sum.wrapping_mul(31).wrapping_add(*entry.1))
+    });
     timed("remove", || keys.iter().filter_map(|key| map.remove(key)).fold(0, |sum, value| sum.wrapping_add(value)));
 }

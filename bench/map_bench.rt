@@ -4,11 +4,11 @@
 
 use bgp_prefix::{Memory, Prefix, PrefixMap, Radix, RouteKey};
 use std::alloc::{AllocError, Global};
-use std::env;
-use std::io;
 use std::time::Instant;
+use std::{env, io};
 
 const DRAWN: u32 = 1_200_000;
+
 const KEPT: usize = 1_000_000;
 
 // The next number of a linear congruence (Knuth's MMIX), whose high bits are used.

@@ -2,7 +2,6 @@
 #![tactic(auto)]
 
 mod flat;
-mod fork_paths;
 mod key;
 mod key_set;
 mod map;

@@ -1,4 +1,4 @@
-ghost use Rattle.std.specs.Prelude.{◌≡◌, ℕ, List, [], ◌∷◌, ◌++◌, not, T, map, IfOk, OnOk, OnErr, IsSome, IfSome};
+ghost use Rattle.std.specs.Prelude.{◌≡◌, ℕ, List, [], ◌∷◌, ◌++◌, not, T, map, IfOk, OnOk, OnErr, None, IsSome, IfSome};
 ghost use Rattle.std.specs.Option.{option_copied};
 ghost use Rattle.std.specs.Ordering.{nat_cmp, eq_by_cmp};
 ghost use Rattle.std.specs.FinMap.{find, put};
@@ -52,6 +52,19 @@ impl<V: Drop> Paths<V> {
         Paths {
             held: Held::One(id, value),
         }
+    }
+
+    /// One route, whose value is taken from a slot.
+    #[inline(never)]
+    pub fn taken(id: u32, slot: &mut Option<V>) -> Paths<V>
+        requires { IsSome slot.old }
+        ensures paths { IfSome slot.old (λ value. result ≡ (id, value) ∷ []) }
+        ensures taken { slot.new ≡ None }
+    {
+        let Some(value) = slot.take() else {
+            unreachable!()
+        };
+        Paths::one(id, value)
     }
 
     pub fn get(&self, id: u32) -> Option<&V>

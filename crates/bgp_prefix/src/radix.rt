@@ -9,7 +9,6 @@ ghost use Rattle.bgp_prefix.specs.Places.{IsPlace, IsWay};
 ghost use Rattle.bgp_prefix.specs.declared.radix.Branch.TheVariants.{Nothing};
 ghost use Rattle.bgp_prefix.specs.Tries.{routes, IsTrie, IsUnder, IsRoot, IsBelowLeaf, IsInserted, IsLeafOf, IsUnpruned, IsRemoved, is_nothing, is_idle, heir};
 
-use crate::fork_paths::ForkPaths;
 use crate::key::RouteKey;
 use crate::map::PrefixMap;
 use crate::memory::Memory;
@@ -43,7 +42,7 @@ struct Fork<V> {
     prefix: Prefix,
     low: Branch<V>,
     high: Branch<V>,
-    paths: ForkPaths<V>,
+    paths: Paths<V>,
 }
 
 /// Where a prefix belongs in a fork: at its prefix, in a branch, or outside.
@@ -226,10 +225,8 @@ impl<V: Drop> Branch<V> {
             unreachable!()
         };
         let new = Branch::leaf(alloc, key, slot)?;
-        let mut paths = Box::new(alloc, Paths::new())?;
-        let mut fork = Fork::new(alloc, leaf.prefix, ForkPaths::new())?;
-        mem::swap(&mut *paths, &mut leaf.paths);
-        fork.paths.set(ForkPaths::from_box(paths));
+        let mut fork = Fork::new(alloc, leaf.prefix, Paths::new())?;
+        mem::swap(&mut fork.paths, &mut leaf.paths);
         fork.set_child(is_high, new);
         self.set(Branch::Fork(fork));
         Ok(())
@@ -255,7 +252,7 @@ impl<V: Drop> Branch<V> {
     {
         let shared = shared_len(at, &key.prefix);
         if shared == key.prefix.len() {
-            let paths = ForkPaths::taken(alloc, key.id, slot)?;
+            let paths = Paths::taken(key.id, slot);
             let mut fork = Fork::new(alloc, key.prefix, paths)?;
             let is_high = bit_after(at.addr(), shared);
             fork.set_child(is_high, mem::replace(self, Branch::Nothing));
@@ -263,7 +260,7 @@ impl<V: Drop> Branch<V> {
             return Ok(());
         }
         let new = Branch::leaf(alloc, key, slot)?;
-        let mut fork = Fork::new(alloc, at.shortened(shared), ForkPaths::new())?;
+        let mut fork = Fork::new(alloc, at.shortened(shared), Paths::new())?;
         let is_high = bit_after(at.addr(), shared);
         fork.set_child(!is_high, new);
         fork.set_child(is_high, mem::replace(self, Branch::Nothing));
@@ -454,7 +451,7 @@ impl<V: Drop> Branch<V> {
 }
 
 impl<V: Drop> Fork<V> {
-    fn new(alloc: Global, prefix: Prefix, paths: ForkPaths<V>) -> Result<Box<Fork<V>>, Memory>
+    fn new(alloc: Global, prefix: Prefix, paths: Paths<V>) -> Result<Box<Fork<V>>, Memory>
         ensures { IfOk result (λ fork. fork.value ≡ record { prefix = prefix; paths = paths; low = Nothing; high = Nothing }) }
     {
         let fork = Fork {

@@ -75,6 +75,30 @@ fn each_map_answers_its_calls(rt: HostRuntime) -> Result<(), Fail> {
 }
 
 #[test]
+fn relates_prefixes(rt: HostRuntime) -> Result<(), Fail> {
+    assert_eq!(rt; Prefix::new(0, 33), None);
+    let default = Prefix::new(0xFFFF_FFFF, 0).ok_or("0 bits")?;
+    let eight = Prefix::new(0x0A01_0203, 8).ok_or("8 bits")?;
+    let sixteen = Prefix::new(0x0A01_0000, 16).ok_or("16 bits")?;
+    assert_eq!(rt; (eight.addr(), eight.len()), (0x0A00_0000, 8));
+    assert!(rt; eight.covers(&sixteen) && eight.covers(&eight) && !sixteen.covers(&eight));
+    assert!(rt; default.contains(0xFFFF_FFFF) && default.contains(0));
+    assert!(rt; sixteen.contains(0x0A01_FFFF) && !sixteen.contains(0x0A02_0000));
+    assert_eq!(rt; sixteen.shortened(8), eight);
+    Ok(())
+}
+
+#[test]
+fn a_key_set_has_its_keys(rt: HostRuntime) -> Result<(), Fail> {
+    let eight = key(0x0A00_0000, 8, 0)?;
+    let sixteen = key(0x0A00_0000, 16, 0)?;
+    let set = KeySet::from_slice(rt.alloc(), &[sixteen, eight, sixteen])?;
+    assert!(rt; set.contains(&eight) && set.contains(&sixteen));
+    assert!(rt; !set.contains(&key(0x0A00_0000, 8, 1)?) && !set.contains(&key(0, 8, 0)?));
+    Ok(())
+}
+
+#[test]
 fn counts_the_nodes_of_all_33_prefixes(rt: HostRuntime) -> Result<(), Fail> {
     let alloc = rt.alloc();
     let mut map: Radix<u32> = PrefixMap::new(alloc);
