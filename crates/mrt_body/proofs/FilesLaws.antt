@@ -15,7 +15,7 @@ use Rattle.mrt_body.specs.declared.unit.Unit.{Unit as ReplayUnit}
 use Rattle.mrt_body.specs.declared.unit.Found.{Found}
 use Rattle.mrt_body.specs.declared.unit.Found.TheVariants as found
 use Rattle.mrt_body.specs.Units.{found_in, found_in_files, all_cuts, is_whole, is_aside}
-use Rattle.mrt_body.specs.ToCome.{TakesFound-more, UnitsState, in_next_file, as_found, found_here, found_left, found_to_come, cuts_to_come, Passes, TakesFound, GivesPending, StaysInFile, LeavesFile, Steps, HasRecord, HasMoreRecords, StopsAt, Stops, answers_left, fresh_units}
+use Rattle.mrt_body.specs.ToCome.{UnitsState, in_next_file, as_found, found_here, found_left, found_to_come, cuts_to_come, Passes, TakesFound, GivesPending, StaysInFile, LeavesFile, Steps, HasRecord, HasMoreRecords, StopsAt, Stops, answers_left, fresh_units}
 use Rattle.mrt_body.proofs.IndexLaws.{found_in_file-is}
 
 abbrev Bytes : Type 0
@@ -23,6 +23,20 @@ Bytes = List ℕ
 
 abbrev known_all : List Bytes → List (Option Bytes)
 known_all contents = map (λ bytes. Some bytes) contents
+
+-- one step after another
+TakesFound-more : (a b c : UnitsState) (first second third : List (Option (List ℕ))) (taken more : List Found) → TakesFound a first b second taken → TakesFound b second c third more → TakesFound a first c third (taken ++ more)
+TakesFound-more a b c first second third taken more p q contents h =
+    let x = p contents h in
+    let y = q x.0 x.1 in (
+      y.0,
+      y.1,
+      record {
+        found = x.2.found ∙ ap (λ (l : List Found). taken ++ l) y.2.found ∙ sym (append_assoc taken more (found_to_come c y.0));
+        records = x.2.records ∙ y.2.records;
+        aside = x.2.aside ∙ y.2.aside;
+      },
+    )
 
 -- units that were pending
 module _ (old : UnitsState) (pending : List ReplayUnit) where

@@ -10,17 +10,13 @@ use Rattle.mrt_body.specs.Many.{many}
 use Rattle.mrt_body.specs.Indexes.{addr_at, asn_at, WrittenPeer, has_ipv6, asn_width, peer_bytes, FitsPeer, IndexForm, index_bytes, FitsIndex, written_peer_at, IndexHead, index_head_at, index_in, peers_of, peers_in}
 use Rattle.mrt_body.specs.Agreement.{IsIndexBody}
 use Rattle.mrt_body.proofs.ManyLaws.{BreaksOff, GoesOn, bind_err, many-unread, many-goes_on}
-use Rattle.mrt_body.proofs.ShortFields.{IsShort, then_short, ok_never, byte_short, number_short, bytes_short, addr_short, asn_short}
+use Rattle.mrt_body.proofs.ShortFields.{IsShort, then_short, only_short, ok_never, byte_short, number_short, bytes_short, addr_short, asn_short}
 use Rattle.mrt_body.proofs.PeerForms.{TakesHead, head_with, head_bytes, head_takes, head_again, peer_takes, peer_again}
-
-only : {f : Fault} → ⊥ ⊎ (f ≡ ShortRecord) → f ≡ ShortRecord
-only (inl h) = absurd h
-only (inr h) = h
 
 peer_short : (bytes : List ℕ) → IsShort (written_peer_at bytes)
 unfolding written_peer_at
 peer_short bytes fault e =
-    only (then_short (byte_at ShortRecord bytes) (λ flags. number_at ShortRecord 4 flags.1 >>= λ id. addr_at (has_ipv6 flags.0) id.1 >>= λ addr. asn_at (asn_width flags.0) addr.1 >>= λ asn. Ok (record { flags = flags.0; id = id.0; addr = addr.0; asn = asn.0 }, asn.1)) fault (byte_short bytes) (λ f f_is fe.
+    only_short (then_short (byte_at ShortRecord bytes) (λ flags. number_at ShortRecord 4 flags.1 >>= λ id. addr_at (has_ipv6 flags.0) id.1 >>= λ addr. asn_at (asn_width flags.0) addr.1 >>= λ asn. Ok (record { flags = flags.0; id = id.0; addr = addr.0; asn = asn.0 }, asn.1)) fault (byte_short bytes) (λ f f_is fe.
     then_short (number_at ShortRecord 4 f.1) (λ id. addr_at (has_ipv6 f.0) id.1 >>= λ addr. asn_at (asn_width f.0) addr.1 >>= λ asn. Ok (record { flags = f.0; id = id.0; addr = addr.0; asn = asn.0 }, asn.1)) fault (number_short 4 f.1) (λ i i_is ie.
     then_short (addr_at (has_ipv6 f.0) i.1) (λ addr. asn_at (asn_width f.0) addr.1 >>= λ asn. Ok (record { flags = f.0; id = i.0; addr = addr.0; asn = asn.0 }, asn.1)) fault (addr_short (has_ipv6 f.0) i.1) (λ a a_is ae.
     then_short (asn_at (asn_width f.0) a.1) (λ asn. Ok (record { flags = f.0; id = i.0; addr = a.0; asn = asn.0 }, asn.1)) fault (asn_short (asn_width f.0) a.1) (λ n n_is ne.
@@ -29,7 +25,7 @@ peer_short bytes fault e =
 head_short : (body : List ℕ) → IsShort (index_head_at body)
 unfolding index_head_at
 head_short body fault e =
-    only (then_short (number_at ShortRecord 4 body) (λ collector. number_at ShortRecord 2 collector.1 >>= λ len. bytes_at ShortRecord len.0 len.1 >>= λ view. number_at ShortRecord 2 view.1 >>= λ count. Ok (head_with collector.0 view.0 count.0, count.1)) fault (number_short 4 body) (λ k k_is ke.
+    only_short (then_short (number_at ShortRecord 4 body) (λ collector. number_at ShortRecord 2 collector.1 >>= λ len. bytes_at ShortRecord len.0 len.1 >>= λ view. number_at ShortRecord 2 view.1 >>= λ count. Ok (head_with collector.0 view.0 count.0, count.1)) fault (number_short 4 body) (λ k k_is ke.
     then_short (number_at ShortRecord 2 k.1) (λ len. bytes_at ShortRecord len.0 len.1 >>= λ view. number_at ShortRecord 2 view.1 >>= λ count. Ok (head_with k.0 view.0 count.0, count.1)) fault (number_short 2 k.1) (λ l l_is le.
     then_short (bytes_at ShortRecord l.0 l.1) (λ view. number_at ShortRecord 2 view.1 >>= λ count. Ok (head_with k.0 view.0 count.0, count.1)) fault (bytes_short l.0 l.1) (λ v v_is ve.
     then_short (number_at ShortRecord 2 v.1) (λ count. Ok (head_with k.0 v.0 count.0, count.1)) fault (number_short 2 v.1) (λ n n_is ne.

@@ -37,21 +37,18 @@ then_short {A} {B} {P} r f fault short more e = by_step (bind_err r f fault e)
     by_step (inl h) = inr (short fault h)
     by_step (inr h) = more h.0 h.1 h.2
 
+-- where there is no other reason
+pub only_short : {fault : Fault} → ⊥ ⊎ (fault ≡ ShortRecord) → fault ≡ ShortRecord
+only_short (inl h) = absurd h
+only_short (inr h) = h
+
 -- what is read is never a fault
 pub ok_never : {A P : Type 0} (x : A) (fault : Fault) → Ok x ≡ Err fault → P
 ok_never x fault e = absurd cc
 
 pub addr_short : (is_long : Bool) (bytes : List ℕ) → IsShort (addr_at is_long bytes)
-addr_short true bytes fault e = only (then_short (number_at ShortRecord 16 bytes) (λ addr. Ok (V6 addr.0, addr.1)) fault (number_short 16 bytes) (λ x is h. ok_never (V6 x.0, x.1) fault h) e)
-  where
-    only : ⊥ ⊎ (fault ≡ ShortRecord) → fault ≡ ShortRecord
-    only (inl h) = absurd h
-    only (inr h) = h
-addr_short false bytes fault e = only (then_short (number_at ShortRecord 4 bytes) (λ addr. Ok (V4 addr.0, addr.1)) fault (number_short 4 bytes) (λ x is h. ok_never (V4 x.0, x.1) fault h) e)
-  where
-    only : ⊥ ⊎ (fault ≡ ShortRecord) → fault ≡ ShortRecord
-    only (inl h) = absurd h
-    only (inr h) = h
+addr_short true bytes fault e = only_short (then_short (number_at ShortRecord 16 bytes) (λ addr. Ok (V6 addr.0, addr.1)) fault (number_short 16 bytes) (λ x is h. ok_never (V6 x.0, x.1) fault h) e)
+addr_short false bytes fault e = only_short (then_short (number_at ShortRecord 4 bytes) (λ addr. Ok (V4 addr.0, addr.1)) fault (number_short 4 bytes) (λ x is h. ok_never (V4 x.0, x.1) fault h) e)
 
 pub asn_short : (width : Width) (bytes : List ℕ) → IsShort (asn_at width bytes)
 asn_short width bytes fault e = number_short (number_len width) bytes fault e

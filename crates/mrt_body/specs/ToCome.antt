@@ -1,6 +1,5 @@
 -- What files still give, from where a reading of them stands.
 use Rattle.std.specs.Prelude.{◌<◌, ◌≡◌, ◌⊎◌, ℕ, ◌+◌, ◌-◌, ◌*◌, ◌≤◌, ◌^◌, Bool, List, [], ◌∷◌, ◌++◌, map, drop, length, Option, Some, None, option_to_list, slice_index}
-use Rattle.std.proofs.Common.{refl, sym, ap, ◌∙◌, append_assoc}
 use Rattle.std.specs.List.{count_by}
 use Rattle.mrt_frame.specs.Devices.{HasFailed}
 use Rattle.mrt_frame.specs.Frames.{Position, start_of, to_come, TakesCuts}
@@ -77,23 +76,6 @@ pub record Passes (old : UnitsState) (contents : List (List ℕ)) (new : UnitsSt
 abbrev pub TakesFound : UnitsState → List (Option (List ℕ)) → UnitsState → List (Option (List ℕ)) → List Found → Type 0
 TakesFound old before new after taken =
     (contents : List (List ℕ)) → drop old.file before ≡ map (λ bytes. Some bytes) contents → (rest : List (List ℕ)) × (drop new.file after ≡ map (λ bytes. Some bytes) rest) × Passes old contents new rest taken
-
--- no step, and one step after another
-pub TakesFound-none : (u : UnitsState) (files : List (Option (List ℕ))) → TakesFound u files u files []
-TakesFound-none u files contents h = (contents, h, record { found = refl; records = refl; aside = refl })
-
-pub TakesFound-more : (a b c : UnitsState) (first second third : List (Option (List ℕ))) (taken more : List Found) → TakesFound a first b second taken → TakesFound b second c third more → TakesFound a first c third (taken ++ more)
-TakesFound-more a b c first second third taken more p q contents h =
-    let x = p contents h in
-    let y = q x.0 x.1 in (
-      y.0,
-      y.1,
-      record {
-        found = x.2.found ∙ ap (λ (l : List Found). taken ++ l) y.2.found ∙ sym (append_assoc taken more (found_to_come c y.0));
-        records = x.2.records ∙ y.2.records;
-        aside = x.2.aside ∙ y.2.aside;
-      },
-    )
 
 -- where the bytes of the current and the later files are known, nothing is to come of them
 abbrev pub NothingToCome : UnitsState → List (Option (List ℕ)) → Type 0
