@@ -157,7 +157,11 @@ impl AttrCache {
     /// The slots in which the reading of these attributes may be.
     fn near(&self, attrs: &[u8]) -> &[Option<Reading>] {
         let place = self.place_of(attrs);
-        match self.slots.as_slice().get(place..place.saturating_add(NEAR_SLOTS)) {
+        match self
+            .slots
+            .as_slice()
+            .get(place..place.saturating_add(NEAR_SLOTS))
+        {
             Some(slots) => slots,
             None => &[],
         }
