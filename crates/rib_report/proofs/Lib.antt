@@ -10,7 +10,7 @@ pub mod ListedLaws
 pub mod SeenLaws
 pub mod OriginLaws
 pub mod MatchLaws
-pub mod OctetLaws
+pub mod ShortNumbers
 pub mod SeatOrder
 pub mod StandingLaws
 pub mod UnitReportLaws

@@ -4,9 +4,9 @@ ghost use Rattle.std.specs.Prelude.{◌≡◌, IfOk, map};
 ghost use Rattle.rib_report.specs.Rows.{churn_row};
 ghost use Rattle.rib_report.specs.Reports.{churn_rows};
 
-use adj_rib::SharedRoute;
 use crate::row::ChurnRow;
 use crate::tables::Tables;
+use adj_rib::SharedRoute;
 use bgp_prefix::{Memory, PrefixMap};
 use std::alloc::Global;
 

@@ -41,6 +41,7 @@ impl TextBuffer {
     }
 
     /// Copies the bytes behind those that wait.
+    #[inline]
     fn append(&mut self, bytes: &[u8])
         requires { length self.old.waiting + length bytes.now ≤ 65536 }
         ensures waiting { self.new.waiting ≡ self.old.waiting ++ bytes.now }
@@ -64,22 +65,43 @@ impl TextBuffer {
 
     /// Puts a number of at most three digits behind the bytes that wait.
     #[inline]
-    #[tactic(auto, using(crate::proofs::OctetLaws::decimal_ones, crate::proofs::OctetLaws::decimal_tens, crate::proofs::OctetLaws::decimal_hundreds))]
-    fn append_octet(&mut self, octet: u8)
-        requires { length self.old.waiting + 3 ≤ 65536 }
-        ensures waiting { self.new.waiting ≡ self.old.waiting ++ decimal octet }
+    #[tactic(auto, using(crate::proofs::ShortNumbers::decimal_ones, crate::proofs::ShortNumbers::decimal_tens, crate::proofs::ShortNumbers::decimal_hundreds))]
+    fn append_short(&mut self, number: u32)
+        requires { (number < 1000) × (length self.old.waiting + 3 ≤ 65536) }
+        ensures waiting { self.new.waiting ≡ self.old.waiting ++ decimal number }
         ensures failed { self.new.failed ≡ self.old.failed }
     {
-        if octet < 10 {
-            self.append_byte(b'0' + octet);
-        } else if octet < 100 {
-            self.append_byte(b'0' + octet / 10);
-            self.append_byte(b'0' + octet % 10);
+        let ones = b'0' + (number % 10) as u8;
+        if number < 10 {
+            self.append_byte(ones);
+        } else if number < 100 {
+            self.append(&[b'0' + (number / 10) as u8, ones]);
         } else {
-            self.append_byte(b'0' + octet / 100);
-            self.append_byte(b'0' + octet / 10 % 10);
-            self.append_byte(b'0' + octet % 10);
+            self.append(&[
+                b'0' + (number / 100) as u8,
+                b'0' + (number / 10 % 10) as u8,
+                ones,
+            ]);
         }
+    }
+
+    /// Puts a number of at most six digits behind the bytes that wait.
+    #[inline]
+    #[tactic(auto, using(crate::proofs::ShortNumbers::decimal_thousands))]
+    fn append_number(&mut self, number: u32)
+        requires { (number < 1000000) × (length self.old.waiting + 6 ≤ 65536) }
+        ensures waiting { self.new.waiting ≡ self.old.waiting ++ decimal number }
+        ensures failed { self.new.failed ≡ self.old.failed }
+    {
+        if number < 1_000 {
+            self.append_short(number);
+            return;
+        }
+        self.append_short(number / 1_000);
+        let hundreds = b'0' + (number / 100 % 10) as u8;
+        let tens = b'0' + (number / 10 % 10) as u8;
+        let ones = b'0' + (number % 10) as u8;
+        self.append(&[hundreds, tens, ones]);
     }
 
     /// How many bytes may still wait.
@@ -138,7 +160,19 @@ impl TextBuffer {
         if self.room() < 3 {
             self.hand_on(out);
         }
-        self.append_octet(octet);
+        self.append_short(octet as u32);
+    }
+
+    /// Adds a number of at most six digits in decimal.
+    #[inline]
+    pub(crate) fn put_short<W: Sink>(&mut self, out: &mut W, number: u32)
+        requires { number < 1000000 }
+        ensures { Writes W.contents W.failure_count out.old self.old out.new self.new (decimal number) }
+    {
+        if self.room() < 6 {
+            self.hand_on(out);
+        }
+        self.append_number(number);
     }
 
     /// Hands on all that waits, and tells whether a write failed.

@@ -14,10 +14,10 @@ ghost use Rattle.rib_report.specs.Listings.{reached_lines, listed_rows, listed_l
 ghost use Rattle.rib_report.specs.Lines.{route_line};
 ghost use Rattle.rib_report.specs.Texts.{IsWritten, IsCutOff};
 
-use adj_rib::SharedRoute;
 use crate::row::TableRow;
 use crate::tables::{Seated, Tables};
 use crate::write::write_rows;
+use adj_rib::SharedRoute;
 use bgp_prefix::{Memory, PrefixMap, RouteKey};
 use mrt_body::PeerKey;
 use mrt_frame::{ReplayError, Sink};

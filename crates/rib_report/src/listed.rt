@@ -4,8 +4,8 @@ ghost use Rattle.std.specs.Prelude.{◌≡◌, IfOk};
 ghost use Rattle.rib_report.specs.Tables.{all_faults};
 ghost use Rattle.rib_report.specs.Reports.{fault_rows};
 
-use adj_rib::SharedRoute;
 use crate::tables::Tables;
+use adj_rib::SharedRoute;
 use bgp_prefix::{Memory, PrefixMap};
 use mrt_body::Damage;
 use std::alloc::Global;
@@ -25,7 +25,10 @@ fn gather_faults<M: PrefixMap<SharedRoute>>(
 }
 
 /// All faults in place order; where places are equal, the refusals first, then the peers' by number.
-pub fn faults<M: PrefixMap<SharedRoute>>(alloc: Global, tables: &Tables<M>) -> Result<Vec<Damage>, Memory>
+pub fn faults<M: PrefixMap<SharedRoute>>(
+    alloc: Global,
+    tables: &Tables<M>,
+) -> Result<Vec<Damage>, Memory>
     ensures { IfOk result (λ rows. rows.items ≡ fault_rows tables.now) }
 {
     let mut rows = gather_faults(alloc, tables)?;

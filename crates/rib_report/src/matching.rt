@@ -6,9 +6,9 @@ ghost use Rattle.rib_report.specs.Rows.{route_row};
 ghost use Rattle.rib_report.specs.Reports.{path_row, matches_of_seat, match_rows};
 ghost use Rattle.rib_report.specs.Seats.{seat_of};
 
-use adj_rib::SharedRoute;
 use crate::row::TableRow;
 use crate::tables::{Seated, Tables};
+use adj_rib::SharedRoute;
 use bgp_prefix::{Memory, Prefix, PrefixMap, RouteKey};
 use std::alloc::Global;
 

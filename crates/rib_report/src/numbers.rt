@@ -31,6 +31,10 @@ impl TextBuffer {
     pub(crate) fn put_number<W: Sink>(&mut self, out: &mut W, number: u64)
         ensures { Writes W.contents W.failure_count out.old self.old out.new self.new (decimal number) }
     {
+        if number < 1_000_000 {
+            self.put_short(out, number as u32);
+            return;
+        }
         let mut digits = Buffer::new();
         self.put(out, digits.format(number).as_bytes());
     }

@@ -8,9 +8,9 @@ ghost use Rattle.rib_report.specs.Runs.{pair_cmp};
 ghost use Rattle.rib_report.specs.Reports.{route_origin, origin_pair, seat_origins, table_origins, has_several, grouped_origins, origin_rows};
 ghost use Rattle.rib_report.specs.Seats.{seat_of};
 
-use adj_rib::SharedRoute;
 use crate::row::OriginRow;
 use crate::tables::{Seated, Tables};
+use adj_rib::SharedRoute;
 use bgp_prefix::{Memory, Prefix, PrefixMap, RouteKey, Sequence};
 use bgp_update::Route;
 use std::alloc::Global;

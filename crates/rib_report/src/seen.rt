@@ -9,9 +9,9 @@ ghost use Rattle.rib_report.specs.Runs.{counted, is_last, without_repeats};
 ghost use Rattle.rib_report.specs.Reports.{HasOrder, seat_prefixes, visibility_rows};
 ghost use Rattle.rib_report.specs.Seats.{seat_of};
 
-use adj_rib::SharedRoute;
 use crate::row::SeenRow;
 use crate::tables::{Seated, Tables};
+use adj_rib::SharedRoute;
 use bgp_prefix::{Memory, Prefix, PrefixMap};
 use std::alloc::Global;
 
