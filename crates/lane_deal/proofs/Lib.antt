@@ -4,3 +4,5 @@ pub mod Numbering
 pub mod ScheduleLaws
 pub mod SeatLaws
 pub mod SettledLaws
+pub mod RoundLaws
+pub mod Examples

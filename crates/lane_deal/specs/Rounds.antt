@@ -1,12 +1,15 @@
 -- What a round does between two states of a replayer, and why it stops dealing.
-use Rattle.std.specs.Prelude.{◌≡◌, ℕ, ◌+◌, ◌≤◌, List, [], ◌++◌, length, map, Option, Some, None, option_to_list, slice_get, ◌==◌}
-use Rattle.std.specs.List.{filter_map, count_by, position_or_len}
+use Rattle.std.specs.Prelude.{◌≡◌, ℕ, ◌+◌, ◌≤◌, List, [], ◌∷◌, ◌++◌, length, map, Option, Some, None, option_to_list, slice_get, ◌==◌}
+use Rattle.std.specs.List.{filter_map, flat_map, count_by, position_or_len}
 use Rattle.mrt_body.specs.declared.unit.Damage.{Damage}
 use Rattle.mrt_body.specs.declared.unit.Found.{Found}
 use Rattle.mrt_body.specs.declared.unit.Found.TheVariants as found
 use Rattle.mrt_body.specs.declared.unit.Unit.{Unit as ReplayUnit}
 use Rattle.mrt_body.specs.Units.{unit_of, damage_of}
 use Rattle.rib_report.specs.Peers.{peer_eq}
+use Rattle.lane_deal.specs.declared.plan.Plan.{Plan}
+use Rattle.lane_deal.specs.declared.step.Step.{Step}
+use Rattle.lane_deal.specs.declared.step.Step.TheVariants.{Blocked, FullBatch, End}
 use Rattle.lane_deal.specs.Replayers.{LaneState, ReplayerState, ReplayerStandsFor}
 
 -- what is to be dealt and listed: the kept unit, if there is one, and then what the files still give
@@ -32,19 +35,37 @@ pub record PlaysRound (dealing : ℕ → ℕ → ℕ) (capacity : ℕ) (old new 
 
 -- ---- why it stopped
 
--- Blocked: a unit is kept, and those that waited in its lane and those dealt there would leave no slot
+-- a unit is kept, and those that waited in its lane and those dealt there would leave no slot
 abbrev pub IsBlocked : (ℕ → ℕ → ℕ) → ℕ → ReplayerState → ReplayerState → List ReplayUnit → Type 0
 IsBlocked dealing capacity old new dealt =
     (unit : ReplayUnit) × (state : LaneState) × (new.kept ≡ Some unit) × (slice_get old.lanes (lane_in dealing new unit) ≡ Some state)
     × (capacity ≤ length state.ring.sent + share_of dealing new (lane_in dealing new unit) dealt)
 
--- FullBatch: as many units were dealt as a round deals at most
-abbrev pub IsFullBatch : ℕ → List ReplayUnit → Type 0
-IsFullBatch batch dealt = length dealt ≡ batch
+-- what the answer of a round says: a unit came back from a full ring, a batch is dealt, or nothing is kept and nothing to come
+abbrev pub Stops : (ℕ → ℕ → ℕ) → Plan → ReplayerState → ReplayerState → List Found → List ReplayUnit → Step → Type 0
+Stops dealing plan old new left dealt Blocked = IsBlocked dealing plan.ring old new dealt
+Stops dealing plan old new left dealt FullBatch = length dealt ≡ plan.batch
+Stops dealing plan old new left dealt End = (new.kept ≡ None) × (left ≡ [])
 
--- End: nothing is kept, and nothing is to come
-abbrev pub IsEnd : ReplayerState → List Found → Type 0
-IsEnd new left = (new.kept ≡ None) × (left ≡ [])
+-- ---- rounds, one after the other
+
+-- the replayer after a round, what is to come then, what was dealt and listed, and the answer
+pub record RoundState : Type 0 where
+  pub replayer : ReplayerState
+  pub left : List Found
+  pub done : List Found
+  pub step : Step
+
+-- each goes on from where the one before left the replayer and the files
+abbrev pub AreRounds : (ℕ → ℕ → ℕ) → Plan → ReplayerState → List Found → List RoundState → Type 0
+AreRounds dealing plan r coming [] = Unit {0}
+AreRounds dealing plan r coming (round ∷ rounds) =
+    PlaysRound dealing plan.ring r round.replayer coming round.left round.done × Stops dealing plan r round.replayer round.left (filter_map unit_of round.done) round.step
+    × AreRounds dealing plan round.replayer round.left rounds
+
+-- the units that were dealt in them
+abbrev pub dealt_in : List RoundState → List ReplayUnit
+dealt_in rounds = flat_map (λ round. filter_map unit_of round.done) rounds
 
 -- ---- all is taken
 

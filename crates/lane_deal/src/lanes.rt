@@ -1,14 +1,18 @@
 // The laws of lanes: how units are shared, whatever the schedule.
-ghost use Rattle.std.specs.Prelude.{◌≡◌, ◌<◌, ◌++◌, ℕ, List, [], length, map, IsPermutation};
-ghost use Rattle.std.specs.List.{flat_map, range_with_len};
+ghost use Rattle.std.specs.Prelude.{◌≡◌, ◌≢◌, ◌<◌, ◌≤◌, ◌+◌, ◌*◌, ◌/◌, ◌++◌, ℕ, List, [], length, map, IsPermutation};
+ghost use Rattle.std.specs.List.{AllByRecursion, flat_map, range_with_len};
 ghost use Rattle.std.specs.List.Sorted.{IsStrictlyIncreasing};
 ghost use Rattle.mrt_body.specs.declared.unit.Damage.{Damage};
+ghost use Rattle.mrt_body.specs.declared.unit.Found.{Found};
 ghost use Rattle.mrt_body.specs.declared.unit.Unit.{Unit as ReplayUnit};
 ghost use Rattle.rib_report.specs.Tables.{tables_of};
+ghost use Rattle.lane_deal.specs.declared.plan.Plan.{Plan};
+ghost use Rattle.lane_deal.specs.declared.step.Step.TheVariants.{End};
 ghost use Rattle.lane_deal.specs.declared.turn.Turn.{Turn};
 ghost use Rattle.lane_deal.specs.Lanes.{lane_units, seats_of_lane};
+ghost use Rattle.lane_deal.specs.Plans.{IsPlan};
 ghost use Rattle.lane_deal.specs.Replayers.{ReplayerState, ReplayerStandsFor};
-ghost use Rattle.lane_deal.specs.Rounds.{IsSettled};
+ghost use Rattle.lane_deal.specs.Rounds.{RoundState, AreRounds, IsSettled, dealt_in};
 ghost use Rattle.lane_deal.specs.Schedules.{after_turns, IsShared};
 
 /// Each unit is in one lane, once, whichever lanes below their number the peers are given.
@@ -41,4 +45,13 @@ pub fn settled_lanes_make_tables()
         ((number : ℕ) → dealing number (length replayer.lanes) < length replayer.lanes) →
         ReplayerStandsFor dealing ring units refused replayer → IsSettled replayer →
         IsPermutation (flat_map (λ lane. lane.seats) replayer.lanes) (tables_of units refused).seats }
+{}
+
+/// Rounds that begin with empty rings and don't answer `End` are few: each fills a ring or deals a
+/// batch. The round that does and the settling are two more.
+pub fn rounds_are_few()
+    ensures { (dealing : ℕ → ℕ → ℕ) (plan : Plan) (replayer : ReplayerState) (coming : List Found) (rounds : List RoundState) →
+        IsPlan plan → ((number : ℕ) → dealing number (length replayer.lanes) < length replayer.lanes) →
+        IsSettled replayer → AreRounds dealing plan replayer coming rounds → AllByRecursion (λ round. round.step ≢ End) rounds →
+        length rounds ≤ 2 * length (dealt_in rounds) / plan.ring + length (dealt_in rounds) / plan.batch }
 {}
