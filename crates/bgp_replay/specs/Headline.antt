@@ -59,6 +59,7 @@ IsStopped run files errors.Memory = Keeps run.held run.held_after
 IsStopped run files errors.Records = (AreWithin run.plan.max_records files → ⊥) × Keeps run.held run.held_after
 IsStopped run files errors.Spent = ⊥
 
+-- A run that answers an error has its cause.
 abbrev pub StopsWithCause : RunState → Type 0
 StopsWithCause run = (files : List (List ℕ)) → AreHonest run.told run.held files → IfErr run.result (IsStopped run files)
 

@@ -3,10 +3,10 @@
 ghost use Rattle.std.specs.Prelude.{◌≡◌, length};
 ghost use Rattle.lane_deal.specs.Plans.{IsPlan};
 
-use adj_rib::SharedRoute;
 use crate::request::Request;
 use crate::seats::Seats;
 use crate::summary::Summary;
+use adj_rib::SharedRoute;
 use bgp_prefix::PrefixMap;
 use lane_deal::{Dealing, Gate, Plan};
 use mrt_body::{Found, Unit, Units};

@@ -1,11 +1,11 @@
 //! Rows on devices that fail: at each read, at each write, and past the limit on records.
 
-use adj_rib::SharedRoute;
 use super::dumps::dump;
 use super::harness::{PLAN, replay};
 use crate::replay::run;
 use crate::request::Request;
 use crate::summary::{Summary, status};
+use adj_rib::SharedRoute;
 use bgp_prefix::Radix;
 use lane_deal::{ByTurns, NoGate, Plan};
 use mrt_frame::{Counted, ReplayError};

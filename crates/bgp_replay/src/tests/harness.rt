@@ -1,11 +1,11 @@
 //! Runs rows that stand as text: what files hold, and what each report on them is.
 
-use adj_rib::SharedRoute;
 use super::dumps::dump;
 use crate::address::read_address;
 use crate::replay::run;
 use crate::request::Request;
 use crate::summary::{Summary, status};
+use adj_rib::SharedRoute;
 use bgp_prefix::{Flat, PrefixMap, Radix};
 use lane_deal::{ByTurns, NoGate, Plan};
 use mrt_frame::{Counted, ReplayError};

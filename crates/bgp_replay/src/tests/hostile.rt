@@ -1,10 +1,10 @@
 //! Rows on truncated, malicious and endless input.
 
-use adj_rib::SharedRoute;
 use super::dumps::dump;
 use super::harness::{PLAN, replay, run_rows};
 use crate::replay::run;
 use crate::request::Request;
+use adj_rib::SharedRoute;
 use bgp_prefix::{Flat, Radix};
 use lane_deal::{ByBlocks, ByList, ByTurns, Dealing, NoGate, Plan};
 use mrt_body::Units;
