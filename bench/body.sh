@@ -11,7 +11,7 @@ for crate in bgp_prefix mrt_frame bgp_update mrt_body; do # with what earlier ch
   cp -a "$here/../crates/$crate"/{src,specs,proofs} "$scratch/crates/$crate/"; cp -au "$here/../crates/$crate/out/." "$scratch/crates/$crate/out/" 2> "$out/body.log" || true
 done
 { grep -E '^(bgp_prefix|mrt_frame|bgp_update|mrt_body):' "$here/../crates.txt"; echo 'body_bench: mrt_frame mrt_body'; } > "$scratch/crates.txt"
-cp "$here/body_bench.rt" "$scratch/crates/body_bench/src/main.rt"
+cp "$here/body_bench.rattle" "$scratch/crates/body_bench/src/main.rt"
 (cd "$scratch/crates/body_bench" && rt run > "$out/body.log" 2>&1) || { tail -20 "$out/body.log"; exit 1; }
 cc -O2 -o "$out/gen_mrt" "$here/gen_mrt.c" -lm; cc -O2 -o "$out/body_records" "$here/body_records.c"
 rib=$out/rib-$prefixes-$peers.mrt; updates=$out/updates-$messages-$peers.mrt

@@ -16,7 +16,7 @@ for crate in bgp_prefix mrt_frame; do
   [ -d "$copy/crates/$crate/out" ] || [ ! -d "$crates/$crate/out" ] || cp -a "$crates/$crate/out" "$copy/crates/$crate/"
 done
 mkdir -p "$copy/crates/frame_bench/src"
-cmp -s "$here/frame_bench.rt" "$copy/crates/frame_bench/src/main.rt" || cp "$here/frame_bench.rt" "$copy/crates/frame_bench/src/main.rt"
+cmp -s "$here/frame_bench.rattle" "$copy/crates/frame_bench/src/main.rt" || cp "$here/frame_bench.rattle" "$copy/crates/frame_bench/src/main.rt"
 printf '%s\n' 'bgp_prefix:' 'mrt_frame: bgp_prefix byteorder' 'frame_bench: mrt_frame' > "$copy/crates.txt"
 (cd "$copy/crates/frame_bench" && rt run -- "$dump")
 program=$copy/crates/frame_bench/out/frame_bench

@@ -10,7 +10,7 @@ mkdir -p "$program/src"
 cp "$here/../HANDLES" "$out/"
 printf 'bgp_prefix:\nmap_bench: bgp_prefix anyhow\n' > "$out/crates.txt"
 rm -rf "$out/crates/bgp_prefix"; cp -a "$here/../crates/bgp_prefix" "$out/crates/"
-cp "$here/map_bench.rt" "$program/src/main.rt"
+cp "$here/map_bench.rattle" "$program/src/main.rt"
 (cd "$program" && rt run -- keys > "$out/build.log" 2>&1) || { cat "$out/build.log"; exit 1; }
 rustc --edition 2021 -O -o "$out/map_baseline" "$here/map_baseline.rs"
 

@@ -1,7 +1,7 @@
 #!/usr/bin/env bash
 # Measures `read_update` alone on a dump of UPDATEs, beside `bgpdump -m`'s whole time on the same dump (where it is installed).
 #   bench/update.sh [MESSAGES]
-# Default: 5,000,000 messages. `update_bench.rt` cuts the dump in either phase, and in the phase `read` reads the messages too: what
+# Default: 5,000,000 messages. `update_bench.rattle` cuts the dump in either phase, and in the phase `read` reads the messages too: what
 # that takes more is `read_update` (and the drop of what it gave). Best of ROUNDS runs, by processor time. The allocations a message are
 # valgrind's totals of both phases, on a dump of 50,000 messages, less one another and divided by the messages.
 # The program is made in a scratch repository, with copies of the crates below it. Needs rt, cc and GNU time.
@@ -20,7 +20,7 @@ for crate in bgp_prefix mrt_frame bgp_update; do
   [ -d "$copy/out" ] || [ ! -d "$top/crates/$crate/out" ] || cp -a "$top/crates/$crate/out" "$copy"
 done
 { grep -E '^(bgp_prefix|mrt_frame|bgp_update):' "$top/crates.txt"; echo 'update_bench: bgp_prefix mrt_frame bgp_update'; } > "$scratch/crates.txt"
-cp "$top/HANDLES" "$scratch"; cp "$here/update_bench.rt" "$program/src/main.rt"
+cp "$top/HANDLES" "$scratch"; cp "$here/update_bench.rattle" "$program/src/main.rt"
 large=$(dump "$messages"); small=$(dump 50000)
 (cd "$program" && rt run -- cut "$small" > "$out/update.log" 2>&1) || { tail "$out/update.log"; exit 1; }
 bench=$program/out/update_bench
