@@ -4,11 +4,11 @@
 # Default: 5,000,000 messages. `update_bench.rattle` cuts the dump in either phase, and in the phase `read` reads the messages too: what
 # that takes more is `read_update` (and the drop of what it gave). Best of ROUNDS runs, by processor time. The allocations a message are
 # valgrind's totals of both phases, on a dump of 50,000 messages, less one another and divided by the messages.
-# The program is made in a scratch repository, with copies of the crates below it. Needs rt, cc and GNU time.
+# The program is made in a repository of copies under ${TMPDIR:-/tmp}. Needs rt, cc and GNU time.
 set -eu
 messages=${1:-5000000}; rounds=${ROUNDS:-3}; peers=20
-here=$(dirname "$(realpath "$0")"); top=$(dirname "$here"); out=$here/out; scratch=$out/update; program=$scratch/crates/update_bench
-mkdir -p "$program/src"
+here=$(dirname "$(realpath "$0")"); top=$(dirname "$here"); out=$here/out; scratch=${TMPDIR:-/tmp}/bgp_replay_bench/update; program=$scratch/crates/update_bench
+mkdir -p "$out" "$program/src"
 cc -O2 -o "$out/gen_mrt" "$here/gen_mrt.c" -lm
 dump() {
   [ -f "$out/updates-$1-$peers.mrt" ] || "$out/gen_mrt" updates "$1" $(($1 * 3 / 10 < 300000 ? $1 * 3 / 10 : 300000)) "$peers" 1 > "$out/updates-$1-$peers.mrt"
