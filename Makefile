@@ -21,10 +21,14 @@ install: $(PROGRAM)
 	install -d $(PREFIX)/bin
 	install -m 755 $(PROGRAM) $(PREFIX)/bin/bgp_replay
 
+# Each growth of whole runs refused in turn, on the program as it is built.
+refusals: $(PROGRAM)
+	tests/refused_growths.sh $(PROGRAM)
+
 bench: $(PROGRAM)
 	bench/run.sh $(PROGRAM)
 
 clean:
 	rm -rf bin bench/out crates/*/out
 
-.PHONY: all run check install bench clean
+.PHONY: all run check install refusals bench clean
