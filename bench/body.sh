@@ -3,10 +3,10 @@
 # and over RIB records of 1,024 and of 65,535 entries that hold as many entries altogether.
 #   bench/body.sh [PREFIXES] [PEERS] [MESSAGES]
 # Defaults: 1,000,000 prefixes x 20 peers, and 5,000,000 messages. Needs the kit, cc and GNU time. The program is
-# built in a repository of copies under ${TMPDIR:-/tmp}; each crate below it is proved first.
+# built in a repository of copies under the folder for temporary files; each crate below it is proved first.
 set -eu
 prefixes=${1:-1000000}; peers=${2:-20}; messages=${3:-5000000}
-here=$(dirname "$(realpath "$0")"); out=$here/out; scratch=${TMPDIR:-/tmp}/bgp_replay_bench/body; mkdir -p "$out" "$scratch/crates/body_bench/src"
+here=$(dirname "$(realpath "$0")"); out=$here/out; scratch=$(dirname "$(mktemp -u)")/bgp_replay_bench/body; mkdir -p "$out" "$scratch/crates/body_bench/src"
 for crate in bgp_prefix mrt_frame bgp_update mrt_body; do # with what earlier checks kept, and no file that is gone
   mkdir -p "$scratch/crates/$crate/out"; rm -rf "$scratch/crates/$crate"/{src,specs,proofs}
   cp -a "$here/../crates/$crate"/{src,specs,proofs} "$scratch/crates/$crate/"; cp -au "$here/../crates/$crate/out/." "$scratch/crates/$crate/out/" 2> "$out/body.log" || true

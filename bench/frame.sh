@@ -3,10 +3,10 @@
 # buffered reader of a file, beside `cat` of the same file. Prints the best of some rounds of each.
 #   bench/frame.sh [MESSAGES] [ROUNDS]
 # Defaults: 1,750,000 messages (200 MB), 10 rounds. Needs cc. The program is built in a repository of copies under
-# ${TMPDIR:-/tmp}, since it is no crate of this one; its first build proves the crates that it stands on.
+# the folder for temporary files, since it is no crate of this one; its first build proves the crates that it stands on.
 set -eu
 messages=${1:-1750000}; rounds=${2:-10}
-here=$(dirname "$(realpath "$0")"); crates=$here/../crates; out=$here/out; copy=${TMPDIR:-/tmp}/bgp_replay_bench/frame; mkdir -p "$out" "$copy/crates"
+here=$(dirname "$(realpath "$0")"); crates=$here/../crates; out=$here/out; copy=$(dirname "$(mktemp -u)")/bgp_replay_bench/frame; mkdir -p "$out" "$copy/crates"
 [ -x "$out/gen_mrt" ] || cc -O2 -o "$out/gen_mrt" "$here/gen_mrt.c" -lm
 dump=$out/frame-$messages.mrt
 [ -f "$dump" ] || "$out/gen_mrt" updates "$messages" 20000 20 1 > "$dump"

@@ -2,11 +2,11 @@
 # Measures the radix map beside std's BTreeMap over the same million prefixes, sorted and in random order: nanoseconds an
 # operation (the best of N runs, which take turns), their ratios, and the bytes that an entry adds to the peak of memory.
 # A walk lists the whole map in order, as `entries` does. Both must find the same. The program is made in a repository
-# of its own under ${TMPDIR:-/tmp}, over a copy of this one's crate.
+# of its own under the folder for temporary files, over a copy of this one's crate.
 #   bench/map.sh [ROUNDS]          Needs rt, rustc and GNU time.
 set -eu
 rounds=${1:-5}
-here=$(dirname "$(realpath "$0")"); out=${TMPDIR:-/tmp}/bgp_replay_bench/map; program=$out/crates/map_bench
+here=$(dirname "$(realpath "$0")"); out=$(dirname "$(mktemp -u)")/bgp_replay_bench/map; program=$out/crates/map_bench
 mkdir -p "$program/src"
 cp "$here/../HANDLES" "$out/"
 printf 'bgp_prefix:\nmap_bench: bgp_prefix anyhow\n' > "$out/crates.txt"

@@ -4,10 +4,10 @@
 # Default: 5,000,000 messages. `update_bench.rattle` cuts the dump in either phase, and in the phase `read` reads the messages too: what
 # that takes more is `read_update` (and the drop of what it gave). Best of ROUNDS runs, by processor time. The allocations a message are
 # valgrind's totals of both phases, on a dump of 50,000 messages, less one another and divided by the messages.
-# The program is made in a repository of copies under ${TMPDIR:-/tmp}. Needs rt, cc and GNU time.
+# The program is made in a repository of copies under the folder for temporary files. Needs rt, cc and GNU time.
 set -eu
 messages=${1:-5000000}; rounds=${ROUNDS:-3}; peers=20
-here=$(dirname "$(realpath "$0")"); top=$(dirname "$here"); out=$here/out; scratch=${TMPDIR:-/tmp}/bgp_replay_bench/update; program=$scratch/crates/update_bench
+here=$(dirname "$(realpath "$0")"); top=$(dirname "$here"); out=$here/out; scratch=$(dirname "$(mktemp -u)")/bgp_replay_bench/update; program=$scratch/crates/update_bench
 mkdir -p "$out" "$program/src"
 cc -O2 -o "$out/gen_mrt" "$here/gen_mrt.c" -lm
 dump() {
