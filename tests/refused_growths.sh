@@ -3,7 +3,7 @@
 # nothing, or answer as it does with ample memory (where the growth isn't the program's own, or is not needed).
 #   tests/refused_growths.sh PROGRAM
 # Runs every request on two small files (UPDATEs of three peers; an index, a RIB record and an UPDATE), and `tables` on the sample.
-# Needs cc. The last line is `N runs, M failed`.
+# A request of which no refusal reached the program has failed too. Needs cc. The last line is `N runs, M failed`.
 set -u
 program=$(realpath "$1"); here=$(dirname "$(realpath "$0")"); work=$(mktemp -d); trap 'rm -rf "$work"' EXIT
 cc -O2 -shared -fPIC -o "$work/refuse.so" "$here/refuse.c" || exit 2
@@ -22,7 +22,7 @@ runs=0; failed=0
 refuse_each() { # WORDS..
   local asked n status
   REFUSE=0 REFUSE_COUNT="$work/count" LD_PRELOAD="$work/refuse.so" "$program" "$@" > "$work/whole" 2> "$work/whole-said"; local whole=$?
-  asked=$(cat "$work/count"); met=0
+  asked=$(cat "$work/count" 2> "$work/none" || echo 0); met=0; rm -f "$work/count"
   for ((n = 1; n <= asked; n++)); do
     REFUSE=$n LD_PRELOAD="$work/refuse.so" "$program" "$@" > "$work/out" 2> "$work/said"; status=$?
     runs=$((runs + 1))
@@ -30,6 +30,7 @@ refuse_each() { # WORDS..
     elif [ $status = $whole ] && cmp -s "$work/out" "$work/whole" && cmp -s "$work/said" "$work/whole-said"; then :
     else failed=$((failed + 1)); echo "growth $n of $*: status $status, $(stat -c %s "$work/out") bytes, said: $(cat "$work/said")"; fi
   done
+  if [ $met = 0 ]; then failed=$((failed + 1)); echo "$* : no refusal reached the program"; fi
   echo "$* : $asked growths, $met answered 'no memory'"
 }
 cd "$work"
