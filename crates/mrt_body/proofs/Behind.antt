@@ -2,9 +2,9 @@
 use Rattle.std.proofs.Common.{◌≡◌, ℕ, ◌-◌, ◌≤◌, List, [], ◌∷◌, ◌++◌, length, take, drop, Ok, refl, sym, ap, subst, ◌∙◌, arith, append_assoc}
 use Rattle.std.proofs.lemmas.List.{take-append-drop, length-append, drop_at}
 use Rattle.mrt_frame.specs.declared.fault.Fault.{Fault}
-use Rattle.mrt_frame.specs.Fields.{Reading, ◌>>=◌, byte_at, bytes_at, number_at}
+use Rattle.mrt_frame.specs.Fields.{Reading, ◌>>=◌, byte_at, number_at}
 use Rattle.mrt_frame.proofs.Items.{bind_ok, ok_is}
-use Rattle.mrt_frame.proofs.FieldLaws.{bytes_at-takes, byte_at-takes, number_at-long}
+use Rattle.mrt_frame.proofs.FieldLaws.{byte_at-takes, number_at-long}
 use Rattle.mrt_body.proofs.ManyLaws.{done}
 
 pub record Behind (bytes rest : List ℕ) : Type 0 where
@@ -32,9 +32,6 @@ behind_front n bytes = record { front = take n bytes; parts = sym (take-append-d
 
 pub number_behind : (fault : Fault) (n : ℕ) (bytes : List ℕ) (x : ℕ × List ℕ) → number_at fault n bytes ≡ Ok x → Behind bytes x.1
 number_behind fault n bytes x e = subst (λ (l : List ℕ). Behind bytes l) (sym (number_at-long fault n bytes x e).1) (behind_front n bytes)
-
-pub bytes_behind : (fault : Fault) (n : ℕ) (bytes : List ℕ) (x : List ℕ × List ℕ) → bytes_at fault n bytes ≡ Ok x → Behind bytes x.1
-bytes_behind fault n bytes x e = record { front = x.0; parts = (bytes_at-takes fault n bytes x e).0 }
 
 pub byte_behind : (fault : Fault) (bytes : List ℕ) (x : ℕ × List ℕ) → byte_at fault bytes ≡ Ok x → Behind bytes x.1
 byte_behind fault bytes x e = record { front = x.0 ∷ []; parts = (byte_at-takes fault bytes x e).0 }

@@ -1,31 +1,35 @@
 -- Entries of RIB records, as loops read them.
-use Rattle.std.proofs.Common.{◌≡◌, ◌≢◌, ℕ, suc, ◌+◌, ◌-◌, ◌<◌, ◌≤◌, Bool, true, false, ◌||◌, cond, ltb, eqb, List, [], ◌∷◌, length, take, drop, get_or, Some, Result, Ok, Err, refl, sym, ap, subst, ◌∙◌, arith}
+use Rattle.std.proofs.Common.{◌≡◌, ℕ, suc, ◌+◌, ◌-◌, ◌<◌, ◌≤◌, Bool, true, false, ◌||◌, cond, ltb, List, [], ◌∷◌, ◌++◌, length, map, take, drop, Some, Result, Ok, Err, refl, sym, ap, subst, ◌∙◌, arith}
 use Rattle.std.specs.Int.{div_ceil}
+use Rattle.std.specs.List.{All}
+use Rattle.std.proofs.lemmas.List.{length-map, length-drop}
 use Rattle.std.proofs.lemmas.Bool.{ltb-true}
 use Rattle.bgp_prefix.specs.Prefixes.{IpPrefix}
 use Rattle.mrt_frame.specs.declared.fault.Fault.{Fault}
-use Rattle.mrt_frame.specs.declared.fault.Fault.TheVariants.{ShortRecord, TrailingBytes, BadPrefix, BadPeerIndex}
+use Rattle.mrt_frame.specs.declared.fault.Fault.TheVariants.{ShortRecord, BadPrefix, BadPeerIndex}
 use Rattle.mrt_frame.specs.Fields.{◌>>=◌, byte_at, bytes_at, number_at}
 use Rattle.mrt_frame.proofs.Items.{bind_ok, guard_ok, ok_is}
+use Rattle.mrt_frame.proofs.FieldLaws.{bytes_at-takes}
+use Rattle.bgp_update.specs.Answers.{Fails}
+use Rattle.bgp_update.specs.declared.width.AttrError.{AttrError}
+use Rattle.bgp_update.specs.declared.width.AttrError.TheVariants as errors
 use Rattle.bgp_update.specs.Keys.{octets_at, prefix_of}
 use Rattle.mrt_body.specs.declared.unit.PeerKey.{PeerKey}
-use Rattle.mrt_body.specs.declared.unit.Payload.TheVariants.{Entry}
+use Rattle.mrt_body.specs.declared.unit.Unit.{Unit as ReplayUnit}
 use Rattle.mrt_body.specs.declared.at.RecordAt.{RecordAt}
-use Rattle.mrt_body.specs.declared.entries.Entries.{Entries}
-use Rattle.mrt_body.specs.Many.{many, checked}
+use Rattle.mrt_body.specs.declared.rib.ListedEntry.{ListedEntry}
+use Rattle.mrt_body.specs.declared.entries.RibRecord.{RibRecord}
+use Rattle.mrt_body.specs.Many.{many}
 use Rattle.mrt_body.specs.RibRecords.{WrittenEntry, RibHead, RibForm, RibSummary, ReadEntry, read_of, peer_index_at, identifier_at, entry_at, read_entry_at, rib_head_at, read_head_at, rib_in}
-use Rattle.mrt_body.specs.Units.{place_of, time_of, no_peer, entry_units, rib_units, rib_units_in}
-use Rattle.mrt_body.specs.Pending.{AreEntries, entries_left, units_left, read_or_none}
-use Rattle.mrt_body.proofs.Behind.{Behind, behind_more, behind-le, behind-drop, behind_front, number_behind, bytes_behind, byte_behind, ok_behind}
-use Rattle.mrt_body.proofs.ManyLaws.{done, seen_ok, seen_err, many-first, many-length}
+use Rattle.mrt_body.specs.Units.{entry_unit, entry_units, rib_units, rib_units_in}
+use Rattle.mrt_body.specs.Listed.{IsListed, read_listed}
+use Rattle.mrt_body.specs.Pending.{AreListed, read_units, units_left}
+use Rattle.mrt_body.proofs.Behind.{Behind, behind_more, behind-le, behind-drop, behind_front, number_behind, byte_behind, ok_behind}
+use Rattle.mrt_body.proofs.ManyLaws.{done, seen_ok, seen_err, many-map, many-length}
 
 pub written_entry : (add_path : Bool) (peers : ℕ) (bytes : List ℕ) (e : ReadEntry) (after : List ℕ) → read_entry_at add_path peers bytes ≡ Ok (e, after) → (w : WrittenEntry) × (entry_at add_path peers bytes ≡ Ok (w, after)) × (read_of w ≡ e)
 unfolding read_entry_at
 written_entry add_path peers bytes e after h = seen_ok read_of (entry_at add_path peers bytes) e after h
-
-pub entry_fails : (add_path : Bool) (peers : ℕ) (bytes : List ℕ) (fault : Fault) → read_entry_at add_path peers bytes ≡ Err fault → entry_at add_path peers bytes ≡ Err fault
-unfolding read_entry_at
-entry_fails add_path peers bytes fault h = seen_err read_of (entry_at add_path peers bytes) fault h
 
 -- ---- what an entry leaves
 
@@ -45,7 +49,7 @@ identifier_behind true bytes x e = number_behind ShortRecord 4 bytes x e
 identifier_behind false bytes x e = ok_behind 0 bytes x e
 
 pub record TakesEntry (peers : ℕ) (bytes : List ℕ) (w : WrittenEntry) (rest : List ℕ) : Type 0 where
-  pub behind : Behind bytes rest
+  pub behind : Behind bytes (w.attributes ++ rest)
   pub known : w.peer < peers
 
 pub entry_takes : (add_path : Bool) (peers : ℕ) (bytes : List ℕ) (x : WrittenEntry × List ℕ) → entry_at add_path peers bytes ≡ Ok x → TakesEntry peers bytes x.0 x.1
@@ -57,7 +61,9 @@ entry_takes add_path peers bytes x e =
     let l = bind_ok (number_at ShortRecord 2 d.0.1) (λ len. bytes_at ShortRecord len.0 len.1 >>= λ attributes. Ok (record { peer = a.0.0; originated = b.0.0; identifier = d.0.0; attributes = attributes.0 }, attributes.1)) x d.2 in
     let t = bind_ok (bytes_at ShortRecord l.0.0 l.0.1) (λ attributes. Ok (record { peer = a.0.0; originated = b.0.0; identifier = d.0.0; attributes = attributes.0 }, attributes.1)) x l.2 in
     let p = peer_index_takes peers bytes a.0 a.1 in
-    let rest = behind_more bytes a.0.1 t.0.1 p.0 (behind_more a.0.1 b.0.1 t.0.1 (number_behind ShortRecord 4 a.0.1 b.0 b.1) (behind_more b.0.1 d.0.1 t.0.1 (identifier_behind add_path b.0.1 d.0 d.1) (behind_more d.0.1 l.0.1 t.0.1 (number_behind ShortRecord 2 d.0.1 l.0 l.1) (bytes_behind ShortRecord l.0.0 l.0.1 t.0 t.1)))) in
+    let end = t.0.0 ++ t.0.1 in
+    let attributes : Behind l.0.1 end = record { front = []; parts = (bytes_at-takes ShortRecord l.0.0 l.0.1 t.0 t.1).0 } in
+    let rest = behind_more bytes a.0.1 end p.0 (behind_more a.0.1 b.0.1 end (number_behind ShortRecord 4 a.0.1 b.0 b.1) (behind_more b.0.1 d.0.1 end (identifier_behind add_path b.0.1 d.0 d.1) (behind_more d.0.1 l.0.1 end (number_behind ShortRecord 2 d.0.1 l.0 l.1) attributes))) in
     subst (λ (y : WrittenEntry × List ℕ). TakesEntry peers bytes y.0 y.1) (ok_is (record { peer = a.0.0; originated = b.0.0; identifier = d.0.0; attributes = t.0.0 }, t.0.1) x t.2)
     (record { behind = rest; known = p.1 })
 
@@ -78,15 +84,7 @@ head_behind bytes x e =
     behind_more bytes a.0.1 x.1 (number_behind ShortRecord 4 bytes a.0 a.1) (behind_more a.0.1 b.0.1 x.1 (byte_behind ShortRecord a.0.1 b.0 b.1) (behind_more b.0.1 d.0.1 x.1 (octets_behind b.0.0 b.0.1 d.0 d.1) (behind_more d.0.1 l.0.1 x.1 (number_behind ShortRecord 2 d.0.1 l.0 l.1)
     (ok_behind (record { sequence = a.0.0; len = b.0.0; octets = d.0.0; count = l.0.0 }) l.0.1 x l.2))))
 
--- ---- the entries of a record, each checked
-
-pub checked_is : {A : Type 0} (r : Result (List A) Fault) (u : Unit {0}) → checked r ≡ Ok u → r ≡ Ok (read_or_none r)
-checked_is (Ok xs) u e = refl
-checked_is (Err fault) u e = absurd cc
-
-checked_fault : {A : Type 0} (r : Result (List A) Fault) (fault : Fault) → checked r ≡ Err fault → r ≡ Err fault
-checked_fault (Ok xs) fault e = absurd cc
-checked_fault (Err other) fault e = cc
+-- ---- the entries of a record
 
 abbrev summary : IpPrefix → ℕ → RibSummary
 summary prefix count = record { prefix = prefix; count = count }
@@ -107,11 +105,28 @@ read_head_behind body prefix count rest h = let s = head_is body prefix count re
 abbrev form_of : RibHead → List WrittenEntry → RibForm
 form_of head entries = record { sequence = head.sequence; len = head.len; octets = head.octets; entries = entries }
 
-pub head_fails : (add_path : Bool) (peers : ℕ) (body : List ℕ) (fault : Fault) → read_head_at body ≡ Err fault → rib_in add_path peers body ≡ Err fault
+head_fails : (add_path : Bool) (peers : ℕ) (body : List ℕ) (fault : Fault) → read_head_at body ≡ Err fault → rib_in add_path peers body ≡ Err fault
 unfolding rib_in read_head_at
 head_fails add_path peers body fault h = rw (seen_err summary_of (rib_head_at body) fault h) refl
 
-module _ (add_path : Bool) (peers : List PeerKey) (body : List ℕ) (prefix : IpPrefix) (count : ℕ) (rest : List ℕ) where
+-- entries that are read as what is kept of them
+read_entries : (add_path : Bool) (peers count : ℕ) (bytes : List ℕ) → many (read_entry_at add_path peers) count bytes ≡ (many (entry_at add_path peers) count bytes >>= λ ws. Ok (map read_of ws))
+unfolding read_entry_at
+read_entries add_path peers count bytes = many-map (entry_at add_path peers) read_of count bytes
+
+written_entries : (r : Result (List WrittenEntry) Fault) (es : List ReadEntry) → (r >>= λ ws. Ok (map read_of ws)) ≡ done es → (ws : List WrittenEntry) × (r ≡ Ok ws) × (map read_of ws ≡ es)
+written_entries (Ok ws) es e = (ws, refl, ok_is (map read_of ws) es e)
+written_entries (Err fault) es e = absurd cc
+
+entries_fault : (r : Result (List WrittenEntry) Fault) (fault : Fault) → (r >>= λ ws. Ok (map read_of ws)) ≡ Err fault → r ≡ Err fault
+entries_fault (Ok ws) fault e = absurd cc
+entries_fault (Err other) fault e = cc
+
+written_units : (at : RecordAt) (peers : List PeerKey) (prefix : IpPrefix) (n : ℕ) (ws : List WrittenEntry) → entry_units at peers prefix n ws ≡ read_units at peers prefix n (map read_of ws)
+written_units at peers prefix n [] = refl
+written_units at peers prefix n (w ∷ ws) = ap (λ (units : List ReplayUnit). entry_unit at peers prefix n w ∷ units) (written_units at peers prefix (n + 1) ws)
+
+module _ (at : RecordAt) (peers : List PeerKey) (add_path : Bool) (body : List ℕ) (prefix : IpPrefix) (count : ℕ) (rest : List ℕ) where
   abbrev entries_of : Result (List WrittenEntry) Fault
   entries_of = many (entry_at add_path (length peers)) count rest
 
@@ -119,129 +134,60 @@ module _ (add_path : Bool) (peers : List PeerKey) (body : List ℕ) (prefix : Ip
   unfolding rib_in
   rib_by_head head h same = rw h (ap (λ (n : ℕ). many (entry_at add_path (length peers)) n rest >>= λ entries. Ok (form_of head entries)) same)
 
-  pub entries_fail : (fault : Fault) → read_head_at body ≡ Ok (summary prefix count, rest) → checked entries_of ≡ Err fault → rib_in add_path (length peers) body ≡ Err fault
-  entries_fail fault h e =
+  -- the units of a record are those of what is kept of its entries
+  pub units_read : (es : List ReadEntry) → read_head_at body ≡ Ok (summary prefix count, rest) → many (read_entry_at add_path (length peers)) count rest ≡ Ok es → rib_units_in at add_path (Some peers) body ≡ Ok (read_units at peers prefix 1 es)
+  units_read es h e =
       let s = head_is body prefix count rest h in
-      rib_by_head s.0 s.1 s.3 ∙ ap (λ (r : Result (List WrittenEntry) Fault). r >>= λ entries. Ok (form_of s.0 entries)) (checked_fault entries_of fault e)
-
-  pub entries_are : (at : RecordAt) (u : Unit {0}) → read_head_at body ≡ Ok (summary prefix count, rest) → checked entries_of ≡ Ok u
-      → (rib_in add_path (length peers) body >>= λ form. Ok (rib_units at (Some peers) form)) ≡ Ok (entry_units at peers prefix 1 (read_or_none entries_of))
-  entries_are at u h e =
-      let s = head_is body prefix count rest h in
-      let all : rib_in add_path (length peers) body ≡ Ok (form_of s.0 (read_or_none entries_of)) = rib_by_head s.0 s.1 s.3 ∙ ap (λ (r : Result (List WrittenEntry) Fault). r >>= λ entries. Ok (form_of s.0 entries)) (checked_is entries_of u e) in
+      let w = written_entries entries_of es (sym (read_entries add_path (length peers) count rest) ∙ e) in
+      let all : rib_in add_path (length peers) body ≡ Ok (form_of s.0 w.0) = rib_by_head s.0 s.1 s.3 ∙ ap (λ (r : Result (List WrittenEntry) Fault). r >>= λ entries. Ok (form_of s.0 entries)) w.1 in
       ap (λ (r : Result RibForm Fault). r >>= λ form. Ok (rib_units at (Some peers) form)) all
-      ∙ ap (λ (p : IpPrefix). done (entry_units at peers p 1 (read_or_none entries_of))) s.2
+      ∙ ap (λ (p : IpPrefix). done (entry_units at peers p 1 w.0)) s.2
+      ∙ ap (λ (units : List ReplayUnit). done units) (written_units at peers prefix 1 w.0 ∙ ap (read_units at peers prefix 1) w.2)
 
--- ---- the next of the entries
+  pub units_fail : (fault : Fault) → read_head_at body ≡ Ok (summary prefix count, rest) → many (read_entry_at add_path (length peers)) count rest ≡ Err fault → rib_units_in at add_path (Some peers) body ≡ Err fault
+  units_fail fault h e =
+      let s = head_is body prefix count rest h in
+      let broken = entries_fault entries_of fault (sym (read_entries add_path (length peers) count rest) ∙ e) in
+      let all : rib_in add_path (length peers) body ≡ Err fault = rib_by_head s.0 s.1 s.3 ∙ ap (λ (r : Result (List WrittenEntry) Fault). r >>= λ entries. Ok (form_of s.0 entries)) broken in
+      ap (λ (r : Result RibForm Fault). r >>= λ form. Ok (rib_units at (Some peers) form)) all
 
-module _ (peers : List PeerKey) (e : Entries) where
-  abbrev one_later : ℕ → Entries
-  one_later next = record e { next = next; given = e.given + 1 }
-
-  -- what is given, and what is left then
-  pub record GivesEntry (r : ReadEntry) (after : List ℕ) : Type 0 where
-    pub known : r.peer < length peers
-    pub shorter : length after ≤ length e.body
-    pub spelled : AreEntries peers (one_later (length e.body - length after))
-    pub given : units_left peers e ≡ record { place = place_of e.at (Some (e.given + 1)); time = time_of e.at 0; peer = get_or peers r.peer no_peer; payload = Entry (record { prefix = e.prefix; id = r.identifier }) r.attributes } ∷ units_left peers (one_later (length e.body - length after))
-
-  abbrev entry_read : ℕ → List ℕ → Result (List WrittenEntry) Fault
-  entry_read n bytes = many (entry_at e.add_path (length peers)) n bytes
-
-  first_entry : AreEntries peers e → e.given ≢ e.count
-      → (first : WrittenEntry × List ℕ) × (entry_at e.add_path (length peers) (drop e.next e.body) ≡ Ok first) × (others : List WrittenEntry) × (entry_read (e.count - (e.given + 1)) first.1 ≡ Ok others) × (read_or_none (entries_left peers e) ≡ first.0 ∷ others)
-  first_entry h more =
-      let given = h.given in
-      let k : e.count - e.given ≡ suc (e.count - (e.given + 1)) = omega arith in
-      many-first (entry_at e.add_path (length peers)) (e.count - (e.given + 1)) (drop e.next e.body) (read_or_none (entries_left peers e)) (sym (ap (λ (n : ℕ). entry_read n (drop e.next e.body)) k) ∙ h.spelled)
-
-  pub entry_is_there : AreEntries peers e → e.given ≢ e.count → (fault : Fault) → read_entry_at e.add_path (length peers) (drop e.next e.body) ≡ Err fault → ⊥
-  entry_is_there h more fault r =
-      let f = first_entry h more in
-      differ (sym f.1 ∙ entry_fails e.add_path (length peers) (drop e.next e.body) fault r)
-    where
-      differ : {x : WrittenEntry × List ℕ} → done x ≡ Err fault → ⊥
-      differ e = cc
-
-  pub gives_entry : AreEntries peers e → e.given ≢ e.count → (r : ReadEntry) (after : List ℕ) → read_entry_at e.add_path (length peers) (drop e.next e.body) ≡ Ok (r, after) → GivesEntry r after
-  gives_entry h more r after read =
-      let given = h.given in
-      let f = first_entry h more in
-      let w = written_entry e.add_path (length peers) (drop e.next e.body) r after read in
-      let same : f.0 ≡ (w.0, after) = ok_is f.0 (w.0, after) (sym f.1 ∙ w.1) in
-      let first : f.0.0 ≡ w.0 = ap (λ (x : WrittenEntry × List ℕ). x.0) same in
-      let rest : f.0.1 ≡ after = ap (λ (x : WrittenEntry × List ℕ). x.1) same in
-      let t = entry_takes e.add_path (length peers) (drop e.next e.body) (w.0, after) w.1 in
-      let behind = behind_more e.body (drop e.next e.body) after (behind_front e.next e.body) t.behind in
-      let others : entry_read (e.count - (e.given + 1)) (drop (length e.body - length after) e.body) ≡ Ok f.2 = ap (entry_read (e.count - (e.given + 1))) (behind-drop e.body after behind ∙ sym rest) ∙ f.3 in
-      let peer_is : w.0.peer ≡ r.peer = ap (λ (x : ReadEntry). x.peer) w.2 in
-      record {
-        known = subst (λ (n : ℕ). n < length peers) peer_is t.known;
-        shorter = behind-le e.body after behind;
-        spelled = record {
-          given = omega arith;
-          next = omega arith;
-          spelled = others ∙ sym (ap (λ (x : Result (List WrittenEntry) Fault). done (read_or_none x)) others);
-        };
-        given = ap (entry_units e.at peers e.prefix (e.given + 1)) (f.4 ∙ ap (λ (x : WrittenEntry). x ∷ f.2) first)
-            ∙ ap (λ (x : ReadEntry). record { place = place_of e.at (Some (e.given + 1)); time = time_of e.at 0; peer = get_or peers x.peer no_peer; payload = Entry (record { prefix = e.prefix; id = x.identifier }) x.attributes } ∷ entry_units e.at peers e.prefix ((e.given + 1) + 1) f.2) w.2
-            ∙ ap (λ (x : Result (List WrittenEntry) Fault). record { place = place_of e.at (Some (e.given + 1)); time = time_of e.at 0; peer = get_or peers r.peer no_peer; payload = Entry (record { prefix = e.prefix; id = r.identifier }) r.attributes } ∷ entry_units e.at peers e.prefix ((e.given + 1) + 1) (read_or_none x)) (sym others);
-      }
-
-  nothing : (b : Bool) (r : Result (List WrittenEntry) Fault) → r ≡ cond b (Ok []) (Err TrailingBytes) → read_or_none r ≡ []
-  nothing true r same = ap (λ (x : Result (List WrittenEntry) Fault). read_or_none x) same
-  nothing false r same = ap (λ (x : Result (List WrittenEntry) Fault). read_or_none x) same
-
-  -- at the end none is left
-  pub no_entry : AreEntries peers e → e.given ≡ e.count → units_left peers e ≡ []
-  no_entry h same =
-      let k : e.count - e.given ≡ 0 = omega arith in
-      let all : entries_left peers e ≡ cond (eqb (length (drop e.next e.body)) 0) (Ok []) (Err TrailingBytes) = ap (λ (n : ℕ). entry_read n (drop e.next e.body)) k in
-      ap (entry_units e.at peers e.prefix (e.given + 1)) (nothing (eqb (length (drop e.next e.body)) 0) (entries_left peers e) all)
-
--- ---- the entries of a record before the first is given
-
-module _ (at : RecordAt) (peers : List PeerKey) (add_path : Bool) (body : List ℕ) (prefix : IpPrefix) (count : ℕ) (rest : List ℕ) where
-  abbrev all_entries : Entries
-  all_entries = record { at = at; prefix = prefix; add_path = add_path; body = body; next = length body - length rest; given = 0; count = count }
-
-  all_left : read_head_at body ≡ Ok (summary prefix count, rest) → entries_left peers all_entries ≡ many (entry_at add_path (length peers)) count rest
-  all_left h =
-      let k : count - 0 ≡ count = omega arith in
-      ap (λ (n : ℕ). many (entry_at add_path (length peers)) n (drop (length body - length rest) body)) k
-      ∙ ap (many (entry_at add_path (length peers)) count) (behind-drop body rest (read_head_behind body prefix count rest h))
-
-  pub all_units : (u : Unit {0}) → read_head_at body ≡ Ok (summary prefix count, rest) → checked (many (entry_at add_path (length peers)) count rest) ≡ Ok u → rib_units_in at add_path (Some peers) body ≡ Ok (units_left peers all_entries)
-  all_units u h e =
-      entries_are add_path peers body prefix count rest at u h e
-      ∙ ap (λ (r : Result (List WrittenEntry) Fault). done (entry_units at peers prefix 1 (read_or_none r))) (sym (all_left h))
-
-  pub all_spelled : (u : Unit {0}) → read_head_at body ≡ Ok (summary prefix count, rest) → checked (many (entry_at add_path (length peers)) count rest) ≡ Ok u → AreEntries peers all_entries
-  all_spelled u h e =
-      let left = all_left h in
-      record {
-        given = omega arith;
-        next = omega arith;
-        spelled = left ∙ checked_is (many (entry_at add_path (length peers)) count rest) u e ∙ sym (ap (λ (r : Result (List WrittenEntry) Fault). done (read_or_none r)) left);
-      }
-
-  pub units_fail : (fault : Fault) → read_head_at body ≡ Ok (summary prefix count, rest) → checked (many (entry_at add_path (length peers)) count rest) ≡ Err fault → rib_units_in at add_path (Some peers) body ≡ Err fault
-  units_fail fault h e = ap (λ (r : Result RibForm Fault). r >>= λ form. Ok (rib_units at (Some peers) form)) (entries_fail add_path peers body prefix count rest fault h e)
+  rest_is : read_head_at body ≡ Ok (summary prefix count, rest) → drop (length body - length rest) body ≡ rest
+  rest_is h = behind-drop body rest (read_head_behind body prefix count rest h)
 
   pub rest-le : read_head_at body ≡ Ok (summary prefix count, rest) → length rest ≤ length body
   rest-le h = behind-le body rest (read_head_behind body prefix count rest h)
+
+  from_rest : read_head_at body ≡ Ok (summary prefix count, rest) → many (read_entry_at add_path (length peers)) count rest ≡ many (read_entry_at add_path (length peers)) count (drop (length body - length rest) body)
+  from_rest h = ap (many (read_entry_at add_path (length peers)) count) (sym (rest_is h))
+
+  -- the record whose entries are listed
+  pub all_units : (list : List ListedEntry) → read_head_at body ≡ Ok (summary prefix count, rest) → many (read_entry_at add_path (length peers)) count (drop (length body - length rest) body) ≡ Ok (map (read_listed body) list)
+      → rib_units_in at add_path (Some peers) body ≡ Ok (units_left peers list (record { at = at; prefix = prefix; body = body; given = 0 }))
+  all_units list h e = units_read (map (read_listed body) list) h (from_rest h ∙ e)
+
+  pub all_listed : (list : List ListedEntry) → count ≤ 65535 → many (read_entry_at add_path (length peers)) count (drop (length body - length rest) body) ≡ Ok (map (read_listed body) list) → All (IsListed (length peers) (length body)) list
+      → AreListed peers list (record { at = at; prefix = prefix; body = body; given = 0 })
+  all_listed list few e within = record {
+    given = omega arith;
+    few = omega (arith, few, many-length (read_entry_at add_path (length peers)) count (drop (length body - length rest) body) (map (read_listed body) list) e, length-map list (read_listed body));
+    within = within;
+  }
+
+  pub no_units : (error : AttrError) → read_head_at body ≡ Ok (summary prefix count, rest) → Fails error (many (read_entry_at add_path (length peers)) count (drop (length body - length rest) body)) → Fails error (rib_units_in at add_path (Some peers) body)
+  no_units errors.Memory h f = tt
+  no_units (errors.Bad fault) h f = units_fail fault h (from_rest h ∙ f)
 
 pub units_fail_early : (at : RecordAt) (peers : List PeerKey) (add_path : Bool) (body : List ℕ) (fault : Fault) → read_head_at body ≡ Err fault → rib_units_in at add_path (Some peers) body ≡ Err fault
 units_fail_early at peers add_path body fault h = ap (λ (r : Result RibForm Fault). r >>= λ form. Ok (rib_units at (Some peers) form)) (head_fails add_path (length peers) body fault h)
 
 -- ---- how many there are
 
-entry_units-length : (at : RecordAt) (peers : List PeerKey) (prefix : IpPrefix) (n : ℕ) (entries : List WrittenEntry) → length (entry_units at peers prefix n entries) ≡ length entries
-entry_units-length at peers prefix n [] = refl
-entry_units-length at peers prefix n (e ∷ entries) = ap suc (entry_units-length at peers prefix (n + 1) entries)
+read_units-length : (at : RecordAt) (peers : List PeerKey) (prefix : IpPrefix) (n : ℕ) (es : List ReadEntry) → length (read_units at peers prefix n es) ≡ length es
+read_units-length at peers prefix n [] = refl
+read_units-length at peers prefix n (e ∷ es) = ap suc (read_units-length at peers prefix (n + 1) es)
 
--- at most as many as the record says
-pub units_left-few : (peers : List PeerKey) (e : Entries) → AreEntries peers e → length (units_left peers e) ≤ e.count
-units_left-few peers e h =
-    let same = many-length (entry_at e.add_path (length peers)) (e.count - e.given) (drop e.next e.body) (read_or_none (entries_left peers e)) h.spelled in
-    omega (arith, same, entry_units-length e.at peers e.prefix (e.given + 1) (read_or_none (entries_left peers e)))
+-- at most as many as are listed
+pub units_left-few : (peers : List PeerKey) (list : List ListedEntry) (r : RibRecord) → AreListed peers list r → length (units_left peers list r) ≤ 65535
+units_left-few peers list r h =
+    let few = h.few in
+    omega (arith, few, read_units-length r.at peers r.prefix (r.given + 1) (map (read_listed r.body) (drop r.given list)), length-map (drop r.given list) (read_listed r.body), length-drop r.given list)

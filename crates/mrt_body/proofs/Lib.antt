@@ -4,6 +4,7 @@ pub mod Examples
 pub mod MessageLaws
 pub mod ManyLaws
 pub mod EntryLaws
+pub mod ListLaws
 pub mod PeerLaws
 pub mod PeerForms
 pub mod RibForms

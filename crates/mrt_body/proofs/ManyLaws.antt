@@ -6,7 +6,7 @@ use Rattle.mrt_frame.specs.declared.fault.Fault.TheVariants.{TrailingBytes}
 use Rattle.mrt_frame.specs.Fields.{Reading, ◌>>=◌}
 use Rattle.mrt_frame.proofs.Items.{bind_ok, ok_is, still}
 use Rattle.mrt_frame.proofs.FieldLaws.{IsBytes}
-use Rattle.mrt_body.specs.Many.{many, checked}
+use Rattle.mrt_body.specs.Many.{many}
 
 still_cons : {A B : Type 0} (step : B → A → B) (b : B) (x : A) (r : Result (List A) Fault) → still step b (r >>= λ others. Ok (x ∷ others)) ≡ still step (step b x) r
 still_cons step b x (Ok xs) = refl
@@ -121,15 +121,8 @@ pub starts : {A : Type 0} (r : Result (List A) Fault) (front : List A) → front
 starts {A} (Ok xs) front e = ap (λ (l : List A). done l) (fold_push front xs ∙ ap (λ (l : List A). l ++ xs) e)
 starts {A} (Err fault) front e = refl
 
-abbrev pub pass : {A : Type 0} → Unit {0} → A → Unit {0}
-pass s x = tt
-
 pub no_minus : (n : ℕ) → n - 0 ≡ n
 no_minus n = omega arith
-
-pub checked_starts : {A : Type 0} (r : Result (List A) Fault) → still pass tt r ≡ checked r
-checked_starts (Ok xs) = refl
-checked_starts (Err f) = refl
 
 -- ---- what is read was written so, and what is written is read
 

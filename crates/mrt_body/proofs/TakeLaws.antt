@@ -1,17 +1,15 @@
 -- What comes of one record.
-use Rattle.std.proofs.Common.{◌≡◌, ℕ, ◌+◌, Bool, true, false, List, [], ◌∷◌, ◌++◌, Option, Some, None, Ok, refl, sym, ap, subst, ◌∙◌, arith}
-use Rattle.std.specs.Prelude.{option_to_list, option_map}
+use Rattle.std.proofs.Common.{◌≡◌, ℕ, ◌+◌, Bool, true, false, List, [], ◌∷◌, length, Option, Some, None, Ok, refl, sym, ap, ◌∙◌, arith}
 use Rattle.std.specs.List.{filter}
 use Rattle.bgp_prefix.specs.Prefixes.{IpPrefix}
+use Rattle.mrt_frame.proofs.Items.{bind_ok, ok_is}
 use Rattle.mrt_body.specs.declared.at.RecordAt.{RecordAt}
 use Rattle.mrt_body.specs.declared.content.Content.TheVariants as content
-use Rattle.mrt_body.specs.declared.entries.Entries.{Entries}
 use Rattle.mrt_body.specs.declared.unit.PeerKey.{PeerKey}
 use Rattle.mrt_body.specs.declared.unit.Unit.{Unit as ReplayUnit}
-use Rattle.mrt_body.specs.declared.unit.Found.TheVariants as found
-use Rattle.mrt_body.specs.RibRecords.{WrittenEntry}
-use Rattle.mrt_body.specs.Units.{time_of, entry_unit, entry_units, rib_units_in, is_past, is_within, found_units}
-use Rattle.mrt_body.specs.Pending.{IndexState, units_left, entries_left, read_or_none}
+use Rattle.mrt_body.specs.RibRecords.{WrittenEntry, RibForm, rib_in, rib_prefix}
+use Rattle.mrt_body.specs.Units.{time_of, entry_unit, entry_units, rib_units, rib_units_in, is_past, is_within, found_units}
+use Rattle.mrt_body.specs.Pending.{IndexState, without_pending}
 use Rattle.mrt_body.specs.ToCome.{UnitsState, index_peers, index_pending, TakesRecord, as_found}
 
 module _ (until : Option ℕ) (at : RecordAt) (peers : List PeerKey) (prefix : IpPrefix) where
@@ -23,44 +21,47 @@ module _ (until : Option ℕ) (at : RecordAt) (peers : List PeerKey) (prefix : I
   all_within n [] h = refl
   all_within n (e ∷ entries) h = rw h (ap (λ (units : List ReplayUnit). entry_unit at peers prefix n e ∷ units) (all_within (n + 1) entries h))
 
-module _ (u : UnitsState) (at : RecordAt) (extended add_path : Bool) (body : List ℕ) (peers : List PeerKey) (e : Entries) where
-  rib_found : u.index ≡ Some peers → rib_units_in at add_path (Some peers) body ≡ Ok (units_left peers e) → found_units u.until at (rib_units_in at add_path u.index body) ≡ as_found (filter (is_within u.until) (units_left peers e))
-  rib_found same read = ap (λ (index : Option (List PeerKey)). found_units u.until at (rib_units_in at add_path index body)) same ∙ ap (found_units u.until at) read
+module _ (until : Option ℕ) (at : RecordAt) (add_path : Bool) (peers : List PeerKey) (body : List ℕ) (units : List ReplayUnit) where
+  spelled : rib_units_in at add_path (Some peers) body ≡ Ok units → (form : RibForm) × (units ≡ rib_units at (Some peers) form)
+  spelled read =
+      let a = bind_ok (rib_in add_path (length peers) body) (λ form. Ok (rib_units at (Some peers) form)) units read in
+      (a.0, sym (ok_is (rib_units at (Some peers) a.0) units a.2))
 
-  pub rib_left_out : u.index ≡ Some peers → u.pending ≡ [] → e.at ≡ at → is_past u.until (time_of at 0) ≡ true → rib_units_in at add_path (Some peers) body ≡ Ok (units_left peers e) → TakesRecord u at extended (content.Rib add_path) body u None
-  rib_left_out same none of past read = record {
-    state = ap (λ (n : ℕ). record u { aside = n }) (omega arith);
-    found = ap as_found none ∙ sym (rib_found same read ∙ ap as_found (all_past u.until e.at peers e.prefix (e.given + 1) (read_or_none (entries_left peers e)) (ap (λ (a : RecordAt). is_past u.until (time_of a 0)) of ∙ past)));
-  }
+  -- all of a record's entries have its time
+  pub left_out : rib_units_in at add_path (Some peers) body ≡ Ok units → is_past until (time_of at 0) ≡ true → filter (is_within until) units ≡ []
+  left_out read past =
+      let f = spelled read in
+      ap (filter (is_within until)) f.1 ∙ all_past until at peers (rib_prefix f.0) 1 f.0.entries past
 
-  pub rib_given : (given : Option ReplayUnit) (left : List ReplayUnit) → u.index ≡ Some peers → e.at ≡ at → is_past u.until (time_of at 0) ≡ false → rib_units_in at add_path (Some peers) body ≡ Ok (units_left peers e) → units_left peers e ≡ option_to_list given ++ left
-      → option_to_list (option_map (λ unit. found.Unit unit) given) ++ as_found left ≡ found_units u.until at (rib_units_in at add_path u.index body)
-  rib_given given left same of within read parts =
-      split given ∙ ap as_found (sym parts) ∙ sym (rib_found same read ∙ ap as_found (all_within u.until e.at peers e.prefix (e.given + 1) (read_or_none (entries_left peers e)) (ap (λ (a : RecordAt). is_past u.until (time_of a 0)) of ∙ within)))
-    where
-      split : (g : Option ReplayUnit) → option_to_list (option_map (λ unit. found.Unit unit) g) ++ as_found left ≡ as_found (option_to_list g ++ left)
-      split None = refl
-      split (Some unit) = refl
+  pub kept : rib_units_in at add_path (Some peers) body ≡ Ok units → is_past until (time_of at 0) ≡ false → filter (is_within until) units ≡ units
+  kept read within =
+      let f = spelled read in
+      ap (filter (is_within until)) f.1 ∙ all_within until at peers (rib_prefix f.0) 1 f.0.entries within ∙ sym f.1
 
 -- ---- a reading with an index in force
 
 abbrev pub with_index : UnitsState → Option IndexState → UnitsState
 with_index u index = record u { index = index_peers index; pending = index_pending index }
 
-module _ (u : UnitsState) (at : RecordAt) (extended add_path : Bool) (body : List ℕ) (index : IndexState) (e : Entries) where
-  pub past_taken : (same : with_index u (Some index) ≡ u) → u.pending ≡ [] → e.at ≡ at → is_past u.until (time_of at 0) ≡ true → rib_units_in at add_path (Some index.peers) body ≡ Ok (units_left index.peers e)
-      → TakesRecord u at extended (content.Rib add_path) body (with_index u (Some index)) None
-  past_taken same none of past read =
-      subst (λ (n : UnitsState). TakesRecord u at extended (content.Rib add_path) body n None) (sym same)
-      (rib_left_out u at extended add_path body index.peers e (sym (ap (λ (n : UnitsState). n.index) same)) none of past read)
+module _ (u : UnitsState) (at : RecordAt) (extended add_path : Bool) (body : List ℕ) (index read : IndexState) where
+  by_index : with_index u (Some index) ≡ u → found_units u.until at (rib_units_in at add_path u.index body) ≡ found_units u.until at (rib_units_in at add_path (Some index.peers) body)
+  by_index same = ap (λ (i : Option (List PeerKey)). found_units u.until at (rib_units_in at add_path i body)) (sym (ap (λ (n : UnitsState). n.index) same))
 
-  pub put_taken : (put : IndexState) → with_index u (Some index) ≡ u → put ≡ record { peers = index.peers; pending = units_left index.peers e } → e.at ≡ at → is_past u.until (time_of at 0) ≡ false → rib_units_in at add_path (Some index.peers) body ≡ Ok (units_left index.peers e)
-      → TakesRecord u at extended (content.Rib add_path) body (with_index u (Some put)) None
-  put_taken put same is of within read =
-      let index_is : u.index ≡ Some index.peers = sym (ap (λ (n : UnitsState). n.index) same) in
-      let peers : put.peers ≡ index.peers = ap (λ (i : IndexState). i.peers) is in
-      let left : units_left index.peers e ≡ put.pending = sym (ap (λ (i : IndexState). i.pending) is) in
-      record {
-        state = ap (λ (i : Option (List PeerKey)). record u { index = i; pending = put.pending }) (ap (λ (p : List PeerKey). Some p) peers ∙ sym index_is) ∙ ap (λ (n : ℕ). record u { pending = put.pending; aside = n }) (omega arith);
-        found = rib_given u at extended add_path body index.peers e None put.pending index_is of within read left;
-      }
+  -- where the peers stay, all else stays
+  stays : (pending : List ReplayUnit) → with_index u (Some index) ≡ u → read.peers ≡ index.peers → record u { index = Some read.peers; pending = pending } ≡ record u { pending = pending; aside = u.aside + 0 }
+  stays pending same peers =
+      ap (λ (i : Option (List PeerKey)). record u { index = i; pending = pending }) (ap (λ (p : List PeerKey). Some p) peers ∙ ap (λ (n : UnitsState). n.index) same) ∙ ap (λ (n : ℕ). record u { pending = pending; aside = n }) (omega arith)
+
+  pub rib_taken : with_index u (Some index) ≡ u → read.peers ≡ index.peers → is_past u.until (time_of at 0) ≡ false → rib_units_in at add_path (Some index.peers) body ≡ Ok read.pending
+      → TakesRecord u at extended (content.Rib add_path) body (with_index u (Some read)) None
+  rib_taken same peers within units = record {
+    state = stays read.pending same peers;
+    found = sym (by_index same ∙ ap (found_units u.until at) units ∙ ap as_found (kept u.until at add_path index.peers body read.pending units within));
+  }
+
+  pub rib_left_out : with_index u (Some index) ≡ u → read.peers ≡ index.peers → is_past u.until (time_of at 0) ≡ true → rib_units_in at add_path (Some index.peers) body ≡ Ok read.pending
+      → TakesRecord u at extended (content.Rib add_path) body (with_index u (Some (without_pending read))) None
+  rib_left_out same peers past units = record {
+    state = stays [] same peers;
+    found = sym (by_index same ∙ ap (found_units u.until at) units ∙ ap as_found (left_out u.until at add_path index.peers body read.pending units past));
+  }

@@ -6,5 +6,6 @@ pub mod Bgp4mp
 pub mod Units
 pub mod Agreement
 pub mod Refusals
+pub mod Listed
 pub mod Pending
 pub mod ToCome

@@ -15,7 +15,3 @@ many read (suc count) bytes = do
   first ← read bytes
   others ← many read count first.1
   Ok (first.0 ∷ others)
-
--- whether they are there
-abbrev pub checked : {A : Type 0} → Result (List A) Fault → Result (Unit {0}) Fault
-checked read = read >>= λ items. Ok tt

@@ -1,41 +1,49 @@
 -- The index in force, and the entries that are still to be given of the RIB record read beside it.
-use Rattle.std.specs.Prelude.{◌≡◌, ◌+◌, ◌-◌, ◌≤◌, List, [], drop, length, Option, Some, None, Result, Ok, Err, ⊤}
-use Rattle.mrt_frame.specs.declared.fault.Fault.{Fault}
+use Rattle.std.specs.Prelude.{◌≤◌, ◌+◌, ℕ, List, [], ◌∷◌, map, drop, length, slice_index_or, Option, Some, None, ⊤}
+use Rattle.std.specs.List.{All}
+use Rattle.bgp_prefix.specs.Prefixes.{IpPrefix}
+use Rattle.mrt_body.specs.declared.at.RecordAt.{RecordAt}
 use Rattle.mrt_body.specs.declared.unit.PeerKey.{PeerKey}
+use Rattle.mrt_body.specs.declared.unit.Payload.TheVariants.{Entry}
 use Rattle.mrt_body.specs.declared.unit.Unit.{Unit as ReplayUnit}
-use Rattle.mrt_body.specs.declared.entries.Entries.{Entries}
-use Rattle.mrt_body.specs.Many.{many}
-use Rattle.mrt_body.specs.RibRecords.{WrittenEntry, entry_at}
-use Rattle.mrt_body.specs.Units.{entry_units}
+use Rattle.mrt_body.specs.declared.rib.ListedEntry.{ListedEntry}
+use Rattle.mrt_body.specs.declared.entries.RibRecord.{RibRecord}
+use Rattle.mrt_body.specs.RibRecords.{ReadEntry}
+use Rattle.mrt_body.specs.Listed.{IsListed, read_listed}
+use Rattle.mrt_body.specs.Units.{place_of, time_of, no_peer}
 
 -- peers, and the units that are still to be given
 pub record IndexState : Type 0 where
   pub peers : List PeerKey
   pub pending : List ReplayUnit
 
--- what was read; nothing for a fault
-abbrev pub read_or_none : {A : Type 0} → Result (List A) Fault → List A
-read_or_none (Ok xs) = xs
-read_or_none (Err fault) = []
+abbrev pub without_pending : IndexState → IndexState
+without_pending index = record { peers = index.peers; pending = [] }
 
--- what is left of a body, read as so many entries as were not given yet
-abbrev pub entries_left : List PeerKey → Entries → Result (List WrittenEntry) Fault
-entries_left peers e = many (entry_at e.add_path (length peers)) (e.count - e.given) (drop e.next e.body)
+-- the unit of the entry of this number
+abbrev pub read_unit : RecordAt → List PeerKey → IpPrefix → ℕ → ReadEntry → ReplayUnit
+read_unit at peers prefix number e =
+    record { place = place_of at (Some number); time = time_of at 0; peer = slice_index_or peers e.peer no_peer; payload = Entry (record { prefix = prefix; id = e.identifier }) e.attributes }
 
--- it spells them
-pub record AreEntries (peers : List PeerKey) (e : Entries) : Type 0 where
-  pub given : e.given ≤ e.count
-  pub next : e.next ≤ length e.body
-  pub spelled : entries_left peers e ≡ Ok (read_or_none (entries_left peers e))
+-- the units of entries, the first of which has this number
+abbrev pub read_units : RecordAt → List PeerKey → IpPrefix → ℕ → List ReadEntry → List ReplayUnit
+read_units at peers prefix number [] = []
+read_units at peers prefix number (e ∷ entries) = read_unit at peers prefix number e ∷ read_units at peers prefix (number + 1) entries
+
+-- the list has the record's entries
+pub record AreListed (peers : List PeerKey) (list : List ListedEntry) (r : RibRecord) : Type 0 where
+  pub given : r.given ≤ length list
+  pub few : length list ≤ 65535
+  pub within : All (IsListed (length peers) (length r.body)) list
 
 -- the units that are still to be given
-abbrev pub units_left : List PeerKey → Entries → List ReplayUnit
-units_left peers e = entry_units e.at peers e.prefix (e.given + 1) (read_or_none (entries_left peers e))
+abbrev pub units_left : List PeerKey → List ListedEntry → RibRecord → List ReplayUnit
+units_left peers list r = read_units r.at peers r.prefix (r.given + 1) (map (read_listed r.body) (drop r.given list))
 
-abbrev pub ArePending : List PeerKey → Option Entries → Type 0
-ArePending peers None = ⊤
-ArePending peers (Some e) = AreEntries peers e
+abbrev pub ArePending : List PeerKey → List ListedEntry → Option RibRecord → Type 0
+ArePending peers list None = ⊤
+ArePending peers list (Some r) = AreListed peers list r
 
-abbrev pub pending_of : List PeerKey → Option Entries → List ReplayUnit
-pending_of peers None = []
-pending_of peers (Some e) = units_left peers e
+abbrev pub pending_of : List PeerKey → List ListedEntry → Option RibRecord → List ReplayUnit
+pending_of peers list None = []
+pending_of peers list (Some r) = units_left peers list r

@@ -1,15 +1,16 @@
 //! The index in force, and what it is still needed for.
 
-ghost use Rattle.std.specs.Prelude.{◌≡◌, ◌≤◌, ◌++◌, [], length, Some, None, IfOk, IfSome, option_to_list};
-ghost use Rattle.mrt_frame.specs.Fields.{Reads};
+ghost use Rattle.std.specs.Prelude.{◌≡◌, ◌≤◌, ◌++◌, [], length, Some, None, OnErr, IfOk, IfSome, option_to_list};
+ghost use Rattle.bgp_update.specs.Answers.{Gives};
 ghost use Rattle.mrt_body.specs.Units.{IsSmallUnit, rib_units_in};
-ghost use Rattle.mrt_body.specs.Pending.{AreEntries, units_left};
+ghost use Rattle.mrt_body.specs.Pending.{without_pending};
 
 use crate::at::RecordAt;
-use crate::entries::Entries;
+use crate::entries::RibRecord;
+use crate::rib::ListedEntry;
 use crate::unit::{PeerKey, Unit};
 use bgp_prefix::{Memory, Sequence};
-use mrt_frame::Fault;
+use bgp_update::AttrError;
 use std::alloc::Global;
 use std::marker::Model;
 
@@ -18,7 +19,9 @@ use std::marker::Model;
 #[derive(Drop)]
 pub(crate) struct Index {
     peers: Vec<PeerKey>,
-    entries: Option<Entries>,
+    /// The entries of the last record. The list is kept from one record to the next, for its memory.
+    list: Vec<ListedEntry>,
+    last: Option<RibRecord>,
 }
 
 impl Model for Index {
@@ -26,42 +29,46 @@ impl Model for Index {
 
     ghost Value = { IndexState };
 
-    ghost view = { λ i. record { peers = i.peers.items; pending = pending_of i.peers.items i.entries } };
+    ghost view = { λ i. record { peers = i.peers.items; pending = pending_of i.peers.items i.list.items i.last } };
 
-    ghost invariant = { λ i. ArePending i.peers.items i.entries };
+    ghost invariant = { λ i. ArePending i.peers.items i.list.items i.last };
 }
 
 impl Index {
-    pub(crate) fn new(peers: Vec<PeerKey>) -> Index
+    pub(crate) fn new(alloc: Global, peers: Vec<PeerKey>) -> Index
         ensures { result ≡ record { peers = peers.items; pending = [] } }
     {
         Index {
             peers,
-            entries: None,
+            list: Vec::new(alloc),
+            last: None,
         }
     }
 
-    /// The entries of a RIB record beside this index.
+    /// Reads a RIB record beside this index. Its entries are then to be given out.
     pub(crate) fn read(
-        &self,
+        &mut self,
         at: RecordAt,
         add_path: bool,
         body: Sequence<u8>,
-    ) -> Result<Entries, Fault>
-        ensures units { Reads (units_left self.now.peers) result (rib_units_in at add_path (Some self.now.peers) body) }
-        ensures spelled { IfOk result (AreEntries self.now.peers) }
-        ensures at { IfOk result (λ e. e.at ≡ at) }
-        ensures few { IfOk result (λ e. length (units_left self.now.peers e) ≤ 65535) }
+    ) -> Result<(), AttrError>
+        requires { length body ≤ 16777216 }
+        ensures units { Gives (λ _. self.new.pending) result (rib_units_in at add_path (Some self.old.peers) body) }
+        ensures peers { self.new.peers ≡ self.old.peers }
+        ensures few { length self.new.pending ≤ 65535 }
+        ensures none { OnErr result (self.new.pending ≡ []) }
     {
-        Entries::read(at, body, add_path, self.peers.as_slice())
+        self.last = None;
+        let record = RibRecord::read(at, body, add_path, self.peers.as_slice(), &mut self.list)?;
+        self.last = Some(record);
+        Ok(())
     }
 
-    /// Puts entries to be given out.
-    pub(crate) fn put(&mut self, entries: Entries)
-        requires { AreEntries self.old.peers entries }
-        ensures { self.new ≡ record { peers = self.old.peers; pending = units_left self.old.peers entries } }
+    /// Leaves out what is still to be given out.
+    pub(crate) fn leave_out(&mut self)
+        ensures { self.new ≡ without_pending self.old }
     {
-        self.entries = Some(entries);
+        self.last = None;
     }
 
     /// The unit of the next entry, or `None` at the end.
@@ -71,13 +78,13 @@ impl Index {
         ensures peers { self.new.peers ≡ self.old.peers }
         ensures small { IfOk result (λ unit. IfSome unit IsSmallUnit) }
     {
-        let Some(entries) = &mut self.entries else {
+        let Some(record) = &mut self.last else {
             return Ok(None);
         };
-        let unit = entries.next(alloc, self.peers.as_slice())?;
+        let unit = record.next(alloc, self.peers.as_slice(), self.list.as_slice())?;
         if unit.is_none() {
             // The record's body is let go before the next one is read.
-            self.entries = None;
+            self.last = None;
         }
         Ok(unit)
     }

@@ -1,13 +1,16 @@
 //! The RIB_IPV4_UNICAST record (RFC 6396, 4.3.2 and 4.3.4) and its form with path identifiers
 //! (RFC 8050, 4).
 
-ghost use Rattle.std.specs.Prelude.{◌≡◌, ◌≤◌, IfOk, length};
+ghost use Rattle.std.specs.Prelude.{◌≡◌, ◌≤◌, ◌+◌, ◌-◌, IfOk, length, drop, map};
+ghost use Rattle.std.specs.List.{All};
 ghost use Rattle.mrt_frame.specs.Fields.{Reads};
-ghost use Rattle.mrt_body.specs.Many.{many, checked};
+ghost use Rattle.bgp_update.specs.Answers.{Gives};
+ghost use Rattle.mrt_body.specs.Listed.{IsListed, read_listed};
+ghost use Rattle.mrt_body.specs.Many.{many};
 ghost use Rattle.mrt_body.specs.RibRecords as ribs;
 
 use bgp_prefix::Prefix;
-use bgp_update::prefix_at;
+use bgp_update::{AttrError, prefix_at};
 use mrt_frame::{Fault, byte_at, bytes_at, u16_at, u32_at};
 
 /// What stands before the entries of a record.
@@ -87,24 +90,81 @@ pub(crate) fn entry_at(
     Ok((entry, rest))
 }
 
-/// Checks that the bytes are so many entries and nothing more.
-pub(crate) fn check_entries(
-    bytes: &[u8],
+/// What an entry says, and where its attributes stand in the body of its record.
+#[derive(Clone, Copy)]
+pub(crate) struct ListedEntry {
+    pub(crate) start: u32,
+    pub(crate) identifier: u32,
+    pub(crate) peer: u16,
+    pub(crate) len: u16,
+}
+
+/// The fewest bytes that an entry has.
+const SHORTEST_ENTRY: usize = 8;
+
+/// An entry as it is listed. Its attributes stand where so many bytes of a body are left behind them.
+fn listed_entry(
+    peer: u16,
+    identifier: u32,
+    attributes: &[u8],
+    body: usize,
+    left: usize,
+) -> ListedEntry
+    requires within { length attributes.now + left ≤ body }
+    requires short { length attributes.now ≤ 65535 }
+    requires small { body ≤ 16777216 }
+    ensures { result ≡ record { start = body - left - length attributes.now; identifier = identifier; peer = peer; len = length attributes.now } }
+{
+    let len = attributes.len();
+    ListedEntry {
+        start: (body - left - len) as u32,
+        identifier,
+        peer,
+        len: len as u16,
+    }
+}
+
+/// The bytes behind the first n.
+fn behind(bytes: &[u8], n: usize) -> &[u8]
+    requires { n ≤ length bytes.now }
+    ensures { result.now ≡ drop n bytes.now }
+{
+    &bytes[n..]
+}
+
+/// Lists the entries that stand behind the first `start` bytes of a body: so many, and nothing more.
+pub(crate) fn list_entries(
+    body: &[u8],
+    start: usize,
     count: u16,
     add_path: bool,
     peers: usize,
-) -> Result<(), Fault>
-    ensures { Reads (λ x. x) result (checked (many (ribs.entry_at add_path peers) count bytes.now)) }
+    list: &mut Vec<ListedEntry>,
+) -> Result<(), AttrError>
+    requires within { start ≤ length body.now }
+    requires small { length body.now ≤ 16777216 }
+    ensures listed { Gives (λ _. map (read_listed body.now) list.new.items) result (many (ribs.read_entry_at add_path peers) count (drop start body.now)) }
+    ensures within { All (IsListed peers (length body.now)) list.new.items }
 {
-    let mut rest = bytes;
+    let mut rest = behind(body, start);
+    list.clear();
+    list.reserve_exact(usize::from(count).min(rest.len() / SHORTEST_ENTRY))?;
     for _ in 0..count {
         match entry_at(rest, add_path, peers) {
-            Ok((_, after)) => rest = after,
-            Err(fault) => return Err(fault),
+            Ok((entry, after)) => {
+                let RibEntry {
+                    peer,
+                    identifier,
+                    attributes,
+                } = entry;
+                list.push(listed_entry(peer, identifier, attributes, body.len(), after.len()))?;
+                rest = after;
+            }
+            Err(fault) => return Err(AttrError::Bad(fault)),
         }
     }
     if !rest.is_empty() {
-        return Err(Fault::TrailingBytes);
+        return Err(AttrError::Bad(Fault::TrailingBytes));
     }
     Ok(())
 }

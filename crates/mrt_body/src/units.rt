@@ -295,7 +295,7 @@ impl Units {
     {
         match content {
             Content::IndexTable => self.take_index(alloc, at, is_extended, body.as_slice()),
-            Content::Rib { add_path } => Ok(self.take_rib(at, is_extended, add_path, body)),
+            Content::Rib { add_path } => self.take_rib(at, is_extended, add_path, body),
             Content::Message { width, add_path } => {
                 let unit = message_unit(at, is_extended, width, add_path, body);
                 Ok(self.found(at, unit))
@@ -356,7 +356,7 @@ impl Units {
         self.index = None;
         match peers_in(alloc, body) {
             Ok(peers) => {
-                self.index = Some(Index::new(peers));
+                self.index = Some(Index::new(alloc, peers));
                 Ok(None)
             }
             Err(AttrError::Bad(fault)) => Ok(Some(refused(at, fault))),
@@ -374,25 +374,31 @@ impl Units {
         is_extended: bool,
         add_path: bool,
         body: Sequence<u8>,
-    ) -> Option<Found>
-        requires { self.old.pending ≡ [] }
-        ensures takes { TakesRecord self.old at is_extended (content_spec.Rib add_path) body self.new result }
-        ensures few { length (option_to_list result) + length self.new.pending ≤ 65535 }
-        ensures small { IfSome result IsSmall }
+    ) -> Result<Option<Found>, ReplayError>
+        requires given { self.old.pending ≡ [] }
+        requires small { length body ≤ 16777216 }
+        ensures takes { IfOk result (TakesRecord self.old at is_extended (content_spec.Rib add_path) body self.new) }
+        ensures few { IfOk result (λ found. length (option_to_list found) + length self.new.pending ≤ 65535) }
+        ensures want { IfErr result (λ e. (e ≡ ReplayError.Memory) × (self.new.standing ≡ standings.Spent)) }
+        ensures plan { KeepsPlan self.old self.new }
+        ensures small { IfOk result (λ found. IfSome found IsSmall) }
     {
         let is_past = self.is_past(at.time(0));
         let Some(index) = &mut self.index else {
-            return Some(refused(at, Fault::NoPeerIndex));
+            return Ok(Some(refused(at, Fault::NoPeerIndex)));
         };
-        let entries = match index.read(at, add_path, body) {
-            Ok(entries) => entries,
-            Err(fault) => return Some(refused(at, fault)),
-        };
-        if is_past {
-            return None;
+        match index.read(at, add_path, body) {
+            Ok(()) if is_past => {
+                index.leave_out();
+                Ok(None)
+            }
+            Ok(()) => Ok(None),
+            Err(AttrError::Bad(fault)) => Ok(Some(refused(at, fault))),
+            Err(AttrError::Memory) => {
+                self.standing = Standing::Spent;
+                Err(ReplayError::Memory)
+            }
         }
-        index.put(entries);
-        None
     }
 }
 

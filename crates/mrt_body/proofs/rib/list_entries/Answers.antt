@@ -1,0 +1,42 @@
+use Rattle.std.proofs.Common.{List, [], map, drop, refl, ◌-◌, length, arith}
+use Rattle.std.proofs.lemmas.List.Elements.{All-nil, All-push}
+use Rattle.mrt_body.specs.Listed.{IsListed, read_listed}
+use Rattle.mrt_body.specs.Many.{many}
+use Rattle.mrt_body.specs.RibRecords.{ReadEntry, read_entry_at}
+use Rattle.mrt_body.proofs.Behind.{behind_front}
+use Rattle.mrt_body.proofs.ManyLaws.{push, no_minus, starts, goes_on, fails}
+use Rattle.mrt_body.proofs.ListLaws.{lists, listed_of, listed_more}
+use Rattle.mrt_body.proofs.rib.list_entries.Goals as goal
+
+pub loop-init : goal.loop-init
+loop-init c =
+    let all = many (read_entry_at c.args.add_path c.args.peers) c.args.count (drop c.args.start c.args.body.now) in
+    let none : List ReadEntry = [] in
+    rw (c.behind-rest.ensures, c.in_ok-reserve_exact.ensures.items, c.clear.ensures.items) (record {
+      left = behind_front c.args.start c.args.body.now;
+      says = rw no_minus (starts all none refl);
+      within = All-nil (IsListed c.args.peers (length c.args.body.now));
+    })
+
+pub listed_entry-requires-clause-within : goal.listed_entry-requires-clause-within
+listed_entry-requires-clause-within c =
+    (lists c.args.add_path c.args.peers c.args.body.now c.loop.rest.now _ c.in-Ok.after.now c.loop.invariant.left c.in-Ok.ensures.reads).room
+
+pub loop-preserved : goal.loop-preserved
+loop-preserved c =
+    let read = read_entry_at c.args.add_path c.args.peers in
+    let body = c.args.body.now in
+    let list = c.loop.list.items in
+    let e : ReadEntry = record { peer = c.in-Ok.entry.peer; identifier = c.in-Ok.entry.identifier; attributes = c.in-Ok.entry.attributes.now } in
+    let listed = listed_of body e c.in-Ok.after.now in
+    let l = lists c.args.add_path c.args.peers body c.loop.rest.now e c.in-Ok.after.now c.loop.invariant.left c.in-Ok.ensures.reads in
+    rw (c.in_ok-push-in-Ok.ensures.items, c.listed_entry.ensures) (record {
+      left = l.left;
+      says = rw (listed_more body list listed e l.says) (goes_on read push (map (read_listed body) list) c.args.count c.loop.counter c.loop.rest.now e c.in-Ok.after.now (many read c.args.count (drop c.args.start body)) (omega arith) c.in-Ok.ensures.reads c.loop.invariant.says);
+      within = All-push (IsListed c.args.peers (length body)) list listed c.loop.invariant.within l.within;
+    })
+
+pub returns-in-Err-clause-listed : goal.returns-in-Err-clause-listed
+returns-in-Err-clause-listed c =
+    let read = read_entry_at c.args.add_path c.args.peers in
+    fails read push (map (read_listed c.args.body.now) c.loop.list.items) c.args.count c.loop.counter c.loop.rest.now c.in-Err.fault (many read c.args.count (drop c.args.start c.args.body.now)) (omega arith) c.in-Err.ensures.reads c.loop.invariant.says
