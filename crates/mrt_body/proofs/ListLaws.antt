@@ -3,7 +3,6 @@ use Rattle.std.proofs.Common.{◌≡◌, ℕ, ◌+◌, ◌-◌, ◌≤◌, Bool,
 use Rattle.std.proofs.Math.Seq.{take-append_seam}
 use Rattle.std.proofs.lemmas.List.{length-append, map-append}
 use Rattle.mrt_body.specs.declared.rib.ListedEntry.{ListedEntry}
-use Rattle.mrt_body.specs.Many.{many}
 use Rattle.mrt_body.specs.RibRecords.{ReadEntry, read_entry_at}
 use Rattle.mrt_body.specs.Listed.{IsListed, read_listed}
 use Rattle.mrt_body.proofs.Behind.{Behind, behind-le, behind-drop, behind_more}

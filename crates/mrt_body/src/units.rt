@@ -1,6 +1,6 @@
 //! The units and refusals of files.
 
-ghost use Rattle.std.specs.Prelude.{◌≡◌, ℕ, List, ◌<◌, ◌≤◌, ◌+◌, ◌^◌, Some, None, true, false, [], map, Err, IfOk, IfErr, IfSome, OnOk, length, option_to_list};
+ghost use Rattle.std.specs.Prelude.{◌≡◌, ℕ, Bool, List, ◌<◌, ◌≤◌, ◌+◌, ◌^◌, Some, None, true, false, [], map, Err, IfOk, IfErr, IfSome, OnOk, length, option_to_list};
 ghost use Rattle.mrt_body.specs.Units.{IsSmall, IsSmallUnit, alone, all_cuts, found_in, found_units, is_past, refused_at, at_record};
 ghost use Rattle.mrt_frame.specs.Frames.{StandsAt};
 ghost use Rattle.mrt_body.specs.ToCome.{UnitsState, GivesPending, CutsOne, TakesRecord, TakesFound, NothingToCome, Steps, StopsAt, Stops, KeepsPlan, answers_left, cuts_to_come, found_to_come, steps_left, fresh_units, standing_after};
@@ -294,8 +294,8 @@ impl Units {
         ensures small { IfOk result (λ found. IfSome found IsSmall) }
     {
         match content {
-            Content::IndexTable => self.take_index(alloc, at, is_extended, body.as_slice()),
-            Content::Rib { add_path } => self.take_rib(at, is_extended, add_path, body),
+            Content::IndexTable => self.take_index(alloc, at, body.as_slice()),
+            Content::Rib { add_path } => self.take_rib(at, add_path, body),
             Content::Message { width, add_path } => {
                 let unit = message_unit(at, is_extended, width, add_path, body);
                 Ok(self.found(at, unit))
@@ -343,11 +343,10 @@ impl Units {
         &mut self,
         alloc: Global,
         at: RecordAt,
-        is_extended: bool,
         body: &[u8],
     ) -> Result<Option<Found>, ReplayError>
         requires { self.old.pending ≡ [] }
-        ensures takes { IfOk result (TakesRecord self.old at is_extended content_spec.IndexTable body.now self.new) }
+        ensures takes { (extended : Bool) → IfOk result (TakesRecord self.old at extended content_spec.IndexTable body.now self.new) }
         ensures few { IfOk result (λ found. length (option_to_list found) + length self.new.pending ≤ 65535) }
         ensures want { IfErr result (λ e. (e ≡ ReplayError.Memory) × (self.new.standing ≡ standings.Spent)) }
         ensures plan { KeepsPlan self.old self.new }
@@ -371,13 +370,12 @@ impl Units {
     fn take_rib(
         &mut self,
         at: RecordAt,
-        is_extended: bool,
         add_path: bool,
         body: Sequence<u8>,
     ) -> Result<Option<Found>, ReplayError>
         requires given { self.old.pending ≡ [] }
         requires small { length body ≤ 16777216 }
-        ensures takes { IfOk result (TakesRecord self.old at is_extended (content_spec.Rib add_path) body self.new) }
+        ensures takes { (extended : Bool) → IfOk result (TakesRecord self.old at extended (content_spec.Rib add_path) body self.new) }
         ensures few { IfOk result (λ found. length (option_to_list found) + length self.new.pending ≤ 65535) }
         ensures want { IfErr result (λ e. (e ≡ ReplayError.Memory) × (self.new.standing ≡ standings.Spent)) }
         ensures plan { KeepsPlan self.old self.new }

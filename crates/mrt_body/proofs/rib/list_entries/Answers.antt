@@ -1,4 +1,4 @@
-use Rattle.std.proofs.Common.{List, [], map, drop, refl, ◌-◌, length, arith}
+use Rattle.std.proofs.Common.{List, [], map, drop, refl, length, arith}
 use Rattle.std.proofs.lemmas.List.Elements.{All-nil, All-push}
 use Rattle.mrt_body.specs.Listed.{IsListed, read_listed}
 use Rattle.mrt_body.specs.Many.{many}

@@ -6,16 +6,16 @@ use Rattle.mrt_body.proofs.TakeLaws.{with_index, rib_taken, rib_left_out}
 use Rattle.mrt_body.proofs.units.Units.take_rib.Goals as goal
 
 pub returns-in-Ok-clause-takes : goal.returns-in-Ok-clause-takes
-returns-in-Ok-clause-takes c =
-    rw (← c.self.view_is, c.leave_out.ensures) (rib_left_out (the_view c.self.inside) c.args.at c.args.is_extended c.args.add_path c.args.body c.in-Some.index c.read.new.self
+returns-in-Ok-clause-takes c extended =
+    rw (← c.self.view_is, c.leave_out.ensures) (rib_left_out (the_view c.self.inside) c.args.at extended c.args.add_path c.args.body c.in-Some.index c.read.new.self
     (ap (with_index (the_view c.self.inside)) (sym c.in-Some.is))
     c.in-Ok.ensures.peers
     (ap (λ (u : UnitsState). is_past u.until (time_of c.args.at 0)) c.self.view_is ∙ ap (is_past c.args.self.now.until) (sym c.time.ensures) ∙ sym c.if-is_past.ensures)
     c.in-Ok.ensures.units)
 
 pub returns-in-Ok-2-clause-takes : goal.returns-in-Ok-2-clause-takes
-returns-in-Ok-2-clause-takes c =
-    rw (← c.self.view_is) (rib_taken (the_view c.self.inside) c.args.at c.args.is_extended c.args.add_path c.args.body c.in-Some.index c.read.new.self
+returns-in-Ok-2-clause-takes c extended =
+    rw (← c.self.view_is) (rib_taken (the_view c.self.inside) c.args.at extended c.args.add_path c.args.body c.in-Some.index c.read.new.self
     (ap (with_index (the_view c.self.inside)) (sym c.in-Some.is))
     c.in-Ok-2.ensures.peers
     (ap (λ (u : UnitsState). is_past u.until (time_of c.args.at 0)) c.self.view_is ∙ ap (is_past c.args.self.now.until) (sym c.time.ensures) ∙ sym c.if-is_past.ensures)
