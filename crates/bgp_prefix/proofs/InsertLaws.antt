@@ -1,23 +1,27 @@
 -- What an insert leaves in the trie.
 use Rattle.std.proofs.Common.{◌≡◌, ◌≢◌, ℕ, ◌+◌, ◌-◌, ◌*◌, ◌/◌, ◌^◌, ◌<◌, ◌≤◌, Bool, true, false, cond, not, ◌||◌, ◌&&◌, List, [], ◌∷◌, ◌++◌, Some, None, refl, sym, ap, ◌∙◌, T, arith, subst, Box, inl, inr, add-zero}
 use Rattle.std.specs.declared.alloc.Global.{Global}
-use Rattle.std.specs.Ordering.{nat_cmp, eq_by_cmp}
+use Rattle.std.specs.List.{All}
+use Rattle.std.specs.Ordering.{eq_by_cmp}
 use Rattle.std.specs.FinMap.{find, put, is_sorted}
-use Rattle.std.specs.FinMap.Entries.{find-append, find-put, by_order}
+use Rattle.std.specs.FinMap.Entries.{find-append, is_sorted-put, by_order}
 use Rattle.std.specs.declared.cmp.Ordering.TheVariants.{Less, Equal, Greater}
-use Rattle.std.proofs.lemmas.Cmp.{nat_cmp_total}
 use Rattle.std.proofs.lemmas.Bool.{cases_lt}
 use Rattle.std.proofs.lemmas.List.{append-nil}
+use Rattle.std.proofs.lemmas.List.Elements.{All-cons, All-nil}
 use Rattle.bgp_prefix.specs.Prefixes.{IpPrefix, IsIpPrefix, network_of, leading_bits, Starts}
-use Rattle.bgp_prefix.specs.Keys.{key_cmp, Changes, keyed, is_nil}
-use Rattle.bgp_prefix.specs.Tries.{routes, IsTrie, IsUnder, IsRoot, IsInserted, IsLeafOf, is_nothing}
+use Rattle.bgp_prefix.specs.Keys.{key_cmp, Changes, is_nil}
+use Rattle.bgp_prefix.specs.Splits.{IsSplit}
+use Rattle.bgp_prefix.specs.Tries.{routes, IsTrie, IsUnder, IsRoot, IsRoutes, IsRoutesOf, IsForkOf, IsInserted, branch_of, is_nothing}
 use Rattle.bgp_prefix.specs.declared.key.RouteKey.{RouteKey}
 use Rattle.bgp_prefix.specs.declared.radix.Branch.{Branch}
 use Rattle.bgp_prefix.specs.declared.radix.Branch.TheVariants.{Nothing, Leaf, Fork, Fork'}
 use Rattle.bgp_prefix.specs.declared.radix.Fork.{Fork as ForkOf}
-use Rattle.bgp_prefix.specs.declared.radix.Leaf.{Leaf as LeafOf}
 use Rattle.bgp_prefix.proofs.Bits.{fewer_bits, share_fewer, network_bits, IsIpPrefix-network}
-use Rattle.bgp_prefix.proofs.KeyLaws.{find_keyed-other, key_cmp_total, Changes-keyed}
+use Rattle.bgp_prefix.proofs.KeyLaws.{key_cmp_total}
+use Rattle.bgp_prefix.proofs.MapLaws.{Changes-put}
+use Rattle.bgp_prefix.proofs.OrderLaws.{All-parts, sorted_parts}
+use Rattle.bgp_prefix.proofs.SortedMaps.{of_put}
 use Rattle.bgp_prefix.proofs.TrieLaws.{find_outside, IsFork, fork_routes, Changes_here, Changes_low, Changes_high}
 
 -- what an insert by a new fork leaves
@@ -32,27 +36,48 @@ inserted_box old key value f box is done =
     record {
       trie = there.fork;
       changes = there.changes;
-      under = λ len bits u s. let t = there.under len bits u s in (t.long, t.shared);
+      under = there.under;
       held = refl;
     }
 
 -- a branch lies where its root's prefix does
 pub root_under : {V : Type 0} (b : Branch V) (at : IpPrefix) (len bits : ℕ) → IsRoot at b → Starts len bits at → IsUnder len bits b
 root_under Nothing at len bits root s = tt
-root_under (Leaf l) at len bits root s = rw root (s.long, s.shared)
-root_under (Fork' p prefix low high paths) at len bits root s = rw root (s.long, s.shared)
+root_under (Leaf l) at len bits root s = absurd root
+root_under (Fork' p prefix low high here) at len bits root s = rw root s
 
 pub root_starts : {V : Type 0} (b : Branch V) (at : IpPrefix) (len bits : ℕ) → IsRoot at b → IsUnder len bits b → Starts len bits at
 root_starts Nothing at len bits root u = absurd root
-root_starts (Leaf l) at len bits root u = subst (Starts len bits) root (record { long = u.0; shared = u.1 })
-root_starts (Fork' p prefix low high paths) at len bits root u = subst (Starts len bits) root (record { long = u.0; shared = u.1 })
+root_starts (Leaf l) at len bits root u = absurd root
+root_starts (Fork' p prefix low high here) at len bits root u = subst (Starts len bits) root u
 
 root_is : {V : Type 0} (b : Branch V) (at : IpPrefix) → IsRoot at b → is_nothing b ≡ false
 root_is Nothing at root = absurd root
-root_is (Leaf l) at root = refl
-root_is (Fork' p prefix low high paths) at root = refl
+root_is (Leaf l) at root = absurd root
+root_is (Fork' p prefix low high here) at root = refl
 
-or_first : (a b : Bool) → T a → T (a || b)
+-- a list of one route
+alone_routes : {V : Type 0} (key : RouteKey) (value : V) → IsIpPrefix key.prefix → IsRoutes ((key, value) ∷ [])
+alone_routes {V} key value known = record { sorted = tt; known = All-cons (λ (e : RouteKey × V). IsIpPrefix e.0.prefix) (key, value) [] known (All-nil _) }
+
+alone_own : {V : Type 0} (key : RouteKey) (value : V) (p : IpPrefix) → key.prefix ≡ p → IsRoutesOf p ((key, value) ∷ [])
+alone_own {V} key value p same = record { sorted = tt; own = All-cons (λ (e : RouteKey × V). e.0.prefix ≡ p) (key, value) [] same (All-nil _) }
+
+none_own : {V : Type 0} (p : IpPrefix) → IsRoutesOf {V = V} p []
+none_own p = record { sorted = tt; own = All-nil _ }
+
+alone_under : {V : Type 0} (key : RouteKey) (value : V) (len bits : ℕ) → Starts len bits key.prefix → All (λ (e : RouteKey × V). Starts len bits e.0.prefix) ((key, value) ∷ [])
+alone_under {V} key value len bits s = All-cons (λ (e : RouteKey × V). Starts len bits e.0.prefix) (key, value) [] s (All-nil _)
+
+pub inserted_alone : {V : Type 0} (key : RouteKey) (value : V) → IsIpPrefix key.prefix → IsInserted Nothing (Leaf ((key, value) ∷ [])) key value
+inserted_alone key value known = record {
+  trie = (alone_routes key value known, tt);
+  changes = λ q. refl;
+  under = λ len bits u s. alone_under key value len bits s;
+  held = refl;
+}
+
+pub or_first : (a b : Bool) → T a → T (a || b)
 or_first true b h = tt
 or_first false b h = absurd h
 
@@ -92,14 +117,14 @@ module _ {V : Type 0} (old : Branch V) (at : IpPrefix) (key : RouteKey) (value :
   root_low c same bit = subst (λ (t : ℕ). IsUnder (n + 1) t old) (add-zero (2 * leading_bits n c)) (root_half c 0 same bit)
 
   -- a fork at the key's prefix, over the old branch
-  pub inserted_above : key.prefix.len ≡ n → (is_high : Bool) → leading_bits (n + 1) at.addr ≡ 2 * leading_bits n at.addr + cond is_high 1 0 → let f : ForkOf V = record { prefix = key.prefix; paths = (key.id, value) ∷ []; low = Nothing; high = Nothing } in IsForkInserted old (cond is_high (record f { high = old }) (record f { low = old })) key value
+  pub inserted_above : key.prefix.len ≡ n → (is_high : Bool) → leading_bits (n + 1) at.addr ≡ 2 * leading_bits n at.addr + cond is_high 1 0 → let f : ForkOf V = record { prefix = key.prefix; low = Nothing; high = Nothing; here = (key, value) ∷ [] } in IsForkInserted old (cond is_high (record f { high = old }) (record f { low = old })) key value
   inserted_above len true bit = record {
-    fork = (known, omega (arith, len, shorter, known_at.short), tt, tt, rw len (root_half key.prefix.addr 1 (sym shared.shared) bit), tt, trie, tt);
+    fork = (known, omega (arith, len, shorter, known_at.short), alone_own key value key.prefix refl, tt, rw len (root_half key.prefix.addr 1 (sym shared.shared) bit), tt, trie, tt);
     changes = λ q. refl;
     under = λ len bits u s. s;
   }
   inserted_above len false bit = record {
-    fork = (known, omega (arith, len, shorter, known_at.short), tt, rw len (root_low key.prefix.addr (sym shared.shared) bit), tt, trie, tt, tt);
+    fork = (known, omega (arith, len, shorter, known_at.short), alone_own key value key.prefix refl, rw len (root_low key.prefix.addr (sym shared.shared) bit), tt, trie, tt, tt);
     changes = λ q. ap (λ (es : List (RouteKey × V)). cond (eq_by_cmp key_cmp q key) (Some value) (find key_cmp q es)) (append-nil (routes old));
     under = λ len bits u s. s;
   }
@@ -113,9 +138,15 @@ module _ {V : Type 0} (old : Branch V) (at : IpPrefix) (key : RouteKey) (value :
       ]
 
   -- a fork at the shared bits, over the old branch and a new leaf
-  pub inserted_between : (c : IpPrefix) (leaf : Branch V) → c ≡ record { addr = network_of at.addr n; len = n } → key.prefix.len ≢ n → IsLeafOf key value leaf → (is_high : Bool) → leading_bits (n + 1) at.addr ≡ 2 * leading_bits n at.addr + cond is_high 1 0 → let f : ForkOf V = record { prefix = c; paths = []; low = Nothing; high = Nothing } in let g : ForkOf V = cond (not is_high) (record f { high = leaf }) (record f { low = leaf }) in IsForkInserted old (cond is_high (record g { high = old }) (record g { low = old })) key value
-  inserted_between c leaf is longer new is_high bit = rw is (between is_high bit)
+  pub inserted_between : (c : IpPrefix) → c ≡ record { addr = network_of at.addr n; len = n } → key.prefix.len ≢ n → (is_high : Bool) → leading_bits (n + 1) at.addr ≡ 2 * leading_bits n at.addr + cond is_high 1 0 → let f : ForkOf V = record { prefix = c; low = Nothing; high = Nothing; here = [] } in let g : ForkOf V = cond (not is_high) (record f { high = Leaf ((key, value) ∷ []) }) (record f { low = Leaf ((key, value) ∷ []) }) in IsForkInserted old (cond is_high (record g { high = old }) (record g { low = old })) key value
+  inserted_between c is longer is_high bit = rw is (between is_high bit)
     where
+      leaf : Branch V
+      leaf = Leaf ((key, value) ∷ [])
+
+      new : IsTrie leaf
+      new = (alone_routes key value known, tt)
+
       cut : IpPrefix
       cut = record { addr = network_of at.addr n; len = n }
 
@@ -146,107 +177,136 @@ module _ {V : Type 0} (old : Branch V) (at : IpPrefix) (key : RouteKey) (value :
       known_cut : IsIpPrefix cut
       known_cut = IsIpPrefix-network at.addr n known_at.fits (omega (arith, shorter, known_at.short))
 
-      between : (is_high : Bool) → leading_bits (n + 1) at.addr ≡ 2 * leading_bits n at.addr + cond is_high 1 0 → let f : ForkOf V = record { prefix = cut; paths = []; low = Nothing; high = Nothing } in let g : ForkOf V = cond (not is_high) (record f { high = leaf }) (record f { low = leaf }) in IsForkInserted old (cond is_high (record g { high = old }) (record g { low = old })) key value
+      between : (is_high : Bool) → leading_bits (n + 1) at.addr ≡ 2 * leading_bits n at.addr + cond is_high 1 0 → let f : ForkOf V = record { prefix = cut; low = Nothing; high = Nothing; here = [] } in let g : ForkOf V = cond (not is_high) (record f { high = leaf }) (record f { low = leaf }) in IsForkInserted old (cond is_high (record g { high = old }) (record g { low = old })) key value
       between true bit = record {
-        fork = (known_cut, omega (arith, shorter, known_at.short), tt, new.under _ _ (key_low bit), root_half cut.addr 1 bits_of_cut bit, new.trie, trie, rw (new.held, root_held) tt);
-        changes = λ q. ap (λ (es : List (RouteKey × V)). find key_cmp q (es ++ routes old)) new.route;
+        fork = (known_cut, omega (arith, shorter, known_at.short), none_own cut, alone_under key value _ _ (key_low bit), root_half cut.addr 1 bits_of_cut bit, new, trie, rw root_held tt);
+        changes = λ q. refl;
         under = cut_under;
       }
       between false bit = record {
-        fork = (known_cut, omega (arith, shorter, known_at.short), tt, root_low cut.addr bits_of_cut bit, new.under _ _ (key_bit 0 bit (omega arith)), trie, new.trie, rw (new.held, root_held) tt);
-        changes = λ q. ap (λ (es : List (RouteKey × V)). find key_cmp q (routes old ++ es)) new.route ∙ find-append key_cmp key_cmp_total (routes old) key value q not_found;
+        fork = (known_cut, omega (arith, shorter, known_at.short), none_own cut, root_low cut.addr bits_of_cut bit, alone_under key value _ _ (key_bit 0 bit (omega arith)), trie, new, rw root_held tt);
+        changes = λ q. find-append key_cmp key_cmp_total (routes old) key value q not_found;
         under = cut_under;
       }
 
--- a leaf that becomes a fork over a new leaf
-pub inserted_below : {V : Type 0} (box : Box (LeafOf V) Global) (leaf : Branch V) (key : RouteKey) (value : V) → IsTrie (Leaf box) → IsIpPrefix key.prefix → (is_high : Bool) → Starts (box.value.prefix.len + 1) (2 * leading_bits box.value.prefix.len box.value.prefix.addr + cond is_high 1 0) key.prefix → IsLeafOf key value leaf → let f : ForkOf V = record { prefix = box.value.prefix; paths = box.value.paths; low = Nothing; high = Nothing } in IsForkInserted (Leaf box) (cond is_high (record f { high = leaf }) (record f { low = leaf })) key value
-inserted_below box leaf key value trie known true below new =
-    let l = box.value in
-    let none : find key_cmp key (keyed l.prefix l.paths) ≡ None = find_keyed-other key l.prefix l.paths (λ same. let long : l.prefix.len + 1 ≤ l.prefix.len = subst (λ (p : IpPrefix). l.prefix.len + 1 ≤ p.len) same below.long in omega (arith, long)) in
-    record {
-      fork = (trie.0, omega (arith, below.long, known.short), trie.1, tt, new.under _ _ below, tt, new.trie, or_first _ _ trie.2);
-      changes = λ q. ap (λ (es : List (RouteKey × _)). find key_cmp q (keyed l.prefix l.paths ++ es)) new.route ∙ find-append key_cmp key_cmp_total (keyed l.prefix l.paths) key value q none;
-      under = λ len bits u s. record { long = u.0; shared = u.1 };
-    }
-inserted_below box leaf key value trie known false below new =
-    let l = box.value in
-    let none : find key_cmp key (keyed l.prefix l.paths) ≡ None = find_keyed-other key l.prefix l.paths (λ same. let long : l.prefix.len + 1 ≤ l.prefix.len = subst (λ (p : IpPrefix). l.prefix.len + 1 ≤ p.len) same below.long in omega (arith, long)) in
-    record {
-      fork = (trie.0, omega (arith, below.long, known.short), trie.1, new.under _ _ (record { long = below.long; shared = below.shared ∙ add-zero _ }), tt, new.trie, tt, or_first _ _ trie.2);
-      changes = λ q. ap (λ (es : List (RouteKey × _)). find key_cmp q (keyed l.prefix l.paths ++ es)) (append-nil (routes leaf) ∙ new.route) ∙ find-append key_cmp key_cmp_total (keyed l.prefix l.paths) key value q none;
-      under = λ len bits u s. record { long = u.0; shared = u.1 };
-    }
+-- a value among routes
+put_held : {V : Type 0} (key : RouteKey) (value : V) (es : List (RouteKey × V)) → T (not (is_nil (put key_cmp key value es)))
+put_held key value [] = tt
+put_held key value (e ∷ es) = elim (key_cmp key e.0) as (λ r. T (not (is_nil (by_order r ((key, value) ∷ e ∷ es) ((e.0, value) ∷ es) (e ∷ put key_cmp key value es))))) [ Less ↦ tt | Equal ↦ tt | Greater ↦ tt ]
 
--- a value among the routes of one prefix
-put_held : {V : Type 0} (id : ℕ) (value : V) (paths : List (ℕ × V)) → T (not (is_nil (put nat_cmp id value paths)))
-put_held id value [] = tt
-put_held id value (e ∷ es) = elim (nat_cmp id e.0) as (λ r. T (not (is_nil (by_order r ((id, value) ∷ e ∷ es) ((e.0, value) ∷ es) (e ∷ put nat_cmp id value es))))) [ Less ↦ tt | Equal ↦ tt | Greater ↦ tt ]
+put_routes : {V : Type 0} (key : RouteKey) (value : V) (es : List (RouteKey × V)) → IsRoutes es → IsIpPrefix key.prefix → IsRoutes (put key_cmp key value es)
+put_routes key value es ok known = record { sorted = is_sorted-put key_cmp key_cmp_total key value es ok.sorted; known = of_put (λ k. IsIpPrefix k.prefix) key value es known ok.known }
+
+-- a branch of a list of routes
+branch_trie : {V : Type 0} (es : List (RouteKey × V)) → IsRoutes es → IsTrie (branch_of es)
+branch_trie [] ok = tt
+branch_trie (e ∷ es) ok = (ok, tt)
+
+branch_routes : {V : Type 0} (es : List (RouteKey × V)) → routes (branch_of es) ≡ es
+branch_routes [] = refl
+branch_routes (e ∷ es) = refl
+
+branch_under : {V : Type 0} (es : List (RouteKey × V)) (len bits : ℕ) → All (λ e. Starts len bits e.0.prefix) es → IsUnder len bits (branch_of es)
+branch_under [] len bits h = tt
+branch_under (e ∷ es) len bits h = h
+
+branch_held : {V : Type 0} (es : List (RouteKey × V)) → is_nothing (branch_of es) ≡ is_nil es
+branch_held [] = refl
+branch_held (e ∷ es) = refl
+
+routes_parts : {V : Type 0} (es fs : List (RouteKey × V)) → IsRoutes (es ++ fs) → IsRoutes es × IsRoutes fs
+routes_parts {V} es fs ok =
+    let sorted = sorted_parts es fs ok.sorted in
+    let known = All-parts (λ (e : RouteKey × V). IsIpPrefix e.0.prefix) es fs ok.known in
+    (record { sorted = sorted.0; known = known.0 }, record { sorted = sorted.1; known = known.1 })
+
+module _ {V : Type 0} (es : List (RouteKey × V)) (f : ForkOf V) (ok : IsRoutes es) (of : IsForkOf es f) where
+  all : f.here ++ (of.low ++ of.high) ≡ es
+  all = of.split.all
+
+  in_parts : IsRoutes f.here × IsRoutes of.low × IsRoutes of.high
+  in_parts =
+      let whole : IsRoutes (f.here ++ (of.low ++ of.high)) = rw all ok in
+      let outer = routes_parts f.here (of.low ++ of.high) whole in
+      let inner = routes_parts of.low of.high outer.1 in
+      (outer.0, inner.0, inner.1)
+
+  -- the fork of a list of routes is one, and has them
+  pub fork_trie : IsFork f
+  fork_trie = (
+    of.split.known,
+    of.split.short,
+    record { sorted = in_parts.0.sorted; own = of.split.own },
+    rw of.low_is (branch_under of.low _ _ of.split.lower),
+    rw of.high_is (branch_under of.high _ _ of.split.higher),
+    rw of.low_is (branch_trie of.low in_parts.1),
+    rw of.high_is (branch_trie of.high in_parts.2),
+    rw (of.low_is, of.high_is, branch_held of.low, branch_held of.high) of.split.held,
+  )
+
+  pub same_routes : fork_routes f ≡ es
+  same_routes = rw (of.low_is, of.high_is, branch_routes of.low, branch_routes of.high) all
 
 -- a fork with one child more is useful where it was
-low_useful : (a b c : Bool) → T (a || (b && c)) → T (a || (true && c))
+pub low_useful : (a b c : Bool) → T (a || (b && c)) → T (a || (true && c))
 low_useful true b c h = tt
 low_useful false true c h = h
 low_useful false false c h = absurd h
 
-high_useful : (a b c : Bool) → T (a || (b && c)) → T (a || (b && true))
+pub high_useful : (a b c : Bool) → T (a || (b && c)) → T (a || (b && true))
 high_useful true b c h = tt
 high_useful false true c h = tt
 high_useful false false c h = absurd h
 
 module _ {V : Type 0} (key : RouteKey) (value : V) where
-  put_changes : (p : IpPrefix) (paths new : List (ℕ × V)) → key.prefix ≡ p → new ≡ put nat_cmp key.id value paths → Changes (keyed p paths) (keyed p new) key (Some value)
-  put_changes p paths new same is = Changes-keyed p paths new key (Some value) same (λ i. ap (find nat_cmp i) is ∙ find-put nat_cmp nat_cmp_total i key.id value paths)
+  put_under : (es : List (RouteKey × V)) (len bits : ℕ) → All (λ e. Starts len bits e.0.prefix) es → Starts len bits key.prefix → All (λ e. Starts len bits e.0.prefix) (put key_cmp key value es)
+  put_under es len bits u s = of_put (λ k. Starts len bits k.prefix) key value es s u
 
-  pub inserted_in_leaf : (old new : Box (LeafOf V) Global) → IsTrie (Leaf old) → key.prefix ≡ old.value.prefix → new.value ≡ record old.value { paths = put nat_cmp key.id value old.value.paths } → T (is_sorted nat_cmp new.value.paths) → IsInserted (Leaf old) (Leaf new) key value
-  inserted_in_leaf old new trie same is sorted =
-      let prefix : new.value.prefix ≡ old.value.prefix = ap (λ (l : LeafOf V). l.prefix) is in
-      let paths : new.value.paths ≡ put nat_cmp key.id value old.value.paths = ap (λ (l : LeafOf V). l.paths) is in
+  pub inserted_in_leaf : (old new : List (RouteKey × V)) → IsTrie (Leaf old) → IsIpPrefix key.prefix → new ≡ put key_cmp key value old → IsInserted (Leaf old) (Leaf new) key value
+  inserted_in_leaf old new trie known is = rw is (record {
+    trie = (put_routes key value old trie.0 known, put_held key value old);
+    changes = Changes-put old _ key value refl;
+    under = put_under old;
+    held = refl;
+  })
+
+  -- a leaf that becomes a fork
+  pub inserted_split : (old new : List (RouteKey × V)) (box : Box (ForkOf V) Global) → IsTrie (Leaf old) → IsIpPrefix key.prefix → new ≡ put key_cmp key value old → IsForkOf new box.value → IsInserted (Leaf old) (Fork box) key value
+  inserted_split old new box trie known is of =
+      let there : IsForkOf (put key_cmp key value old) box.value = rw is at of in
+      let ok = put_routes key value old trie.0 known in
       record {
-        trie = (rw prefix trie.0, sorted, rw paths (put_held key.id value old.value.paths));
-        changes = rw prefix (put_changes old.value.prefix old.value.paths new.value.paths same paths);
-        under = λ len bits u s. rw prefix u;
+        trie = fork_trie _ box.value ok there;
+        changes = Changes-put old _ key value (same_routes _ box.value ok there);
+        under = λ len bits u s. there.split.under len bits (put_under old len bits u s);
         held = refl;
       }
 
-  pub inserted_in_fork : (old new : Box (ForkOf V) Global) → IsFork old.value → key.prefix ≡ old.value.prefix → new.value ≡ record old.value { paths = put nat_cmp key.id value old.value.paths } → T (is_sorted nat_cmp new.value.paths) → IsInserted (Fork old) (Fork new) key value
-  inserted_in_fork old new trie same is sorted =
+  pub inserted_in_fork : (old new : Box (ForkOf V) Global) → IsFork old.value → key.prefix ≡ old.value.prefix → new.value ≡ record old.value { here = put key_cmp key value old.value.here } → IsInserted (Fork old) (Fork new) key value
+  inserted_in_fork old new trie same is =
       let f = old.value in
-      let paths : new.value.paths ≡ put nat_cmp key.id value f.paths = ap (λ (l : ForkOf V). l.paths) is in
+      let here = put key_cmp key value f.here in
+      let own : IsRoutesOf f.prefix here = record { sorted = is_sorted-put key_cmp key_cmp_total key value f.here trie.2.sorted; own = of_put (λ k. k.prefix ≡ f.prefix) key value f.here same trie.2.own } in
       inserted_box (Fork old) key value _ new is (record {
-        fork = (trie.0, trie.1, subst (λ (es : List (ℕ × V)). T (is_sorted nat_cmp es)) paths sorted, trie.3, trie.4, trie.5, trie.6, or_first _ _ (put_held key.id value f.paths));
-        changes = Changes_here f trie key (put nat_cmp key.id value f.paths) (Some value) same (put_changes f.prefix f.paths _ same refl);
-        under = λ len bits u s. record { long = u.0; shared = u.1 };
+        fork = (trie.0, trie.1, own, trie.3, trie.4, trie.5, trie.6, or_first _ _ (put_held key value f.here));
+        changes = Changes_here f trie key here (Some value) same (Changes-put f.here here key value refl);
+        under = λ len bits u s. u;
       })
 
   pub inserted_low : (old new : Box (ForkOf V) Global) (low : Branch V) → IsFork old.value → Starts (old.value.prefix.len + 1) (2 * leading_bits old.value.prefix.len old.value.prefix.addr) key.prefix → new.value ≡ record old.value { low = low } → IsInserted old.value.low low key value → IsInserted (Fork old) (Fork new) key value
   inserted_low old new low trie place is done =
       let f = old.value in
       inserted_box (Fork old) key value _ new is (record {
-        fork = (trie.0, trie.1, trie.2, done.under _ _ trie.3 place, trie.4, done.trie, trie.6, rw done.held (low_useful (not (is_nil f.paths)) (not (is_nothing f.low)) (not (is_nothing f.high)) trie.7));
+        fork = (trie.0, trie.1, trie.2, done.under _ _ trie.3 place, trie.4, done.trie, trie.6, rw done.held (low_useful (not (is_nil f.here)) (not (is_nothing f.low)) (not (is_nothing f.high)) trie.7));
         changes = Changes_low f trie key low (Some value) place done.changes;
-        under = λ len bits u s. record { long = u.0; shared = u.1 };
+        under = λ len bits u s. u;
       })
 
   pub inserted_high : (old new : Box (ForkOf V) Global) (high : Branch V) → IsFork old.value → Starts (old.value.prefix.len + 1) (2 * leading_bits old.value.prefix.len old.value.prefix.addr + 1) key.prefix → new.value ≡ record old.value { high = high } → IsInserted old.value.high high key value → IsInserted (Fork old) (Fork new) key value
   inserted_high old new high trie place is done =
       let f = old.value in
       inserted_box (Fork old) key value _ new is (record {
-        fork = (trie.0, trie.1, trie.2, trie.3, done.under _ _ trie.4 place, trie.5, done.trie, rw done.held (high_useful (not (is_nil f.paths)) (not (is_nothing f.low)) (not (is_nothing f.high)) trie.7));
+        fork = (trie.0, trie.1, trie.2, trie.3, done.under _ _ trie.4 place, trie.5, done.trie, rw done.held (high_useful (not (is_nil f.here)) (not (is_nothing f.low)) (not (is_nothing f.high)) trie.7));
         changes = Changes_high f trie key high (Some value) place done.changes;
-        under = λ len bits u s. record { long = u.0; shared = u.1 };
+        under = λ len bits u s. u;
       })
-
-  pub inserted_leaf : (leaf : Branch V) → IsLeafOf key value leaf → IsInserted Nothing leaf key value
-  inserted_leaf leaf new = record {
-    trie = new.trie;
-    changes = λ q. ap (find key_cmp q) new.route;
-    under = λ len bits u s. new.under len bits s;
-    held = new.held;
-  }
-
--- a prefix below another, or apart from it, is another
-pub below_other : (p q : IpPrefix) (bits : ℕ) → Starts (p.len + 1) bits q → q ≡ p → ⊥
-below_other p q bits s same = let long : p.len + 1 ≤ p.len = subst (λ (r : IpPrefix). p.len + 1 ≤ r.len) same s.long in omega (arith, long)
-
-pub apart_other : (p q : IpPrefix) → (Starts p.len (leading_bits p.len p.addr) q → ⊥) → q ≡ p → ⊥
-apart_other p q out same = out (rw same (record { long = omega arith; shared = refl }))

@@ -10,7 +10,7 @@ use Rattle.std.proofs.lemmas.Bool.{ltb-true, eqb-true, eq-eqb, and_parts}
 use Rattle.std.proofs.lemmas.Cmp.{on_total, then_total, nat_cmp_total}
 use Rattle.std.proofs.lemmas.Map.Lookups.{exact_pairs, exact_unsigned}
 use Rattle.bgp_prefix.specs.Prefixes.{IpPrefix, prefix_cmp, prefix_eq}
-use Rattle.bgp_prefix.specs.Keys.{key_cmp, Changes, keyed}
+use Rattle.bgp_prefix.specs.Keys.{key_cmp, Changes}
 use Rattle.bgp_prefix.specs.declared.key.RouteKey.{RouteKey}
 
 pub prefix_cmp_total : IsTotalOrder prefix_cmp
@@ -51,21 +51,6 @@ tied_then Greater o = refl
 pub prefix_tied : (p q : IpPrefix) → eq_by_cmp prefix_cmp p q ≡ prefix_eq p q
 prefix_tied p q = tied_then (nat_cmp p.addr q.addr) (nat_cmp p.len q.len) ∙ ap (λ b. b && is_eq (nat_cmp p.len q.len)) (number_tied p.addr q.addr) ∙ ap (λ b. eqb p.addr q.addr && b) (number_tied p.len q.len)
 
-key_tied : (j k : RouteKey) → eq_by_cmp key_cmp j k ≡ (prefix_eq j.prefix k.prefix && eq_by_cmp nat_cmp j.id k.id)
-key_tied j k = tied_then (prefix_cmp j.prefix k.prefix) (nat_cmp j.id k.id) ∙ ap (λ b. b && is_eq (nat_cmp j.id k.id)) (prefix_tied j.prefix k.prefix)
-
--- a key among the routes of one prefix
-pub find_keyed : {V : Type 0} (q : RouteKey) (p : IpPrefix) (es : List (ℕ × V)) → find key_cmp q (keyed p es) ≡ cond (prefix_eq q.prefix p) (find nat_cmp q.id es) None
-find_keyed {V} q p [] = none_either (prefix_eq q.prefix p)
-  where
-    none_either : (b : Bool) → find key_cmp q (keyed {V = V} p []) ≡ cond b (find nat_cmp q.id []) None
-    none_either true = refl
-    none_either false = refl
-find_keyed {V} q p (e ∷ es) =
-    ap (λ b. cond b (Some e.1) (find key_cmp q (keyed p es))) (key_tied q (record { prefix = p; id = e.0 }))
-    ∙ ap (λ r. cond (prefix_eq q.prefix p && eq_by_cmp nat_cmp q.id e.0) (Some e.1) r) (find_keyed q p es)
-    ∙ elim (prefix_eq q.prefix p) as (λ b. cond (b && eq_by_cmp nat_cmp q.id e.0) (Some e.1) (cond b (find nat_cmp q.id es) None) ≡ cond b (find nat_cmp q.id (e ∷ es)) None) [ true ↦ refl | false ↦ refl ]
-
 pub or_none : {A : Type 0} (o : Option A) → option_or o None ≡ o
 or_none None = refl
 or_none (Some x) = refl
@@ -102,25 +87,5 @@ Changes-back before old new key v none is q =
 pub same_prefix : (p q : IpPrefix) → prefix_eq p q ≡ true → p ≡ q
 same_prefix p q e = let parts = and_parts _ _ e in let a : p.addr ≡ q.addr = eqb-true _ _ parts.0 in let l : p.len ≡ q.len = eqb-true _ _ parts.1 in λ i. record { addr = a i; len = l i }
 
--- a key of another prefix is not among the routes of a prefix
-pub find_keyed-other : {V : Type 0} (q : RouteKey) (p : IpPrefix) (es : List (ℕ × V)) → (q.prefix ≡ p → ⊥) → find key_cmp q (keyed p es) ≡ None
-find_keyed-other q p es other = find_keyed q p es ∙ ap (λ b. cond b (find nat_cmp q.id es) None) (sym (not_tied (prefix_eq q.prefix p) (λ e. other (same_prefix _ _ e))))
-
-pub find_keyed-same : {V : Type 0} (q : RouteKey) (p : IpPrefix) (es : List (ℕ × V)) → q.prefix ≡ p → find key_cmp q (keyed p es) ≡ find nat_cmp q.id es
-find_keyed-same q p es same = let tied : prefix_eq q.prefix p ≡ true = rw same (rw (eq-eqb p.addr p.addr refl, eq-eqb p.len p.len refl)) in
-    find_keyed q p es ∙ ap (λ b. cond b (find nat_cmp q.id es) None) tied
-
 pub other_prefix : (p q : IpPrefix) → prefix_eq p q ≡ false → q ≡ p → ⊥
 other_prefix p q e same = let tied : prefix_eq p q ≡ true = rw same (rw (eq-eqb p.addr p.addr refl, eq-eqb p.len p.len refl)) in let clash : false ≡ true = sym e ∙ tied in cc
-
-changed_within : {V : Type 0} (b i : Bool) (m z v : Option V) → m ≡ cond i v z → cond b m None ≡ cond (b && i) v (cond b z None)
-changed_within true i m z v is = is
-changed_within false i m z v is = refl
-
--- a change of the routes of one prefix
-pub Changes-keyed : {V : Type 0} (p : IpPrefix) (old new : List (ℕ × V)) (key : RouteKey) (v : Option V) → key.prefix ≡ p → ((i : ℕ) → find nat_cmp i new ≡ cond (eq_by_cmp nat_cmp i key.id) v (find nat_cmp i old)) → Changes (keyed p old) (keyed p new) key v
-Changes-keyed p old new key v same is q =
-    find_keyed q p new
-    ∙ changed_within (prefix_eq q.prefix p) (eq_by_cmp nat_cmp q.id key.id) _ _ v (is q.id)
-    ∙ ap (λ b. cond b v (cond (prefix_eq q.prefix p) (find nat_cmp q.id old) None)) (ap (λ (r : IpPrefix). prefix_eq q.prefix r && eq_by_cmp nat_cmp q.id key.id) (sym same) ∙ sym (key_tied q key))
-    ∙ ap (cond (eq_by_cmp key_cmp q key) v) (sym (find_keyed q p old))

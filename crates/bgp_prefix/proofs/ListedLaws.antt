@@ -4,16 +4,15 @@ use Rattle.std.specs.List.{filter}
 use Rattle.std.proofs.lemmas.List.{append-nil, map-append}
 use Rattle.std.proofs.lemmas.List.Elements.{filter-append}
 use Rattle.bgp_prefix.specs.Prefixes.{IpPrefix, leading_bits, prefix_eq, Starts}
-use Rattle.bgp_prefix.specs.Keys.{keyed, entries_now}
+use Rattle.bgp_prefix.specs.Keys.{entries_now}
 use Rattle.bgp_prefix.specs.Maps.{paths_of}
-use Rattle.bgp_prefix.specs.Tries.{routes, IsTrie, IsUnder}
+use Rattle.bgp_prefix.specs.Tries.{routes, IsTrie, IsUnder, IsRoutesOf}
 use Rattle.bgp_prefix.specs.declared.key.RouteKey.{RouteKey}
 use Rattle.bgp_prefix.specs.declared.radix.Branch.{Branch}
 use Rattle.bgp_prefix.specs.declared.radix.Fork.{Fork}
 use Rattle.bgp_prefix.proofs.KeyLaws.{same_prefix}
 use Rattle.bgp_prefix.proofs.TrieLaws.{IsFork, fork_routes}
-use Rattle.bgp_prefix.proofs.MatchLaws.{same_run}
-use Rattle.bgp_prefix.proofs.OrderLaws.{AllKeys, AllKeys-weaker, AllKeys-keyed, keys_start}
+use Rattle.bgp_prefix.proofs.OrderLaws.{AllKeys, AllKeys-weaker, own_keys, keys_start}
 
 -- an entry with the value behind its reference, of any keys
 pub entries_now-map : {V : Type 0} (es : List (RouteKey × Bor V)) → entries_now es ≡ map (λ e. (e.0, e.1.now)) es
@@ -31,17 +30,8 @@ module _ {V : Type 0} (p : IpPrefix) where
   paths_of-none [] h = refl
   paths_of-none (e ∷ es) h = ap (λ b. map (λ e. (e.0.id, e.1)) (cond b (e ∷ filter (λ e. prefix_eq p e.0.prefix) es) (filter (λ e. prefix_eq p e.0.prefix) es))) h.0 ∙ paths_of-none es h.1
 
-  paths_of_own : (xs : List (ℕ × V)) → paths_of p (keyed p xs) ≡ xs
-  paths_of_own [] = refl
-  paths_of_own (x ∷ xs) =
-      let rest = filter (λ (e : RouteKey × V). prefix_eq p e.0.prefix) (keyed p xs) in
-      ap (λ b. map (λ e. (e.0.id, e.1)) (cond b ((record { prefix = p; id = x.0 }, x.1) ∷ rest) rest)) (same_run p) ∙ ap (λ t. x ∷ t) (paths_of_own xs)
-
-  pub paths_of_leaf : (q : IpPrefix) (xs : List (ℕ × V)) → q ≡ p → paths_of p (keyed q xs) ≡ xs
-  paths_of_leaf q xs same = ap (λ (r : IpPrefix). paths_of p (keyed r xs)) same ∙ paths_of_own xs
-
-  pub paths_of_other : (q : IpPrefix) (xs : List (ℕ × V)) → (p ≡ q → ⊥) → paths_of p (keyed q xs) ≡ []
-  paths_of_other q xs other = paths_of-none (keyed q xs) (AllKeys-keyed (λ k. prefix_eq p k.prefix ≡ false) q xs (λ k same. untied p k.prefix (λ e. other (e ∙ same))))
+  paths_of_other : (q : IpPrefix) (es : List (RouteKey × V)) → IsRoutesOf q es → (p ≡ q → ⊥) → paths_of p es ≡ []
+  paths_of_other q es own other = paths_of-none es (AllKeys-weaker (λ k. k.prefix ≡ q) (λ k. prefix_eq p k.prefix ≡ false) es (λ k same. untied p k.prefix (λ e. other (e ∙ same))) (own_keys q es own))
 
   -- a prefix that does not start as the branch does has no routes in it
   pub paths_outside : (b : Branch V) → IsTrie b → (len bits : ℕ) → IsUnder len bits b → (Starts len bits p → ⊥) → paths_of p (routes b) ≡ []
@@ -49,8 +39,8 @@ module _ {V : Type 0} (p : IpPrefix) where
       paths_of-none (routes b) (AllKeys-weaker (λ k. Starts len bits k.prefix) (λ k. prefix_eq p k.prefix ≡ false) (routes b) (λ k s. untied p k.prefix (λ e. out (rw e s))) (keys_start b ok len bits under))
 
   module _ (f : Fork V) (ok : IsFork f) where
-    in_parts : paths_of p (fork_routes f) ≡ paths_of p (keyed f.prefix f.paths) ++ (paths_of p (routes f.low) ++ paths_of p (routes f.high))
-    in_parts = paths_of-append (keyed f.prefix f.paths) (routes f.low ++ routes f.high) ∙ ap (λ t. paths_of p (keyed f.prefix f.paths) ++ t) (paths_of-append (routes f.low) (routes f.high))
+    in_parts : paths_of p (fork_routes f) ≡ paths_of p f.here ++ (paths_of p (routes f.low) ++ paths_of p (routes f.high))
+    in_parts = paths_of-append f.here (routes f.low ++ routes f.high) ∙ ap (λ t. paths_of p f.here ++ t) (paths_of-append (routes f.low) (routes f.high))
 
     not_low : (Starts (f.prefix.len + 1) (2 * leading_bits f.prefix.len f.prefix.addr) p → ⊥) → paths_of p (routes f.low) ≡ []
     not_low = paths_outside f.low ok.5 _ _ ok.3
@@ -61,11 +51,11 @@ module _ {V : Type 0} (p : IpPrefix) where
     longer : (bits : ℕ) → p ≡ f.prefix → Starts (f.prefix.len + 1) bits p → ⊥
     longer bits same s = let long : f.prefix.len + 1 ≤ f.prefix.len = subst (λ (q : IpPrefix). f.prefix.len + 1 ≤ q.len) same s.long in omega (arith, long)
 
-    pub paths_here : p ≡ f.prefix → paths_of p (fork_routes f) ≡ f.paths
-    paths_here same = in_parts ∙ rw (paths_of_leaf f.prefix f.paths (sym same), not_low (longer _ same), not_high (longer _ same)) (append-nil f.paths)
+    pub paths_here : p ≡ f.prefix → paths_of p (fork_routes f) ≡ paths_of p f.here
+    paths_here same = in_parts ∙ rw (not_low (longer _ same), not_high (longer _ same)) (append-nil _)
 
     pub paths_in_low : Starts (f.prefix.len + 1) (2 * leading_bits f.prefix.len f.prefix.addr) p → paths_of p (fork_routes f) ≡ paths_of p (routes f.low)
-    paths_in_low s = in_parts ∙ rw (paths_of_other f.prefix f.paths (λ same. longer _ same s), not_high (λ u. omega (arith, s.shared, u.shared))) (append-nil _)
+    paths_in_low s = in_parts ∙ rw (paths_of_other f.prefix f.here ok.2 (λ same. longer _ same s), not_high (λ u. omega (arith, s.shared, u.shared))) (append-nil _)
 
     pub paths_in_high : Starts (f.prefix.len + 1) (2 * leading_bits f.prefix.len f.prefix.addr + 1) p → paths_of p (fork_routes f) ≡ paths_of p (routes f.high)
-    paths_in_high s = in_parts ∙ rw (paths_of_other f.prefix f.paths (λ same. longer _ same s), not_low (λ u. omega (arith, s.shared, u.shared))) refl
+    paths_in_high s = in_parts ∙ rw (paths_of_other f.prefix f.here ok.2 (λ same. longer _ same s), not_low (λ u. omega (arith, s.shared, u.shared))) refl

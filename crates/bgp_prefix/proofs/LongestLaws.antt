@@ -10,12 +10,12 @@ use Rattle.std.specs.FinMap.{find, is_sorted}
 use Rattle.std.specs.FinMap.Entries.{below_all}
 use Rattle.std.proofs.lemmas.Bool.{cases_lt, eqb-true}
 use Rattle.std.proofs.lemmas.Cmp.{tied_itself}
-use Rattle.bgp_prefix.specs.Prefixes.{IpPrefix, IsIpPrefix, leading_bits, contains}
+use Rattle.bgp_prefix.specs.Prefixes.{IpPrefix, IsIpPrefix, leading_bits, contains, prefix_eq}
 use Rattle.bgp_prefix.specs.Keys.{key_cmp, last_match}
 use Rattle.bgp_prefix.specs.Maps.{IsLongestMatch, HasNoMatch}
 use Rattle.bgp_prefix.specs.declared.key.RouteKey.{RouteKey}
 use Rattle.bgp_prefix.proofs.Bits.{share_fewer}
-use Rattle.bgp_prefix.proofs.KeyLaws.{key_cmp_total, tied_same}
+use Rattle.bgp_prefix.proofs.KeyLaws.{key_cmp_total, tied_same, same_prefix, other_prefix}
 use Rattle.bgp_prefix.proofs.MapLaws.{found}
 use Rattle.bgp_prefix.proofs.NetworkLaws.{network_is, shorter_than_network}
 use Rattle.bgp_prefix.proofs.OrderLaws.{AllKeys, AllKeys-weaker, first, second, less_by_len, network_below}
@@ -143,3 +143,27 @@ module _ {V : Type 0} (addr : ℕ) where
     pub longest_none : (o : Option IpPrefix) → o ≡ last_match es addr → IfNone o (HasNoMatch (finite.from_entries {R = key_cmp} es) addr)
     longest_none (Some p) is = tt
     longest_none None is = λ k there within. not_both _ (held_key (λ j. contains j.prefix addr ≡ false) k es (none_match es (sym is)) (in_list k there)) within
+
+    -- and the longest is the last match
+    pub last_is : (o : Option IpPrefix) → IfSome o (IsLongestMatch (finite.from_entries {R = key_cmp} es) addr) → IfNone o (HasNoMatch (finite.from_entries {R = key_cmp} es) addr) → o ≡ last_match es addr
+    last_is o some none = elim (last_match es addr) as (λ m. m ≡ last_match es addr → o ≡ m) [
+      | None ↦ λ is. not_found o some (longest_none None is)
+      | Some q ↦ λ is. same_found o q some none (longest_found (Some q) is)
+    ] refl
+      where
+        not_found : (o : Option IpPrefix) → IfSome o (IsLongestMatch (finite.from_entries {R = key_cmp} es) addr) → HasNoMatch (finite.from_entries {R = key_cmp} es) addr → o ≡ None
+        not_found None some out = refl
+        not_found (Some p) some out = absurd (out (record { prefix = p; id = some.held_by.0 }) some.held_by.1 some.matches)
+
+        same : (p q : IpPrefix) → IsLongestMatch (finite.from_entries {R = key_cmp} es) addr p → IsLongestMatch (finite.from_entries {R = key_cmp} es) addr q → p ≡ q
+        same p q a b = elim (prefix_eq p q) as (λ e. prefix_eq p q ≡ e → p ≡ q) [
+          | true ↦ λ e. same_prefix p q e
+          | false ↦ λ e.
+              let longer = a.longest (record { prefix = q; id = b.held_by.0 }) b.held_by.1 b.matches (λ is. other_prefix p q e is) in
+              let shorter = b.longest (record { prefix = p; id = a.held_by.0 }) a.held_by.1 a.matches (λ is. other_prefix p q e (sym is)) in
+              absurd (omega (arith, longer, shorter))
+        ] refl
+
+        same_found : (o : Option IpPrefix) (q : IpPrefix) → IfSome o (IsLongestMatch (finite.from_entries {R = key_cmp} es) addr) → IfNone o (HasNoMatch (finite.from_entries {R = key_cmp} es) addr) → IsLongestMatch (finite.from_entries {R = key_cmp} es) addr q → o ≡ Some q
+        same_found None q some none is = absurd (none (record { prefix = q; id = is.held_by.0 }) is.held_by.1 is.matches)
+        same_found (Some p) q some none is = ap Some (same p q some is)

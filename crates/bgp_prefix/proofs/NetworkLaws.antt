@@ -35,7 +35,7 @@ shorter_than_network addr n p is within other le = elim (cases_lt p.len n) [
   | inr ge ↦ let same : p.len ≡ n = omega (arith, le, ge) in absurd (other (network_is addr p is within ∙ ap (network addr) same))
 ]
 
-same_itself : (p : IpPrefix) → prefix_eq p p ≡ true
+pub same_itself : (p : IpPrefix) → prefix_eq p p ≡ true
 same_itself p = rw (eq-eqb p.addr p.addr refl, eq-eqb p.len p.len refl)
 
 module _ {V : Type 0} (es : List (RouteKey × V)) (addr : ℕ) where

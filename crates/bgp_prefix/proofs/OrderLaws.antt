@@ -3,18 +3,19 @@ use Rattle.std.proofs.Common.{◌≡◌, ℕ, ◌+◌, ◌*◌, ◌-◌, ◌<◌
 use Rattle.std.specs.declared.cmp.Ordering.TheVariants.{Less, Equal}
 use Rattle.std.specs.Ordering.{nat_cmp, is_lt, ordering_then}
 use Rattle.std.specs.FinMap.{is_sorted}
+use Rattle.std.specs.List.{All}
 use Rattle.std.specs.FinMap.Entries.{below_all}
 use Rattle.std.proofs.lemmas.Bool.{cases_lt, lt-ltb}
 use Rattle.std.proofs.lemmas.Cmp.{tied_itself, nat_cmp_total}
+use Rattle.std.proofs.lemmas.List.Elements.{All-nil, All-cons, All-head, All-tail}
 use Rattle.std.proofs.lemmas.Nat.{le-div, pow_pos}
 use Rattle.std.proofs.Math.Nat.{div-mul-le_self}
 use Rattle.bgp_prefix.specs.Prefixes.{IpPrefix, IsIpPrefix, leading_bits, block_size, Starts}
-use Rattle.bgp_prefix.specs.Keys.{key_cmp, keyed}
-use Rattle.bgp_prefix.specs.Tries.{routes, IsTrie, IsUnder}
+use Rattle.bgp_prefix.specs.Keys.{key_cmp}
+use Rattle.bgp_prefix.specs.Tries.{routes, IsTrie, IsUnder, IsRoutesOf}
 use Rattle.bgp_prefix.specs.declared.key.RouteKey.{RouteKey}
 use Rattle.bgp_prefix.specs.declared.radix.Branch.{Branch}
 use Rattle.bgp_prefix.specs.declared.radix.Branch.TheVariants.{Nothing, Leaf, Fork'}
-use Rattle.bgp_prefix.proofs.KeyLaws.{prefix_cmp_total}
 use Rattle.bgp_prefix.proofs.TrieLaws.{starts_as_parent}
 
 -- what holds of each key of a list
@@ -27,13 +28,22 @@ module _ {V : Type 0} (P : RouteKey → Type 0) where
   AllKeys-append [] fs a b = b
   AllKeys-append (e ∷ es) fs a b = (a.0, AllKeys-append es fs a.1 b)
 
-  pub AllKeys-keyed : (p : IpPrefix) (paths : List (ℕ × V)) → ((k : RouteKey) → k.prefix ≡ p → P k) → AllKeys P (keyed p paths)
-  AllKeys-keyed p [] h = tt
-  AllKeys-keyed p (x ∷ xs) h = (h (record { prefix = p; id = x.0 }) refl, AllKeys-keyed p xs h)
+  pub AllKeys-from_all : (es : List (RouteKey × V)) → All (λ e. P e.0) es → AllKeys P es
+  AllKeys-from_all [] h = tt
+  AllKeys-from_all (e ∷ es) h = (All-head (λ (d : RouteKey × V). P d.0) e es h, AllKeys-from_all es (All-tail (λ (d : RouteKey × V). P d.0) e es h))
 
   pub AllKeys-weaker : (Q : RouteKey → Type 0) (es : List (RouteKey × V)) → ((k : RouteKey) → P k → Q k) → AllKeys P es → AllKeys Q es
   AllKeys-weaker Q [] f h = tt
   AllKeys-weaker Q (e ∷ es) f h = (f e.0 h.0, AllKeys-weaker Q es f h.1)
+
+-- what follows from two facts that hold of each key
+pub AllKeys-both : {V : Type 0} (P Q R : RouteKey → Type 0) (es : List (RouteKey × V)) → ((k : RouteKey) → P k → Q k → R k) → AllKeys P es → AllKeys Q es → AllKeys R es
+AllKeys-both P Q R [] f a b = tt
+AllKeys-both P Q R (e ∷ es) f a b = (f e.0 a.0 b.0, AllKeys-both P Q R es f a.1 b.1)
+
+pub All-parts : {X : Type 0} (P : X → Type 0) (xs ys : List X) → All P (xs ++ ys) → All P xs × All P ys
+All-parts P [] ys h = (All-nil P, h)
+All-parts P (x ∷ xs) ys h = let rest = All-parts P xs ys (All-tail P x (xs ++ ys) h) in (All-cons P x xs (All-head P x (xs ++ ys) h) rest.0, rest.1)
 
 both : (a b : Bool) → T a → T b → T (a && b)
 both true b p q = q
@@ -80,18 +90,9 @@ less_by_len j k le h = elim (cases_lt j.prefix.addr k.prefix.addr) [
       ∙ ap (λ r. ordering_then r (nat_cmp j.id k.id)) (number_less _ _ h)
 ]
 
-less_by_id : (p : IpPrefix) (i j : ℕ) → key_cmp (record { prefix = p; id = i }) (record { prefix = p; id = j }) ≡ nat_cmp i j
-less_by_id p i j = ap (λ r. ordering_then r (nat_cmp i j)) (tied_itself prefix_cmp_total p)
-
 module _ {V : Type 0} where
-  below_keyed : (p : IpPrefix) (i : ℕ) (paths : List (ℕ × V)) → T (below_all nat_cmp i paths) → T (below_all key_cmp (record { prefix = p; id = i }) (keyed p paths))
-  below_keyed p i [] h = tt
-  below_keyed p i (x ∷ xs) h = both _ _ (subst (λ r. T (is_lt r)) (sym (less_by_id p i x.0)) (first _ _ h)) (below_keyed p i xs (second _ _ h))
-
-  -- the routes of one prefix
-  sorted_keyed : (p : IpPrefix) (paths : List (ℕ × V)) → T (is_sorted nat_cmp paths) → T (is_sorted key_cmp (keyed p paths))
-  sorted_keyed p [] h = tt
-  sorted_keyed p (x ∷ xs) h = both _ _ (below_keyed p x.0 xs (first _ _ h)) (sorted_keyed p xs (second _ _ h))
+  pub own_keys : (p : IpPrefix) (es : List (RouteKey × V)) → IsRoutesOf p es → AllKeys (λ k. k.prefix ≡ p) es
+  own_keys p es ok = AllKeys-from_all (λ k. k.prefix ≡ p) es ok.own
 
   below_append : (k : RouteKey) (es fs : List (RouteKey × V)) → T (below_all key_cmp k es) → AllKeys (λ j. key_cmp k j ≡ Less) fs → T (below_all key_cmp k (es ++ fs))
   below_append k [] [] a b = tt
@@ -103,26 +104,33 @@ module _ {V : Type 0} where
   sorted_append [] fs a b c = b
   sorted_append (e ∷ es) fs a b c = both _ _ (below_append e.0 es fs (first _ _ a) c.0) (sorted_append es fs (second _ _ a) b c.1)
 
+  below_parts : (k : RouteKey) (es fs : List (RouteKey × V)) → T (below_all key_cmp k (es ++ fs)) → T (below_all key_cmp k es)
+  below_parts k [] fs h = tt
+  below_parts k (e ∷ es) fs h = both _ _ (first _ _ h) (below_parts k es fs (second _ _ h))
+
+  pub sorted_parts : (es fs : List (RouteKey × V)) → T (is_sorted key_cmp (es ++ fs)) → T (is_sorted key_cmp es) × T (is_sorted key_cmp fs)
+  sorted_parts [] fs h = (tt, h)
+  sorted_parts (e ∷ es) fs h = let rest = sorted_parts es fs (second _ _ h) in (both _ _ (below_parts e.0 es fs (first _ _ h)) rest.0, rest.1)
+
   pub keys_start : (b : Branch V) → IsTrie b → (len bits : ℕ) → IsUnder len bits b → AllKeys (λ k. Starts len bits k.prefix) (routes b)
   keys_start Nothing ok len bits under = tt
-  keys_start (Leaf l) ok len bits under = AllKeys-keyed (λ k. Starts len bits k.prefix) l.value.prefix l.value.paths (λ k same. rw same (record { long = under.0; shared = under.1 }))
-  keys_start (Fork' p prefix low high paths) ok len bits under =
+  keys_start (Leaf l) ok len bits under = AllKeys-from_all (λ k. Starts len bits k.prefix) l under
+  keys_start (Fork' p prefix low high here) ok len bits under =
       let P = λ (k : RouteKey). Starts len bits k.prefix in
-      let here : Starts len bits prefix = record { long = under.0; shared = under.1 } in
       let a = keys_start low ok.5 (prefix.len + 1) (2 * leading_bits prefix.len prefix.addr) ok.3 in
       let b = keys_start high ok.6 (prefix.len + 1) (2 * leading_bits prefix.len prefix.addr + 1) ok.4 in
-      AllKeys-append P (keyed prefix paths) (routes low ++ routes high)
-      (AllKeys-keyed P prefix paths (λ k same. rw same here))
+      AllKeys-append P here (routes low ++ routes high)
+      (AllKeys-weaker (λ k. k.prefix ≡ prefix) P here (λ k same. rw same under) (own_keys prefix here ok.2))
       (AllKeys-append P (routes low) (routes high)
-      (AllKeys-weaker (λ k. Starts (prefix.len + 1) (2 * leading_bits prefix.len prefix.addr) k.prefix) P (routes low) (λ k s. starts_as_parent len bits prefix k.prefix 0 ok.1 here (omega arith) (record { long = s.long; shared = s.shared ∙ sym (add-zero _) })) a)
-      (AllKeys-weaker (λ k. Starts (prefix.len + 1) (2 * leading_bits prefix.len prefix.addr + 1) k.prefix) P (routes high) (λ k s. starts_as_parent len bits prefix k.prefix 1 ok.1 here (omega arith) s) b))
+      (AllKeys-weaker (λ k. Starts (prefix.len + 1) (2 * leading_bits prefix.len prefix.addr) k.prefix) P (routes low) (λ k s. starts_as_parent len bits prefix k.prefix 0 ok.1 under (omega arith) (record { long = s.long; shared = s.shared ∙ sym (add-zero _) })) a)
+      (AllKeys-weaker (λ k. Starts (prefix.len + 1) (2 * leading_bits prefix.len prefix.addr + 1) k.prefix) P (routes high) (λ k s. starts_as_parent len bits prefix k.prefix 1 ok.1 under (omega arith) s) b))
 
   pub keys_known : (b : Branch V) → IsTrie b → AllKeys (λ k. IsIpPrefix k.prefix) (routes b)
   keys_known Nothing ok = tt
-  keys_known (Leaf l) ok = AllKeys-keyed (λ k. IsIpPrefix k.prefix) l.value.prefix l.value.paths (λ k same. rw same ok.0)
-  keys_known (Fork' p prefix low high paths) ok =
+  keys_known (Leaf l) ok = AllKeys-from_all (λ k. IsIpPrefix k.prefix) l ok.0.known
+  keys_known (Fork' p prefix low high here) ok =
       let P = λ (k : RouteKey). IsIpPrefix k.prefix in
-      AllKeys-append P (keyed prefix paths) (routes low ++ routes high) (AllKeys-keyed P prefix paths (λ k same. rw same ok.0)) (AllKeys-append P (routes low) (routes high) (keys_known low ok.5) (keys_known high ok.6))
+      AllKeys-append P here (routes low ++ routes high) (AllKeys-weaker (λ k. k.prefix ≡ prefix) P here (λ k same. rw same ok.0) (own_keys prefix here ok.2)) (AllKeys-append P (routes low) (routes high) (keys_known low ok.5) (keys_known high ok.6))
 
   -- a fork's own keys are below those of a branch of it
   own_below : (p : IpPrefix) (r : ℕ) (k : RouteKey) (b : Branch V) → IsIpPrefix p → p.len < 32 → r < 2 → k.prefix ≡ p → IsTrie b → IsUnder (p.len + 1) (2 * leading_bits p.len p.addr + r) b → AllKeys (λ j. key_cmp k j ≡ Less) (routes b)
@@ -144,12 +152,13 @@ module _ {V : Type 0} where
   -- the keys of a branch rise
   pub routes_sorted : (b : Branch V) → IsTrie b → T (is_sorted key_cmp (routes b))
   routes_sorted Nothing ok = tt
-  routes_sorted (Leaf l) ok = sorted_keyed l.value.prefix l.value.paths ok.1
-  routes_sorted (Fork' p prefix low high paths) ok =
+  routes_sorted (Leaf l) ok = ok.0.sorted
+  routes_sorted (Fork' p prefix low high here) ok =
       let below : T (is_sorted key_cmp (routes low ++ routes high)) = sorted_append (routes low) (routes high) (routes_sorted low ok.5) (routes_sorted high ok.6) (low_below (prefix.len + 1) (2 * leading_bits prefix.len prefix.addr) low high ok.5 ok.6 ok.3 ok.4) in
       let in_low : IsUnder (prefix.len + 1) (2 * leading_bits prefix.len prefix.addr + 0) low = subst (λ (t : ℕ). IsUnder (prefix.len + 1) t low) (sym (add-zero _)) ok.3 in
-      sorted_append (keyed prefix paths) (routes low ++ routes high) (sorted_keyed prefix paths ok.2) below
-      (AllKeys-keyed (λ k. AllKeys (λ j. key_cmp k j ≡ Less) (routes low ++ routes high)) prefix paths
+      sorted_append here (routes low ++ routes high) ok.2.sorted below
+      (AllKeys-weaker (λ k. k.prefix ≡ prefix) (λ k. AllKeys (λ j. key_cmp k j ≡ Less) (routes low ++ routes high)) here
       (λ k same. AllKeys-append (λ j. key_cmp k j ≡ Less) (routes low) (routes high)
       (own_below prefix 0 k low ok.0 ok.1 (omega arith) same ok.5 in_low)
-      (own_below prefix 1 k high ok.0 ok.1 (omega arith) same ok.6 ok.4)))
+      (own_below prefix 1 k high ok.0 ok.1 (omega arith) same ok.6 ok.4))
+      (own_keys prefix here ok.2))

@@ -1,37 +1,29 @@
 -- What a removal leaves in the trie.
-use Rattle.std.proofs.Common.{◌≡◌, ℕ, ◌+◌, ◌*◌, ◌<◌, Bool, true, false, cond, if◌then◌else◌, not, ◌||◌, ◌&&◌, List, [], ◌∷◌, ◌++◌, Option, None, refl, sym, ap, ◌∙◌, T, arith, subst, add-zero}
-use Rattle.std.specs.Ordering.{nat_cmp, is_eq, eq_by_cmp}
-use Rattle.std.specs.Cmp.{alike_right, eq_by_cmp_equiv}
-use Rattle.std.specs.FinMap.{find}
-use Rattle.std.specs.FinMap.Entries.{find-where_key, where_key}
-use Rattle.std.proofs.lemmas.Cmp.{nat_cmp_total}
+use Rattle.std.proofs.Common.{◌≡◌, ℕ, ◌+◌, ◌*◌, ◌<◌, Bool, true, false, cond, if◌then◌else◌, not, ◌||◌, ◌&&◌, List, [], ◌∷◌, ◌++◌, Option, Some, None, refl, sym, ap, ◌∙◌, T, arith, subst, add-zero, Box}
+use Rattle.std.specs.declared.alloc.Global.{Global}
+use Rattle.std.specs.List.{All}
+use Rattle.std.specs.Ordering.{eq_by_cmp}
+use Rattle.std.specs.FinMap.{find, put, is_sorted}
+use Rattle.std.specs.FinMap.Entries.{where_key, same_entries, is_sorted-put, is_sorted-where_key}
 use Rattle.std.proofs.lemmas.List.{append-nil}
-use Rattle.bgp_prefix.specs.Prefixes.{IpPrefix, leading_bits, Starts}
-use Rattle.bgp_prefix.specs.Keys.{key_cmp, Changes, keyed, is_nil}
-use Rattle.bgp_prefix.specs.Tries.{routes, IsTrie, IsUnder, IsUnpruned, IsRemoved, is_nothing, is_idle, heir}
+use Rattle.std.proofs.lemmas.List.Elements.{All-weaker, All-filter}
+use Rattle.bgp_prefix.specs.Prefixes.{IpPrefix, IsIpPrefix, leading_bits, Starts}
+use Rattle.bgp_prefix.specs.Keys.{key_cmp, Changes, is_nil}
+use Rattle.bgp_prefix.specs.Tries.{routes, IsTrie, IsUnder, IsRoutes, IsRoutesOf, IsUnpruned, IsRemoved, is_nothing, is_idle, heir}
 use Rattle.bgp_prefix.specs.declared.key.RouteKey.{RouteKey}
 use Rattle.bgp_prefix.specs.declared.radix.Branch.{Branch}
-use Rattle.bgp_prefix.specs.declared.radix.Branch.TheVariants.{Nothing, Leaf, Fork'}
+use Rattle.bgp_prefix.specs.declared.radix.Branch.TheVariants.{Nothing, Leaf, Fork, Fork'}
 use Rattle.bgp_prefix.specs.declared.radix.Fork.{Fork as ForkOf}
-use Rattle.bgp_prefix.proofs.KeyLaws.{Changes-keyed, tied_same}
-use Rattle.bgp_prefix.proofs.TrieLaws.{IsFork, fork_routes, no_branch, starts_as_parent, Changes_here}
+use Rattle.bgp_prefix.proofs.KeyLaws.{key_cmp_total, key_cmp_exact, tied_same}
+use Rattle.bgp_prefix.proofs.MapLaws.{Changes-put, Changes-without}
+use Rattle.bgp_prefix.proofs.TrieLaws.{IsFork, fork_routes, no_branch, starts_as_parent, Changes_here, Changes_low_half, Changes_high_half}
+use Rattle.bgp_prefix.proofs.InsertLaws.{or_first, low_useful, high_useful}
 
 -- a child lies where its parent does
 pub child_under : {V : Type 0} (b : Branch V) (p : IpPrefix) (r len bits : ℕ) → p.len < 32 → r < 2 → IsUnder (p.len + 1) (2 * leading_bits p.len p.addr + r) b → Starts len bits p → IsUnder len bits b
 child_under Nothing p r len bits short h u s = tt
-child_under (Leaf l) p r len bits short h u s = let t = starts_as_parent len bits p l.value.prefix r short s h (record { long = u.0; shared = u.1 }) in (t.long, t.shared)
-child_under (Fork' q prefix low high paths) p r len bits short h u s = let t = starts_as_parent len bits p prefix r short s h (record { long = u.0; shared = u.1 }) in (t.long, t.shared)
-
-turned : {A : Type 0} (b : Bool) (x y : A) → cond (not b) x y ≡ cond b y x
-turned true x y = refl
-turned false x y = refl
-
--- a lookup without an identifier
-pub find-without : {V : Type 0} (id i : ℕ) (paths : List (ℕ × V)) → find nat_cmp i (where_key nat_cmp (λ x. not (eq_by_cmp nat_cmp id x)) paths) ≡ cond (eq_by_cmp nat_cmp i id) None (find nat_cmp i paths)
-find-without id i paths =
-    find-where_key nat_cmp (λ x. not (eq_by_cmp nat_cmp id x)) i (λ x t. ap (λ r. not (is_eq r)) (sym (alike_right nat_cmp_total i x id t))) paths
-    ∙ turned (eq_by_cmp nat_cmp id i) _ _
-    ∙ ap (λ b. cond b None (find nat_cmp i paths)) ((eq_by_cmp_equiv nat_cmp_total).symm id i)
+child_under {V} (Leaf l) p r len bits short h u s = All-weaker (λ (e : RouteKey × V). Starts (p.len + 1) (2 * leading_bits p.len p.addr + r) e.0.prefix) (λ (e : RouteKey × V). Starts len bits e.0.prefix) (λ e t. starts_as_parent len bits p e.0.prefix r short s h t) l u
+child_under (Fork' q prefix low high here) p r len bits short h u s = starts_as_parent len bits p prefix r short s h u
 
 -- a root pruned after a change of a part
 pub removed_by_prune : {V : Type 0} (old new : Branch V) (key : RouteKey) (left : List (RouteKey × V)) → Changes (routes old) left key None → IsTrie new → routes new ≡ left → ((len bits : ℕ) → IsUnder len bits old → IsUnder len bits new) → IsRemoved old new key
@@ -41,6 +33,10 @@ unchanged_by : {V : Type 0} (b : Bool) (o : Option V) → (b ≡ true → o ≡ 
 unchanged_by true o none = none refl
 unchanged_by false o none = refl
 
+twice : {A : Type 0} (b : Bool) (v o : Option A) → (b ≡ true → o ≡ None) → cond b None (cond b v o) ≡ o
+twice true v o none = sym (none refl)
+twice false v o none = refl
+
 -- a key that is not there
 pub nothing_removed : {V : Type 0} (b : Branch V) (key : RouteKey) → IsTrie b → find key_cmp key (routes b) ≡ None → IsRemoved b b key
 nothing_removed b key trie none = record {
@@ -49,12 +45,38 @@ nothing_removed b key trie none = record {
   under = λ len bits u. u;
 }
 
-module _ {V : Type 0} (key : RouteKey) where
-  pub without_changes : (p : IpPrefix) (paths new : List (ℕ × V)) → key.prefix ≡ p → new ≡ where_key nat_cmp (λ x. not (eq_by_cmp nat_cmp key.id x)) paths → Changes (keyed p paths) (keyed p new) key None
-  without_changes p paths new same is = Changes-keyed p paths new key None same (λ i. ap (find nat_cmp i) is ∙ find-without key.id i paths)
+-- what is left of a list of routes
+abbrev pub without : {V : Type 0} → RouteKey → List (RouteKey × V) → List (RouteKey × V)
+without key es = where_key key_cmp (λ x. not (eq_by_cmp key_cmp key x)) es
 
-  pub removed_here : (f : ForkOf V) (new : List (ℕ × V)) → IsFork f → key.prefix ≡ f.prefix → new ≡ where_key nat_cmp (λ x. not (eq_by_cmp nat_cmp key.id x)) f.paths → Changes (fork_routes f) (keyed f.prefix new ++ (routes f.low ++ routes f.high)) key None
-  removed_here f new trie same is = Changes_here f trie key new None same (without_changes f.prefix f.paths new same is)
+module _ {V : Type 0} (key : RouteKey) where
+  sorted_without : (es : List (RouteKey × V)) → T (is_sorted key_cmp es) → T (is_sorted key_cmp (without key es))
+  sorted_without es h = is_sorted-where_key key_cmp (λ x. not (eq_by_cmp key_cmp key x)) es h
+
+  all_without : (P : RouteKey → Type 0) (es : List (RouteKey × V)) → All (λ e. P e.0) es → All (λ e. P e.0) (without key es)
+  all_without P es h = All-filter (λ e. not (eq_by_cmp key_cmp key e.0)) (λ e. P e.0) es h
+
+  pub routes_without : (es : List (RouteKey × V)) → IsRoutes es → IsRoutes (without key es)
+  routes_without es ok = record { sorted = sorted_without es ok.sorted; known = all_without (λ k. IsIpPrefix k.prefix) es ok.known }
+
+  pub own_without : (p : IpPrefix) (es : List (RouteKey × V)) → IsRoutesOf p es → IsRoutesOf p (without key es)
+  own_without p es ok = record { sorted = sorted_without es ok.sorted; own = all_without (λ k. k.prefix ≡ p) es ok.own }
+
+  pub under_without : (es : List (RouteKey × V)) (len bits : ℕ) → All (λ e. Starts len bits e.0.prefix) es → All (λ e. Starts len bits e.0.prefix) (without key es)
+  under_without es len bits h = all_without (λ k. Starts len bits k.prefix) es h
+
+  pub without_changes : (es : List (RouteKey × V)) → Changes es (without key es) key None
+  without_changes es = Changes-without es _ key refl
+
+  pub removed_here : (f : ForkOf V) → IsFork f → key.prefix ≡ f.prefix → Changes (fork_routes f) (without key f.here ++ (routes f.low ++ routes f.high)) key None
+  removed_here f trie same = Changes_here f trie key (without key f.here) None same (without_changes f.here)
+
+  -- a key that is put where it was not, and removed again
+  pub put_without : (es : List (RouteKey × V)) (value : V) → T (is_sorted key_cmp es) → find key_cmp key es ≡ None → without key (put key_cmp key value es) ≡ es
+  put_without es value sorted none =
+      let there = put key_cmp key value es in
+      same_entries key_cmp key_cmp_total key_cmp_exact (without key there) es (sorted_without there (is_sorted-put key_cmp key_cmp_total key value es sorted)) sorted
+      (λ q. without_changes there q ∙ ap (cond (eq_by_cmp key_cmp q key) None) (Changes-put es there key value refl q) ∙ twice (eq_by_cmp key_cmp q key) (Some value) (find key_cmp q es) (λ t. rw (tied_same q key t) none))
 
 busy : (a b c : Bool) → (a && (b || c)) ≡ false → T (not a || (not b && not c))
 busy true true c e = cc
@@ -69,26 +91,25 @@ held false e = tt
 -- a root that is not idle
 pub busy_trie : {V : Type 0} (b : Branch V) → IsUnpruned b → is_idle b ≡ false → IsTrie b
 busy_trie Nothing ok e = tt
-busy_trie (Leaf l) ok e = (ok.0, ok.1, held (is_nil l.value.paths) e)
-busy_trie (Fork' p prefix low high paths) ok e = (ok.0, ok.1, ok.2, ok.3, ok.4, ok.5, ok.6, busy (is_nil paths) (is_nothing low) (is_nothing high) e)
+busy_trie (Leaf l) ok e = (ok, held (is_nil l) e)
+busy_trie (Fork' p prefix low high here) ok e = (ok.0, ok.1, ok.2, ok.3, ok.4, ok.5, ok.6, busy (is_nil here) (is_nothing low) (is_nothing high) e)
 
-no_routes : {V : Type 0} (p : IpPrefix) (paths : List (ℕ × V)) → is_nil paths ≡ true → keyed p paths ≡ []
-no_routes p [] e = refl
-no_routes p (x ∷ xs) e = cc
+no_routes : {V : Type 0} (es : List (RouteKey × V)) → is_nil es ≡ true → es ≡ []
+no_routes [] e = refl
+no_routes (x ∷ xs) e = cc
 
 pub heir_trie : {V : Type 0} (b : Branch V) → IsUnpruned b → IsTrie (heir b)
 heir_trie Nothing ok = tt
 heir_trie (Leaf l) ok = tt
-heir_trie (Fork' p prefix low high paths) ok = elim (is_nothing low) as (λ b. IsTrie (if b then high else low)) [ true ↦ ok.6 | false ↦ ok.5 ]
+heir_trie (Fork' p prefix low high here) ok = elim (is_nothing low) as (λ b. IsTrie (if b then high else low)) [ true ↦ ok.6 | false ↦ ok.5 ]
 
 pub heir_under : {V : Type 0} (b : Branch V) → IsUnpruned b → (len bits : ℕ) → IsUnder len bits b → IsUnder len bits (heir b)
 heir_under Nothing ok len bits u = tt
 heir_under (Leaf l) ok len bits u = tt
-heir_under (Fork' p prefix low high paths) ok len bits u =
-    let s : Starts len bits prefix = record { long = u.0; shared = u.1 } in
+heir_under (Fork' p prefix low high here) ok len bits u =
     elim (is_nothing low) as (λ b. IsUnder len bits (if b then high else low)) [
-      | true ↦ child_under high prefix 1 len bits ok.1 (omega arith) ok.4 s
-      | false ↦ child_under low prefix 0 len bits ok.1 (omega arith) (subst (λ (t : ℕ). IsUnder (prefix.len + 1) t low) (sym (add-zero _)) ok.3) s
+      | true ↦ child_under high prefix 1 len bits ok.1 (omega arith) ok.4 u
+      | false ↦ child_under low prefix 0 len bits ok.1 (omega arith) (subst (λ (t : ℕ). IsUnder (prefix.len + 1) t low) (sym (add-zero _)) ok.3) u
     ]
 
 first_true : (a b : Bool) → (a && b) ≡ true → a ≡ true
@@ -105,11 +126,46 @@ other_true false b n e = e
 
 pub heir_routes : {V : Type 0} (b : Branch V) → is_idle b ≡ true → routes (heir b) ≡ routes b
 heir_routes Nothing e = refl
-heir_routes (Leaf l) e = sym (no_routes l.value.prefix l.value.paths e)
-heir_routes (Fork' p prefix low high paths) e =
-    let here = no_routes prefix paths (first_true _ _ e) in
-    let child = second_true (is_nil paths) _ e in
-    elim (is_nothing low) as (λ b. is_nothing low ≡ b → routes (if b then high else low) ≡ keyed prefix paths ++ (routes low ++ routes high)) [
-      | true ↦ λ n. rw (here, no_branch low n) refl
-      | false ↦ λ n. rw (here, no_branch high (other_true _ _ n child)) (sym (append-nil (routes low)))
+heir_routes (Leaf l) e = sym (no_routes l e)
+heir_routes (Fork' p prefix low high here) e =
+    let none = no_routes here (first_true _ _ e) in
+    let child = second_true (is_nil here) _ e in
+    elim (is_nothing low) as (λ b. is_nothing low ≡ b → routes (if b then high else low) ≡ here ++ (routes low ++ routes high)) [
+      | true ↦ λ n. rw (none, no_branch low n) refl
+      | false ↦ λ n. rw (none, no_branch high (other_true _ _ n child)) (sym (append-nil (routes low)))
     ] refl
+
+module _ {V : Type 0} (key : RouteKey) where
+  -- what is left, where it is something
+  pub kept_leaf : (l new : List (RouteKey × V)) → IsTrie (Leaf l) → new ≡ without key l → is_nil new ≡ false → IsRemoved (Leaf l) (Leaf new) key
+  kept_leaf l new trie is some =
+      let routes : IsRoutes new = rw is (routes_without key l trie.0) in
+      record {
+        trie = (routes, held (is_nil new) some);
+        changes = rw is (without_changes key l);
+        under = λ len bits u. rw is (under_without key l len bits u);
+      }
+
+  kept_box : (old box : Box (ForkOf V) Global) (f : ForkOf V) → box.value ≡ f → old.value.prefix ≡ f.prefix → IsFork f → Changes (fork_routes old.value) (fork_routes f) key None → IsRemoved (Fork old) (Fork box) key
+  kept_box old box f is at fork changes =
+      let a : IsFork box.value = rw is fork in
+      let b : Changes (fork_routes old.value) (fork_routes box.value) key None = rw is changes in
+      let p : old.value.prefix ≡ box.value.prefix = rw is at in
+      record { trie = a; changes = b; under = λ len bits u. subst (Starts len bits) p u }
+
+  pub kept_here : (old box : Box (ForkOf V) Global) (here : List (RouteKey × V)) → IsFork old.value → key.prefix ≡ old.value.prefix → box.value ≡ record old.value { here = here } → here ≡ without key old.value.here → is_nil here ≡ false → IsRemoved (Fork old) (Fork box) key
+  kept_here old box here trie same is left some =
+      let f = old.value in
+      let own : IsRoutesOf f.prefix here = rw left (own_without key f.prefix f.here trie.2) in
+      let changes : Changes (fork_routes f) (here ++ (routes f.low ++ routes f.high)) key None = rw left (removed_here key f trie same) in
+      kept_box old box _ is refl (trie.0, trie.1, own, trie.3, trie.4, trie.5, trie.6, or_first _ _ (held (is_nil here) some)) changes
+
+  pub kept_low : (old box : Box (ForkOf V) Global) (low : Branch V) → IsFork old.value → (old.value.prefix.len < key.prefix.len) × (leading_bits (old.value.prefix.len + 1) key.prefix.addr ≡ 2 * leading_bits old.value.prefix.len key.prefix.addr) → box.value ≡ record old.value { low = low } → IsRemoved old.value.low low key → is_nothing low ≡ false → IsRemoved (Fork old) (Fork box) key
+  kept_low old box low trie way is done some =
+      let f = old.value in
+      kept_box old box _ is refl (trie.0, trie.1, trie.2, done.under _ _ trie.3, trie.4, done.trie, trie.6, rw some (low_useful (not (is_nil f.here)) (not (is_nothing f.low)) (not (is_nothing f.high)) trie.7)) (Changes_low_half f trie key low None way.0 way.1 done.changes)
+
+  pub kept_high : (old box : Box (ForkOf V) Global) (high : Branch V) → IsFork old.value → (old.value.prefix.len < key.prefix.len) × (leading_bits (old.value.prefix.len + 1) key.prefix.addr ≡ 2 * leading_bits old.value.prefix.len key.prefix.addr + 1) → box.value ≡ record old.value { high = high } → IsRemoved old.value.high high key → is_nothing high ≡ false → IsRemoved (Fork old) (Fork box) key
+  kept_high old box high trie way is done some =
+      let f = old.value in
+      kept_box old box _ is refl (trie.0, trie.1, trie.2, trie.3, done.under _ _ trie.4, trie.5, done.trie, rw some (high_useful (not (is_nil f.here)) (not (is_nothing f.low)) (not (is_nothing f.high)) trie.7)) (Changes_high_half f trie key high None way.0 way.1 done.changes)

@@ -11,11 +11,11 @@ use Rattle.std.specs.FinMap.Entries.{below_all, where_key, by_order}
 use Rattle.std.proofs.lemmas.Bool.{cases_order}
 use Rattle.bgp_prefix.specs.Searches.{IsAt, IsGap}
 
-first : (a b : Bool) → T (a && b) → T a
+pub first : (a b : Bool) → T (a && b) → T a
 first true b p = tt
 first false b p = p
 
-second : (a b : Bool) → T (a && b) → T b
+pub second : (a b : Bool) → T (a && b) → T b
 second true b p = p
 second false b p = absurd p
 

@@ -1,17 +1,18 @@
 -- Lookups in a branch of the trie.
-use Rattle.std.proofs.Common.{◌≡◌, ℕ, ◌+◌, ◌-◌, ◌*◌, ◌/◌, ◌^◌, ◌<◌, ◌≤◌, true, not, ◌||◌, ◌&&◌, List, [], ◌++◌, Option, None, refl, sym, ap, add-zero, ◌∙◌, T, arith, subst}
-use Rattle.std.specs.Ordering.{nat_cmp}
-use Rattle.std.specs.Option.{option_or}
-use Rattle.std.specs.FinMap.{find, is_sorted}
+use Rattle.std.proofs.Common.{◌≡◌, ℕ, ◌+◌, ◌-◌, ◌*◌, ◌/◌, ◌^◌, ◌<◌, ◌≤◌, true, not, ◌||◌, ◌&&◌, List, [], ◌++◌, Option, Some, None, refl, sym, ap, add-zero, ◌∙◌, T, arith, subst}
+use Rattle.std.specs.List.{All}
+use Rattle.std.specs.Option.{option_or, is_some}
+use Rattle.std.specs.FinMap.{find}
 use Rattle.bgp_prefix.specs.Prefixes.{IpPrefix, IsIpPrefix, leading_bits, Starts}
-use Rattle.bgp_prefix.specs.Keys.{key_cmp, Changes, keyed, is_nil}
-use Rattle.bgp_prefix.specs.Tries.{routes, IsTrie, IsUnder, is_nothing}
+use Rattle.bgp_prefix.specs.Keys.{key_cmp, Changes, is_nil}
+use Rattle.bgp_prefix.specs.Tries.{routes, IsTrie, IsUnder, IsRoutesOf, is_nothing}
 use Rattle.bgp_prefix.specs.declared.key.RouteKey.{RouteKey}
 use Rattle.bgp_prefix.specs.declared.radix.Branch.{Branch}
 use Rattle.bgp_prefix.specs.declared.radix.Branch.TheVariants.{Nothing, Leaf, Fork'}
 use Rattle.bgp_prefix.specs.declared.radix.Fork.{Fork}
 use Rattle.bgp_prefix.proofs.Bits.{fewer_bits, share_fewer}
-use Rattle.bgp_prefix.proofs.KeyLaws.{find-parts, find_keyed-other, find_keyed-same, Changes-front, Changes-back, or_none}
+use Rattle.bgp_prefix.proofs.KeyLaws.{find-parts, Changes-front, Changes-back, or_none}
+use Rattle.bgp_prefix.proofs.SortedMaps.{of_found}
 
 half_of : (t r x : ℕ) → x ≡ 2 * t + r → r < 2 → x / 2 ≡ t
 half_of t r x e h = omega (arith, e)
@@ -27,30 +28,37 @@ starts_as_parent len bits p q r short sp h sq =
       shared = share_fewer len p.len q.addr p.addr sp.long (omega arith) same ∙ sp.shared;
     }
 
+-- a prefix starts as it does itself
+pub starts_itself : (p : IpPrefix) → Starts p.len (leading_bits p.len p.addr) p
+starts_itself p = record { long = omega arith; shared = refl }
+
+-- a key of which something doesn't hold is in no list of keys of which it holds
+pub find_absent : {V : Type 0} (P : RouteKey → Type 0) (es : List (RouteKey × V)) (q : RouteKey) → All (λ e. P e.0) es → (P q → ⊥) → find key_cmp q es ≡ None
+find_absent P es q all out = elim (find key_cmp q es) as (λ o. find key_cmp q es ≡ o → o ≡ None) [ None ↦ λ e. refl | Some v ↦ λ e. absurd (out (of_found P es q all (ap is_some e))) ] refl
+
 module _ {V : Type 0} where
   -- a key that does not start as the branch does is not in it
   pub find_outside : (b : Branch V) → IsTrie b → (len bits : ℕ) → IsUnder len bits b → (q : RouteKey) → (Starts len bits q.prefix → ⊥) → find key_cmp q (routes b) ≡ None
   find_outside Nothing ok len bits under q out = refl
-  find_outside (Leaf l) ok len bits under q out = find_keyed-other q l.value.prefix l.value.paths (λ same. out (rw same (record { long = under.0; shared = under.1 })))
-  find_outside (Fork' p prefix low high paths) ok len bits under q out =
-      let here : Starts len bits prefix = record { long = under.0; shared = under.1 } in
-      find-parts q (keyed prefix paths) (routes low ++ routes high)
-      ∙ ap (λ o. option_or o (find key_cmp q (routes low ++ routes high))) (find_keyed-other q prefix paths (λ same. out (rw same here)))
+  find_outside (Leaf l) ok len bits under q out = find_absent (λ k. Starts len bits k.prefix) l q under out
+  find_outside (Fork' p prefix low high here) ok len bits under q out =
+      find-parts q here (routes low ++ routes high)
+      ∙ ap (λ o. option_or o (find key_cmp q (routes low ++ routes high))) (find_absent (λ k. k.prefix ≡ prefix) here q ok.2.own (λ same. out (rw same under)))
       ∙ find-parts q (routes low) (routes high)
-      ∙ ap (λ o. option_or o (find key_cmp q (routes high))) (find_outside low ok.5 (prefix.len + 1) (2 * leading_bits prefix.len prefix.addr) ok.3 q (λ s. out (starts_as_parent len bits prefix q.prefix 0 ok.1 here (omega arith) (record { long = s.long; shared = s.shared ∙ sym (add-zero _) }))))
-      ∙ find_outside high ok.6 (prefix.len + 1) (2 * leading_bits prefix.len prefix.addr + 1) ok.4 q (λ s. out (starts_as_parent len bits prefix q.prefix 1 ok.1 here (omega arith) s))
+      ∙ ap (λ o. option_or o (find key_cmp q (routes high))) (find_outside low ok.5 (prefix.len + 1) (2 * leading_bits prefix.len prefix.addr) ok.3 q (λ s. out (starts_as_parent len bits prefix q.prefix 0 ok.1 under (omega arith) (record { long = s.long; shared = s.shared ∙ sym (add-zero _) }))))
+      ∙ find_outside high ok.6 (prefix.len + 1) (2 * leading_bits prefix.len prefix.addr + 1) ok.4 q (λ s. out (starts_as_parent len bits prefix q.prefix 1 ok.1 under (omega arith) s))
 
   pub no_branch : (b : Branch V) → is_nothing b ≡ true → routes b ≡ []
   no_branch Nothing e = refl
   no_branch (Leaf l) e = cc
-  no_branch (Fork' p prefix low high paths) e = cc
+  no_branch (Fork' p prefix low high here) e = cc
 
   -- what holds of a fork
   abbrev pub IsFork : Fork V → Type 0
-  IsFork f = IsIpPrefix f.prefix × (f.prefix.len < 32) × T (is_sorted nat_cmp f.paths) × IsUnder (f.prefix.len + 1) (2 * leading_bits f.prefix.len f.prefix.addr) f.low × IsUnder (f.prefix.len + 1) (2 * leading_bits f.prefix.len f.prefix.addr + 1) f.high × IsTrie f.low × IsTrie f.high × T (not (is_nil f.paths) || (not (is_nothing f.low) && not (is_nothing f.high)))
+  IsFork f = IsIpPrefix f.prefix × (f.prefix.len < 32) × IsRoutesOf f.prefix f.here × IsUnder (f.prefix.len + 1) (2 * leading_bits f.prefix.len f.prefix.addr) f.low × IsUnder (f.prefix.len + 1) (2 * leading_bits f.prefix.len f.prefix.addr + 1) f.high × IsTrie f.low × IsTrie f.high × T (not (is_nil f.here) || (not (is_nothing f.low) && not (is_nothing f.high)))
 
   abbrev pub fork_routes : Fork V → List (RouteKey × V)
-  fork_routes f = keyed f.prefix f.paths ++ (routes f.low ++ routes f.high)
+  fork_routes f = f.here ++ (routes f.low ++ routes f.high)
 
   module _ (f : Fork V) (ok : IsFork f) (q : RouteKey) where
     not_low : (Starts (f.prefix.len + 1) (2 * leading_bits f.prefix.len f.prefix.addr) q.prefix → ⊥) → find key_cmp q (routes f.low) ≡ None
@@ -62,25 +70,27 @@ module _ {V : Type 0} where
     shorter_than_children : (bits : ℕ) → q.prefix ≡ f.prefix → Starts (f.prefix.len + 1) bits q.prefix → ⊥
     shorter_than_children bits same s = let long : f.prefix.len + 1 ≤ f.prefix.len = subst (λ (p : IpPrefix). f.prefix.len + 1 ≤ p.len) same s.long in omega (arith, long)
 
-    not_here : (bits : ℕ) → Starts (f.prefix.len + 1) bits q.prefix → find key_cmp q (keyed f.prefix f.paths) ≡ None
-    not_here bits s = find_keyed-other q f.prefix f.paths (λ same. shorter_than_children bits same s)
+    other_prefix : (q.prefix ≡ f.prefix → ⊥) → find key_cmp q f.here ≡ None
+    other_prefix other = find_absent (λ k. k.prefix ≡ f.prefix) f.here q ok.2.own other
+
+    not_here : (bits : ℕ) → Starts (f.prefix.len + 1) bits q.prefix → find key_cmp q f.here ≡ None
+    not_here bits s = other_prefix (λ same. shorter_than_children bits same s)
 
     two_halves : (bits : ℕ) → Starts (f.prefix.len + 1) bits q.prefix → Starts (f.prefix.len + 1) (bits + 1) q.prefix → ⊥
     two_halves bits s u = omega (arith, s.shared, u.shared)
 
-    in_parts : find key_cmp q (fork_routes f) ≡ option_or (find key_cmp q (keyed f.prefix f.paths)) (option_or (find key_cmp q (routes f.low)) (find key_cmp q (routes f.high)))
-    in_parts = find-parts q _ _ ∙ ap (option_or (find key_cmp q (keyed f.prefix f.paths))) (find-parts q _ _)
+    in_parts : find key_cmp q (fork_routes f) ≡ option_or (find key_cmp q f.here) (option_or (find key_cmp q (routes f.low)) (find key_cmp q (routes f.high)))
+    in_parts = find-parts q _ _ ∙ ap (option_or (find key_cmp q f.here)) (find-parts q _ _)
 
     pub apart_of_fork : (Starts f.prefix.len (leading_bits f.prefix.len f.prefix.addr) q.prefix → ⊥) → find key_cmp q (fork_routes f) ≡ None
     apart_of_fork out =
-        let low : Starts (f.prefix.len + 1) (2 * leading_bits f.prefix.len f.prefix.addr) q.prefix → ⊥ = λ s. out (starts_as_parent _ _ f.prefix q.prefix 0 ok.1 (record { long = omega arith; shared = refl }) (omega arith) (record { long = s.long; shared = s.shared ∙ sym (add-zero _) })) in
-        let high : Starts (f.prefix.len + 1) (2 * leading_bits f.prefix.len f.prefix.addr + 1) q.prefix → ⊥ = λ s. out (starts_as_parent _ _ f.prefix q.prefix 1 ok.1 (record { long = omega arith; shared = refl }) (omega arith) s) in
-        let here : find key_cmp q (keyed f.prefix f.paths) ≡ None = find_keyed-other q f.prefix f.paths (λ same. out (rw same (record { long = omega arith; shared = refl }))) in
-        in_parts ∙ rw (here, not_low low) (not_high high)
+        let low : Starts (f.prefix.len + 1) (2 * leading_bits f.prefix.len f.prefix.addr) q.prefix → ⊥ = λ s. out (starts_as_parent _ _ f.prefix q.prefix 0 ok.1 (starts_itself f.prefix) (omega arith) (record { long = s.long; shared = s.shared ∙ sym (add-zero _) })) in
+        let high : Starts (f.prefix.len + 1) (2 * leading_bits f.prefix.len f.prefix.addr + 1) q.prefix → ⊥ = λ s. out (starts_as_parent _ _ f.prefix q.prefix 1 ok.1 (starts_itself f.prefix) (omega arith) s) in
+        in_parts ∙ rw (other_prefix (λ same. out (rw same (starts_itself f.prefix))), not_low low) (not_high high)
 
     -- where a key is found in a fork, and what a change there changes
-    pub find_here : q.prefix ≡ f.prefix → find key_cmp q (fork_routes f) ≡ find nat_cmp q.id f.paths
-    find_here same = in_parts ∙ rw (not_low (shorter_than_children _ same), not_high (shorter_than_children _ same)) (or_none _) ∙ find_keyed-same q f.prefix f.paths same
+    pub find_here : q.prefix ≡ f.prefix → find key_cmp q (fork_routes f) ≡ find key_cmp q f.here
+    find_here same = in_parts ∙ rw (not_low (shorter_than_children _ same), not_high (shorter_than_children _ same)) (or_none _)
 
     pub find_in_low : Starts (f.prefix.len + 1) (2 * leading_bits f.prefix.len f.prefix.addr) q.prefix → find key_cmp q (fork_routes f) ≡ find key_cmp q (routes f.low)
     find_in_low s = in_parts ∙ rw (not_here _ s, not_high (two_halves _ s)) (or_none _)
@@ -88,26 +98,29 @@ module _ {V : Type 0} where
     pub find_in_high : Starts (f.prefix.len + 1) (2 * leading_bits f.prefix.len f.prefix.addr + 1) q.prefix → find key_cmp q (fork_routes f) ≡ find key_cmp q (routes f.high)
     find_in_high s = in_parts ∙ rw (not_here _ s, not_low (λ u. two_halves _ u s)) refl
 
+    longer_other : f.prefix.len < q.prefix.len → q.prefix ≡ f.prefix → ⊥
+    longer_other longer same = let long : f.prefix.len < f.prefix.len = subst (λ (p : IpPrefix). f.prefix.len < p.len) same longer in omega (arith, long)
+
     -- a key longer than the fork's prefix is in no branch but that of its next bit
     pub find_in_low_half : f.prefix.len < q.prefix.len → leading_bits (f.prefix.len + 1) q.prefix.addr ≡ 2 * leading_bits f.prefix.len q.prefix.addr → find key_cmp q (fork_routes f) ≡ find key_cmp q (routes f.low)
-    find_in_low_half longer bit = in_parts ∙ rw (find_keyed-other q f.prefix f.paths longer_other, not_high (λ s. omega (arith, s.shared, bit))) (or_none _)
-      where
-        longer_other : q.prefix ≡ f.prefix → ⊥
-        longer_other same = let long : f.prefix.len < f.prefix.len = subst (λ (p : IpPrefix). f.prefix.len < p.len) same longer in omega (arith, long)
+    find_in_low_half longer bit = in_parts ∙ rw (other_prefix (longer_other longer), not_high (λ s. omega (arith, s.shared, bit))) (or_none _)
 
     pub find_in_high_half : f.prefix.len < q.prefix.len → leading_bits (f.prefix.len + 1) q.prefix.addr ≡ 2 * leading_bits f.prefix.len q.prefix.addr + 1 → find key_cmp q (fork_routes f) ≡ find key_cmp q (routes f.high)
-    find_in_high_half longer bit = in_parts ∙ rw (find_keyed-other q f.prefix f.paths longer_other, not_low (λ s. omega (arith, s.shared, bit))) refl
-      where
-        longer_other : q.prefix ≡ f.prefix → ⊥
-        longer_other same = let long : f.prefix.len < f.prefix.len = subst (λ (p : IpPrefix). f.prefix.len < p.len) same longer in omega (arith, long)
+    find_in_high_half longer bit = in_parts ∙ rw (other_prefix (longer_other longer), not_low (λ s. omega (arith, s.shared, bit))) refl
 
-    pub Changes_here : (paths : List (ℕ × V)) (v : Option V) → q.prefix ≡ f.prefix → Changes (keyed f.prefix f.paths) (keyed f.prefix paths) q v → Changes (fork_routes f) (keyed f.prefix paths ++ (routes f.low ++ routes f.high)) q v
-    Changes_here paths v same h =
+    pub Changes_low_half : (low : Branch V) (v : Option V) → f.prefix.len < q.prefix.len → leading_bits (f.prefix.len + 1) q.prefix.addr ≡ 2 * leading_bits f.prefix.len q.prefix.addr → Changes (routes f.low) (routes low) q v → Changes (fork_routes f) (f.here ++ (routes low ++ routes f.high)) q v
+    Changes_low_half low v longer bit h = Changes-back f.here _ _ q v (other_prefix (longer_other longer)) (Changes-front _ _ (routes f.high) q v (not_high (λ s. omega (arith, s.shared, bit))) h)
+
+    pub Changes_high_half : (high : Branch V) (v : Option V) → f.prefix.len < q.prefix.len → leading_bits (f.prefix.len + 1) q.prefix.addr ≡ 2 * leading_bits f.prefix.len q.prefix.addr + 1 → Changes (routes f.high) (routes high) q v → Changes (fork_routes f) (f.here ++ (routes f.low ++ routes high)) q v
+    Changes_high_half high v longer bit h = Changes-back f.here _ _ q v (other_prefix (longer_other longer)) (Changes-back (routes f.low) _ _ q v (not_low (λ s. omega (arith, s.shared, bit))) h)
+
+    pub Changes_here : (here : List (RouteKey × V)) (v : Option V) → q.prefix ≡ f.prefix → Changes f.here here q v → Changes (fork_routes f) (here ++ (routes f.low ++ routes f.high)) q v
+    Changes_here here v same h =
         let none : find key_cmp q (routes f.low ++ routes f.high) ≡ None = find-parts q _ _ ∙ ap (λ o. option_or o (find key_cmp q (routes f.high))) (not_low (shorter_than_children _ same)) ∙ not_high (shorter_than_children _ same) in
         Changes-front _ _ (routes f.low ++ routes f.high) q v none h
 
-    pub Changes_low : (low : Branch V) (v : Option V) → Starts (f.prefix.len + 1) (2 * leading_bits f.prefix.len f.prefix.addr) q.prefix → Changes (routes f.low) (routes low) q v → Changes (fork_routes f) (keyed f.prefix f.paths ++ (routes low ++ routes f.high)) q v
-    Changes_low low v s h = Changes-back (keyed f.prefix f.paths) _ _ q v (not_here _ s) (Changes-front _ _ (routes f.high) q v (not_high (two_halves _ s)) h)
+    pub Changes_low : (low : Branch V) (v : Option V) → Starts (f.prefix.len + 1) (2 * leading_bits f.prefix.len f.prefix.addr) q.prefix → Changes (routes f.low) (routes low) q v → Changes (fork_routes f) (f.here ++ (routes low ++ routes f.high)) q v
+    Changes_low low v s h = Changes-back f.here _ _ q v (not_here _ s) (Changes-front _ _ (routes f.high) q v (not_high (two_halves _ s)) h)
 
-    pub Changes_high : (high : Branch V) (v : Option V) → Starts (f.prefix.len + 1) (2 * leading_bits f.prefix.len f.prefix.addr + 1) q.prefix → Changes (routes f.high) (routes high) q v → Changes (fork_routes f) (keyed f.prefix f.paths ++ (routes f.low ++ routes high)) q v
-    Changes_high high v s h = Changes-back (keyed f.prefix f.paths) _ _ q v (not_here _ s) (Changes-back (routes f.low) _ _ q v (not_low (λ u. two_halves _ u s)) h)
+    pub Changes_high : (high : Branch V) (v : Option V) → Starts (f.prefix.len + 1) (2 * leading_bits f.prefix.len f.prefix.addr + 1) q.prefix → Changes (routes f.high) (routes high) q v → Changes (fork_routes f) (f.here ++ (routes f.low ++ routes high)) q v
+    Changes_high high v s h = Changes-back f.here _ _ q v (not_here _ s) (Changes-back (routes f.low) _ _ q v (not_low (λ u. two_halves _ u s)) h)

@@ -25,11 +25,6 @@ among keys k = list_any (key_eq k) keys
 abbrev pub Changes : {V : Type 0} → List (RouteKey × V) → List (RouteKey × V) → RouteKey → Option V → Type 0
 Changes old new key v = (q : RouteKey) → find key_cmp q new ≡ cond (eq_by_cmp key_cmp q key) v (find key_cmp q old)
 
--- the routes of one prefix under its keys
-abbrev pub keyed : {V : Type 0} → IpPrefix → List (ℕ × V) → List (RouteKey × V)
-keyed p [] = []
-keyed p (e ∷ es) = (record { prefix = p; id = e.0 }, e.1) ∷ keyed p es
-
 -- the prefix of the last entry whose prefix contains the address
 abbrev pub last_match : {V : Type 0} → List (RouteKey × V) → ℕ → Option IpPrefix
 last_match [] addr = None

@@ -5,4 +5,4 @@ pub mod Ordered
 pub mod Searches
 pub mod Tries
 pub mod Places
-pub mod HeldPaths
+pub mod Splits

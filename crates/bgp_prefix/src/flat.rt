@@ -1,21 +1,22 @@
-ghost use Rattle.std.specs.Prelude.{◌≡◌, ◌≢◌, ◌≤◌, ℕ, List, [], ◌∷◌, ◌++◌, not, T, IfOk, IfErr, OnOk, OnErr, IfSome, IfNone, length, map};
+ghost use Rattle.std.specs.Prelude.{◌≡◌, ◌≢◌, ◌<◌, ◌≤◌, ◌+◌, ℕ, List, [], ◌∷◌, ◌++◌, not, T, IfOk, IfErr, OnOk, OnErr, IfSome, IfNone, OnSome, length, map, take, drop, vec_len, nat_lt, true, false};
 ghost use Rattle.std.specs.List.{All, list_any};
 ghost use Rattle.std.specs.List.Sorted.{IsPartitionPoint};
 ghost use Rattle.std.specs.declared.cmp.Ordering.TheVariants.{Less};
 ghost use Rattle.std.specs.Option.{option_copied};
 ghost use Rattle.std.specs.Ordering.{eq_by_cmp};
 ghost use Rattle.bgp_prefix.specs.Prefixes.{IsIpPrefix, prefix_cmp, prefix_eq};
-ghost use Rattle.bgp_prefix.specs.Keys.{key_cmp};
+ghost use Rattle.bgp_prefix.specs.Keys.{key_cmp, is_nil, entries_now, matching_prefixes};
 ghost use Rattle.bgp_prefix.specs.Maps.{IsLongestMatch, HasNoMatch, paths_of};
 ghost use Rattle.std.specs.FinMap as finite;
 ghost use Rattle.std.specs.FinMap.{find, put};
 ghost use Rattle.std.specs.FinMap.Entries.{is_sorted, where_key};
 ghost use Rattle.bgp_prefix.specs.Searches.{IsAt, IsGap};
+ghost use Rattle.bgp_prefix.specs.Splits.{upper_half, IsCover, IsSplit, IsOfOnePrefix};
 
 use crate::key::RouteKey;
 use crate::map::PrefixMap;
 use crate::memory::Memory;
-use crate::prefix::Prefix;
+use crate::prefix::{Prefix, shared_len};
 use std::alloc::Global;
 use std::marker::Model;
 use std::mem;
@@ -41,6 +42,16 @@ impl<V> Model for Flat<V> {
     ghost invariant = { λ p. record { sorted : T (is_sorted key_cmp p.items.items); known : All (λ e. IsIpPrefix e.0.prefix) p.items.items } };
 }
 
+/// A list of routes around a prefix: those of the prefix itself, and those of the longer ones by
+/// their next bit.
+#[derive(Drop)]
+pub(crate) struct Parts<V> {
+    pub(crate) at: Prefix,
+    pub(crate) here: Flat<V>,
+    pub(crate) low: Flat<V>,
+    pub(crate) high: Flat<V>,
+}
+
 impl<V: Drop> Flat<V> {
     /// An empty map. It takes no memory.
     pub fn new(alloc: Global) -> Flat<V>
@@ -49,6 +60,17 @@ impl<V: Drop> Flat<V> {
         Flat {
             items: Vec::new(alloc),
         }
+    }
+
+    /// A map of one key, in a list that has no more room. An `Err` drops the value.
+    pub(crate) fn one(alloc: Global, key: RouteKey, value: V) -> Result<Flat<V>, Memory>
+        ensures { IfOk result (λ one. one ≡ (key, value) ∷ []) }
+    {
+        // What holds of each prefix is known once it is read.
+        let _ = key.prefix.len();
+        let mut items = Vec::with_capacity(alloc, 1)?;
+        items.push((key, value))?;
+        Ok(Flat { items })
     }
 
     /// The value of a key.
@@ -119,17 +141,32 @@ impl<V: Drop> Flat<V> {
         self.items.len()
     }
 
+    /// Whether there is no key.
+    pub fn is_empty(&self) -> bool
+        ensures { result ≡ is_nil self.now }
+    {
+        self.items.is_empty()
+    }
+
+    /// Adds the entries to a list, in the order of their keys.
+    pub(crate) fn list<'a>(&'a self, all: &mut Vec<(RouteKey, &'a V)>) -> Result<(), Memory>
+        ensures { OnOk result (entries_now all.new.items ≡ entries_now all.old.items ++ self.now) }
+    {
+        for item in &self.items {
+            if all.push((item.0, &item.1)).is_err() {
+                return Err(Memory);
+            }
+        }
+        Ok(())
+    }
+
     /// The whole map, in the order of its keys. An `Err` is want of memory.
     pub fn entries(&self, alloc: Global) -> Result<Vec<(RouteKey, &V)>, Memory>
         ensures entries { IfOk result (λ all. map (λ e. (e.0, e.1.now)) all.items ≡ self.now) }
         ensures sorted { T (is_sorted key_cmp self.now) }
     {
         let mut all = Vec::with_capacity(alloc, self.items.len())?;
-        for item in &self.items {
-            if all.push((item.0, &item.1)).is_err() {
-                return Err(Memory);
-            }
-        }
+        self.list(&mut all)?;
         Ok(all)
     }
 
@@ -173,6 +210,108 @@ impl<V: Drop> Flat<V> {
         None
     }
 
+    // The number of keys whose addresses are at most this one.
+    fn no_higher(&self, addr: u32) -> usize
+        ensures bound { result ≤ length self.now }
+        ensures end { IsPartitionPoint (λ e. e.0.prefix.addr ≤ addr) (λ e. addr < e.0.prefix.addr) self.now result }
+    {
+        self.items
+            .partition_point(move |item| item.0.prefix.addr() <= addr)
+    }
+
+    /// As `longest`, and how many prefixes were compared with the address. Their lengths differ.
+    /// For short lists: it walks back through all whose addresses are at most this one.
+    pub fn longest_steps(&self, addr: u32) -> (Option<Prefix>, u32)
+        ensures found { IfSome result.0 (IsLongestMatch (finite.from_entries self.now) addr) }
+        ensures none { IfNone result.0 (HasNoMatch (finite.from_entries self.now) addr) }
+        ensures enough { matching_prefixes self.now addr ≤ result.1 }
+        ensures bound { (len : ℕ) → len ≤ 33 → All (λ e. len ≤ e.0.prefix.len) self.now → len + result.1 ≤ 33 }
+    {
+        let Some(host) = Prefix::new(addr, 32) else {
+            unreachable!()
+        };
+        let mut longest = None;
+        let mut steps = 0;
+        let mut limit = 33;
+        let mut at = self.no_higher(addr);
+        while at > 0 {
+            at -= 1;
+            let prefix = self.items[at].0.prefix;
+            if prefix.len() >= limit {
+                continue;
+            }
+            steps += 1;
+            if prefix.contains(addr) {
+                longest = longest.or(Some(prefix));
+                limit = prefix.len();
+            } else {
+                limit = shared_len(&prefix, &host) + 1;
+            }
+        }
+        (longest, steps)
+    }
+
+    // The longest prefix that covers those of all keys, where these are not one and the same.
+    fn cover(&self) -> Option<Prefix>
+        ensures cover { IfSome result (IsCover self.now) }
+        ensures one { IfNone result (IsOfOnePrefix self.now) }
+        ensures sorted { T (is_sorted key_cmp self.now) }
+        ensures known { All (λ e. IsIpPrefix e.0.prefix) self.now }
+    {
+        let first = self.items.first()?.0.prefix;
+        let last = self.items.last()?.0.prefix;
+        if first == last {
+            return None;
+        }
+        Some(first.shortened(shared_len(&first, &last)))
+    }
+
+    // Where the keys of the prefix that covers all end.
+    fn own_end(&self, at: &Prefix) -> usize
+        requires { IsCover self.now at.now }
+        ensures bound { result ≤ length self.now }
+        ensures end { IsPartitionPoint (λ e. prefix_eq e.0.prefix at.now ≡ true) (λ e. prefix_eq e.0.prefix at.now ≡ false) self.now result }
+    {
+        let at = *at;
+        self.items.partition_point(move |item| item.0.prefix == at)
+    }
+
+    // Where the keys whose next bit after the prefix that covers all is 0 end.
+    fn low_end(&self, at: &Prefix) -> usize
+        requires { IsCover self.now at.now }
+        ensures bound { result ≤ length self.now }
+        ensures end { IsPartitionPoint (λ e. nat_lt e.0.prefix.addr (upper_half at.now) ≡ true) (λ e. nat_lt e.0.prefix.addr (upper_half at.now) ≡ false) self.now result }
+    {
+        let half = at.addr() as u64 + (1u64 << (31 - at.len() as u32));
+        self.items
+            .partition_point(move |item| (item.0.prefix.addr() as u64) < half)
+    }
+
+    /// Parts the list by the longest prefix that covers those of all keys. None where these are
+    /// one and the same. The list is empty once it is parted, and unchanged else.
+    pub(crate) fn split(&mut self, alloc: Global) -> Result<Option<Parts<V>>, Memory>
+        ensures parts { IfOk result (λ o. IfSome o (λ p. IsSplit self.old p.at p.here p.low p.high)) }
+        ensures left { IfOk result (λ o. OnSome o (self.new ≡ [])) }
+        ensures whole { IfOk result (λ o. IfNone o (self.new ≡ self.old)) }
+        ensures one { IfOk result (λ o. IfNone o (IsOfOnePrefix self.old)) }
+        ensures err { OnErr result (self.new ≡ self.old) }
+    {
+        let Some(at) = self.cover() else {
+            return Ok(None);
+        };
+        let own = self.own_end(&at);
+        let lower = self.low_end(&at);
+        let (low, high) = cut(&mut self.items, own, lower)?;
+        let mut here = mem::replace(&mut self.items, Vec::new(alloc));
+        here.shrink_to_fit();
+        Ok(Some(Parts {
+            at,
+            here: Flat { items: here },
+            low: Flat { items: low },
+            high: Flat { items: high },
+        }))
+    }
+
     /// The identifiers and values of the keys of a prefix, ascending by identifier. An `Err` is
     /// want of memory.
     pub fn paths(&self, alloc: Global, prefix: &Prefix) -> Result<Vec<(u32, &V)>, Memory>
@@ -189,6 +328,26 @@ impl<V: Drop> Flat<V> {
             }
         }
         Ok(all)
+    }
+}
+
+/// Cuts a list at two places, and leaves it the first part. An `Err` changes nothing.
+fn cut<T: Drop>(items: &mut Vec<T>, first: usize, second: usize) -> Result<(Vec<T>, Vec<T>), Memory>
+    requires order { first ≤ second }
+    requires within { second ≤ vec_len items.old }
+    ensures left { OnOk result (items.new.items ≡ take first items.old.items) }
+    ensures parts { IfOk result (λ p. (p.0.items ≡ drop first (take second items.old.items)) × (p.1.items ≡ drop second items.old.items)) }
+    ensures err { OnErr result (items.new.items ≡ items.old.items) }
+{
+    let mut last = items.split_off(second)?;
+    match items.split_off(first) {
+        Ok(middle) => Ok((middle, last)),
+        Err(_) => {
+            if items.append(&mut last).is_err() {
+                unreachable!()
+            }
+            Err(Memory)
+        }
     }
 }
 

@@ -6,8 +6,6 @@ mod key;
 mod key_set;
 mod map;
 mod memory;
-mod path_list;
-mod paths;
 mod prefix;
 mod radix;
 mod sequence;

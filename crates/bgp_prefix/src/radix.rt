@@ -1,38 +1,38 @@
-ghost use Rattle.std.specs.Prelude.{◌≡◌, ◌≢◌, ℕ, ◌+◌, ◌-◌, ◌*◌, ◌<◌, ◌≤◌, IsTrue, Option, Some, None, IsSome, [], ◌++◌, map, OnOk, OnErr, IfOk, IfSome, IfNone, if◌then◌else◌};
+ghost use Rattle.std.specs.Prelude.{◌≡◌, ◌≢◌, ℕ, ◌+◌, ◌-◌, ◌*◌, ◌<◌, ◌≤◌, IsTrue, Option, Some, None, IsSome, [], ◌∷◌, ◌++◌, map, not, true, OnOk, OnErr, IfOk, IfSome, IfNone, if◌then◌else◌};
 ghost use Rattle.std.specs.Option.{option_copied, option_or};
+ghost use Rattle.std.specs.Ordering.{eq_by_cmp};
 ghost use Rattle.std.specs.FinMap as finite;
-ghost use Rattle.std.specs.FinMap.{find};
+ghost use Rattle.std.specs.FinMap.{find, put};
+ghost use Rattle.std.specs.FinMap.Entries.{where_key};
 ghost use Rattle.bgp_prefix.specs.Prefixes.{IpPrefix, IsIpPrefix, leading_bits, Starts};
 ghost use Rattle.bgp_prefix.specs.Keys.{key_cmp, Changes, last_match, matching_prefixes, entries_now, is_nil};
 ghost use Rattle.bgp_prefix.specs.Maps.{IsLongestMatch, HasNoMatch, paths_of};
 ghost use Rattle.bgp_prefix.specs.Places.{IsPlace, IsWay};
-ghost use Rattle.bgp_prefix.specs.declared.radix.Branch.TheVariants.{Nothing};
-ghost use Rattle.bgp_prefix.specs.Tries.{routes, IsTrie, IsUnder, IsRoot, IsBelowLeaf, IsInserted, IsLeafOf, IsUnpruned, IsRemoved, is_nothing, is_idle, heir};
+ghost use Rattle.bgp_prefix.specs.declared.radix.Branch.TheVariants.{Nothing, Leaf};
+ghost use Rattle.bgp_prefix.specs.Tries.{routes, IsTrie, IsUnder, IsRoot, IsLeaf, IsForkOf, IsInserted, IsUnpruned, IsRemoved, branch_of, is_nothing, is_idle, heir};
 
+use crate::flat::{Flat, Parts};
 use crate::key::RouteKey;
 use crate::map::PrefixMap;
 use crate::memory::Memory;
-use crate::paths::Paths;
 use crate::prefix::{Prefix, bit_after, shared_len};
 use std::alloc::Global;
 use std::marker::Model;
 use std::mem;
 
-/// A part of the trie: nothing, one prefix, or a fork with two branches. Lengths rise strictly on
-/// the way down, so there are at most 33 levels, and the derived recursive drop is shallow.
+/// A leaf with more routes becomes a fork, where they have several prefixes.
+const LEAF_ROUTES: usize = 24;
+
+/// A part of the trie: nothing, a leaf with the routes of any prefixes in order, never empty, or a
+/// fork with two branches. Each prefix that is held is a node: a leaf's block has several nodes
+/// side by side. Lengths of forks rise strictly on the way down, so there are at most 33 levels,
+/// and the derived recursive drop is shallow.
 #[cycle(branch)]
 #[derive(Drop)]
 enum Branch<V> {
     Nothing,
-    Leaf(Box<Leaf<V>>),
+    Leaf(Flat<V>),
     Fork(Box<Fork<V>>),
-}
-
-/// A prefix with its routes.
-#[derive(Drop)]
-struct Leaf<V> {
-    prefix: Prefix,
-    paths: Paths<V>,
 }
 
 /// A prefix with its routes, if it has any, and the longer prefixes within it by their next bit.
@@ -42,7 +42,7 @@ struct Fork<V> {
     prefix: Prefix,
     low: Branch<V>,
     high: Branch<V>,
-    paths: Paths<V>,
+    here: Flat<V>,
 }
 
 /// Where a prefix belongs in a fork: at its prefix, in a branch, or outside.
@@ -98,14 +98,9 @@ impl<V: Drop> Branch<V> {
         loop {
             match at {
                 Branch::Nothing => return None,
-                Branch::Leaf(leaf) => {
-                    if leaf.prefix == key.prefix {
-                        return leaf.paths.get(key.id);
-                    }
-                    return None;
-                }
+                Branch::Leaf(leaf) => return leaf.get(key),
                 Branch::Fork(fork) => match way_to(&fork.prefix, &key.prefix) {
-                    Place::Here => return fork.paths.get(key.id),
+                    Place::Here => return fork.here.get(key),
                     Place::Low => match &fork.low {
                         Branch::Nothing => return None,
                         low => at = low,
@@ -135,54 +130,17 @@ impl<V: Drop> Branch<V> {
     {
         match self {
             Branch::Nothing => self.insert_leaf(alloc, key, slot),
-            Branch::Leaf(leaf) => {
-                let at = leaf.prefix;
-                match place_of(&at, &key.prefix) {
-                    Place::Here => leaf.paths.exchange(alloc, key.id, slot),
-                    Place::Low => self.insert_below(alloc, false, key, slot),
-                    Place::High => self.insert_below(alloc, true, key, slot),
-                    Place::Apart => self.insert_apart(alloc, &at, key, slot),
-                }
-            }
+            Branch::Leaf(_) => self.insert_in_leaf(alloc, key, slot),
             Branch::Fork(fork) => {
                 let at = fork.prefix;
                 match place_of(&at, &key.prefix) {
-                    Place::Here => fork.paths.exchange(alloc, key.id, slot),
-                    Place::Low => {
-                        if fork.low.is_nothing() {
-                            fork.low.insert_leaf(alloc, key, slot)
-                        } else {
-                            fork.low.insert(alloc, key, slot)
-                        }
-                    }
-                    Place::High => {
-                        if fork.high.is_nothing() {
-                            fork.high.insert_leaf(alloc, key, slot)
-                        } else {
-                            fork.high.insert(alloc, key, slot)
-                        }
-                    }
+                    Place::Here => exchange(&mut fork.here, key, slot),
+                    Place::Low => fork.low.insert(alloc, key, slot),
+                    Place::High => fork.high.insert(alloc, key, slot),
                     Place::Apart => self.insert_apart(alloc, &at, key, slot),
                 }
             }
         }
-    }
-
-    /// A leaf with one route, whose value is taken from a slot.
-    fn leaf(alloc: Global, key: &RouteKey, slot: &mut Option<V>) -> Result<Branch<V>, Memory>
-        requires known { IsIpPrefix key.now.prefix }
-        requires given { IsSome slot.old }
-        ensures leaf { IfOk result (λ leaf. IfSome slot.old (λ value. IsLeafOf key.now value leaf)) }
-        ensures taken { slot.new ≡ None }
-    {
-        let Some(value) = slot.take() else {
-            unreachable!()
-        };
-        let leaf = Leaf {
-            prefix: key.prefix,
-            paths: Paths::one(key.id, value),
-        };
-        Ok(Branch::Leaf(Box::new(alloc, leaf)?))
     }
 
     /// Adds a route where there was nothing.
@@ -200,36 +158,44 @@ impl<V: Drop> Branch<V> {
         ensures ok { OnOk result (IfSome slot.old (IsInserted self.old self.new key.now)) }
         ensures err { OnErr result (self.new ≡ self.old) }
     {
-        self.set(Branch::leaf(alloc, key, slot)?);
+        self.set(Branch::Leaf(one(alloc, key, slot)?));
         Ok(())
     }
 
-    /// Adds a route below this leaf, which becomes a fork.
+    /// Sets a value in this leaf, which becomes a fork where it has too many routes then.
     #[inline(never)]
-    fn insert_below(
+    fn insert_in_leaf(
         &mut self,
         alloc: Global,
-        is_high: bool,
         key: &RouteKey,
         slot: &mut Option<V>,
     ) -> Result<(), Memory>
         requires trie { IsTrie self.old }
+        requires leaf { IsLeaf self.old }
         requires known { IsIpPrefix key.now.prefix }
-        requires below { IsBelowLeaf self.old is_high key.now.prefix }
         requires given { IsSome slot.old }
-        ensures taken { slot.new ≡ None }
+        ensures before { OnOk result (slot.new ≡ find key_cmp key.now (routes self.old)) }
         ensures ok { OnOk result (IfSome slot.old (IsInserted self.old self.new key.now)) }
         ensures err { OnErr result (self.new ≡ self.old) }
     {
         let Branch::Leaf(leaf) = self else {
             unreachable!()
         };
-        let new = Branch::leaf(alloc, key, slot)?;
-        let mut fork = Fork::new(alloc, leaf.prefix, Paths::new())?;
-        mem::swap(&mut fork.paths, &mut leaf.paths);
-        fork.set_child(is_high, new);
-        self.set(Branch::Fork(fork));
-        Ok(())
+        exchange(leaf, key, slot)?;
+        if slot.is_some() || leaf.len() <= LEAF_ROUTES {
+            return Ok(());
+        }
+        match Fork::of(alloc, &key.prefix, leaf) {
+            Ok(None) => Ok(()),
+            Ok(Some(fork)) => {
+                self.set(Branch::Fork(fork));
+                Ok(())
+            }
+            Err(e) => {
+                let _ = take(leaf, key, slot);
+                Err(e)
+            }
+        }
     }
 
     /// Adds a route whose prefix the root's prefix `at` doesn't cover, by a fork above both.
@@ -252,71 +218,57 @@ impl<V: Drop> Branch<V> {
     {
         let shared = shared_len(at, &key.prefix);
         if shared == key.prefix.len() {
-            let paths = Paths::taken(key.id, slot);
-            let mut fork = Fork::new(alloc, key.prefix, paths)?;
+            let here = one(alloc, key, slot)?;
+            let mut fork = Fork::new(alloc, key.prefix, here)?;
             let is_high = bit_after(at.addr(), shared);
             fork.set_child(is_high, mem::replace(self, Branch::Nothing));
             self.set(Branch::Fork(fork));
             return Ok(());
         }
-        let new = Branch::leaf(alloc, key, slot)?;
-        let mut fork = Fork::new(alloc, at.shortened(shared), Paths::new())?;
+        let new = one(alloc, key, slot)?;
+        let mut fork = Fork::new(alloc, at.shortened(shared), Flat::new(alloc))?;
         let is_high = bit_after(at.addr(), shared);
-        fork.set_child(!is_high, new);
+        fork.set_child(!is_high, Branch::Leaf(new));
         fork.set_child(is_high, mem::replace(self, Branch::Nothing));
         self.set(Branch::Fork(fork));
         Ok(())
     }
 
     /// Removes a key, and leaves its value in a slot, which is empty before: as for `insert`, no
-    /// value is among the locals of this recursion.
-    fn remove(&mut self, key: &RouteKey, slot: &mut Option<V>)
+    /// value is among the locals of this recursion. Whether nothing is left.
+    fn remove(&mut self, key: &RouteKey, slot: &mut Option<V>) -> bool
         requires trie { IsTrie self.old }
         requires empty { slot.old ≡ None }
         ensures before { slot.new ≡ find key_cmp key.now (routes self.old) }
         ensures removed { IsRemoved self.old self.new key.now }
+        ensures nothing { result ≡ is_nothing self.new }
     {
         match self {
-            Branch::Nothing => {}
-            Branch::Leaf(leaf) => {
-                let at = leaf.prefix;
-                if at == key.prefix {
-                    leaf.paths.take(key.id, slot);
-                    self.prune();
-                }
-            }
-            Branch::Fork(fork) => {
-                let at = fork.prefix;
-                match place_of(&at, &key.prefix) {
-                    Place::Here => {
-                        fork.paths.take(key.id, slot);
-                        self.prune();
-                    }
-                    Place::Low => {
-                        fork.low.remove(key, slot);
-                        self.prune();
-                    }
-                    Place::High => {
-                        fork.high.remove(key, slot);
-                        self.prune();
-                    }
-                    Place::Apart => {}
-                }
-            }
+            Branch::Nothing => true,
+            Branch::Leaf(leaf) => take(leaf, key, slot) && self.prune(),
+            Branch::Fork(fork) => match way_to(&fork.prefix, &key.prefix) {
+                Place::Here => take(&mut fork.here, key, slot) && self.prune(),
+                Place::Low => fork.low.remove(key, slot) && self.prune(),
+                Place::High => fork.high.remove(key, slot) && self.prune(),
+                Place::Apart => false,
+            },
         }
     }
 
-    /// Drops the root where it neither holds routes nor forks.
-    fn prune(&mut self)
+    /// Drops the root where it neither holds routes nor forks. Whether nothing is left.
+    #[inline(never)]
+    fn prune(&mut self) -> bool
         requires { IsUnpruned self.old }
         ensures trie { IsTrie self.new }
         ensures routes { routes self.new ≡ routes self.old }
         ensures under { (len : ℕ) → (bits : ℕ) → IsUnder len bits self.old → IsUnder len bits self.new }
+        ensures nothing { result ≡ is_nothing self.new }
     {
         if self.is_idle() {
             let heir = self.heir();
             self.set(heir);
         }
+        self.is_nothing()
     }
 
     /// Whether the root neither holds routes nor forks.
@@ -325,9 +277,9 @@ impl<V: Drop> Branch<V> {
     {
         match self {
             Branch::Nothing => false,
-            Branch::Leaf(leaf) => leaf.paths.is_empty(),
+            Branch::Leaf(leaf) => leaf.is_empty(),
             Branch::Fork(fork) => {
-                fork.paths.is_empty() && (fork.low.is_nothing() || fork.high.is_nothing())
+                fork.here.is_empty() && (fork.low.is_nothing() || fork.high.is_nothing())
             }
         }
     }
@@ -383,17 +335,15 @@ impl<V: Drop> Branch<V> {
             match at {
                 Branch::Nothing => return (longest, steps),
                 Branch::Leaf(leaf) => {
-                    if leaf.prefix.contains(addr) {
-                        longest = Some(leaf.prefix);
-                    }
-                    return (longest, steps + 1);
+                    let (longer, more) = leaf.longest_steps(addr);
+                    return (longer.or(longest), steps + more);
                 }
                 Branch::Fork(fork) => {
                     steps += 1;
                     if !fork.prefix.contains(addr) {
                         return (longest, steps);
                     }
-                    if !fork.paths.is_empty() {
+                    if !fork.here.is_empty() {
                         longest = Some(fork.prefix);
                     }
                     let Some(branch) = fork.branch(bit_after(addr, fork.prefix.len())) else {
@@ -411,9 +361,9 @@ impl<V: Drop> Branch<V> {
     {
         match self {
             Branch::Nothing => Ok(()),
-            Branch::Leaf(leaf) => leaf.paths.list(&leaf.prefix, all),
+            Branch::Leaf(leaf) => leaf.list(all),
             Branch::Fork(fork) => {
-                fork.paths.list(&fork.prefix, all)?;
+                fork.here.list(all)?;
                 fork.low.list(all)?;
                 fork.high.list(all)
             }
@@ -427,19 +377,24 @@ impl<V: Drop> Branch<V> {
     {
         match self {
             Branch::Nothing => Ok(Vec::new(alloc)),
-            Branch::Leaf(leaf) => {
-                if leaf.prefix == *prefix {
-                    leaf.paths.to_vec(alloc)
-                } else {
-                    Ok(Vec::new(alloc))
-                }
-            }
+            Branch::Leaf(leaf) => leaf.paths(alloc, prefix),
             Branch::Fork(fork) => match place_of(&fork.prefix, prefix) {
-                Place::Here => fork.paths.to_vec(alloc),
+                Place::Here => fork.here.paths(alloc, prefix),
                 Place::Low => fork.low.paths(alloc, prefix),
                 Place::High => fork.high.paths(alloc, prefix),
                 Place::Apart => Ok(Vec::new(alloc)),
             },
+        }
+    }
+
+    /// A branch of these routes, with no fork.
+    fn of(held: Flat<V>) -> Branch<V>
+        ensures { result ≡ branch_of held }
+    {
+        if held.is_empty() {
+            Branch::Nothing
+        } else {
+            Branch::Leaf(held)
         }
     }
 
@@ -451,16 +406,44 @@ impl<V: Drop> Branch<V> {
 }
 
 impl<V: Drop> Fork<V> {
-    fn new(alloc: Global, prefix: Prefix, paths: Paths<V>) -> Result<Box<Fork<V>>, Memory>
-        ensures { IfOk result (λ fork. fork.value ≡ record { prefix = prefix; paths = paths; low = Nothing; high = Nothing }) }
+    /// A fork without branches.
+    fn new(alloc: Global, prefix: Prefix, here: Flat<V>) -> Result<Box<Fork<V>>, Memory>
+        ensures { IfOk result (λ fork. fork.value ≡ record { prefix = prefix; low = Nothing; high = Nothing; here = here }) }
     {
         let fork = Fork {
             prefix,
             low: Branch::Nothing,
             high: Branch::Nothing,
-            paths,
+            here,
         };
         Ok(Box::new(alloc, fork)?)
+    }
+
+    /// The fork of a list's routes, where they have several prefixes. Its memory is taken before
+    /// the list is parted, with any prefix in it, so an `Err` changes nothing.
+    #[inline(never)]
+    fn of(alloc: Global, any: &Prefix, held: &mut Flat<V>) -> Result<Option<Box<Fork<V>>>, Memory>
+        ensures fork { IfOk result (λ o. IfSome o (λ fork. IsForkOf held.old fork.value)) }
+        ensures whole { IfOk result (λ o. IfNone o (held.new ≡ held.old)) }
+        ensures err { OnErr result (held.new ≡ held.old) }
+    {
+        let mut fork = Fork::new(alloc, *any, Flat::new(alloc))?;
+        let Some(parts) = held.split(alloc)? else {
+            return Ok(None);
+        };
+        fork.fill(parts);
+        Ok(Some(fork))
+    }
+
+    fn fill(&mut self, parts: Parts<V>)
+        ensures { self.new ≡ record { prefix = parts.at; low = branch_of parts.low; high = branch_of parts.high; here = parts.here } }
+    {
+        *self = Fork {
+            prefix: parts.at,
+            low: Branch::of(parts.low),
+            high: Branch::of(parts.high),
+            here: parts.here,
+        };
     }
 
     /// The branch of one half, where there is anything in it. Each half is tested by itself, so
@@ -485,6 +468,49 @@ impl<V: Drop> Fork<V> {
             self.low.set(branch);
         }
     }
+}
+
+// The routes of a leaf, or of a fork's prefix. A value is taken from a slot and left in one: so no
+// function with more to do has a value among its locals.
+
+/// A list of one route, whose value is taken from a slot.
+#[inline(never)]
+fn one<V: Drop>(alloc: Global, key: &RouteKey, slot: &mut Option<V>) -> Result<Flat<V>, Memory>
+    requires { IsSome slot.old }
+    ensures one { IfOk result (λ held. IfSome slot.old (λ value. held ≡ (key.now, value) ∷ [])) }
+    ensures taken { slot.new ≡ None }
+{
+    let Some(value) = slot.take() else {
+        unreachable!()
+    };
+    Flat::one(alloc, *key, value)
+}
+
+/// Sets the value of a key to that of a slot, which is left with the one before. An `Err` changes
+/// nothing but the slot.
+#[inline(never)]
+fn exchange<V: Drop>(held: &mut Flat<V>, key: &RouteKey, slot: &mut Option<V>) -> Result<(), Memory>
+    requires { IsSome slot.old }
+    ensures before { OnOk result (slot.new ≡ find key_cmp key.now held.old) }
+    ensures ok { OnOk result (IfSome slot.old (λ value. held.new ≡ put key_cmp key.now value held.old)) }
+    ensures err { OnErr result (held.new ≡ held.old) }
+{
+    let Some(value) = slot.take() else {
+        unreachable!()
+    };
+    *slot = held.insert(*key, value)?;
+    Ok(())
+}
+
+/// Removes a key, and leaves a slot with its value. Whether none is left.
+#[inline(never)]
+fn take<V: Drop>(held: &mut Flat<V>, key: &RouteKey, slot: &mut Option<V>) -> bool
+    ensures before { slot.new ≡ find key_cmp key.now held.old }
+    ensures removed { held.new ≡ where_key key_cmp (λ x. not (eq_by_cmp key_cmp key.now x)) held.old }
+    ensures none { result ≡ is_nil held.new }
+{
+    *slot = held.remove(key);
+    held.is_empty()
 }
 
 /// A finite map from keys to values, as a path-compressed trie of the keys' prefixes.
@@ -545,7 +571,7 @@ impl<V: Drop> PrefixMap<V> for Radix<V> {
 
     fn remove(&mut self, key: &RouteKey) -> Option<V> {
         let mut slot = None;
-        self.root.remove(key, &mut slot);
+        let _ = self.root.remove(key, &mut slot);
         if slot.is_some() {
             self.len -= 1;
         }

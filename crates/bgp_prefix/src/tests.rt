@@ -75,6 +75,41 @@ fn each_map_answers_its_calls(rt: HostRuntime) -> Result<(), Fail> {
 }
 
 #[test]
+fn parts_a_list_around_its_cover(rt: HostRuntime) -> Result<(), Fail> {
+    let alloc = rt.alloc();
+    let mut list: Flat<u32> = PrefixMap::new(alloc);
+    let eight = key(0x0A00_0000, 8, 0)?;
+    let eight_too = key(0x0A00_0000, 8, 7)?;
+    let low = key(0x0A01_0000, 16, 0)?;
+    let high = key(0x0A80_0000, 9, 0)?;
+    for entry in &[(high, 1), (eight_too, 2), (low, 3), (eight, 4)] {
+        assert_eq!(rt; list.insert(entry.0, entry.1)?, None);
+    }
+    let mut parts = list.split(alloc)?.ok_or("several prefixes")?;
+    assert_eq!(rt; (parts.at, list.len()), (eight.prefix, 0));
+    assert_eq!(rt;
+        entries(&parts.here, alloc)?.as_slice(),
+        [(eight, 4), (eight_too, 2)].as_slice()
+    );
+    assert_eq!(rt;
+        entries(&parts.low, alloc)?.as_slice(),
+        [(low, 3)].as_slice()
+    );
+    assert_eq!(rt;
+        entries(&parts.high, alloc)?.as_slice(),
+        [(high, 1)].as_slice()
+    );
+    // One prefix is not parted. The cover of two may be that of neither.
+    assert!(rt; parts.here.split(alloc)?.is_none() && list.split(alloc)?.is_none());
+    assert_eq!(rt; parts.here.len(), 2);
+    assert_eq!(rt; parts.low.insert(high, 5)?, None);
+    let halves = parts.low.split(alloc)?.ok_or("two prefixes")?;
+    assert_eq!(rt; (halves.at, halves.here.len()), (eight.prefix, 0));
+    assert_eq!(rt; (halves.low.len(), halves.high.len()), (1, 1));
+    Ok(())
+}
+
+#[test]
 fn relates_prefixes(rt: HostRuntime) -> Result<(), Fail> {
     assert_eq!(rt; Prefix::new(0, 33), None);
     let default = Prefix::new(0xFFFF_FFFF, 0).ok_or("0 bits")?;

@@ -2,47 +2,35 @@ use Rattle.std.proofs.Common.{refl, sym, ◌∙◌, subst, arith}
 use Rattle.bgp_prefix.specs.Prefixes.{leading_bits}
 use Rattle.bgp_prefix.specs.Tries.{IsTrie, IsUnder}
 use Rattle.bgp_prefix.specs.declared.radix.Branch.TheVariants.{Fork}
-use Rattle.bgp_prefix.proofs.KeyLaws.{same_prefix, other_prefix}
-use Rattle.bgp_prefix.proofs.ListedLaws.{paths_of_leaf, paths_of_other, paths_outside, paths_here, paths_in_low, paths_in_high}
+use Rattle.bgp_prefix.proofs.TrieLaws.{starts_itself}
+use Rattle.bgp_prefix.proofs.ListedLaws.{paths_outside, paths_here, paths_in_low, paths_in_high}
 use Rattle.bgp_prefix.proofs.radix.Branch.+paths.Goals as goal
-
-pub returns-then-eq : goal.returns-then-eq
-returns-then-eq g t c =
-    let l = c.in-Leaf.leaf.value in
-    let same = rw c.deref.ensures at (same_prefix c.deref.result.now.prefix c.args.prefix.now (sym c.eq.ensures ∙ c.if-eq.true)) in
-    rw (c.in-Leaf.is, paths_of_leaf c.args.prefix.now l.prefix l.paths same) (rw c.deref-then-eq.ensures at c.to_vec.ensures)
-
-pub returns-else-eq : goal.returns-else-eq
-returns-else-eq g t c =
-    let l = c.in-Leaf.leaf.value in
-    let other = rw c.deref.ensures at (other_prefix c.deref.result.now.prefix c.args.prefix.now (sym c.eq.ensures ∙ c.if-eq.false)) in
-    rw (c.in-Leaf.is, c.new-else-eq.ensures.items) (sym (paths_of_other c.args.prefix.now l.prefix l.paths other))
 
 pub returns-in-Here : goal.returns-in-Here
 returns-in-Here g t c =
     let f = c.in-Fork.fork.value in
     let trie = subst IsTrie c.in-Fork.is c.requires in
-    let place = rw c.deref-in-Fork.ensures at c.in-Here.ensures in
-    rw (c.in-Fork.is, paths_here c.args.prefix.now f trie place) (rw c.deref-in-Here.ensures at c.to_vec-in-Here.ensures)
+    let place = rw c.deref.ensures at c.in-Here.ensures in
+    rw (c.in-Fork.is, paths_here c.args.prefix.now f trie place) (rw c.deref-in-Here.ensures at c.paths-in-Here.ensures.paths)
 
 pub returns-in-Low : goal.returns-in-Low
 returns-in-Low g t c =
     let f = c.in-Fork.fork.value in
     let trie = subst IsTrie c.in-Fork.is c.requires in
-    let place = rw c.deref-in-Fork.ensures at c.in-Low.ensures in
-    rw (c.in-Fork.is, paths_in_low c.args.prefix.now f trie place) (rw c.deref-in-Low.ensures at c.paths.ensures)
+    let place = rw c.deref.ensures at c.in-Low.ensures in
+    rw (c.in-Fork.is, paths_in_low c.args.prefix.now f trie place) (rw c.deref-in-Low.ensures at c.paths-in-Low.ensures)
 
 pub returns-in-High : goal.returns-in-High
 returns-in-High g t c =
     let f = c.in-Fork.fork.value in
     let trie = subst IsTrie c.in-Fork.is c.requires in
-    let place = rw c.deref-in-Fork.ensures at c.in-High.ensures in
+    let place = rw c.deref.ensures at c.in-High.ensures in
     rw (c.in-Fork.is, paths_in_high c.args.prefix.now f trie place) (rw c.deref-in-High.ensures at c.paths-in-High.ensures)
 
 pub returns-in-Apart : goal.returns-in-Apart
 returns-in-Apart g t c =
     let f = c.in-Fork.fork.value in
     let trie = subst IsTrie c.in-Fork.is c.requires in
-    let place = rw c.deref-in-Fork.ensures at c.in-Apart.ensures in
-    let under : IsUnder f.prefix.len (leading_bits f.prefix.len f.prefix.addr) (Fork c.in-Fork.fork) = (omega arith, refl) in
+    let place = rw c.deref.ensures at c.in-Apart.ensures in
+    let under : IsUnder f.prefix.len (leading_bits f.prefix.len f.prefix.addr) (Fork c.in-Fork.fork) = starts_itself f.prefix in
     rw (c.in-Fork.is, c.new-in-Apart.ensures.items) (sym (paths_outside c.args.prefix.now (Fork c.in-Fork.fork) trie _ _ under place))

@@ -11,7 +11,7 @@ returns-then-shared-len-clause-ok g c =
     let len : a.key.now.prefix.len ≡ c.shared_len-shared.result = omega (arith, c.len.ensures.len, c.if-shared-len.true) in
     let bit = rw c.addr.ensures.addr at c.bit_after-is_high.ensures in
     let fork = rw (c.deref_mut.ensures.value, c.in_ok-fork.ensures, c.replace.ensures.value) at c.set_child.ensures in
-    rw c.set.ensures (IfSome_then _ {P = λ value. c.taken-paths.result ≡ (a.key.now.id, value) ∷ []} c.taken-paths.ensures.paths (λ value is. inserted_box _ _ _ _ _ (rw is at fork) (inserted_above a.self.now a.at.now a.key.now value c.requires.trie c.requires.root s.known_p c.requires.known c.requires.apart _ shared len _ bit)))
+    rw c.set.ensures (IfSome_then _ {P = λ value. c.in_ok-here.here ≡ (a.key.now, value) ∷ []} c.in_ok-here.ensures.one (λ value is. inserted_box _ _ _ _ _ (rw is at fork) (inserted_above a.self.now a.at.now a.key.now value c.requires.trie c.requires.root s.known_p c.requires.known c.requires.apart _ shared len _ bit)))
 
 pub returns-clause-ok : goal.returns-clause-ok
 returns-clause-ok g c =
@@ -22,4 +22,4 @@ returns-clause-ok g c =
     let bit = rw c.addr-2.ensures.addr at c.bit_after-is_high-2.ensures in
     let new = rw (c.deref_mut-2.ensures.value, c.in_ok-fork-2.ensures, c.new-2.ensures) at c.set_child-2.ensures in
     let fork = rw (c.deref_mut-3.ensures.value, new, c.replace-2.ensures.value) at c.set_child-3.ensures in
-    rw c.set-2.ensures (IfSome_then _ c.in_ok-new.ensures.leaf (λ value is. inserted_box _ _ _ _ _ fork (inserted_between a.self.now a.at.now a.key.now value c.requires.trie c.requires.root s.known_p c.requires.known c.requires.apart _ shared _ _ c.shortened.ensures.prefix longer is _ bit)))
+    rw c.set-2.ensures (IfSome_then _ {P = λ value. c.in_ok-new.new ≡ (a.key.now, value) ∷ []} c.in_ok-new.ensures.one (λ value is. inserted_box _ _ _ _ _ (rw is at fork) (inserted_between a.self.now a.at.now a.key.now value c.requires.trie c.requires.root s.known_p c.requires.known c.requires.apart _ shared _ c.shortened.ensures.prefix longer _ bit)))
