@@ -1,14 +1,15 @@
 //! The routes of attributes that were read before. A peer announces many prefixes with the same
 //! attributes, so that their bytes are seldom read twice, and their keys share one route.
 
-ghost use Rattle.std.specs.Prelude.{◌≡◌, Ok, IfSome};
-ghost use Rattle.bgp_update.specs.Answers.{Gives};
+ghost use Rattle.std.specs.Prelude.{◌≡◌, ◌<◌, Ok, IfErr, IfOk, IsTrue, vec_len};
+ghost use Rattle.bgp_update.specs.Answers.{Fails};
 ghost use Rattle.bgp_update.specs.Attributes.{route_in};
 ghost use Rattle.bgp_update.specs.declared.width.Width.TheVariants.{Four};
 
 use crate::shared_route::SharedRoute;
 use bgp_prefix::Memory;
 use bgp_update::{AttrError, Width, read_attrs};
+use mrt_body::{Payload, Unit};
 use std::alloc::Global;
 use std::marker::Model;
 use std::mem;
@@ -34,23 +35,29 @@ impl Model for Reading {
 }
 
 impl Reading {
-    fn new(alloc: Global, attrs: &[u8], route: &SharedRoute) -> Result<Reading, Memory>
-        requires { route_in Four attrs.now ≡ Ok route.now }
+    /// Reads attributes.
+    fn new(alloc: Global, attrs: &[u8]) -> Result<Reading, AttrError>
+        ensures ok { IfOk result (λ reading. reading.0 ≡ attrs.now) }
+        ensures err { IfErr result (λ e. Fails e (route_in Four attrs.now)) }
     {
+        let route = read_attrs(alloc, attrs, Width::Four)?;
+        let route = SharedRoute::new(alloc, route)?;
         let attrs = Vec::from_slice(alloc, attrs)?;
-        let route = route.share(alloc)?;
         Ok(Reading { attrs, route })
     }
 
-    /// The route, where these bytes are the ones that were read.
-    fn route_of(&self, attrs: &[u8]) -> Option<&SharedRoute>
-        ensures { IfSome result (λ route. route_in Four attrs.now ≡ Ok route.now) }
+    /// Whether these bytes are the ones that were read.
+    fn is_of(&self, attrs: &[u8]) -> bool
+        ensures { IsTrue result → self.now.0 ≡ attrs.now }
     {
-        if self.attrs.as_slice() == attrs {
-            Some(&self.route)
-        } else {
-            None
-        }
+        self.attrs.as_slice() == attrs
+    }
+
+    /// The route.
+    fn route(&self) -> &SharedRoute
+        ensures { route_in Four self.now.0 ≡ Ok result.now }
+    {
+        &self.route
     }
 
     /// Reads a little of each part, where it lies in memory.
@@ -73,36 +80,61 @@ fn hashed(hash: u64, word: u64) -> u64 {
 }
 
 /// A hash of the bytes.
-fn hash_of(bytes: &[u8]) -> u64 {
+fn hash_of(bytes: &[u8]) -> u32 {
     let (words, rest) = bytes.as_chunks::<8>();
     let mut hash = bytes.len() as u64;
     for word in words {
         hash = hashed(hash, u64::from_le_bytes(*word));
     }
-    for byte in rest {
-        hash = hashed(hash, *byte as u64);
+    match bytes.last_chunk::<8>() {
+        Some(word) => hash = hashed(hash, u64::from_le_bytes(*word)),
+        None => {
+            for byte in rest {
+                hash = hashed(hash, *byte as u64);
+            }
+        }
     }
-    hash ^ (hash >> 32)
+    ((hash ^ (hash >> 32)) & 0xFFFF_FFFF) as u32
+}
+
+/// Tells a session where to look for the attributes of a RIB entry. No answer depends on it, but only how
+/// soon it is found.
+#[derive(Clone, Copy, Debug, PartialEq, Eq)]
+pub struct AttrHash {
+    value: u32,
+}
+
+impl AttrHash {
+    /// Of the attributes of a RIB entry; of other units it means nothing.
+    pub fn of(unit: &Unit) -> AttrHash {
+        let value = match &unit.payload {
+            Payload::Entry { attrs, .. } => hash_of(attrs.as_slice()),
+            _ => 0,
+        };
+        AttrHash { value }
+    }
+}
+
+/// A reading with the hash of its attributes, or nothing.
+#[derive(Drop)]
+enum Slot {
+    Empty,
+    Kept { hash: u32, reading: Reading },
 }
 
 /// Where a session will look for a reading when it takes a unit. Slots, and what they hold, lie far apart
 /// in memory: a caller that touches those of several units first lets these reads overlap.
 #[derive(Drop)]
 pub struct Ahead<'a> {
-    len: usize,
-    slots: &'a [Option<Reading>],
+    hash: u32,
+    slots: &'a [Slot],
 }
 
 impl<'a> Ahead<'a> {
-    /// Of a unit that is read anew.
-    pub(crate) fn nowhere() -> Ahead<'a> {
-        Ahead { len: 0, slots: &[] }
-    }
-
     /// Reads a little of the slots. The number means nothing.
     pub fn touch_slots(&self) -> usize {
         match self.slots.first() {
-            Some(Some(_)) => 1,
+            Some(Slot::Kept { .. }) => 1,
             _ => 0,
         }
     }
@@ -110,11 +142,13 @@ impl<'a> Ahead<'a> {
     /// Reads a little of the reading that will be found there, if any. The number means nothing.
     pub fn touch_reading(&self) -> usize {
         for slot in self.slots {
-            let Some(reading) = slot else {
-                return 0;
-            };
-            if reading.attrs.len() == self.len {
-                return reading.touch();
+            match slot {
+                Slot::Kept { hash, reading } => {
+                    if *hash == self.hash {
+                        return reading.touch();
+                    }
+                }
+                Slot::Empty => return 0,
             }
         }
         0
@@ -134,93 +168,137 @@ const SPARE_READINGS: usize = 4_096;
 /// one; where all slots of a place are taken, a later reading stands in for the first.
 #[derive(Drop)]
 pub(crate) struct AttrCache {
-    slots: Vec<Option<Reading>>,
-    places: usize,
+    /// One for each place, and those behind the last place.
+    slots: Vec<Slot>,
     readings: usize,
 }
 
 impl AttrCache {
+    ghost use Rattle.std.specs.Prelude.{IfSome, OnOk, slice_get};
+    ghost use Rattle.adj_rib.specs.Readings.{Keeps};
+
     /// Without a place. It takes no memory.
     pub(crate) fn new(alloc: Global) -> AttrCache {
         AttrCache {
             slots: Vec::new(alloc),
-            places: 0,
             readings: 0,
         }
     }
 
-    /// The place of attributes.
-    fn place_of(&self, attrs: &[u8]) -> usize {
-        hash_of(attrs) as usize & self.places.saturating_sub(1)
+    /// How many places there are.
+    fn places(&self) -> usize {
+        self.slots.len().saturating_sub(NEAR_SLOTS)
     }
 
-    /// The slots in which the reading of these attributes may be.
-    fn near(&self, attrs: &[u8]) -> &[Option<Reading>] {
-        let place = self.place_of(attrs);
-        match self
+    /// The place of a hash.
+    fn place_of(&self, hash: u32) -> usize
+        ensures { 0 < vec_len self.now.slots → result < vec_len self.now.slots }
+    {
+        hash as usize & self.slots.len().saturating_sub(NEAR_SLOTS + 1)
+    }
+
+    /// The slot that keeps the reading of these attributes, if any does.
+    fn position(&self, hash: u32, attrs: &[u8]) -> Option<usize>
+        ensures { IfSome result (λ at. Keeps attrs.now (slice_get self.now.slots.items at)) }
+    {
+        let place = self.place_of(hash);
+        for at in place..place.saturating_add(NEAR_SLOTS) {
+            match self.slots.as_slice().get(at) {
+                Some(
+                    Slot::Kept {
+                        hash: kept,
+                        reading,
+                    },
+                ) => {
+                    if *kept == hash && reading.is_of(attrs) {
+                        return Some(at);
+                    }
+                }
+                _ => return None,
+            }
+        }
+        None
+    }
+
+    /// The slot for one more reading: the first empty one, or that of its place where there is none.
+    fn vacancy(&self, hash: u32) -> usize
+        requires { 0 < vec_len self.now.slots }
+        ensures { result < vec_len self.now.slots }
+    {
+        let place = self.place_of(hash);
+        for at in place..place.saturating_add(NEAR_SLOTS) {
+            if let Some(Slot::Empty) = self.slots.as_slice().get(at) {
+                return at;
+            }
+        }
+        place
+    }
+
+    /// Keeps a reading, and answers in which slot.
+    fn keep(&mut self, hash: u32, reading: Reading) -> usize
+        requires { 0 < vec_len self.old.slots }
+        ensures kept { Keeps reading.0 (slice_get self.new.slots.items result) }
+        ensures len { vec_len self.new.slots ≡ vec_len self.old.slots }
+    {
+        let at = self.vacancy(hash);
+        if let Slot::Empty = &self.slots[at] {
+            self.readings = self.readings.saturating_add(1);
+        }
+        self.slots[at] = Slot::Kept { hash, reading };
+        at
+    }
+
+    /// Reads attributes that aren't kept, and answers in which slot they are now.
+    fn learn(&mut self, alloc: Global, hash: u32, attrs: &[u8]) -> Result<usize, AttrError>
+        ensures ok { IfOk result (λ at. Keeps attrs.now (slice_get self.new.slots.items at)) }
+        ensures err { IfErr result (λ e. Fails e (route_in Four attrs.now)) }
+    {
+        let reading = Reading::new(alloc, attrs)?;
+        self.fit(alloc)?;
+        Ok(self.keep(hash, reading))
+    }
+
+    /// The slot that keeps the reading of the attributes of a RIB entry, which are read where it isn't kept.
+    pub(crate) fn slot_of(
+        &mut self,
+        alloc: Global,
+        hash: AttrHash,
+        attrs: &[u8],
+    ) -> Result<usize, AttrError>
+        ensures ok { IfOk result (λ at. Keeps attrs.now (slice_get self.new.slots.items at)) }
+        ensures err { IfErr result (λ e. Fails e (route_in Four attrs.now)) }
+    {
+        match self.position(hash.value, attrs) {
+            Some(at) => Ok(at),
+            None => self.learn(alloc, hash.value, attrs),
+        }
+    }
+
+    /// The route of the attributes whose reading a slot keeps.
+    pub(crate) fn route_at(&self, at: usize, attrs: &[u8]) -> &SharedRoute
+        requires { Keeps attrs.now (slice_get self.now.slots.items at) }
+        ensures { route_in Four attrs.now ≡ Ok result.now }
+    {
+        match self.slots.as_slice().get(at) {
+            Some(Slot::Kept { reading, .. }) => reading.route(),
+            _ => unreachable!(),
+        }
+    }
+
+    /// Where the reading of attributes of this hash would be.
+    pub(crate) fn ahead(&self, hash: AttrHash) -> Ahead<'_> {
+        let place = self.place_of(hash.value);
+        let slots = match self
             .slots
             .as_slice()
             .get(place..place.saturating_add(NEAR_SLOTS))
         {
             Some(slots) => slots,
             None => &[],
-        }
-    }
-
-    /// The route of these attributes, where they were read and are kept.
-    fn find(&self, attrs: &[u8]) -> Option<&SharedRoute>
-        ensures { IfSome result (λ route. route_in Four attrs.now ≡ Ok route.now) }
-    {
-        for slot in self.near(attrs) {
-            let Some(reading) = slot else {
-                return None;
-            };
-            if let Some(route) = reading.route_of(attrs) {
-                return Some(route);
-            }
-        }
-        None
-    }
-
-    /// Keeps a reading in the first empty slot, or in that of its place where there is none.
-    fn keep(&mut self, reading: Reading) {
-        let place = self.place_of(reading.attrs.as_slice());
-        if let Some(slots) = self
-            .slots
-            .as_mut_slice()
-            .get_mut(place..place.saturating_add(NEAR_SLOTS))
-        {
-            for slot in slots {
-                if slot.is_none() {
-                    *slot = Some(reading);
-                    self.readings = self.readings.saturating_add(1);
-                    return;
-                }
-            }
-        }
-        if let Some(slot) = self.slots.as_mut_slice().get_mut(place) {
-            *slot = Some(reading);
-        }
-    }
-
-    /// The route that the attributes of a RIB entry spell, which is read where it isn't kept.
-    pub(crate) fn read(&mut self, alloc: Global, attrs: &[u8]) -> Result<SharedRoute, AttrError>
-        ensures { Gives (λ route. route) result (route_in Four attrs.now) }
-    {
-        if let Some(route) = self.find(attrs) {
-            return Ok(route.share(alloc)?);
-        }
-        let route = SharedRoute::new(alloc, read_attrs(alloc, attrs, Width::Four)?)?;
-        self.fit(alloc)?;
-        self.keep(Reading::new(alloc, attrs, &route)?);
-        Ok(route)
-    }
-
-    /// Where the reading of these attributes would be.
-    pub(crate) fn ahead(&self, attrs: &[u8]) -> Ahead<'_> {
+        };
         Ahead {
-            len: attrs.len(),
-            slots: self.near(attrs),
+            hash: hash.value,
+            slots,
         }
     }
 
@@ -232,26 +310,40 @@ impl AttrCache {
     }
 
     /// Makes places for one more reading.
-    fn fit(&mut self, alloc: Global) -> Result<(), Memory> {
-        if self.readings < self.places / 4 * 3 {
+    fn fit(&mut self, alloc: Global) -> Result<(), Memory>
+        ensures { OnOk result (0 < vec_len self.new.slots) }
+    {
+        let places = self.places();
+        if self.readings < places / 4 * 3 && !self.slots.is_empty() {
             return Ok(());
         }
-        self.widen(alloc, self.places.saturating_mul(2).max(FIRST_PLACES))
+        self.widen(alloc, places.saturating_mul(2).max(FIRST_PLACES))
     }
 
     /// Moves what is kept to so many places.
-    fn widen(&mut self, alloc: Global, places: usize) -> Result<(), Memory> {
-        let count = places.saturating_add(NEAR_SLOTS);
-        let mut slots = Vec::with_capacity(alloc, count)?;
-        for _ in 0..count {
-            slots.push(None)?;
-        }
-        let old = mem::replace(&mut self.slots, slots);
-        self.places = places;
+    fn widen(&mut self, alloc: Global, places: usize) -> Result<(), Memory>
+        ensures { OnOk result (0 < vec_len self.new.slots) }
+    {
+        let old = mem::replace(&mut self.slots, empty_slots(alloc, places)?);
         self.readings = 0;
-        for reading in old.into_iter().flatten() {
-            self.keep(reading);
+        for slot in old {
+            if let Slot::Kept { hash, reading } = slot {
+                self.keep(hash, reading);
+            }
         }
         Ok(())
     }
+}
+
+/// Slots for so many places.
+fn empty_slots(alloc: Global, places: usize) -> Result<Vec<Slot>, Memory>
+    ensures { IfOk result (λ slots. 0 < vec_len slots) }
+{
+    let count = places.saturating_add(NEAR_SLOTS);
+    let mut slots = Vec::with_capacity(alloc, count)?;
+    for _ in 1..count {
+        slots.push(Slot::Empty)?;
+    }
+    slots.push(Slot::Empty)?;
+    Ok(slots)
 }

@@ -1,4 +1,4 @@
-use crate::attr_cache::{Ahead, AttrCache};
+use crate::attr_cache::{Ahead, AttrCache, AttrHash};
 use crate::churn::Churn;
 use crate::outcome::Outcome;
 use crate::shared_route::SharedRoute;
@@ -92,16 +92,20 @@ impl<M: PrefixMap<SharedRoute>> RibIn<M> {
         place: Place,
         key: RouteKey,
         attrs: &[u8],
+        hash: AttrHash,
     ) -> Result<(), Memory>
         ensures { OnOk result (kept_in M.contents self.new ≡ read_as (kept_in M.contents self.old) place (event_in (payloads.Entry key attrs.now))) }
     {
         self.cache.forget_old(alloc, self.table.len());
-        match self.cache.read(alloc, attrs) {
-            Ok(_) if !self.up => {
+        match self.cache.slot_of(alloc, hash, attrs) {
+            Ok(slot) => {
+                let route = self.cache.route_at(slot, attrs);
+                if self.up {
+                    return announce_route(alloc, &mut self.table, &mut self.churn, key, route);
+                }
                 self.count_idle();
                 Ok(())
             }
-            Ok(route) => announce_route(alloc, &mut self.table, &mut self.churn, key, &route),
             Err(AttrError::Bad(fault)) => self.refuse(Damage { place, fault }),
             Err(AttrError::Memory) => Err(Memory),
         }
@@ -126,21 +130,20 @@ impl<M: PrefixMap<SharedRoute>> RibIn<M> {
         }
     }
 
-    /// Where `take` will look for what a unit's attributes spell.
-    pub(crate) fn ahead(&self, unit: &Unit) -> Ahead<'_> {
-        match &unit.payload {
-            Payload::Entry { attrs, .. } => self.cache.ahead(attrs.as_slice()),
-            _ => Ahead::nowhere(),
-        }
+    /// Where `take` will look for attributes of this hash.
+    pub(crate) fn ahead(&self, hash: AttrHash) -> Ahead<'_> {
+        self.cache.ahead(hash)
     }
 
     /// Takes the next unit.
-    pub(crate) fn take(&mut self, alloc: Global, unit: &Unit) -> Result<(), Memory>
+    pub(crate) fn take(&mut self, alloc: Global, unit: &Unit, hash: AttrHash) -> Result<(), Memory>
         ensures { OnOk result (kept_in M.contents self.new ≡ taken (kept_in M.contents self.old) unit.now) }
     {
         self.churn.note_time(unit.time);
         match &unit.payload {
-            Payload::Entry { key, attrs } => self.enter(alloc, unit.place, *key, attrs.as_slice()),
+            Payload::Entry { key, attrs } => {
+                self.enter(alloc, unit.place, *key, attrs.as_slice(), hash)
+            }
             payload => self.follow(alloc, unit.place, payload),
         }
     }

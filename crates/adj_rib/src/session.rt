@@ -3,7 +3,7 @@ ghost use Rattle.std.specs.FinMap as finite;
 ghost use Rattle.adj_rib.specs.Sessions.{StandsFor};
 ghost use Rattle.mrt_body.specs.declared.unit.Unit.{Unit as ReplayUnit};
 
-use crate::attr_cache::Ahead;
+use crate::attr_cache::{Ahead, AttrHash};
 use crate::churn::Churn;
 use crate::rib_in::RibIn;
 use crate::shared_route::SharedRoute;
@@ -47,10 +47,20 @@ impl<M: PrefixMap<SharedRoute>> Session<M> {
         ensures spent { self.new.spent ≡ is_err result }
         ensures stays_spent { IsTrue self.old.spent → IsErr result }
     {
+        self.take_hashed(alloc, unit, AttrHash::of(unit))
+    }
+
+    /// Takes the next unit as `take` does, whatever the hash is. By that of the unit's attributes it finds
+    /// again what they spell.
+    pub fn take_hashed(&mut self, alloc: Global, unit: &Unit, hash: AttrHash) -> Result<(), Memory>
+        ensures stands { (before : List ReplayUnit) → StandsFor self.old before → OnOk result (StandsFor self.new (before ++ unit.now ∷ [])) }
+        ensures spent { self.new.spent ≡ is_err result }
+        ensures stays_spent { IsTrue self.old.spent → IsErr result }
+    {
         if self.spent {
             return Err(Memory);
         }
-        match self.rib.take(alloc, unit) {
+        match self.rib.take(alloc, unit, hash) {
             Ok(()) => Ok(()),
             Err(memory) => {
                 self.spent = true;
@@ -59,9 +69,9 @@ impl<M: PrefixMap<SharedRoute>> Session<M> {
         }
     }
 
-    /// Where `take` will look for what the attributes of a unit spell.
-    pub fn ahead(&self, unit: &Unit) -> Ahead<'_> {
-        self.rib.ahead(unit)
+    /// Where `take_hashed` will look for what attributes of this hash spell.
+    pub fn ahead(&self, hash: AttrHash) -> Ahead<'_> {
+        self.rib.ahead(hash)
     }
 
     /// Whether the last state change led to Established, or there was none.

@@ -9,7 +9,7 @@ use crate::summary::Summary;
 use adj_rib::SharedRoute;
 use bgp_prefix::PrefixMap;
 use lane_deal::{Dealing, Gate, Plan};
-use mrt_body::{Found, Unit, Units};
+use mrt_body::{Found, Payload, Unit, Units};
 use mrt_frame::{ReplayError, Sink, Source};
 use rib_report::{
     Tables, churn, collect, faults, matches, origins, visibility, write_churn, write_faults,
@@ -68,8 +68,8 @@ where
     Ok(summary)
 }
 
-/// How many units at most are touched together before the first of them is taken.
-const NEAR_UNITS: usize = 32;
+/// How many RIB entries at most are gathered, so that what they need is read before the first is taken.
+const NEAR_ENTRIES: usize = 32;
 
 /// Gives every unit and refusal of the files to the seats.
 fn replay_all<M, R, D, G>(
@@ -87,24 +87,39 @@ where
     G: Gate,
     requires { length files.old ≡ units.old.count }
 {
-    let mut near = Vec::with_capacity(alloc, NEAR_UNITS)?;
+    let mut near = Vec::with_capacity(alloc, NEAR_ENTRIES)?;
     let mut wanted = 1;
     while let Some(found) = units.next(alloc, files)? {
         match found {
-            Found::Unit(unit) => near.push(unit)?,
+            Found::Unit(unit) => {
+                if is_entry(&unit) {
+                    near.push(unit)?;
+                } else {
+                    take_near(alloc, &mut near, seats, dealing, gate)?;
+                    seats.take(alloc, &unit, dealing, gate)?;
+                }
+            }
             Found::Refused(damage) => seats.refuse(damage)?,
         }
         if near.len() >= wanted {
-            wanted = take_all(alloc, &mut near, seats, dealing, gate)?;
+            wanted = take_near(alloc, &mut near, seats, dealing, gate)?;
         }
     }
-    take_all(alloc, &mut near, seats, dealing, gate)?;
+    take_near(alloc, &mut near, seats, dealing, gate)?;
     Ok(())
 }
 
-/// Gives units to the seats in their order, leaves none, and answers how many to gather for the next
-/// time: more than one where what they need lies apart in memory.
-fn take_all<M, D, G>(
+/// Whether a unit is a RIB entry.
+fn is_entry(unit: &Unit) -> bool {
+    match &unit.payload {
+        Payload::Entry { .. } => true,
+        _ => false,
+    }
+}
+
+/// Gives RIB entries to the seats in their order, leaves none, and answers how many to gather for the
+/// next time: more than one where what they need lies apart in memory.
+fn take_near<M, D, G>(
     alloc: Global,
     units: &mut Vec<Unit>,
     seats: &mut Seats<M>,
@@ -116,15 +131,12 @@ where
     D: Dealing,
     G: Gate,
 {
-    let wanted = if seats.touch(alloc, units.as_slice())? > 0 {
-        NEAR_UNITS
-    } else {
-        1
-    };
-    for unit in units.drain(..) {
-        seats.take(alloc, &unit, dealing, gate)?;
+    if units.is_empty() {
+        return Ok(1);
     }
-    Ok(wanted)
+    let shared = seats.take_all(alloc, units.as_slice(), dealing, gate)?;
+    units.clear();
+    Ok(if shared { NEAR_ENTRIES } else { 1 })
 }
 
 /// Writes the report that is asked for.

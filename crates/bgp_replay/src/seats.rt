@@ -5,30 +5,55 @@ ghost use Rattle.std.specs.List.{IsDistinct, range_with_len};
 ghost use Rattle.rib_report.specs.Gathers.{gathered_seats};
 ghost use Rattle.rib_report.specs.Seats.{seat_of};
 
-use adj_rib::{Session, SharedRoute};
+use adj_rib::{AttrHash, Session, SharedRoute};
 use bgp_prefix::{Memory, PrefixMap, Sequence};
 use lane_deal::{Dealing, Gate};
-use mrt_body::{Damage, PeerKey, Unit};
+use mrt_body::{Damage, PeerAddr, PeerKey, Unit};
 use rib_report::{Gathered, Seated};
 use std::alloc::Global;
 use std::collections::HashMap;
 use std::collections::hash_map::Entry;
 
+/// How many places hold the number of a peer that was met before.
+const RECENT: usize = 64;
+
 /// The sessions of all peers so far, and what was refused.
 #[derive(Drop)]
 pub struct Seats<M: PrefixMap<SharedRoute> + Drop> {
-    seats: HashMap<PeerKey, Seated<M>>,
+    /// By number.
+    seats: Vec<Seated<M>>,
+    numbers: HashMap<PeerKey, usize>,
+    /// The number of the last peer at each place of keys: mostly the one that is looked for.
+    recent: Vec<usize>,
     refused: Vec<Damage>,
     /// How many units each lane was dealt.
     dealt: Vec<u64>,
     units: u64,
 }
 
+/// Where a unit's peer and attributes are found.
+#[derive(Clone, Copy)]
+struct Find {
+    number: usize,
+    hash: AttrHash,
+}
+
+/// A place of a peer, below `RECENT`. Peers may share one.
+fn recent_place(peer: &PeerKey) -> usize {
+    let low = match peer.addr {
+        PeerAddr::V4(addr) => addr as usize,
+        PeerAddr::V6(addr) => (addr & 0xFFFF) as usize,
+    };
+    (low ^ peer.asn as usize) % RECENT
+}
+
 impl<M: PrefixMap<SharedRoute> + Drop> Seats<M> {
     /// Without peers, for so many lanes.
     pub fn new(alloc: Global, lanes: usize) -> Result<Seats<M>, Memory> {
         Ok(Seats {
-            seats: HashMap::new(alloc),
+            seats: Vec::new(alloc),
+            numbers: HashMap::new(alloc),
+            recent: vec![in alloc; 0; RECENT]?,
             refused: Vec::new(alloc),
             dealt: vec![in alloc; 0; lanes]?,
             units: 0,
@@ -40,17 +65,56 @@ impl<M: PrefixMap<SharedRoute> + Drop> Seats<M> {
         self.units
     }
 
-    /// Reads a little of what `take` will need of each unit, so that the reads overlap.
-    pub fn touch(&self, alloc: Global, units: &[Unit]) -> Result<usize, Memory> {
-        let mut places = Vec::with_capacity(alloc, units.len())?;
-        for unit in units {
-            if let Some(seat) = self.seats.get(&unit.peer) {
-                places.push(seat.session.ahead(unit))?;
-            }
+    /// The number of a peer. A peer is numbered by its first unit.
+    fn number_of(&mut self, alloc: Global, peer: &PeerKey) -> Result<usize, Memory> {
+        let place = recent_place(peer);
+        if let Some(number) = self.recent.get(place)
+            && let Some(seat) = self.seats.get(*number)
+            && seat.key == *peer
+        {
+            return Ok(*number);
         }
+        let number = match self.numbers.entry(*peer)? {
+            Entry::Occupied(entry) => *entry.get(),
+            Entry::Vacant(entry) => {
+                let number = self.seats.len();
+                self.seats.push(Seated {
+                    number,
+                    key: *peer,
+                    session: Session::new(alloc),
+                })?;
+                *entry.insert(number)
+            }
+        };
+        if let Some(recent) = self.recent.get_mut(place) {
+            *recent = number;
+        }
+        Ok(number)
+    }
+
+    /// Of each unit the number of its peer, and the hash of its attributes.
+    fn finds_of(&mut self, alloc: Global, units: &[Unit]) -> Result<Vec<Find>, Memory> {
+        let mut finds = Vec::with_capacity(alloc, units.len())?;
+        for unit in units {
+            let number = self.number_of(alloc, &unit.peer)?;
+            finds.push(Find {
+                number,
+                hash: AttrHash::of(unit),
+            })?;
+        }
+        Ok(finds)
+    }
+
+    /// Reads a little of what the sessions will need of each unit, so that the reads overlap.
+    fn touch(&self, alloc: Global, finds: &[Find]) -> Result<usize, Memory> {
+        let mut places = Vec::with_capacity(alloc, finds.len())?;
         let mut touched = 0usize;
-        for place in places.as_slice() {
-            touched = touched.saturating_add(place.touch_slots());
+        for find in finds {
+            if let Some(seat) = self.seats.get(find.number) {
+                let place = seat.session.ahead(find.hash);
+                touched = touched.saturating_add(place.touch_slots());
+                places.push(place)?;
+            }
         }
         for place in places.as_slice() {
             touched = touched.saturating_add(place.touch_reading());
@@ -58,7 +122,24 @@ impl<M: PrefixMap<SharedRoute> + Drop> Seats<M> {
         Ok(touched)
     }
 
-    /// Gives a unit to its peer's session. A peer is numbered by its first unit.
+    /// Gives a unit to its peer's session.
+    fn give<D: Dealing, G: Gate>(
+        &mut self,
+        alloc: Global,
+        find: Find,
+        unit: &Unit,
+        dealing: &D,
+        gate: &G,
+    ) -> Result<(), Memory> {
+        self.units = self.units.saturating_add(1);
+        tell(&mut self.dealt, find.number, dealing, gate);
+        match self.seats.get_mut(find.number) {
+            Some(seat) => seat.session.take_hashed(alloc, unit, find.hash),
+            None => Err(Memory),
+        }
+    }
+
+    /// Gives a unit to its peer's session.
     pub fn take<D: Dealing, G: Gate>(
         &mut self,
         alloc: Global,
@@ -66,24 +147,28 @@ impl<M: PrefixMap<SharedRoute> + Drop> Seats<M> {
         dealing: &D,
         gate: &G,
     ) -> Result<(), Memory> {
-        self.units = self.units.saturating_add(1);
-        let number = self.seats.len();
-        match self.seats.entry(unit.peer)? {
-            Entry::Occupied(mut entry) => {
-                let seat = entry.get_mut();
-                tell(&mut self.dealt, seat.number, dealing, gate);
-                seat.session.take(alloc, unit)
-            }
-            Entry::Vacant(entry) => {
-                let seat = entry.insert(Seated {
-                    number,
-                    key: unit.peer,
-                    session: Session::new(alloc),
-                });
-                tell(&mut self.dealt, number, dealing, gate);
-                seat.session.take(alloc, unit)
-            }
+        let find = Find {
+            number: self.number_of(alloc, &unit.peer)?,
+            hash: AttrHash::of(unit),
+        };
+        self.give(alloc, find, unit, dealing, gate)
+    }
+
+    /// Gives units to their peers' sessions, in order, and answers whether what was read of them before
+    /// showed anything that they have in common with earlier ones.
+    pub fn take_all<D: Dealing, G: Gate>(
+        &mut self,
+        alloc: Global,
+        units: &[Unit],
+        dealing: &D,
+        gate: &G,
+    ) -> Result<bool, Memory> {
+        let finds = self.finds_of(alloc, units)?;
+        let touched = self.touch(alloc, finds.as_slice())?;
+        for (unit, find) in units.iter().zip(finds.as_slice()) {
+            self.give(alloc, *find, unit, dealing, gate)?;
         }
+        Ok(touched > 0)
     }
 
     /// Lists what gave no unit.
@@ -96,12 +181,7 @@ impl<M: PrefixMap<SharedRoute> + Drop> Seats<M> {
     pub fn into_gathered(self, alloc: Global) -> Result<Gathered<M>, Memory>
         ensures { IfOk result (λ gathered. IsDistinct nat_eq (map (λ seat. seat.number) (gathered_seats gathered))) }
     {
-        let mut seats = Vec::with_capacity(alloc, self.seats.len())?;
-        for (_, seat) in self.seats {
-            seats.push(seat)?;
-        }
-        seats.sort_unstable_by_key(|seat| seat.number);
-        let lane = numbered(alloc, seats)?;
+        let lane = numbered(alloc, self.seats)?;
         one_lane(alloc, lane, self.refused)
     }
 }
