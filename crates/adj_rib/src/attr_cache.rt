@@ -70,7 +70,7 @@ impl Reading {
             Some(byte) => *byte as usize,
             None => 0,
         };
-        first + last + self.route.route().next_hop.is_some() as usize
+        (first + last).saturating_add(self.route.touch())
     }
 }
 
@@ -132,26 +132,39 @@ pub struct Ahead<'a> {
 
 impl<'a> Ahead<'a> {
     /// Reads a little of the slots. The number means nothing.
-    pub fn touch_slots(&self) -> usize {
+    pub fn touch(&self) -> usize {
         match self.slots.first() {
             Some(Slot::Kept { .. }) => 1,
             _ => 0,
         }
     }
 
-    /// Reads a little of the reading that will be found there, if any. The number means nothing.
-    pub fn touch_reading(&self) -> usize {
+    /// The reading that will be found there, if any.
+    pub fn known(&self) -> Option<Known<'a>> {
         for slot in self.slots {
             match slot {
                 Slot::Kept { hash, reading } => {
                     if *hash == self.hash {
-                        return reading.touch();
+                        return Some(Known { reading });
                     }
                 }
-                Slot::Empty => return 0,
+                Slot::Empty => return None,
             }
         }
-        0
+        None
+    }
+}
+
+/// A reading that a session will find when it takes a unit.
+#[derive(Drop)]
+pub struct Known<'a> {
+    reading: &'a Reading,
+}
+
+impl<'a> Known<'a> {
+    /// Reads a little of each part of it. The number means nothing.
+    pub fn touch(&self) -> usize {
+        self.reading.touch()
     }
 }
 

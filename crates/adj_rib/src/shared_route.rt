@@ -43,6 +43,11 @@ impl SharedRoute {
         }
     }
 
+    /// Reads how many owners it has, where a further one will be counted. The number means nothing.
+    pub(crate) fn touch(&self) -> usize {
+        Arc::strong_count(&self.route)
+    }
+
     /// The route itself.
     pub fn route(&self) -> &Route
         ensures { result.now ≡ self.now }

@@ -14,8 +14,8 @@ use std::alloc::Global;
 use std::collections::HashMap;
 use std::collections::hash_map::Entry;
 
-/// How many places hold the number of a peer that was met before.
-const RECENT: usize = 64;
+/// How many places hold the number of a peer that was met before: as many as ten bits tell.
+const RECENT: usize = 1_024;
 
 /// The sessions of all peers so far, and what was refused.
 #[derive(Drop)]
@@ -41,10 +41,11 @@ struct Find {
 /// A place of a peer, below `RECENT`. Peers may share one.
 fn recent_place(peer: &PeerKey) -> usize {
     let low = match peer.addr {
-        PeerAddr::V4(addr) => addr as usize,
-        PeerAddr::V6(addr) => (addr & 0xFFFF) as usize,
+        PeerAddr::V4(addr) => u64::from(addr),
+        PeerAddr::V6(addr) => (addr & 0xFFFF_FFFF_FFFF_FFFF) as u64,
     };
-    (low ^ peer.asn as usize) % RECENT
+    let mixed = (low.rotate_left(32) ^ u64::from(peer.asn)).wrapping_mul(0x9e37_79b9_7f4a_7c15);
+    (mixed >> 54) as usize
 }
 
 impl<M: PrefixMap<SharedRoute> + Drop> Seats<M> {
@@ -105,19 +106,26 @@ impl<M: PrefixMap<SharedRoute> + Drop> Seats<M> {
         Ok(finds)
     }
 
-    /// Reads a little of what the sessions will need of each unit, so that the reads overlap.
+    /// Reads a little of what the sessions will need of each unit, so that the reads overlap: first the
+    /// slots of all, and then the readings that they hold. The number means nothing.
     fn touch(&self, alloc: Global, finds: &[Find]) -> Result<usize, Memory> {
-        let mut places = Vec::with_capacity(alloc, finds.len())?;
         let mut touched = 0usize;
+        let mut places = Vec::with_capacity(alloc, finds.len())?;
         for find in finds {
             if let Some(seat) = self.seats.get(find.number) {
                 let place = seat.session.ahead(find.hash);
-                touched = touched.saturating_add(place.touch_slots());
+                touched = touched.saturating_add(place.touch());
                 places.push(place)?;
             }
         }
+        let mut known = Vec::with_capacity(alloc, places.len())?;
         for place in places.as_slice() {
-            touched = touched.saturating_add(place.touch_reading());
+            if let Some(reading) = place.known() {
+                known.push(reading)?;
+            }
+        }
+        for reading in known.as_slice() {
+            touched = touched.saturating_add(reading.touch());
         }
         Ok(touched)
     }
