@@ -2,6 +2,7 @@ pub mod TextLaws
 pub mod JoinLaws
 pub mod CollectLaws
 pub mod RowLaws
+pub mod RowLines
 pub mod PieceLaws
 pub mod RunLaws
 pub mod SortedRuns

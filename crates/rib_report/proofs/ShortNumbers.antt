@@ -1,7 +1,9 @@
 -- The text of a number of few digits.
-use Rattle.std.proofs.Common.{◌≡◌, ℕ, ◌+◌, ◌/◌, ◌%◌, ◌≤◌, ◌<◌, List, [], ◌∷◌, ◌++◌, ap, ◌∙◌, append_assoc, length, arith}
-use Rattle.std.proofs.lemmas.Fmt.{decimal_digit, decimal_step, length-decimal-le}
+use Rattle.std.proofs.Common.{◌≡◌, ℕ, ◌+◌, ◌/◌, ◌%◌, ◌≤◌, ◌<◌, [], ◌∷◌, ◌++◌, ap, ◌∙◌, append_assoc, arith}
+use Rattle.std.proofs.lemmas.Fmt.{decimal_digit, decimal_step}
 use Rattle.std.specs.Fmt.{decimal}
+use Rattle.std.proofs.Math.Nat.{div-one}
+use Rattle.rib_report.specs.Digits.{decimal_glyph, digits_in}
 
 pub decimal_ones : (n : ℕ) → n < 10 → decimal n ≡ (48 + n % 10) ∷ []
 decimal_ones n h = decimal_digit n h ∙ ap (λ d. (48 + d) ∷ []) (omega arith)
@@ -13,11 +15,18 @@ pub decimal_hundreds : (n : ℕ) → 100 ≤ n → n < 1000 → decimal n ≡ (4
 decimal_hundreds n lo hi =
     decimal_step n (omega arith) (omega arith) ∙ ap (λ l. l ++ (48 + n % 10) ∷ []) (decimal_tens (n / 10) (omega arith) (omega arith) ∙ ap (λ d. (48 + d) ∷ (48 + n / 10 % 10) ∷ []) (omega arith))
 
-pub decimal_thousands : (n : ℕ) → 1000 ≤ n → n < 1000000 → decimal n ≡ decimal (n / 1000) ++ (48 + n / 100 % 10) ∷ (48 + n / 10 % 10) ∷ (48 + n % 10) ∷ []
+-- the last three digits behind the others
+pub decimal_thousands : (n : ℕ) → 1000 ≤ n → n < 4294967296 → decimal n ≡ decimal (n / 1000) ++ digits_in decimal_glyph 10 3 (n % 1000)
 decimal_thousands n lo hi =
     let a : n / 10 / 10 / 10 ≡ n / 1000 = omega arith in
-    let b : n / 10 / 10 % 10 ≡ n / 100 % 10 = omega arith in
-    rw (decimal_step n (omega arith) (omega arith), decimal_step (n / 10) (omega arith) (omega arith), decimal_step (n / 10 / 10) (omega arith) (omega arith), append_assoc, append_assoc, a, b)
+    let b : n / 10 / 10 % 10 ≡ n % 1000 / 100 % 10 = omega arith in
+    let d : n / 10 % 10 ≡ n % 1000 / 10 % 10 = omega arith in
+    let e : n % 10 ≡ n % 1000 / 1 % 10 = rw (div-one (n % 1000)) (omega arith) in
+    rw (decimal_step n (omega arith) (omega arith), decimal_step (n / 10) (omega arith) (omega arith), decimal_step (n / 10 / 10) (omega arith) (omega arith), append_assoc, append_assoc, a, b, d, e)
 
-pub length_short : (n : ℕ) → n < 1000 → length (decimal n) ≤ 3
-length_short n h = length-decimal-le 3 n (omega arith) (omega arith) (omega arith)
+-- the last six digits behind the others
+pub decimal_millions : (n : ℕ) → 1000000 ≤ n → n < 4294967296 → decimal n ≡ decimal (n / 1000000) ++ (digits_in decimal_glyph 10 3 (n / 1000 % 1000) ++ digits_in decimal_glyph 10 3 (n % 1000))
+decimal_millions n lo hi =
+    let a : n / 1000 / 1000 ≡ n / 1000000 = omega arith in
+    let front : decimal (n / 1000) ≡ decimal (n / 1000000) ++ digits_in decimal_glyph 10 3 (n / 1000 % 1000) = decimal_thousands (n / 1000) (omega arith) (omega arith) ∙ ap (λ m. decimal m ++ digits_in decimal_glyph 10 3 (n / 1000 % 1000)) a in
+    decimal_thousands n (omega arith) hi ∙ ap (λ l. l ++ digits_in decimal_glyph 10 3 (n % 1000)) front ∙ append_assoc (decimal (n / 1000000)) (digits_in decimal_glyph 10 3 (n / 1000 % 1000)) (digits_in decimal_glyph 10 3 (n % 1000))

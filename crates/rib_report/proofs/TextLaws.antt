@@ -1,12 +1,15 @@
 -- What the calls of a buffer do to the text.
-use Rattle.std.proofs.Common.{◌≡◌, ℕ, inl, inr, true, false, List, [], ◌++◌, Option, refl, sym, ap, ◌∙◌, subst, append_assoc, append-nil, arith, length, take, drop, take-append-drop, length-append}
+use Rattle.std.proofs.Common.{◌≡◌, ℕ, ◌+◌, ◌≤◌, inl, inr, true, false, List, [], ◌++◌, Option, refl, sym, ap, ◌∙◌, subst, append_assoc, append-nil, arith, length, take, drop, take-append-drop, take-take, length-append, length-take-le}
 use Rattle.std.proofs.lemmas.Bool.{cases_lt, false≢true}
 use Rattle.std.proofs.lemmas.List.{take_at}
+use Rattle.std.proofs.lemmas.Slice.{take-put_mid}
+use Rattle.std.proofs.Math.Seq.{take-append-add}
+use borrow.Rule.Slice.PartMut.{put_mid}
 use Rattle.std.specs.Io.KnownBytes.{Appends}
 use Rattle.std.proofs.KnownBytes.{Appends-trans, Appends-nil}
 use Rattle.mrt_frame.specs.Devices.{HasFailed, one_more, greatest_count}
 use Rattle.mrt_frame.specs.Writes.{WritesFront}
-use Rattle.rib_report.specs.Texts.{TextState, empty_buffer, IsText, IsWritten, IsCutOff, Adds}
+use Rattle.rib_report.specs.Texts.{BufferState, TextState, empty_buffer, IsText, IsWritten, IsCutOff, Adds, Grows}
 
 pub Adds_trans : {s t u : TextState} {p q : List ℕ} → Adds s t p → Adds t u q → Adds s u (p ++ q)
 Adds_trans {p = p} {q = q} f g = record { adds = λ contents failures text h. subst (IsText contents failures _) (append_assoc text p q) (g.adds contents failures (text ++ p) (f.adds contents failures text h)) }
@@ -102,3 +105,37 @@ text_begun {s = s} fresh f = f.adds s.contents s.failures [] (record {
   sound = λ _. refl;
   risen = λ e. absurd (false≢true (sym (ap (λ b. b.failed) fresh) ∙ e));
 })
+
+-- nothing was done
+pub Adds_none : (s : TextState) → Adds s s []
+Adds_none s = record { adds = λ contents failures text h. subst (IsText contents failures s) (sym (append-nil text)) h }
+
+-- ---- pieces that join those that wait
+
+pub Grows_trans : {s t u : BufferState} {m n : ℕ} {p q : List ℕ} → Grows s t m p → Grows t u n q → Grows s u (m + n) (p ++ q)
+Grows_trans {s = s} {p = p} {q = q} f g = record {
+  waiting = g.waiting ∙ ap (λ l. l ++ q) f.waiting ∙ append_assoc s.waiting p q;
+  room = omega (arith, f.room, g.room);
+  still = g.still ∙ f.still;
+}
+
+-- the same piece, written another way
+pub Grows_as : {s t : BufferState} {m : ℕ} {p q : List ℕ} → p ≡ q → Grows s t m p → Grows s t m q
+Grows_as {s = s} {t = t} {m = m} e f = subst (Grows s t m) e f
+
+-- a looser limit
+pub Grows_within : {s t : BufferState} {m n : ℕ} {p : List ℕ} → m ≤ n → Grows s t m p → Grows s t n p
+Grows_within le f = record { waiting = f.waiting; room = omega (arith, le, f.room); still = f.still }
+
+-- with the same writer
+pub Adds_of_growth : {s t : TextState} {m : ℕ} {p : List ℕ} → t.contents ≡ s.contents → t.failures ≡ s.failures → Grows s.buffer t.buffer m p → Adds s t p
+Adds_of_growth same count f = Adds_grown same count f.waiting f.still
+
+pub Grows_by : {s t : BufferState} {m : ℕ} {p : List ℕ} → t.waiting ≡ s.waiting ++ p → length p ≤ m → t.failed ≡ s.failed → Grows s t m p
+Grows_by {s = s} {p = p} more few still = record { waiting = more; room = omega (arith, ap length more, length-append s.waiting p, few); still = still }
+
+-- the front of a block that was copied whole
+pub take-front_put : (a k n : ℕ) (xs ys : List ℕ) → a ≤ length xs → n ≤ length ys → take (a + n) (put_mid a k xs ys) ≡ take a xs ++ take n ys
+take-front_put a k n xs ys within fits =
+    sym (take-take (a + n) (a + length ys) (put_mid a k xs ys) (omega arith)) ∙ ap (take (a + n)) (take-put_mid a k xs ys (a + length ys) refl within)
+    ∙ ap (λ m. take (m + n) (take a xs ++ ys)) (sym (length-take-le a xs within)) ∙ take-append-add (take a xs) ys n

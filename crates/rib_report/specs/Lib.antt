@@ -11,3 +11,4 @@ pub mod Reports
 pub mod Listings
 pub mod Lines
 pub mod UnitReports
+pub mod ShortTexts

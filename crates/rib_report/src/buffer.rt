@@ -1,8 +1,9 @@
 //! Text on its way to a writer, through a fixed buffer.
 
-ghost use Rattle.std.specs.Prelude.{◌≡◌, ℕ, ◌+◌, ◌<◌, ◌≤◌, ◌++◌, [], ◌∷◌, List, Option, OnOk, OnErr, length, decimal};
-ghost use Rattle.rib_report.specs.Texts.{BufferState, empty_buffer, text_state, IsText, IsWritten, IsCutOff, Writes};
+ghost use Rattle.std.specs.Prelude.{◌≡◌, ℕ, ◌+◌, ◌<◌, ◌≤◌, ◌++◌, [], ◌∷◌, List, Option, OnOk, OnErr, length, take, decimal};
+ghost use Rattle.rib_report.specs.Texts.{BufferState, empty_buffer, text_state, IsText, IsWritten, IsCutOff, Writes, Grows};
 
+use crate::short::ShortTexts;
 use mrt_frame::{Failed, Sink, write_full};
 use std::marker::Model;
 
@@ -15,6 +16,7 @@ pub(crate) struct TextBuffer {
     bytes: [u8; CAPACITY],
     len: usize,
     failed: bool,
+    shorts: ShortTexts,
 }
 
 impl Model for TextBuffer {
@@ -37,27 +39,38 @@ impl TextBuffer {
             bytes: [0; CAPACITY],
             len: 0,
             failed: false,
+            shorts: ShortTexts::new(),
         }
     }
 
     /// Copies the bytes behind those that wait.
     #[inline]
-    fn append(&mut self, bytes: &[u8])
+    pub(crate) fn append(&mut self, bytes: &[u8])
         requires { length self.old.waiting + length bytes.now ≤ 65536 }
-        ensures waiting { self.new.waiting ≡ self.old.waiting ++ bytes.now }
-        ensures failed { self.new.failed ≡ self.old.failed }
+        ensures { Grows self.old self.new (length bytes.now) bytes.now }
     {
         let end = self.len + bytes.len();
         self.bytes[self.len..end].copy_from_slice(bytes);
         self.len = end;
     }
 
+    /// Copies the first bytes of a block behind those that wait, where the whole block has room. A block
+    /// of a known length is quicker to copy than its front.
+    #[inline]
+    pub(crate) fn append_front(&mut self, block: &[u8], count: usize)
+        requires { (count ≤ length block.now) × (length self.old.waiting + length block.now ≤ 65536) }
+        ensures { Grows self.old self.new count (take count block.now) }
+    {
+        let end = self.len + block.len();
+        self.bytes[self.len..end].copy_from_slice(block);
+        self.len += count;
+    }
+
     /// Puts a byte behind those that wait.
     #[inline]
-    fn append_byte(&mut self, byte: u8)
+    pub(crate) fn append_byte(&mut self, byte: u8)
         requires { length self.old.waiting < 65536 }
-        ensures waiting { self.new.waiting ≡ self.old.waiting ++ byte ∷ [] }
-        ensures failed { self.new.failed ≡ self.old.failed }
+        ensures { Grows self.old self.new 1 (byte ∷ []) }
     {
         self.bytes[self.len] = byte;
         self.len += 1;
@@ -65,43 +78,12 @@ impl TextBuffer {
 
     /// Puts a number of at most three digits behind the bytes that wait.
     #[inline]
-    #[tactic(auto, using(crate::proofs::ShortNumbers::decimal_ones, crate::proofs::ShortNumbers::decimal_tens, crate::proofs::ShortNumbers::decimal_hundreds))]
-    fn append_short(&mut self, number: u32)
-        requires { (number < 1000) × (length self.old.waiting + 3 ≤ 65536) }
-        ensures waiting { self.new.waiting ≡ self.old.waiting ++ decimal number }
-        ensures failed { self.new.failed ≡ self.old.failed }
+    pub(crate) fn append_short(&mut self, number: u32)
+        requires { (number < 1000) × (length self.old.waiting + 4 ≤ 65536) }
+        ensures { Grows self.old self.new 3 (decimal number) }
     {
-        let ones = b'0' + (number % 10) as u8;
-        if number < 10 {
-            self.append_byte(ones);
-        } else if number < 100 {
-            self.append(&[b'0' + (number / 10) as u8, ones]);
-        } else {
-            self.append(&[
-                b'0' + (number / 100) as u8,
-                b'0' + (number / 10 % 10) as u8,
-                ones,
-            ]);
-        }
-    }
-
-    /// Puts a number of at most six digits behind the bytes that wait.
-    #[inline]
-    #[tactic(auto, using(crate::proofs::ShortNumbers::decimal_thousands))]
-    fn append_number(&mut self, number: u32)
-        requires { (number < 1000000) × (length self.old.waiting + 6 ≤ 65536) }
-        ensures waiting { self.new.waiting ≡ self.old.waiting ++ decimal number }
-        ensures failed { self.new.failed ≡ self.old.failed }
-    {
-        if number < 1_000 {
-            self.append_short(number);
-            return;
-        }
-        self.append_short(number / 1_000);
-        let hundreds = b'0' + (number / 100 % 10) as u8;
-        let tens = b'0' + (number / 10 % 10) as u8;
-        let ones = b'0' + (number % 10) as u8;
-        self.append(&[hundreds, tens, ones]);
+        let text = self.shorts.text(number);
+        self.append_front(&text.bytes, text.len as usize);
     }
 
     /// How many bytes may still wait.
@@ -129,15 +111,25 @@ impl TextBuffer {
         }
     }
 
+    /// Makes room for some bytes.
+    #[inline]
+    pub(crate) fn make_room<W: Sink>(&mut self, out: &mut W, count: usize)
+        requires { count ≤ 65536 }
+        ensures writes { Writes W.contents W.failure_count out.old self.old out.new self.new [] }
+        ensures room { length self.new.waiting + count ≤ 65536 }
+    {
+        if count > self.room() {
+            self.hand_on(out);
+        }
+    }
+
     /// Adds a short text.
     #[tactic(auto, using(crate::proofs::TextLaws::Adds_trans, crate::proofs::TextLaws::Adds_grown))]
     pub(crate) fn put<W: Sink>(&mut self, out: &mut W, bytes: &[u8])
         requires { length bytes.now ≤ 65536 }
         ensures { Writes W.contents W.failure_count out.old self.old out.new self.new bytes.now }
     {
-        if bytes.len() > self.room() {
-            self.hand_on(out);
-        }
+        self.make_room(out, bytes.len());
         self.append(bytes);
     }
 
@@ -146,33 +138,8 @@ impl TextBuffer {
     pub(crate) fn put_byte<W: Sink>(&mut self, out: &mut W, byte: u8)
         ensures { Writes W.contents W.failure_count out.old self.old out.new self.new (byte ∷ []) }
     {
-        if self.room() == 0 {
-            self.hand_on(out);
-        }
+        self.make_room(out, 1);
         self.append_byte(byte);
-    }
-
-    /// Adds a number of at most three digits in decimal.
-    #[inline]
-    pub(crate) fn put_octet<W: Sink>(&mut self, out: &mut W, octet: u8)
-        ensures { Writes W.contents W.failure_count out.old self.old out.new self.new (decimal octet) }
-    {
-        if self.room() < 3 {
-            self.hand_on(out);
-        }
-        self.append_short(octet as u32);
-    }
-
-    /// Adds a number of at most six digits in decimal.
-    #[inline]
-    pub(crate) fn put_short<W: Sink>(&mut self, out: &mut W, number: u32)
-        requires { number < 1000000 }
-        ensures { Writes W.contents W.failure_count out.old self.old out.new self.new (decimal number) }
-    {
-        if self.room() < 6 {
-            self.hand_on(out);
-        }
-        self.append_number(number);
     }
 
     /// Hands on all that waits, and tells whether a write failed.

@@ -1,57 +1,76 @@
 //! The fields of a report's lines.
 
-ghost use Rattle.std.specs.Prelude.{◌≡◌, ℕ, ◌+◌, [], ◌∷◌, ◌++◌, List, codes, decimal};
-ghost use Rattle.rib_report.specs.Texts.{Writes};
+ghost use Rattle.std.specs.Prelude.{◌≡◌, ℕ, ◌+◌, ◌<◌, ◌≤◌, [], ◌∷◌, ◌++◌, List, codes, decimal, length};
+ghost use Rattle.rib_report.specs.Texts.{Writes, Grows};
 ghost use Rattle.rib_report.specs.Digits.{field, ipv6_text, time_text, numbers_text};
-ghost use Rattle.rib_report.specs.Lines.{addr_text, peer_text, prefix_text, identifier_text, key_text, kind_text, path_text, next_hop_text, origin_text, aggregator_text, atomic_text, fault_number, fault_name};
+ghost use Rattle.rib_report.specs.Lines.{addr_text, peer_text, prefix_text, identifier_text, key_text, kind_text, path_text, next_hop_text, origin_text, aggregator_text, atomic_text, attributes_text, route_text, fault_number, fault_name};
 
 use crate::buffer::TextBuffer;
 use bgp_prefix::{Prefix, RouteKey};
-use bgp_update::{Aggregator, AsPath, NextHop, Origin, Segment, SegmentKind};
+use bgp_update::{Aggregator, AsPath, NextHop, Origin, Route, Segment, SegmentKind};
 use itoa::Buffer;
 use mrt_body::{PeerAddr, PeerKey};
 use mrt_frame::{Fault, Sink};
 
-fn put_addr<W: Sink>(text: &mut TextBuffer, out: &mut W, addr: PeerAddr)
-    ensures { Writes W.contents W.failure_count out.old text.old out.new text.new (addr_text addr) }
+fn append_addr(text: &mut TextBuffer, addr: PeerAddr)
+    requires { length text.old.waiting + 39 ≤ 65536 }
+    ensures { Grows text.old text.new 39 (addr_text addr) }
 {
     match addr {
-        PeerAddr::V4(addr) => text.put_ipv4(out, addr),
-        PeerAddr::V6(addr) => text.put_ipv6(out, addr),
+        PeerAddr::V4(addr) => text.append_ipv4(addr),
+        PeerAddr::V6(addr) => text.append_ipv6(addr),
     }
+}
+
+fn append_peer(text: &mut TextBuffer, peer: &PeerKey)
+    requires { length text.old.waiting + 52 ≤ 65536 }
+    ensures { Grows text.old text.new 52 (peer_text peer.now) }
+{
+    text.append_number(peer.asn);
+    text.append_byte(b' ');
+    append_addr(text, peer.addr);
 }
 
 pub(crate) fn put_peer<W: Sink>(text: &mut TextBuffer, out: &mut W, peer: &PeerKey)
     ensures { Writes W.contents W.failure_count out.old text.old out.new text.new (peer_text peer.now) }
 {
-    text.put_number(out, peer.asn as u64);
-    text.put_byte(out, b' ');
-    put_addr(text, out, peer.addr);
+    text.make_room(out, 52);
+    append_peer(text, peer);
+}
+
+fn append_prefix(text: &mut TextBuffer, prefix: &Prefix)
+    requires { length text.old.waiting + 20 ≤ 65536 }
+    ensures { Grows text.old text.new 19 (prefix_text prefix.now) }
+{
+    text.append_ipv4(prefix.addr());
+    text.append_byte(b'/');
+    text.append_short(prefix.len() as u32);
 }
 
 pub(crate) fn put_prefix<W: Sink>(text: &mut TextBuffer, out: &mut W, prefix: &Prefix)
     ensures { Writes W.contents W.failure_count out.old text.old out.new text.new (prefix_text prefix.now) }
 {
-    text.put_ipv4(out, prefix.addr());
-    text.put_byte(out, b'/');
-    text.put_octet(out, prefix.len());
+    text.make_room(out, 20);
+    append_prefix(text, prefix);
 }
 
 /// `#` and the identifier, where there is one.
-fn put_identifier<W: Sink>(text: &mut TextBuffer, out: &mut W, id: u32)
-    ensures { Writes W.contents W.failure_count out.old text.old out.new text.new (identifier_text id) }
+fn append_identifier(text: &mut TextBuffer, id: u32)
+    requires { length text.old.waiting + 14 ≤ 65536 }
+    ensures { Grows text.old text.new 13 (identifier_text id) }
 {
     if id != 0 {
-        text.put_byte(out, b'#');
-        text.put_number(out, id as u64);
+        text.append_byte(b'#');
+        text.append_number(id);
     }
 }
 
-pub(crate) fn put_key<W: Sink>(text: &mut TextBuffer, out: &mut W, key: &RouteKey)
+fn put_key<W: Sink>(text: &mut TextBuffer, out: &mut W, key: &RouteKey)
     ensures { Writes W.contents W.failure_count out.old text.old out.new text.new (key_text key.now) }
 {
-    put_prefix(text, out, &key.prefix);
-    put_identifier(text, out, key.id);
+    text.make_room(out, 33);
+    append_prefix(text, &key.prefix);
+    append_identifier(text, key.id);
 }
 
 fn put_enclosed<W: Sink>(
@@ -100,7 +119,14 @@ fn put_absent<W: Sink>(text: &mut TextBuffer, out: &mut W)
     text.put_byte(out, b'-');
 }
 
-pub(crate) fn put_path<W: Sink>(text: &mut TextBuffer, out: &mut W, path: &Option<AsPath>)
+fn append_absent(text: &mut TextBuffer)
+    requires { length text.old.waiting < 65536 }
+    ensures { Grows text.old text.new 1 (codes "-") }
+{
+    text.append_byte(b'-');
+}
+
+fn put_path<W: Sink>(text: &mut TextBuffer, out: &mut W, path: &Option<AsPath>)
     ensures { Writes W.contents W.failure_count out.old text.old out.new text.new (field path_text path.now) }
 {
     match path {
@@ -110,51 +136,117 @@ pub(crate) fn put_path<W: Sink>(text: &mut TextBuffer, out: &mut W, path: &Optio
 }
 
 /// Two addresses, split by one space.
-fn put_ipv6_pair<W: Sink>(text: &mut TextBuffer, out: &mut W, global: u128, local: u128)
-    ensures { Writes W.contents W.failure_count out.old text.old out.new text.new (ipv6_text global ++ 32 ∷ ipv6_text local) }
+fn append_ipv6_pair(text: &mut TextBuffer, global: u128, local: u128)
+    requires { length text.old.waiting + 79 ≤ 65536 }
+    ensures { Grows text.old text.new 79 (ipv6_text global ++ 32 ∷ ipv6_text local) }
 {
-    text.put_ipv6(out, global);
-    text.put_byte(out, b' ');
-    text.put_ipv6(out, local);
+    text.append_ipv6(global);
+    text.append_byte(b' ');
+    text.append_ipv6(local);
 }
 
-fn put_hop<W: Sink>(text: &mut TextBuffer, out: &mut W, hop: NextHop)
-    ensures { Writes W.contents W.failure_count out.old text.old out.new text.new (next_hop_text hop) }
+fn append_hop(text: &mut TextBuffer, hop: NextHop)
+    requires { length text.old.waiting + 79 ≤ 65536 }
+    ensures { Grows text.old text.new 79 (next_hop_text hop) }
 {
     match hop {
-        NextHop::V4(addr) => text.put_ipv4(out, addr),
-        NextHop::V6(addr) => text.put_ipv6(out, addr),
-        NextHop::V6Pair(global, local) => put_ipv6_pair(text, out, global, local),
+        NextHop::V4(addr) => text.append_ipv4(addr),
+        NextHop::V6(addr) => text.append_ipv6(addr),
+        NextHop::V6Pair(global, local) => append_ipv6_pair(text, global, local),
     }
 }
 
-pub(crate) fn put_next_hop<W: Sink>(text: &mut TextBuffer, out: &mut W, next_hop: Option<NextHop>)
-    ensures { Writes W.contents W.failure_count out.old text.old out.new text.new (field next_hop_text next_hop) }
+fn append_next_hop(text: &mut TextBuffer, next_hop: Option<NextHop>)
+    requires { length text.old.waiting + 79 ≤ 65536 }
+    ensures { Grows text.old text.new 79 (field next_hop_text next_hop) }
 {
     match next_hop {
-        Some(hop) => put_hop(text, out, hop),
-        None => put_absent(text, out),
+        Some(hop) => append_hop(text, hop),
+        None => append_absent(text),
     }
 }
 
-pub(crate) fn put_origin<W: Sink>(text: &mut TextBuffer, out: &mut W, origin: Option<Origin>)
-    ensures { Writes W.contents W.failure_count out.old text.old out.new text.new (field origin_text origin) }
+fn append_origin(text: &mut TextBuffer, origin: Option<Origin>)
+    requires { length text.old.waiting + 10 ≤ 65536 }
+    ensures { Grows text.old text.new 10 (field origin_text origin) }
 {
     match origin {
-        Some(Origin::Igp) => text.put(out, b"IGP"),
-        Some(Origin::Egp) => text.put(out, b"EGP"),
-        Some(Origin::Incomplete) => text.put(out, b"INCOMPLETE"),
-        None => put_absent(text, out),
+        Some(Origin::Igp) => text.append(b"IGP"),
+        Some(Origin::Egp) => text.append(b"EGP"),
+        Some(Origin::Incomplete) => text.append(b"INCOMPLETE"),
+        None => append_absent(text),
     }
 }
 
-pub(crate) fn put_optional_number<W: Sink>(text: &mut TextBuffer, out: &mut W, number: Option<u32>)
-    ensures { Writes W.contents W.failure_count out.old text.old out.new text.new (field decimal number) }
+fn append_optional_number(text: &mut TextBuffer, number: Option<u32>)
+    requires { length text.old.waiting + 13 ≤ 65536 }
+    ensures { Grows text.old text.new 12 (field decimal number) }
 {
     match number {
-        Some(number) => text.put_number(out, number as u64),
-        None => put_absent(text, out),
+        Some(number) => text.append_number(number),
+        None => append_absent(text),
     }
+}
+
+fn append_atomic(text: &mut TextBuffer, atomic: bool)
+    requires { length text.old.waiting + 6 ≤ 65536 }
+    ensures { Grows text.old text.new 6 (atomic_text atomic) }
+{
+    if atomic {
+        text.append(b"atomic");
+    } else {
+        append_absent(text);
+    }
+}
+
+fn append_pair(text: &mut TextBuffer, aggregator: Aggregator)
+    requires { length text.old.waiting + 29 ≤ 65536 }
+    ensures { Grows text.old text.new 28 (aggregator_text aggregator) }
+{
+    text.append_number(aggregator.asn);
+    text.append_byte(b' ');
+    text.append_ipv4(aggregator.addr);
+}
+
+fn append_aggregator(text: &mut TextBuffer, aggregator: Option<Aggregator>)
+    requires { length text.old.waiting + 29 ≤ 65536 }
+    ensures { Grows text.old text.new 28 (field aggregator_text aggregator) }
+{
+    match aggregator {
+        Some(aggregator) => append_pair(text, aggregator),
+        None => append_absent(text),
+    }
+}
+
+/// The fields of a route behind its path, and the end of the line.
+fn append_attributes(text: &mut TextBuffer, route: &Route)
+    requires { length text.old.waiting + 153 ≤ 65536 }
+    ensures { Grows text.old text.new 153 (attributes_text route.now) }
+{
+    append_next_hop(text, route.next_hop);
+    text.append_byte(b'|');
+    append_origin(text, route.origin);
+    text.append_byte(b'|');
+    append_optional_number(text, route.med);
+    text.append_byte(b'|');
+    append_optional_number(text, route.local_pref);
+    text.append_byte(b'|');
+    append_atomic(text, route.atomic);
+    text.append_byte(b'|');
+    append_aggregator(text, route.aggregator);
+    text.append_byte(b'\n');
+}
+
+/// A route behind its peer, and the end of the line.
+pub(crate) fn put_route<W: Sink>(text: &mut TextBuffer, out: &mut W, key: &RouteKey, route: &Route)
+    ensures { Writes W.contents W.failure_count out.old text.old out.new text.new (route_text key.now route.now) }
+{
+    put_key(text, out, key);
+    text.put_byte(out, b'|');
+    put_path(text, out, &route.path);
+    text.put_byte(out, b'|');
+    text.make_room(out, 153);
+    append_attributes(text, route);
 }
 
 pub(crate) fn put_optional_time<W: Sink>(text: &mut TextBuffer, out: &mut W, time: Option<u64>)
@@ -162,37 +254,6 @@ pub(crate) fn put_optional_time<W: Sink>(text: &mut TextBuffer, out: &mut W, tim
 {
     match time {
         Some(time) => text.put_time(out, time),
-        None => put_absent(text, out),
-    }
-}
-
-pub(crate) fn put_atomic<W: Sink>(text: &mut TextBuffer, out: &mut W, atomic: bool)
-    ensures { Writes W.contents W.failure_count out.old text.old out.new text.new (atomic_text atomic) }
-{
-    if atomic {
-        text.put(out, b"atomic");
-    } else {
-        put_absent(text, out);
-    }
-}
-
-fn put_pair<W: Sink>(text: &mut TextBuffer, out: &mut W, aggregator: Aggregator)
-    ensures { Writes W.contents W.failure_count out.old text.old out.new text.new (aggregator_text aggregator) }
-{
-    text.put_number(out, aggregator.asn as u64);
-    text.put_byte(out, b' ');
-    text.put_ipv4(out, aggregator.addr);
-}
-
-pub(crate) fn put_aggregator<W: Sink>(
-    text: &mut TextBuffer,
-    out: &mut W,
-    aggregator: Option<Aggregator>,
-)
-    ensures { Writes W.contents W.failure_count out.old text.old out.new text.new (field aggregator_text aggregator) }
-{
-    match aggregator {
-        Some(aggregator) => put_pair(text, out, aggregator),
         None => put_absent(text, out),
     }
 }

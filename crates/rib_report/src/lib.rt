@@ -13,6 +13,7 @@ mod numbers;
 mod origin;
 mod row;
 mod seen;
+mod short;
 mod standing;
 mod tables;
 mod write;

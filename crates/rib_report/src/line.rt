@@ -7,9 +7,8 @@ ghost use Rattle.rib_report.specs.Lines.{route_line, visibility_line, origin_lin
 
 use crate::buffer::TextBuffer;
 use crate::fields::{
-    put_aggregator, put_atomic, put_entry, put_fault, put_fault_number, put_file, put_key,
-    put_next_hop, put_optional_number, put_optional_time, put_origin, put_path, put_peer,
-    put_prefix,
+    put_entry, put_fault, put_fault_number, put_file, put_optional_time, put_peer, put_prefix,
+    put_route,
 };
 use crate::row::{ChurnRow, OriginRow, SeenRow, TableRow};
 use mrt_body::Damage;
@@ -44,25 +43,9 @@ impl Line for TableRow<'_> {
     }
 
     fn put<W: Sink>(&self, text: &mut TextBuffer, out: &mut W) {
-        let route = self.route;
         put_peer(text, out, &self.peer);
         text.put_byte(out, b'|');
-        put_key(text, out, &self.key);
-        text.put_byte(out, b'|');
-        put_path(text, out, &route.path);
-        text.put_byte(out, b'|');
-        put_next_hop(text, out, route.next_hop);
-        text.put_byte(out, b'|');
-        put_origin(text, out, route.origin);
-        text.put_byte(out, b'|');
-        put_optional_number(text, out, route.med);
-        text.put_byte(out, b'|');
-        put_optional_number(text, out, route.local_pref);
-        text.put_byte(out, b'|');
-        put_atomic(text, out, route.atomic);
-        text.put_byte(out, b'|');
-        put_aggregator(text, out, route.aggregator);
-        text.put_byte(out, b'\n');
+        put_route(text, out, &self.key, self.route);
     }
 }
 

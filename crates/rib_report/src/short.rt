@@ -1,0 +1,64 @@
+//! The decimal texts of small numbers, made once.
+
+ghost use Rattle.std.specs.Prelude.{ℕ, ◌<◌, slice_index_or};
+ghost use Rattle.rib_report.specs.declared.short.ShortText.{ShortText};
+ghost use Rattle.rib_report.specs.ShortTexts.{IsShortText};
+
+/// A text of at most four bytes, in a block that is copied whole.
+#[derive(Clone, Copy)]
+pub(crate) struct ShortText {
+    pub(crate) bytes: [u8; 4],
+    pub(crate) len: u8,
+}
+
+/// The decimal text of each number of at most three digits.
+#[derive(Drop)]
+pub(crate) struct ShortTexts {
+    texts: [ShortText; 1000],
+    ghost texts_of_numbers: { (k : ℕ) → k < 1000 → (d : ShortText) → IsShortText k (slice_index_or texts k d) },
+}
+
+/// The text of a number of at most three digits.
+fn short_text(number: u32) -> ShortText
+    requires { number < 1000 }
+    ensures { IsShortText number result }
+{
+    let ones = b'0' + (number % 10) as u8;
+    if number < 10 {
+        return ShortText {
+            bytes: [ones, 0, 0, 0],
+            len: 1,
+        };
+    }
+    if number < 100 {
+        return ShortText {
+            bytes: [b'0' + (number / 10) as u8, ones, 0, 0],
+            len: 2,
+        };
+    }
+    let hundreds = b'0' + (number / 100) as u8;
+    let tens = b'0' + (number / 10 % 10) as u8;
+    ShortText {
+        bytes: [hundreds, tens, ones, 0],
+        len: 3,
+    }
+}
+
+impl ShortTexts {
+    pub(crate) fn new() -> ShortTexts {
+        let mut texts = [short_text(0); 1000];
+        for i in 0..1000 {
+            texts[i] = short_text(i as u32);
+        }
+        ShortTexts { texts }
+    }
+
+    /// The text of a number.
+    #[inline]
+    pub(crate) fn text(&self, number: u32) -> ShortText
+        requires { number < 1000 }
+        ensures { IsShortText number result }
+    {
+        self.texts[number as usize]
+    }
+}
