@@ -1,10 +1,11 @@
 -- Texts joined by a byte, or end to end.
-use Rattle.std.proofs.Common.{◌≡◌, ℕ, ◌<◌, ◌≤◌, List, [], ◌∷◌, ◌++◌, sym, ap, ◌∙◌, append-nil, length, get_or, take, take_all, map, ◌+◌}
+use Rattle.std.proofs.Common.{◌≡◌, ℕ, ◌<◌, ◌≤◌, List, [], ◌∷◌, ◌++◌, sym, ap, ◌∙◌, append-nil, length, get_or, take, drop, take_all, take-append-drop, map, ◌+◌, ◌-◌, true, refl, arith, take-add}
 use Rattle.std.specs.List.{flat_map, between, join_with_byte}
 use Rattle.std.proofs.lemmas.Slice.{first_rest}
 use Rattle.std.proofs.lemmas.List.{take_more, flat_map_more}
+use Rattle.std.proofs.lemmas.List.Concat.{flat_map-append}
 use Rattle.rib_report.specs.Texts.{TextState, Adds}
-use Rattle.rib_report.proofs.TextLaws.{Adds_trans, Adds_as}
+use Rattle.rib_report.proofs.TextLaws.{Adds_trans, Adds_as, Adds_dropped}
 
 pub join-cons : {X : Type 0} (sep : ℕ) (f : X → List ℕ) (x : X) (xs : List X) → join_with_byte sep (map f (x ∷ xs)) ≡ f x ++ flat_map (λ y. sep ∷ f y) xs
 join-cons sep f x [] = sym (append-nil (f x))
@@ -27,3 +28,14 @@ Adds_item f xs i x below at before one =
 -- after a loop: the pieces of all items
 pub Adds_items : {X : Type 0} {s t : TextState} (f : X → List ℕ) (xs : List X) (n : ℕ) → length xs ≤ n → Adds s t (flat_map f (take n xs)) → Adds s t (flat_map f xs)
 Adds_items f xs n all done = Adds_as (ap (flat_map f) (take_all n xs all)) done
+
+-- after a failure no item's piece is missed
+pub Adds_failed : {X : Type 0} {s t : TextState} (f : X → List ℕ) (xs : List X) (n : ℕ) → Adds s t (flat_map f (take n xs)) → t.buffer.failed ≡ true → Adds s t (flat_map f xs)
+Adds_failed f xs n done lost =
+    Adds_as (sym (flat_map-append f (take n xs) (drop n xs)) ∙ ap (flat_map f) (take-append-drop n xs)) (Adds_trans done (Adds_dropped lost refl refl lost))
+
+-- a loop's step: the pieces of a range of items
+pub Adds_range : {X : Type 0} {s t u : TextState} (f : X → List ℕ) (xs : List X) (m n : ℕ) → m ≤ n → Adds s t (flat_map f (take m xs)) → Adds t u (flat_map f (between m n xs)) → Adds s u (flat_map f (take n xs))
+Adds_range f xs m n le before one =
+    let same : m + (n - m) ≡ n = omega arith in
+    Adds_as (sym (flat_map-append f (take m xs) (between m n xs)) ∙ ap (flat_map f) (sym (take-add m (n - m) xs) ∙ ap (λ k. take k xs) same)) (Adds_trans before one)

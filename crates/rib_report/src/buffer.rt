@@ -94,6 +94,14 @@ impl TextBuffer {
         CAPACITY - self.len
     }
 
+    /// Whether a write failed.
+    #[inline]
+    pub(crate) fn has_failed(&self) -> bool
+        ensures { result ≡ self.now.failed }
+    {
+        self.failed
+    }
+
     /// Hands on all that waits.
     #[tactic(auto, using(crate::proofs::TextLaws::Adds_dropped, crate::proofs::TextLaws::Adds_handed, crate::proofs::TextLaws::Adds_lost))]
     fn hand_on<W: Sink>(&mut self, out: &mut W)

@@ -1,8 +1,7 @@
 //! Every entry of every table.
 
-ghost use Rattle.std.specs.Prelude.{◌≡◌, ◌≤◌, ◌⊎◌, ◌++◌, IfOk, IfErr, OnOk, OnErr, IsErr, Err, length, map};
+ghost use Rattle.std.specs.Prelude.{◌≡◌, ◌<◌, ◌⊎◌, ◌++◌, IfOk, IfErr, OnOk, OnErr, IsErr, Err, length, map};
 ghost use Rattle.std.specs.List.{flat_map};
-ghost use Rattle.std.specs.Vec.{vec_capacity};
 ghost use Rattle.std.specs.Io.KnownBytes.{Appends};
 ghost use Rattle.mrt_frame.specs.Devices.{HasFailed};
 ghost use Rattle.mrt_frame.specs.Writes.{WritesFront};
@@ -12,15 +11,17 @@ ghost use Rattle.rib_report.specs.Rows.{route_row};
 ghost use Rattle.rib_report.specs.Reports.{rows_of_seat, route_rows};
 ghost use Rattle.rib_report.specs.Listings.{reached_lines, listed_rows, listed_lines};
 ghost use Rattle.rib_report.specs.Lines.{route_line};
-ghost use Rattle.rib_report.specs.Texts.{IsWritten, IsCutOff};
+ghost use Rattle.rib_report.specs.Texts.{Writes};
 
+use crate::buffer::TextBuffer;
+use crate::fields::put_row;
+use crate::line::touch_route;
 use crate::row::TableRow;
 use crate::tables::{Seated, Tables};
-use crate::write::write_rows;
 use adj_rib::SharedRoute;
 use bgp_prefix::{Memory, PrefixMap, RouteKey};
 use mrt_body::PeerKey;
-use mrt_frame::{ReplayError, Sink};
+use mrt_frame::{Failed, ReplayError, Sink};
 use std::alloc::Global;
 
 /// Adds the entries of one peer's table.
@@ -58,8 +59,11 @@ pub fn table_rows<M: PrefixMap<SharedRoute>>(
     Ok(rows)
 }
 
-/// How many rows are made and written at once.
-const BLOCK_ROWS: usize = 4_096;
+/// How many entries are touched together before their lines are put.
+const NEAR_ENTRIES: usize = 64;
+
+/// The same where entries stand over much.
+const NEAR_LONG_ENTRIES: usize = 16;
 
 /// The entries of one peer's table, keys in order.
 #[derive(Drop)]
@@ -86,65 +90,67 @@ fn all_entries<M: PrefixMap<SharedRoute>>(
     Ok(lists)
 }
 
-/// Writes the lines of some entries of one peer, by rows that are made in the room of a list.
-fn write_block<'a, W: Sink>(
-    out: &mut W,
-    rows: &mut Vec<TableRow<'a>>,
-    peer: PeerKey,
-    block: &[(RouteKey, &'a SharedRoute)],
-) -> Result<(), ReplayError>
-    requires { length block.now ≤ vec_capacity rows.old }
-    ensures ok { OnOk result (IsWritten (W.contents out.old) (W.failure_count out.old) (W.contents out.new) (W.failure_count out.new) (reached_lines peer block.now)) }
-    ensures err { OnErr result (IsCutOff (W.contents out.old) (W.failure_count out.old) (W.contents out.new) (W.failure_count out.new) (reached_lines peer block.now)) }
-    ensures write { IsErr result → result ≡ Err errors.Write }
-    ensures room { vec_capacity rows.old ≤ vec_capacity rows.new }
+/// Reads a little of what each entry stands over, and answers how many entries to touch next. Routes lie
+/// far apart in memory, and reads that don't wait for one another overlap, so that the lines are then
+/// put from the processor's cache.
+fn touch_entries(entries: &[(RouteKey, &SharedRoute)]) -> usize
+    ensures { 0 < result }
 {
-    rows.clear();
+    let mut touched = 0usize;
+    for entry in entries {
+        touched = touched.saturating_add(touch_route(entry.1.route()));
+    }
+    if touched > 32 * NEAR_ENTRIES {
+        NEAR_LONG_ENTRIES
+    } else {
+        NEAR_ENTRIES
+    }
+}
+
+/// Adds the lines of some entries of one peer.
+fn put_block<W: Sink>(
+    text: &mut TextBuffer,
+    out: &mut W,
+    peer: PeerKey,
+    block: &[(RouteKey, &SharedRoute)],
+)
+    ensures { Writes W.contents W.failure_count out.old text.old out.new text.new (reached_lines peer block.now) }
+{
     for entry in block {
-        let (key, shared) = *entry;
-        let route = shared.route();
-        let row = TableRow { peer, key, route };
-        let Ok(()) = rows.push(row) else {
-            unreachable!()
-        };
+        put_row(text, out, &peer, &entry.0, entry.1.route());
     }
-    write_rows(out, rows.as_slice())
 }
 
-/// Writes the lines of entries of one peer, block by block.
-fn write_entries<'a, W: Sink>(
+/// Adds the lines of the entries of one peer. After a failed write no line is made any more.
+fn put_entries<W: Sink>(
+    text: &mut TextBuffer,
     out: &mut W,
-    rows: &mut Vec<TableRow<'a>>,
     peer: PeerKey,
-    entries: &[(RouteKey, &'a SharedRoute)],
-) -> Result<(), ReplayError>
-    requires { 4096 ≤ vec_capacity rows.old }
-    ensures ok { OnOk result (IsWritten (W.contents out.old) (W.failure_count out.old) (W.contents out.new) (W.failure_count out.new) (reached_lines peer entries.now)) }
-    ensures err { OnErr result (IsCutOff (W.contents out.old) (W.failure_count out.old) (W.contents out.new) (W.failure_count out.new) (reached_lines peer entries.now)) }
-    ensures write { IsErr result → result ≡ Err errors.Write }
-    ensures room { vec_capacity rows.old ≤ vec_capacity rows.new }
+    entries: &[(RouteKey, &SharedRoute)],
+)
+    ensures { Writes W.contents W.failure_count out.old text.old out.new text.new (reached_lines peer entries.now) }
 {
-    for block in entries.chunks(BLOCK_ROWS) {
-        write_block(out, rows, peer, block)?;
+    let mut done = 0;
+    let mut near = NEAR_ENTRIES;
+    while done < entries.len() {
+        if text.has_failed() {
+            return;
+        }
+        let end = entries.len().min(done.saturating_add(near));
+        let block = &entries[done..end];
+        near = touch_entries(block);
+        put_block(text, out, peer, block);
+        done = end;
     }
-    Ok(())
 }
 
-/// Writes the lines of all lists, in order.
-fn write_lists<'a, W: Sink>(
-    out: &mut W,
-    rows: &mut Vec<TableRow<'a>>,
-    lists: &[Listed<'a>],
-) -> Result<(), ReplayError>
-    requires { 4096 ≤ vec_capacity rows.old }
-    ensures ok { OnOk result (IsWritten (W.contents out.old) (W.failure_count out.old) (W.contents out.new) (W.failure_count out.new) (flat_map listed_lines lists.now)) }
-    ensures err { OnErr result (IsCutOff (W.contents out.old) (W.failure_count out.old) (W.contents out.new) (W.failure_count out.new) (flat_map listed_lines lists.now)) }
-    ensures write { IsErr result → result ≡ Err errors.Write }
+/// Adds the lines of all lists, in order.
+fn put_lists<W: Sink>(text: &mut TextBuffer, out: &mut W, lists: &[Listed<'_>])
+    ensures { Writes W.contents W.failure_count out.old text.old out.new text.new (flat_map listed_lines lists.now) }
 {
     for listed in lists {
-        write_entries(out, rows, listed.peer, listed.entries.as_slice())?;
+        put_entries(text, out, listed.peer, listed.entries.as_slice());
     }
-    Ok(())
 }
 
 /// Writes what `write_rows` writes of `table_rows`, without a list of all rows. All memory is taken
@@ -163,6 +169,10 @@ pub fn write_tables<M: PrefixMap<SharedRoute>, W: Sink>(
     ensures risen { result ≡ Err errors.Write → HasFailed (W.failure_count out.old) (W.failure_count out.new) }
 {
     let lists = all_entries(alloc, tables)?;
-    let mut rows = Vec::with_capacity(alloc, BLOCK_ROWS)?;
-    write_lists(out, &mut rows, lists.as_slice())
+    let mut text = TextBuffer::new();
+    put_lists(&mut text, out, lists.as_slice());
+    match text.finish(out) {
+        Ok(()) => Ok(()),
+        Err(Failed) => Err(ReplayError::Write),
+    }
 }

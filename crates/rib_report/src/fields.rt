@@ -3,7 +3,7 @@
 ghost use Rattle.std.specs.Prelude.{◌≡◌, ℕ, ◌+◌, ◌<◌, ◌≤◌, [], ◌∷◌, ◌++◌, List, codes, decimal, length};
 ghost use Rattle.rib_report.specs.Texts.{Writes, Grows};
 ghost use Rattle.rib_report.specs.Digits.{field, ipv6_text, time_text, numbers_text};
-ghost use Rattle.rib_report.specs.Lines.{addr_text, peer_text, prefix_text, identifier_text, key_text, kind_text, path_text, next_hop_text, origin_text, aggregator_text, atomic_text, attributes_text, route_text, fault_number, fault_name};
+ghost use Rattle.rib_report.specs.Lines.{addr_text, peer_text, prefix_text, identifier_text, key_text, kind_text, path_text, next_hop_text, origin_text, aggregator_text, atomic_text, attributes_text, route_text, route_line, fault_number, fault_name};
 
 use crate::buffer::TextBuffer;
 use bgp_prefix::{Prefix, RouteKey};
@@ -238,7 +238,7 @@ fn append_attributes(text: &mut TextBuffer, route: &Route)
 }
 
 /// A route behind its peer, and the end of the line.
-pub(crate) fn put_route<W: Sink>(text: &mut TextBuffer, out: &mut W, key: &RouteKey, route: &Route)
+fn put_route<W: Sink>(text: &mut TextBuffer, out: &mut W, key: &RouteKey, route: &Route)
     ensures { Writes W.contents W.failure_count out.old text.old out.new text.new (route_text key.now route.now) }
 {
     put_key(text, out, key);
@@ -256,6 +256,21 @@ pub(crate) fn put_optional_time<W: Sink>(text: &mut TextBuffer, out: &mut W, tim
         Some(time) => text.put_time(out, time),
         None => put_absent(text, out),
     }
+}
+
+/// The line of a route.
+pub(crate) fn put_row<W: Sink>(
+    text: &mut TextBuffer,
+    out: &mut W,
+    peer: &PeerKey,
+    key: &RouteKey,
+    route: &Route,
+)
+    ensures { Writes W.contents W.failure_count out.old text.old out.new text.new (route_line (record { peer = peer.now; key = key.now; route = route.now })) }
+{
+    put_peer(text, out, peer);
+    text.put_byte(out, b'|');
+    put_route(text, out, key, route);
 }
 
 /// The number of a file, counted from 1.

@@ -8,11 +8,24 @@ ghost use Rattle.rib_report.specs.Lines.{route_line, visibility_line, origin_lin
 use crate::buffer::TextBuffer;
 use crate::fields::{
     put_entry, put_fault, put_fault_number, put_file, put_optional_time, put_peer, put_prefix,
-    put_route,
+    put_row,
 };
 use crate::row::{ChurnRow, OriginRow, SeenRow, TableRow};
+use bgp_update::Route;
 use mrt_body::Damage;
 use mrt_frame::Sink;
+
+/// Reads a little of a route and of its path.
+pub(crate) fn touch_route(route: &Route) -> usize {
+    let ends = route.next_hop.is_some() as usize + route.atomic as usize;
+    match &route.path {
+        Some(path) => match path.segments().first() {
+            Some(segment) => ends.saturating_add(segment.numbers().len()),
+            None => ends,
+        },
+        None => ends,
+    }
+}
 
 /// What one line of a report tells.
 pub(crate) trait Line {
@@ -31,21 +44,11 @@ impl Line for TableRow<'_> {
     ghost line = { λ row. route_line (route_row row) };
 
     fn touch(&self) -> usize {
-        let route = self.route;
-        let ends = route.next_hop.is_some() as usize + route.atomic as usize;
-        match &route.path {
-            Some(path) => match path.segments().first() {
-                Some(segment) => ends.saturating_add(segment.numbers().len()),
-                None => ends,
-            },
-            None => ends,
-        }
+        touch_route(self.route)
     }
 
     fn put<W: Sink>(&self, text: &mut TextBuffer, out: &mut W) {
-        put_peer(text, out, &self.peer);
-        text.put_byte(out, b'|');
-        put_route(text, out, &self.key, self.route);
+        put_row(text, out, &self.peer, &self.key, self.route);
     }
 }
 
