@@ -2,14 +2,14 @@
 use Rattle.std.proofs.Common.{◌≡◌, ℕ, suc, ◌+◌, ◌-◌, ◌<◌, ◌≤◌, Bool, true, false, ◌||◌, cond, ltb, List, [], ◌∷◌, ◌++◌, length, map, take, drop, Some, Result, Ok, Err, refl, sym, ap, subst, ◌∙◌, arith}
 use Rattle.std.specs.Int.{div_ceil}
 use Rattle.std.specs.List.{All}
-use Rattle.std.proofs.lemmas.List.{length-map, length-drop}
+use Rattle.std.proofs.lemmas.List.{length-map, length-drop, length-append}
 use Rattle.std.proofs.lemmas.Bool.{ltb-true}
 use Rattle.bgp_prefix.specs.Prefixes.{IpPrefix}
 use Rattle.mrt_frame.specs.declared.fault.Fault.{Fault}
 use Rattle.mrt_frame.specs.declared.fault.Fault.TheVariants.{ShortRecord, BadPrefix, BadPeerIndex}
 use Rattle.mrt_frame.specs.Fields.{◌>>=◌, byte_at, bytes_at, number_at}
 use Rattle.mrt_frame.proofs.Items.{bind_ok, guard_ok, ok_is}
-use Rattle.mrt_frame.proofs.FieldLaws.{bytes_at-takes}
+use Rattle.mrt_frame.proofs.FieldLaws.{bytes_at-takes, number_at-long}
 use Rattle.bgp_update.specs.Answers.{Fails}
 use Rattle.bgp_update.specs.declared.width.AttrError.{AttrError}
 use Rattle.bgp_update.specs.declared.width.AttrError.TheVariants as errors
@@ -33,12 +33,17 @@ written_entry add_path peers bytes e after h = seen_ok read_of (entry_at add_pat
 
 -- ---- what an entry leaves
 
-peer_index_takes : (peers : ℕ) (bytes : List ℕ) (x : ℕ × List ℕ) → peer_index_at peers bytes ≡ Ok x → Behind bytes x.1 × (x.0 < peers)
+number_shorter : (n : ℕ) (bytes : List ℕ) (x : ℕ × List ℕ) → number_at ShortRecord n bytes ≡ Ok x → length x.1 + n ≤ length bytes
+number_shorter n bytes x e =
+    let long = number_at-long ShortRecord n bytes x e in
+    omega (arith, long.0, ap length long.1, length-drop n bytes)
+
+peer_index_takes : (peers : ℕ) (bytes : List ℕ) (x : ℕ × List ℕ) → peer_index_at peers bytes ≡ Ok x → Behind bytes x.1 × (x.0 < peers) × (length x.1 + 2 ≤ length bytes)
 peer_index_takes peers bytes x e =
     let a = bind_ok (number_at ShortRecord 2 bytes) (λ index. cond (ltb index.0 peers) (Ok index) (Err BadPeerIndex)) x e in
     let g = tested (ltb a.0.0 peers) a.0 x a.2 in
     let below : a.0.0 < peers = ltb-true _ _ g.0 in
-    subst (λ (y : ℕ × List ℕ). Behind bytes y.1 × (y.0 < peers)) g.1 (number_behind ShortRecord 2 bytes a.0 a.1, below)
+    subst (λ (y : ℕ × List ℕ). Behind bytes y.1 × (y.0 < peers) × (length y.1 + 2 ≤ length bytes)) g.1 (number_behind ShortRecord 2 bytes a.0 a.1, below, number_shorter 2 bytes a.0 a.1)
   where
     tested : (b : Bool) (i y : ℕ × List ℕ) → cond b (Ok i) (Err BadPeerIndex) ≡ Ok y → (b ≡ true) × (i ≡ y)
     tested true i y e = (refl, cc)
@@ -51,6 +56,7 @@ identifier_behind false bytes x e = ok_behind 0 bytes x e
 pub record TakesEntry (peers : ℕ) (bytes : List ℕ) (w : WrittenEntry) (rest : List ℕ) : Type 0 where
   pub behind : Behind bytes (w.attributes ++ rest)
   pub known : w.peer < peers
+  pub long : length rest + 8 ≤ length bytes
 
 pub entry_takes : (add_path : Bool) (peers : ℕ) (bytes : List ℕ) (x : WrittenEntry × List ℕ) → entry_at add_path peers bytes ≡ Ok x → TakesEntry peers bytes x.0 x.1
 unfolding entry_at
@@ -62,10 +68,13 @@ entry_takes add_path peers bytes x e =
     let t = bind_ok (bytes_at ShortRecord l.0.0 l.0.1) (λ attributes. Ok (record { peer = a.0.0; originated = b.0.0; identifier = d.0.0; attributes = attributes.0 }, attributes.1)) x l.2 in
     let p = peer_index_takes peers bytes a.0 a.1 in
     let end = t.0.0 ++ t.0.1 in
-    let attributes : Behind l.0.1 end = record { front = []; parts = (bytes_at-takes ShortRecord l.0.0 l.0.1 t.0 t.1).0 } in
-    let rest = behind_more bytes a.0.1 end p.0 (behind_more a.0.1 b.0.1 end (number_behind ShortRecord 4 a.0.1 b.0 b.1) (behind_more b.0.1 d.0.1 end (identifier_behind add_path b.0.1 d.0 d.1) (behind_more d.0.1 l.0.1 end (number_behind ShortRecord 2 d.0.1 l.0 l.1) attributes))) in
+    let parts : l.0.1 ≡ end = (bytes_at-takes ShortRecord l.0.0 l.0.1 t.0 t.1).0 in
+    let attributes : Behind l.0.1 end = record { front = []; parts = parts } in
+    let named = identifier_behind add_path b.0.1 d.0 d.1 in
+    let long : length t.0.1 + 8 ≤ length bytes = omega (arith, p.2, number_shorter 4 a.0.1 b.0 b.1, behind-le b.0.1 d.0.1 named, number_shorter 2 d.0.1 l.0 l.1, ap length parts, length-append t.0.0 t.0.1) in
+    let rest = behind_more bytes a.0.1 end p.0 (behind_more a.0.1 b.0.1 end (number_behind ShortRecord 4 a.0.1 b.0 b.1) (behind_more b.0.1 d.0.1 end named (behind_more d.0.1 l.0.1 end (number_behind ShortRecord 2 d.0.1 l.0 l.1) attributes))) in
     subst (λ (y : WrittenEntry × List ℕ). TakesEntry peers bytes y.0 y.1) (ok_is (record { peer = a.0.0; originated = b.0.0; identifier = d.0.0; attributes = t.0.0 }, t.0.1) x t.2)
-    (record { behind = rest; known = p.1 })
+    (record { behind = rest; known = p.1; long = long })
 
 -- ---- what stands before the entries
 

@@ -24,6 +24,7 @@ module _ (add_path : Bool) (peers : ℕ) (body : List ℕ) (rest : List ℕ) (e 
   -- an entry that was read behind others
   pub record Lists : Type 0 where
     pub room : length e.attributes + length after ≤ length body
+    pub long : length after + 8 ≤ length rest
     pub left : Behind body after
     pub says : read_listed body (listed_of body e after) ≡ e
     pub within : IsListed peers (length body) (listed_of body e after)
@@ -39,6 +40,7 @@ module _ (add_path : Bool) (peers : ℕ) (body : List ℕ) (rest : List ℕ) (e 
       let room = behind-le body (e.attributes ++ after) stands in
       record {
         room = omega (arith, room, length-append e.attributes after);
+        long = t.long;
         left = behind_more body (e.attributes ++ after) after stands (record { front = e.attributes; parts = refl });
         says = ap (λ (l : List ℕ). record { peer = e.peer; identifier = e.identifier; attributes = l }) (part_at body e.attributes after stands);
         within = record { peer = omega (arith, peer, known); attributes = omega (arith, room, length-append e.attributes after) };

@@ -1,6 +1,6 @@
 //! The entries of a RIB record that are still to be given out.
 
-ghost use Rattle.std.specs.Prelude.{◌≡◌, ◌≤◌, ◌++◌, ◌+◌, [], length, take, drop, Some, None, IfOk, IfSome, option_to_list};
+ghost use Rattle.std.specs.Prelude.{◌≡◌, ◌≤◌, ◌++◌, ◌+◌, ◌/◌, [], length, take, drop, max, vec_capacity, Some, None, IfOk, IfSome, option_to_list};
 ghost use Rattle.bgp_update.specs.Answers.{Gives};
 ghost use Rattle.mrt_body.specs.Units.{IsSmallUnit, rib_units_in, time_of};
 ghost use Rattle.mrt_body.specs.Pending.{AreListed, units_left};
@@ -67,6 +67,8 @@ impl RibRecord {
         requires { length body ≤ 16777216 }
         ensures units { Gives (units_left peers.now list.new.items) result (rib_units_in at add_path (Some peers.now) body) }
         ensures listed { IfOk result (AreListed peers.now list.new.items) }
+        // A record takes no more room than for as many entries as its body can have.
+        ensures room { vec_capacity list.new ≤ max (vec_capacity list.old) (length body / 8) }
     {
         let bytes = body.as_slice();
         match rib_head_at(bytes) {

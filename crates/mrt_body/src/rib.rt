@@ -1,7 +1,7 @@
 //! The RIB_IPV4_UNICAST record (RFC 6396, 4.3.2 and 4.3.4) and its form with path identifiers
 //! (RFC 8050, 4).
 
-ghost use Rattle.std.specs.Prelude.{◌≡◌, ◌≤◌, ◌+◌, ◌-◌, IfOk, length, drop, map};
+ghost use Rattle.std.specs.Prelude.{◌≡◌, ◌≤◌, ◌+◌, ◌-◌, ◌/◌, IfOk, length, drop, map, max, vec_capacity};
 ghost use Rattle.std.specs.List.{All};
 ghost use Rattle.mrt_frame.specs.Fields.{Reads};
 ghost use Rattle.bgp_update.specs.Answers.{Gives};
@@ -93,9 +93,11 @@ pub(crate) fn entry_at(
 /// What an entry says, and where its attributes stand in the body of its record.
 #[derive(Clone, Copy)]
 pub(crate) struct ListedEntry {
+    /// Where its attributes begin in the body.
     pub(crate) start: u32,
     pub(crate) identifier: u32,
     pub(crate) peer: u16,
+    /// How many bytes its attributes have.
     pub(crate) len: u16,
 }
 
@@ -145,6 +147,8 @@ pub(crate) fn list_entries(
     requires small { length body.now ≤ 16777216 }
     ensures listed { Gives (λ _. map (read_listed body.now) list.new.items) result (many (ribs.read_entry_at add_path peers) count (drop start body.now)) }
     ensures within { All (IsListed peers (length body.now)) list.new.items }
+    // A count that isn't true takes no memory.
+    ensures room { vec_capacity list.new ≤ max (vec_capacity list.old) (length body.now / 8) }
 {
     let mut rest = behind(body, start);
     list.clear();
@@ -157,7 +161,13 @@ pub(crate) fn list_entries(
                     identifier,
                     attributes,
                 } = entry;
-                list.push(listed_entry(peer, identifier, attributes, body.len(), after.len()))?;
+                list.push_reserved(listed_entry(
+                    peer,
+                    identifier,
+                    attributes,
+                    body.len(),
+                    after.len(),
+                ));
                 rest = after;
             }
             Err(fault) => return Err(AttrError::Bad(fault)),

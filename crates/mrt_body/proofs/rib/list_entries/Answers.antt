@@ -1,4 +1,5 @@
-use Rattle.std.proofs.Common.{List, [], map, drop, refl, length, arith}
+use Rattle.std.proofs.Common.{◌≡◌, ◌-◌, List, [], length, map, drop, refl, arith}
+use Rattle.std.proofs.lemmas.List.{length-drop}
 use Rattle.std.proofs.lemmas.List.Elements.{All-nil, All-push}
 use Rattle.mrt_body.specs.Listed.{IsListed, read_listed}
 use Rattle.mrt_body.specs.Many.{many}
@@ -12,15 +13,25 @@ pub loop-init : goal.loop-init
 loop-init c =
     let all = many (read_entry_at c.args.add_path c.args.peers) c.args.count (drop c.args.start c.args.body.now) in
     let none : List ReadEntry = [] in
-    rw (c.behind-rest.ensures, c.in_ok-reserve_exact.ensures.items, c.clear.ensures.items) (record {
-      left = behind_front c.args.start c.args.body.now;
-      says = rw no_minus (starts all none refl);
-      within = All-nil (IsListed c.args.peers (length c.args.body.now));
-    })
+    let left : length c.behind-rest.result.now ≡ length c.args.body.now - c.args.start = rw c.behind-rest.ensures (length-drop c.args.start c.args.body.now) in
+    record {
+      left = rw c.behind-rest.ensures (behind_front c.args.start c.args.body.now);
+      says = rw (c.behind-rest.ensures, c.in_ok-reserve_exact.ensures.items, c.clear.ensures.items) (rw no_minus (starts all none refl));
+      within = rw (c.in_ok-reserve_exact.ensures.items, c.clear.ensures.items) (All-nil (IsListed c.args.peers (length c.args.body.now)));
+      listed = omega (arith, c.in_ok-reserve_exact.ensures.len, c.clear.ensures.len);
+      bytes = omega (arith, left);
+      room = omega (arith, left, c.from.ensures, c.min.ensures, c.clear.ensures.len, c.in_ok-reserve_exact.ensures.ok);
+      capacity = omega (arith, left, c.from.ensures, c.min.ensures, c.clear.ensures.len, c.clear.ensures.capacity, c.in_ok-reserve_exact.ensures.capacity_exact);
+    }
 
 pub listed_entry-requires-clause-within : goal.listed_entry-requires-clause-within
 listed_entry-requires-clause-within c =
     (lists c.args.add_path c.args.peers c.args.body.now c.loop.rest.now _ c.in-Ok.after.now c.loop.invariant.left c.in-Ok.ensures.reads).room
+
+pub push_reserved-requires : goal.push_reserved-requires
+push_reserved-requires c =
+    let long = (lists c.args.add_path c.args.peers c.args.body.now c.loop.rest.now _ c.in-Ok.after.now c.loop.invariant.left c.in-Ok.ensures.reads).long in
+    omega (arith, long, c.loop.invariant.listed, c.loop.invariant.bytes, c.loop.invariant.room)
 
 pub loop-preserved : goal.loop-preserved
 loop-preserved c =
@@ -30,11 +41,15 @@ loop-preserved c =
     let e : ReadEntry = record { peer = c.in-Ok.entry.peer; identifier = c.in-Ok.entry.identifier; attributes = c.in-Ok.entry.attributes.now } in
     let listed = listed_of body e c.in-Ok.after.now in
     let l = lists c.args.add_path c.args.peers body c.loop.rest.now e c.in-Ok.after.now c.loop.invariant.left c.in-Ok.ensures.reads in
-    rw (c.in_ok-push-in-Ok.ensures.items, c.listed_entry.ensures) (record {
+    record {
       left = l.left;
-      says = rw (listed_more body list listed e l.says) (goes_on read push (map (read_listed body) list) c.args.count c.loop.counter c.loop.rest.now e c.in-Ok.after.now (many read c.args.count (drop c.args.start body)) (omega arith) c.in-Ok.ensures.reads c.loop.invariant.says);
-      within = All-push (IsListed c.args.peers (length body)) list listed c.loop.invariant.within l.within;
-    })
+      says = rw (c.push_reserved.ensures.items, c.listed_entry.ensures) (rw (listed_more body list listed e l.says) (goes_on read push (map (read_listed body) list) c.args.count c.loop.counter c.loop.rest.now e c.in-Ok.after.now (many read c.args.count (drop c.args.start body)) (omega arith) c.in-Ok.ensures.reads c.loop.invariant.says));
+      within = rw (c.push_reserved.ensures.items, c.listed_entry.ensures) (All-push (IsListed c.args.peers (length body)) list listed c.loop.invariant.within l.within);
+      listed = omega (arith, c.push_reserved.ensures.len, c.loop.invariant.listed);
+      bytes = omega (arith, l.long, c.loop.invariant.bytes);
+      room = omega (arith, c.push_reserved.ensures.capacity, c.loop.invariant.room);
+      capacity = omega (arith, c.push_reserved.ensures.capacity, c.loop.invariant.capacity);
+    }
 
 pub returns-in-Err-clause-listed : goal.returns-in-Err-clause-listed
 returns-in-Err-clause-listed c =

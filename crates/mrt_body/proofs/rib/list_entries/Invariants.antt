@@ -1,4 +1,5 @@
-use Rattle.std.proofs.Common.{◌≡◌, ◌-◌, length, drop, map}
+use Rattle.std.proofs.Common.{◌≡◌, ◌+◌, ◌-◌, ◌*◌, ◌/◌, ◌≤◌, length, drop, map, min, max}
+use Rattle.std.specs.Prelude.{vec_len, vec_capacity}
 use Rattle.std.specs.List.{All}
 use Rattle.mrt_frame.proofs.Items.{still}
 use Rattle.mrt_body.specs.Listed.{IsListed, read_listed}
@@ -13,4 +14,8 @@ invariant-loop l = record {
   left : Behind l.body l.rest;
   says : still push (map (read_listed l.body) l.list.items) (many (read_entry_at l.add_path l.peers) (l.count - l.counter) l.rest) ≡ many (read_entry_at l.add_path l.peers) l.count (drop l.start l.body);
   within : All (IsListed l.peers (length l.body)) l.list.items;
+  listed : vec_len l.list ≡ l.counter;
+  bytes : length l.rest + 8 * l.counter ≤ length l.body - l.start;
+  room : min l.count ((length l.body - l.start) / 8) ≤ vec_capacity l.list;
+  capacity : vec_capacity l.list ≤ max (vec_capacity l.fn.list) (length l.body / 8);
 }
