@@ -122,6 +122,16 @@ enum Slot {
     Kept { hash: u32, reading: Reading },
 }
 
+impl Slot {
+    /// Whether there is a reading.
+    fn is_kept(&self) -> bool {
+        match self {
+            Slot::Empty => false,
+            Slot::Kept { .. } => true,
+        }
+    }
+}
+
 /// Where a session will look for a reading when it takes a unit. Slots, and what they hold, lie far apart
 /// in memory: a caller that touches those of several units first lets these reads overlap.
 #[derive(Drop)]
@@ -134,8 +144,8 @@ impl<'a> Ahead<'a> {
     /// Reads a little of the slots. The number means nothing.
     pub fn touch(&self) -> usize {
         match self.slots.first() {
-            Some(Slot::Kept { .. }) => 1,
-            _ => 0,
+            Some(slot) => slot.is_kept() as usize,
+            None => 0,
         }
     }
 

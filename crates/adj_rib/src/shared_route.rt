@@ -39,8 +39,16 @@ impl SharedRoute {
     {
         match Arc::try_clone(&self.route) {
             Ok(route) => Ok(SharedRoute { route }),
-            Err(_) => SharedRoute::new(alloc, self.route().try_copy(alloc)?),
+            Err(_) => self.copy(alloc),
         }
+    }
+
+    /// An equal route with one owner. It is seldom wanted, and its locals are no part of `share`.
+    #[inline(never)]
+    fn copy(&self, alloc: Global) -> Result<SharedRoute, Memory>
+        ensures { IfOk result (λ copy. copy ≡ self.now) }
+    {
+        SharedRoute::new(alloc, self.route().try_copy(alloc)?)
     }
 
     /// Reads how many owners it has, where a further one will be counted. The number means nothing.
