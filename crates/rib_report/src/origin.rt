@@ -119,7 +119,7 @@ pub fn origins<M: PrefixMap<SharedRoute>>(
     ensures { IfOk result (λ rows. map origin_row rows.items ≡ origin_rows tables.now) }
 {
     let mut pairs = all_origins(alloc, tables)?;
-    pairs.sort_unstable();
+    pairs.sort()?;
     pairs.dedup();
     group_runs(alloc, pairs.as_slice())
 }

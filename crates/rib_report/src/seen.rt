@@ -103,6 +103,6 @@ pub fn visibility<M: PrefixMap<SharedRoute>>(
     ensures { IfOk result (λ rows. map seen_row rows.items ≡ visibility_rows tables.now) }
 {
     let mut prefixes = all_prefixes(alloc, tables)?;
-    prefixes.sort_unstable();
+    prefixes.sort()?;
     count_runs(alloc, prefixes.as_slice())
 }

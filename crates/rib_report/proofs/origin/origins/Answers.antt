@@ -14,16 +14,16 @@ use Rattle.rib_report.proofs.origin.origins.Goals as goal
 
 pub returns : goal.returns
 returns g c =
-    let sorted = c.sort_unstable.new.self.items in
+    let sorted = c.sort.new.self.items in
     let left : c.dedup.new.self.items ≡ dedup pair_eq sorted = dedup_is pair_eq sorted c.dedup.new.self.items c.dedup.ensures.filtered in
     let pairs = c.in_ok-pairs.pairs.items in
-    let alike : (f : IpPrefix × ℕ → _) → list_any f (dedup pair_eq sorted) ≡ list_any f pairs = λ f. any_dedup f sorted ∙ sym (list_any-IsPermutation f pairs sorted c.sort_unstable.ensures.permutation) in
+    let alike : (f : IpPrefix × ℕ → _) → list_any f (dedup pair_eq sorted) ≡ list_any f pairs = λ f. any_dedup f sorted ∙ sym (list_any-IsPermutation f pairs sorted c.sort.ensures.permutation) in
     let same = ap grouped_origins (c.as_slice.ensures.value ∙ left) ∙ grouped_same (dedup pair_eq sorted) pairs alike ∙ ap grouped_origins c.in_ok-pairs.ensures in
     IfOk-weaker c.group_runs.result (λ rows. map origin_row rows.items ≡ filter has_several (grouped_origins c.as_slice.result.now)) (λ rows. map origin_row rows.items ≡ origin_rows c.args.tables.now)
     (λ rows h. h ∙ ap (filter has_several) same) c.group_runs.ensures
 
 pub group_runs-requires : goal.group_runs-requires
 group_runs-requires g c =
-    let sorted = c.sort_unstable.new.self.items in
+    let sorted = c.sort.new.self.items in
     let left : c.dedup.new.self.items ≡ dedup pair_eq sorted = dedup_is pair_eq sorted c.dedup.new.self.items c.dedup.ensures.filtered in
-    subst (IsStrictlySortedBy pair_cmp) (sym (c.as_slice.ensures.value ∙ left)) (IsStrictlySortedBy-dedup pair_cmp_total pair_tied sorted c.sort_unstable.ensures.sorted)
+    subst (IsStrictlySortedBy pair_cmp) (sym (c.as_slice.ensures.value ∙ left)) (IsStrictlySortedBy-dedup pair_cmp_total pair_tied sorted c.in_ok-sort.ensures.sorted)
