@@ -9,7 +9,7 @@ use Rattle.std.specs.Io.KnownBytes.{Appends}
 use Rattle.std.proofs.KnownBytes.{Appends-trans, Appends-nil}
 use Rattle.mrt_frame.specs.Devices.{HasFailed, one_more, greatest_count}
 use Rattle.mrt_frame.specs.Writes.{WritesFront}
-use Rattle.rib_report.specs.Texts.{BufferState, TextState, empty_buffer, IsText, IsWritten, IsCutOff, Adds, Grows}
+use Rattle.rib_report.specs.Texts.{TextState, empty_buffer, IsText, IsWritten, IsCutOff, Adds, Grows, Places}
 
 pub Adds_trans : {s t u : TextState} {p q : List ℕ} → Adds s t p → Adds t u q → Adds s u (p ++ q)
 Adds_trans {p = p} {q = q} f g = record { adds = λ contents failures text h. subst (IsText contents failures _) (append_assoc text p q) (g.adds contents failures (text ++ p) (f.adds contents failures text h)) }
@@ -112,27 +112,23 @@ Adds_none s = record { adds = λ contents failures text h. subst (IsText content
 
 -- ---- pieces that join those that wait
 
-pub Grows_trans : {s t u : BufferState} {m n : ℕ} {p q : List ℕ} → Grows s t m p → Grows t u n q → Grows s u (m + n) (p ++ q)
-Grows_trans {s = s} {p = p} {q = q} f g = record {
-  waiting = g.waiting ∙ ap (λ l. l ++ q) f.waiting ∙ append_assoc s.waiting p q;
-  room = omega (arith, f.room, g.room);
-  still = g.still ∙ f.still;
-}
-
--- the same piece, written another way
-pub Grows_as : {s t : BufferState} {m : ℕ} {p q : List ℕ} → p ≡ q → Grows s t m p → Grows s t m q
-Grows_as {s = s} {t = t} {m = m} e f = subst (Grows s t m) e f
-
--- a looser limit
-pub Grows_within : {s t : BufferState} {m n : ℕ} {p : List ℕ} → m ≤ n → Grows s t m p → Grows s t n p
-Grows_within le f = record { waiting = f.waiting; room = omega (arith, le, f.room); still = f.still }
-
 -- with the same writer
 pub Adds_of_growth : {s t : TextState} {m : ℕ} {p : List ℕ} → t.contents ≡ s.contents → t.failures ≡ s.failures → Grows s.buffer t.buffer m p → Adds s t p
 Adds_of_growth same count f = Adds_grown same count f.waiting f.still
 
-pub Grows_by : {s t : BufferState} {m : ℕ} {p : List ℕ} → t.waiting ≡ s.waiting ++ p → length p ≤ m → t.failed ≡ s.failed → Grows s t m p
-Grows_by {s = s} {p = p} more few still = record { waiting = more; room = omega (arith, ap length more, length-append s.waiting p, few); still = still }
+-- ---- pieces that are placed
+
+pub Places_trans : {a b c : List ℕ} {i j k m n : ℕ} {p q : List ℕ} → Places a i b j m p → Places b j c k n q → Places a i c k (m + n) (p ++ q)
+Places_trans {a = a} {i = i} {p = p} {q = q} f g = record {
+  text = g.text ∙ ap (λ l. l ++ q) f.text ∙ append_assoc (take i a) p q;
+  room = omega (arith, f.room, g.room);
+  within = g.within;
+  same = g.same ∙ f.same;
+}
+
+-- the same piece, written another way
+pub Places_as : {a b : List ℕ} {i j m : ℕ} {p q : List ℕ} → p ≡ q → Places a i b j m p → Places a i b j m q
+Places_as {a = a} {b = b} {i = i} {j = j} {m = m} e f = subst (Places a i b j m) e f
 
 -- the front of a block that was copied whole
 pub take-front_put : (a k n : ℕ) (xs ys : List ℕ) → a ≤ length xs → n ≤ length ys → take (a + n) (put_mid a k xs ys) ≡ take a xs ++ take n ys

@@ -1,9 +1,16 @@
 //! Text on its way to a writer, through a fixed buffer.
 
-ghost use Rattle.std.specs.Prelude.{◌≡◌, ℕ, ◌+◌, ◌<◌, ◌≤◌, ◌++◌, [], ◌∷◌, List, Option, OnOk, OnErr, length, take, decimal};
+ghost use Rattle.std.specs.Prelude.{◌≡◌, ℕ, ◌+◌, ◌<◌, ◌≤◌, ◌++◌, [], ◌∷◌, List, Option, OnOk, OnErr, length, decimal};
+ghost use Rattle.rib_report.specs.Lines.{peer_text, prefix_text, key_text, attributes_text};
 ghost use Rattle.rib_report.specs.Texts.{BufferState, empty_buffer, text_state, IsText, IsWritten, IsCutOff, Writes, Grows};
 
+use crate::place::{
+    place_attributes, place_behind, place_key, place_number, place_peer, place_prefix,
+};
 use crate::short::ShortTexts;
+use bgp_prefix::{Prefix, RouteKey};
+use bgp_update::Route;
+use mrt_body::PeerKey;
 use mrt_frame::{Failed, Sink, write_full};
 use std::marker::Model;
 
@@ -21,6 +28,7 @@ pub(crate) struct TextBuffer {
 
 impl Model for TextBuffer {
     ghost use Rattle.std.specs.Prelude.{◌≤◌, take};
+    ghost use Rattle.rib_report.specs.Lines.{peer_text, prefix_text, key_text, attributes_text};
     ghost use Rattle.rib_report.specs.Texts.{BufferState};
 
     ghost Value = { BufferState };
@@ -54,18 +62,6 @@ impl TextBuffer {
         self.len = end;
     }
 
-    /// Copies the first bytes of a block behind those that wait, where the whole block has room. A block
-    /// of a known length is quicker to copy than its front.
-    #[inline]
-    pub(crate) fn append_front(&mut self, block: &[u8], count: usize)
-        requires { (count ≤ length block.now) × (length self.old.waiting + length block.now ≤ 65536) }
-        ensures { Grows self.old self.new count (take count block.now) }
-    {
-        let end = self.len + block.len();
-        self.bytes[self.len..end].copy_from_slice(block);
-        self.len += count;
-    }
-
     /// Puts a byte behind those that wait.
     #[inline]
     pub(crate) fn append_byte(&mut self, byte: u8)
@@ -76,14 +72,52 @@ impl TextBuffer {
         self.len += 1;
     }
 
-    /// Puts a number of at most three digits behind the bytes that wait.
-    #[inline]
-    pub(crate) fn append_short(&mut self, number: u32)
-        requires { (number < 1000) × (length self.old.waiting + 4 ≤ 65536) }
-        ensures { Grows self.old self.new 3 (decimal number) }
+    /// Puts a number in decimal behind the bytes that wait.
+    pub(crate) fn append_number(&mut self, number: u32)
+        requires { length self.old.waiting + 13 ≤ 65536 }
+        ensures { Grows self.old self.new 12 (decimal number) }
     {
-        let text = self.shorts.text(number);
-        self.append_front(&text.bytes, text.len as usize);
+        self.len = place_number(&mut self.bytes, self.len, &self.shorts, number);
+    }
+
+    /// Puts a byte and a number in decimal behind the bytes that wait.
+    pub(crate) fn append_behind(&mut self, separator: u8, number: u32)
+        requires { length self.old.waiting + 14 ≤ 65536 }
+        ensures { Grows self.old self.new 13 (separator ∷ decimal number) }
+    {
+        self.len = place_behind(&mut self.bytes, self.len, &self.shorts, separator, number);
+    }
+
+    /// Puts a peer behind the bytes that wait.
+    pub(crate) fn append_peer(&mut self, peer: &PeerKey)
+        requires { length self.old.waiting + 52 ≤ 65536 }
+        ensures { Grows self.old self.new 52 (peer_text peer.now) }
+    {
+        self.len = place_peer(&mut self.bytes, self.len, &self.shorts, peer);
+    }
+
+    /// Puts a prefix behind the bytes that wait.
+    pub(crate) fn append_prefix(&mut self, prefix: &Prefix)
+        requires { length self.old.waiting + 20 ≤ 65536 }
+        ensures { Grows self.old self.new 19 (prefix_text prefix.now) }
+    {
+        self.len = place_prefix(&mut self.bytes, self.len, &self.shorts, prefix);
+    }
+
+    /// Puts a key behind the bytes that wait.
+    pub(crate) fn append_key(&mut self, key: &RouteKey)
+        requires { length self.old.waiting + 33 ≤ 65536 }
+        ensures { Grows self.old self.new 32 (key_text key.now) }
+    {
+        self.len = place_key(&mut self.bytes, self.len, &self.shorts, key);
+    }
+
+    /// Puts the fields of a route behind its path, and the end of the line, behind the bytes that wait.
+    pub(crate) fn append_attributes(&mut self, route: &Route)
+        requires { length self.old.waiting + 153 ≤ 65536 }
+        ensures { Grows self.old self.new 153 (attributes_text route.now) }
+    {
+        self.len = place_attributes(&mut self.bytes, self.len, &self.shorts, route);
     }
 
     /// How many bytes may still wait.

@@ -12,65 +12,25 @@ use itoa::Buffer;
 use mrt_body::{PeerAddr, PeerKey};
 use mrt_frame::{Fault, Sink};
 
-fn append_addr(text: &mut TextBuffer, addr: PeerAddr)
-    requires { length text.old.waiting + 39 ≤ 65536 }
-    ensures { Grows text.old text.new 39 (addr_text addr) }
-{
-    match addr {
-        PeerAddr::V4(addr) => text.append_ipv4(addr),
-        PeerAddr::V6(addr) => text.append_ipv6(addr),
-    }
-}
-
-fn append_peer(text: &mut TextBuffer, peer: &PeerKey)
-    requires { length text.old.waiting + 52 ≤ 65536 }
-    ensures { Grows text.old text.new 52 (peer_text peer.now) }
-{
-    text.append_number(peer.asn);
-    text.append_byte(b' ');
-    append_addr(text, peer.addr);
-}
-
 pub(crate) fn put_peer<W: Sink>(text: &mut TextBuffer, out: &mut W, peer: &PeerKey)
     ensures { Writes W.contents W.failure_count out.old text.old out.new text.new (peer_text peer.now) }
 {
     text.make_room(out, 52);
-    append_peer(text, peer);
-}
-
-fn append_prefix(text: &mut TextBuffer, prefix: &Prefix)
-    requires { length text.old.waiting + 20 ≤ 65536 }
-    ensures { Grows text.old text.new 19 (prefix_text prefix.now) }
-{
-    text.append_ipv4(prefix.addr());
-    text.append_byte(b'/');
-    text.append_short(prefix.len() as u32);
+    text.append_peer(peer);
 }
 
 pub(crate) fn put_prefix<W: Sink>(text: &mut TextBuffer, out: &mut W, prefix: &Prefix)
     ensures { Writes W.contents W.failure_count out.old text.old out.new text.new (prefix_text prefix.now) }
 {
     text.make_room(out, 20);
-    append_prefix(text, prefix);
-}
-
-/// `#` and the identifier, where there is one.
-fn append_identifier(text: &mut TextBuffer, id: u32)
-    requires { length text.old.waiting + 14 ≤ 65536 }
-    ensures { Grows text.old text.new 13 (identifier_text id) }
-{
-    if id != 0 {
-        text.append_byte(b'#');
-        text.append_number(id);
-    }
+    text.append_prefix(prefix);
 }
 
 fn put_key<W: Sink>(text: &mut TextBuffer, out: &mut W, key: &RouteKey)
     ensures { Writes W.contents W.failure_count out.old text.old out.new text.new (key_text key.now) }
 {
     text.make_room(out, 33);
-    append_prefix(text, &key.prefix);
-    append_identifier(text, key.id);
+    text.append_key(key);
 }
 
 fn put_enclosed<W: Sink>(
@@ -119,13 +79,6 @@ fn put_absent<W: Sink>(text: &mut TextBuffer, out: &mut W)
     text.put_byte(out, b'-');
 }
 
-fn append_absent(text: &mut TextBuffer)
-    requires { length text.old.waiting < 65536 }
-    ensures { Grows text.old text.new 1 (codes "-") }
-{
-    text.append_byte(b'-');
-}
-
 fn put_path<W: Sink>(text: &mut TextBuffer, out: &mut W, path: &Option<AsPath>)
     ensures { Writes W.contents W.failure_count out.old text.old out.new text.new (field path_text path.now) }
 {
@@ -133,108 +86,6 @@ fn put_path<W: Sink>(text: &mut TextBuffer, out: &mut W, path: &Option<AsPath>)
         Some(path) => put_segments(text, out, path),
         None => put_absent(text, out),
     }
-}
-
-/// Two addresses, split by one space.
-fn append_ipv6_pair(text: &mut TextBuffer, global: u128, local: u128)
-    requires { length text.old.waiting + 79 ≤ 65536 }
-    ensures { Grows text.old text.new 79 (ipv6_text global ++ 32 ∷ ipv6_text local) }
-{
-    text.append_ipv6(global);
-    text.append_byte(b' ');
-    text.append_ipv6(local);
-}
-
-fn append_hop(text: &mut TextBuffer, hop: NextHop)
-    requires { length text.old.waiting + 79 ≤ 65536 }
-    ensures { Grows text.old text.new 79 (next_hop_text hop) }
-{
-    match hop {
-        NextHop::V4(addr) => text.append_ipv4(addr),
-        NextHop::V6(addr) => text.append_ipv6(addr),
-        NextHop::V6Pair(global, local) => append_ipv6_pair(text, global, local),
-    }
-}
-
-fn append_next_hop(text: &mut TextBuffer, next_hop: Option<NextHop>)
-    requires { length text.old.waiting + 79 ≤ 65536 }
-    ensures { Grows text.old text.new 79 (field next_hop_text next_hop) }
-{
-    match next_hop {
-        Some(hop) => append_hop(text, hop),
-        None => append_absent(text),
-    }
-}
-
-fn append_origin(text: &mut TextBuffer, origin: Option<Origin>)
-    requires { length text.old.waiting + 10 ≤ 65536 }
-    ensures { Grows text.old text.new 10 (field origin_text origin) }
-{
-    match origin {
-        Some(Origin::Igp) => text.append(b"IGP"),
-        Some(Origin::Egp) => text.append(b"EGP"),
-        Some(Origin::Incomplete) => text.append(b"INCOMPLETE"),
-        None => append_absent(text),
-    }
-}
-
-fn append_optional_number(text: &mut TextBuffer, number: Option<u32>)
-    requires { length text.old.waiting + 13 ≤ 65536 }
-    ensures { Grows text.old text.new 12 (field decimal number) }
-{
-    match number {
-        Some(number) => text.append_number(number),
-        None => append_absent(text),
-    }
-}
-
-fn append_atomic(text: &mut TextBuffer, atomic: bool)
-    requires { length text.old.waiting + 6 ≤ 65536 }
-    ensures { Grows text.old text.new 6 (atomic_text atomic) }
-{
-    if atomic {
-        text.append(b"atomic");
-    } else {
-        append_absent(text);
-    }
-}
-
-fn append_pair(text: &mut TextBuffer, aggregator: Aggregator)
-    requires { length text.old.waiting + 29 ≤ 65536 }
-    ensures { Grows text.old text.new 28 (aggregator_text aggregator) }
-{
-    text.append_number(aggregator.asn);
-    text.append_byte(b' ');
-    text.append_ipv4(aggregator.addr);
-}
-
-fn append_aggregator(text: &mut TextBuffer, aggregator: Option<Aggregator>)
-    requires { length text.old.waiting + 29 ≤ 65536 }
-    ensures { Grows text.old text.new 28 (field aggregator_text aggregator) }
-{
-    match aggregator {
-        Some(aggregator) => append_pair(text, aggregator),
-        None => append_absent(text),
-    }
-}
-
-/// The fields of a route behind its path, and the end of the line.
-fn append_attributes(text: &mut TextBuffer, route: &Route)
-    requires { length text.old.waiting + 153 ≤ 65536 }
-    ensures { Grows text.old text.new 153 (attributes_text route.now) }
-{
-    append_next_hop(text, route.next_hop);
-    text.append_byte(b'|');
-    append_origin(text, route.origin);
-    text.append_byte(b'|');
-    append_optional_number(text, route.med);
-    text.append_byte(b'|');
-    append_optional_number(text, route.local_pref);
-    text.append_byte(b'|');
-    append_atomic(text, route.atomic);
-    text.append_byte(b'|');
-    append_aggregator(text, route.aggregator);
-    text.append_byte(b'\n');
 }
 
 /// A route behind its peer, and the end of the line.
@@ -246,7 +97,7 @@ fn put_route<W: Sink>(text: &mut TextBuffer, out: &mut W, key: &RouteKey, route:
     put_path(text, out, &route.path);
     text.put_byte(out, b'|');
     text.make_room(out, 153);
-    append_attributes(text, route);
+    text.append_attributes(route);
 }
 
 pub(crate) fn put_optional_time<W: Sink>(text: &mut TextBuffer, out: &mut W, time: Option<u64>)

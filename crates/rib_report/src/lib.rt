@@ -11,6 +11,7 @@ mod listed;
 mod matching;
 mod numbers;
 mod origin;
+mod place;
 mod row;
 mod seen;
 mod short;

@@ -1,6 +1,6 @@
 use Rattle.std.proofs.Common.{refl}
-use Rattle.rib_report.proofs.TextLaws.{Adds_trans, Adds_of_growth, Grows_trans}
+use Rattle.rib_report.proofs.TextLaws.{Adds_trans, Adds_of_growth}
 use Rattle.rib_report.proofs.buffer.TextBuffer.put_behind.Goals as goal
 
 pub returns : goal.returns
-returns g c = Adds_trans c.make_room.ensures.writes (Adds_of_growth refl refl (Grows_trans c.append_byte.ensures c.append_number.ensures))
+returns g c = Adds_trans c.make_room.ensures.writes (Adds_of_growth refl refl c.append_behind.ensures)

@@ -1,0 +1,357 @@
+//! Texts that are placed in a block of bytes: each call gives the place behind what it wrote. The place
+//! is a value of its own, so that it stays in a register.
+
+ghost use Rattle.std.specs.Prelude.{◌≡◌, ℕ, ◌+◌, ◌<◌, ◌≤◌, ◌++◌, [], ◌∷◌, List, codes, decimal, length, take};
+ghost use Rattle.rib_report.specs.Texts.{Places};
+ghost use Rattle.rib_report.specs.Digits.{hexadecimal_glyph, decimal_glyph, digits_in, field, ipv4_text, ipv6_text};
+ghost use Rattle.rib_report.specs.Lines.{addr_text, peer_text, prefix_text, identifier_text, key_text, next_hop_text, origin_text, aggregator_text, atomic_text, attributes_text};
+
+use crate::short::ShortTexts;
+use bgp_prefix::{Prefix, RouteKey};
+use bgp_update::{Aggregator, NextHop, Origin, Route};
+use mrt_body::{PeerAddr, PeerKey};
+
+/// A byte.
+#[inline]
+fn place_byte(bytes: &mut [u8], at: usize, byte: u8) -> usize
+    requires { at < length bytes.old }
+    ensures { Places bytes.old at bytes.new result 1 (byte ∷ []) }
+{
+    bytes[at] = byte;
+    at + 1
+}
+
+/// A text.
+#[inline]
+fn place_text(bytes: &mut [u8], at: usize, text: &[u8]) -> usize
+    requires { at + length text.now ≤ length bytes.old }
+    ensures { Places bytes.old at bytes.new result (length text.now) text.now }
+{
+    let end = at + text.len();
+    bytes[at..end].copy_from_slice(text);
+    end
+}
+
+/// The first bytes of a block, where the whole block has room. A block of a known length is quicker to
+/// copy than its front.
+#[inline]
+fn place_front(bytes: &mut [u8], at: usize, block: &[u8], count: usize) -> usize
+    requires { (count ≤ length block.now) × (at + length block.now ≤ length bytes.old) }
+    ensures { Places bytes.old at bytes.new result count (take count block.now) }
+{
+    let end = at + block.len();
+    bytes[at..end].copy_from_slice(block);
+    at + count
+}
+
+/// A number of at most three digits.
+#[inline]
+fn place_short(bytes: &mut [u8], at: usize, shorts: &ShortTexts, number: u32) -> usize
+    requires { (number < 1000) × (at + 4 ≤ length bytes.old) }
+    ensures { Places bytes.old at bytes.new result 3 (decimal number) }
+{
+    let text = shorts.text(number);
+    place_front(bytes, at, &text.bytes, text.len as usize)
+}
+
+/// Three digits.
+#[inline]
+fn place_three(bytes: &mut [u8], at: usize, number: u32) -> usize
+    requires { (number < 1000) × (at + 3 ≤ length bytes.old) }
+    ensures { Places bytes.old at bytes.new result 3 (digits_in decimal_glyph 10 3 number) }
+{
+    let digits = [
+        b'0' + (number / 100 % 10) as u8,
+        b'0' + (number / 10 % 10) as u8,
+        b'0' + (number % 10) as u8,
+    ];
+    place_text(bytes, at, &digits)
+}
+
+/// A number of at most six digits.
+#[inline]
+fn place_six(bytes: &mut [u8], at: usize, shorts: &ShortTexts, number: u32) -> usize
+    requires { (number < 1000000) × (at + 7 ≤ length bytes.old) }
+    ensures { Places bytes.old at bytes.new result 6 (decimal number) }
+{
+    if number < 1_000 {
+        return place_short(bytes, at, shorts, number);
+    }
+    let high = place_short(bytes, at, shorts, number / 1_000);
+    place_three(bytes, high, number % 1_000)
+}
+
+/// A number in decimal.
+pub(crate) fn place_number(bytes: &mut [u8], at: usize, shorts: &ShortTexts, number: u32) -> usize
+    requires { at + 13 ≤ length bytes.old }
+    ensures { Places bytes.old at bytes.new result 12 (decimal number) }
+{
+    if number < 1_000_000 {
+        return place_six(bytes, at, shorts, number);
+    }
+    let high = place_six(bytes, at, shorts, number / 1_000_000);
+    let middle = place_three(bytes, high, number / 1_000 % 1_000);
+    place_three(bytes, middle, number % 1_000)
+}
+
+/// An address in dotted decimal.
+fn place_ipv4(bytes: &mut [u8], at: usize, shorts: &ShortTexts, addr: u32) -> usize
+    requires { at + 16 ≤ length bytes.old }
+    ensures { Places bytes.old at bytes.new result 15 (ipv4_text addr) }
+{
+    let first = place_short(bytes, at, shorts, addr / 16_777_216 % 256);
+    let first = place_byte(bytes, first, b'.');
+    let second = place_short(bytes, first, shorts, addr / 65_536 % 256);
+    let second = place_byte(bytes, second, b'.');
+    let third = place_short(bytes, second, shorts, addr / 256 % 256);
+    let third = place_byte(bytes, third, b'.');
+    place_short(bytes, third, shorts, addr % 256)
+}
+
+fn hexadecimal_digit(digit: u16) -> u8
+    requires { digit < 16 }
+    ensures { result ≡ hexadecimal_glyph digit }
+{
+    if digit < 10 {
+        b'0' + digit as u8
+    } else {
+        b'a' + (digit - 10) as u8
+    }
+}
+
+/// Four hexadecimal digits.
+fn place_group(bytes: &mut [u8], at: usize, group: u16) -> usize
+    requires { at + 4 ≤ length bytes.old }
+    ensures { Places bytes.old at bytes.new result 4 (digits_in hexadecimal_glyph 16 4 group) }
+{
+    let digits = [
+        hexadecimal_digit(group / 4_096 % 16),
+        hexadecimal_digit(group / 256 % 16),
+        hexadecimal_digit(group / 16 % 16),
+        hexadecimal_digit(group % 16),
+    ];
+    place_text(bytes, at, &digits)
+}
+
+/// An address as eight groups of four digits.
+fn place_ipv6(bytes: &mut [u8], at: usize, addr: u128) -> usize
+    requires { at + 39 ≤ length bytes.old }
+    ensures { Places bytes.old at bytes.new result 39 (ipv6_text addr) }
+{
+    let at = place_group(bytes, at, ((addr >> 112) % 65_536) as u16);
+    let at = place_byte(bytes, at, b':');
+    let at = place_group(bytes, at, ((addr >> 96) % 65_536) as u16);
+    let at = place_byte(bytes, at, b':');
+    let at = place_group(bytes, at, ((addr >> 80) % 65_536) as u16);
+    let at = place_byte(bytes, at, b':');
+    let at = place_group(bytes, at, ((addr >> 64) % 65_536) as u16);
+    let at = place_byte(bytes, at, b':');
+    let at = place_group(bytes, at, ((addr >> 48) % 65_536) as u16);
+    let at = place_byte(bytes, at, b':');
+    let at = place_group(bytes, at, ((addr >> 32) % 65_536) as u16);
+    let at = place_byte(bytes, at, b':');
+    let at = place_group(bytes, at, ((addr >> 16) % 65_536) as u16);
+    let at = place_byte(bytes, at, b':');
+    place_group(bytes, at, (addr % 65_536) as u16)
+}
+
+fn place_addr(bytes: &mut [u8], at: usize, shorts: &ShortTexts, addr: PeerAddr) -> usize
+    requires { at + 39 ≤ length bytes.old }
+    ensures { Places bytes.old at bytes.new result 39 (addr_text addr) }
+{
+    match addr {
+        PeerAddr::V4(addr) => place_ipv4(bytes, at, shorts, addr),
+        PeerAddr::V6(addr) => place_ipv6(bytes, at, addr),
+    }
+}
+
+/// A peer.
+pub(crate) fn place_peer(bytes: &mut [u8], at: usize, shorts: &ShortTexts, peer: &PeerKey) -> usize
+    requires { at + 52 ≤ length bytes.old }
+    ensures { Places bytes.old at bytes.new result 52 (peer_text peer.now) }
+{
+    let at = place_number(bytes, at, shorts, peer.asn);
+    let at = place_byte(bytes, at, b' ');
+    place_addr(bytes, at, shorts, peer.addr)
+}
+
+/// A prefix.
+pub(crate) fn place_prefix(
+    bytes: &mut [u8],
+    at: usize,
+    shorts: &ShortTexts,
+    prefix: &Prefix,
+) -> usize
+    requires { at + 20 ≤ length bytes.old }
+    ensures { Places bytes.old at bytes.new result 19 (prefix_text prefix.now) }
+{
+    let at = place_ipv4(bytes, at, shorts, prefix.addr());
+    let at = place_byte(bytes, at, b'/');
+    place_short(bytes, at, shorts, prefix.len() as u32)
+}
+
+/// `#` and the identifier, where there is one.
+fn place_identifier(bytes: &mut [u8], at: usize, shorts: &ShortTexts, id: u32) -> usize
+    requires { at + 14 ≤ length bytes.old }
+    ensures { Places bytes.old at bytes.new result 13 (identifier_text id) }
+{
+    if id != 0 {
+        let sign = place_byte(bytes, at, b'#');
+        place_number(bytes, sign, shorts, id)
+    } else {
+        at
+    }
+}
+
+/// A key.
+pub(crate) fn place_key(bytes: &mut [u8], at: usize, shorts: &ShortTexts, key: &RouteKey) -> usize
+    requires { at + 33 ≤ length bytes.old }
+    ensures { Places bytes.old at bytes.new result 32 (key_text key.now) }
+{
+    let at = place_prefix(bytes, at, shorts, &key.prefix);
+    place_identifier(bytes, at, shorts, key.id)
+}
+
+fn place_absent(bytes: &mut [u8], at: usize) -> usize
+    requires { at < length bytes.old }
+    ensures { Places bytes.old at bytes.new result 1 (codes "-") }
+{
+    place_byte(bytes, at, b'-')
+}
+
+/// Two addresses, split by one space.
+fn place_ipv6_pair(bytes: &mut [u8], at: usize, global: u128, local: u128) -> usize
+    requires { at + 79 ≤ length bytes.old }
+    ensures { Places bytes.old at bytes.new result 79 (ipv6_text global ++ 32 ∷ ipv6_text local) }
+{
+    let at = place_ipv6(bytes, at, global);
+    let at = place_byte(bytes, at, b' ');
+    place_ipv6(bytes, at, local)
+}
+
+fn place_hop(bytes: &mut [u8], at: usize, shorts: &ShortTexts, hop: NextHop) -> usize
+    requires { at + 79 ≤ length bytes.old }
+    ensures { Places bytes.old at bytes.new result 79 (next_hop_text hop) }
+{
+    match hop {
+        NextHop::V4(addr) => place_ipv4(bytes, at, shorts, addr),
+        NextHop::V6(addr) => place_ipv6(bytes, at, addr),
+        NextHop::V6Pair(global, local) => place_ipv6_pair(bytes, at, global, local),
+    }
+}
+
+fn place_next_hop(
+    bytes: &mut [u8],
+    at: usize,
+    shorts: &ShortTexts,
+    next_hop: Option<NextHop>,
+) -> usize
+    requires { at + 79 ≤ length bytes.old }
+    ensures { Places bytes.old at bytes.new result 79 (field next_hop_text next_hop) }
+{
+    match next_hop {
+        Some(hop) => place_hop(bytes, at, shorts, hop),
+        None => place_absent(bytes, at),
+    }
+}
+
+fn place_origin(bytes: &mut [u8], at: usize, origin: Option<Origin>) -> usize
+    requires { at + 10 ≤ length bytes.old }
+    ensures { Places bytes.old at bytes.new result 10 (field origin_text origin) }
+{
+    match origin {
+        Some(Origin::Igp) => place_text(bytes, at, b"IGP"),
+        Some(Origin::Egp) => place_text(bytes, at, b"EGP"),
+        Some(Origin::Incomplete) => place_text(bytes, at, b"INCOMPLETE"),
+        None => place_absent(bytes, at),
+    }
+}
+
+fn place_optional_number(
+    bytes: &mut [u8],
+    at: usize,
+    shorts: &ShortTexts,
+    number: Option<u32>,
+) -> usize
+    requires { at + 13 ≤ length bytes.old }
+    ensures { Places bytes.old at bytes.new result 12 (field decimal number) }
+{
+    match number {
+        Some(number) => place_number(bytes, at, shorts, number),
+        None => place_absent(bytes, at),
+    }
+}
+
+fn place_atomic(bytes: &mut [u8], at: usize, atomic: bool) -> usize
+    requires { at + 6 ≤ length bytes.old }
+    ensures { Places bytes.old at bytes.new result 6 (atomic_text atomic) }
+{
+    if atomic {
+        place_text(bytes, at, b"atomic")
+    } else {
+        place_absent(bytes, at)
+    }
+}
+
+fn place_pair(bytes: &mut [u8], at: usize, shorts: &ShortTexts, aggregator: Aggregator) -> usize
+    requires { at + 29 ≤ length bytes.old }
+    ensures { Places bytes.old at bytes.new result 28 (aggregator_text aggregator) }
+{
+    let at = place_number(bytes, at, shorts, aggregator.asn);
+    let at = place_byte(bytes, at, b' ');
+    place_ipv4(bytes, at, shorts, aggregator.addr)
+}
+
+fn place_aggregator(
+    bytes: &mut [u8],
+    at: usize,
+    shorts: &ShortTexts,
+    aggregator: Option<Aggregator>,
+) -> usize
+    requires { at + 29 ≤ length bytes.old }
+    ensures { Places bytes.old at bytes.new result 28 (field aggregator_text aggregator) }
+{
+    match aggregator {
+        Some(aggregator) => place_pair(bytes, at, shorts, aggregator),
+        None => place_absent(bytes, at),
+    }
+}
+
+/// The fields of a route behind its path, and the end of the line.
+pub(crate) fn place_attributes(
+    bytes: &mut [u8],
+    at: usize,
+    shorts: &ShortTexts,
+    route: &Route,
+) -> usize
+    requires { at + 153 ≤ length bytes.old }
+    ensures { Places bytes.old at bytes.new result 153 (attributes_text route.now) }
+{
+    let at = place_next_hop(bytes, at, shorts, route.next_hop);
+    let at = place_byte(bytes, at, b'|');
+    let at = place_origin(bytes, at, route.origin);
+    let at = place_byte(bytes, at, b'|');
+    let at = place_optional_number(bytes, at, shorts, route.med);
+    let at = place_byte(bytes, at, b'|');
+    let at = place_optional_number(bytes, at, shorts, route.local_pref);
+    let at = place_byte(bytes, at, b'|');
+    let at = place_atomic(bytes, at, route.atomic);
+    let at = place_byte(bytes, at, b'|');
+    let at = place_aggregator(bytes, at, shorts, route.aggregator);
+    place_byte(bytes, at, b'\n')
+}
+
+/// A number in decimal behind a byte.
+pub(crate) fn place_behind(
+    bytes: &mut [u8],
+    at: usize,
+    shorts: &ShortTexts,
+    separator: u8,
+    number: u32,
+) -> usize
+    requires { at + 14 ≤ length bytes.old }
+    ensures { Places bytes.old at bytes.new result 13 (separator ∷ decimal number) }
+{
+    let at = place_byte(bytes, at, separator);
+    place_number(bytes, at, shorts, number)
+}
