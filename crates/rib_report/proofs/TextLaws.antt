@@ -106,10 +106,6 @@ text_begun {s = s} fresh f = f.adds s.contents s.failures [] (record {
   risen = λ e. absurd (false≢true (sym (ap (λ b. b.failed) fresh) ∙ e));
 })
 
--- nothing was done
-pub Adds_none : (s : TextState) → Adds s s []
-Adds_none s = record { adds = λ contents failures text h. subst (IsText contents failures s) (sym (append-nil text)) h }
-
 -- ---- pieces that join those that wait
 
 -- with the same writer
