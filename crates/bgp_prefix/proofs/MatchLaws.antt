@@ -1,10 +1,12 @@
 -- The longest match in a branch of the trie, and the nodes on its way.
-use Rattle.std.proofs.Common.{◌≡◌, ℕ, ◌+◌, ◌*◌, ◌/◌, ◌^◌, ◌<◌, ◌≤◌, Bool, true, false, cond, not, ◌&&◌, List, [], ◌∷◌, ◌++◌, Option, Some, None, refl, sym, ap, ◌∙◌, subst, T, arith, add-zero}
+use Rattle.std.proofs.Common.{◌≡◌, ℕ, ◌+◌, ◌*◌, ◌/◌, ◌^◌, ◌<◌, ◌≤◌, Bool, true, false, cond, not, ◌&&◌, List, [], ◌∷◌, ◌++◌, Option, Some, None, refl, sym, ap, ◌∙◌, subst, T, arith, add-zero, get_or, length, take, drop, suc, ◌⊎◌, inl, inr}
 use Rattle.std.specs.List.{All}
 use Rattle.std.specs.Option.{option_or}
 use Rattle.std.proofs.lemmas.Bool.{eqb-true, ne_eqb, eq-eqb}
 use Rattle.std.proofs.lemmas.List.Elements.{All-weaker}
+use Rattle.std.proofs.lemmas.List.{take-append-drop}
 use Rattle.std.proofs.lemmas.Nat.{div_below}
+use Rattle.std.proofs.Math.Seq.{drop-cons}
 use Rattle.bgp_prefix.specs.Prefixes.{IpPrefix, IsIpPrefix, leading_bits, contains, prefix_eq, Starts}
 use Rattle.bgp_prefix.specs.Keys.{is_nil, last_match, matching_prefixes, begins_with}
 use Rattle.bgp_prefix.specs.Tries.{routes, IsTrie, IsUnder}
@@ -15,7 +17,7 @@ use Rattle.bgp_prefix.specs.declared.radix.Fork.{Fork}
 use Rattle.bgp_prefix.proofs.Bits.{share_fewer}
 use Rattle.bgp_prefix.proofs.KeyLaws.{or_none}
 use Rattle.bgp_prefix.proofs.OrderLaws.{AllKeys, AllKeys-both, own_keys, keys_known, keys_start}
-use Rattle.bgp_prefix.proofs.TrieLaws.{IsFork, fork_routes}
+use Rattle.bgp_prefix.proofs.TrieLaws.{IsFork, fork_routes, starts_as_parent, starts_itself}
 
 or_assoc : {A : Type 0} (x y z : Option A) → option_or (option_or x y) z ≡ option_or x (option_or y z)
 or_assoc None y z = refl
@@ -39,6 +41,12 @@ not_last false c e = refl
 held_or_not : {A : Type 0} (b : Bool) (x : A) → cond (true && not b) (Some x) None ≡ cond b None (Some x)
 held_or_not true x = refl
 held_or_not false x = refl
+
+three_none : {A : Type 0} {x y : Option A} (a b c : Option A) → x ≡ option_or y a → y ≡ option_or c b → a ≡ None → b ≡ None → c ≡ None → x ≡ None
+three_none a b c ex ey ea eb ec = cc
+
+pub missed : (addr : ℕ) (p : IpPrefix) → contains p addr ≡ false → leading_bits p.len addr ≡ leading_bits p.len p.addr → ⊥
+missed addr p miss same = let clash : true ≡ false = sym (eq-eqb _ _ same) ∙ miss in cc
 
 module _ (addr : ℕ) where
   not_contained : (p : IpPrefix) (len bits : ℕ) → p.len ≤ 32 → Starts len bits p → (leading_bits len addr ≡ bits → ⊥) → contains p addr ≡ false
@@ -119,6 +127,29 @@ module _ {V : Type 0} (addr : ℕ) where
     match_child true bit = let both = match_high bit in (both.0, both.1, ok.6, (2 * leading_bits f.prefix.len f.prefix.addr + 1, ok.4))
     match_child false bit = let both = match_low bit in (both.0, both.1, ok.5, (2 * leading_bits f.prefix.len f.prefix.addr, ok.3))
 
+-- and so it does in a fork that has no routes of its own
+module _ {V : Type 0} (addr : ℕ) (f : Fork V) (ok : IsFork f) where
+  outer : contains f.prefix addr ≡ false → (r : ℕ) → r < 2 → leading_bits (f.prefix.len + 1) addr ≡ 2 * leading_bits f.prefix.len f.prefix.addr + r → ⊥
+  outer out r h e = missed addr f.prefix out ((starts_as_parent f.prefix.len (leading_bits f.prefix.len f.prefix.addr) f.prefix (record { addr = addr; len = 32 }) r ok.1 (starts_itself f.prefix) h (record { long = omega (arith, ok.1); shared = e })).shared)
+
+  abbrev IsMatchOf : Branch V → Type 0
+  IsMatchOf b = last_match (fork_routes f) addr ≡ option_or (last_match (routes b) addr) (cond (is_nil f.here) None (Some f.prefix))
+
+  missed_by_all : contains f.prefix addr ≡ false → is_nil f.here ≡ true → (is_high : Bool) → IsMatchOf (cond is_high f.high f.low)
+  missed_by_all out none is_high =
+      let here = last_match_own addr f.prefix f.here (own_keys f.prefix f.here ok.2) ∙ ap (λ b. cond (b && not (is_nil f.here)) (Some f.prefix) None) out in
+      let low = (no_match addr f.low ok.5 (f.prefix.len + 1) _ ok.3 (λ e. outer out 0 (omega arith) (e ∙ sym (add-zero _)))).0 in
+      let high = (no_match addr f.high ok.6 (f.prefix.len + 1) _ ok.4 (λ e. outer out 1 (omega arith) e)).0 in
+      three_none _ _ _ (last_match-append addr f.here (routes f.low ++ routes f.high)) (last_match-append addr (routes f.low) (routes f.high)) here low high
+      ∙ sym (rw none (ap (λ o. option_or o None) (elim is_high as (λ b. last_match (routes (cond b f.high f.low)) addr ≡ None) [ true ↦ high | false ↦ low ])))
+
+  pub match_way : (is_high : Bool) → leading_bits (f.prefix.len + 1) addr ≡ 2 * leading_bits f.prefix.len addr + cond is_high 1 0 → (is_nil f.here ≡ true) ⊎ (contains f.prefix addr ≡ true) → let child : Branch V = cond is_high f.high f.low in IsMatchOf child × IsTrie child
+  match_way is_high bit (inr in_f) = let m = match_child addr f ok in_f is_high bit in (m.0, m.2)
+  match_way is_high bit (inl none) = (
+    elim (contains f.prefix addr) as (λ b. contains f.prefix addr ≡ b → IsMatchOf (cond is_high f.high f.low)) [ true ↦ λ in_f. (match_child addr f ok in_f is_high bit).0 | false ↦ λ out. missed_by_all out none is_high ] refl,
+    elim is_high as (λ b. IsTrie (cond b f.high f.low)) [ true ↦ ok.6 | false ↦ ok.5 ],
+  )
+
 -- the match so far, with the fork's own in its place where there is one
 pub match_kept : {A : Type 0} (below own longest longer whole : Option A) → option_or (option_or below own) longest ≡ whole → option_or own longest ≡ longer → option_or below longer ≡ whole
 match_kept below own longest longer whole e is = ap (option_or below) (sym is) ∙ sym (or_assoc below own longest) ∙ e
@@ -128,9 +159,6 @@ own_kept p here longest longer held is = ap (λ b. option_or (cond b None (Some 
 
 pub own_none : {V : Type 0} (p : IpPrefix) (here : List (RouteKey × V)) (longest longer : Option IpPrefix) → is_nil here ≡ true → longer ≡ longest → option_or (cond (is_nil here) None (Some p)) longest ≡ longer
 own_none p here longest longer none is = ap (λ b. option_or (cond b None (Some p)) longest) none ∙ sym is
-
-pub missed : (addr : ℕ) (p : IpPrefix) → contains p addr ≡ false → leading_bits p.len addr ≡ leading_bits p.len p.addr → ⊥
-missed addr p miss same = let clash : true ≡ false = sym (eq-eqb _ _ same) ∙ miss in cc
 
 -- the lengths of prefixes that start with some bits
 pub longer : {V : Type 0} (len bits : ℕ) (es : List (RouteKey × V)) → All (λ e. Starts len bits e.0.prefix) es → All (λ e. len ≤ e.0.prefix.len) es
@@ -144,3 +172,19 @@ pub under_none : {V : Type 0} (b : Branch V) → IsTrie b → IsUnder 0 0 b
 under_none Nothing ok = tt
 under_none {V} (Leaf l) ok = All-weaker (λ (e : RouteKey × V). IsIpPrefix e.0.prefix) (λ (e : RouteKey × V). Starts 0 0 e.0.prefix) (λ e is. no_bits e.0.prefix is) l ok.0.known
 under_none (Fork' p prefix low high here) ok = no_bits prefix ok.0
+
+-- the last match, place by place from the end
+module _ {V : Type 0} (addr : ℕ) (es : List (RouteKey × V)) (k : ℕ) (e : RouteKey × V) (in_range : k < length es) (read : e ≡ get_or es k e) (none : last_match (drop (k + 1) es) addr ≡ None) where
+  from_here : last_match (drop k es) addr ≡ cond (contains e.0.prefix addr) (Some e.0.prefix) None
+  from_here =
+      let next : suc k ≡ k + 1 = omega arith in
+      let more : drop k es ≡ e ∷ drop (k + 1) es = drop-cons es k e in_range ∙ ap (λ (x : RouteKey × V). x ∷ drop (suc k) es) (sym read) ∙ ap (λ (n : ℕ). e ∷ drop n es) next in
+      ap (λ (xs : List (RouteKey × V)). last_match xs addr) more ∙ ap (λ o. option_or o (cond (contains e.0.prefix addr) (Some e.0.prefix) None)) none
+
+  pub last_at : contains e.0.prefix addr ≡ true → Some e.0.prefix ≡ last_match es addr
+  last_at in_e =
+      let here : last_match (drop k es) addr ≡ Some e.0.prefix = from_here ∙ ap (λ b. cond b (Some e.0.prefix) None) in_e in
+      sym (ap (λ (xs : List (RouteKey × V)). last_match xs addr) (sym (take-append-drop k es)) ∙ last_match-append addr (take k es) (drop k es) ∙ ap (λ o. option_or o (last_match (take k es) addr)) here)
+
+  pub none_at : contains e.0.prefix addr ≡ false → last_match (drop k es) addr ≡ None
+  none_at out = from_here ∙ ap (λ b. cond b (Some e.0.prefix) None) out

@@ -134,6 +134,35 @@ gap_at_end {V} es k last sorted some at_end below = record {
       | inr le ↦ subst (λ (i : ℕ). key_cmp (get_or es i d).0 k ≡ Less) (omega (arith, le, lt)) (end_less d)
     ]
 
+-- where a key stands, or would go, in a list in order, by the keys before a place and the one there
+pub scanned_at : {V : Type 0} (es : List (RouteKey × V)) (k : RouteKey) (i : ℕ) (e : RouteKey × V) → i < length es → e ≡ get_or es i e → key_cmp e.0 k ≡ Equal → IsAt key_cmp es k i
+scanned_at {V} es k i e in_range read equal = record { in_range = in_range; has_key = λ d. ap (λ (x : RouteKey × V). key_cmp x.0 k) (get_or_default es i d e in_range ∙ sym read) ∙ equal }
+
+pub scanned_past : {V : Type 0} (es : List (RouteKey × V)) (k : RouteKey) (i : ℕ) (e : RouteKey × V) → T (is_sorted key_cmp es) → i < length es → ((j : ℕ) (d : RouteKey × V) → j < i → key_cmp (get_or es j d).0 k ≡ Less) → e ≡ get_or es i e → key_cmp e.0 k ≡ Greater → IsGap key_cmp es k i
+scanned_past {V} es k i e sorted in_range below read greater = record {
+  in_range = omega (arith, in_range);
+  before = below;
+  after = λ j d le lt.
+      let here : key_cmp (get_or es i d).0 k ≡ Greater = ap (λ (x : RouteKey × V). key_cmp x.0 k) (get_or_default es i d e in_range ∙ sym read) ∙ greater in
+      elim (cases_order i j) [
+        | inl same ↦ subst (λ (n : ℕ). key_cmp (get_or es n d).0 k ≡ Greater) same here
+        | inr (inl later) ↦ greatest _ (subst (λ r. ordering_index r ≤ ordering_index (key_cmp (get_or es j d).0 k)) here (index_le key_cmp key_cmp_total (get_or es i d).0 (get_or es j d).0 k (sorted_at key_cmp key_cmp_total es i j d sorted later lt)))
+        | inr (inr earlier) ↦ absurd (omega (arith, le, earlier))
+      ];
+}
+
+pub scanned_whole : {V : Type 0} (es : List (RouteKey × V)) (k : RouteKey) (i : ℕ) → i ≤ length es → length es ≤ i → ((j : ℕ) (d : RouteKey × V) → j < i → key_cmp (get_or es j d).0 k ≡ Less) → IsGap key_cmp es k i
+scanned_whole es k i inside past below = record { in_range = inside; before = below; after = λ j d le lt. absurd (omega (arith, past, le, lt)) }
+
+-- one key more below
+pub scanned_more : {V : Type 0} (es : List (RouteKey × V)) (k : RouteKey) (i : ℕ) (e : RouteKey × V) → i < length es → ((j : ℕ) (d : RouteKey × V) → j < i → key_cmp (get_or es j d).0 k ≡ Less) → e ≡ get_or es i e → key_cmp e.0 k ≡ Less → (j : ℕ) (d : RouteKey × V) → j < i + 1 → key_cmp (get_or es j d).0 k ≡ Less
+scanned_more {V} es k i e in_range below read less j d lt = elim (cases_lt j i) [
+  | inl before ↦ below j d before
+  | inr le ↦
+      let same : i ≡ j = omega (arith, le, lt) in
+      subst (λ (n : ℕ). key_cmp (get_or es n d).0 k ≡ Less) same (ap (λ (x : RouteKey × V). key_cmp x.0 k) (get_or_default es i d e in_range ∙ sym read) ∙ less)
+]
+
 -- the first key that a prefix can have
 abbrev pub first_key : IpPrefix → RouteKey
 first_key p = record { prefix = p; id = 0 }

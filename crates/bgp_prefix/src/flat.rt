@@ -5,7 +5,7 @@ ghost use Rattle.std.specs.declared.cmp.Ordering.TheVariants.{Less};
 ghost use Rattle.std.specs.Option.{option_copied};
 ghost use Rattle.std.specs.Ordering.{eq_by_cmp};
 ghost use Rattle.bgp_prefix.specs.Prefixes.{IsIpPrefix, prefix_cmp, prefix_eq};
-ghost use Rattle.bgp_prefix.specs.Keys.{key_cmp, is_nil, entries_now, matching_prefixes};
+ghost use Rattle.bgp_prefix.specs.Keys.{key_cmp, is_nil, entries_now, matching_prefixes, last_match};
 ghost use Rattle.bgp_prefix.specs.Maps.{IsLongestMatch, HasNoMatch, paths_of};
 ghost use Rattle.std.specs.FinMap as finite;
 ghost use Rattle.std.specs.FinMap.{find, put};
@@ -18,8 +18,12 @@ use crate::map::PrefixMap;
 use crate::memory::Memory;
 use crate::prefix::{Prefix, shared_len};
 use std::alloc::Global;
+use std::cmp::Ordering;
 use std::marker::Model;
 use std::mem;
+
+/// The most keys of a list that is searched from the front.
+const SHORT: usize = 32;
 
 /// A finite map from keys to values, as a list in their order.
 #[derive(Drop)]
@@ -83,7 +87,8 @@ impl<V: Drop> Flat<V> {
         }
     }
 
-    // Where a key is, or would go. The end is tried first, since a RIB dump comes in order.
+    // Where a key is, or would go. The end is tried first, since a RIB dump comes in order. A short
+    // list is read from the front: these reads don't wait for one another.
     fn search(&self, key: &RouteKey) -> Result<usize, usize>
         ensures found { IfOk result (λ i. IsAt key_cmp self.now key.now i) }
         ensures absent { IfErr result (λ i. IsGap key_cmp self.now key.now i) }
@@ -91,8 +96,26 @@ impl<V: Drop> Flat<V> {
     {
         match self.items.last() {
             Some(last) if last.0 < *key => Err(self.items.len()),
+            _ if self.items.len() <= SHORT => self.scan(key),
             _ => self.items.binary_search_by_key(key, |item| item.0),
         }
+    }
+
+    // As `search`, one key after the other.
+    fn scan(&self, key: &RouteKey) -> Result<usize, usize>
+        ensures found { IfOk result (λ i. IsAt key_cmp self.now key.now i) }
+        ensures absent { IfErr result (λ i. IsGap key_cmp self.now key.now i) }
+        ensures sorted { T (is_sorted key_cmp self.now) }
+    {
+        let mut at = 0;
+        while at < self.items.len() {
+            match self.items[at].0.cmp(key) {
+                Ordering::Less => at += 1,
+                Ordering::Equal => return Ok(at),
+                Ordering::Greater => return Err(at),
+            }
+        }
+        Err(at)
     }
 
     /// Sets the value of a key, and gives the one before. An `Err` changes nothing.
@@ -217,6 +240,22 @@ impl<V: Drop> Flat<V> {
     {
         self.items
             .partition_point(move |item| item.0.prefix.addr() <= addr)
+    }
+
+    /// The longest prefix of a key that contains the address, as `longest`. For short lists: it looks
+    /// at one after the other, from the end.
+    pub(crate) fn last_match(&self, addr: u32) -> Option<Prefix>
+        ensures last { result ≡ last_match self.now addr }
+    {
+        let mut at = self.items.len();
+        while at > 0 {
+            at -= 1;
+            let prefix = self.items[at].0.prefix;
+            if prefix.contains(addr) {
+                return Some(prefix);
+            }
+        }
+        None
     }
 
     /// As `longest`, and how many prefixes were compared with the address. Their lengths differ.

@@ -321,6 +321,33 @@ impl<V: Drop> Branch<V> {
         }
     }
 
+    /// The longest prefix that contains the address.
+    fn longest(&self, addr: u32) -> Option<Prefix>
+        requires { IsTrie self.now }
+        ensures { result ≡ last_match (routes self.now) addr }
+    {
+        let mut at = self;
+        let mut longest = None;
+        loop {
+            match at {
+                Branch::Nothing => return longest,
+                Branch::Leaf(leaf) => return leaf.last_match(addr).or(longest),
+                Branch::Fork(fork) => {
+                    if !fork.here.is_empty() {
+                        if !fork.prefix.contains(addr) {
+                            return longest;
+                        }
+                        longest = Some(fork.prefix);
+                    }
+                    let Some(branch) = fork.branch(bit_after(addr, fork.prefix.len())) else {
+                        return longest;
+                    };
+                    at = branch;
+                }
+            }
+        }
+    }
+
     /// The longest prefix that contains the address, and how many nodes were looked at.
     fn longest_steps(&self, addr: u32) -> (Option<Prefix>, u32)
         requires { IsTrie self.now }
@@ -583,7 +610,7 @@ impl<V: Drop> PrefixMap<V> for Radix<V> {
     }
 
     fn longest(&self, addr: u32) -> Option<Prefix> {
-        self.longest_steps(addr).0
+        self.root.longest(addr)
     }
 
     fn paths(&self, alloc: Global, prefix: &Prefix) -> Result<Vec<(u32, &V)>, Memory> {

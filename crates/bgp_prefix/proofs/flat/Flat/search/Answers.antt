@@ -17,12 +17,12 @@ lt_is Equal Equal c = refl
 lt_is Equal Greater c = refl
 lt_is Greater b c = refl
 
-pub returns-in_default : goal.returns-in_default
-returns-in_default g c =
+pub returns-in_default-2 : goal.returns-in_default-2
+returns-in_default-2 g c =
     let facts = c.binary_search_by_key.ensures in
     let by_key = facts.position (λ item. item.0) (answers_always _ _ _ (λ f a r g called. search rules)) in
-    let s = searched key_cmp key_cmp_total c.deref-in_default.result.now c.args.key.now c.binary_search_by_key.result (rw c.deref-in_default.ensures.value c.self.invariant.sorted) facts.bound by_key in
-    rw (← c.self.view_is, ← c.deref-in_default.ensures.value) (record { found = s.found; absent = s.absent; sorted = rw c.deref-in_default.ensures.value c.self.invariant.sorted })
+    let s = searched key_cmp key_cmp_total c.deref-in_default-2.result.now c.args.key.now c.binary_search_by_key.result (rw c.deref-in_default-2.ensures.value c.self.invariant.sorted) facts.bound by_key in
+    rw (← c.self.view_is, ← c.deref-in_default-2.ensures.value) (record { found = s.found; absent = s.absent; sorted = rw c.deref-in_default-2.ensures.value c.self.invariant.sorted })
 
 pub returns-in-Some-clause-absent : goal.returns-in-Some-clause-absent
 returns-in-Some-clause-absent g c =
