@@ -52,9 +52,6 @@ module _ {V : Type 0} (es : List (RouteKey × V)) (addr : ℕ) where
       let listed : list_any (λ (e : RouteKey × V). prefix_eq k.prefix e.0.prefix) es ≡ true = of_found (λ q. list_any (λ (e : RouteKey × V). prefix_eq q.prefix e.0.prefix) es ≡ true) es k (λ i d lt. list_any_at (λ (e : RouteKey × V). prefix_eq (get_or es i d).0.prefix e.0.prefix) es i d lt (same_itself (get_or es i d).0.prefix)) some in
       (is.short, subst (λ (p : IpPrefix). list_any (λ (e : RouteKey × V). prefix_eq p e.0.prefix) es ≡ true) (network_is addr k.prefix is within) listed)
 
-  pub same_has : (n : ℕ) (p : IpPrefix) (b : Bool) → p ≡ network addr n → b ≡ list_any (λ e. prefix_eq p e.0.prefix) es → has n ≡ b
-  same_has n p b is h = sym (h ∙ ap (λ (q : IpPrefix). list_any (λ (e : RouteKey × V). prefix_eq q e.0.prefix) es) is)
-
   pub longest_of : (n : ℕ) → All (λ e. IsIpPrefix e.0.prefix) es → has n ≡ true → ((m : ℕ) → n < m → m ≤ 32 → has m ≡ false) → IsLongestMatch (finite.from_entries {R = key_cmp} es) addr (network addr n)
   longest_of n known here none =
       let key = found_of_any (network addr n) es here in

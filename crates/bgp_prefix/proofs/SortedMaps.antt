@@ -1,9 +1,8 @@
 -- Lists of entries in the order of their keys, as finite maps.
 use Rattle.std.proofs.Common.{Option, Some, ◌≡◌, ◌≢◌, ℕ, ◌+◌, ◌-◌, ◌<◌, ◌≤◌, Bool, true, false, cond, ◌||◌, List, [], ◌∷◌, ◌++◌, length, get_or, map, take, drop, T, refl, sym, ap, subst, ◌∙◌, arith, inl, inr, get_or-take, get_or-drop, length-drop, length-take}
-use Rattle.std.proofs.lemmas.Bool.{cases_order, cases_lt, cases_Bool}
+use Rattle.std.proofs.lemmas.Bool.{cases_order, cases_lt}
 use Rattle.std.proofs.lemmas.List.{take-append-drop, append-nil, get_or_default}
 use Rattle.std.proofs.lemmas.List.Elements.{All-head, All-tail, All-cons, filter-append}
-use Rattle.std.proofs.lemmas.List.Folds.{list_any_at, list_any_none}
 use Rattle.std.specs.List.{All, filter, list_any}
 use Rattle.std.specs.List.Sorted.{IsPartitionPoint}
 use Rattle.std.specs.Option.{is_some}
@@ -228,22 +227,6 @@ module _ {V : Type 0} (p : IpPrefix) (es : List (RouteKey × V)) (i : ℕ) (sort
       let greater : prefix_cmp q p ≡ Greater = greater_of _ (start.1 j d from (omega arith)) untied in
       let above : 2 ≤ ordering_index (prefix_cmp (get_or es k d).0.prefix p) = subst (λ r. ordering_index r ≤ ordering_index (prefix_cmp (get_or es k d).0.prefix p)) greater (prefixes_rise es p j k d sorted le in_range) in
       other_of_greater (get_or es k d).0.prefix p (greatest _ above)
-
-  none_but_at : (d : RouteKey × V) → i < length es → has (get_or es i d) ≡ false → All (λ e. has e ≡ false) es
-  none_but_at d in_range other k e lt = elim (cases_lt k i) [
-    | inl before ↦ none_before k e before
-    | inr le ↦ none_after i k e (omega arith) (ap has (get_or_default es i e d in_range) ∙ other) le lt
-  ]
-
-  -- where the prefix is among those of a list in order, it is at the start
-  pub any_at : (d : RouteKey × V) → i < length es → prefix_eq p (get_or es i d).0.prefix ≡ list_any (λ e. prefix_eq p e.0.prefix) es
-  any_at d in_range = elim (cases_Bool (has (get_or es i d))) [
-    | inl t ↦ t ∙ sym (list_any_at has es i d in_range t)
-    | inr f ↦ f ∙ sym (list_any_none has es (none_but_at d in_range f))
-  ]
-
-  pub any_none : length es ≤ i → false ≡ list_any (λ e. prefix_eq p e.0.prefix) es
-  any_none past = sym (list_any_none has es (λ k e lt. none_before k e (omega arith)))
 
   -- the entries with the prefix stand together
   pub run_of : (n : ℕ) → All (λ e. prefix_eq p e.0.prefix ≡ false) (drop n (drop i es)) → paths_of p (take n (drop i es)) ≡ paths_of p es

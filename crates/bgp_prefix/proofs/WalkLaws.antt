@@ -1,6 +1,6 @@
 -- The walk back through a list in order, from the last prefix that is no higher than an address.
 use Rattle.std.proofs.Common.{◌≡◌, ◌≢◌, ℕ, suc, ◌+◌, ◌<◌, ◌≤◌, Bool, true, false, cond, not, ◌&&◌, List, [], ◌∷◌, length, get_or, drop, Option, Some, None, is_some, T, refl, sym, ap, subst, ◌∙◌, arith, ◌⊎◌, inl, inr, get_or-drop, length-drop}
-use Rattle.std.proofs.lemmas.Bool.{cases_lt, cases_order, cases_Bool, eqb-true, eq-eqb}
+use Rattle.std.proofs.lemmas.Bool.{cases_lt, cases_Bool, eqb-true, eq-eqb}
 use Rattle.std.proofs.lemmas.List.{get_or_default}
 use Rattle.std.proofs.Math.Seq.{drop-cons}
 use Rattle.std.proofs.Math.ListN.{drop_of_length-le}
@@ -10,11 +10,11 @@ use Rattle.std.specs.FinMap.{is_sorted}
 use Rattle.bgp_prefix.specs.Prefixes.{IpPrefix, IsIpPrefix, leading_bits, network_of, contains, prefix_eq}
 use Rattle.bgp_prefix.specs.Keys.{key_cmp, last_match, matching_prefixes, begins_with}
 use Rattle.bgp_prefix.specs.declared.key.RouteKey.{RouteKey}
-use Rattle.bgp_prefix.proofs.Bits.{share_fewer}
 use Rattle.bgp_prefix.proofs.KeyLaws.{same_prefix}
 use Rattle.bgp_prefix.proofs.NetworkLaws.{network, network_is, same_itself}
 use Rattle.bgp_prefix.proofs.OrderLaws.{AllKeys}
-use Rattle.bgp_prefix.proofs.SplitLaws.{IsUpTo, rise, below_network, share_between}
+use Rattle.bgp_prefix.proofs.SplitLaws.{IsUpTo, rise, below_network}
+use Rattle.bgp_prefix.proofs.JumpLaws.{no_longer, no_longer_than_shared}
 
 pub keys_of_all : {V : Type 0} (P : RouteKey → Type 0) (es : List (RouteKey × V)) → All (λ e. P e.0) es → AllKeys P es
 keys_of_all P [] all = tt
@@ -195,15 +195,11 @@ module _ {V : Type 0} (es : List (RouteKey × V)) (addr k limit steps : ℕ) (lo
     left = λ j d h in_j.
         let q = (get_or es j d).0.prefix in
         let known_q = walk.known j d (omega (arith, h, lt)) in
-        let low = before j d h in
-        elim (cases_order q.len p.len) [
-          | inl same ↦ inr (begins_itself q (network_is addr q known_q in_j ∙ ap (network addr) same ∙ sym (network_is addr p known_p in_p)))
-          | inr (inl less) ↦ inl less
-          | inr (inr longer) ↦
-              let bits : leading_bits p.len p.addr ≡ leading_bits p.len q.addr = sym (eqb-true _ _ in_p) ∙ share_fewer p.len q.len addr q.addr (omega (arith, longer)) known_q.short (eqb-true _ _ in_j) in
-              let le : p.addr ≤ q.addr = below_network p p.len q.addr known_p (omega arith) known_p.short bits in
-              let same : q.addr ≡ p.addr = omega (arith, le, low.low) in
-              absurd (omega (arith, low.short same, longer))
+        elim (cases_lt q.len p.len) [
+          | inl less ↦ inl less
+          | inr ge ↦
+              let same : q.len ≡ p.len = omega (arith, ge, no_longer addr q p known_q known_p in_j in_p (before j d h)) in
+              inr (begins_itself q (network_is addr q known_q in_j ∙ ap (network addr) same ∙ sym (network_is addr p known_p in_p)))
         ];
     most = (p.len, omega arith, omega (arith, walk.most.1, walk.most.2, short), λ len le all. subst (λ (q : IpPrefix). len ≤ q.len) (read_at x) (all k x lt));
   }
@@ -229,15 +225,7 @@ module _ {V : Type 0} (es : List (RouteKey × V)) (addr k limit steps : ℕ) (lo
             omega (arith, none, count_more, walk.enough);
         left = λ j d h in_j.
             let q = (get_or es j d).0.prefix in
-            let known_q = walk.known j d (omega (arith, h, lt)) in
-            let low = before j d h in
-            elim (cases_lt q.len (shared + 1)) [
-              | inl less ↦ inl less
-              | inr longer ↦
-                  let ends : leading_bits q.len q.addr ≡ leading_bits q.len addr = sym (eqb-true _ _ in_j) in
-                  let between : leading_bits q.len p.addr ≡ leading_bits q.len q.addr = share_between q.len q.addr p.addr addr low.low low_p ends in
-                  absurd (parted fewer (share_fewer (shared + 1) q.len p.addr addr longer known_q.short (between ∙ ends)))
-            ];
+            inl (omega (arith, no_longer_than_shared addr shared q p (walk.known j d (omega (arith, h, lt))) in_j (before j d h) low_p (parted fewer)));
         most = (p.len, omega (arith, fewer), omega (arith, walk.most.1, walk.most.2, short), λ len le all. subst (λ (q : IpPrefix). len ≤ q.len) (read_at x) (all k x lt));
       }
 

@@ -3,7 +3,7 @@ ghost use Rattle.std.specs.List.{All, list_any};
 ghost use Rattle.std.specs.List.Sorted.{IsPartitionPoint};
 ghost use Rattle.std.specs.declared.cmp.Ordering.TheVariants.{Less};
 ghost use Rattle.std.specs.Option.{option_copied};
-ghost use Rattle.std.specs.Ordering.{eq_by_cmp};
+ghost use Rattle.std.specs.Ordering.{eq_by_cmp, is_le};
 ghost use Rattle.bgp_prefix.specs.Prefixes.{IsIpPrefix, prefix_cmp, prefix_eq};
 ghost use Rattle.bgp_prefix.specs.Keys.{key_cmp, is_nil, entries_now, matching_prefixes, last_match};
 ghost use Rattle.bgp_prefix.specs.Maps.{IsLongestMatch, HasNoMatch, paths_of};
@@ -209,28 +209,37 @@ impl<V: Drop> Flat<V> {
         }
     }
 
-    // Whether a key has the prefix.
-    fn has_prefix(&self, prefix: &Prefix) -> bool
-        ensures has { result ≡ list_any (λ e. prefix_eq prefix.now e.0.prefix) self.now }
-        ensures known { All (λ e. IsIpPrefix e.0.prefix) self.now }
-    {
-        let at = self.start_of(prefix);
-        at < self.items.len() && *prefix == self.items[at].0.prefix
-    }
-
     /// The longest prefix of a key that contains the address (RFC 1812, 5.2.4.3). It takes no
     /// memory, and at most 33 searches.
     pub fn longest(&self, addr: u32) -> Option<Prefix>
         ensures found { IfSome result (IsLongestMatch (finite.from_entries self.now) addr) }
         ensures none { IfNone result (HasNoMatch (finite.from_entries self.now) addr) }
     {
-        for host_bits in 0..33 {
-            let prefix = Prefix::new(addr, 32 - host_bits)?;
-            if self.has_prefix(&prefix) {
+        let Some(host) = Prefix::new(addr, 32) else {
+            unreachable!()
+        };
+        let mut limit = 32;
+        loop {
+            let at = self.up_to(&host.shortened(limit));
+            if at == 0 {
+                return None;
+            }
+            let prefix = self.items[at - 1].0.prefix;
+            if prefix.contains(addr) {
                 return Some(prefix);
             }
+            limit = shared_len(&prefix, &host);
         }
-        None
+    }
+
+    // The number of keys whose prefixes are at most this one, in their order.
+    fn up_to(&self, last: &Prefix) -> usize
+        ensures bound { result ≤ length self.now }
+        ensures end { IsPartitionPoint (λ e. is_le (prefix_cmp e.0.prefix last.now) ≡ true) (λ e. is_le (prefix_cmp e.0.prefix last.now) ≡ false) self.now result }
+    {
+        let last = *last;
+        self.items
+            .partition_point(move |item| item.0.prefix <= last)
     }
 
     // The number of keys whose addresses are at most this one.
@@ -250,9 +259,9 @@ impl<V: Drop> Flat<V> {
         let mut at = self.items.len();
         while at > 0 {
             at -= 1;
-            let prefix = self.items[at].0.prefix;
-            if prefix.contains(addr) {
-                return Some(prefix);
+            let last = self.items[at].0.prefix;
+            if last.contains(addr) {
+                return Some(last);
             }
         }
         None

@@ -327,20 +327,20 @@ impl<V: Drop> Branch<V> {
         ensures { result ≡ last_match (routes self.now) addr }
     {
         let mut at = self;
-        let mut longest = None;
+        let mut found = None;
         loop {
             match at {
-                Branch::Nothing => return longest,
-                Branch::Leaf(leaf) => return leaf.last_match(addr).or(longest),
+                Branch::Nothing => return found,
+                Branch::Leaf(leaf) => return leaf.last_match(addr).or(found),
                 Branch::Fork(fork) => {
                     if !fork.here.is_empty() {
                         if !fork.prefix.contains(addr) {
-                            return longest;
+                            return found;
                         }
-                        longest = Some(fork.prefix);
+                        found = Some(fork.prefix);
                     }
                     let Some(branch) = fork.branch(bit_after(addr, fork.prefix.len())) else {
-                        return longest;
+                        return found;
                     };
                     at = branch;
                 }

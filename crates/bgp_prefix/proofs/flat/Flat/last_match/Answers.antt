@@ -1,4 +1,4 @@
-use Rattle.std.proofs.Common.{◌≡◌, ◌-◌, ◌+◌, None, drop, sym, subst, arith, ap, ℕ, ◌∙◌}
+use Rattle.std.proofs.Common.{◌≡◌, ◌-◌, ◌+◌, None, drop, sym, subst, arith, ℕ}
 use Rattle.bgp_prefix.specs.Keys.{last_match}
 use Rattle.bgp_prefix.proofs.MatchLaws.{last_at}
 use Rattle.bgp_prefix.proofs.flat.Flat.last_match.Goals as goal

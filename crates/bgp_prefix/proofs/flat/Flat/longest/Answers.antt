@@ -1,22 +1,40 @@
-use Rattle.std.proofs.Common.{◌-◌, ◌+◌, ◌∙◌, ap, arith, true, false, inl, inr}
-use Rattle.std.proofs.lemmas.Bool.{cases_lt}
-use Rattle.bgp_prefix.proofs.NetworkLaws.{longest_of, none_of, network, same_has}
+use Rattle.std.proofs.Common.{◌∙◌, ap, sym, arith}
+use Rattle.bgp_prefix.proofs.NetworkLaws.{network}
+use Rattle.bgp_prefix.proofs.WalkLaws.{network_whole}
+use Rattle.bgp_prefix.proofs.JumpLaws.{none_found, match_found, falls, IsLimit-miss}
 use Rattle.bgp_prefix.proofs.flat.Flat.longest.Goals as goal
 
-pub returns-then-has_prefix-clause-found : goal.returns-then-has_prefix-clause-found
-returns-then-has_prefix-clause-found g c =
-    let n = 32 - c.loop-host_bits.host_bits in
-    let here = same_has c.args.self.now c.args.addr n c.in_ok-prefix.prefix true c.in_ok-prefix.ensures.prefix c.if-has_prefix.ensures.has in
-    rw c.in_ok-prefix.ensures.prefix (longest_of c.args.self.now c.args.addr n c.has_prefix.ensures.known here (λ m longer short. c.loop-host_bits.invariant.none m (omega arith) short))
+pub returns-then-at-eq0-clause-none : goal.returns-then-at-eq0-clause-none
+returns-then-at-eq0-clause-none g c =
+    let l = c.loop-self in
+    let host = ap (λ p. p.addr) c.in-Some.ensures.prefix ∙ network_whole c.args.addr in
+    let net = c.shortened.ensures.prefix ∙ ap (λ a. network a l.limit) host in
+    none_found c.args.self.now c.args.addr l.limit c.up_to-at.result l.invariant c.up_to-at.ensures.bound (rw net at c.up_to-at.ensures.end) (omega arith)
 
-pub loop-host_bits-preserved : goal.loop-host_bits-preserved
-loop-host_bits-preserved g c = record {
-  known = λ some. c.has_prefix.ensures.known;
-  none = λ n long short. elim (cases_lt 32 (n + c.loop-host_bits.host_bits)) [
-    | inl before ↦ c.loop-host_bits.invariant.none n before short
-    | inr now ↦ same_has c.args.self.now c.args.addr n c.in_ok-prefix.prefix false (c.in_ok-prefix.ensures.prefix ∙ ap (network c.args.addr) (omega arith)) c.if-has_prefix.ensures.has
-  ];
-}
+pub returns-then-contains-clause-found : goal.returns-then-contains-clause-found
+returns-then-contains-clause-found g c =
+    let l = c.loop-self in
+    let host = ap (λ p. p.addr) c.in-Some.ensures.prefix ∙ network_whole c.args.addr in
+    let net = c.shortened.ensures.prefix ∙ ap (λ a. network a l.limit) host in
+    let read = rw c.self.view_is at c.index.ensures in
+    match_found c.args.self.now c.args.addr l.limit c.up_to-at.result l.invariant c.up_to-at.ensures.bound (rw net at c.up_to-at.ensures.end) c.index.result.now (omega arith) read (sym c.if-contains.ensures)
 
-pub returns-clause-none : goal.returns-clause-none
-returns-clause-none g c = none_of c.args.self.now c.args.addr (c.loop-host_bits.invariant.known (omega arith)) (λ m short. c.loop-host_bits.invariant.none m (omega arith) short)
+pub loop-self-smaller : goal.loop-self-smaller
+loop-self-smaller g c =
+    let l = c.loop-self in
+    let host = ap (λ p. p.addr) c.in-Some.ensures.prefix ∙ network_whole c.args.addr in
+    let len = ap (λ p. p.len) c.in-Some.ensures.prefix in
+    let net = c.shortened.ensures.prefix ∙ ap (λ a. network a l.limit) host in
+    let read = rw c.self.view_is at c.index.ensures in
+    let s = c.shared_len-limit.ensures in
+    falls c.args.self.now c.args.addr l.limit c.up_to-at.result l.invariant c.up_to-at.ensures.bound (rw net at c.up_to-at.ensures.end) c.index.result.now (omega arith) read c.shared_len-limit.result (sym c.if-contains.ensures) s.in_p (rw host at s.shared) (λ less. rw host at (s.longest less (omega (arith, less, len, s.known_p.short))))
+
+pub loop-self-preserved : goal.loop-self-preserved
+loop-self-preserved g c =
+    let l = c.loop-self in
+    let host = ap (λ p. p.addr) c.in-Some.ensures.prefix ∙ network_whole c.args.addr in
+    let len = ap (λ p. p.len) c.in-Some.ensures.prefix in
+    let net = c.shortened.ensures.prefix ∙ ap (λ a. network a l.limit) host in
+    let read = rw c.self.view_is at c.index.ensures in
+    let s = c.shared_len-limit.ensures in
+    IsLimit-miss c.args.self.now c.args.addr l.limit c.up_to-at.result l.invariant c.up_to-at.ensures.bound (rw net at c.up_to-at.ensures.end) c.index.result.now (omega arith) read c.shared_len-limit.result (sym c.if-contains.ensures) s.in_p (rw host at s.shared) (λ less. rw host at (s.longest less (omega (arith, less, len, s.known_p.short))))

@@ -1,4 +1,4 @@
-use Rattle.std.proofs.Common.{◌<◌, sym, ◌∙◌, arith, ap, length}
+use Rattle.std.proofs.Common.{◌<◌, sym, arith, ap, length}
 use Rattle.bgp_prefix.proofs.SortedMaps.{scanned_at, scanned_past, scanned_more}
 use Rattle.bgp_prefix.proofs.flat.Flat.scan.Goals as goal
 

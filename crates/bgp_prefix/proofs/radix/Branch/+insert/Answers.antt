@@ -1,7 +1,7 @@
-use Rattle.std.proofs.Common.{◌≡◌, ℕ, List, refl, sym, ap, ◌∙◌, subst, IfSome}
-use Rattle.std.specs.FinMap.{find, put}
+use Rattle.std.proofs.Common.{◌≡◌, List, refl, sym, ap, ◌∙◌, subst, IfSome}
+use Rattle.std.specs.FinMap.{put}
 use Rattle.std.proofs.lemmas.Option.{IfSome_then}
-use Rattle.bgp_prefix.proofs.Outcomes.{ok_then, err_then, ok_when}
+use Rattle.bgp_prefix.proofs.Outcomes.{ok_then, ok_when}
 use Rattle.bgp_prefix.specs.Keys.{key_cmp}
 use Rattle.bgp_prefix.specs.Tries.{IsTrie, IsInserted}
 use Rattle.bgp_prefix.proofs.TrieLaws.{apart_of_fork, find_here, find_in_low, find_in_high}

@@ -1,4 +1,4 @@
-use Rattle.std.proofs.Common.{refl, sym, ◌∙◌, subst, arith}
+use Rattle.std.proofs.Common.{sym, subst}
 use Rattle.bgp_prefix.specs.Prefixes.{leading_bits}
 use Rattle.bgp_prefix.specs.Tries.{IsTrie, IsUnder}
 use Rattle.bgp_prefix.specs.declared.radix.Branch.TheVariants.{Fork}

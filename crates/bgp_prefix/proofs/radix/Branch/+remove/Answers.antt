@@ -1,4 +1,4 @@
-use Rattle.std.proofs.Common.{◌≡◌, ◌++◌, None, refl, sym, ◌∙◌, subst}
+use Rattle.std.proofs.Common.{◌++◌, None, refl, sym, ◌∙◌, subst}
 use Rattle.bgp_prefix.specs.Keys.{Changes}
 use Rattle.bgp_prefix.specs.Tries.{IsTrie, routes}
 use Rattle.bgp_prefix.specs.declared.radix.Branch.TheVariants.{Leaf, Fork}

@@ -1,4 +1,4 @@
-use Rattle.std.proofs.Common.{◌≡◌, Some, None, refl, sym, ap, ◌∙◌, subst, IfSome, IsNone}
+use Rattle.std.proofs.Common.{◌≡◌, None, sym, ap, ◌∙◌, subst, IfSome}
 use Rattle.std.specs.FinMap.{find, put}
 use Rattle.std.proofs.lemmas.Option.{IfSome_then}
 use Rattle.bgp_prefix.specs.Keys.{key_cmp}

@@ -1,11 +1,10 @@
-use Rattle.std.proofs.Common.{◌≡◌, cond, Some, None, refl, sym, ap, ◌∙◌, subst, arith, inl, inr, ◌⊎◌, true}
+use Rattle.std.proofs.Common.{◌≡◌, cond, Some, None, sym, ◌∙◌, subst, inl, inr, ◌⊎◌, true}
 use Rattle.std.specs.Option.{option_or}
 use Rattle.bgp_prefix.specs.Prefixes.{leading_bits, contains}
 use Rattle.bgp_prefix.specs.Keys.{is_nil, last_match}
 use Rattle.bgp_prefix.specs.Tries.{routes, IsTrie, IsUnder}
 use Rattle.bgp_prefix.specs.declared.radix.Branch.{Branch}
 use Rattle.bgp_prefix.specs.declared.radix.Branch.TheVariants.{Fork}
-use Rattle.bgp_prefix.proofs.KeyLaws.{or_none}
 use Rattle.bgp_prefix.proofs.TrieLaws.{starts_itself}
 use Rattle.bgp_prefix.proofs.MatchLaws.{no_match, match_way, match_kept, own_kept, own_none, missed}
 use Rattle.bgp_prefix.proofs.radix.Branch.longest.Goals as goal
@@ -29,14 +28,14 @@ returns-in_default-branch-in-Fork g c =
       | then-not-is_empty+else-not-contains w ↦ inr (rw w.deref-then-not-is_empty.ensures at (sym w.contains.ensures ∙ w.if-not-contains.false))
       | else-not-is_empty w ↦ inl (rw c.deref.ensures at (sym c.is_empty.ensures ∙ w.if-not-is_empty.false))
     ] in
-    let own : option_or (cond (is_nil f.here) None (Some f.prefix)) c.loop-at.longest ≡ c.if-not-is_empty.longest = elim c.if-not-is_empty.branch [
-      | then-not-is_empty+else-not-contains w ↦ own_kept f.prefix f.here _ _ (rw c.deref.ensures at (sym c.is_empty.ensures ∙ w.if-not-is_empty.true)) (rw w.deref-then-not-is_empty-2.ensures at w.longest-is)
-      | else-not-is_empty w ↦ own_none f.prefix f.here _ _ (rw c.deref.ensures at (sym c.is_empty.ensures ∙ w.if-not-is_empty.false)) w.longest-is
+    let own : option_or (cond (is_nil f.here) None (Some f.prefix)) c.loop-at.found ≡ c.if-not-is_empty.found = elim c.if-not-is_empty.branch [
+      | then-not-is_empty+else-not-contains w ↦ own_kept f.prefix f.here _ _ (rw c.deref.ensures at (sym c.is_empty.ensures ∙ w.if-not-is_empty.true)) (rw w.deref-then-not-is_empty-2.ensures at w.found-is)
+      | else-not-is_empty w ↦ own_none f.prefix f.here _ _ (rw c.deref.ensures at (sym c.is_empty.ensures ∙ w.if-not-is_empty.false)) w.found-is
     ] in
     let way = match_way c.args.addr f trie c.bit_after.result bit either in
     let whole = rw (c.in-Fork.is, way.0) at c.loop-at.invariant.1 in
     let nothing = rw c.deref-in-Fork.ensures at c.in_default-branch-in-Fork.ensures.nothing in
-    subst (λ (b : Branch _). option_or (last_match (routes b) c.args.addr) c.if-not-is_empty.longest ≡ last_match (routes c.args.self.now) c.args.addr) nothing (match_kept _ _ _ _ _ whole own)
+    subst (λ (b : Branch _). option_or (last_match (routes b) c.args.addr) c.if-not-is_empty.found ≡ last_match (routes c.args.self.now) c.args.addr) nothing (match_kept _ _ _ _ _ whole own)
 
 pub loop-at-preserved : goal.loop-at-preserved
 loop-at-preserved g c =
@@ -47,9 +46,9 @@ loop-at-preserved g c =
       | then-not-is_empty+else-not-contains w ↦ inr (rw w.deref-then-not-is_empty.ensures at (sym w.contains.ensures ∙ w.if-not-contains.false))
       | else-not-is_empty w ↦ inl (rw c.deref.ensures at (sym c.is_empty.ensures ∙ w.if-not-is_empty.false))
     ] in
-    let own : option_or (cond (is_nil f.here) None (Some f.prefix)) c.loop-at.longest ≡ c.if-not-is_empty.longest = elim c.if-not-is_empty.branch [
-      | then-not-is_empty+else-not-contains w ↦ own_kept f.prefix f.here _ _ (rw c.deref.ensures at (sym c.is_empty.ensures ∙ w.if-not-is_empty.true)) (rw w.deref-then-not-is_empty-2.ensures at w.longest-is)
-      | else-not-is_empty w ↦ own_none f.prefix f.here _ _ (rw c.deref.ensures at (sym c.is_empty.ensures ∙ w.if-not-is_empty.false)) w.longest-is
+    let own : option_or (cond (is_nil f.here) None (Some f.prefix)) c.loop-at.found ≡ c.if-not-is_empty.found = elim c.if-not-is_empty.branch [
+      | then-not-is_empty+else-not-contains w ↦ own_kept f.prefix f.here _ _ (rw c.deref.ensures at (sym c.is_empty.ensures ∙ w.if-not-is_empty.true)) (rw w.deref-then-not-is_empty-2.ensures at w.found-is)
+      | else-not-is_empty w ↦ own_none f.prefix f.here _ _ (rw c.deref.ensures at (sym c.is_empty.ensures ∙ w.if-not-is_empty.false)) w.found-is
     ] in
     let way = match_way c.args.addr f trie c.bit_after.result bit either in
     let whole = rw (c.in-Fork.is, way.0) at c.loop-at.invariant.1 in
