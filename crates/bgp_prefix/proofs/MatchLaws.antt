@@ -143,6 +143,22 @@ module _ {V : Type 0} (addr : ℕ) (f : Fork V) (ok : IsFork f) where
       three_none _ _ _ (last_match-append addr f.here (routes f.low ++ routes f.high)) (last_match-append addr (routes f.low) (routes f.high)) here low high
       ∙ sym (rw none (ap (λ o. option_or o None) (elim is_high as (λ b. last_match (routes (cond b f.high f.low)) addr ≡ None) [ true ↦ high | false ↦ low ])))
 
+  no_match_outside : contains f.prefix addr ≡ false → (is_high : Bool) → last_match (routes (cond is_high f.high f.low)) addr ≡ None
+  no_match_outside out is_high =
+      let low = (no_match addr f.low ok.5 (f.prefix.len + 1) _ ok.3 (λ e. outer out 0 (omega arith) (e ∙ sym (add-zero _)))).0 in
+      let high = (no_match addr f.high ok.6 (f.prefix.len + 1) _ ok.4 (λ e. outer out 1 (omega arith) e)).0 in
+      elim is_high as (λ b. last_match (routes (cond b f.high f.low)) addr ≡ None) [ true ↦ high | false ↦ low ]
+
+  -- a match in the branch of the next bit is the fork's, whether the fork's prefix contains the address or not
+  pub match_up : (is_high : Bool) → leading_bits (f.prefix.len + 1) addr ≡ 2 * leading_bits f.prefix.len addr + cond is_high 1 0 → let child : Branch V = cond is_high f.high f.low in ((p : IpPrefix) → last_match (routes child) addr ≡ Some p → last_match (fork_routes f) addr ≡ Some p) × IsTrie child
+  match_up is_high bit = (
+    λ p is. elim (contains f.prefix addr) as (λ b. contains f.prefix addr ≡ b → last_match (fork_routes f) addr ≡ Some p) [
+      | true ↦ λ in_f. (match_child addr f ok in_f is_high bit).0 ∙ ap (λ o. option_or o (cond (is_nil f.here) None (Some f.prefix))) is
+      | false ↦ λ out. let clash : None ≡ Some p = sym (no_match_outside out is_high) ∙ is in cc
+    ] refl,
+    elim is_high as (λ b. IsTrie (cond b f.high f.low)) [ true ↦ ok.6 | false ↦ ok.5 ],
+  )
+
   pub match_way : (is_high : Bool) → leading_bits (f.prefix.len + 1) addr ≡ 2 * leading_bits f.prefix.len addr + cond is_high 1 0 → (is_nil f.here ≡ true) ⊎ (contains f.prefix addr ≡ true) → let child : Branch V = cond is_high f.high f.low in IsMatchOf child × IsTrie child
   match_way is_high bit (inr in_f) = let m = match_child addr f ok in_f is_high bit in (m.0, m.2)
   match_way is_high bit (inl none) = (

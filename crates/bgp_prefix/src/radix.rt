@@ -321,8 +321,41 @@ impl<V: Drop> Branch<V> {
         }
     }
 
-    /// The longest prefix that contains the address.
+    /// The longest prefix that contains the address. Mostly a leaf has it, and then no fork on the way needs
+    /// to be looked at but for its bit.
     fn longest(&self, addr: u32) -> Option<Prefix>
+        requires { IsTrie self.now }
+        ensures { result ≡ last_match (routes self.now) addr }
+    {
+        match self.longest_in_leaf(addr) {
+            Some(prefix) => Some(prefix),
+            None => self.longest_on_way(addr),
+        }
+    }
+
+    /// The longest prefix that contains the address, where it stands in a leaf.
+    fn longest_in_leaf(&self, addr: u32) -> Option<Prefix>
+        requires { IsTrie self.now }
+        ensures { IfSome result (λ prefix. last_match (routes self.now) addr ≡ Some prefix) }
+    {
+        let mut at = self;
+        loop {
+            match at {
+                Branch::Nothing => return None,
+                Branch::Leaf(leaf) => return leaf.last_match(addr),
+                Branch::Fork(fork) => {
+                    let Some(branch) = fork.branch(bit_after(addr, fork.prefix.len())) else {
+                        return None;
+                    };
+                    at = branch;
+                }
+            }
+        }
+    }
+
+    /// The longest prefix that contains the address, wherever it stands.
+    #[inline(never)]
+    fn longest_on_way(&self, addr: u32) -> Option<Prefix>
         requires { IsTrie self.now }
         ensures { result ≡ last_match (routes self.now) addr }
     {

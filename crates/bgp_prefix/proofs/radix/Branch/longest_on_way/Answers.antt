@@ -7,8 +7,8 @@ use Rattle.bgp_prefix.specs.declared.radix.Branch.{Branch}
 use Rattle.bgp_prefix.specs.declared.radix.Branch.TheVariants.{Fork}
 use Rattle.bgp_prefix.proofs.TrieLaws.{starts_itself}
 use Rattle.bgp_prefix.proofs.MatchLaws.{no_match, match_way, match_kept, own_kept, own_none, missed}
-use Rattle.bgp_prefix.proofs.radix.Branch.longest.Goals as goal
-use Rattle.bgp_prefix.proofs.radix.Branch.longest.Goals.{then-not-is_empty+else-not-contains, else-not-is_empty}
+use Rattle.bgp_prefix.proofs.radix.Branch.longest_on_way.Goals as goal
+use Rattle.bgp_prefix.proofs.radix.Branch.longest_on_way.Goals.{then-not-is_empty+else-not-contains, else-not-is_empty}
 
 pub returns-then-not-contains : goal.returns-then-not-contains
 returns-then-not-contains g c =
