@@ -260,7 +260,7 @@ impl<V: Drop> Flat<V> {
         while at > 0 {
             at -= 1;
             let last = self.items[at].0.prefix;
-            if last.contains(addr) {
+            if last.addr() <= addr && last.contains(addr) {
                 return Some(last);
             }
         }
