@@ -21,7 +21,7 @@ use std::marker::Model;
 use std::mem;
 
 /// A leaf with more routes becomes a fork, where they have several prefixes.
-const LEAF_ROUTES: usize = 24;
+const LEAF_ROUTES: usize = 32;
 
 /// A part of the trie: nothing, a leaf with the routes of any prefixes in order, never empty, or a
 /// fork with two branches. Each prefix that is held is a node: a leaf's block has several nodes
