@@ -170,13 +170,28 @@ fn counts_the_nodes_of_all_33_prefixes(rt: HostRuntime) -> Result<(), Fail> {
 fn a_fork_goes_with_its_branch(rt: HostRuntime) -> Result<(), Fail> {
     let alloc = rt.alloc();
     let mut map: Radix<u32> = PrefixMap::new(alloc);
-    let low = key(0x0A00_0000, 16, 0)?;
-    let high = key(0x0A01_0000, 16, 0)?;
-    assert_eq!(rt; map.insert(alloc, low, 1)?, None);
+    let whole = key(0x0A00_0000, 14, 0)?;
+    let high = key(0x0A02_0000, 24, 0)?;
+    assert_eq!(rt; map.insert(alloc, whole, 1)?, None);
     assert_eq!(rt; map.insert(alloc, high, 2)?, None);
-    assert_eq!(rt; map.remove(&low), Some(1));
+    for low in 0..50u32 {
+        assert_eq!(rt;
+            map.insert(alloc, key(0x0A00_0000 + low * 0x100, 24, 0)?, 3)?,
+            None
+        );
+    }
+    assert_eq!(rt; map.len(), 52);
+    assert_eq!(rt; map.longest_steps(0x0A02_0001), (Some(high.prefix), 2));
+    for low in 0..50u32 {
+        assert_eq!(rt;
+            map.remove(&key(0x0A00_0000 + low * 0x100, 24, 0)?),
+            Some(3)
+        );
+    }
+    assert_eq!(rt; map.longest(0x0A00_0001), Some(whole.prefix));
+    assert_eq!(rt; map.remove(&whole), Some(1));
     assert_eq!(rt; map.longest(0x0A00_0001), None);
-    assert_eq!(rt; map.longest_steps(0x0A01_0001), (Some(high.prefix), 1));
+    assert_eq!(rt; map.longest_steps(0x0A02_0001), (Some(high.prefix), 1));
     assert_eq!(rt; map.remove(&high), Some(2));
     assert_eq!(rt; entries(&map, alloc)?.len(), 0);
     Ok(())
@@ -380,7 +395,7 @@ fn both_maps_answer_as_a_plain_list(rt: HostRuntime) -> Result<(), Fail> {
 // Growths that a run by hand refuses one after the other (`rt try --test --fail-alloc 1..`): each
 // leaves the map as it was, and the same call is then answered.
 
-const GROWING: [(u32, u8, u32); 9] = [
+const FIRST_KEYS: [(u32, u8, u32); 9] = [
     (0x0A01_0000, 16, 0),
     (0x0A01_0000, 24, 0),
     (0x0A02_0000, 16, 0),
@@ -392,11 +407,25 @@ const GROWING: [(u32, u8, u32); 9] = [
     (0x0A02_0000, 16, 4),
 ];
 
+// More keys than a leaf of the trie has, so that leaves become forks.
+const GROWING: usize = 80;
+
+// The key of a place: after those of the table, prefixes of 24 bits by turns in two halves of a network.
+fn growing(i: usize) -> Result<RouteKey, &'static str> {
+    match FIRST_KEYS.get(i) {
+        Some((addr, len, id)) => key(*addr, *len, *id),
+        None => {
+            let place = (i % GROWING) as u32;
+            key(0x0B00_0000 + place % 2 * 0x0080_0000 + place * 0x100, 24, 0)
+        }
+    }
+}
+
 // The first `count` keys have their places as values, and no other key has one.
 fn expect_first<M: PrefixMap<usize>>(rt: &impl Abort, map: &M, count: usize) -> Result<(), Fail> {
     assert_eq!(rt; map.len(), count);
-    for (i, (addr, len, id)) in GROWING.iter().enumerate() {
-        let value = map.get(&key(*addr, *len, *id)?).copied();
+    for i in 0..GROWING {
+        let value = map.get(&growing(i)?).copied();
         assert_eq!(rt; value, if i < count { Some(i) } else { None });
     }
     Ok(())
@@ -404,8 +433,8 @@ fn expect_first<M: PrefixMap<usize>>(rt: &impl Abort, map: &M, count: usize) -> 
 
 fn grow<M: PrefixMap<usize> + Drop>(rt: &impl Abort, alloc: Global) -> Result<(), Fail> {
     let mut map: M = PrefixMap::new(alloc);
-    for (i, (addr, len, id)) in GROWING.iter().enumerate() {
-        let new = key(*addr, *len, *id)?;
+    for i in 0..GROWING {
+        let new = growing(i)?;
         if map.insert(alloc, new, i).is_err() {
             expect_first(rt, &map, i)?;
             assert_eq!(rt; map.insert(alloc, new, i)?, None);
@@ -413,12 +442,12 @@ fn grow<M: PrefixMap<usize> + Drop>(rt: &impl Abort, alloc: Global) -> Result<()
         expect_first(rt, &map, i + 1)?;
     }
     if map.entries(alloc).is_err() {
-        expect_first(rt, &map, GROWING.len())?;
-        assert_eq!(rt; map.entries(alloc)?.len(), GROWING.len());
+        expect_first(rt, &map, GROWING)?;
+        assert_eq!(rt; map.entries(alloc)?.len(), GROWING);
     }
     let prefix = key(0x0A02_0000, 16, 0)?.prefix;
     if map.paths(alloc, &prefix).is_err() {
-        expect_first(rt, &map, GROWING.len())?;
+        expect_first(rt, &map, GROWING)?;
         assert_eq!(rt; map.paths(alloc, &prefix)?.len(), 4);
     }
     Ok(())
