@@ -19,7 +19,7 @@ use Rattle.adj_rib.specs.Steps.{break, announce, ESTABLISHED, is_up, reading_ste
 use Rattle.adj_rib.specs.Sessions.{session_of}
 use Rattle.adj_rib.proofs.TableLaws.{find-table_of}
 use Rattle.adj_rib.proofs.HeldPairs.{Holds-from_route_at}
-use Rattle.bgp_replay.specs.Premises.{AreSound, AreWithin}
+use Rattle.bgp_replay.specs.Premises.{AreSound, AreWithin, AreHonest}
 use Rattle.bgp_replay.specs.Headline.{RunState, IsAnnouncedWhileUp, IsStopped, StopsWithCause, Completes}
 
 -- ---- routes
@@ -83,13 +83,13 @@ if_err : {T E : Type 0} {P Q : E → Type 0} (result : Result T E) → ((e : E) 
 if_err (Ok x) f h = tt
 if_err (Err e) f h = f e h
 
-only_memory : (run : RunState) (files : List (List ℕ)) (error : ReplayError) → AreSound run.readers run.readers_after run.writer run.writer_after → AreWithin run.plan.max_records files → IsStopped run files error → error ≡ errors.Memory
-only_memory run files (errors.Read file) sound within h = absurd (sound.readers_sound file h.0 h.1)
-only_memory run files errors.Write sound within h = absurd (sound.writer_sound h.0)
-only_memory run files errors.Memory sound within h = refl
-only_memory run files errors.Records sound within h = absurd (h.0 within)
-only_memory run files errors.Spent sound within h = absurd h
+only_memory : (run : RunState) (files : List (List ℕ)) (error : ReplayError) → AreHonest run.told run.held files → AreSound run.readers run.readers_after run.writer run.writer_after → AreWithin run.plan.max_records files → IsStopped run error → error ≡ errors.Memory
+only_memory run files (errors.Read file) honest sound within h = absurd (sound.readers_sound file h.0 h.1)
+only_memory run files errors.Write honest sound within h = absurd (sound.writer_sound h.0)
+only_memory run files errors.Memory honest sound within h = refl
+only_memory run files errors.Records honest sound within h = absurd (h.0 files honest within)
+only_memory run files errors.Spent honest sound within h = absurd h
 
 -- a run that stops with a cause completes where there is none but want of memory
 pub completes_without_cause : (run : RunState) → StopsWithCause run → Completes run
-completes_without_cause run causes = λ files honest sound within. if_err run.result (λ error h. only_memory run files error sound within h) (causes files honest)
+completes_without_cause run causes = λ files honest sound within. if_err run.result (λ error h. only_memory run files error honest sound within h) causes

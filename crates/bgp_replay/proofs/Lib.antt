@@ -2,3 +2,8 @@ pub mod Numbers
 pub mod Dumps
 pub mod Examples
 pub mod HeadlineLaws
+pub mod ReportLaws
+pub mod FilesTaken
+pub mod RunLaws
+pub mod LanesTaken
+pub mod RoundsTaken

@@ -1,4 +1,4 @@
--- The aim: what a run that completes has done. These are statements that no contract names yet, so they are not proved of `run`.
+-- The headline: what a run that completes has done, and why one doesn't. The contract of `run` names these.
 use Rattle.std.specs.Prelude.{◌≡◌, ℕ, ◌<◌, true, List, ◌∷◌, ◌++◌, Option, Result, IfOk, IfErr, length, slice_index}
 use Rattle.std.specs.List.{Contains}
 use Rattle.std.specs.Io.KnownBytes.{Appends, Keeps}
@@ -51,17 +51,18 @@ pub record IsAnnouncedWhileUp (units : List ReplayUnit) (key : RouteKey) (route 
 
 -- ---- a run that doesn't
 
--- why it stops, and what it leaves: nothing written, or a front of the report
-abbrev pub IsStopped : RunState → List (List ℕ) → ReplayError → Type 0
-IsStopped run files (errors.Read file) = (file < length run.readers) × HasFailed (slice_index run.readers file) (slice_index run.readers_after file) × Keeps run.held run.held_after
-IsStopped run files errors.Write = HasFailed run.writer run.writer_after × WritesFront run.held run.held_after (report run.request run.plan.until files)
-IsStopped run files errors.Memory = Keeps run.held run.held_after
-IsStopped run files errors.Records = (AreWithin run.plan.max_records files → ⊥) × Keeps run.held run.held_after
-IsStopped run files errors.Spent = ⊥
+-- Why it stops, and what it leaves: nothing written, or a front of the report. What is said of the bytes is said of honest devices;
+-- that a device failed is said of all.
+abbrev pub IsStopped : RunState → ReplayError → Type 0
+IsStopped run (errors.Read file) = (file < length run.readers) × HasFailed (slice_index run.readers file) (slice_index run.readers_after file) × Keeps run.held run.held_after
+IsStopped run errors.Write = HasFailed run.writer run.writer_after × ((files : List (List ℕ)) → AreHonest run.told run.held files → WritesFront run.held run.held_after (report run.request run.plan.until files))
+IsStopped run errors.Memory = Keeps run.held run.held_after
+IsStopped run errors.Records = ((files : List (List ℕ)) → AreHonest run.told run.held files → AreWithin run.plan.max_records files → ⊥) × Keeps run.held run.held_after
+IsStopped run errors.Spent = ⊥
 
 -- A run that answers an error has its cause.
 abbrev pub StopsWithCause : RunState → Type 0
-StopsWithCause run = (files : List (List ℕ)) → AreHonest run.told run.held files → IfErr run.result (IsStopped run files)
+StopsWithCause run = IfErr run.result (IsStopped run)
 
 -- With sound devices and records within the limit a run completes, unless it wants memory.
 abbrev pub Completes : RunState → Type 0

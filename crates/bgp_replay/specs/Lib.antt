@@ -2,3 +2,4 @@ pub mod Statuses
 pub mod Reports
 pub mod Premises
 pub mod Headline
+pub mod Replays

@@ -6,8 +6,8 @@ ghost use Rattle.lane_deal.specs.Plans.{IsPlan};
 mod address;
 mod input;
 mod replay;
+mod replayed;
 mod request;
-mod seats;
 mod summary;
 #[cfg(test)]
 mod tests;

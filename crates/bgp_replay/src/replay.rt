@@ -1,21 +1,27 @@
 //! The replay of dumps into a report.
 
-ghost use Rattle.std.specs.Prelude.{◌≡◌, length};
+ghost use Rattle.std.specs.Prelude.{◌≡◌, ◌⊎◌, Err, IfErr, OnOk, map};
+ghost use Rattle.std.specs.Io.KnownBytes.{Appends};
+ghost use Rattle.mrt_frame.specs.Devices.{HasFailed};
+ghost use Rattle.mrt_frame.specs.Writes.{WritesFront};
+ghost use Rattle.mrt_frame.specs.declared.error.ReplayError.TheVariants as errors;
 ghost use Rattle.lane_deal.specs.Plans.{IsPlan};
+ghost use Rattle.bgp_replay.specs.Headline.{Headline, StopsWithCause, Completes};
+ghost use Rattle.bgp_replay.specs.Reports.{lines_of};
 
+use crate::replayed::replay;
 use crate::request::Request;
-use crate::seats::Seats;
 use crate::summary::Summary;
 use adj_rib::SharedRoute;
 use bgp_prefix::PrefixMap;
 use lane_deal::{Dealing, Gate, Plan};
-use mrt_body::{Found, Payload, Unit, Units};
 use mrt_frame::{ReplayError, Sink, Source};
 use rib_report::{
-    Tables, churn, collect, faults, matches, origins, visibility, write_churn, write_faults,
-    write_origins, write_rows, write_tables, write_visibility,
+    Tables, churn, faults, matches, origins, visibility, write_churn, write_faults, write_origins,
+    write_rows, write_tables, write_visibility,
 };
 use std::alloc::Global;
+use std::marker::Sync;
 use std::mem;
 use std::thread::Threads;
 
@@ -25,7 +31,7 @@ use std::thread::Threads;
 /// `Memory` and `Records` leave nothing written; `Write` leaves a front of the report. Workers, ring,
 /// batch and dealing have no part in what is written.
 pub fn run<M, T, R, W, D, G>(
-    _rt: &T,
+    rt: &T,
     alloc: Global,
     files: &mut [R],
     request: &Request,
@@ -35,108 +41,76 @@ pub fn run<M, T, R, W, D, G>(
     out: &mut W,
 ) -> Result<Summary, ReplayError>
 where
-    M: PrefixMap<SharedRoute> + Drop,
-    T: Threads,
-    R: Source,
+    M: PrefixMap<SharedRoute> + Send + Drop,
+    T: Threads + Sync,
+    R: Source + Send,
     W: Sink,
-    D: Dealing,
+    D: Dealing + Sync,
     G: Gate,
     requires { IsPlan plan.now }
+    // A run that completes wrote the report on the files' bytes, byte for byte, and counted them.
+    ensures headline { Headline (record {
+      request = request.now;
+      plan = plan.now;
+      told = map R.remaining files.old;
+      held = W.contents out.old;
+      held_after = W.contents out.new;
+      readers = map R.failure_count files.old;
+      readers_after = map R.failure_count files.new;
+      writer = W.failure_count out.old;
+      writer_after = W.failure_count out.new;
+      result = result;
+    }) }
+    // An error has its cause, and leaves nothing written, or a front of the report.
+    ensures cause { StopsWithCause (record {
+      request = request.now;
+      plan = plan.now;
+      told = map R.remaining files.old;
+      held = W.contents out.old;
+      held_after = W.contents out.new;
+      readers = map R.failure_count files.old;
+      readers_after = map R.failure_count files.new;
+      writer = W.failure_count out.old;
+      writer_after = W.failure_count out.new;
+      result = result;
+    }) }
+    // Any error but that of the writer leaves it untouched.
+    ensures untouched { IfErr result (λ e. (e ≡ errors.Write → ⊥) → out.new ≡ out.old) }
+    // With sound devices and records within the limit it completes, unless it wants memory.
+    ensures completes { Completes (record {
+      request = request.now;
+      plan = plan.now;
+      told = map R.remaining files.old;
+      held = W.contents out.old;
+      held_after = W.contents out.new;
+      readers = map R.failure_count files.old;
+      readers_after = map R.failure_count files.new;
+      writer = W.failure_count out.old;
+      writer_after = W.failure_count out.new;
+      result = result;
+    }) }
 {
-    let mut units = Units::new(files.len(), plan.max_records, plan.until);
-    let mut seats = Seats::<M>::new(alloc, plan.workers)?;
-    replay_all(alloc, &mut units, files, &mut seats, dealing, gate)?;
-    let replayed = seats.units();
-    let tables = match collect(alloc, seats.into_gathered(alloc)?) {
-        Ok(tables) => tables,
-        Err(_) => return Err(ReplayError::Memory),
+    let replayed = match replay::<M, T, R, D, G>(rt, alloc, files, plan, dealing, gate) {
+        Ok(replayed) => replayed,
+        Err(error) => return Err(error),
     };
-    write_report(alloc, request, &tables, out)?;
+    if let Err(error) = write_report(alloc, request, &replayed.tables, out) {
+        return Err(error);
+    }
     if out.flush_all().is_err() {
         return Err(ReplayError::Write);
     }
     let summary = Summary {
-        records: units.records(),
-        units: replayed,
-        aside: units.aside(),
-        damaged: tables.damaged(),
-        rounds: 1,
-        peers: tables.peers(),
+        records: replayed.records,
+        units: replayed.units,
+        aside: replayed.aside,
+        damaged: replayed.tables.damaged(),
+        rounds: replayed.rounds,
+        peers: replayed.tables.peers(),
     };
     // Tables aren't taken apart route by route, since the process ends after the run (docs/DECISIONS.md).
-    mem::forget(tables);
+    mem::forget(replayed);
     Ok(summary)
-}
-
-/// How many RIB entries at most are gathered, so that what they need is read before the first is taken.
-const NEAR_ENTRIES: usize = 32;
-
-/// Gives every unit and refusal of the files to the seats.
-fn replay_all<M, R, D, G>(
-    alloc: Global,
-    units: &mut Units,
-    files: &mut [R],
-    seats: &mut Seats<M>,
-    dealing: &D,
-    gate: &G,
-) -> Result<(), ReplayError>
-where
-    M: PrefixMap<SharedRoute> + Drop,
-    R: Source,
-    D: Dealing,
-    G: Gate,
-    requires { length files.old ≡ units.old.count }
-{
-    let mut near = Vec::with_capacity(alloc, NEAR_ENTRIES)?;
-    let mut wanted = 1;
-    while let Some(found) = units.next(alloc, files)? {
-        match found {
-            Found::Unit(unit) => {
-                if is_entry(&unit) {
-                    near.push(unit)?;
-                } else {
-                    take_near(alloc, &mut near, seats, dealing, gate)?;
-                    seats.take(alloc, &unit, dealing, gate)?;
-                }
-            }
-            Found::Refused(damage) => seats.refuse(damage)?,
-        }
-        if near.len() >= wanted {
-            wanted = take_near(alloc, &mut near, seats, dealing, gate)?;
-        }
-    }
-    take_near(alloc, &mut near, seats, dealing, gate)?;
-    Ok(())
-}
-
-/// Whether a unit is a RIB entry.
-fn is_entry(unit: &Unit) -> bool {
-    match &unit.payload {
-        Payload::Entry { .. } => true,
-        _ => false,
-    }
-}
-
-/// Gives RIB entries to the seats in their order, leaves none, and answers how many to gather for the
-/// next time: more than one where what they need lies apart in memory.
-fn take_near<M, D, G>(
-    alloc: Global,
-    units: &mut Vec<Unit>,
-    seats: &mut Seats<M>,
-    dealing: &D,
-    gate: &G,
-) -> Result<usize, ReplayError>
-where
-    M: PrefixMap<SharedRoute> + Drop,
-    D: Dealing,
-    G: Gate,
-{
-    if units.is_empty() {
-        return Ok(1);
-    }
-    let shared = seats.take_all(alloc, units.as_slice(), dealing, gate)?;
-    units.clear();
-    Ok(if shared { NEAR_ENTRIES } else { 1 })
 }
 
 /// Writes the report that is asked for.
@@ -145,7 +119,14 @@ fn write_report<M: PrefixMap<SharedRoute> + Drop, W: Sink>(
     request: &Request,
     tables: &Tables<M>,
     out: &mut W,
-) -> Result<(), ReplayError> {
+) -> Result<(), ReplayError>
+    ensures ok { OnOk result (Appends (W.contents out.old) (W.contents out.new) (lines_of request.now tables.now)) }
+    ensures sound { OnOk result (W.failure_count out.new ≡ W.failure_count out.old) }
+    ensures errors { IfErr result (λ e. (e ≡ errors.Memory) ⊎ (e ≡ errors.Write)) }
+    ensures untouched { result ≡ Err errors.Memory → out.new ≡ out.old }
+    ensures front { result ≡ Err errors.Write → WritesFront (W.contents out.old) (W.contents out.new) (lines_of request.now tables.now) }
+    ensures risen { result ≡ Err errors.Write → HasFailed (W.failure_count out.old) (W.failure_count out.new) }
+{
     match request {
         Request::Tables => write_tables(alloc, out, tables),
         Request::Visibility => write_visibility(out, visibility(alloc, tables)?.as_slice()),

@@ -11,7 +11,7 @@ use Rattle.lane_deal.specs.Lanes.{number_of_peer}
 use Rattle.lane_deal.proofs.Peers.{peer_itself, is_seen, new_peer, new_peers, peers_of-append, other_peer}
 
 -- a peer that differs from these is behind them
-place_behind : (ps : List PeerKey) (q : PeerKey) (rest : List PeerKey) → list_any (peer_eq q) ps ≡ false → position_or_len (peer_eq q) (ps ++ q ∷ rest) ≡ length ps
+pub place_behind : (ps : List PeerKey) (q : PeerKey) (rest : List PeerKey) → list_any (peer_eq q) ps ≡ false → position_or_len (peer_eq q) (ps ++ q ∷ rest) ≡ length ps
 place_behind [] q rest e = ap (λ b. cond (not b) (1 + prefix_len (λ x. not (peer_eq q x)) rest) 0) (peer_itself q)
 place_behind (p ∷ ps) q rest e =
     elim (peer_eq q p) as (λ b. (b || list_any (peer_eq q) ps) ≡ false → cond (not b) (1 + prefix_len (λ x. not (peer_eq q x)) (ps ++ q ∷ rest)) 0 ≡ length (p ∷ ps)) [
@@ -33,7 +33,7 @@ unseen_from before (x ∷ xs) q e =
           ]
     ] refl e
 
-unlisted : (units : List ReplayUnit) (q : PeerKey) → is_seen units q ≡ false → list_any (peer_eq q) (peers_of units) ≡ false
+pub unlisted : (units : List ReplayUnit) (q : PeerKey) → is_seen units q ≡ false → list_any (peer_eq q) (peers_of units) ≡ false
 unfolding peers_of
 unlisted units q e = unseen_from [] units q e
 
@@ -68,7 +68,7 @@ module _ {S : Type 0} (seat : ℕ → PeerKey → S) where
 
 -- ---- numbers that rise
 
-numbers_of_places : {X : Type 0} (n : ℕ) (xs : List X) → map (λ e. e.0) (enumerate_from n xs) ≡ range_with_len n (length xs)
+pub numbers_of_places : {X : Type 0} (n : ℕ) (xs : List X) → map (λ e. e.0) (enumerate_from n xs) ≡ range_with_len n (length xs)
 numbers_of_places n [] = refl
 numbers_of_places n (x ∷ xs) = ap (λ l. n ∷ l) (numbers_of_places (n + 1) xs) ∙ ap (range_with_len n) {x = suc (length xs)} {y = length (x ∷ xs)} (omega arith)
 

@@ -98,7 +98,7 @@ listed_peer units q seen = listed_when_new [] units q seen refl
 
 -- ---- numbers
 
-first_place : {X : Type 0} (p : X → Bool) (xs ys : List X) → list_any p xs ≡ true → position_or_len p (xs ++ ys) ≡ position_or_len p xs
+pub first_place : {X : Type 0} (p : X → Bool) (xs ys : List X) → list_any p xs ≡ true → position_or_len p (xs ++ ys) ≡ position_or_len p xs
 first_place p [] ys e = cc
 first_place p (x ∷ xs) ys e =
     elim (p x) as (λ b. (b || list_any p xs) ≡ true → cond (not b) (1 + prefix_len (λ x. not (p x)) (xs ++ ys)) 0 ≡ cond (not b) (1 + prefix_len (λ x. not (p x)) xs) 0) [

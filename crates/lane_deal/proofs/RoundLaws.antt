@@ -19,10 +19,10 @@ use Rattle.lane_deal.proofs.Classes.{of_class, by_class, by_class-IsPermutation,
 
 -- ---- how many units wait
 
-abbrev waiting_at : LaneState → ℕ
+abbrev pub waiting_at : LaneState → ℕ
 waiting_at lane = length lane.ring.sent
 
-abbrev waiting_in : ReplayerState → ℕ
+abbrev pub waiting_in : ReplayerState → ℕ
 waiting_in r = sum_by waiting_at r.lanes
 
 some_is : {A : Type 0} (x y : A) → Some x ≡ Some y → x ≡ y
@@ -34,7 +34,7 @@ one_waits [] lane state e = cc
 one_waits (x ∷ lanes) zero state e = omega (arith, sum_by-cons waiting_at x lanes, ap waiting_at (some_is x state e))
 one_waits (x ∷ lanes) (suc lane) state e = omega (arith, sum_by-cons waiting_at x lanes, one_waits lanes lane state e)
 
-none_waits : (lanes : List LaneState) → ((lane : ℕ) (state : LaneState) → slice_get lanes lane ≡ Some state → state.ring.sent ≡ []) → sum_by waiting_at lanes ≡ 0
+pub none_waits : (lanes : List LaneState) → ((lane : ℕ) (state : LaneState) → slice_get lanes lane ≡ Some state → state.ring.sent ≡ []) → sum_by waiting_at lanes ≡ 0
 none_waits [] h = refl
 none_waits (x ∷ lanes) h = omega (arith, sum_by-cons waiting_at x lanes, ap length (h 0 x refl), none_waits lanes (λ lane state e. h (suc lane) state e))
 
@@ -52,11 +52,11 @@ no_more_wait class units (x ∷ lanes) first h =
     subst (λ n. sum_by waiting_at (x ∷ lanes) ≤ length (by_class class units first n)) {x = suc (length lanes)} {y = length (x ∷ lanes)} (omega arith) both
 
 module _ (dealing : ℕ → ℕ → ℕ) where
-  abbrev AreBelow : ReplayerState → Type 0
+  abbrev pub AreBelow : ReplayerState → Type 0
   AreBelow r = (number : ℕ) → dealing number (length r.lanes) < length r.lanes
 
   -- what waits after a round was dealt in it
-  waits_after : (capacity : ℕ) (old new : ReplayerState) (coming left done : List Found) → AreBelow new → PlaysRound dealing capacity old new coming left done → waiting_in new ≤ length (filter_map unit_of done)
+  pub waits_after : (capacity : ℕ) (old new : ReplayerState) (coming left done : List Found) → AreBelow new → PlaysRound dealing capacity old new coming left done → waiting_in new ≤ length (filter_map unit_of done)
   waits_after capacity old new coming left done below p =
       let units = filter_map unit_of done in
       let class : ReplayUnit → ℕ = lane_in dealing new in
@@ -67,7 +67,7 @@ module _ (dealing : ℕ → ℕ → ℕ) where
       omega (arith, within, all)
 
   -- a blocked round filled a ring
-  fills : (capacity : ℕ) (old new : ReplayerState) (dealt : List ReplayUnit) → IsBlocked dealing capacity old new dealt → capacity ≤ waiting_in old + length dealt
+  pub fills : (capacity : ℕ) (old new : ReplayerState) (dealt : List ReplayUnit) → IsBlocked dealing capacity old new dealt → capacity ≤ waiting_in old + length dealt
   fills capacity old new dealt h =
       let lane = lane_in dealing new h.0 in
       omega (arith, h.4, one_waits old.lanes lane h.1 h.3, count_by-le-length (λ unit. eqb (lane_in dealing new unit) lane) dealt)

@@ -12,6 +12,7 @@ use Rattle.adj_rib.specs.Sessions.{session_of}
 use Rattle.rib_report.specs.Peers.{peers_of, units_of_peer}
 use Rattle.rib_report.specs.Tables.{Seat, tables_of}
 use Rattle.lane_deal.specs.Lanes.{number_of_peer, lane_units, seats_of_lane}
+use Rattle.lane_deal.specs.Numbers.{numbered}
 use Rattle.lane_deal.specs.Replayers.{LaneState, ReplayerState, LaneStandsFor, ReplayerStandsFor}
 use Rattle.lane_deal.specs.Rounds.{IsSettled}
 use Rattle.lane_deal.proofs.Peers.{is_seen, new_peers, all_more, numbers_stay, peers_of_chosen}
@@ -25,16 +26,16 @@ all_new P before (x ∷ xs) h =
     let later = all_new P (before ++ x ∷ []) xs h.1 in
     elim (is_seen before x.peer) as (λ b. AllByRecursion P ((if b then [] else x.peer ∷ []) ++ new_peers (before ++ x ∷ []) xs)) [ true ↦ later | false ↦ (h.0, later) ]
 
-all_peers : (P : PeerKey → Type 0) (units : List ReplayUnit) → AllByRecursion (λ u. P u.peer) units → AllByRecursion P (peers_of units)
+pub all_peers : (P : PeerKey → Type 0) (units : List ReplayUnit) → AllByRecursion (λ u. P u.peer) units → AllByRecursion P (peers_of units)
 unfolding peers_of
 all_peers P units h = all_new P [] units h
 
-all_filtered : {X : Type 0} (P : X → Type 0) (p : X → Bool) (xs : List X) → AllByRecursion P xs → AllByRecursion P (filter p xs)
+pub all_filtered : {X : Type 0} (P : X → Type 0) (p : X → Bool) (xs : List X) → AllByRecursion P xs → AllByRecursion P (filter p xs)
 all_filtered P p [] h = tt
 all_filtered P p (x ∷ xs) h =
     elim (p x) as (λ b. AllByRecursion P (cond b (x ∷ filter p xs) (filter p xs))) [ true ↦ (h.0, all_filtered P p xs h.1) | false ↦ all_filtered P p xs h.1 ]
 
-map_alike : {X Y : Type 0} (f g : X → Y) (xs : List X) → AllByRecursion (λ x. f x ≡ g x) xs → map f xs ≡ map g xs
+pub map_alike : {X Y : Type 0} (f g : X → Y) (xs : List X) → AllByRecursion (λ x. f x ≡ g x) xs → map f xs ≡ map g xs
 map_alike f g [] h = refl
 map_alike f g (x ∷ xs) h = ap (λ y. y ∷ map f xs) h.0 ∙ ap (λ l. g x ∷ l) (map_alike f g xs h.1)
 
@@ -61,11 +62,16 @@ seats_together seats (x ∷ lanes) first h =
     (IsPermutation-append_left rest (seats first) x.seats here) (IsPermutation-append_right x.seats rest (flat_map (λ state. state.seats) lanes) others) in
     subst (λ n. IsPermutation (flat_map seats (range_with_len first n)) (x.seats ++ flat_map (λ state. state.seats) lanes)) {x = suc (length lanes)} {y = length (x ∷ lanes)} (omega arith) both
 
+none_numbered : (keys : List PeerKey) (units : List ReplayUnit) → numbered keys units ≡ [] → units ≡ []
+none_numbered keys [] e = refl
+none_numbered keys (u ∷ units) e = absurd (cc)
+
 -- where nothing waits, a lane's sessions stand for all that it was dealt
 settled_lane : (capacity : ℕ) (all own : List ReplayUnit) (state : LaneState) → LaneStandsFor capacity all own state → state.ring.sent ≡ [] → IsPermutation (seats_of_lane all own) state.seats
 settled_lane capacity all own state stands empty =
-    let whole : stands.taken ≡ own = sym (append-nil stands.taken) ∙ ap (λ l. stands.taken ++ l) (sym empty ∙ stands.ring.sent) ∙ stands.whole in
-    subst (λ l. IsPermutation (seats_of_lane all l) state.seats) whole stands.seats
+    let none : stands.waiting ≡ [] = none_numbered (peers_of all) stands.waiting (sym stands.ring.sent ∙ empty) in
+    let whole : stands.taken ≡ own = sym (append-nil stands.taken) ∙ ap (λ l. stands.taken ++ l) (sym none) ∙ stands.whole in
+    subst (IsPermutation (seats_of_lane all own)) (ap (seats_of_lane all) (sym whole) ∙ stands.seats) (IsPermutation-refl (seats_of_lane all own))
 
 pub settled_seats : (dealing : ℕ → ℕ → ℕ) (capacity : ℕ) (units : List ReplayUnit) (refused : List Damage) (r : ReplayerState) → ((number : ℕ) → dealing number (length r.lanes) < length r.lanes)
     → ReplayerStandsFor dealing capacity units refused r → IsSettled r → IsPermutation (flat_map (λ lane. lane.seats) r.lanes) (tables_of units refused).seats

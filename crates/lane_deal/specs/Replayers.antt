@@ -1,50 +1,53 @@
 -- What a replayer shows between two rounds, and the units and refusals that it stands for.
-use Rattle.std.specs.Prelude.{◌≡◌, ℕ, ◌+◌, ◌≤◌, Bool, false, List, [], ◌++◌, length, Option, Some, option_to_list, slice_get, IsPermutation}
+use Rattle.std.specs.Prelude.{◌≡◌, ℕ, ◌+◌, ◌-◌, ◌^◌, ◌≤◌, min, Bool, false, List, [], ◌++◌, length, Option, Some, option_to_list, slice_get}
 use Rattle.mrt_body.specs.declared.unit.Damage.{Damage}
 use Rattle.mrt_body.specs.declared.unit.PeerKey.{PeerKey}
 use Rattle.mrt_body.specs.declared.unit.Unit.{Unit as ReplayUnit}
 use Rattle.rib_report.specs.Peers.{peers_of}
 use Rattle.rib_report.specs.Tables.{Seat}
+use Rattle.lane_deal.specs.declared.numbered.Numbered.{Numbered}
 use Rattle.lane_deal.specs.Lanes.{lane_units, seats_of_lane}
+use Rattle.lane_deal.specs.Numbers.{numbered}
 
 -- What the ends of a lane's ring tell: the producer's, what it sent and how many slots it knows as free; the consumer's, what it
--- received and what it knows to be waiting.
+-- received and what it knows to be waiting. Each unit goes with its peer's number.
 pub record RingState : Type 0 where
-  pub sent : List ReplayUnit
+  pub sent : List Numbered
   pub free : ℕ
-  pub received : List ReplayUnit
-  pub known : List ReplayUnit
+  pub received : List Numbered
+  pub known : List Numbered
 
 -- a lane's ring, and the sessions of its worker
 pub record LaneState : Type 0 where
   pub ring : RingState
   pub seats : List Seat
 
--- the lanes, the peers by number, the unit that came back from a full ring, and the refusals
+-- the lanes, the peers by number, the unit that came back from a full ring, the refusals, and how many units were dealt
 pub record ReplayerState : Type 0 where
   pub lanes : List LaneState
   pub peers : List PeerKey
   pub kept : Option ReplayUnit
   pub refused : List Damage
+  pub dealt : ℕ
   pub spent : Bool
 
 -- These units wait in a ring of this capacity: all that was sent, none of it received and all of it known to wait. All other slots are
 -- known as free.
-pub record WaitIn (capacity : ℕ) (waiting : List ReplayUnit) (ring : RingState) : Type 0 where
+pub record WaitIn (capacity : ℕ) (waiting : List Numbered) (ring : RingState) : Type 0 where
   pub sent : ring.sent ≡ waiting
   pub received : ring.received ≡ []
   pub known : ring.known ≡ waiting
   pub room : length waiting ≤ capacity
   pub free : capacity ≤ length waiting + ring.free
 
--- These units were dealt to the lane, where all peers are numbered by `all`: some it took, and its worker's sessions stand for them; the
--- others wait in its ring.
+-- These units were dealt to the lane, where all peers are numbered by `all`: some it took, and its worker's sessions stand for them, in
+-- the order in which their peers came; the others wait in its ring.
 pub record LaneStandsFor (capacity : ℕ) (all dealt : List ReplayUnit) (lane : LaneState) : Type 0 where
   pub taken : List ReplayUnit
   pub waiting : List ReplayUnit
   pub whole : taken ++ waiting ≡ dealt
-  pub ring : WaitIn capacity waiting lane.ring
-  pub seats : IsPermutation (seats_of_lane all taken) lane.seats
+  pub ring : WaitIn capacity (numbered (peers_of all) waiting) lane.ring
+  pub seats : seats_of_lane all taken ≡ lane.seats
 
 -- These units were dealt and these refusals listed. The dealing gives the lane of a peer's number, of so many lanes; the kept unit's peer
 -- has its number already.
@@ -54,3 +57,10 @@ pub record ReplayerStandsFor (dealing : ℕ → ℕ → ℕ) (capacity : ℕ) (u
       → LaneStandsFor capacity (units ++ option_to_list r.kept) (lane_units (λ number. dealing number (length r.lanes)) units lane) state
   pub peers : r.peers ≡ peers_of (units ++ option_to_list r.kept)
   pub refused_kept : r.refused ≡ refused
+  pub dealt_counted : r.dealt ≡ min (length units) (2 ^ 64 - 1)
+
+-- There are units that were dealt, and refusals that were listed.
+pub record StandsForSome (dealing : ℕ → ℕ → ℕ) (capacity : ℕ) (r : ReplayerState) : Type 0 where
+  pub units : List ReplayUnit
+  pub refused : List Damage
+  pub stands : ReplayerStandsFor dealing capacity units refused r

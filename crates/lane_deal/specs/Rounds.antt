@@ -1,20 +1,16 @@
 -- What a round does between two states of a replayer, and why it stops dealing.
-use Rattle.std.specs.Prelude.{◌≡◌, ℕ, ◌+◌, ◌≤◌, List, [], ◌∷◌, ◌++◌, length, map, Option, Some, None, option_to_list, slice_get, ◌==◌}
+use Rattle.std.specs.Prelude.{◌≡◌, ℕ, ◌+◌, ◌≤◌, List, [], ◌∷◌, ◌++◌, length, Some, None, slice_get, ◌==◌}
 use Rattle.std.specs.List.{filter_map, flat_map, count_by, position_or_len}
 use Rattle.mrt_body.specs.declared.unit.Damage.{Damage}
 use Rattle.mrt_body.specs.declared.unit.Found.{Found}
-use Rattle.mrt_body.specs.declared.unit.Found.TheVariants as found
 use Rattle.mrt_body.specs.declared.unit.Unit.{Unit as ReplayUnit}
 use Rattle.mrt_body.specs.Units.{unit_of, damage_of}
 use Rattle.rib_report.specs.Peers.{peer_eq}
 use Rattle.lane_deal.specs.declared.plan.Plan.{Plan}
 use Rattle.lane_deal.specs.declared.step.Step.{Step}
 use Rattle.lane_deal.specs.declared.step.Step.TheVariants.{Blocked, FullBatch, End}
+use Rattle.lane_deal.specs.Kept.{to_deal}
 use Rattle.lane_deal.specs.Replayers.{LaneState, ReplayerState, ReplayerStandsFor}
-
--- what is to be dealt and listed: the kept unit, if there is one, and then what the files still give
-abbrev pub to_deal : Option ReplayUnit → List Found → List Found
-to_deal kept coming = map (λ unit. found.Unit unit) (option_to_list kept) ++ coming
 
 -- the lane of a unit, by the numbers that a replayer gave
 abbrev pub lane_in : (ℕ → ℕ → ℕ) → ReplayerState → ReplayUnit → ℕ

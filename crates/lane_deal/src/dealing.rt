@@ -16,6 +16,17 @@ pub trait Dealing {
     ghost is_below: { (d : Self) (peer workers : ℕ) → 0 < workers → lane_of d peer workers < workers };
 }
 
+/// A dealing that is lent.
+impl<D: Dealing> Dealing for &D {
+    ghost lane_of = { λ d peer workers. D.lane_of d.now peer workers };
+
+    fn lane(&self, peer: usize, workers: usize) -> usize {
+        (**self).lane(peer, workers)
+    }
+
+    ghost is_below = { λ d peer workers h. D.is_below d.now peer workers h };
+}
+
 /// Peers go to lanes in turn: `peer % workers`.
 #[derive(Clone, Copy, Debug)]
 pub struct ByTurns;

@@ -1,12 +1,25 @@
 //! How a replay is shared among workers: plans, the dealing of peers to lanes, and gates.
 #![tactic(auto)]
 
+mod collecting;
+mod dealer;
 mod dealing;
+mod feed;
 mod gate;
+mod lane;
 mod lanes;
+mod numbered;
+mod peer_numbers;
 mod plan;
+mod replayer;
+mod round;
+mod schedule;
+mod seats;
+mod sessions;
+mod state;
 mod step;
 mod turn;
+mod worker;
 
 pub use dealing::{ByBlocks, ByList, ByTurns, Dealing};
 pub use gate::{Gate, NoGate};
@@ -15,6 +28,8 @@ pub use lanes::{
     settled_lanes_make_tables,
 };
 pub use plan::Plan;
+pub use replayer::Replayer;
+pub use schedule::{Lanes, run_schedule};
 pub use step::Step;
 pub use turn::Turn;
 

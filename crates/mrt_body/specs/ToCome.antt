@@ -89,6 +89,16 @@ steps_left u = (u.max_records - u.records) + (u.count - u.file)
 abbrev pub answers_left : UnitsState → ℕ
 answers_left u = (u.max_records - u.records) * 65535 + length u.pending + (u.count - u.file)
 
+-- at most so many units can still come, whatever the readers give: those that pend, and 65,535 of each record
+abbrev pub units_left : UnitsState → ℕ
+units_left u = (u.max_records - u.records) * 65535 + length u.pending
+
+-- one for a unit, none for a refusal
+abbrev pub unit_count : Option Found → ℕ
+unit_count None = 0
+unit_count (Some (found.Unit unit)) = 1
+unit_count (Some (found.Refused damage)) = 0
+
 -- how a reading stands after an error
 abbrev pub standing_after : ReplayError → Standing
 standing_after (errors.Read file) = FailedRead

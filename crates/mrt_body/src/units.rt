@@ -3,7 +3,7 @@
 ghost use Rattle.std.specs.Prelude.{◌≡◌, ℕ, Bool, List, ◌<◌, ◌≤◌, ◌+◌, ◌^◌, Some, None, true, false, [], map, Err, IfOk, IfErr, IfSome, OnOk, length, option_to_list};
 ghost use Rattle.mrt_body.specs.Units.{IsSmall, IsSmallUnit, alone, all_cuts, found_in, found_units, is_past, refused_at, at_record};
 ghost use Rattle.mrt_frame.specs.Frames.{StandsAt};
-ghost use Rattle.mrt_body.specs.ToCome.{UnitsState, GivesPending, CutsOne, TakesRecord, TakesFound, NothingToCome, Steps, StopsAt, Stops, KeepsPlan, answers_left, cuts_to_come, found_to_come, steps_left, fresh_units, standing_after};
+ghost use Rattle.mrt_body.specs.ToCome.{UnitsState, GivesPending, CutsOne, TakesRecord, TakesFound, NothingToCome, Steps, StopsAt, Stops, KeepsPlan, answers_left, units_left, unit_count, cuts_to_come, found_to_come, steps_left, fresh_units, standing_after};
 ghost use Rattle.mrt_body.specs.declared.content.Content.TheVariants as content_spec;
 ghost use Rattle.mrt_body.specs.declared.standing.Standing.TheVariants as standings;
 
@@ -101,8 +101,14 @@ impl Units {
         ensures found { IfOk result (λ found. TakesFound self.old (map R.remaining files.old) self.new (map R.remaining files.new) (option_to_list found)) }
         // None is answered only where nothing is to come.
         ensures ended { IfOk result (λ found. found ≡ None → NothingToCome self.old (map R.remaining files.old)) }
+        // It is answered at the end of the last file.
+        ensures at_end { IfOk result (λ found. found ≡ None → self.new.file ≡ self.new.count) }
         // Each answer lowers the number of those that can still come, whatever the readers give.
         ensures fewer { IfOk result (λ found. answers_left self.new + length (option_to_list found) ≤ answers_left self.old) }
+        // Each unit lowers the number of units that can still come.
+        ensures units { IfOk result (λ found. units_left self.new + unit_count found ≤ units_left self.old) }
+        // An answer that is no error leaves the reading going.
+        ensures going { IfOk result (λ _. self.new.standing ≡ standings.Going) }
         // An error has its cause, which stays.
         ensures cause { IfErr result (Stops self.old (map R.remaining files.old) self.new (map R.failure_count files.old) (map R.failure_count files.new)) }
         ensures spent { self.old.standing ≡ standings.Spent → (result ≡ Err ReplayError.Spent) × (self.new ≡ self.old) }
@@ -130,7 +136,10 @@ impl Units {
         requires going { self.old.standing ≡ standings.Going }
         ensures found { IfOk result (λ found. TakesFound self.old (map R.remaining files.old) self.new (map R.remaining files.new) (option_to_list found)) }
         ensures ended { IfOk result (λ found. found ≡ None → NothingToCome self.old (map R.remaining files.old)) }
+        ensures at_end { IfOk result (λ found. found ≡ None → self.new.file ≡ self.new.count) }
         ensures fewer { IfOk result (λ found. answers_left self.new + length (option_to_list found) ≤ answers_left self.old) }
+        ensures units { IfOk result (λ found. units_left self.new + unit_count found ≤ units_left self.old) }
+        ensures going { IfOk result (λ _. self.new.standing ≡ standings.Going) }
         ensures cause { IfErr result (Stops self.old (map R.remaining files.old) self.new (map R.failure_count files.old) (map R.failure_count files.new)) }
         ensures sound { OnOk result (map R.failure_count files.new ≡ map R.failure_count files.old) }
         ensures plan { KeepsPlan self.old self.new }
@@ -222,6 +231,7 @@ impl Units {
     }
 
     /// Cuts the current file once, and gives what comes of it first, if anything does but entries.
+    #[tactic(auto, using(crate::proofs::FilesLaws::few_units))]
     fn step<R: Source>(
         &mut self,
         alloc: Global,
@@ -230,6 +240,7 @@ impl Units {
         requires going { self.old.standing ≡ standings.Going }
         requires within { self.old.file < self.old.count }
         requires given { self.old.pending ≡ [] }
+        ensures units { IfOk result (λ found. units_left self.new + unit_count found ≤ units_left self.old) }
         ensures fewer_answers { IfOk result (λ found. answers_left self.new + length (option_to_list found) ≤ answers_left self.old) }
         ensures steps { IfOk result (λ found. Steps self.old (R.remaining reader.old) self.new (R.remaining reader.new) (option_to_list found)) }
         ensures fewer { IfOk result (λ _. steps_left self.new < steps_left self.old) }

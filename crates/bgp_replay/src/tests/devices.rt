@@ -11,6 +11,7 @@ use lane_deal::{ByTurns, NoGate, Plan};
 use mrt_frame::{Counted, ReplayError};
 use std::alloc::Global;
 use std::io::{self, ErrorKind, Read, Write};
+use std::marker::Sync;
 use std::process::Abort;
 use std::test::Fail;
 use std::thread::Threads;
@@ -75,7 +76,7 @@ impl Write for Full {
 
 /// What a run over readers that fail in place of their ends answers, and how much it wrote.
 fn run_breaking(
-    rt: &impl Threads,
+    rt: &(impl Threads + Sync),
     alloc: Global,
     files: &[&[u8]],
 ) -> Result<(Result<Summary, ReplayError>, usize), Fail> {
@@ -116,7 +117,7 @@ fn every_read_failed(rt: HostRuntime) -> Result<(), Fail> {
 
 /// What a run over one file in memory answers, to a writer.
 fn run_into(
-    rt: &impl Threads,
+    rt: &(impl Threads + Sync),
     alloc: Global,
     bytes: &[u8],
     writer: Full,

@@ -11,6 +11,7 @@ use lane_deal::{ByTurns, NoGate, Plan};
 use mrt_frame::{Counted, ReplayError};
 use std::alloc::Global;
 use std::io::{self, Read};
+use std::marker::Sync;
 use std::process::Abort;
 use std::test::Fail;
 use std::thread::Threads;
@@ -52,8 +53,8 @@ pub struct Outcome {
 }
 
 /// Replays files in memory.
-pub fn replay<M: PrefixMap<SharedRoute> + Drop>(
-    rt: &(impl Threads + Abort),
+pub fn replay<M: PrefixMap<SharedRoute> + Send + Drop>(
+    rt: &(impl Threads + Abort + Sync),
     alloc: Global,
     files: &[Vec<u8>],
     request: &Request,
@@ -81,7 +82,7 @@ pub fn replay<M: PrefixMap<SharedRoute> + Drop>(
 
 /// Replays files from readers that give one byte a read.
 pub fn replay_slowly(
-    rt: &impl Threads,
+    rt: &(impl Threads + Sync),
     alloc: Global,
     files: &[Vec<u8>],
     request: &Request,
@@ -147,7 +148,7 @@ impl<'a> Row<'a> {
     }
 
     /// Replays the row by every plan, map and reader, and compares.
-    fn check(&self, rt: &(impl Threads + Abort), alloc: Global) -> Result<(), Fail> {
+    fn check(&self, rt: &(impl Threads + Abort + Sync), alloc: Global) -> Result<(), Fail> {
         let Some(request) = &self.request else {
             return Ok(());
         };
@@ -201,7 +202,11 @@ fn request_of(line: &str) -> Option<Request> {
 /// Runs the rows of a table. A line `row NAME` begins a row, `file RECORDS` adds a file, the name of
 /// a request asks for its report, `> LINE` is a line of it, `damaged N` the number of listed faults,
 /// and `until N` leaves out what came later.
-pub fn run_rows(rt: &(impl Threads + Abort), alloc: Global, table: &str) -> Result<usize, Fail> {
+pub fn run_rows(
+    rt: &(impl Threads + Abort + Sync),
+    alloc: Global,
+    table: &str,
+) -> Result<usize, Fail> {
     let mut row = Row::new(alloc, "");
     let mut checked = 0usize;
     for line in table.lines() {

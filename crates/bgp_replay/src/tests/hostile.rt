@@ -11,6 +11,7 @@ use mrt_body::Units;
 use mrt_frame::{Counted, ReplayError};
 use std::alloc::Global;
 use std::io::{self, Read};
+use std::marker::Sync;
 use std::process::Abort;
 use std::test::Fail;
 use std::thread::Threads;
@@ -129,8 +130,8 @@ fn endless_zeros(rt: HostRuntime) -> Result<(), Fail> {
 }
 
 /// The bytes that a replay of one file with this dealing writes.
-fn text_by<D: Dealing>(
-    rt: &(impl Threads + Abort),
+fn text_by<D: Dealing + Sync>(
+    rt: &(impl Threads + Abort + Sync),
     alloc: Global,
     bytes: &[u8],
     plan: &Plan,

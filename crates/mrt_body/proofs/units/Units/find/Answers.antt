@@ -2,7 +2,7 @@ use Rattle.std.proofs.Common.{◌<◌, Some, ap, ◌∙◌, sym, arith, length, 
 use Rattle.std.specs.Prelude.{option_to_list}
 use Rattle.std.proofs.lemmas.List.{length-set}
 use Rattle.mrt_body.specs.ToCome.{UnitsState}
-use Rattle.mrt_body.proofs.FilesLaws.{one_more_step, still_sound, stops_in, fewer_than}
+use Rattle.mrt_body.proofs.FilesLaws.{one_more_step, still_sound, stops_in, fewer_than, units_than}
 use Rattle.mrt_body.proofs.units.Units.find.Goals as goal
 
 pub returns-in-Ok-Some-clause-found : goal.returns-in-Ok-Some-clause-found
@@ -43,6 +43,7 @@ files-preserved g c =
       going = c.in-Ok-None.ensures.going;
       counts = still_sound g.R.Failures.failure_count c.args.self.now c.files.self c.next_entry.new.self c.step-in-files.new.self c.args.files.now c.files.files c.step.inside.file c.index-files-self.result c.step-in-files.new.reader c.files.invariant.counts c.in-Ok-None.ensures.sound;
       answers = fewer_than c.args.self.now c.files.self c.next_entry.new.self c.step-in-files.new.self c.files.invariant.answers (rw c.in_default.is at c.in_ok-unit.ensures.gives) (rw c.in-Ok-None.field-0-is at c.in-Ok-None.ensures.fewer_answers);
+      units = units_than c.args.self.now c.files.self c.next_entry.new.self c.step-in-files.new.self c.files.invariant.units (rw c.in_default.is at c.in_ok-unit.ensures.gives) (rw c.in-Ok-None.field-0-is at c.in-Ok-None.ensures.units);
       taken = one_more_step g.R.Source.remaining c.args.self.now c.files.self c.next_entry.new.self c.step-in-files.new.self c.args.files.now c.files.files c.step.inside.file c.index-files-self.result c.step-in-files.new.reader []
           c.files.invariant.taken
           (rw c.in_default.is at c.in_ok-unit.ensures.gives)

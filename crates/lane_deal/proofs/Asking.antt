@@ -1,0 +1,131 @@
+-- What the files gave, step by step.
+use Rattle.std.proofs.Common.{◌≡◌, ℕ, ◌+◌, ◌≤◌, ◌<◌, List, [], ◌∷◌, ◌++◌, length, Option, Some, None, refl, sym, ap, ◌∙◌, subst, append_assoc, length-append, arith, inl, inr}
+use Rattle.std.specs.Prelude.{option_to_list, slice_index}
+use Rattle.std.specs.List.{filter_map}
+use Rattle.std.proofs.lemmas.List.Elements.{filter_map-append}
+use Rattle.mrt_frame.specs.Devices.{HasFailed}
+use Rattle.mrt_frame.specs.declared.error.ReplayError.{ReplayError}
+use Rattle.mrt_frame.specs.declared.error.ReplayError.TheVariants as errors
+use Rattle.mrt_body.specs.declared.standing.Standing.TheVariants as standings
+use Rattle.mrt_body.specs.Units.{unit_of}
+use Rattle.std.proofs.lemmas.List.{append-nil, map-append}
+use Rattle.mrt_body.specs.declared.unit.Damage.{Damage}
+use Rattle.mrt_body.specs.declared.unit.Found.{Found}
+use Rattle.mrt_body.specs.declared.unit.Found.TheVariants as found
+use Rattle.mrt_body.specs.declared.unit.Unit.{Unit as ReplayUnit}
+use Rattle.mrt_body.specs.ToCome.{UnitsState, TakesFound, KeepsPlan, HasMoreRecords, NothingToCome, found_to_come, cuts_to_come, units_left, unit_count, Stops}
+use Rattle.lane_deal.specs.Asking.{TakesUnits, StopsReading, as_refused, GivesFront, GivesAll, Asked, AskedInVain}
+
+abbrev Known : Type 0
+Known = List (Option (List ℕ))
+
+pub TakesUnits-none : (u : UnitsState) (k : Known) → TakesUnits u k u k []
+TakesUnits-none u k = record {
+  found = λ contents h. (contents, h, record { found = refl; records = refl; aside = refl });
+  few = omega arith;
+  plan = (refl, refl, refl);
+  failed = λ e. e;
+  spent = λ e. e;
+}
+
+-- one step after another
+pub TakesUnits-more : (a b c : UnitsState) (first second third : Known) (taken more : List Found) → TakesUnits a first b second taken → TakesUnits b second c third more → TakesUnits a first c third (taken ++ more)
+TakesUnits-more a b c first second third taken more p q =
+    record {
+      found = λ contents h.
+          let x = p.found contents h in
+          let y = q.found x.0 x.1 in (
+            y.0,
+            y.1,
+            record {
+              found = x.2.found ∙ ap (λ (l : List Found). taken ++ l) y.2.found ∙ sym (append_assoc taken more (found_to_come c y.0));
+              records = x.2.records ∙ y.2.records;
+              aside = x.2.aside ∙ y.2.aside;
+            },
+          );
+      few = (let n = ap length (filter_map-append unit_of taken more) ∙ length-append (filter_map unit_of taken) (filter_map unit_of more) in let x = p.few in let y = q.few in omega arith);
+      plan = (q.plan.0 ∙ p.plan.0, q.plan.1 ∙ p.plan.1, q.plan.2 ∙ p.plan.2);
+      failed = λ e. p.failed (q.failed e);
+      spent = λ e. p.spent (q.spent e);
+    }
+
+count_of_one : (item : Option Found) → length (filter_map unit_of (option_to_list item)) ≡ unit_count item
+count_of_one None = refl
+count_of_one (Some (found.Unit unit)) = refl
+count_of_one (Some (found.Refused damage)) = refl
+
+-- one answer of the files
+pub TakesUnits-one : (u u' : UnitsState) (k k' : Known) (item : Option Found) → TakesFound u k u' k' (option_to_list item) → units_left u' + unit_count item ≤ units_left u → KeepsPlan u u' → u'.standing ≡ standings.Going → TakesUnits u k u' k' (option_to_list item)
+TakesUnits-one u u' k k' item f few plan going = record {
+  found = f;
+  few = (let n = count_of_one item in omega arith);
+  plan = plan;
+  failed = λ e. absurd (cc);
+  spent = λ e. absurd (cc);
+}
+
+-- what stops a reading later stops it
+pub stops_later : (u u' : UnitsState) (k k' : Known) (given : List Found) (before now after : List ℕ) (e : ReplayError) → TakesUnits u k u' k' given → now ≡ before → StopsReading u' k' now after e → StopsReading u k before after e
+stops_later u u' k k' given before now after (errors.Read file) p same (inl h) = inl (p.failed h)
+stops_later u u' k k' given before now after (errors.Read file) p same (inr h) = inr (subst (λ l. HasFailed (slice_index l file) (slice_index after file)) same h)
+stops_later u u' k k' given before now after errors.Write p same h = h
+stops_later u u' k k' given before now after errors.Memory p same h = tt
+stops_later u u' k k' given before now after errors.Records p same h = λ contents known.
+    let x = p.found contents known in
+    let more = h x.0 x.1 in
+    let limit = p.plan.1 in
+    let records = x.2.records in
+    omega arith
+stops_later u u' k k' given before now after errors.Spent p same h = p.spent h
+
+-- why one call of the reading stops it
+pub stops_one : (u u' : UnitsState) (k : Known) (before after : List ℕ) (e : ReplayError) → Stops u k u' before after e → StopsReading u k before after e
+stops_one u u' k before after (errors.Read file) h = h.2
+stops_one u u' k before after errors.Write h = h
+stops_one u u' k before after errors.Memory h = tt
+stops_one u u' k before after errors.Records h = h.3
+stops_one u u' k before after errors.Spent h = h.0
+
+pub front_from_takes : (a b : UnitsState) (k k' : Known) (given : List Found) → TakesUnits a k b k' given → GivesFront a k given
+front_from_takes a b k k' given p contents h = let x = p.found contents h in (found_to_come b x.0, x.2.found)
+
+pub front_more : (a b : UnitsState) (k k' : Known) (given more : List Found) → TakesUnits a k b k' given → GivesFront b k' more → GivesFront a k (given ++ more)
+front_more a b k k' given more p q contents h =
+    let x = p.found contents h in
+    let y = q x.0 x.1 in (y.0, x.2.found ∙ ap (λ l. given ++ l) y.1 ∙ sym (append_assoc given more y.0))
+
+pub all_more_given : (a b : UnitsState) (k k' : Known) (given more : List Found) → TakesUnits a k b k' given → GivesAll b k' more → GivesAll a k (given ++ more)
+all_more_given a b k k' given more p q contents h =
+    let x = p.found contents h in x.2.found ∙ ap (λ l. given ++ l) (q x.0 x.1)
+
+pub all_given : (a b : UnitsState) (k k' : Known) (given : List Found) → TakesUnits a k b k' given → NothingToCome b k' → GivesAll a k given
+all_given a b k k' given p none contents h =
+    let x = p.found contents h in x.2.found ∙ ap (λ l. given ++ l) (none x.0 x.1) ∙ append-nil given
+
+-- these refusals were listed so far
+pub record Listed (r r' : List Damage) (u : UnitsState) (k : Known) (u' : UnitsState) (k' : Known) : Type 0 where
+  pub listed : List Damage
+  pub refused : r' ≡ r ++ listed
+  pub takes : TakesUnits u k u' k' (as_refused listed)
+
+pub Listed-none : (refused : List Damage) (u : UnitsState) (k : Known) → Listed refused refused u k u k
+Listed-none refused u k = record { listed = []; refused = sym (append-nil refused); takes = TakesUnits-none u k }
+
+pub Listed-more : (r r' r'' : List Damage) (a b c : UnitsState) (k k' k'' : Known) (damage : Damage) → Listed r r' a k b k' → TakesUnits b k' c k'' (found.Refused damage ∷ []) → r'' ≡ r' ++ damage ∷ [] → Listed r r'' a k c k''
+Listed-more r r' r'' a b c k k' k'' damage p q e =
+    record {
+      listed = p.listed ++ damage ∷ [];
+      refused = e ∙ ap (λ l. l ++ damage ∷ []) p.refused ∙ append_assoc r p.listed (damage ∷ []);
+      takes = subst (TakesUnits a k c k'') (sym (map-append (λ d. found.Refused d) p.listed (damage ∷ []))) (TakesUnits-more a b c k k' k'' (as_refused p.listed) (found.Refused damage ∷ []) p.takes q);
+    }
+
+pub Asked-unit : (r r' : List Damage) (a b c : UnitsState) (k k' k'' : Known) (unit : ReplayUnit) → Listed r r' a k b k' → TakesUnits b k' c k'' (found.Unit unit ∷ []) → Asked r r' a k c k'' (Some unit)
+Asked-unit r r' a b c k k' k'' unit p q =
+    record { listed = p.listed; refused = p.refused; takes = TakesUnits-more a b c k k' k'' _ _ p.takes q; ended = λ e. absurd (cc) }
+
+pub Asked-end : (r r' : List Damage) (a b c : UnitsState) (k k' k'' : Known) → Listed r r' a k b k' → TakesUnits b k' c k'' [] → NothingToCome b k' → Asked r r' a k c k'' None
+Asked-end r r' a b c k k' k'' p q none =
+    record { listed = p.listed; refused = p.refused; takes = TakesUnits-more a b c k k' k'' _ _ p.takes q; ended = λ _. all_given a b k k' _ p.takes none }
+
+pub AskedInVain-from : (r r' : List Damage) (a b : UnitsState) (k k' : Known) → Listed r r' a k b k' → AskedInVain r r' a k
+AskedInVain-from r r' a b k k' p = record { listed = p.listed; refused = p.refused; gives = front_from_takes a b k k' _ p.takes }

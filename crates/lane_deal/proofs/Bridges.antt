@@ -1,0 +1,188 @@
+-- Lanes of numbered units, and lanes as definitions see them.
+use Rattle.std.proofs.Common.{◌≡◌, ℕ, zero, suc, ◌<◌, ◌≤◌, ◌||◌, Bool, true, false, cond, eqb, List, [], ◌∷◌, ◌++◌, length, map, get_or, Some, refl, sym, ap, ◌∙◌, subst, arith}
+use Rattle.std.specs.Prelude.{slice_get}
+use Rattle.std.specs.List.{filter, list_any, AllByRecursion}
+use Rattle.std.proofs.lemmas.List.{map-append}
+use Rattle.std.proofs.Math.Bool.{or-true}
+use Rattle.rtrb.specs.Ring.{sent}
+use Rattle.mrt_body.specs.declared.unit.PeerKey.{PeerKey}
+use Rattle.mrt_body.specs.declared.unit.Unit.{Unit as ReplayUnit}
+use Rattle.rib_report.specs.Peers.{peer_eq, peers_of}
+use Rattle.lane_deal.specs.declared.feed.Feed.{Feed}
+use Rattle.lane_deal.specs.declared.numbered.Numbered.{Numbered}
+use Rattle.lane_deal.specs.declared.seats.Seats.{Seats}
+use Rattle.lane_deal.specs.declared.worker.Worker.{Worker}
+use Rattle.lane_deal.specs.Feeds.{in_lane}
+use Rattle.lane_deal.specs.LaneRings.{IsReady, LaneStands}
+use Rattle.lane_deal.specs.Lanes.{number_of_peer, lane_units}
+use Rattle.lane_deal.specs.Numbers.{number_in, with_number, numbered, units_in}
+use Rattle.lane_deal.specs.Replayers.{LaneState, LaneStandsFor}
+use Rattle.lane_deal.specs.Seating.{seat_by, seats_by}
+use Rattle.lane_deal.specs.Shown.{lane_state, lane_states, SeatsHold}
+use Rattle.lane_deal.proofs.Peers.{is_seen, listed_peer, numbers_stay, all_more}
+use Rattle.lane_deal.proofs.PeerPlaces.{listed_gets, some_is}
+use Rattle.lane_deal.proofs.SeatLists.{front_of, back_of, seen_more}
+use Rattle.lane_deal.proofs.SettledLaws.{all_peers, all_filtered, map_alike}
+
+-- ---- lists
+
+pub filter_mapped : {X Y : Type 0} (p : Y → Bool) (f : X → Y) (xs : List X) → filter p (map f xs) ≡ map f (filter (λ x. p (f x)) xs)
+filter_mapped p f [] = refl
+filter_mapped p f (x ∷ xs) =
+    elim (p (f x)) as (λ b. cond b (f x ∷ filter p (map f xs)) (filter p (map f xs)) ≡ map f (cond b (x ∷ filter (λ x. p (f x)) xs) (filter (λ x. p (f x)) xs))) [
+      | true ↦ ap (λ l. f x ∷ l) (filter_mapped p f xs)
+      | false ↦ filter_mapped p f xs
+    ]
+
+any_filtered : {X : Type 0} (p r : X → Bool) (xs : List X) → list_any p (filter r xs) ≡ true → list_any p xs ≡ true
+any_filtered p r [] e = e
+any_filtered p r (x ∷ xs) e =
+    elim (r x) as (λ b. list_any p (cond b (x ∷ filter r xs) (filter r xs)) ≡ true → (p x || list_any p xs) ≡ true) [
+      | true ↦ λ h. elim (p x) as (λ b. (b || list_any p (filter r xs)) ≡ true → (b || list_any p xs) ≡ true) [ true ↦ λ _. refl | false ↦ λ k. any_filtered p r xs k ] h
+      | false ↦ λ h. ap (λ b. p x || b) (any_filtered p r xs h) ∙ or-true (p x)
+    ] e
+
+all_mapped : {X Y : Type 0} (f : X → Y) (P : Y → Type 0) (xs : List X) → AllByRecursion (λ x. P (f x)) xs → AllByRecursion P (map f xs)
+all_mapped f P [] h = tt
+all_mapped f P (x ∷ xs) h = (h.0, all_mapped f P xs h.1)
+
+all_unmapped : {X Y : Type 0} (f : X → Y) (P : Y → Type 0) (xs : List X) → AllByRecursion P (map f xs) → AllByRecursion (λ x. P (f x)) xs
+all_unmapped f P [] h = tt
+all_unmapped f P (x ∷ xs) h = (h.0, all_unmapped f P xs h.1)
+
+all_refl : (keys : List PeerKey) (units : List ReplayUnit) → AllByRecursion (λ u. with_number keys u ≡ with_number keys u) units
+all_refl keys [] = tt
+all_refl keys (u ∷ units) = (refl, all_refl keys units)
+
+all_both : {X : Type 0} (P Q R : X → Type 0) (xs : List X) → ((x : X) → P x → Q x → R x) → AllByRecursion P xs → AllByRecursion Q xs → AllByRecursion R xs
+all_both P Q R [] f h k = tt
+all_both P Q R (x ∷ xs) f h k = (f x h.0 k.0, all_both P Q R xs f h.1 k.1)
+
+-- ---- numbers
+
+pub units_numbered : (keys : List PeerKey) (units : List ReplayUnit) → units_in (numbered keys units) ≡ units
+units_numbered keys [] = refl
+units_numbered keys (u ∷ units) = ap (λ l. u ∷ l) (units_numbered keys units)
+
+pub numbered_same : (keys others : List PeerKey) (units : List ReplayUnit) → AllByRecursion (λ u. number_in keys u.peer ≡ number_in others u.peer) units → numbered keys units ≡ numbered others units
+numbered_same keys others units h =
+    map_alike (with_number keys) (with_number others) units (all_more units (λ u e. ap (λ n. record { number = n; unit = u }) e) h)
+
+-- items that have their peers' numbers
+renumbered : (keys : List PeerKey) (items : List Numbered) → AllByRecursion (λ x. with_number keys x.unit ≡ x) items → numbered keys (units_in items) ≡ items
+renumbered keys [] h = refl
+renumbered keys (x ∷ items) h = ap (λ i. i ∷ numbered keys (units_in items)) h.0 ∙ ap (λ l. x ∷ l) (renumbered keys items h.1)
+
+-- the units that were dealt, with their numbers
+abbrev pub dealt_items : List ReplayUnit → List Numbered
+dealt_items units = numbered (peers_of units) units
+
+pub lane_items : (lane_of : ℕ → ℕ) (units : List ReplayUnit) (lane : ℕ) → in_lane lane_of lane (dealt_items units) ≡ numbered (peers_of units) (lane_units lane_of units lane)
+lane_items lane_of units lane = filter_mapped (λ item. eqb (lane_of item.number) lane) (with_number (peers_of units)) units
+
+-- more units, with the numbers that they have among still more
+pub dealt_items-append : (units more : List ReplayUnit) (rest : List ReplayUnit) (keys : List PeerKey) → keys ≡ peers_of ((units ++ more) ++ rest) → dealt_items units ++ numbered keys more ≡ dealt_items (units ++ more)
+dealt_items-append units more rest keys e =
+    let both = peers_of (units ++ more) in
+    let first : numbered both units ≡ numbered (peers_of units) units = numbered_same both (peers_of units) units (numbers_stay units more) in
+    let second : numbered keys more ≡ numbered both more =
+    ap (λ k. numbered k more) e ∙ numbered_same (peers_of ((units ++ more) ++ rest)) both more (back_of (λ u. number_of_peer ((units ++ more) ++ rest) u.peer ≡ number_of_peer (units ++ more) u.peer) units more (numbers_stay (units ++ more) rest)) in
+    ap (λ l. l ++ numbered keys more) (sym first) ∙ ap (λ l. numbered both units ++ l) second ∙ sym (map-append (with_number both) units more)
+
+-- ---- one lane
+
+module _ {M : Type 0} (lane_of : ℕ → ℕ) (units more : List ReplayUnit) (lane capacity : ℕ) (f : Feed) (w : Worker (Seats M)) where
+  abbrev all : List ReplayUnit
+  all = units ++ more
+
+  abbrev own : List ReplayUnit
+  own = lane_units lane_of units lane
+
+  own_stay : AllByRecursion (λ u. number_of_peer all u.peer ≡ number_of_peer units u.peer) own
+  own_stay = all_filtered _ (λ u. eqb (lane_of (number_of_peer units u.peer)) lane) units (numbers_stay units more)
+
+  pub stands_in : LaneStandsFor capacity all own (lane_state f w) → LaneStands SeatsHold f w (in_lane lane_of lane (dealt_items units))
+  stands_in h =
+      let keys = peers_of units in
+      let stay = subst (AllByRecursion (λ u. number_of_peer all u.peer ≡ number_of_peer units u.peer)) (sym h.whole) own_stay in
+      let taken_stay = front_of (λ u. number_of_peer all u.peer ≡ number_of_peer units u.peer) h.taken h.waiting stay in
+      let waiting_stay = back_of (λ u. number_of_peer all u.peer ≡ number_of_peer units u.peer) h.taken h.waiting stay in
+      record {
+        taken = numbered keys h.taken;
+        sessions = λ number a.
+            let each : AllByRecursion (λ u. number u.peer ≡ number_in keys u.peer) h.taken = all_unmapped (with_number keys) (λ item. number item.unit.peer ≡ item.number) h.taken a.each in
+            let same : AllByRecursion (λ u. number u.peer ≡ number_of_peer all u.peer) h.taken =
+            all_both (λ u. number u.peer ≡ number_in keys u.peer) (λ u. number_of_peer all u.peer ≡ number_of_peer units u.peer) (λ u. number u.peer ≡ number_of_peer all u.peer) h.taken (λ u x y. x ∙ sym y) each taken_stay in
+            let peers = all_peers (λ q. number q ≡ number_of_peer all q) h.taken same in
+            ap (seats_by number) (units_numbered keys h.taken)
+            ∙ map_alike (seat_by number h.taken) (seat_by (number_of_peer all) h.taken) (peers_of h.taken) (all_more (peers_of h.taken) (λ q e. ap (λ n. record (seat_by number h.taken q) { number = n }) e) peers)
+            ∙ h.seats;
+        whole =
+            ap (λ l. numbered keys h.taken ++ l) (h.ring.sent ∙ numbered_same (peers_of all) keys h.waiting waiting_stay)
+            ∙ sym (map-append (with_number keys) h.taken h.waiting) ∙ ap (numbered keys) h.whole ∙ sym (lane_items lane_of units lane);
+      }
+
+  pub stands_out : IsReady capacity f w → LaneStands SeatsHold f w (in_lane lane_of lane (dealt_items units)) → LaneStandsFor capacity all own (lane_state f w)
+  stands_out ready h =
+      let keys = peers_of units in
+      let waits = sent f.producer in
+      let whole : h.taken ++ waits ≡ numbered keys own = h.whole ∙ lane_items lane_of units lane in
+      let proper = subst (AllByRecursion (λ x. with_number keys x.unit ≡ x)) (sym whole) (all_mapped (with_number keys) (λ x. with_number keys x.unit ≡ x) own (all_refl keys own)) in
+      let taken_is = renumbered keys h.taken (front_of (λ x. with_number keys x.unit ≡ x) h.taken waits proper) in
+      let sent_is = renumbered keys waits (back_of (λ x. with_number keys x.unit ≡ x) h.taken waits proper) in
+      let units_whole : units_in h.taken ++ units_in waits ≡ own = sym (map-append (λ x. x.unit) h.taken waits) ∙ ap units_in whole ∙ units_numbered keys own in
+      let stay = subst (AllByRecursion (λ u. number_of_peer all u.peer ≡ number_of_peer units u.peer)) (sym units_whole) own_stay in
+      let taken_stay = front_of (λ u. number_of_peer all u.peer ≡ number_of_peer units u.peer) (units_in h.taken) (units_in waits) stay in
+      let waiting_stay = back_of (λ u. number_of_peer all u.peer ≡ number_of_peer units u.peer) (units_in h.taken) (units_in waits) stay in
+      let same : waits ≡ numbered (peers_of all) (units_in waits) = sym sent_is ∙ sym (numbered_same (peers_of all) keys (units_in waits) waiting_stay) in
+      let seen : (q : PeerKey) → is_seen (units_in h.taken) q ≡ true → is_seen all q ≡ true =
+      λ q e. seen_more units more q (any_filtered (λ u. peer_eq u.peer q) (λ u. eqb (lane_of (number_of_peer units u.peer)) lane) units (ap (λ l. is_seen l q) (sym units_whole) ∙ seen_more (units_in h.taken) (units_in waits) q e)) in
+      record {
+        taken = units_in h.taken;
+        waiting = units_in waits;
+        whole = units_whole;
+        ring =
+            record {
+              sent = same;
+              received = ready.2;
+              known = ready.3 ∙ same;
+              room = subst (λ l. length l ≤ capacity) same ready.4;
+              free = (let n = ap length same in let r = ready.5 in omega arith);
+            };
+        seats = h.sessions (number_of_peer all) (record {
+          each =
+              subst (AllByRecursion (λ item. number_of_peer all item.unit.peer ≡ item.number)) taken_is
+              (all_mapped (with_number keys) (λ item. number_of_peer all item.unit.peer ≡ item.number) (units_in h.taken) taken_stay);
+          apart = λ p q seen_p seen_q e.
+              some_is p q
+              (sym (listed_gets (peers_of all) p (listed_peer all p (seen p seen_p))) ∙ ap (slice_get (peers_of all)) e ∙ listed_gets (peers_of all) q (listed_peer all q (seen q seen_q)));
+        });
+      }
+
+-- ---- all lanes
+
+module _ {M : Type 0} where
+  pub length-lane_states : (fs : List Feed) (ws : List (Worker (Seats M))) → length ws ≡ length fs → length (lane_states fs ws) ≡ length fs
+  length-lane_states [] ws e = refl
+  length-lane_states (f ∷ fs) [] e = absurd (omega arith)
+  length-lane_states (f ∷ fs) (w ∷ ws) e = (let n = length-lane_states fs ws (omega arith) in omega arith)
+
+  pub lane_states-at : (fs : List Feed) (ws : List (Worker (Seats M))) (lane : ℕ) (d : Feed) (e : Worker (Seats M)) → length ws ≡ length fs → lane < length fs → slice_get (lane_states fs ws) lane ≡ Some (lane_state (get_or fs lane d) (get_or ws lane e))
+  lane_states-at [] ws lane d e same l = absurd (omega arith)
+  lane_states-at (f ∷ fs) [] lane d e same l = absurd (omega arith)
+  lane_states-at (f ∷ fs) (w ∷ ws) zero d e same l = refl
+  lane_states-at (f ∷ fs) (w ∷ ws) (suc lane) d e same l = lane_states-at fs ws lane d e (omega arith) (omega arith)
+
+  -- a lane that is shown has a feed and a worker
+  pub record IsLaneAt (fs : List Feed) (ws : List (Worker (Seats M))) (lane : ℕ) (state : LaneState) : Type 0 where
+    pub feed : Feed
+    pub worker : Worker (Seats M)
+    pub within : lane < length fs
+    pub state_is : state ≡ lane_state (get_or fs lane feed) (get_or ws lane worker)
+
+  pub lane_at : (fs : List Feed) (ws : List (Worker (Seats M))) (lane : ℕ) (state : LaneState) → slice_get (lane_states fs ws) lane ≡ Some state → IsLaneAt fs ws lane state
+  lane_at [] ws lane state e = absurd (cc)
+  lane_at (f ∷ fs) [] lane state e = absurd (cc)
+  lane_at (f ∷ fs) (w ∷ ws) zero state e = record { feed = f; worker = w; within = omega arith; state_is = sym (some_is (lane_state f w) state e) }
+  lane_at (f ∷ fs) (w ∷ ws) (suc lane) state e =
+      let h = lane_at fs ws lane state e in record { feed = h.feed; worker = h.worker; within = (let l = h.within in omega arith); state_is = h.state_is }

@@ -1,0 +1,355 @@
+-- What the dealer did, unit by unit.
+use Rattle.std.proofs.Common.{◌≡◌, ℕ, ◌+◌, ◌-◌, ◌^◌, ◌≤◌, ◌<◌, ◌||◌, true, false, if◌then◌else◌, List, [], ◌∷◌, ◌++◌, length, map, slice_index_or, Option, Some, None, Result, Ok, Err, refl, sym, ap, ◌∙◌, subst, append_assoc, arith, length-append}
+use Rattle.std.specs.Prelude.{option_to_list, min, MatchResult}
+use Rattle.std.specs.List.{list_any, filter_map, AllByRecursion}
+use Rattle.std.proofs.lemmas.List.{append-nil, map-append}
+use Rattle.std.proofs.lemmas.List.Elements.{filter_map-append}
+use Rattle.std.proofs.lemmas.List.Folds.{list_any-append}
+use Rattle.std.proofs.Math.Bool.{or-true}
+use Rattle.rtrb.specs.Ring.{known_free}
+use Rattle.mrt_frame.specs.declared.error.ReplayError.{ReplayError}
+use Rattle.mrt_frame.specs.declared.error.ReplayError.TheVariants.{Read}
+use Rattle.mrt_body.specs.declared.unit.Damage.{Damage}
+use Rattle.mrt_body.specs.declared.unit.Found.{Found}
+use Rattle.mrt_body.specs.declared.unit.Found.TheVariants as found
+use Rattle.mrt_body.specs.declared.unit.PeerKey.{PeerKey}
+use Rattle.mrt_body.specs.declared.unit.Unit.{Unit as ReplayUnit}
+use Rattle.mrt_body.specs.Units.{unit_of, damage_of}
+use Rattle.mrt_body.specs.ToCome.{UnitsState, as_found}
+use Rattle.rib_report.specs.Peers.{peer_eq, peers_of}
+use Rattle.lane_deal.specs.declared.dealer.Dealer.{Dealer}
+use Rattle.lane_deal.specs.declared.feed.Feed.{Feed}
+use Rattle.lane_deal.specs.declared.step.Step.TheVariants.{Blocked, End}
+use Rattle.lane_deal.specs.Asking.{TakesUnits, GivesAll, as_refused, Asked, AskedInVain}
+use Rattle.lane_deal.specs.DealerSteps.{Asks, Next, NextInVain, Handles, Deals}
+use Rattle.lane_deal.specs.Feeds.{Dealt, in_lane}
+use Rattle.lane_deal.specs.Kept.{to_deal}
+use Rattle.lane_deal.specs.Numbers.{NumbersPeer, number_in, with_number, numbered}
+use Rattle.lane_deal.proofs.Asking.{TakesUnits-none, TakesUnits-more, front_from_takes, front_more, all_more_given}
+use Rattle.lane_deal.proofs.Deals.{Dealt-append, Dealt-same, Dealt-none}
+use Rattle.lane_deal.proofs.Numbering.{unlisted}
+use Rattle.lane_deal.proofs.Peers.{peer_itself, is_seen, new_peer, peers_of-append, listed_peer, first_place, all_more}
+
+abbrev Known : Type 0
+Known = List (Option (List ℕ))
+
+-- ---- refusals
+
+pub no_units : (listed : List Damage) → filter_map unit_of (as_refused listed) ≡ []
+no_units [] = refl
+no_units (d ∷ listed) = no_units listed
+
+pub all_damage : (listed : List Damage) → filter_map damage_of (as_refused listed) ≡ listed
+all_damage [] = refl
+all_damage (d ∷ listed) = ap (λ l. d ∷ l) (all_damage listed)
+
+-- ---- what was to be dealt
+
+to_deal-more : (kept : Option ReplayUnit) (a b : List Found) → to_deal kept (a ++ b) ≡ to_deal kept a ++ b
+to_deal-more kept a b = sym (append_assoc (map (λ u. found.Unit u) (option_to_list kept)) a b)
+
+pub in_order : (k₀ k₁ : Option ReplayUnit) (g₁ g₂ d₁ d₂ : List Found) → to_deal k₀ g₁ ≡ d₁ ++ to_deal k₁ [] → to_deal k₁ g₂ ≡ d₂ → to_deal k₀ (g₁ ++ g₂) ≡ d₁ ++ d₂
+in_order k₀ k₁ g₁ g₂ d₁ d₂ p q =
+    to_deal-more k₀ g₁ g₂ ∙ ap (λ l. l ++ g₂) p ∙ append_assoc d₁ (to_deal k₁ []) g₂ ∙ ap (λ l. d₁ ++ l) (sym (to_deal-more k₁ [] g₂) ∙ q)
+
+-- where refusals alone came, nothing was kept
+pub none_kept : (kept : Option ReplayUnit) (given : List Found) (listed : List Damage) → to_deal kept given ≡ as_refused listed → kept ≡ None
+none_kept None given listed e = refl
+none_kept (Some k) given [] e = absurd (cc)
+none_kept (Some k) given (d ∷ listed) e = absurd (cc)
+
+-- ---- numbers
+
+pub listed_is_seen : (units : List ReplayUnit) (q : PeerKey) → list_any (peer_eq q) (peers_of units) ≡ is_seen units q
+listed_is_seen units q =
+    elim (is_seen units q) as (λ b. is_seen units q ≡ b → list_any (peer_eq q) (peers_of units) ≡ b) [ true ↦ λ e. listed_peer units q e | false ↦ λ e. unlisted units q e ] refl
+
+-- the peers of one unit more
+pub peers_push : (units : List ReplayUnit) (u : ReplayUnit) → peers_of (units ++ u ∷ []) ≡ peers_of units ++ (if list_any (peer_eq u.peer) (peers_of units) then [] else u.peer ∷ [])
+peers_push units u =
+    peers_of-append units (u ∷ []) ∙ ap (λ l. peers_of units ++ l) (append-nil (new_peer units u))
+    ∙ ap (λ b. peers_of units ++ (if b then [] else u.peer ∷ [])) (sym (listed_is_seen units u.peer))
+
+pub seen_last : (units : List ReplayUnit) (u : ReplayUnit) → is_seen (units ++ u ∷ []) u.peer ≡ true
+seen_last units u = list_any-append (λ x. peer_eq x.peer u.peer) units (u ∷ []) ∙ ap (λ b. is_seen units u.peer || (b || false)) (peer_itself u.peer) ∙ or-true (is_seen units u.peer)
+
+-- the peer of the next unit is numbered
+pub keys_step : (before : List ReplayUnit) (kept : Option ReplayUnit) (given : List Found) (listed : List Damage) (u : ReplayUnit) (keys keys' : List PeerKey) (n : ℕ) → keys ≡ peers_of (before ++ option_to_list kept)
+    → to_deal kept given ≡ as_refused listed ++ found.Unit u ∷ [] → NumbersPeer keys keys' u.peer n → keys' ≡ peers_of (before ++ u ∷ [])
+keys_step before None given listed u keys keys' n h e p =
+    let same : keys ≡ peers_of before = h ∙ ap peers_of (append-nil before) in
+    p.keys ∙ ap (λ l. l ++ (if list_any (peer_eq u.peer) l then [] else u.peer ∷ [])) same ∙ sym (peers_push before u)
+keys_step before (Some k) given [] u keys keys' n h e p =
+    let is : k ≡ u = cc in
+    let same : keys ≡ peers_of (before ++ u ∷ []) = h ∙ ap (λ v. peers_of (before ++ v ∷ [])) is in
+    let seen : list_any (peer_eq u.peer) keys ≡ true = ap (list_any (peer_eq u.peer)) same ∙ listed_peer (before ++ u ∷ []) u.peer (seen_last before u) in
+    p.keys ∙ ap (λ b. keys ++ (if b then [] else u.peer ∷ [])) seen ∙ append-nil keys ∙ same
+keys_step before (Some k) given (d ∷ listed) u keys keys' n h e p = absurd (cc)
+
+-- a peer with a number is listed
+pub listed_now : (keys keys' : List PeerKey) (q : PeerKey) (n : ℕ) → NumbersPeer keys keys' q n → list_any (peer_eq q) keys' ≡ true
+listed_now keys keys' q n p =
+    ap (list_any (peer_eq q)) p.keys
+    ∙ elim (list_any (peer_eq q) keys) as (λ b. list_any (peer_eq q) keys ≡ b → list_any (peer_eq q) (keys ++ (if b then [] else q ∷ [])) ≡ true) [
+      | true ↦ λ e. ap (list_any (peer_eq q)) (append-nil keys) ∙ e
+      | false ↦ λ e. list_any-append (peer_eq q) keys (q ∷ []) ∙ ap (λ b. list_any (peer_eq q) keys || (b || false)) (peer_itself q) ∙ or-true (list_any (peer_eq q) keys)
+    ] refl
+
+abbrev pub AreListed : List PeerKey → List ReplayUnit → Type 0
+AreListed keys units = AllByRecursion (λ u. list_any (peer_eq u.peer) keys ≡ true) units
+
+pub listed_more : (keys more : List PeerKey) (units : List ReplayUnit) → AreListed keys units → AreListed (keys ++ more) units
+listed_more keys more units h =
+    all_more units (λ u e. list_any-append (peer_eq u.peer) keys more ∙ ap (λ b. b || list_any (peer_eq u.peer) more) e) h
+
+pub all_push : {X : Type 0} (P : X → Type 0) (xs ys : List X) → AllByRecursion P xs → AllByRecursion P ys → AllByRecursion P (xs ++ ys)
+all_push P [] ys h k = k
+all_push P (x ∷ xs) ys h k = (h.0, all_push P xs ys h.1 k)
+
+-- numbers stay as more peers come
+pub numbered_stay : (keys more : List PeerKey) (units : List ReplayUnit) → AreListed keys units → numbered (keys ++ more) units ≡ numbered keys units
+numbered_stay keys more [] h = refl
+numbered_stay keys more (u ∷ units) h =
+    ap (λ n. record { number = n; unit = u } ∷ numbered (keys ++ more) units) (first_place (peer_eq u.peer) keys more h.0)
+    ∙ ap (λ l. with_number keys u ∷ l) (numbered_stay keys more units h.1)
+
+-- ---- the dealer's steps
+
+module _ {D : Type 0} where
+  pub Next-kept : (old new : Dealer D) (u : UnitsState) (k : Known) (unit : ReplayUnit) → old.kept ≡ Some unit → Asks old new → new.refused.items ≡ old.refused.items → Next old new u k u k (Some unit)
+  Next-kept old new u k unit e asks same =
+      record {
+        given = [];
+        listed = [];
+        takes = TakesUnits-none u k;
+        asks = asks;
+        order = ap (λ o. to_deal o []) e;
+        refused = same ∙ sym (append-nil old.refused.items);
+        ended = λ clash. absurd (cc);
+      }
+
+  abbrev NextOr : Dealer D → Dealer D → UnitsState → Known → UnitsState → Known → Result (Option ReplayUnit) ReplayError → Type 0
+  NextOr old new u k u' k' result = MatchResult result (λ next. Next old new u k u' k' next) (λ e. (file : ℕ) → e ≡ Read file → NextInVain old new u k)
+
+  pub Next-asked : (old new : Dealer D) (u u' : UnitsState) (k k' : Known) (result : Result (Option ReplayUnit) ReplayError) → old.kept ≡ None → Asks old new
+      → MatchResult result (λ next. Asked old.refused.items new.refused.items u k u' k' next) (λ e. (file : ℕ) → e ≡ Read file → AskedInVain old.refused.items new.refused.items u k) → NextOr old new u k u' k' result
+  Next-asked old new u u' k k' (Ok next) none asks p =
+      record {
+        given = as_refused p.listed ++ as_found (option_to_list next);
+        listed = p.listed;
+        takes = p.takes;
+        asks = asks;
+        order = ap (λ o. to_deal o (as_refused p.listed ++ as_found (option_to_list next))) none;
+        refused = p.refused;
+        ended = λ e.
+            subst (λ o. GivesAll u k (as_refused p.listed ++ as_found (option_to_list o))) (sym e) (subst (GivesAll u k) (sym (append-nil (as_refused p.listed))) (p.ended e));
+      }
+  Next-asked old new u u' k k' (Err error) none asks p = λ file e.
+      let h = p file e in
+      record {
+        given = as_refused h.listed;
+        listed = h.listed;
+        gives = h.gives;
+        asks = asks;
+        order = ap (λ o. to_deal o (as_refused h.listed)) none;
+        refused = h.refused;
+      }
+
+  -- so far
+  pub record SoFar (lane_of : ℕ → ℕ) (f f' : List Feed) (old new : Dealer D) (u : UnitsState) (k : Known) (u' : UnitsState) (k' : Known) (count : ℕ) : Type 0 where
+    pub given : List Found
+    pub done : List Found
+    pub takes : TakesUnits u k u' k' given
+    pub handles : Handles lane_of f f' old new given done
+    pub count_is : length (filter_map unit_of done) ≡ count
+
+  pub SoFar-none : (lane_of : ℕ → ℕ) (f : List Feed) (old : Dealer D) (u : UnitsState) (k : Known) → old.dealt ≡ min (old.dealt + 0) (2 ^ 64 - 1) → SoFar lane_of f f old old u k u k 0
+  SoFar-none lane_of f old u k bound =
+      record {
+        given = [];
+        done = [];
+        takes = TakesUnits-none u k;
+        handles =
+            record {
+              dealing = refl;
+              order = refl;
+              refused = sym (append-nil old.refused.items);
+              counted = bound;
+              pushed = Dealt-none lane_of f;
+              listed = tt;
+              keys = λ before h. h ∙ ap (λ l. peers_of (l ++ option_to_list old.kept)) (sym (append-nil before));
+            };
+        count_is = refl;
+      }
+
+  module _ (lane_of : ℕ → ℕ) (f f₁ f₂ : List Feed) (old mid new : Dealer D) (given done more : List Found) (listed : List Damage) (p : Handles lane_of f f₁ old mid given done) (refused : new.refused.items ≡ mid.refused.items ++ listed) (dealing : new.dealing ≡ mid.dealing) where
+    units_then : (rest : List Found) → filter_map unit_of (done ++ (as_refused listed ++ rest)) ≡ filter_map unit_of done ++ filter_map unit_of rest
+    units_then rest =
+        filter_map-append unit_of done (as_refused listed ++ rest)
+        ∙ ap (λ l. filter_map unit_of done ++ l) (filter_map-append unit_of (as_refused listed) rest ∙ ap (λ l. l ++ filter_map unit_of rest) (no_units listed))
+
+    damage_then : (rest : List Found) → filter_map damage_of rest ≡ [] → new.refused.items ≡ old.refused.items ++ filter_map damage_of (done ++ (as_refused listed ++ rest))
+    damage_then rest none =
+        refused ∙ ap (λ l. l ++ listed) p.refused ∙ append_assoc old.refused.items (filter_map damage_of done) listed
+        ∙ ap (λ l. old.refused.items ++ l)
+        (ap (λ l. filter_map damage_of done ++ l) (sym (append-nil listed) ∙ ap (λ l. listed ++ l) (sym none) ∙ ap (λ l. l ++ filter_map damage_of rest) (sym (all_damage listed)) ∙ sym (filter_map-append damage_of (as_refused listed) rest))
+        ∙ sym (filter_map-append damage_of done (as_refused listed ++ rest)))
+
+    module _ (unit : ReplayUnit) (n : ℕ) (order : to_deal mid.kept more ≡ as_refused listed ++ found.Unit unit ∷ []) (number : NumbersPeer mid.peers.keys.items new.peers.keys.items unit.peer n) where
+      extra : List PeerKey
+      extra = if list_any (peer_eq unit.peer) mid.peers.keys.items then [] else unit.peer ∷ []
+
+      listed_still : AreListed new.peers.keys.items (filter_map unit_of done)
+      unfolding extra
+      listed_still = subst (λ l. AreListed l (filter_map unit_of done)) (sym number.keys) (listed_more mid.peers.keys.items extra (filter_map unit_of done) p.listed)
+
+      numbers_still : numbered new.peers.keys.items (filter_map unit_of done) ≡ numbered mid.peers.keys.items (filter_map unit_of done)
+      unfolding extra
+      numbers_still = ap (λ l. numbered l (filter_map unit_of done)) number.keys ∙ numbered_stay mid.peers.keys.items extra (filter_map unit_of done) p.listed
+
+      item_is : record { number = n; unit = unit } ≡ with_number new.peers.keys.items unit
+      item_is = ap (λ m. record { number = m; unit = unit }) number.number_is
+
+      -- the unit was dealt
+      pub Handles-dealt : new.kept ≡ None → new.dealt ≡ min (mid.dealt + 1) (2 ^ 64 - 1) → Dealt lane_of f₁ f₂ (record { number = n; unit = unit } ∷ []) → Handles lane_of f f₂ old new (given ++ more) (done ++ (as_refused listed ++ found.Unit unit ∷ []))
+      Handles-dealt none counted q =
+          let units : filter_map unit_of (done ++ (as_refused listed ++ found.Unit unit ∷ [])) ≡ filter_map unit_of done ++ unit ∷ [] = units_then (found.Unit unit ∷ []) in
+          record {
+            dealing = dealing ∙ p.dealing;
+            order =
+                in_order old.kept mid.kept given more done (as_refused listed ++ found.Unit unit ∷ []) p.order order ∙ sym (append-nil _)
+                ∙ append_assoc done (as_refused listed ++ found.Unit unit ∷ []) [] ∙ ap (λ l. done ++ l) (append-nil _)
+                ∙ sym (append-nil _) ∙ ap (λ o. (done ++ (as_refused listed ++ found.Unit unit ∷ [])) ++ to_deal o []) (sym none);
+            refused = damage_then (found.Unit unit ∷ []) refl;
+            counted = (let n = ap length units ∙ length-append (filter_map unit_of done) (unit ∷ []) in let m = p.counted in omega arith);
+            pushed =
+                subst (λ l. Dealt lane_of f f₂ (numbered new.peers.keys.items l)) (sym units)
+                (subst (Dealt lane_of f f₂) (sym (map-append (with_number new.peers.keys.items) (filter_map unit_of done) (unit ∷ [])))
+                (Dealt-append lane_of f f₁ f₂ (numbered new.peers.keys.items (filter_map unit_of done)) (with_number new.peers.keys.items unit ∷ [])
+                (subst (Dealt lane_of f f₁) (sym numbers_still) p.pushed) (subst (λ i. Dealt lane_of f₁ f₂ (i ∷ [])) item_is q)));
+            listed =
+                subst (AreListed new.peers.keys.items) (sym units)
+                (all_push (λ u. list_any (peer_eq u.peer) new.peers.keys.items ≡ true) (filter_map unit_of done) (unit ∷ []) listed_still (listed_now mid.peers.keys.items new.peers.keys.items unit.peer n number, tt));
+            keys = λ before h.
+                keys_step (before ++ filter_map unit_of done) mid.kept more listed unit mid.peers.keys.items new.peers.keys.items n (p.keys before h) order number
+                ∙ ap peers_of (append_assoc before (filter_map unit_of done) (unit ∷ []) ∙ ap (λ l. before ++ l) (sym units) ∙ sym (append-nil _) ∙ ap (λ o. (before ++ filter_map unit_of (done ++ (as_refused listed ++ found.Unit unit ∷ []))) ++ option_to_list o) (sym none));
+          }
+
+      -- the unit came back
+      pub Handles-blocked : new.kept ≡ Some unit → new.dealt ≡ mid.dealt → Dealt lane_of f₁ f₂ [] → Handles lane_of f f₂ old new (given ++ more) (done ++ (as_refused listed ++ []))
+      Handles-blocked kept counted q =
+          let units : filter_map unit_of (done ++ (as_refused listed ++ [])) ≡ filter_map unit_of done = units_then [] ∙ append-nil _ in
+          record {
+            dealing = dealing ∙ p.dealing;
+            order =
+                in_order old.kept mid.kept given more done (as_refused listed ++ found.Unit unit ∷ []) p.order order
+                ∙ ap (λ l. done ++ (l ++ found.Unit unit ∷ [])) (sym (append-nil (as_refused listed))) ∙ sym (append_assoc done (as_refused listed ++ []) (found.Unit unit ∷ []))
+                ∙ ap (λ o. (done ++ (as_refused listed ++ [])) ++ to_deal o []) (sym kept);
+            refused = damage_then [] refl;
+            counted = counted ∙ p.counted ∙ ap (λ l. min (old.dealt + length l) (2 ^ 64 - 1)) (sym units);
+            pushed =
+                subst (λ l. Dealt lane_of f f₂ (numbered new.peers.keys.items l)) (sym units)
+                (Dealt-same lane_of f f₁ f₂ (numbered new.peers.keys.items (filter_map unit_of done)) (subst (Dealt lane_of f f₁) (sym numbers_still) p.pushed) q);
+            listed = subst (AreListed new.peers.keys.items) (sym units) listed_still;
+            keys = λ before h.
+                keys_step (before ++ filter_map unit_of done) mid.kept more listed unit mid.peers.keys.items new.peers.keys.items n (p.keys before h) order number
+                ∙ ap (λ l. peers_of ((before ++ l) ++ unit ∷ [])) (sym units) ∙ ap (λ o. peers_of ((before ++ filter_map unit_of (done ++ (as_refused listed ++ []))) ++ option_to_list o)) (sym kept);
+          }
+
+    -- no unit came
+    pub Handles-none : to_deal mid.kept more ≡ as_refused listed → new.kept ≡ None → new.dealt ≡ mid.dealt → new.peers ≡ mid.peers → Handles lane_of f f₁ old new (given ++ more) (done ++ (as_refused listed ++ []))
+    Handles-none order none counted peers =
+        let units : filter_map unit_of (done ++ (as_refused listed ++ [])) ≡ filter_map unit_of done = units_then [] ∙ append-nil _ in
+        let before_none : mid.kept ≡ None = none_kept mid.kept more listed order in
+        let keys : new.peers.keys.items ≡ mid.peers.keys.items = ap (λ q. q.keys.items) peers in
+        record {
+          dealing = dealing ∙ p.dealing;
+          order =
+              in_order old.kept mid.kept given more done (as_refused listed) p.order order ∙ ap (λ l. done ++ l) (sym (append-nil (as_refused listed)))
+              ∙ sym (append-nil _) ∙ ap (λ o. (done ++ (as_refused listed ++ [])) ++ to_deal o []) (sym none);
+          refused = damage_then [] refl;
+          counted = counted ∙ p.counted ∙ ap (λ l. min (old.dealt + length l) (2 ^ 64 - 1)) (sym units);
+          pushed = subst (λ l. Dealt lane_of f f₁ (numbered l (filter_map unit_of (done ++ (as_refused listed ++ []))))) (sym keys) (subst (λ l. Dealt lane_of f f₁ (numbered mid.peers.keys.items l)) (sym units) p.pushed);
+          listed = subst (λ l. AreListed l (filter_map unit_of (done ++ (as_refused listed ++ [])))) (sym keys) (subst (AreListed mid.peers.keys.items) (sym units) p.listed);
+          keys = λ before h.
+              keys ∙ p.keys before h ∙ ap (λ l. peers_of ((before ++ l) ++ option_to_list mid.kept)) (sym units)
+              ∙ ap (λ o. peers_of ((before ++ filter_map unit_of (done ++ (as_refused listed ++ []))) ++ option_to_list o)) (before_none ∙ sym none);
+        }
+
+  module _ (lane_of : ℕ → ℕ) (f f₁ f₂ : List Feed) (old mid asked new : Dealer D) (u u₁ u₂ : UnitsState) (k k₁ k₂ : Known) (count : ℕ) (s : SoFar lane_of f f₁ old mid u k u₁ k₁ count) where
+    -- one unit more
+    pub SoFar-more : (unit : ReplayUnit) (n : ℕ) → Next mid asked u₁ k₁ u₂ k₂ (Some unit) → NumbersPeer asked.peers.keys.items new.peers.keys.items unit.peer n → new.dealing ≡ asked.dealing → new.kept ≡ asked.kept → new.refused ≡ asked.refused → new.dealt ≡ min (asked.dealt + 1) (2 ^ 64 - 1)
+        → Dealt lane_of f₁ f₂ (record { number = n; unit = unit } ∷ []) → SoFar lane_of f f₂ old new u k u₂ k₂ (count + 1)
+    SoFar-more unit n next number dealing kept refused counted q =
+        let keys : asked.peers.keys.items ≡ mid.peers.keys.items = ap (λ o. o.keys.items) next.asks.peers in
+        let number' : NumbersPeer mid.peers.keys.items new.peers.keys.items unit.peer n = subst (λ l. NumbersPeer l new.peers.keys.items unit.peer n) keys number in
+        let listing : new.refused.items ≡ mid.refused.items ++ next.listed = ap (λ o. o.items) refused ∙ next.refused in
+        record {
+          given = s.given ++ next.given;
+          done = s.done ++ (as_refused next.listed ++ found.Unit unit ∷ []);
+          takes = TakesUnits-more u u₁ u₂ k k₁ k₂ s.given next.given s.takes next.takes;
+          handles = Handles-dealt lane_of f f₁ f₂ old mid new s.given s.done next.given next.listed s.handles listing (dealing ∙ next.asks.dealing) unit n next.order number' (kept ∙ next.asks.kept) (counted ∙ ap (λ m. min (m + 1) (2 ^ 64 - 1)) next.asks.dealt) q;
+          count_is =
+              ap length (units_then lane_of f f₁ f₂ old mid new s.given s.done next.given next.listed s.handles listing (dealing ∙ next.asks.dealing) (found.Unit unit ∷ []))
+              ∙ length-append (filter_map unit_of s.done) (unit ∷ []) ∙ ap (λ m. m + 1) s.count_is;
+        }
+
+    -- the unit came back
+    pub Deals-blocked : (batch : ℕ) (unit back : ReplayUnit) (n lane : ℕ) → Next mid asked u₁ k₁ u₂ k₂ (Some unit) → NumbersPeer asked.peers.keys.items new.peers.keys.items unit.peer n → new.dealing ≡ asked.dealing → new.kept ≡ Some back → back ≡ unit → new.refused ≡ asked.refused → new.dealt ≡ asked.dealt
+        → lane_of n ≡ lane → lane < length f → Dealt lane_of f₁ f₂ [] → ((d : Feed) → known_free (slice_index_or f₁ lane d).producer ≡ 0) → Deals lane_of batch f f₂ old new u k u₂ k₂ (Ok Blocked)
+    Deals-blocked batch unit back n lane next number dealing kept same refused counted at below q full =
+        let keys : asked.peers.keys.items ≡ mid.peers.keys.items = ap (λ o. o.keys.items) next.asks.peers in
+        let number' : NumbersPeer mid.peers.keys.items new.peers.keys.items unit.peer n = subst (λ l. NumbersPeer l new.peers.keys.items unit.peer n) keys number in
+        let listing : new.refused.items ≡ mid.refused.items ++ next.listed = ap (λ o. o.items) refused ∙ next.refused in
+        let kept' : new.kept ≡ Some unit = kept ∙ ap (λ v. Some v) same in
+        let h = Handles-blocked lane_of f f₁ f₂ old mid new s.given s.done next.given next.listed s.handles listing (dealing ∙ next.asks.dealing) unit n next.order number' kept' (counted ∙ next.asks.dealt) q in
+        let takes = TakesUnits-more u u₁ u₂ k k₁ k₂ s.given next.given s.takes next.takes in
+        let units : filter_map unit_of (s.done ++ (as_refused next.listed ++ [])) ≡ filter_map unit_of s.done =
+        units_then lane_of f f₁ f₂ old mid new s.given s.done next.given next.listed s.handles listing (dealing ∙ next.asks.dealing) [] ∙ append-nil _ in
+        let still = numbers_still lane_of f f₁ f₂ old mid new s.given s.done next.given next.listed s.handles listing (dealing ∙ next.asks.dealing) unit n next.order number' in
+        let items : numbered new.peers.keys.items (filter_map unit_of (s.done ++ (as_refused next.listed ++ []))) ≡ numbered mid.peers.keys.items (filter_map unit_of s.done) = ap (numbered new.peers.keys.items) units ∙ still in
+        let lane_is : lane_of (number_in new.peers.keys.items unit.peer) ≡ lane = ap lane_of (sym number'.number_is) ∙ at in
+        record {
+          given = s.given ++ next.given;
+          done = s.done ++ (as_refused next.listed ++ []);
+          gives = front_from_takes u u₂ k k₂ (s.given ++ next.given) takes;
+          takes = takes;
+          handles = h;
+          stops =
+              record {
+                unit = unit;
+                kept = kept';
+                full = λ d.
+                    subst (λ m. known_free (slice_index_or f m d).producer ≤ length (in_lane lane_of m (numbered new.peers.keys.items (filter_map unit_of (s.done ++ (as_refused next.listed ++ [])))))) (sym lane_is)
+                    (subst (λ l. known_free (slice_index_or f lane d).producer ≤ length (in_lane lane_of lane l)) (sym items)
+                    (let room = (s.handles.pushed.each lane d below).free in let none = full d in omega arith));
+              };
+          nothing_kept = tt;
+        }
+
+    -- the files ended
+    pub Deals-end : (batch : ℕ) → Next mid new u₁ k₁ u₂ k₂ None → Deals lane_of batch f f₁ old new u k u₂ k₂ (Ok End)
+    Deals-end batch next =
+        let takes = TakesUnits-more u u₁ u₂ k k₁ k₂ s.given next.given s.takes next.takes in
+        record {
+          given = s.given ++ next.given;
+          done = s.done ++ (as_refused next.listed ++ []);
+          gives = front_from_takes u u₂ k k₂ (s.given ++ next.given) takes;
+          takes = takes;
+          handles = Handles-none lane_of f f₁ f₁ old mid new s.given s.done next.given next.listed s.handles next.refused next.asks.dealing (next.order ∙ append-nil _) next.asks.kept next.asks.dealt next.asks.peers;
+          stops = (next.asks.kept, all_more_given u u₁ k k₁ s.given next.given s.takes (next.ended refl));
+          nothing_kept = tt;
+        }
+
+    -- a read failed
+    pub Deals-failed : (batch : ℕ) (error : ReplayError) → NextInVain mid new u₁ k₁ → Deals lane_of batch f f₁ old new u k u₂ k₂ (Err error)
+    Deals-failed batch error next =
+        record {
+          given = s.given ++ next.given;
+          done = s.done ++ (as_refused next.listed ++ []);
+          gives = front_more u u₁ k k₁ s.given next.given s.takes next.gives;
+          takes = tt;
+          handles = Handles-none lane_of f f₁ f₁ old mid new s.given s.done next.given next.listed s.handles next.refused next.asks.dealing next.order next.asks.kept next.asks.dealt next.asks.peers;
+          stops = tt;
+          nothing_kept = next.asks.kept;
+        }

@@ -1,0 +1,16 @@
+-- Two lists, place by place.
+use Rattle.std.proofs.Common.{List, [], ◌∷◌, ◌++◌, Result, Ok, Err, OnOk}
+use Rattle.std.specs.List.{AllZip}
+
+module _ {A B : Type 0} (R : A → B → Type 0) where
+  -- two halves
+  pub all_zip_both : (xs : List A) (ys : List B) (us : List A) (vs : List B) → AllZip R xs ys → AllZip R us vs → AllZip R (xs ++ us) (ys ++ vs)
+  all_zip_both [] [] us vs p q = q
+  all_zip_both [] (y ∷ ys) us vs p q = absurd p
+  all_zip_both (x ∷ xs) [] us vs p q = absurd p
+  all_zip_both (x ∷ xs) (y ∷ ys) us vs p q = (p.0, all_zip_both xs ys us vs p.1 q)
+
+  -- the same where both halves are known on success alone
+  pub all_zip_both_ok : {T E : Type 0} (r : Result T E) (xs : List A) (ys : List B) (us : List A) (vs : List B) → OnOk r (AllZip R xs ys) → OnOk r (AllZip R us vs) → OnOk r (AllZip R (xs ++ us) (ys ++ vs))
+  all_zip_both_ok (Ok x) xs ys us vs p q = all_zip_both xs ys us vs p q
+  all_zip_both_ok (Err e) xs ys us vs p q = p

@@ -1,0 +1,14 @@
+use Rattle.std.proofs.Common.{◌≡◌, map}
+use Rattle.mrt_body.specs.ToCome.{answers_left}
+use Rattle.lane_deal.proofs.Asking.{Listed}
+use Rattle.lane_deal.proofs.dealer.ask.Given as goal
+
+abbrev pub decreases-loop-found : goal.decreases-loop-found
+decreases-loop-found g l = answers_left l.units
+
+abbrev pub invariant-loop-found : goal.invariant-loop-found
+invariant-loop-found g l = record {
+  count : l.units.count ≡ l.initial.units.count;
+  listed : Listed l.initial.refused.items l.refused.items l.initial.units (map g.R.Source.remaining l.initial.files) l.units (map g.R.Source.remaining l.files);
+  sound : map g.R.Failures.failure_count l.files ≡ map g.R.Failures.failure_count l.initial.files;
+}

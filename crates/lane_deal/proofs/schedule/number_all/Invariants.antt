@@ -1,0 +1,5 @@
+use Rattle.lane_deal.proofs.ScheduleRuns.{AreGiven}
+use Rattle.lane_deal.proofs.schedule.number_all.Given as goal
+
+abbrev pub invariant-loop-unit : goal.invariant-loop-unit
+invariant-loop-unit l = AreGiven l.yielded l.peers.keys.items l.all.items

@@ -1,0 +1,11 @@
+use Rattle.std.proofs.Common.{map, ap, arith}
+use Rattle.std.proofs.lemmas.List.{with_items_is}
+use Rattle.rib_report.specs.Seats.{seat_of}
+use Rattle.lane_deal.proofs.SeatLists.{HoldsUnits-taken}
+use Rattle.lane_deal.proofs.seats.SeatsSessions.take.Goals as goal
+
+pub returns : goal.returns
+returns g c =
+    let took = rw c.deref_mut.ensures.value at c.take_at.ensures in
+    let is = with_items_is c.place_for.new.self.seats c.take_at.new.seats (omega arith) in
+    HoldsUnits-taken c.take_at.result _ _ (map seat_of c.take_at.new.seats) _ c.args.item.now.number c.in_ok-place.place c.args.item.now.unit c.in_ok-place.ensures.seat (ap (map seat_of) is) took

@@ -1,0 +1,20 @@
+-- What the dealer does in a round.
+use Rattle.std.specs.Prelude.{◌≡◌, ℕ, ◌+◌, ◌<◌, ◌≤◌, List, ◌++◌, length, filter, ◌==◌, slice_index_or}
+use Rattle.rtrb.specs.Ring.{sent, known_free, SameProducer}
+use Rattle.lane_deal.specs.declared.numbered.Numbered.{Numbered}
+use Rattle.lane_deal.specs.declared.feed.Feed.{Feed}
+
+-- the items whose peer has this lane, in order
+abbrev pub in_lane : (ℕ → ℕ) → ℕ → List Numbered → List Numbered
+in_lane lane_of lane items = filter (λ item. lane_of item.number == lane) items
+
+-- these items were pushed, in order
+pub record Pushed (before after : Feed) (items : List Numbered) : Type 0 where
+  pub ring : SameProducer before.producer after.producer
+  pub sent : sent after.producer ≡ sent before.producer ++ items
+  pub free : known_free before.producer ≤ known_free after.producer + length items
+
+-- each item was pushed to the lane of its peer, in order
+pub record Dealt (lane_of : ℕ → ℕ) (before after : List Feed) (items : List Numbered) : Type 0 where
+  pub lanes : length after ≡ length before
+  pub each : (lane : ℕ) (d : Feed) → lane < length before → Pushed (slice_index_or before lane d) (slice_index_or after lane d) (in_lane lane_of lane items)

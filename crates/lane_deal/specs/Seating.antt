@@ -1,0 +1,41 @@
+-- What the sessions of a lane hold.
+use Rattle.std.specs.Prelude.{◌≡◌, ℕ, ◌<◌, ◌⊎◌, true, false, List, [], ◌∷◌, ◌++◌, map, length, slice_index_or, slice_set, ◌==◌}
+use Rattle.std.specs.List.{AllByRecursion, list_any}
+use Rattle.mrt_body.specs.declared.unit.PeerKey.{PeerKey}
+use Rattle.mrt_body.specs.declared.unit.Unit.{Unit as ReplayUnit}
+use Rattle.adj_rib.specs.Sessions.{session_of}
+use Rattle.rib_report.specs.Peers.{peer_eq, peers_of, units_of_peer}
+use Rattle.rib_report.specs.Tables.{Seat}
+use Rattle.lane_deal.specs.declared.numbered.Numbered.{Numbered}
+use Rattle.lane_deal.specs.Numbers.{units_in}
+
+abbrev pub seat_by : (PeerKey → ℕ) → List ReplayUnit → PeerKey → Seat
+seat_by number units q = record { number = number q; key = q; session = session_of (units_of_peer units q) }
+
+-- one session for each peer of the units, in the order in which they first come
+abbrev pub seats_by : (PeerKey → ℕ) → List ReplayUnit → List Seat
+seats_by number units = map (seat_by number units) (peers_of units)
+
+-- each unit has its peer's number, and different peers have different ones
+pub record AreNumbered (number : PeerKey → ℕ) (items : List Numbered) : Type 0 where
+  pub each : AllByRecursion (λ item. number item.unit.peer ≡ item.number) items
+  pub apart : (p q : PeerKey) → list_any (λ u. peer_eq u.peer p) (units_in items) ≡ true → list_any (λ u. peer_eq u.peer q) (units_in items) ≡ true → number p ≡ number q → p ≡ q
+
+-- the sessions stand for these units, where their numbers are those of their peers
+abbrev pub HoldsUnits : List Seat → List Numbered → Type 0
+HoldsUnits seats items = (number : PeerKey → ℕ) → AreNumbered number items → seats_by number (units_in items) ≡ seats
+
+abbrev pub new_seat : ℕ → PeerKey → Seat
+new_seat number key = record { number = number; key = key; session = session_of [] }
+
+-- the session of this number stands there: it was found, or there was none and it is new
+abbrev pub SeatFor : List Seat → List Seat → ℕ → PeerKey → ℕ → Type 0
+SeatFor old new number key place =
+    ((new ≡ old) × (place < length old) × ((d : Seat) → (slice_index_or old place d).number ≡ number))
+    ⊎ ((list_any (λ s. s.number == number) old ≡ false) × (place ≡ length old) × (new ≡ old ++ new_seat number key ∷ []))
+
+-- the session there took one unit more
+abbrev pub TakenAt : List Seat → List Seat → ℕ → ReplayUnit → Type 0
+TakenAt old new place unit =
+    (before : List ReplayUnit) (d : Seat) → (slice_index_or old place d).session ≡ session_of before
+    → new ≡ slice_set old place (record { number = (slice_index_or old place d).number; key = (slice_index_or old place d).key; session = session_of (before ++ unit ∷ []) })

@@ -1,0 +1,159 @@
+//! The dealing of what files give to the lanes.
+
+ghost use Rattle.std.specs.Prelude.{◌≡◌, ℕ, ◌<◌, ◌∷◌, [], length, map, IfErr, IfSome, IfOk, MatchResult, OnOk, None};
+ghost use Rattle.std.specs.Option.{ForSome};
+ghost use Rattle.rtrb.specs.Ring.{known_free};
+ghost use Rattle.std.specs.Prelude.{slice_index_or};
+ghost use Rattle.mrt_body.specs.Units.{IsSmallUnit};
+ghost use Rattle.mrt_frame.specs.declared.error.ReplayError.TheVariants.{Read};
+ghost use Rattle.lane_deal.specs.Asking.{Asked, AskedInVain, StopsReading};
+ghost use Rattle.lane_deal.specs.Feeds.{Dealt};
+
+use crate::dealing::Dealing;
+use crate::feed::Feed;
+use crate::gate::Gate;
+use crate::numbered::Numbered;
+use crate::peer_numbers::Peers;
+use crate::step::Step;
+use bgp_prefix::Memory;
+use mrt_body::{Damage, Found, Unit, Units};
+use mrt_frame::{ReplayError, Source};
+use std::alloc::Global;
+
+/// Deals what files give.
+#[derive(Drop)]
+pub struct Dealer<D> {
+    pub dealing: D,
+    pub peers: Peers,
+    /// The unit that came back from a full ring. It is the next to be dealt.
+    pub kept: Option<Unit>,
+    pub refused: Vec<Damage>,
+    /// How many units were dealt. It stops at `u64::MAX`.
+    pub dealt: u64,
+    ghost small: { ForSome kept IsSmallUnit },
+}
+
+/// Pushes the unit to its lane, or hands it back where that lane's ring is full.
+fn deal_one<G: Gate>(
+    gate: &G,
+    lane: usize,
+    item: Numbered,
+    feeds: &mut [Feed],
+) -> Result<(), Numbered>
+    requires lane { lane < length feeds.old }
+    requires small { IsSmallUnit item.unit }
+    ensures dealt { OnOk result ((lane_of : ℕ → ℕ) → lane_of item.number ≡ lane → Dealt lane_of feeds.old feeds.new (item ∷ [])) }
+    ensures full { IfErr result (λ back. (back ≡ item) × ((lane_of : ℕ → ℕ) → Dealt lane_of feeds.old feeds.new []) × ((d : _) → known_free (slice_index_or feeds.old lane d).producer ≡ 0)) }
+{
+    feeds[lane].push(gate, lane, item)
+}
+
+/// Lists what the files refuse, until they give a unit or end.
+fn ask<R: Source>(
+    alloc: Global,
+    units: &mut Units,
+    files: &mut [R],
+    refused: &mut Vec<Damage>,
+) -> Result<Option<Unit>, ReplayError>
+    requires { length files.old ≡ units.old.count }
+    ensures count { units.new.count ≡ units.old.count }
+    ensures small { IfOk result (λ next. IfSome next IsSmallUnit) }
+    ensures sound { OnOk result (map R.failure_count files.new ≡ map R.failure_count files.old) }
+    ensures cause { IfErr result (StopsReading units.old (map R.remaining files.old) (map R.failure_count files.old) (map R.failure_count files.new)) }
+    ensures at_end { IfOk result (λ next. next ≡ None → units.new.file ≡ units.new.count) }
+    ensures asked { MatchResult result
+        (λ next. Asked refused.old.items refused.new.items units.old (map R.remaining files.old) units.new (map R.remaining files.new) next)
+        (λ e. (file : ℕ) → e ≡ Read file → AskedInVain refused.old.items refused.new.items units.old (map R.remaining files.old)) }
+{
+    while let Some(found) = units.next(alloc, files)? {
+        match found {
+            Found::Unit(unit) => return Ok(Some(unit)),
+            Found::Refused(damage) => refused.push(damage)?,
+        }
+    }
+    Ok(None)
+}
+
+impl<D: Dealing> Dealer<D> {
+    ghost use Rattle.lane_deal.specs.DealerSteps.{Next, NextInVain, Deals};
+    ghost use Rattle.lane_deal.specs.Answers.{IfAnswered};
+
+    pub fn new(alloc: Global, dealing: D) -> Result<Dealer<D>, Memory>
+    where
+        D: Drop,
+        ensures { IfOk result (λ dealer. (dealer.dealing ≡ dealing) × (dealer.peers.keys.items ≡ []) × (dealer.kept ≡ None) × (dealer.refused.items ≡ []) × (dealer.dealt ≡ 0)) }
+    {
+        Ok(Dealer {
+            dealing,
+            peers: Peers::new(alloc)?,
+            kept: None,
+            refused: Vec::new(alloc),
+            dealt: 0,
+        })
+    }
+
+    /// Each lane is one of so many.
+    pub fn lanes_are_below(&self, workers: usize)
+        requires { 0 < workers }
+        ensures { (number : ℕ) → D.lane_of self.now.dealing number workers < workers }
+    {}
+
+    /// The unit that came back, if there is one, and else the next of the files.
+    fn next_unit<R: Source>(
+        &mut self,
+        alloc: Global,
+        units: &mut Units,
+        files: &mut [R],
+    ) -> Result<Option<Unit>, ReplayError>
+        requires { length files.old ≡ units.old.count }
+        ensures count { units.new.count ≡ units.old.count }
+        ensures small { IfOk result (λ next. IfSome next IsSmallUnit) }
+        ensures sound { OnOk result (map R.failure_count files.new ≡ map R.failure_count files.old) }
+        ensures cause { IfErr result (StopsReading units.old (map R.remaining files.old) (map R.failure_count files.old) (map R.failure_count files.new)) }
+        ensures at_end { IfOk result (λ next. next ≡ None → units.new.file ≡ units.new.count) }
+        ensures next { MatchResult result
+            (λ next. Next self.old self.new units.old (map R.remaining files.old) units.new (map R.remaining files.new) next)
+            (λ e. (file : ℕ) → e ≡ Read file → NextInVain self.old self.new units.old (map R.remaining files.old)) }
+    {
+        if let Some(unit) = self.kept.take() {
+            return Ok(Some(unit));
+        }
+        ask(alloc, units, files, &mut self.refused)
+    }
+
+    /// Deals until a ring is full, a batch is dealt or the files end.
+    pub fn deal<R: Source, G: Gate>(
+        &mut self,
+        alloc: Global,
+        gate: &G,
+        batch: u64,
+        units: &mut Units,
+        files: &mut [R],
+        feeds: &mut [Feed],
+    ) -> Result<Step, ReplayError>
+        requires lanes { 0 < length feeds.old }
+        requires files { length files.old ≡ units.old.count }
+        ensures count { units.new.count ≡ units.old.count }
+        ensures sound { OnOk result (map R.failure_count files.new ≡ map R.failure_count files.old) }
+        ensures cause { IfErr result (StopsReading units.old (map R.remaining files.old) (map R.failure_count files.old) (map R.failure_count files.new)) }
+        ensures at_end { result ≡ Ok Step.End → units.new.file ≡ units.new.count }
+        ensures deals { IfAnswered result (Deals (λ number. D.lane_of self.old.dealing number (length feeds.old)) batch feeds.old feeds.new self.old self.new units.old (map R.remaining files.old) units.new (map R.remaining files.new) result) }
+    {
+        let _dealt = self.dealt;
+        for dealt in 0..batch {
+            let Some(unit) = self.next_unit(alloc, units, files)? else {
+                return Ok(Step::End);
+            };
+            let number = self.peers.number_of(&unit.peer)?;
+            let lane = self.dealing.lane(number, feeds.len());
+            match deal_one(gate, lane, Numbered { number, unit }, feeds) {
+                Ok(()) => self.dealt = self.dealt.saturating_add(1),
+                Err(back) => {
+                    self.kept = Some(back.unit);
+                    return Ok(Step::Blocked);
+                }
+            }
+        }
+        Ok(Step::FullBatch)
+    }
+}

@@ -1,0 +1,143 @@
+//! The numbers of peers.
+
+ghost use Rattle.std.specs.Prelude.{◌≡◌, ℕ, [], IfOk, false, MatchOption, slice_get, slice_index_or, length, ◌<◌, Some, true};
+ghost use Rattle.std.specs.List.{list_any};
+ghost use Rattle.mrt_body.specs.declared.unit.PeerKey.{PeerKey as Peer};
+ghost use Rattle.rib_report.specs.Peers.{peer_eq, addr_eq};
+ghost use Rattle.lane_deal.specs.Keys.{AreApart};
+
+use bgp_prefix::Memory;
+use mrt_body::{PeerAddr, PeerKey};
+use std::alloc::Global;
+use std::collections::HashMap;
+
+/// How many places hold the number of a peer that was met before: as many as ten bits tell.
+const RECENT: usize = 1_024;
+
+/// The peers so far, by number.
+#[derive(Drop)]
+pub struct Peers {
+    keys: Vec<PeerKey>,
+    /// Where a peer may stand among them: each use looks.
+    numbers: HashMap<PeerKey, usize>,
+    /// The number of the last peer at each place of keys: mostly the one that is looked for.
+    recent: Vec<usize>,
+    ghost apart: { AreApart keys.items },
+}
+
+/// A place of a peer, below `RECENT`. Peers may share one.
+fn recent_place(peer: &PeerKey) -> usize {
+    let low = match peer.addr {
+        PeerAddr::V4(addr) => u64::from(addr),
+        PeerAddr::V6(addr) => (addr & 0xFFFF_FFFF_FFFF_FFFF) as u64,
+    };
+    let mixed = (low.rotate_left(32) ^ u64::from(peer.asn)).wrapping_mul(0x9e37_79b9_7f4a_7c15);
+    (mixed >> 54) as usize
+}
+
+/// Whether they are one peer.
+fn is_same_peer(peer: &PeerKey, other: &PeerKey) -> bool
+    ensures { result ≡ peer_eq peer.now other.now }
+{
+    peer.asn == other.asn && is_same_addr(&peer.addr, &other.addr)
+}
+
+fn is_same_addr(addr: &PeerAddr, other: &PeerAddr) -> bool
+    ensures { result ≡ addr_eq addr.now other.now }
+{
+    match addr {
+        PeerAddr::V4(a) => match other {
+            PeerAddr::V4(b) => *a == *b,
+            PeerAddr::V6(_) => false,
+        },
+        PeerAddr::V6(a) => match other {
+            PeerAddr::V6(b) => *a == *b,
+            PeerAddr::V4(_) => false,
+        },
+    }
+}
+
+/// The place of a peer among these, found by going over all.
+fn scan(keys: &[PeerKey], peer: &PeerKey) -> Option<usize>
+    ensures { MatchOption result (list_any (peer_eq peer.now) keys.now ≡ false) (λ number. slice_get keys.now number ≡ Some peer.now) }
+{
+    for (number, key) in keys.iter().enumerate() {
+        if is_same_peer(peer, key) {
+            return Some(number);
+        }
+    }
+    None
+}
+
+/// The place of a peer, if it is this one.
+fn seen_at(keys: &[PeerKey], number: usize, peer: &PeerKey) -> bool
+    ensures { result ≡ true → slice_get keys.now number ≡ Some peer.now }
+{
+    match keys.get(number) {
+        Some(key) => is_same_peer(peer, key),
+        None => false,
+    }
+}
+
+impl Peers {
+    ghost use Rattle.lane_deal.specs.Numbers.{NumbersPeer};
+
+    pub fn new(alloc: Global) -> Result<Peers, Memory>
+        ensures { IfOk result (λ peers. peers.keys.items ≡ []) }
+    {
+        Ok(Peers {
+            keys: Vec::new(alloc),
+            numbers: HashMap::new(alloc),
+            recent: vec![in alloc; 0; RECENT]?,
+        })
+    }
+
+    /// The number of a peer that was met before.
+    fn find(&self, peer: &PeerKey) -> Option<usize>
+        ensures { MatchOption result (list_any (peer_eq peer.now) self.now.keys.items ≡ false) (λ number. slice_get self.now.keys.items number ≡ Some peer.now) }
+    {
+        if let Some(number) = self.recent.get(recent_place(peer)) {
+            if seen_at(&self.keys, *number, peer) {
+                return Some(*number);
+            }
+        }
+        if let Some(number) = self.numbers.get(peer) {
+            if seen_at(&self.keys, *number, peer) {
+                return Some(*number);
+            }
+        }
+        scan(&self.keys, peer)
+    }
+
+    /// A new peer gets the next number.
+    fn add(&mut self, peer: &PeerKey) -> Result<usize, Memory>
+        requires { list_any (peer_eq peer.now) self.old.keys.items ≡ false }
+        ensures { IfOk result (NumbersPeer self.old.keys.items self.new.keys.items peer.now) }
+    {
+        let number = self.keys.len();
+        self.keys.reserve(1)?;
+        self.numbers.insert(*peer, number)?;
+        self.keys.push_reserved(*peer);
+        Ok(number)
+    }
+
+    fn find_or_add(&mut self, peer: &PeerKey) -> Result<usize, Memory>
+        ensures { IfOk result (NumbersPeer self.old.keys.items self.new.keys.items peer.now) }
+    {
+        if let Some(number) = self.find(peer) {
+            return Ok(number);
+        }
+        self.add(peer)
+    }
+
+    /// The number of a peer. A peer is numbered when it first comes.
+    pub fn number_of(&mut self, peer: &PeerKey) -> Result<usize, Memory>
+        ensures { IfOk result (NumbersPeer self.old.keys.items self.new.keys.items peer.now) }
+    {
+        let number = self.find_or_add(peer)?;
+        if let Some(recent) = self.recent.get_mut(recent_place(peer)) {
+            *recent = number;
+        }
+        Ok(number)
+    }
+}

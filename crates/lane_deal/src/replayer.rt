@@ -1,0 +1,311 @@
+//! The replay of files by workers in lanes, round by round.
+
+ghost use Rattle.std.specs.Prelude.{◌≡◌, ◌≢◌, ◌<◌, false, length};
+ghost use Rattle.lane_deal.specs.LaneRings.{AreReady};
+ghost use Rattle.lane_deal.specs.declared.state.State.TheVariants.{Spent};
+ghost use Rattle.lane_deal.specs.Answers.{StateAfter};
+ghost use Rattle.lane_deal.specs.Replayers.{StandsForSome};
+ghost use Rattle.lane_deal.specs.Shown.{state_at};
+
+use crate::collecting::collect_lanes;
+use crate::dealer::Dealer;
+use crate::dealing::Dealing;
+use crate::feed::Feed;
+use crate::gate::Gate;
+use crate::lane::make_lanes;
+use crate::plan::Plan;
+use crate::round::{run_round, settle_lanes};
+use crate::seats::Seats;
+use crate::state::State;
+use crate::step::Step;
+use crate::worker::{Patience, Worker};
+use adj_rib::SharedRoute;
+use bgp_prefix::{Memory, PrefixMap};
+use mrt_body::Units;
+use mrt_frame::{ReplayError, Source};
+use rib_report::Tables;
+use std::alloc::Global;
+use std::thread::Threads;
+
+/// Deals what files give to lanes, round by round.
+#[derive(Drop)]
+pub struct Replayer<M: PrefixMap<SharedRoute>, D: Dealing> {
+    plan: Plan,
+    dealer: Dealer<D>,
+    feeds: Vec<Feed>,
+    workers: Vec<Worker<Seats<M>>>,
+    rounds: u64,
+    state: State,
+    ghost lanes: { 0 < length feeds.items },
+    ghost ready: { state ≢ Spent → AreReady plan.ring feeds.items workers.items },
+    ghost stands: { state ≢ Spent → ∥ StandsForSome (D.lane_of dealer.dealing) plan.ring (state_at dealer feeds.items workers.items false) ∥₁ },
+}
+
+fn state_after(answer: &Result<Step, ReplayError>) -> State
+    ensures { StateAfter answer.now result }
+{
+    match answer {
+        Ok(Step::End) => State::Ended,
+        Ok(_) => State::Running,
+        Err(ReplayError::Read { file }) => State::Failed(*file),
+        Err(_) => State::Spent,
+    }
+}
+
+impl<M: PrefixMap<SharedRoute> + Send + Drop, D: Dealing + Send> Replayer<M, D> {
+    ghost use Rattle.std.specs.Prelude.{◌≡◌, ◌≢◌, ◌<◌, ◌+◌, ◌↔◌, ℕ, IfOk, OnOk, OnErr, IfErr, IsErr, IsTrue, None, length, map, min, ◌^◌, ◌-◌, []};
+    ghost use Rattle.lane_deal.specs.declared.state.State.TheVariants.{Running, Spent};
+    ghost use Rattle.lane_deal.specs.Answers.{IfAnswered, Repeats};
+    ghost use Rattle.lane_deal.specs.Asking.{ReadsOn};
+    ghost use Rattle.lane_deal.specs.Plans.{IsPlan};
+    ghost use Rattle.lane_deal.specs.Playing.{shown, PlaysOn};
+    ghost use Rattle.lane_deal.specs.Replayers.{ReplayerStandsFor};
+    ghost use Rattle.lane_deal.specs.Rounds.{Settles, IsSettled};
+
+    /// A replayer with empty lanes.
+    pub fn new(alloc: Global, plan: Plan, dealing: D) -> Result<Replayer<M, D>, Memory>
+    where
+        D: Drop,
+        requires { IsPlan plan }
+        ensures running { IfOk result (λ replayer. (replayer.state ≡ Running) × (replayer.rounds ≡ 0) × (replayer.dealer.kept ≡ None)) }
+        ensures plan { IfOk result (λ replayer. (replayer.plan ≡ plan) × (replayer.dealer.dealing ≡ dealing)) }
+        ensures lanes { IfOk result (λ replayer. length (shown replayer).lanes ≡ plan.workers) }
+        ensures settled { IfOk result (λ replayer. IsSettled (shown replayer)) }
+        ensures stands { IfOk result (λ replayer. ReplayerStandsFor (D.lane_of dealing) plan.ring [] [] (shown replayer)) }
+    {
+        let (feeds, workers) = make_lanes(alloc, plan.ring, plan.workers)?;
+        Ok(Replayer {
+            plan,
+            dealer: Dealer::new(alloc, dealing)?,
+            feeds,
+            workers,
+            rounds: 0,
+            state: State::Running,
+        })
+    }
+
+    fn patience(&self) -> Patience
+        ensures { result.batch ≡ self.now.plan.batch }
+    {
+        Patience {
+            looks: self.plan.looks,
+            batch: self.plan.batch,
+        }
+    }
+
+    /// One round: deals on while the workers take.
+    pub fn round<T: Threads + Sync, R: Source + Send, G: Gate>(
+        &mut self,
+        rt: &T,
+        alloc: Global,
+        units: &mut Units,
+        files: &mut [R],
+        gate: &G,
+    ) -> Result<Step, ReplayError>
+        requires { length files.old ≡ units.old.count }
+        ensures count { units.new.count ≡ units.old.count }
+        ensures reads { self.old.state ≡ Running → ReadsOn units.old (map R.remaining files.old) (map R.failure_count files.old) units.new (map R.failure_count files.new) result }
+        ensures forks { self.old.state ≡ Running → self.new.rounds ≡ min (self.old.rounds + 1) (2 ^ 64 - 1) }
+        ensures played { self.old.state ≡ Running → IfAnswered result (PlaysOn (D.lane_of self.old.dealer.dealing) self.old.plan (shown self.old) (shown self.new) units.old (map R.remaining files.old) units.new (map R.remaining files.new) result) }
+        ensures kept { (self.new.plan ≡ self.old.plan) × (self.old.state ≡ Running → IfAnswered result (self.new.dealer.dealing ≡ self.old.dealer.dealing)) }
+        ensures idle { self.old.state ≢ Running → (self.new ≡ self.old) × (units.new ≡ units.old) × (files.new ≡ files.old) }
+        ensures repeats { Repeats self.old.state result }
+        ensures state { self.old.state ≡ Running → StateAfter result self.new.state }
+    {
+        match self.state {
+            State::Running => {}
+            State::Ended => return Ok(Step::End),
+            State::Failed(file) => return Err(ReplayError::Read { file }),
+            State::Spent => return Err(ReplayError::Spent),
+        }
+        self.rounds = self.rounds.saturating_add(1);
+        let patience = self.patience();
+        let lanes = self.feeds.len();
+        self.dealer.lanes_are_below(lanes);
+        let answer = run_round(
+            rt,
+            alloc,
+            self.plan.ring,
+            gate,
+            patience,
+            &mut self.dealer,
+            units,
+            files,
+            &mut self.feeds,
+            &mut self.workers,
+        );
+        self.state = state_after(&answer);
+        answer
+    }
+
+    /// One round without dealing, after which all rings are empty.
+    pub fn settle<T: Threads + Sync, G: Gate>(
+        &mut self,
+        rt: &T,
+        alloc: Global,
+        gate: &G,
+    ) -> Result<(), ReplayError>
+        ensures forks { self.old.state ≢ Spent → self.new.rounds ≡ min (self.old.rounds + 1) (2 ^ 64 - 1) }
+        ensures memory { self.old.state ≢ Spent → IfErr result (λ e. e ≡ ReplayError.Memory) }
+        ensures settled { OnOk result (Settles (D.lane_of self.old.dealer.dealing) self.old.plan.ring (shown self.old) (shown self.new)) }
+        ensures kept { (self.new.plan ≡ self.old.plan) × (self.new.dealer ≡ self.old.dealer) }
+        ensures same { OnOk result (self.new.state ≡ self.old.state) }
+        ensures spent { OnErr result (self.new.state ≡ Spent) }
+        ensures idle { self.old.state ≡ Spent → (self.new ≡ self.old) × (result ≡ Err ReplayError.Spent) }
+    {
+        if let State::Spent = self.state {
+            return Err(ReplayError::Spent);
+        }
+        self.rounds = self.rounds.saturating_add(1);
+        let patience = self.patience();
+        let settled = settle_lanes(
+            rt,
+            alloc,
+            self.plan.ring,
+            gate,
+            patience,
+            &mut self.feeds,
+            &mut self.workers,
+        );
+        let Ok(()) = settled else {
+            self.state = State::Spent;
+            return Err(ReplayError::Memory);
+        };
+        Ok(())
+    }
+}
+
+impl<M: PrefixMap<SharedRoute> + Drop, D: Dealing + Drop> Replayer<M, D> {
+    ghost use Rattle.std.specs.Prelude.{◌≡◌, ◌≢◌, List, IfOk, IfErr, IsErr};
+    ghost use Rattle.mrt_body.specs.declared.unit.Damage.{Damage};
+    ghost use Rattle.mrt_body.specs.declared.unit.Unit.{Unit as ReplayUnit};
+    ghost use Rattle.rib_report.specs.Tables.{tables_of};
+    ghost use Rattle.lane_deal.specs.declared.state.State.TheVariants.{Spent};
+    ghost use Rattle.lane_deal.specs.Playing.{shown};
+    ghost use Rattle.lane_deal.specs.Replayers.{ReplayerStandsFor};
+    ghost use Rattle.lane_deal.specs.Rounds.{IsSettled};
+
+    /// The tables of all dealt units. Where memory is refused the replayer comes back as it was.
+    pub fn into_tables(self, alloc: Global) -> Result<Tables<M>, (Replayer<M, D>, ReplayError)>
+        requires { self.state ≢ Spent → IsSettled (shown self) }
+        ensures tables { (units : List ReplayUnit) (refused : List Damage) → ReplayerStandsFor (D.lane_of self.dealer.dealing) self.plan.ring units refused (shown self) → IfOk result (λ tables. tables ≡ tables_of units refused) }
+        ensures back { IfErr result (λ back. (shown back.0 ≡ shown self) × (back.0.plan ≡ self.plan) × (back.0.dealer.dealing ≡ self.dealer.dealing) × (back.0.rounds ≡ self.rounds) × (back.0.state ≡ self.state)) }
+        ensures memory { self.state ≢ Spent → IfErr result (λ back. back.1 ≡ ReplayError.Memory) }
+        ensures spent { self.state ≡ Spent → result ≡ Err (self, ReplayError.Spent) }
+    {
+        if let State::Spent = self.state {
+            return Err((self, ReplayError::Spent));
+        }
+        let lanes = self.feeds.len();
+        self.dealer.lanes_are_below(lanes);
+        let Replayer {
+            plan,
+            dealer,
+            feeds,
+            workers,
+            rounds,
+            state,
+        } = self;
+        let Dealer {
+            dealing,
+            peers,
+            kept,
+            refused,
+            dealt,
+        } = dealer;
+        match collect_lanes(alloc, workers, refused) {
+            Ok(tables) => Ok(tables),
+            Err((workers, refused)) => {
+                let dealer = Dealer {
+                    dealing,
+                    peers,
+                    kept,
+                    refused,
+                    dealt,
+                };
+                let back = Replayer {
+                    plan,
+                    dealer,
+                    feeds,
+                    workers,
+                    rounds,
+                    state,
+                };
+                Err((back, ReplayError::Memory))
+            }
+        }
+    }
+}
+
+impl<M: PrefixMap<SharedRoute>, D: Dealing> Replayer<M, D> {
+    ghost use Rattle.std.specs.Prelude.{ℕ, ◌<◌, ◌≡◌, ◌≢◌, true, length, slice_get};
+    ghost use Rattle.lane_deal.specs.Replayers.{LaneState};
+    ghost use Rattle.lane_deal.specs.Playing.{shown};
+    ghost use Rattle.lane_deal.specs.Rounds.{IsSettled};
+    ghost use Rattle.lane_deal.specs.declared.state.State.TheVariants.{Spent};
+
+    /// Each peer's lane is one of the lanes.
+    pub fn lanes_are_below(&self)
+        requires { self.now.state ≢ Spent }
+        ensures { (number : ℕ) → D.lane_of self.now.dealer.dealing number (length (shown self.now).lanes) < length (shown self.now).lanes }
+    {
+        let lanes = self.feeds.len();
+        self.dealer.lanes_are_below(lanes);
+    }
+
+    /// How many calls of `round` and `settle` forked. It stops at `u64::MAX`.
+    pub fn rounds(&self) -> u64
+        ensures { result ≡ self.now.rounds }
+    {
+        self.rounds
+    }
+
+    /// Whether memory ran out, or there were too many records.
+    pub fn is_spent(&self) -> bool
+        ensures { result ≡ (shown self.now).spent }
+    {
+        match self.state {
+            State::Spent => true,
+            _ => false,
+        }
+    }
+
+    /// How many units wait in a lane's ring.
+    pub fn waiting(&self, lane: usize) -> usize
+        ensures { self.now.state ≢ Spent → (state : LaneState) → slice_get (shown self.now).lanes lane ≡ Some state → result ≡ length state.ring.sent }
+    {
+        let workers = self.workers.as_slice();
+        if lane >= workers.len() {
+            return 0;
+        }
+        workers[lane].consumer.cached_slots()
+    }
+
+    /// Whether all rings are empty.
+    pub fn is_settled(&self) -> bool
+        ensures settled { self.now.state ≢ Spent → result ≡ true → IsSettled (shown self.now) }
+        ensures waits { self.now.state ≢ Spent → IsSettled (shown self.now) → result ≡ true }
+    {
+        for worker in &self.workers {
+            if worker.consumer.cached_slots() > 0 {
+                return false;
+            }
+        }
+        true
+    }
+
+    /// How many units were dealt. It stops at `u64::MAX`.
+    pub fn dealt(&self) -> u64
+        ensures { result ≡ (shown self.now).dealt }
+    {
+        self.dealer.dealt
+    }
+
+    /// How many units a lane took. It stops at `u64::MAX`.
+    pub fn took(&self, lane: usize) -> u64 {
+        match self.workers.get(lane) {
+            Some(worker) => worker.taken,
+            None => 0,
+        }
+    }
+}

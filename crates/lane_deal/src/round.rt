@@ -1,0 +1,132 @@
+//! One round over all lanes.
+
+ghost use Rattle.std.specs.Prelude.{◌≡◌, ◌<◌, ℕ, OnOk, length, map};
+ghost use Rattle.std.specs.List.{AllZip};
+ghost use Rattle.std.specs.Thread.{IsSync, IsSend};
+ghost use Rattle.lane_deal.specs.Answers.{IfAnswered};
+ghost use Rattle.lane_deal.specs.Asking.{ReadsOn};
+ghost use Rattle.lane_deal.specs.DealerSteps.{DealsOn};
+ghost use Rattle.lane_deal.specs.LaneWorkers.{Worked};
+ghost use Rattle.lane_deal.specs.LaneRings.{AreReady, Settled};
+ghost use Rattle.lane_deal.specs.LaneRounds.{PlaysLanes};
+
+use crate::dealer::Dealer;
+use crate::dealing::Dealing;
+use crate::feed::Feed;
+use crate::gate::Gate;
+use crate::lane::renew_all;
+use crate::sessions::Sessions;
+use crate::step::Step;
+use crate::worker::{Patience, Worker, run_all};
+use bgp_prefix::Memory;
+use mrt_body::Units;
+use mrt_frame::{ReplayError, Source};
+use std::alloc::Global;
+use std::sync::atomic::{AtomicBool, Ordering};
+use std::thread::{Threads, join_mut};
+
+/// Deals in one half while the workers take in the other.
+fn deal_and_work<
+    T: Threads + Sync,
+    D: Dealing + Send,
+    R: Source + Send,
+    S: Sessions + Send,
+    G: Gate,
+>(
+    rt: &T,
+    alloc: Global,
+    gate: &G,
+    patience: Patience,
+    dealer: &mut Dealer<D>,
+    units: &mut Units,
+    files: &mut [R],
+    feeds: &mut [Feed],
+    workers: &mut [Worker<S>],
+) -> (Result<Step, ReplayError>, Result<(), Memory>)
+    requires lanes { 0 < length feeds.old }
+    requires files { length files.old ≡ units.old.count }
+    ensures deals { DealsOn (λ number. D.lane_of dealer.old.dealing number (length feeds.old)) patience.batch feeds.old feeds.new dealer.old dealer.new units.old (map R.remaining files.old) (map R.failure_count files.old) units.new (map R.remaining files.new) (map R.failure_count files.new) result.0 }
+    ensures worked { OnOk result.1 (AllZip (Worked S.stands_for) workers.old workers.new) }
+{
+    let flag = AtomicBool::new(false);
+    let over = &flag;
+    let batch = patience.batch;
+    let mut deal = || -> Result<Step, ReplayError>
+        requires { (0 < length feeds.now) × (length files.now ≡ units.now.count) }
+        ensures { DealsOn (λ number. D.lane_of dealer.entry.now.dealing number (length feeds.entry.now)) batch feeds.entry.now feeds.exit.now dealer.entry.now dealer.exit.now units.entry.now (map R.remaining files.entry.now) (map R.failure_count files.entry.now) units.exit.now (map R.remaining files.exit.now) (map R.failure_count files.exit.now) result }
+    {
+        let step = dealer.deal(alloc, gate, batch, units, files, feeds);
+        over.store(true, Ordering::SeqCst);
+        step
+    };
+    let mut work = || -> Result<(), Memory>
+        requires { IsSync T.row × IsSync G.row × IsSend S.row }
+        ensures { OnOk result (AllZip (Worked S.stands_for) workers.entry.now workers.exit.now) }
+    { run_all(rt, alloc, gate, over, patience, workers) };
+    join_mut(rt, &mut deal, &mut work)
+}
+
+/// One round over all lanes, whose rings are made anew at its end.
+pub fn run_round<
+    T: Threads + Sync,
+    D: Dealing + Send,
+    R: Source + Send,
+    S: Sessions + Send,
+    G: Gate,
+>(
+    rt: &T,
+    alloc: Global,
+    capacity: usize,
+    gate: &G,
+    patience: Patience,
+    dealer: &mut Dealer<D>,
+    units: &mut Units,
+    files: &mut [R],
+    feeds: &mut [Feed],
+    workers: &mut [Worker<S>],
+) -> Result<Step, ReplayError>
+    requires lanes { 0 < length feeds.old }
+    requires files { length files.old ≡ units.old.count }
+    requires ready { AreReady capacity feeds.old workers.old }
+    ensures count { units.new.count ≡ units.old.count }
+    ensures reads { ReadsOn units.old (map R.remaining files.old) (map R.failure_count files.old) units.new (map R.failure_count files.new) result }
+    ensures plays { IfAnswered result (PlaysLanes S.stands_for (λ number. D.lane_of dealer.old.dealing number (length feeds.old)) capacity patience.batch feeds.old workers.old feeds.new workers.new dealer.old dealer.new units.old (map R.remaining files.old) units.new (map R.remaining files.new) result) }
+{
+    let (step, worked) = deal_and_work(
+        rt, alloc, gate, patience, dealer, units, files, feeds, workers,
+    );
+    let Ok(()) = worked else {
+        return Err(ReplayError::Memory);
+    };
+    match step {
+        Ok(step) => {
+            renew_all(alloc, capacity, feeds, workers)?;
+            Ok(step)
+        }
+        Err(error) => {
+            let ReplayError::Read { file } = error else {
+                return Err(error);
+            };
+            renew_all(alloc, capacity, feeds, workers)?;
+            Err(ReplayError::Read { file })
+        }
+    }
+}
+
+/// One round without dealing: what waits is taken.
+pub fn settle_lanes<T: Threads + Sync, S: Sessions + Send, G: Gate>(
+    rt: &T,
+    alloc: Global,
+    capacity: usize,
+    gate: &G,
+    patience: Patience,
+    feeds: &mut [Feed],
+    workers: &mut [Worker<S>],
+) -> Result<(), Memory>
+    requires ready { AreReady capacity feeds.old workers.old }
+    ensures { OnOk result (Settled S.stands_for capacity feeds.old workers.old feeds.new workers.new) }
+{
+    let over = AtomicBool::new(true);
+    run_all(rt, alloc, gate, &over, patience, workers)?;
+    renew_all(alloc, capacity, feeds, workers)
+}

@@ -1,0 +1,194 @@
+//! The lanes on one thread, by a list of events.
+
+ghost use Rattle.std.specs.Prelude.{◌≡◌, ℕ, ◌<◌, ◌++◌, ◌∷◌, [], List, length, take, drop, IfOk, OnOk, min, ◌-◌, ◌^◌};
+ghost use Rattle.mrt_body.specs.declared.unit.Unit.{Unit as ReplayUnit};
+ghost use Rattle.rib_report.specs.Peers.{peers_of};
+ghost use Rattle.lane_deal.specs.Lanes.{lane_of_unit};
+ghost use Rattle.lane_deal.specs.Numbers.{numbered};
+ghost use Rattle.lane_deal.specs.Schedules.{LanesState, dealt, took, after_turn, after_turns, start};
+ghost use Rattle.lane_deal.specs.ShownLanes.{LaneShows, LanesShow, Shows};
+
+use crate::dealing::Dealing;
+use crate::numbered::Numbered;
+use crate::peer_numbers::Peers;
+use crate::seats::Seats;
+use crate::sessions::Sessions;
+use crate::turn::Turn;
+use adj_rib::SharedRoute;
+use bgp_prefix::{Memory, PrefixMap};
+use mrt_body::Unit;
+use std::alloc::Global;
+use std::collections::VecDeque;
+
+/// A lane whose ring has no bound.
+#[derive(Drop)]
+pub struct OneLane<M: PrefixMap<SharedRoute>> {
+    pub ring: VecDeque<Numbered>,
+    pub seats: Seats<M>,
+    pub took: usize,
+}
+
+/// Lanes on one thread.
+#[derive(Drop)]
+pub struct Lanes<M: PrefixMap<SharedRoute>> {
+    undealt: VecDeque<Numbered>,
+    lanes: Vec<OneLane<M>>,
+}
+
+/// The units, each with its peer's number.
+fn number_all(alloc: Global, units: Vec<Unit>) -> Result<VecDeque<Numbered>, Memory>
+    ensures { IfOk result (λ all. all.items ≡ numbered (peers_of units.items) units.items) }
+{
+    let mut peers = Peers::new(alloc)?;
+    let mut all = VecDeque::new(alloc);
+    for unit in units {
+        let number = peers.number_of(&unit.peer)?;
+        all.push_back(Numbered { number, unit })?;
+    }
+    Ok(all)
+}
+
+/// Lanes to which nothing was dealt.
+fn empty_lanes<M: PrefixMap<SharedRoute> + Drop>(
+    alloc: Global,
+    count: usize,
+) -> Result<Vec<OneLane<M>>, Memory>
+    ensures { IfOk result (λ lanes. (length lanes.items ≡ count) × ((all units : List ReplayUnit) → LanesShow all (numbered (peers_of all) units) lanes.items (start units))) }
+{
+    let mut lanes = Vec::new(alloc);
+    for made in 0..count {
+        lanes.push(OneLane {
+            ring: VecDeque::new(alloc),
+            seats: Seats::fresh(alloc),
+            took: 0,
+        })?;
+    }
+    Ok(lanes)
+}
+
+/// Moves the first unit that is not dealt to the end of its lane's ring.
+fn deal<M: PrefixMap<SharedRoute> + Drop, D: Dealing>(
+    undealt: &mut VecDeque<Numbered>,
+    lanes: &mut [OneLane<M>],
+    dealing: &D,
+) -> Result<(), Memory>
+    requires { 0 < length lanes.old }
+    ensures { OnOk result ((all : List ReplayUnit) (s : LanesState) → LanesShow all undealt.old.items lanes.old s → LanesShow all undealt.new.items lanes.new (dealt (lane_of_unit (λ number. D.lane_of dealing.now number (length lanes.old)) all) s s.undealt)) }
+{
+    let Some(item) = undealt.pop_front() else {
+        return Ok(());
+    };
+    let lane = dealing.lane(item.number, lanes.len());
+    lanes[lane].ring.push_back(item)?;
+    Ok(())
+}
+
+/// Gives the first unit in a ring to its session.
+fn take_one<M: PrefixMap<SharedRoute> + Drop>(
+    alloc: Global,
+    lane: &mut OneLane<M>,
+) -> Result<(), Memory>
+    ensures { OnOk result ((all waiting taken : List ReplayUnit) → LaneShows all lane.old waiting taken → LaneShows all lane.new (drop 1 waiting) (taken ++ take 1 waiting)) }
+{
+    let Some(item) = lane.ring.pop_front() else {
+        return Ok(());
+    };
+    lane.seats.take(alloc, &item)?;
+    lane.took = lane.took.saturating_add(1);
+    Ok(())
+}
+
+/// Gives the first unit in a lane's ring to its session.
+fn take_from<M: PrefixMap<SharedRoute> + Drop>(
+    alloc: Global,
+    lanes: &mut [OneLane<M>],
+    lane: usize,
+) -> Result<(), Memory>
+    ensures { OnOk result ((all : List ReplayUnit) (undealt : List _) (s : LanesState) → LanesShow all undealt lanes.old s → LanesShow all undealt lanes.new (took lane s (s.ring lane))) }
+{
+    if lane >= lanes.len() {
+        return Ok(());
+    }
+    take_one(alloc, &mut lanes[lane])
+}
+
+/// Applies one event.
+fn apply<M: PrefixMap<SharedRoute> + Drop, D: Dealing>(
+    alloc: Global,
+    undealt: &mut VecDeque<Numbered>,
+    lanes: &mut [OneLane<M>],
+    turn: Turn,
+    dealing: &D,
+) -> Result<(), Memory>
+    requires { 0 < length lanes.old }
+    ensures { OnOk result ((all : List ReplayUnit) (s : LanesState) → LanesShow all undealt.old.items lanes.old s → LanesShow all undealt.new.items lanes.new (after_turn (lane_of_unit (λ number. D.lane_of dealing.now number (length lanes.old)) all) s turn)) }
+{
+    match turn {
+        Turn::Deal => deal(undealt, lanes, dealing),
+        Turn::Take(lane) => take_from(alloc, lanes, lane),
+    }
+}
+
+/// Applies the events in order to lanes to which nothing was dealt.
+fn apply_all<M: PrefixMap<SharedRoute> + Drop, D: Dealing>(
+    alloc: Global,
+    undealt: &mut VecDeque<Numbered>,
+    lanes: &mut [OneLane<M>],
+    turns: &[Turn],
+    dealing: &D,
+) -> Result<(), Memory>
+    requires { 0 < length lanes.old }
+    ensures { OnOk result ((all : List ReplayUnit) → LanesShow all undealt.old.items lanes.old (start all) → LanesShow all undealt.new.items lanes.new (after_turns (λ number. D.lane_of dealing.now number (length lanes.old)) all turns.now)) }
+{
+    for turn in turns {
+        apply(alloc, undealt, lanes, *turn, dealing)?;
+    }
+    Ok(())
+}
+
+/// Applies the events in order to the lanes of so many workers, where at first none of the units is dealt.
+pub fn run_schedule<M: PrefixMap<SharedRoute> + Drop, D: Dealing>(
+    alloc: Global,
+    units: Vec<Unit>,
+    turns: &[Turn],
+    dealing: &D,
+    workers: usize,
+) -> Result<Lanes<M>, Memory>
+    requires { 0 < workers }
+    ensures lanes { IfOk result (λ lanes. length lanes.lanes.items ≡ workers) }
+    ensures shows { IfOk result (λ lanes. Shows units.items lanes (after_turns (λ number. D.lane_of dealing.now number workers) units.items turns.now)) }
+{
+    let mut undealt = number_all(alloc, units)?;
+    let mut lanes = empty_lanes(alloc, workers)?;
+    apply_all(alloc, &mut undealt, &mut lanes, turns, dealing)?;
+    Ok(Lanes { undealt, lanes })
+}
+
+impl<M: PrefixMap<SharedRoute> + Drop> Lanes<M> {
+    /// How many units are not dealt.
+    pub fn undealt(&self) -> usize
+        ensures { (all : List ReplayUnit) (s : LanesState) → Shows all self.now s → result ≡ length s.undealt }
+    {
+        self.undealt.len()
+    }
+
+    /// How many units wait for a lane's worker.
+    pub fn waiting(&self, lane: usize) -> usize
+        ensures { (all : List ReplayUnit) (s : LanesState) → Shows all self.now s → result ≡ length (s.ring lane) }
+    {
+        match self.lanes.get(lane) {
+            Some(lane) => lane.ring.len(),
+            None => 0,
+        }
+    }
+
+    /// How many units a lane took.
+    pub fn took(&self, lane: usize) -> usize
+        ensures { (all : List ReplayUnit) (s : LanesState) → Shows all self.now s → result ≡ min (length (s.taken lane)) (2 ^ 64 - 1) }
+    {
+        match self.lanes.get(lane) {
+            Some(lane) => lane.took,
+            None => 0,
+        }
+    }
+}
