@@ -132,52 +132,6 @@ impl Slot {
     }
 }
 
-/// Where a session will look for a reading when it takes a unit. Slots, and what they hold, lie far apart
-/// in memory: a caller that touches those of several units first lets these reads overlap.
-#[derive(Drop)]
-pub struct Ahead<'a> {
-    hash: u32,
-    slots: &'a [Slot],
-}
-
-impl<'a> Ahead<'a> {
-    /// Reads a little of the slots. The number means nothing.
-    pub fn touch(&self) -> usize {
-        match self.slots.first() {
-            Some(slot) => slot.is_kept() as usize,
-            None => 0,
-        }
-    }
-
-    /// The reading that will be found there, if any.
-    pub fn known(&self) -> Option<Known<'a>> {
-        for slot in self.slots {
-            match slot {
-                Slot::Kept { hash, reading } => {
-                    if *hash == self.hash {
-                        return Some(Known { reading });
-                    }
-                }
-                Slot::Empty => return None,
-            }
-        }
-        None
-    }
-}
-
-/// A reading that a session will find when it takes a unit.
-#[derive(Drop)]
-pub struct Known<'a> {
-    reading: &'a Reading,
-}
-
-impl<'a> Known<'a> {
-    /// Reads a little of each part of it. The number means nothing.
-    pub fn touch(&self) -> usize {
-        self.reading.touch()
-    }
-}
-
 /// How many places there are at first. There are always a power of two.
 const FIRST_PLACES: usize = 16;
 
@@ -308,21 +262,34 @@ impl AttrCache {
         }
     }
 
-    /// Where the reading of attributes of this hash would be.
-    pub(crate) fn ahead(&self, hash: AttrHash) -> Ahead<'_> {
-        let place = self.place_of(hash.value);
-        let slots = match self
-            .slots
-            .as_slice()
-            .get(place..place.saturating_add(NEAR_SLOTS))
-        {
-            Some(slots) => slots,
-            None => &[],
-        };
-        Ahead {
-            hash: hash.value,
-            slots,
+    /// Reads a little of the slot where the reading of attributes of this hash would be. The number means
+    /// nothing.
+    pub(crate) fn prefetch_slot(&self, hash: AttrHash) -> usize {
+        match self.slots.as_slice().get(self.place_of(hash.value)) {
+            Some(slot) => slot.is_kept() as usize,
+            None => 0,
         }
+    }
+
+    /// Reads a little of the reading of attributes of this hash, if it is kept. The number means nothing.
+    pub(crate) fn prefetch_reading(&self, hash: AttrHash) -> usize {
+        let place = self.place_of(hash.value);
+        for at in place..place.saturating_add(NEAR_SLOTS) {
+            match self.slots.as_slice().get(at) {
+                Some(
+                    Slot::Kept {
+                        hash: kept,
+                        reading,
+                    },
+                ) => {
+                    if *kept == hash.value {
+                        return reading.touch();
+                    }
+                }
+                _ => return 0,
+            }
+        }
+        0
     }
 
     /// Forgets all readings where there are far more than a table has routes.

@@ -12,7 +12,7 @@ mod source;
 mod table;
 mod update;
 
-pub use attr_cache::{Ahead, AttrHash, Known};
+pub use attr_cache::AttrHash;
 pub use churn::Churn;
 pub use holding::table_has_what_holds;
 pub use session::Session;

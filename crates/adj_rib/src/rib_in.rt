@@ -1,4 +1,4 @@
-use crate::attr_cache::{Ahead, AttrCache, AttrHash};
+use crate::attr_cache::{AttrCache, AttrHash};
 use crate::churn::Churn;
 use crate::outcome::Outcome;
 use crate::shared_route::SharedRoute;
@@ -130,9 +130,14 @@ impl<M: PrefixMap<SharedRoute>> RibIn<M> {
         }
     }
 
-    /// Where `take` will look for attributes of this hash.
-    pub(crate) fn ahead(&self, hash: AttrHash) -> Ahead<'_> {
-        self.cache.ahead(hash)
+    /// Reads a little of the slot that `take` will look at for attributes of this hash.
+    pub(crate) fn prefetch_slot(&self, hash: AttrHash) -> usize {
+        self.cache.prefetch_slot(hash)
+    }
+
+    /// Reads a little of what `take` will find for attributes of this hash.
+    pub(crate) fn prefetch_reading(&self, hash: AttrHash) -> usize {
+        self.cache.prefetch_reading(hash)
     }
 
     /// Takes the next unit.

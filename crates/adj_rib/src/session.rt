@@ -3,7 +3,7 @@ ghost use Rattle.std.specs.FinMap as finite;
 ghost use Rattle.adj_rib.specs.Sessions.{StandsFor};
 ghost use Rattle.mrt_body.specs.declared.unit.Unit.{Unit as ReplayUnit};
 
-use crate::attr_cache::{Ahead, AttrHash};
+use crate::attr_cache::AttrHash;
 use crate::churn::Churn;
 use crate::rib_in::RibIn;
 use crate::shared_route::SharedRoute;
@@ -69,9 +69,17 @@ impl<M: PrefixMap<SharedRoute>> Session<M> {
         }
     }
 
-    /// Where `take_hashed` will look for what attributes of this hash spell.
-    pub fn ahead(&self, hash: AttrHash) -> Ahead<'_> {
-        self.rib.ahead(hash)
+    /// Reads a little of the slot that `take_hashed` will look at for attributes of this hash. Slots, and
+    /// what they hold, lie far apart in memory: a caller that does this for several units first, and then
+    /// `prefetch_reading` for all of them, lets these cache misses overlap. The number means nothing.
+    pub fn prefetch_slot(&self, hash: AttrHash) -> usize {
+        self.rib.prefetch_slot(hash)
+    }
+
+    /// Reads a little of what `take_hashed` will find for attributes of this hash. The number means
+    /// nothing.
+    pub fn prefetch_reading(&self, hash: AttrHash) -> usize {
+        self.rib.prefetch_reading(hash)
     }
 
     /// Whether the last state change led to Established, or there was none.

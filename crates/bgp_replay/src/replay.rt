@@ -18,7 +18,7 @@ use lane_deal::{Dealing, Gate, Plan};
 use mrt_frame::{ReplayError, Sink, Source};
 use rib_report::{
     Tables, churn, faults, matches, origins, visibility, write_churn, write_faults, write_origins,
-    write_rows, write_tables, write_visibility,
+    write_rows, list_tables, write_visibility,
 };
 use std::alloc::Global;
 use std::marker::Sync;
@@ -128,7 +128,7 @@ fn write_report<M: PrefixMap<SharedRoute> + Drop, W: Sink>(
     ensures risen { result ≡ Err errors.Write → HasFailed (W.failure_count out.old) (W.failure_count out.new) }
 {
     match request {
-        Request::Tables => write_tables(alloc, out, tables),
+        Request::Tables => list_tables(alloc, out, tables),
         Request::Visibility => write_visibility(out, visibility(alloc, tables)?.as_slice()),
         Request::Origins => write_origins(out, origins(alloc, tables)?.as_slice()),
         Request::Churn => write_churn(out, churn(alloc, tables)?.as_slice()),

@@ -156,7 +156,7 @@ fn put_lists<W: Sink>(text: &mut TextBuffer, out: &mut W, lists: &[Listed<'_>])
 /// Writes what `write_rows` writes of `table_rows`, without a list of all rows. All memory is taken
 /// before anything is written: where it answers `Memory`, nothing is. Where it answers `Write`, a
 /// front of the text is written.
-pub fn write_tables<M: PrefixMap<SharedRoute>, W: Sink>(
+pub fn list_tables<M: PrefixMap<SharedRoute>, W: Sink>(
     alloc: Global,
     out: &mut W,
     tables: &Tables<M>,

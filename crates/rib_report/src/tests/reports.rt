@@ -3,7 +3,7 @@
 use super::peers::{Peers, Said, tables_of};
 use crate::{
     Tables, churn, faults, matches, origins, table_rows, visibility, write_churn, write_faults,
-    write_origins, write_rows, write_tables, write_visibility,
+    write_origins, write_rows, list_tables, write_visibility,
 };
 use adj_rib::SharedRoute;
 use bgp_prefix::{Flat, PrefixMap, Radix};
@@ -268,7 +268,7 @@ pub fn write_report<M: PrefixMap<SharedRoute>, W: Sink>(
     report: Report,
 ) -> Result<(), ReplayError> {
     match report {
-        Report::Tables => write_tables(alloc, out, tables),
+        Report::Tables => list_tables(alloc, out, tables),
         Report::Visibility => write_visibility(out, visibility(alloc, tables)?.as_slice()),
         Report::Origins => write_origins(out, origins(alloc, tables)?.as_slice()),
         Report::Churn => write_churn(out, churn(alloc, tables)?.as_slice()),

@@ -1,7 +1,7 @@
 use Rattle.rib_report.specs.Reports.{route_rows}
 use Rattle.rib_report.proofs.TextLaws.{Adds_as, text_begun}
 use Rattle.rib_report.proofs.PieceLaws.{lines_of_tables}
-use Rattle.rib_report.proofs.entries.write_tables.Goals as goal
+use Rattle.rib_report.proofs.entries.list_tables.Goals as goal
 
 pub returns-in-Ok-clause-ok : goal.returns-in-Ok-clause-ok
 returns-in-Ok-clause-ok g c =
