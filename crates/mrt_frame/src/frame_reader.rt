@@ -1,7 +1,7 @@
 // Records, one at a time, from a reader.
 ghost use Rattle.std.specs.Prelude.{◌≡◌, ◌<◌, ◌≤◌, ◌≢◌, ◌+◌, ◌^◌, ℕ, List, Option, Some, None, IfOk, IfErr, IfSome, OnOk, OnErr, Ok, Err, option_to_list, length, vec_len};
 ghost use Rattle.std.specs.Io.KnownBytes.{Consumes, IsAtEnd};
-ghost use Rattle.mrt_frame.specs.Frames.{Position, IsFirstCut, TakesCuts, ReadsNoMoreThan, StandsAt, IsReadCause, HasCause, Repeats, phase_after, start_of};
+ghost use Rattle.mrt_frame.specs.Frames.{Position, IsFirstCut, TakesCuts, ReadsNoMoreThan, StandsAt, IsReadCause, HasCause, KeepsUnlessRead, Repeats, phase_after, start_of};
 
 use crate::cut::Cut;
 use crate::device::Source;
@@ -56,6 +56,8 @@ impl FrameReader {
         ensures place { IfOk result (λ cut. IfSome cut (StandsAt self.old.offset)) }
         ensures cause { IfErr result (HasCause self.old self.new (R.failure_count reader.old) (R.failure_count reader.new)) }
         ensures counted { OnOk result (R.failure_count reader.new ≡ R.failure_count reader.old) }
+        // An error that is no Read comes with no failure of the device.
+        ensures unfailed { IfErr result (KeepsUnlessRead (R.failure_count reader.old) (R.failure_count reader.new)) }
         ensures reads { ReadsNoMoreThan (12 + 16777216) (R.remaining reader.old) (R.remaining reader.new) }
         ensures repeats { self.old.phase ≢ Phase.Reading → (self.new ≡ self.old) × (reader.new ≡ reader.old) × Repeats self.old result }
         ensures file { self.new.file ≡ self.old.file }
@@ -79,6 +81,7 @@ impl FrameReader {
         ensures place { IfOk result (λ cut. IfSome cut (StandsAt self.old.offset)) }
         ensures cause { IfErr result (HasCause self.old self.new (R.failure_count reader.old) (R.failure_count reader.new)) }
         ensures counted { OnOk result (R.failure_count reader.new ≡ R.failure_count reader.old) }
+        ensures unfailed { IfErr result (KeepsUnlessRead (R.failure_count reader.old) (R.failure_count reader.new)) }
         ensures reads { ReadsNoMoreThan (12 + 16777216) (R.remaining reader.old) (R.remaining reader.new) }
         ensures file { self.new.file ≡ self.old.file }
     {
