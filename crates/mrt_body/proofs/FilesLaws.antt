@@ -10,7 +10,7 @@ use Rattle.mrt_frame.specs.Devices.{HasFailed}
 use Rattle.mrt_frame.specs.declared.error.ReplayError.{ReplayError}
 use Rattle.mrt_frame.specs.declared.error.ReplayError.TheVariants as errors
 use Rattle.mrt_body.specs.declared.standing.Standing.TheVariants.{Going}
-use Rattle.mrt_frame.specs.Frames.{Position, to_come}
+use Rattle.mrt_frame.specs.Frames.{Position, to_come, KeepsUnlessRead}
 use Rattle.mrt_body.specs.declared.unit.PeerKey.{PeerKey}
 use Rattle.mrt_body.specs.declared.unit.Unit.{Unit as ReplayUnit}
 use Rattle.mrt_body.specs.declared.unit.Found.{Found}
@@ -163,6 +163,13 @@ module _ {R : Type 0} (fails : R → ℕ) (a b u v : UnitsState) (start files : 
   pub still_sound : map fails files ≡ map fails start → fails next ≡ fails (get_or files i d) → map fails (set files i next) ≡ map fails start
   still_sound same sound = map-set_same fails files i next d sound ∙ same
 
+  pub still_unfailed : (e : ReplayError) → map fails files ≡ map fails start → KeepsUnlessRead (fails (get_or files i d)) (fails next) e → KeepsUnlessRead (map fails start) (map fails (set files i next)) e
+  still_unfailed (errors.Read file) same h = tt
+  still_unfailed errors.Write same h = still_sound same h
+  still_unfailed errors.Memory same h = still_sound same h
+  still_unfailed errors.Records same h = still_sound same h
+  still_unfailed errors.Spent same h = still_sound same h
+
   failed_in : (file : ℕ) → map fails files ≡ map fails start → i ≡ file → i < length files → HasFailed (fails (get_or files i d)) (fails next) → HasFailed (get_or (map fails start) file 0) (get_or (map fails (set files i next)) file 0)
   failed_in file same at within h =
       let before : fails (get_or files i d) ≡ get_or (map fails start) file 0 = sym (get_or-map fails files i d 0 within) ∙ ap (λ (l : List ℕ). get_or l i 0) same ∙ ap (λ (n : ℕ). get_or (map fails start) n 0) at in
@@ -200,6 +207,11 @@ module _ {R : Type 0} (fails : R → ℕ) (a b u v : UnitsState) (start files : 
   stops_in remaining errors.Memory same going limit before gives at within h = (going, h)
   stops_in remaining errors.Records same going limit before gives at within h = (going, h.0, h.1, more_in remaining limit before gives at within h.2)
   stops_in remaining errors.Spent same going limit before gives at within h = absurd h
+
+-- ---- a reading that has ended
+
+pub gives_nothing : (old new : UnitsState) → GivesPending old new [] → new ≡ old
+gives_nothing old new h = h.0 ∙ ap (λ (l : List ReplayUnit). record old { pending = l }) (sym h.1)
 
 -- ---- how many answers can still come
 

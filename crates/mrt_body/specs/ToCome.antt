@@ -81,6 +81,10 @@ TakesFound old before new after taken =
 abbrev pub NothingToCome : UnitsState → List (Option (List ℕ)) → Type 0
 NothingToCome u known = (contents : List (List ℕ)) → drop u.file known ≡ map (λ bytes. Some bytes) contents → found_to_come u contents ≡ []
 
+-- the last file has ended, and nothing of it pends
+abbrev pub HasEnded : UnitsState → Type 0
+HasEnded u = (u.standing ≡ Going) × (u.file ≡ u.count) × (u.pending ≡ [])
+
 -- at most so many records and file ends are still to come
 abbrev pub steps_left : UnitsState → ℕ
 steps_left u = (u.max_records - u.records) + (u.count - u.file)

@@ -1,6 +1,6 @@
 //! The entries of a RIB record that are still to be given out.
 
-ghost use Rattle.std.specs.Prelude.{◌≡◌, ◌≤◌, ◌++◌, ◌+◌, ◌/◌, [], length, take, drop, max, vec_capacity, Some, None, IfOk, IfSome, option_to_list};
+ghost use Rattle.std.specs.Prelude.{◌≡◌, ◌≤◌, ◌++◌, ◌+◌, ◌/◌, [], length, take, drop, max, vec_capacity, Some, None, Ok, IfOk, IfSome, option_to_list};
 ghost use Rattle.bgp_update.specs.Answers.{Gives};
 ghost use Rattle.mrt_body.specs.Units.{IsSmallUnit, rib_units_in, time_of};
 ghost use Rattle.mrt_body.specs.Pending.{AreListed, units_left};
@@ -98,6 +98,7 @@ impl RibRecord {
         requires { AreListed peers.now list.now self.old }
         ensures gives { IfOk result (λ unit. units_left peers.now list.now self.old ≡ option_to_list unit ++ units_left peers.now list.now self.new) }
         ensures ended { IfOk result (λ unit. unit ≡ None → units_left peers.now list.now self.old ≡ []) }
+        ensures none { units_left peers.now list.now self.old ≡ [] → result ≡ Ok None }
         ensures listed { AreListed peers.now list.now self.new }
         ensures small { IfOk result (λ unit. IfSome unit IsSmallUnit) }
     {

@@ -1,6 +1,6 @@
 //! The index in force, and what it is still needed for.
 
-ghost use Rattle.std.specs.Prelude.{◌≡◌, ◌≤◌, ◌++◌, [], length, Some, None, OnErr, IfOk, IfSome, option_to_list};
+ghost use Rattle.std.specs.Prelude.{◌≡◌, ◌≤◌, ◌++◌, [], length, Some, None, Ok, OnErr, IfOk, IfSome, option_to_list};
 ghost use Rattle.bgp_update.specs.Answers.{Gives};
 ghost use Rattle.mrt_body.specs.Units.{IsSmallUnit, rib_units_in};
 ghost use Rattle.mrt_body.specs.Pending.{without_pending};
@@ -75,6 +75,8 @@ impl Index {
     pub(crate) fn next(&mut self, alloc: Global) -> Result<Option<Unit>, Memory>
         ensures gives { IfOk result (λ unit. self.old.pending ≡ option_to_list unit ++ self.new.pending) }
         ensures ended { IfOk result (λ unit. unit ≡ None → self.old.pending ≡ []) }
+        // At the end no memory is wanted.
+        ensures none { self.old.pending ≡ [] → result ≡ Ok None }
         ensures peers { self.new.peers ≡ self.old.peers }
         ensures small { IfOk result (λ unit. IfSome unit IsSmallUnit) }
     {

@@ -1,9 +1,9 @@
 //! The units and refusals of files.
 
-ghost use Rattle.std.specs.Prelude.{◌≡◌, ℕ, Bool, List, ◌<◌, ◌≤◌, ◌+◌, ◌^◌, Some, None, true, false, [], map, Err, IfOk, IfErr, IfSome, OnOk, length, option_to_list};
+ghost use Rattle.std.specs.Prelude.{◌≡◌, ℕ, Bool, List, ◌<◌, ◌≤◌, ◌+◌, ◌^◌, Some, None, true, false, [], map, Ok, Err, IfOk, IfErr, IfSome, OnOk, length, option_to_list};
 ghost use Rattle.mrt_body.specs.Units.{IsSmall, IsSmallUnit, alone, all_cuts, found_in, found_units, is_past, refused_at, at_record};
-ghost use Rattle.mrt_frame.specs.Frames.{StandsAt};
-ghost use Rattle.mrt_body.specs.ToCome.{UnitsState, GivesPending, CutsOne, TakesRecord, TakesFound, NothingToCome, Steps, StopsAt, Stops, KeepsPlan, answers_left, units_left, unit_count, cuts_to_come, found_to_come, steps_left, fresh_units, standing_after};
+ghost use Rattle.mrt_frame.specs.Frames.{StandsAt, KeepsUnlessRead};
+ghost use Rattle.mrt_body.specs.ToCome.{UnitsState, GivesPending, CutsOne, TakesRecord, TakesFound, NothingToCome, HasEnded, Steps, StopsAt, Stops, KeepsPlan, answers_left, units_left, unit_count, cuts_to_come, found_to_come, steps_left, fresh_units, standing_after};
 ghost use Rattle.mrt_body.specs.declared.content.Content.TheVariants as content_spec;
 ghost use Rattle.mrt_body.specs.declared.standing.Standing.TheVariants as standings;
 
@@ -103,6 +103,9 @@ impl Units {
         ensures ended { IfOk result (λ found. found ≡ None → NothingToCome self.old (map R.remaining files.old)) }
         // It is answered at the end of the last file.
         ensures at_end { IfOk result (λ found. found ≡ None → self.new.file ≡ self.new.count) }
+        // After None each call answers None, changes nothing and reads nothing.
+        ensures ends { IfOk result (λ found. found ≡ None → HasEnded self.new) }
+        ensures stays_ended { HasEnded self.old → (result ≡ Ok None) × (self.new ≡ self.old) × (files.new ≡ files.old) }
         // Each answer lowers the number of those that can still come, whatever the readers give.
         ensures fewer { IfOk result (λ found. answers_left self.new + length (option_to_list found) ≤ answers_left self.old) }
         // Each unit lowers the number of units that can still come.
@@ -115,6 +118,8 @@ impl Units {
         // After Read each call answers the same Read, and reads nothing.
         ensures again { self.old.standing ≡ standings.Failed → (result ≡ Err (ReplayError.Read self.old.file)) × (self.new ≡ self.old) × (files.new ≡ files.old) }
         ensures sound { OnOk result (map R.failure_count files.new ≡ map R.failure_count files.old) }
+        // An error that is no Read comes with no failure of a reader.
+        ensures unfailed { IfErr result (KeepsUnlessRead (map R.failure_count files.old) (map R.failure_count files.new)) }
         ensures plan { KeepsPlan self.old self.new }
         // A unit's bytes number at most 16,777,216.
         ensures small { IfOk result (λ found. IfSome found IsSmall) }
@@ -137,11 +142,14 @@ impl Units {
         ensures found { IfOk result (λ found. TakesFound self.old (map R.remaining files.old) self.new (map R.remaining files.new) (option_to_list found)) }
         ensures ended { IfOk result (λ found. found ≡ None → NothingToCome self.old (map R.remaining files.old)) }
         ensures at_end { IfOk result (λ found. found ≡ None → self.new.file ≡ self.new.count) }
+        ensures ends { IfOk result (λ found. found ≡ None → HasEnded self.new) }
+        ensures stays_ended { HasEnded self.old → (result ≡ Ok None) × (self.new ≡ self.old) × (files.new ≡ files.old) }
         ensures fewer { IfOk result (λ found. answers_left self.new + length (option_to_list found) ≤ answers_left self.old) }
         ensures units { IfOk result (λ found. units_left self.new + unit_count found ≤ units_left self.old) }
         ensures going { IfOk result (λ _. self.new.standing ≡ standings.Going) }
         ensures cause { IfErr result (Stops self.old (map R.remaining files.old) self.new (map R.failure_count files.old) (map R.failure_count files.new)) }
         ensures sound { OnOk result (map R.failure_count files.new ≡ map R.failure_count files.old) }
+        ensures unfailed { IfErr result (KeepsUnlessRead (map R.failure_count files.old) (map R.failure_count files.new)) }
         ensures plan { KeepsPlan self.old self.new }
         ensures small { IfOk result (λ found. IfSome found IsSmall) }
     {
@@ -164,6 +172,7 @@ impl Units {
     fn next_entry(&mut self, alloc: Global) -> Result<Option<Unit>, ReplayError>
         ensures gives { IfOk result (λ unit. GivesPending self.old self.new (option_to_list unit)) }
         ensures ended { IfOk result (λ unit. unit ≡ None → self.old.pending ≡ []) }
+        ensures none { self.old.pending ≡ [] → result ≡ Ok None }
         ensures want { IfErr result (λ e. (e ≡ ReplayError.Memory) × (self.new.standing ≡ standings.Spent)) }
         ensures plan { KeepsPlan self.old self.new }
         ensures small { IfOk result (λ unit. IfSome unit IsSmallUnit) }
@@ -188,6 +197,7 @@ impl Units {
         ensures counted { self.old.aside ≤ self.old.records }
         ensures cause { IfErr result (StopsAt self.old (R.remaining reader.old) self.new (R.failure_count reader.old) (R.failure_count reader.new)) }
         ensures sound { OnOk result (R.failure_count reader.new ≡ R.failure_count reader.old) }
+        ensures unfailed { IfErr result (KeepsUnlessRead (R.failure_count reader.old) (R.failure_count reader.new)) }
         ensures plan { KeepsPlan self.old self.new }
         ensures fewer { IfOk result (λ _. steps_left self.new < steps_left self.old) }
         ensures place { IfOk result (λ cut. IfSome cut (StandsAt self.old.frames.offset)) }
@@ -247,6 +257,7 @@ impl Units {
         ensures going { IfOk result (λ _. self.new.standing ≡ standings.Going) }
         ensures cause { IfErr result (StopsAt self.old (R.remaining reader.old) self.new (R.failure_count reader.old) (R.failure_count reader.new)) }
         ensures sound { OnOk result (R.failure_count reader.new ≡ R.failure_count reader.old) }
+        ensures unfailed { IfErr result (KeepsUnlessRead (R.failure_count reader.old) (R.failure_count reader.new)) }
         ensures plan { KeepsPlan self.old self.new }
         ensures small { IfOk result (λ found. IfSome found IsSmall) }
     {

@@ -2,7 +2,7 @@ use Rattle.std.proofs.Common.{◌<◌, Some, ap, ◌∙◌, sym, arith, length, 
 use Rattle.std.specs.Prelude.{option_to_list}
 use Rattle.std.proofs.lemmas.List.{length-set}
 use Rattle.mrt_body.specs.ToCome.{UnitsState}
-use Rattle.mrt_body.proofs.FilesLaws.{one_more_step, still_sound, stops_in, fewer_than, units_than}
+use Rattle.mrt_body.proofs.FilesLaws.{one_more_step, still_sound, still_unfailed, stops_in, gives_nothing, fewer_than, units_than}
 use Rattle.mrt_body.proofs.units.Units.find.Goals as goal
 
 pub returns-in-Ok-Some-clause-found : goal.returns-in-Ok-Some-clause-found
@@ -31,13 +31,22 @@ returns-in-Err-clause-cause g c =
     stops_in g.R.Failures.failure_count c.args.self.now c.files.self c.next_entry.new.self c.step-in-files.new.self c.args.files.now c.files.files c.step.inside.file c.index-files-self.result c.step-in-files.new.reader g.R.Source.remaining c.in-Err.error
     c.files.invariant.counts c.requires.going c.files.invariant.plan.1 c.files.invariant.taken (rw c.in_default.is at c.in_ok-unit.ensures.gives) file within c.in-Err.ensures.cause
 
+pub returns-in-Err-clause-unfailed : goal.returns-in-Err-clause-unfailed
+returns-in-Err-clause-unfailed g c =
+    still_unfailed g.R.Failures.failure_count c.args.self.now c.files.self c.next_entry.new.self c.step-in-files.new.self c.args.files.now c.files.files c.step.inside.file c.index-files-self.result c.step-in-files.new.reader c.in-Err.error c.files.invariant.counts c.in-Err.ensures.unfailed
+
 pub files-preserved : goal.files-preserved
 files-preserved g c =
     let file = ap (λ (u : UnitsState). u.file) c.step.view_is in
     let file' = ap (λ (u : UnitsState). u.file) c.self.view_is in
     let count = ap (λ (u : UnitsState). u.count) c.self.view_is in
     let within : c.step.inside.file < length c.files.files = omega (arith, file, file', count, c.next_entry.ensures.plan.0, c.files.invariant.files, c.self.invariant.file_in, c.if-self.false) in
+    let gives = rw c.in_default.is at c.in_ok-unit.ensures.gives in
+    let same = gives_nothing c.files.self c.next_entry.new.self gives in
     record {
+      ended = λ h.
+          let still = same ∙ (c.files.invariant.ended h).0 in
+          absurd (omega (arith, file', count, ap (λ (u : UnitsState). u.file) still, ap (λ (u : UnitsState). u.count) still, h.1, c.if-self.false));
       files = length-set c.files.files c.step.inside.file c.step-in-files.new.reader ∙ c.files.invariant.files ∙ sym c.next_entry.ensures.plan.0 ∙ sym c.step-in-files.ensures.plan.0;
       plan = (c.step-in-files.ensures.plan.0 ∙ c.next_entry.ensures.plan.0 ∙ c.files.invariant.plan.0, c.step-in-files.ensures.plan.1 ∙ c.next_entry.ensures.plan.1 ∙ c.files.invariant.plan.1, c.step-in-files.ensures.plan.2 ∙ c.next_entry.ensures.plan.2 ∙ c.files.invariant.plan.2);
       going = c.in-Ok-None.ensures.going;

@@ -1,6 +1,6 @@
 use Rattle.std.proofs.Common.{◌≡◌, ◌≤◌, [], map, length}
 use Rattle.mrt_body.specs.declared.standing.Standing.TheVariants.{Going}
-use Rattle.mrt_body.specs.ToCome.{TakesFound, KeepsPlan, answers_left, units_left, steps_left}
+use Rattle.mrt_body.specs.ToCome.{TakesFound, KeepsPlan, HasEnded, answers_left, units_left, steps_left}
 use Rattle.mrt_body.proofs.units.Units.find.Given as goal
 
 abbrev pub invariant-files : goal.invariant-files
@@ -11,6 +11,7 @@ invariant-files g l = record {
   counts : map g.R.Failures.failure_count l.files ≡ map g.R.Failures.failure_count l.initial.files;
   answers : answers_left l.self ≤ answers_left l.initial.self;
   units : units_left l.self ≤ units_left l.initial.self;
+  ended : HasEnded l.initial.self → (l.self ≡ l.initial.self) × (l.files ≡ l.initial.files);
   taken : TakesFound l.initial.self (map g.R.Source.remaining l.initial.files) l.self (map g.R.Source.remaining l.files) [];
 }
 
