@@ -1,6 +1,7 @@
 //! BGP UPDATE messages: keys, path attributes and AS paths.
 #![tactic(auto)]
 
+mod agreement;
 mod attribute;
 mod front;
 mod key;
@@ -16,6 +17,7 @@ mod update;
 mod values;
 mod width;
 
+pub use agreement::{merging_is_unique, updates_agree_with_their_forms};
 pub use key::prefix_at;
 pub use next_hop::NextHop;
 pub use path::{AsPath, Segment, SegmentKind};

@@ -26,7 +26,7 @@ abbrev known_all : List Bytes → List (Option Bytes)
 known_all contents = map (λ bytes. Some bytes) contents
 
 -- one step after another
-TakesFound-more : (a b c : UnitsState) (first second third : List (Option (List ℕ))) (taken more : List Found) → TakesFound a first b second taken → TakesFound b second c third more → TakesFound a first c third (taken ++ more)
+pub TakesFound-more : (a b c : UnitsState) (first second third : List (Option (List ℕ))) (taken more : List Found) → TakesFound a first b second taken → TakesFound b second c third more → TakesFound a first c third (taken ++ more)
 TakesFound-more a b c first second third taken more p q contents h =
     let x = p contents h in
     let y = q x.0 x.1 in (

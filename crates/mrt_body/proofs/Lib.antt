@@ -21,3 +21,5 @@ pub mod TakeLaws
 pub mod StepLaws
 pub mod FilesLaws
 pub mod HeadParts
+pub mod EventLaws
+pub mod ReadingLaws

@@ -1,6 +1,6 @@
 -- Which bodies agree with the form of their record: those that are its fields, one after the other, each in its range
 -- (RFC 6396, 4.3 and 4.4, and 3 for extended timestamps; RFC 8050). And what such a body says.
-use Rattle.std.specs.Prelude.{◌≡◌, ℕ, ◌^◌, ◌<◌, Bool, List, [], ◌∷◌, ◌++◌, length, slice_index, Option, Some, None}
+use Rattle.std.specs.Prelude.{◌≡◌, ℕ, ◌^◌, ◌<◌, Bool, List, [], ◌∷◌, ◌++◌, length, Option, Some, None}
 use Rattle.byteorder.specs.Endian.{big_bytes}
 use Rattle.bgp_update.specs.declared.width.Width.{Width}
 use Rattle.mrt_body.specs.declared.at.RecordAt.{RecordAt}
@@ -13,9 +13,6 @@ use Rattle.mrt_body.specs.Indexes.{IndexForm, FitsIndex, index_bytes, peers_of}
 use Rattle.mrt_body.specs.RibRecords.{RibForm, FitsRib, rib_bytes}
 use Rattle.mrt_body.specs.Bgp4mp.{SessionForm, FitsSession, session_bytes, session_peer, microseconds_bytes, FitsMicroseconds}
 use Rattle.mrt_body.specs.Units.{rib_units, session_unit}
-
-abbrev pub AreBytes : List ℕ → Type 0
-AreBytes bytes = (i : ℕ) → slice_index bytes i < 256
 
 -- a PEER_INDEX_TABLE with these peers
 pub record IsIndexBody (body : List ℕ) (peers : List PeerKey) : Type 0 where

@@ -1,13 +1,17 @@
-// The law of bodies.
+// The laws of bodies and of payloads.
 ghost use Rattle.std.specs.Prelude.{◌≡◌, ◌↔◌, ℕ, Bool, List, Option, Ok, Err};
+ghost use Rattle.mrt_frame.specs.Bytes.{AreBytes};
 ghost use Rattle.mrt_frame.specs.declared.fault.Fault.{Fault};
 ghost use Rattle.mrt_body.specs.declared.at.RecordAt.{RecordAt};
 ghost use Rattle.mrt_body.specs.declared.content.Content.{Content};
+ghost use Rattle.mrt_body.specs.declared.meaning.Event.{Event};
+ghost use Rattle.mrt_body.specs.declared.unit.Payload.{Payload};
 ghost use Rattle.mrt_body.specs.declared.unit.PeerKey.{PeerKey};
 ghost use Rattle.mrt_body.specs.declared.unit.Unit.{Unit as ReplayUnit};
 ghost use Rattle.mrt_body.specs.Indexes.{peers_in};
-ghost use Rattle.mrt_body.specs.Units.{units_in};
-ghost use Rattle.mrt_body.specs.Agreement.{AreBytes, IsIndexBody, Agrees};
+ghost use Rattle.mrt_body.specs.Events.{IsEvent, event_in};
+ghost use Rattle.mrt_body.specs.Units.{payload_bytes, units_in};
+ghost use Rattle.mrt_body.specs.Agreement.{IsIndexBody, Agrees};
 ghost use Rattle.mrt_body.specs.Refusals.{IsRefused};
 
 /// A record gives units exactly where its body agrees with its form (RFC 6396, 4.3 and 4.4; RFC 8050),
@@ -26,4 +30,12 @@ pub fn bodies_agree_with_their_forms()
     ensures refused { (at : RecordAt) (extended : Bool) (index : Option (List PeerKey))
         (content : Content) (body : List ℕ) (fault : Fault) → AreBytes body →
         (units_in at extended index content body ≡ Err fault) ↔ IsRefused at extended index content body fault }
+{}
+
+/// A payload has an event exactly where the reading of it gives one, and no more than this one
+/// (RFC 4271, 4.1 to 4.3).
+pub fn events_agree_with_their_payloads()
+    ensures events { (payload : Payload) (e : Event) → AreBytes (payload_bytes payload) →
+        (event_in payload ≡ Ok e) ↔ IsEvent payload e }
+    ensures one_event { (payload : Payload) (e other : Event) → IsEvent payload e → IsEvent payload other → e ≡ other }
 {}

@@ -11,15 +11,17 @@ mod interpret;
 mod meaning;
 mod message;
 mod payload;
+mod reading;
 mod rib;
 mod session;
 mod standing;
 mod unit;
 mod units;
 
-pub use agreement::bodies_agree_with_their_forms;
+pub use agreement::{bodies_agree_with_their_forms, events_agree_with_their_payloads};
 pub use interpret::event;
 pub use meaning::Event;
+pub use reading::readings_give_all_found;
 pub use unit::{Damage, Found, Payload, PeerAddr, PeerKey, Place, Unit};
 pub use units::Units;
 

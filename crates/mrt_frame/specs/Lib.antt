@@ -5,3 +5,4 @@ pub mod Cutting
 pub mod Writes
 pub mod Fields
 pub mod Positions
+pub mod Bytes
