@@ -1,7 +1,7 @@
 // Records, one at a time, from a reader.
 ghost use Rattle.std.specs.Prelude.{◌≡◌, ◌<◌, ◌≤◌, ◌≢◌, ◌+◌, ◌^◌, ℕ, List, Option, Some, None, IfOk, IfErr, IfSome, OnOk, OnErr, Ok, Err, option_to_list, length, vec_len};
 ghost use Rattle.std.specs.Io.KnownBytes.{Consumes, IsAtEnd};
-ghost use Rattle.mrt_frame.specs.Frames.{Position, IsFirstCut, TakesCuts, ReadsNoMoreThan, StandsAt, IsReadCause, HasCause, KeepsUnlessRead, Repeats, phase_after, start_of};
+ghost use Rattle.mrt_frame.specs.Frames.{Position, IsFirstCut, TakesCuts, ReadsFewer, ReadsNoMoreThan, ReadsPart, StandsAt, IsReadCause, HasCause, KeepsUnlessRead, Repeats, phase_after, start_of};
 
 use crate::cut::Cut;
 use crate::device::Source;
@@ -56,6 +56,8 @@ impl FrameReader {
         ensures place { IfOk result (λ cut. IfSome cut (StandsAt self.old.offset)) }
         ensures cause { IfErr result (HasCause self.old self.new (R.failure_count reader.old) (R.failure_count reader.new)) }
         ensures counted { OnOk result (R.failure_count reader.new ≡ R.failure_count reader.old) }
+        // A read that failed took no whole record, and the record's offset stays.
+        ensures part { self.old.phase ≡ Phase.Reading → IfErr result (λ e. (self.new.offset ≡ self.old.offset) × ReadsPart self.old.offset (R.remaining reader.old) (R.remaining reader.new) e) }
         // An error that is no Read comes with no failure of the device.
         ensures unfailed { IfErr result (KeepsUnlessRead (R.failure_count reader.old) (R.failure_count reader.new)) }
         ensures reads { ReadsNoMoreThan (12 + 16777216) (R.remaining reader.old) (R.remaining reader.new) }
@@ -76,6 +78,7 @@ impl FrameReader {
         reader: &mut R,
     ) -> Result<Option<Cut>, ReplayError>
         requires { self.old.phase ≡ Phase.Reading }
+        ensures part { IfErr result (λ e. (self.new.offset ≡ self.old.offset) × ReadsPart self.old.offset (R.remaining reader.old) (R.remaining reader.new) e) }
         ensures first { IfOk result (λ cut. TakesCuts self.old (R.remaining reader.old) self.new (R.remaining reader.new) (option_to_list cut)) }
         ensures phase { IfOk result (λ cut. self.new.phase ≡ phase_after cut) }
         ensures place { IfOk result (λ cut. IfSome cut (StandsAt self.old.offset)) }
@@ -107,6 +110,7 @@ fn read_cut<R: Source>(
 ) -> Result<Option<Cut>, ReplayError>
     ensures first { IfOk result (IsFirstCut offset (R.remaining reader.old) (R.remaining reader.new)) }
     ensures place { IfOk result (λ cut. IfSome cut (StandsAt offset)) }
+    ensures part { IfErr result (ReadsPart offset (R.remaining reader.old) (R.remaining reader.new)) }
     ensures cause { IfErr result (IsReadCause file (R.failure_count reader.old) (R.failure_count reader.new)) }
     ensures counted { OnOk result (R.failure_count reader.new ≡ R.failure_count reader.old) }
     ensures reads { ReadsNoMoreThan (12 + 16777216) (R.remaining reader.old) (R.remaining reader.new) }
@@ -159,6 +163,7 @@ fn read_body<R: Source>(
     ensures end { IfOk result (λ body. vec_len body < length → IsAtEnd (R.remaining reader.new)) }
     ensures cause { IfErr result (IsReadCause file (R.failure_count reader.old) (R.failure_count reader.new)) }
     ensures counted { OnOk result (R.failure_count reader.new ≡ R.failure_count reader.old) }
+    ensures part { IfErr result (ReadsFewer length (R.remaining reader.old) (R.remaining reader.new)) }
     ensures err { OnErr result (ReadsNoMoreThan length (R.remaining reader.old) (R.remaining reader.new)) }
 {
     let mut bytes = Vec::new(alloc);

@@ -1,6 +1,8 @@
 use Rattle.std.proofs.Common.{◌<◌, sym, ◌∙◌, arith, length-take-le, vec_len}
+use Rattle.std.proofs.lemmas.Result.{err_from_is_err_and}
+use Rattle.mrt_frame.specs.Frames.{ReadsPart}
 use Rattle.mrt_frame.proofs.Buffers.{reads-some, reads-more, Consumes-full, Consumes-nothing}
-use Rattle.mrt_frame.proofs.FirstCut.{first-end, first-short_header, first-too_long_by, first-short_body_by, first-record_by, limits-body}
+use Rattle.mrt_frame.proofs.FirstCut.{first-end, first-short_header, first-too_long_by, first-short_body_by, first-record_by, limits-body, part_of_header, part_of_body}
 use Rattle.mrt_frame.proofs.frame_reader.read_cut.Goals as goal
 
 pub returns-then-count-eq0-clause-first : goal.returns-then-count-eq0-clause-first
@@ -17,6 +19,17 @@ pub returns-then-not-is_within_limits-clause-first :
 returns-then-not-is_within_limits-clause-first g c =
     let header = Consumes-full c.in-Ok.count _ _ c.read_full.new.buf c.in-Ok.ensures.bytes (omega arith) in
     first-too_long_by c.args.offset c.parse-header.result.length _ _ c.read_full.new.buf header (omega arith) c.parse-header.ensures.length (sym c.is_within_limits.ensures ∙ c.if-not-is_within_limits.true)
+
+pub returns-in_default-clause-part : goal.returns-in_default-clause-part
+returns-in_default-clause-part g c = part_of_header c.args.offset _ _ _ c.args.file (omega arith) c.in_default.ensures.part
+
+pub returns-in_err-bytes-clause-part : goal.returns-in_err-bytes-clause-part
+returns-in_err-bytes-clause-part g c =
+    let header = Consumes-full c.in-Ok.count _ _ c.read_full.new.buf c.in-Ok.ensures.bytes (omega arith) in
+    let part : ReadsPart c.args.offset (g.R.Source.remaining c.args.reader.now) (g.R.Source.remaining c.read_body.new.reader) c.in_err-bytes.field-0.0 =
+    part_of_body c.args.offset c.parse-header.result.length _ _ _ c.read_full.new.buf c.in_err-bytes.field-0.0 header (omega arith) c.parse-header.ensures.length (sym c.is_within_limits.ensures ∙ c.if-not-is_within_limits.false) c.in_err-bytes.ensures.part in
+    let p = err_from_is_err_and c.from_residual.result c.from_residual.ensures.1 in
+    rw (p.1, p.2) part
 
 pub returns-in_err-bytes-clause-reads : goal.returns-in_err-bytes-clause-reads
 returns-in_err-bytes-clause-reads g c =
