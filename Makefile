@@ -1,7 +1,17 @@
 # The front door. `make` builds, `make run` replays the sample, `make check` passes every proof and test.
+# `make help` lists all.
 PREFIX ?= $(HOME)/.local
+DESTDIR ?=
 PROGRAM = bin/bgp_replay
 BUILT = crates/bgp_replay/out/bgp_replay
+# The program that is tried and packed: another one than the built one can be given, as make scripts BINARY=..
+BINARY ?= $(PROGRAM)
+VERSION = $(shell sed -n 's/.*\.version("\([^"]*\)").*/\1/p' crates/bgp_replay/src/words.rt)
+ROOT = $(DESTDIR)$(PREFIX)
+DIST ?= dist
+DOCUMENTS = README.md CHANGELOG.md LICENSE docs/ARCHITECTURE.md docs/DECISIONS.md docs/FORMATS.md docs/MODEL.md docs/PERFORMANCE.md
+ARCHITECTURE = $(shell dpkg --print-architecture 2> /dev/null || uname -m)
+TARBALL = bgp_replay-$(VERSION)-linux-$(shell uname -m)
 
 all: $(PROGRAM)
 
@@ -11,24 +21,83 @@ $(PROGRAM): $(shell find crates -path '*/out' -prune -o -type f -print) crates.t
 	mkdir -p bin
 	cp $(BUILT) $(PROGRAM)
 
+help:
+	@echo 'make            builds bin/bgp_replay (a first build proves every crate and takes minutes)'
+	@echo 'make run        replays the sample by `tables`'
+	@echo 'make check      the gate: every proof, edit that must fail, test and run from nothing'
+	@echo 'make verdict    each crate from nothing, with its tests'
+	@echo 'make scripts    tries lines and statuses, the packages, and recipes'
+	@echo 'make refusals   fails each growth, read, write and thread start in turn'
+	@echo 'make same       every number of workers and ring gives the same bytes'
+	@echo 'make fuzz       replays damaged dumps (FILES=800 of them; SAMPLES=DIRECTORY adds dumps to damage)'
+	@echo 'make hostile    replays dumps that are dear to read, at a size and twice that size'
+	@echo 'make bench      measures the program beside bgpdump and others'
+	@echo 'make install    copies program, manual page, completions and documents to DESTDIR PREFIX (~/.local)'
+	@echo 'make uninstall  removes these'
+	@echo 'make dist       a tarball of them in dist/'
+	@echo 'make deb        a Debian package of them in dist/'
+	@echo 'make clean      removes what was built'
+
 run: $(PROGRAM)
 	$(PROGRAM) tables examples/sample.mrt
 
 check:
 	rt ci
 
-install: $(PROGRAM)
-	install -d $(PREFIX)/bin
-	install -m 755 $(PROGRAM) $(PREFIX)/bin/bgp_replay
+verdict:
+	rt all verdict
 
-# Each growth of whole runs refused in turn, on the program as it is built.
-refusals: $(PROGRAM)
-	tests/refused_growths.sh $(PROGRAM)
+# Program, manual page, completions and documents, below PREFIX. DESTDIR stands before it, for packages.
+install: $(BINARY)
+	install -d '$(ROOT)/bin' '$(ROOT)/share/man/man1' '$(ROOT)/share/doc/bgp_replay' \
+	  '$(ROOT)/share/bash-completion/completions' '$(ROOT)/share/zsh/site-functions' '$(ROOT)/share/fish/vendor_completions.d'
+	install -m 755 '$(BINARY)' '$(ROOT)/bin/bgp_replay'
+	install -m 644 man/bgp_replay.1 '$(ROOT)/share/man/man1/bgp_replay.1'
+	install -m 644 completions/bgp_replay.bash '$(ROOT)/share/bash-completion/completions/bgp_replay'
+	install -m 644 completions/bgp_replay.zsh '$(ROOT)/share/zsh/site-functions/_bgp_replay'
+	install -m 644 completions/bgp_replay.fish '$(ROOT)/share/fish/vendor_completions.d/bgp_replay.fish'
+	install -m 644 $(DOCUMENTS) '$(ROOT)/share/doc/bgp_replay'
+
+uninstall:
+	rm -f '$(ROOT)/bin/bgp_replay' '$(ROOT)/share/man/man1/bgp_replay.1' \
+	  '$(ROOT)/share/bash-completion/completions/bgp_replay' '$(ROOT)/share/zsh/site-functions/_bgp_replay' \
+	  '$(ROOT)/share/fish/vendor_completions.d/bgp_replay.fish'
+	rm -rf '$(ROOT)/share/doc/bgp_replay'
+
+# A tarball of bin/ and share/: the same bytes from the same files.
+dist: $(BINARY)
+	rm -rf '$(DIST)/$(TARBALL)'
+	$(MAKE) -s --no-print-directory install DESTDIR= PREFIX='$(abspath $(DIST))/$(TARBALL)' BINARY='$(BINARY)'
+	cd '$(DIST)' && tar --sort=name --mtime='2000-01-01 00:00Z' --owner=0 --group=0 --numeric-owner -cf - '$(TARBALL)' | gzip -9n > '$(TARBALL).tar.gz'
+	rm -rf '$(DIST)/$(TARBALL)'
+
+# Needs dpkg-deb.
+deb: $(BINARY)
+	tests/deb.sh '$(BINARY)' '$(VERSION)' '$(ARCHITECTURE)' '$(DIST)'
+
+# Lines and statuses, packages, and recipes, on the program as it is built: quick.
+scripts: $(BINARY)
+	tests/program.sh '$(BINARY)'
+	tests/packaging.sh '$(BINARY)'
+	@if [ -x tests/recipes.sh ]; then echo tests/recipes.sh '$(BINARY)'; tests/recipes.sh '$(BINARY)'; fi
+
+# Each growth, read, write and thread start of whole runs fails in turn, on the program as it is built.
+refusals: $(BINARY)
+	tests/refused_growths.sh '$(BINARY)'
+
+same: $(BINARY)
+	tests/same_bytes.sh '$(BINARY)'
+
+fuzz: $(BINARY)
+	tests/fuzz.sh '$(BINARY)' $(FILES)
+
+hostile: $(BINARY)
+	tests/hostile.sh '$(BINARY)'
 
 bench: $(PROGRAM)
 	bench/run.sh $(PROGRAM)
 
 clean:
-	rm -rf bin bench/out crates/*/out
+	rm -rf bin dist bench/out crates/*/out
 
-.PHONY: all run check install refusals bench clean
+.PHONY: all help run check verdict install uninstall dist deb scripts refusals same fuzz hostile bench clean

@@ -1,0 +1,114 @@
+#!/usr/bin/env bash
+# Installs into an empty directory and tries the program, the manual page and the completions from there; makes the tarball and the Debian package, and tries
+# what is in them; and compares versions, commands and options among program, manual page, completions and CHANGELOG.md.
+#   tests/packaging.sh PROGRAM
+# Needs make, man, tar, gzip and bash; dpkg-deb, zsh and fish where they are installed: what needs one that isn't there is named, and not
+# counted. The last line is `N passed, M failed`.
+set -u
+program=$(realpath "$1"); top=$(dirname "$(dirname "$(realpath "$0")")"); work=$(mktemp -d); trap 'rm -rf "$work"' EXIT
+cd "$top" || exit 2
+passed=0; failed=0
+check() { # NAME COMMAND..
+  local name=$1; shift
+  if "$@" > "$work/log" 2>&1; then passed=$((passed + 1)); else failed=$((failed + 1)); echo "wrong: $name"; head -n 5 "$work/log" | sed "s|$work|..|g; s|$top|..|g; s/^/  /"; fi
+}
+has() { command -v "$1" > "$work/log" || { echo "not tried: $1 isn't installed"; return 1; }; }
+made() { make -s --no-print-directory "$@" BINARY="$program"; }
+same_report() { cmp <("$1" tables examples/sample.mrt) <("$program" tables examples/sample.mrt); }
+files_below() { (cd "$1" && find . -type f | LC_ALL=C sort); }
+
+# what program, manual page, completions and CHANGELOG.md say of one another
+version=$("$program" --version | sed 's/^bgp_replay //')
+check 'the version is a version' grep -qE '^[0-9]+\.[0-9]+\.[0-9]+$' <<< "$version"
+check 'the first change is of this version' [ "$(grep -m 1 '^## ' CHANGELOG.md)" = "## $version" ]
+check 'the manual page is of this version' grep -q "^\.TH BGP_REPLAY 1 [0-9-]* \"bgp_replay $version\"" man/bgp_replay.1
+"$program" --help > "$work/help"; commands=$(sed -n '/^Commands:/,/^$/s/^  \([a-z]*\) .*/\1/p' "$work/help" | grep -v '^help$')
+check 'help names six commands' [ "$(wc -w <<< "$commands")" -ge 6 ]
+for command in $commands; do
+  check "the manual page has $command" grep -q "^\.B $command$" man/bgp_replay.1
+  for shell in bash zsh fish; do check "$shell completes $command" grep -qw -- "$command" completions/bgp_replay.$shell; done
+  for option in $("$program" "$command" --help | grep -oE '(^|[ ,])--[a-z][a-z-]*' | tr -d ' ,' | sort -u); do
+    check "the manual page has $option" grep -qF -- "$(sed 's/-/\\-/g' <<< "$option")" man/bgp_replay.1
+    for shell in bash zsh; do check "$shell completes $option" grep -qF -- "$option" completions/bgp_replay.$shell; done
+    check "fish completes $option" grep -qE -- "-l ${option#--}( |\$)" completions/bgp_replay.fish
+  done
+done
+make -s --no-print-directory help > "$work/targets"
+for target in $(sed -n 's/^\.PHONY: all help//p' Makefile); do check "make help names $target" grep -q "^make $target " "$work/targets"; done
+
+# install
+root=$work/root/usr
+check 'make install' made install DESTDIR="$work/root" PREFIX=/usr
+for file in bin/bgp_replay share/man/man1/bgp_replay.1 share/bash-completion/completions/bgp_replay share/zsh/site-functions/_bgp_replay \
+  share/fish/vendor_completions.d/bgp_replay.fish share/doc/bgp_replay/README.md share/doc/bgp_replay/CHANGELOG.md share/doc/bgp_replay/LICENSE share/doc/bgp_replay/FORMATS.md; do
+  check "$file is installed" [ -s "$root/$file" ]
+done
+check 'the program runs from there' same_report "$root/bin/bgp_replay"
+check 'the program is for all' [ "$(stat -c %a "$root/bin/bgp_replay")" = 755 ]
+check 'it needs the C library alone' [ -z "$(ldd "$root/bin/bgp_replay" | grep -vE 'linux-vdso|libc\.so|ld-linux|libpthread|libm\.so|libgcc_s|libdl|statically')" ]
+
+# the manual page
+if has man; then
+  check 'man finds the page' [ -n "$(MANPATH=$root/share/man man -w bgp_replay)" ]
+  warned=$(LC_ALL=C.UTF-8 man --warnings -E UTF-8 -l -Tutf8 -Z "$root/share/man/man1/bgp_replay.1" 2>&1 > "$work/set"); check "man --warnings says nothing: $warned" [ -z "$warned" ]
+  LC_ALL=C.UTF-8 MANWIDTH=80 man -l "$root/share/man/man1/bgp_replay.1" > "$work/page" 2> "$work/log"
+  for word in NAME SYNOPSIS COMMANDS OPTIONS FAULTS 'EXIT STATUS' LIMITS EXAMPLES; do check "the page has $word" grep -q "^$word" "$work/page"; done
+  for line in 'damaged: N' 'bad address: A' 'open failed: file N' 'read failed: file N' 'write failed' 'no memory' 'too many records'; do
+    check "the page has $line" grep -q "${line// / *}" <(tr -s ' \n\302\240' ' ' < "$work/page" | sed 's/‐ //g; s/ad dress/address/')
+  done
+fi
+
+# completions
+completed() { # WORDS..: what bash offers for the last word
+  bash --norc -c 'source "$1"; shift; COMP_WORDS=("$@"); COMP_CWORD=$(($# - 1)); _bgp_replay; printf "%s\n" "${COMPREPLY[@]}"' bash "$root/share/bash-completion/completions/bgp_replay" "$@" | LC_ALL=C sort | tr '\n' ' '
+}
+offers() { local wanted=$1; shift; echo "offered: $(completed "$@")"; [ "$(completed "$@")" = "$wanted" ]; }
+check 'bash: a command' offers 'tables ' bgp_replay ta
+check 'bash: all commands' offers '--help --version churn faults help match origins tables visibility ' bgp_replay ''
+check 'bash: an option' offers '--workers ' bgp_replay tables --w
+check 'bash: an option of match' offers '--address ' bgp_replay match --a
+check 'bash: none of match for tables' offers ' ' bgp_replay tables --a
+check 'bash: a number' offers '64 ' bgp_replay tables --workers 6
+check 'bash: a file' offers 'examples/sample.mrt ' bgp_replay tables examples/sam
+if has zsh; then
+  check 'zsh reads its completion' zsh -n "$root/share/zsh/site-functions/_bgp_replay"
+  check 'zsh loads its completion' zsh -f -c "fpath=('$root/share/zsh/site-functions' \$fpath); autoload -Uz compinit; compinit -D -u; [[ \$_comps[bgp_replay] == _bgp_replay ]]"
+fi
+if has fish; then
+  fish_offers() { HOME=$work XDG_CONFIG_HOME=$work/config fish --no-config -c "source '$root/share/fish/vendor_completions.d/bgp_replay.fish'; complete -C '$1'" 2>&1 | grep -qE -- "^$2([[:space:]]|\$)"; }
+  check 'fish reads its completion' fish --no-execute "$root/share/fish/vendor_completions.d/bgp_replay.fish"
+  check 'fish: a command' fish_offers 'bgp_replay ta' tables
+  check 'fish: an option' fish_offers 'bgp_replay tables --wo' --workers
+  check 'fish: an option of match' fish_offers 'bgp_replay match --ad' --address
+  check 'fish: a file' fish_offers 'bgp_replay tables examples/sam' examples/sample.mrt
+fi
+
+# uninstall
+check 'make uninstall' made uninstall DESTDIR="$work/root" PREFIX=/usr
+check 'nothing is left' [ -z "$(files_below "$work/root")" ]
+
+# the tarball
+check 'make dist' made dist DIST="$work/dist"
+tarball=$(ls "$work/dist"); sum=$(sha256sum < "$work/dist/$tarball")
+check 'its name has the version' grep -q "^bgp_replay-$version-.*\.tar\.gz$" <<< "$tarball"
+check 'make dist once more' made dist DIST="$work/dist"
+check 'the same bytes' [ "$sum" = "$(sha256sum < "$work/dist/$tarball")" ]
+mkdir "$work/open"; check 'tar opens it' tar -xzf "$work/dist/$tarball" -C "$work/open"
+check 'its program runs' same_report "$work/open/${tarball%.tar.gz}/bin/bgp_replay"
+check 'it has a licence' grep -q '^MIT License' "$work/open/${tarball%.tar.gz}/share/doc/bgp_replay/LICENSE"
+
+# the Debian package
+if has dpkg-deb; then
+  check 'make deb' made deb DIST="$work/deb"
+  package=$(ls "$work/deb"); mkdir "$work/unpacked"
+  check 'its name has the version' grep -q "^bgp-replay_${version}_.*\.deb$" <<< "$package"
+  check 'dpkg-deb opens it' dpkg-deb -x "$work/deb/$package" "$work/unpacked"
+  check 'its version' [ "$(dpkg-deb -f "$work/deb/$package" Version)" = "$version" ]
+  check 'its program runs' same_report "$work/unpacked/usr/bin/bgp_replay"
+  check 'its page is compressed' gzip -t "$work/unpacked/usr/share/man/man1/bgp_replay.1.gz"
+  check 'it says who holds the copyright' grep -q 'Ravmekos authors' "$work/unpacked/usr/share/doc/bgp-replay/copyright"
+  check 'all is of root' [ -z "$(dpkg-deb -c "$work/deb/$package" | grep -v ' root/root ')" ]
+fi
+
+echo "$passed passed, $failed failed"
+[ $failed = 0 ] && [ $passed -gt 0 ]
