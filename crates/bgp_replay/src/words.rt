@@ -155,7 +155,7 @@ fn command<'a>(alloc: Global) -> Result<Command<'a>, AllocError> {
     let faults = report_command(alloc, "faults", "List the damaged records of the dumps")?;
     Command::new(alloc, "bgp_replay")
         .bin_name("bgp_replay")?
-        .version("0.1.0")
+        .version("0.2.0")
         .about(ABOUT)
         .after_help(AFTER)
         .no_binary_name(true)
