@@ -1,0 +1,156 @@
+#!/usr/bin/env bash
+# Tries the program's lines on standard error and its statuses, on the program as it is built: each row of the README's table, and names, files and
+# streams that are out of the ordinary. Of standard error the first line is compared; further lines must begin with two spaces (but where
+# words are refused or help is printed, whose text is free). `too many records` can't be had: a run has room for 2^47.
+#   tests/program.sh PROGRAM
+# Needs bash and coreutils, and setpriv or runuser where it runs as root. The last line is `N passed, M failed`.
+set -u
+program=$(realpath "$1"); here=$(dirname "$(realpath "$0")"); work=$(mktemp -d); trap 'chmod -R u+rwx "$work"; rm -rf "$work"' EXIT
+cd "$work" && ln -s "$program" bgp_replay && cp "$here/../examples/sample.mrt" sample || exit 2
+head -c 1000 sample > 'cut'; : > empty; head -c 5 sample > stump
+passed=0; failed=0
+right() { passed=$((passed + 1)); }
+wrong() { failed=$((failed + 1)); printf 'wrong: %s\n' "$*"; }
+
+# The first line is this one, and further ones begin with two spaces; an empty line stands for nothing at all.
+says() { # FILE LINE
+  if [ -z "$2" ]; then [ ! -s "$1" ]; else [ "$(head -n 1 "$1")" = "$2" ] && ! tail -n +2 "$1" | grep -qv '^  '; fi
+}
+# A run of words: its status, its first line, and what it writes: nothing, something, or the bytes of a file.
+judge() { # NAME STATUS LINE WRITES HAD
+  local why=
+  [ "$5" = "$2" ] || why="status $5 in place of $2; "
+  case $3 in '?') [ -s said ] || why+='nothing said; ';; *) says said "$3" || why+="said: $(head -c 200 said | head -n 1); ";; esac
+  case $4 in
+    nothing) [ ! -s out ] || why+='something written; ';;
+    something) [ -s out ] || why+='nothing written; ';;
+    any) ;;
+    *) cmp -s out "$4" || why+="other bytes than $4; ";;
+  esac
+  if [ -z "$why" ]; then right; else wrong "$1: $why"; fi
+}
+try() { # STATUS LINE WRITES WORDS..
+  local status=$1 line=$2 writes=$3; shift 3
+  ./bgp_replay "$@" > out 2> said < "${INPUT:-/dev/null}"; judge "$*" "$status" "$line" "$writes" $?
+}
+
+# 0: whole
+for report in tables visibility origins churn faults 'match --address 17.150.214.7'; do
+  ./bgp_replay $report sample > "whole-${report%% *}" 2> said; judge "$report sample" 0 '' any $?
+done
+for report in tables visibility origins churn match; do cp whole-$report out; : > said; judge "$report isn't empty" 0 '' something 0; done
+cp whole-faults out; : > said; judge 'faults is empty' 0 '' nothing 0
+try 0 '' nothing tables empty
+try 0 '' nothing churn empty empty
+try 0 '' nothing tables /dev/null
+try 0 '' nothing match --address 203.0.113.255 empty
+try 0 '' whole-tables tables --workers 64 --ring 65536 sample
+try 0 '' whole-tables tables --workers=1 --ring=1 sample
+try 0 '' whole-tables tables sample --workers 2
+try 0 '' whole-tables tables --until 18446744073709551615 sample
+try 0 '' nothing tables --until 0 sample
+try 0 '' whole-tables tables -- sample
+for words in --help -h help 'tables --help' 'match -h' 'help tables' --version -V 'faults --version'; do try 0 '' something $words; done
+
+# 1: damaged
+try 1 'damaged: 1' something tables cut
+try 1 'damaged: 1' nothing tables stump
+try 1 'damaged: 2' something churn cut cut
+try 1 'damaged: 2' something faults cut sample stump
+printf '1|892|-|2|ShortBody\n' > fault; try 1 'damaged: 1' fault faults cut
+printf '1|0|-|1|ShortHeader\n' > fault; try 1 'damaged: 1' fault faults stump
+printf '2|0|-|1|ShortHeader\n' > fault; try 1 'damaged: 1' fault faults sample stump
+
+# 2: refused words
+try 2 '?' nothing
+for words in nothing 'nothing sample' tables match 'match sample' 'match --address 10.1.2.3' 'tables --workers 0 sample' 'tables --workers 65 sample' \
+  'tables --workers -1 sample' 'tables --workers 4x sample' 'tables --workers' 'tables --ring 0 sample' 'tables --ring 65537 sample' 'tables --ring 18446744073709551616 sample' \
+  'tables --until -1 sample' 'tables --until 18446744073709551616 sample' 'tables --until soon sample' 'tables --until' 'tables --frobnicate sample' 'tables -x sample' \
+  'tables --address 10.0.0.1 sample' 'tables --workers 2 --workers 3 sample' 'tables --until 1 --until 2 sample' '--workers 2 tables sample' 'match --address 10.1.2 missing --workers 0'; do
+  try 2 '?' nothing $words
+done
+try 2 '?' nothing '' sample
+try 2 '?' nothing tables $'sam\xffple'
+try 2 '?' nothing $'\xff'
+for address in 10.1.2 10.1.2.03 10.1.2.3.4 256.0.0.0 10.1.2. .1.2.3 +1.2.3.4 1.2.3.4/8 0x0a.1.2.3 ' 1.2.3.4' '1.2.3.4 ' '' ::1 1..2.3 0001.2.3.4 "$(head -c 5000 /dev/zero | tr '\0' 1)"; do
+  try 2 "bad address: $address" nothing match --address "$address" sample
+done
+try 2 'bad address: 10.1.2' nothing match --address 10.1.2 missing
+try 0 '' any match --address 0.0.0.0 sample
+try 0 '' any match --address 255.255.255.255 sample
+
+# 3: a file can't be opened
+try 3 'open failed: file 1' nothing tables missing
+try 3 'open failed: file 2' nothing tables sample missing
+try 3 'open failed: file 3' nothing tables - sample missing
+try 3 'open failed: file 1' nothing tables ''
+try 3 'open failed: file 1' nothing tables sample/below
+try 3 'open failed: file 2' nothing tables cut missing missing
+mkdir locked; cp sample locked/sample; cp sample unreadable; chmod 000 unreadable locked
+as_nobody() { if [ "$(id -u)" != 0 ]; then "$@"; elif command -v setpriv > none; then setpriv --reuid 65534 --regid 65534 --clear-groups "$@"; else runuser -u nobody -- "$@"; fi; }
+cp "$program" own; chmod 755 own . ; chmod 644 sample
+as_nobody ./own tables sample unreadable > out 2> said; judge 'a file without leave' 3 'open failed: file 2' nothing $?
+as_nobody ./own tables locked/sample > out 2> said; judge 'a directory without leave' 3 'open failed: file 1' nothing $?
+# All files are opened before any is read: standard input never ends here.
+mkfifo endless; exec 9<> endless
+timeout 10 ./bgp_replay tables - missing < endless > out 2> said; judge 'a missing file behind an endless one' 3 'open failed: file 2' nothing $?
+exec 9>&-
+
+# 3: a file can't be read
+mkdir folder
+./bgp_replay tables folder > out 2> said; status=$?
+case $(head -n 1 said) in 'open failed: file 1') judge 'a directory' 3 'open failed: file 1' nothing $status;; *) judge 'a directory' 3 'read failed: file 1' nothing $status;; esac
+./bgp_replay churn sample folder > out 2> said; status=$?
+case $(head -n 1 said) in 'open failed: file 2') judge 'a directory behind a file' 3 'open failed: file 2' nothing $status;; *) judge 'a directory behind a file' 3 'read failed: file 2' nothing $status;; esac
+./bgp_replay tables - < folder > out 2> said; judge 'a directory as standard input' 3 'read failed: file 1' nothing $?
+./bgp_replay tables sample - < folder > out 2> said; judge 'a directory as standard input, second' 3 'read failed: file 2' nothing $?
+./bgp_replay tables - > out 2> said 0> writable; judge 'standard input that is for writing' 3 'read failed: file 1' nothing $?
+
+# 3: a write failed
+for report in tables visibility origins churn 'match --address 17.150.214.7'; do
+  : > out; ./bgp_replay $report sample > /dev/full 2> said; judge "$report to a full device" 3 'write failed' nothing $?
+done
+./bgp_replay faults cut > /dev/full 2> said; judge 'faults to a full device' 3 'write failed' nothing $?
+./bgp_replay faults sample > /dev/full 2> said; judge 'an empty report to a full device' 0 '' nothing $?
+./bgp_replay --help > /dev/full 2> said; judge 'help to a full device' 3 'write failed' nothing $?
+./bgp_replay --version > /dev/full 2> said; judge 'the version to a full device' 3 'write failed' nothing $?
+./bgp_replay tables sample > /dev/full 2> /dev/full; [ $? = 3 ] && right || wrong 'two full devices'
+./bgp_replay tables cut > out 2> /dev/full; [ $? = 1 ] && cmp -s out <(./bgp_replay tables cut 2> none) && right || wrong 'a full device for standard error'
+{ sleep 0.3; ./bgp_replay tables sample 2> said; echo $? > status; } | true; : > out; judge 'a pipe that nobody reads' 3 'write failed' nothing "$(cat status)"
+: > out; ./bgp_replay tables sample 2> said >&-; judge 'a closed standard output' 3 'write failed' nothing $?
+{ ./bgp_replay tables sample 2> said; echo $? > status; } | head -c 100 > front; head -c 100 whole-tables | cmp -s - front && right || wrong 'the front of a report'
+
+# 3: memory
+{ printf '\0\0\0\1\0\143\0\1\1\0\0\0'; head -c 16777216 /dev/zero; } > large
+try 0 '' nothing tables large
+for kilobytes in 24000 20000 16000; do
+  (ulimit -v $kilobytes; exec ./bgp_replay tables --workers 1 large > out 2> said); status=$?
+  [ $status = 0 ] || break
+done
+judge 'a body without memory' 3 'no memory' nothing $status
+
+# standard input
+INPUT=sample try 0 '' whole-tables tables -
+INPUT=sample try 0 '' whole-tables tables - -
+INPUT=sample try 0 '' whole-tables tables - empty -
+INPUT='cut' try 1 'damaged: 1' something tables - -
+cat sample | ./bgp_replay churn - > out 2> said; judge 'a pipe' 0 '' whole-churn $?
+{ head -c 700 sample; sleep 0.2; tail -c +701 sample; } | ./bgp_replay churn - > out 2> said; judge 'a slow pipe' 0 '' whole-churn $?
+./bgp_replay tables sample > twice 2> said; ./bgp_replay tables sample sample > out 2> said; judge 'the sample twice' 0 '' twice $?
+./bgp_replay churn sample - < /dev/null > out 2> said; judge 'an empty standard input' 0 '' whole-churn $?
+mkfifo fifo; cat sample > fifo & ./bgp_replay tables fifo > out 2> said; judge 'a named pipe' 0 '' whole-tables $?
+
+# names
+for name in 'two words' $'two\nlines' ' ' $'tab\there' 'dump*?[a]' $'caf\xc3\xa9' '--until' '-' "$(printf 'n%.0s' {1..250})"; do
+  cp sample "./$name"; try 0 '' whole-tables tables -- "./$name"
+done
+cp sample ./-x; try 0 '' whole-tables tables -- -x
+cp sample $'./raw\xff'; try 2 '?' nothing tables $'./raw\xff'; INPUT=$'./raw\xff' try 0 '' whole-tables tables -
+try 3 'open failed: file 1' nothing tables $'no\nsuch'
+try 3 'open failed: file 2' nothing tables sample $'  no such'
+printf '%s\n' {1..300} > numbers; mapfile -t many < <(sed 's/.*/empty/' numbers)
+try 0 '' whole-tables tables sample "${many[@]}"
+(ulimit -n 20; ./bgp_replay tables sample "${many[@]}" > out 2> said; status=$?; head -n 1 said | grep -q '^open failed: file [0-9][0-9]*$' && [ $status = 3 ] && [ ! -s out ]) && right || wrong 'more files than descriptors'
+
+echo "$passed passed, $failed failed"
+[ $failed = 0 ] && [ $passed -gt 0 ]
