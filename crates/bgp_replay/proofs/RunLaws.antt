@@ -70,7 +70,7 @@ kept old new same = subst (Keeps old) (sym same) (Keeps-refl old)
 -- the two errors of writing a report
 pub stops_writing : (run : RunState) (e : ReplayError) → (e ≡ errors.Memory) ⊎ (e ≡ errors.Write)
     → (e ≡ errors.Memory → Keeps run.held run.held_after) → (e ≡ errors.Write → HasFailed run.writer run.writer_after)
-    → ((files : List (List ℕ)) → AreHonest run.told run.held files → e ≡ errors.Write → WritesFront run.held run.held_after (report run.request run.plan.until files)) → IsStopped run e
+    → ((files : List (List ℕ)) → AreHonest run.told files → e ≡ errors.Write → WritesFront run.held run.held_after (report run.request run.plan.until files)) → IsStopped run e
 stops_writing run e (inl memory) keeps failed front = subst (IsStopped run) (sym memory) (keeps memory)
 stops_writing run e (inr write) keeps failed front = subst (IsStopped run) (sym write) (failed write, λ files honest. front files honest write)
 

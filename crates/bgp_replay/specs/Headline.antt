@@ -1,15 +1,10 @@
 -- The headline: what a run that completes has done, and why one doesn't. The contract of `run` names these.
-use Rattle.std.specs.Prelude.{◌≡◌, ℕ, ◌<◌, true, List, ◌∷◌, ◌++◌, Option, Result, IfOk, IfErr, length, slice_index}
-use Rattle.std.specs.List.{Contains}
+use Rattle.std.specs.Prelude.{◌≡◌, ℕ, ◌<◌, List, Option, Result, IfOk, IfErr, length, slice_index}
 use Rattle.std.specs.Io.KnownBytes.{Appends, Keeps}
-use Rattle.bgp_prefix.specs.declared.key.RouteKey.{RouteKey}
 use Rattle.mrt_frame.specs.Devices.{HasFailed}
 use Rattle.mrt_frame.specs.Writes.{WritesFront}
 use Rattle.mrt_frame.specs.declared.error.ReplayError.{ReplayError}
 use Rattle.mrt_frame.specs.declared.error.ReplayError.TheVariants as errors
-use Rattle.bgp_update.specs.declared.route.Route.{Route}
-use Rattle.mrt_body.specs.declared.unit.Unit.{Unit as ReplayUnit}
-use Rattle.adj_rib.specs.Steps.{announce, is_up, unit_steps}
 use Rattle.lane_deal.specs.declared.plan.Plan.{Plan}
 use Rattle.bgp_replay.specs.declared.request.Request.{Request}
 use Rattle.bgp_replay.specs.declared.summary.Summary.{Summary}
@@ -38,16 +33,7 @@ pub record IsReplayed (run : RunState) (files : List (List ℕ)) (summary : Summ
 
 -- For every list of files, every plan and every dealing, a run that completes has replayed them.
 abbrev pub Headline : RunState → Type 0
-Headline run = (files : List (List ℕ)) → AreHonest run.told run.held files → IfOk run.result (IsReplayed run files)
-
--- One of these units, at which the peer is up, announces the key with the route.
-pub record IsAnnouncedWhileUp (units : List ReplayUnit) (key : RouteKey) (route : Route) : Type 0 where
-  pub before : List ReplayUnit
-  pub unit : ReplayUnit
-  pub after : List ReplayUnit
-  pub whole : units ≡ before ++ unit ∷ after
-  pub up : is_up before ≡ true
-  pub announced : Contains (unit_steps true unit) (announce key route)
+Headline run = (files : List (List ℕ)) → AreHonest run.told files → IfOk run.result (IsReplayed run files)
 
 -- ---- a run that doesn't
 
@@ -55,9 +41,9 @@ pub record IsAnnouncedWhileUp (units : List ReplayUnit) (key : RouteKey) (route 
 -- that a device failed is said of all.
 abbrev pub IsStopped : RunState → ReplayError → Type 0
 IsStopped run (errors.Read file) = (file < length run.readers) × HasFailed (slice_index run.readers file) (slice_index run.readers_after file) × Keeps run.held run.held_after
-IsStopped run errors.Write = HasFailed run.writer run.writer_after × ((files : List (List ℕ)) → AreHonest run.told run.held files → WritesFront run.held run.held_after (report run.request run.plan.until files))
+IsStopped run errors.Write = HasFailed run.writer run.writer_after × ((files : List (List ℕ)) → AreHonest run.told files → WritesFront run.held run.held_after (report run.request run.plan.until files))
 IsStopped run errors.Memory = Keeps run.held run.held_after
-IsStopped run errors.Records = ((files : List (List ℕ)) → AreHonest run.told run.held files → AreWithin run.plan.max_records files → ⊥) × Keeps run.held run.held_after
+IsStopped run errors.Records = ((files : List (List ℕ)) → AreHonest run.told files → AreWithin run.plan.max_records files → ⊥) × Keeps run.held run.held_after
 IsStopped run errors.Spent = ⊥
 
 -- A run that answers an error has its cause.
@@ -67,5 +53,13 @@ StopsWithCause run = IfErr run.result (IsStopped run)
 -- With sound devices and records within the limit a run completes, unless it wants memory.
 abbrev pub Completes : RunState → Type 0
 Completes run =
-    (files : List (List ℕ)) → AreHonest run.told run.held files → AreSound run.readers run.readers_after run.writer run.writer_after → AreWithin run.plan.max_records files
+    (files : List (List ℕ)) → AreHonest run.told files → AreSound run.readers run.readers_after run.writer run.writer_after → AreWithin run.plan.max_records files
     → IfErr run.result (λ error. error ≡ errors.Memory)
+
+-- ---- all of it
+
+-- What is promised of every run, whatever came of it.
+pub record IsPromised (run : RunState) : Type 0 where
+  pub headline : Headline run
+  pub cause : StopsWithCause run
+  pub completes : Completes run

@@ -3,7 +3,7 @@
 -- `Memory`, and what is said of its other answers is said all the same.
 -- Recorded states, that the recorded state changes are those of the session and that it was up before the first one: no dump tells it.
 -- `is_up` speaks of what is recorded.
-use Rattle.std.specs.Prelude.{◌≡◌, ℕ, ◌<◌, ◌≤◌, List, map, length, Option, Some, IsSome, slice_index}
+use Rattle.std.specs.Prelude.{◌≡◌, ℕ, ◌<◌, ◌≤◌, List, map, length, Option, Some, slice_index}
 use Rattle.mrt_frame.specs.Devices.{HasFailed}
 use Rattle.mrt_body.specs.Units.{records_of}
 
@@ -16,7 +16,7 @@ pub record AreSound (readers readers_after : List ℕ) (writer writer_after : �
 abbrev pub AreWithin : ℕ → List (List ℕ) → Type 0
 AreWithin max_records files = records_of files ≤ max_records
 
--- Honest devices: the readers tell the bytes that they give, and these are they; the writer tells those that it holds
-pub record AreHonest (told : List (Option (List ℕ))) (contents : Option (List ℕ)) (files : List (List ℕ)) : Type 0 where
+-- Honest devices: the readers tell the bytes that they give, and these are they. Of the bytes that a writer doesn't tell `Appends`,
+-- `Keeps` and `WritesFront` say nothing, so that no more is asked of a writer.
+pub record AreHonest (told : List (Option (List ℕ))) (files : List (List ℕ)) : Type 0 where
   pub readers_tell : told ≡ map (λ bytes. Some bytes) files
-  pub writer_tells : IsSome contents

@@ -6,7 +6,7 @@ ghost use Rattle.mrt_frame.specs.Devices.{HasFailed};
 ghost use Rattle.mrt_frame.specs.Writes.{WritesFront};
 ghost use Rattle.mrt_frame.specs.declared.error.ReplayError.TheVariants as errors;
 ghost use Rattle.lane_deal.specs.Plans.{IsPlan};
-ghost use Rattle.bgp_replay.specs.Headline.{Headline, StopsWithCause, Completes};
+ghost use Rattle.bgp_replay.specs.Headline.{IsPromised};
 ghost use Rattle.bgp_replay.specs.Reports.{lines_of};
 
 use crate::replayed::replay;
@@ -17,8 +17,8 @@ use bgp_prefix::PrefixMap;
 use lane_deal::{Dealing, Gate, Plan};
 use mrt_frame::{ReplayError, Sink, Source};
 use rib_report::{
-    Tables, churn, faults, matches, origins, visibility, write_churn, write_faults, write_origins,
-    write_rows, list_tables, write_visibility,
+    Tables, churn, faults, list_tables, matches, origins, visibility, write_churn, write_faults,
+    write_origins, write_rows, write_visibility,
 };
 use std::alloc::Global;
 use std::marker::Sync;
@@ -48,21 +48,10 @@ where
     D: Dealing + Sync,
     G: Gate,
     requires { IsPlan plan.now }
-    // A run that completes wrote the report on the files' bytes, byte for byte, and counted them.
-    ensures headline { Headline (record {
-      request = request.now;
-      plan = plan.now;
-      told = map R.remaining files.old;
-      held = W.contents out.old;
-      held_after = W.contents out.new;
-      readers = map R.failure_count files.old;
-      readers_after = map R.failure_count files.new;
-      writer = W.failure_count out.old;
-      writer_after = W.failure_count out.new;
-      result = result;
-    }) }
-    // An error has its cause, and leaves nothing written, or a front of the report.
-    ensures cause { StopsWithCause (record {
+    // A run that completes wrote the report on the files' bytes, byte for byte, and counted them. An error has
+    // its cause, and leaves nothing written, or a front of the report. With sound devices and records within
+    // the limit it completes, unless it wants memory.
+    ensures promised { IsPromised (record {
       request = request.now;
       plan = plan.now;
       told = map R.remaining files.old;
@@ -76,19 +65,6 @@ where
     }) }
     // Any error but that of the writer leaves it untouched.
     ensures untouched { IfErr result (λ e. (e ≡ errors.Write → ⊥) → out.new ≡ out.old) }
-    // With sound devices and records within the limit it completes, unless it wants memory.
-    ensures completes { Completes (record {
-      request = request.now;
-      plan = plan.now;
-      told = map R.remaining files.old;
-      held = W.contents out.old;
-      held_after = W.contents out.new;
-      readers = map R.failure_count files.old;
-      readers_after = map R.failure_count files.new;
-      writer = W.failure_count out.old;
-      writer_after = W.failure_count out.new;
-      result = result;
-    }) }
 {
     let replayed = match replay::<M, T, R, D, G>(rt, alloc, files, plan, dealing, gate) {
         Ok(replayed) => replayed,

@@ -2,12 +2,14 @@
 use Rattle.std.proofs.Common.{◌≡◌, ℕ, zero, suc, ◌<◌, ◌≤◌, ◌||◌, Bool, true, false, cond, eqb, List, [], ◌∷◌, ◌++◌, length, map, get_or, Some, refl, sym, ap, ◌∙◌, subst, arith}
 use Rattle.std.specs.Prelude.{slice_get}
 use Rattle.std.specs.List.{filter, list_any, AllByRecursion}
-use Rattle.std.proofs.lemmas.List.{map-append}
+use Rattle.std.proofs.lemmas.List.{length-map, map-append}
 use Rattle.std.proofs.Math.Bool.{or-true}
 use Rattle.rtrb.specs.Ring.{sent}
 use Rattle.mrt_body.specs.declared.unit.PeerKey.{PeerKey}
 use Rattle.mrt_body.specs.declared.unit.Unit.{Unit as ReplayUnit}
 use Rattle.rib_report.specs.Peers.{peer_eq, peers_of}
+use Rattle.bgp_prefix.specs.declared.map.PrefixMap.{Ghosts}
+use Rattle.adj_rib.specs.declared.shared_route.SharedRoute.{SharedRoute}
 use Rattle.lane_deal.specs.declared.feed.Feed.{Feed}
 use Rattle.lane_deal.specs.declared.numbered.Numbered.{Numbered}
 use Rattle.lane_deal.specs.declared.seats.Seats.{Seats}
@@ -91,7 +93,7 @@ dealt_items-append units more rest keys e =
 
 -- ---- one lane
 
-module _ {M : Type 0} (lane_of : ℕ → ℕ) (units more : List ReplayUnit) (lane capacity : ℕ) (f : Feed) (w : Worker (Seats M)) where
+module _ {M : Type 0} {g : Ghosts M SharedRoute} (lane_of : ℕ → ℕ) (units more : List ReplayUnit) (lane capacity : ℕ) (f : Feed) (w : Worker (Seats M g)) where
   abbrev all : List ReplayUnit
   all = units ++ more
 
@@ -120,6 +122,7 @@ module _ {M : Type 0} (lane_of : ℕ → ℕ) (units more : List ReplayUnit) (la
         whole =
             ap (λ l. numbered keys h.taken ++ l) (h.ring.sent ∙ numbered_same (peers_of all) keys h.waiting waiting_stay)
             ∙ sym (map-append (with_number keys) h.taken h.waiting) ∙ ap (numbered keys) h.whole ∙ sym (lane_items lane_of units lane);
+        counted = (let n = h.counted in let k = length-map h.taken (with_number keys) in omega arith);
       }
 
   pub stands_out : IsReady capacity f w → LaneStands SeatsHold f w (in_lane lane_of lane (dealt_items units)) → LaneStandsFor capacity all own (lane_state f w)
@@ -157,30 +160,31 @@ module _ {M : Type 0} (lane_of : ℕ → ℕ) (units more : List ReplayUnit) (la
               some_is p q
               (sym (listed_gets (peers_of all) p (listed_peer all p (seen p seen_p))) ∙ ap (slice_get (peers_of all)) e ∙ listed_gets (peers_of all) q (listed_peer all q (seen q seen_q)));
         });
+        counted = (let n = h.counted in let k = length-map h.taken (λ x. x.unit) in omega arith);
       }
 
 -- ---- all lanes
 
-module _ {M : Type 0} where
-  pub length-lane_states : (fs : List Feed) (ws : List (Worker (Seats M))) → length ws ≡ length fs → length (lane_states fs ws) ≡ length fs
+module _ {M : Type 0} {g : Ghosts M SharedRoute} where
+  pub length-lane_states : (fs : List Feed) (ws : List (Worker (Seats M g))) → length ws ≡ length fs → length (lane_states fs ws) ≡ length fs
   length-lane_states [] ws e = refl
   length-lane_states (f ∷ fs) [] e = absurd (omega arith)
   length-lane_states (f ∷ fs) (w ∷ ws) e = (let n = length-lane_states fs ws (omega arith) in omega arith)
 
-  pub lane_states-at : (fs : List Feed) (ws : List (Worker (Seats M))) (lane : ℕ) (d : Feed) (e : Worker (Seats M)) → length ws ≡ length fs → lane < length fs → slice_get (lane_states fs ws) lane ≡ Some (lane_state (get_or fs lane d) (get_or ws lane e))
+  pub lane_states-at : (fs : List Feed) (ws : List (Worker (Seats M g))) (lane : ℕ) (d : Feed) (e : Worker (Seats M g)) → length ws ≡ length fs → lane < length fs → slice_get (lane_states fs ws) lane ≡ Some (lane_state (get_or fs lane d) (get_or ws lane e))
   lane_states-at [] ws lane d e same l = absurd (omega arith)
   lane_states-at (f ∷ fs) [] lane d e same l = absurd (omega arith)
   lane_states-at (f ∷ fs) (w ∷ ws) zero d e same l = refl
   lane_states-at (f ∷ fs) (w ∷ ws) (suc lane) d e same l = lane_states-at fs ws lane d e (omega arith) (omega arith)
 
   -- a lane that is shown has a feed and a worker
-  pub record IsLaneAt (fs : List Feed) (ws : List (Worker (Seats M))) (lane : ℕ) (state : LaneState) : Type 0 where
+  pub record IsLaneAt (fs : List Feed) (ws : List (Worker (Seats M g))) (lane : ℕ) (state : LaneState) : Type 0 where
     pub feed : Feed
-    pub worker : Worker (Seats M)
+    pub worker : Worker (Seats M g)
     pub within : lane < length fs
     pub state_is : state ≡ lane_state (get_or fs lane feed) (get_or ws lane worker)
 
-  pub lane_at : (fs : List Feed) (ws : List (Worker (Seats M))) (lane : ℕ) (state : LaneState) → slice_get (lane_states fs ws) lane ≡ Some state → IsLaneAt fs ws lane state
+  pub lane_at : (fs : List Feed) (ws : List (Worker (Seats M g))) (lane : ℕ) (state : LaneState) → slice_get (lane_states fs ws) lane ≡ Some state → IsLaneAt fs ws lane state
   lane_at [] ws lane state e = absurd (cc)
   lane_at (f ∷ fs) [] lane state e = absurd (cc)
   lane_at (f ∷ fs) (w ∷ ws) zero state e = record { feed = f; worker = w; within = omega arith; state_is = sym (some_is (lane_state f w) state e) }

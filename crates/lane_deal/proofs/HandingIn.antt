@@ -7,6 +7,8 @@ use Rattle.std.proofs.lemmas.List.{get_or_default, length-set}
 use Rattle.rib_report.specs.declared.tables.Seated.{Seated}
 use Rattle.rib_report.specs.Seats.{seat_of}
 use Rattle.rib_report.specs.Tables.{Seat}
+use Rattle.bgp_prefix.specs.declared.map.PrefixMap.{Ghosts}
+use Rattle.adj_rib.specs.declared.shared_route.SharedRoute.{SharedRoute}
 use Rattle.lane_deal.specs.declared.seats.Seats.{Seats}
 use Rattle.lane_deal.specs.declared.worker.Worker.{Worker}
 use Rattle.lane_deal.specs.Collecting.{Exchanged, ExchangedBelow, WorkerState, worker_state, seats_of_workers}
@@ -26,12 +28,12 @@ flat_each f g (x ∷ xs) [] e h = absurd (omega arith)
 flat_each f g (x ∷ xs) (y ∷ ys) e h =
     ap (λ z. z ++ flat_map f xs) (h 0 x y (omega arith)) ∙ ap (λ l. g y ++ l) (flat_each f g xs ys (omega arith) (λ k a b l. h (suc k) a b (omega arith)))
 
-module _ {M : Type 0} where
-  pub ExchangedBelow-none : (ws : List (Worker (Seats M))) (ls : List (List (Seated M))) → ExchangedBelow 0 ws ws ls ls
+module _ {M : Type 0} {g : Ghosts M SharedRoute} where
+  pub ExchangedBelow-none : (ws : List (Worker (Seats M g))) (ls : List (List (Seated M))) → ExchangedBelow 0 ws ws ls ls
   ExchangedBelow-none ws ls =
       record { workers_count = refl; lists_count = refl; each = λ lane d e l. absurd (omega arith); workers_rest = λ lane d l. refl; lists_rest = λ lane e l. refl }
 
-  pub ExchangedBelow-more : (k : ℕ) (ws ws' : List (Worker (Seats M))) (ls ls' : List (List (Seated M))) (w w' : Worker (Seats M)) (l l' : List (Seated M)) → k < length ws → length ls ≡ length ws → Exchanged (get_or ws' k w) w' (get_or ls' k l) l' → ExchangedBelow k ws ws' ls ls' → ExchangedBelow (k + 1) ws (set ws' k w') ls (set ls' k l')
+  pub ExchangedBelow-more : (k : ℕ) (ws ws' : List (Worker (Seats M g))) (ls ls' : List (List (Seated M))) (w w' : Worker (Seats M g)) (l l' : List (Seated M)) → k < length ws → length ls ≡ length ws → Exchanged (get_or ws' k w) w' (get_or ls' k l) l' → ExchangedBelow k ws ws' ls ls' → ExchangedBelow (k + 1) ws (set ws' k w') ls (set ls' k l')
   ExchangedBelow-more k ws ws' ls ls' w w' l l' below lanes new p =
       let in_workers : k < length ws' = (let c = p.workers_count in omega arith) in
       let in_lists : k < length ls' = (let c = p.lists_count in omega arith) in
@@ -53,13 +55,13 @@ module _ {M : Type 0} where
       }
 
   -- what is handed in is what the workers held
-  pub handed_in : (ws ws' : List (Worker (Seats M))) (ls ls' : List (List (Seated M))) → length ls ≡ length ws → ExchangedBelow (length ws) ws ws' ls ls' → flat_map (λ l. map seat_of l) ls' ≡ seats_of_workers ws
+  pub handed_in : (ws ws' : List (Worker (Seats M g))) (ls ls' : List (List (Seated M))) → length ls ≡ length ws → ExchangedBelow (length ws) ws ws' ls ls' → flat_map (λ l. map seat_of l) ls' ≡ seats_of_workers ws
   handed_in ws ws' ls ls' e p =
       flat_each (λ l. map seat_of l) (λ w. map seat_of w.sessions.seats.items) ls' ws (p.lists_count ∙ e)
       (λ k d x l. ap (map seat_of) (p.each k x d (let c = p.lists_count in omega arith)).given)
 
   -- and is given back
-  pub given_back : (ws ws' ws₂ : List (Worker (Seats M))) (ls ls' ls₂ : List (List (Seated M))) → length ls ≡ length ws → ExchangedBelow (length ws) ws ws' ls ls' → ExchangedBelow (length ws') ws' ws₂ ls' ls₂ → map worker_state ws₂ ≡ map worker_state ws
+  pub given_back : (ws ws' ws₂ : List (Worker (Seats M g))) (ls ls' ls₂ : List (List (Seated M))) → length ls ≡ length ws → ExchangedBelow (length ws) ws ws' ls ls' → ExchangedBelow (length ws') ws' ws₂ ls' ls₂ → map worker_state ws₂ ≡ map worker_state ws
   given_back ws ws' ws₂ ls ls' ls₂ e p q =
       map_each worker_state worker_state ws₂ ws (q.workers_count ∙ p.workers_count)
       (λ k d x l.

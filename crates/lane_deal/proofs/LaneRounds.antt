@@ -35,6 +35,7 @@ module _ {S : Type 0} (stands_for : S → List Numbered → Type 0) (capacity : 
         whole =
             append_assoc h.taken q.items (sent f₂.producer)
             ∙ (ap (λ l. h.taken ++ l) (lane_order f f₁ f₂ w w₁ w₂ xs r p q n) ∙ (sym (append_assoc h.taken (sent f.producer) xs) ∙ ap (λ l. l ++ xs) h.whole));
+        counted = (let a = n.taken in let b = q.took.counted in let m = h.counted in let k = length-append h.taken q.items in omega arith);
       }
 
   -- no more wait than were pushed in the round

@@ -15,6 +15,7 @@ pub mod Deals
 pub mod Asking
 pub mod DealerLaws
 pub mod SeatLists
+pub mod SeatIndexes
 pub mod LaneRounds
 pub mod Bridges
 pub mod Plays

@@ -1,12 +1,16 @@
 -- The places of peers among different ones.
-use Rattle.std.proofs.Common.{◌≡◌, ℕ, zero, suc, ◌+◌, ◌||◌, ◌⊎◌, inl, inr, not, Bool, true, false, cond, if◌then◌else◌, List, [], ◌∷◌, ◌++◌, length, Some, refl, sym, ap, ◌∙◌, subst, arith}
+use Rattle.std.proofs.Common.{◌≡◌, ℕ, zero, suc, ◌+◌, ◌||◌, ◌&&◌, ◌==◌, ◌⊎◌, inl, inr, not, Bool, true, false, cond, if◌then◌else◌, List, [], ◌∷◌, ◌++◌, length, Option, Some, None, refl, sym, ap, ◌∙◌, subst, arith}
 use Rattle.std.specs.Prelude.{slice_get, unwrap_or}
 use Rattle.std.specs.List.{list_any, position_or_len, prefix_len}
 use Rattle.std.proofs.lemmas.List.{append-nil}
 use Rattle.std.proofs.Math.Bool.{or-true}
+use Rattle.mrt_body.specs.declared.unit.PeerAddr.{PeerAddr}
+use Rattle.mrt_body.specs.declared.unit.PeerAddr.TheVariants.{V4, V6}
 use Rattle.mrt_body.specs.declared.unit.PeerKey.{PeerKey}
-use Rattle.rib_report.specs.Peers.{peer_eq}
-use Rattle.lane_deal.specs.Keys.{AreApart}
+use Rattle.mrt_body.specs.contracts.unit.PeerAddrPartialEq.TheImpl as addr_impl
+use Rattle.mrt_body.specs.contracts.unit.PeerKeyPartialEq.TheImpl as key_impl
+use Rattle.rib_report.specs.Peers.{peer_eq, addr_eq}
+use Rattle.lane_deal.specs.Keys.{AreApart, AreListed}
 use Rattle.lane_deal.specs.Numbers.{NumbersPeer, number_in}
 use Rattle.lane_deal.proofs.Peers.{peer_itself, same_peer, first_place}
 use Rattle.lane_deal.proofs.Numbering.{place_behind}
@@ -70,3 +74,80 @@ apart_more keys q apart new n k at =
 
 pub apart_new : (keys after : List PeerKey) (q : PeerKey) → AreApart keys → list_any (peer_eq q) keys ≡ false → after ≡ keys ++ q ∷ [] → AreApart after
 apart_new keys after q apart new e = subst AreApart (sym e) (apart_more keys q apart new)
+
+-- ---- the numbers that are looked up
+
+abbrev key_eq : PeerKey → PeerKey → Bool
+key_eq = key_impl.eq-value.it
+
+same_addrs : (a b : PeerAddr) → addr_impl.eq-value.it a b ≡ addr_eq a b
+same_addrs (V4 a) (V4 b) = refl
+same_addrs (V4 a) (V6 b) = refl
+same_addrs (V6 a) (V4 b) = refl
+same_addrs (V6 a) (V6 b) = refl
+
+-- the derived comparison is that of the definitions
+same_keys : (a b : PeerKey) → key_eq a b ≡ peer_eq a b
+same_keys a b = ap (λ t. (a.asn == b.asn) && t) (same_addrs a.addr b.addr)
+
+key_same : (a b : PeerKey) → key_eq a b ≡ true → a ≡ b
+key_same a b e = same_peer a b (sym (same_keys a b) ∙ e)
+
+key_itself : (a : PeerKey) → key_eq a a ≡ true
+key_itself a = same_keys a a ∙ peer_itself a
+
+get_last : {X : Type 0} (xs : List X) (x : X) → slice_get (xs ++ x ∷ []) (length xs) ≡ Some x
+get_last [] x = refl
+get_last (y ∷ xs) x = ap (slice_get (y ∷ (xs ++ x ∷ []))) {x = length (y ∷ xs)} {y = suc (length xs)} (omega arith) ∙ get_last xs x
+
+get_front : {X : Type 0} (xs : List X) (x : X) (n : ℕ) (y : X) → slice_get xs n ≡ Some y → slice_get (xs ++ x ∷ []) n ≡ Some y
+get_front [] x n y e = absurd cc
+get_front (z ∷ xs) x zero y e = e
+get_front (z ∷ xs) x (suc n) y e = get_front xs x n y e
+
+-- a peer that is not found is not listed
+pub none_listed : (find : PeerKey → Option ℕ) (keys : List PeerKey) (q : PeerKey) → AreListed find keys → find q ≡ None → list_any (peer_eq q) keys ≡ false
+none_listed find keys q listed e =
+    elim (list_any (peer_eq q) keys) as (λ b. list_any (peer_eq q) keys ≡ b → b ≡ false) [
+      | true ↦ λ any. (let clash : None ≡ Some (number_in keys q) = sym e ∙ (listed q (number_in keys q)).1 (listed_gets keys q any) in absurd cc)
+      | false ↦ λ _. refl
+    ] refl
+
+-- a peer that is not listed is not found
+none_found : (find : PeerKey → Option ℕ) (keys : List PeerKey) (q : PeerKey) (o : Option ℕ) → AreListed find keys → list_any (peer_eq q) keys ≡ false → find q ≡ o → find q ≡ None
+none_found find keys q None listed e is = is
+none_found find keys q (Some n) listed e is = let clash : false ≡ true = sym e ∙ listed_at keys n q ((listed q n).0 is) in absurd cc
+
+-- what is looked up, with one peer more
+module _ (old new : PeerKey → Option ℕ) (keys : List PeerKey) (k : PeerKey) (listed : AreListed old keys) (absent : old k ≡ None)
+    (updates : (q : PeerKey) → new q ≡ cond (key_eq k q) (Some (length keys)) (old q)) where
+  listed_to : (p : PeerKey) (n : ℕ) → new p ≡ Some n → slice_get (keys ++ k ∷ []) n ≡ Some p
+  listed_to p n e =
+      elim (key_eq k p) as (λ b. key_eq k p ≡ b → cond b (Some (length keys)) (old p) ≡ Some n → slice_get (keys ++ k ∷ []) n ≡ Some p) [
+        | true ↦ λ same is.
+            let at : length keys ≡ n = some_is (length keys) n is in
+            subst (λ m. slice_get (keys ++ k ∷ []) m ≡ Some p) at (get_last keys k ∙ ap (λ q. Some q) (key_same k p same))
+        | false ↦ λ _ is. get_front keys k n p ((listed p n).0 is)
+      ] refl (sym (updates p) ∙ e)
+
+  listed_from : (p : PeerKey) (n : ℕ) → slice_get (keys ++ k ∷ []) n ≡ Some p → new p ≡ Some n
+  listed_from p n e = elim (split_get keys k n p e) [
+    | inl h ↦
+        let was : old p ≡ Some n = (listed p n).1 h in
+        elim (key_eq k p) as (λ b. key_eq k p ≡ b → new p ≡ Some n) [
+          | true ↦ λ same.
+              let clash : None ≡ Some n = sym absent ∙ ap old (key_same k p same) ∙ was in
+              absurd cc
+          | false ↦ λ apart. updates p ∙ ap (λ b. cond b (Some (length keys)) (old p)) apart ∙ was
+        ] refl
+    | inr h ↦
+        updates p ∙ ap (λ b. cond b (Some (length keys)) (old p)) (ap (key_eq k) (sym h.1) ∙ key_itself k) ∙ ap (λ m. Some m) (sym h.0)
+  ]
+
+-- a new peer is listed behind the others
+pub listed_new : (keys after : List PeerKey) (k : PeerKey) (n : ℕ) → n ≡ length keys → (old new : PeerKey → Option ℕ) → AreListed old keys → list_any (peer_eq k) keys ≡ false
+    → ((q : PeerKey) → new q ≡ cond (key_eq k q) (Some n) (old q)) → after ≡ keys ++ k ∷ [] → AreListed new after
+listed_new keys after k n is old new listed apart updates grown =
+    let absent = none_found old keys k (old k) listed apart refl in
+    let updated : (q : PeerKey) → new q ≡ cond (key_eq k q) (Some (length keys)) (old q) = λ q. updates q ∙ ap (λ m. cond (key_eq k q) (Some m) (old q)) is in
+    subst (AreListed new) (sym grown) (λ p m. (listed_to old new keys k listed absent updated p m, listed_from old new keys k listed absent updated p m))

@@ -13,6 +13,8 @@ use Rattle.mrt_body.specs.declared.unit.Unit.{Unit as ReplayUnit}
 use Rattle.mrt_body.specs.Units.{unit_of, damage_of}
 use Rattle.mrt_body.specs.ToCome.{UnitsState}
 use Rattle.rib_report.specs.Peers.{peers_of}
+use Rattle.bgp_prefix.specs.declared.map.PrefixMap.{Ghosts}
+use Rattle.adj_rib.specs.declared.shared_route.SharedRoute.{SharedRoute}
 use Rattle.lane_deal.specs.declared.dealer.Dealer.{Dealer}
 use Rattle.lane_deal.specs.declared.feed.Feed.{Feed}
 use Rattle.lane_deal.specs.declared.plan.Plan.{Plan}
@@ -75,11 +77,11 @@ no_more given left e = nil_from_length left (let n = ap length e in omega (arith
 
 -- ---- fresh lanes
 
-module _ {M : Type 0} where
-  pub ready_fresh : (capacity workers : ℕ) (fs : List Feed) (ws : List (Worker (Seats M))) → AreFresh SeatsHold capacity workers fs ws → AreReady capacity fs ws
+module _ {M : Type 0} {g : Ghosts M SharedRoute} where
+  pub ready_fresh : (capacity workers : ℕ) (fs : List Feed) (ws : List (Worker (Seats M g))) → AreFresh SeatsHold capacity workers fs ws → AreReady capacity fs ws
   ready_fresh capacity workers fs ws h = (h.workers_count ∙ sym h.feeds_count, λ lane x y l. (h.each lane x y (let c = h.feeds_count in omega arith)).ready)
 
-  pub settled_fresh : (capacity workers : ℕ) (fs : List Feed) (ws : List (Worker (Seats M))) → AreFresh SeatsHold capacity workers fs ws → (lane : ℕ) (state : LaneState) → slice_get (lane_states fs ws) lane ≡ Some state → state.ring.sent ≡ []
+  pub settled_fresh : (capacity workers : ℕ) (fs : List Feed) (ws : List (Worker (Seats M g))) → AreFresh SeatsHold capacity workers fs ws → (lane : ℕ) (state : LaneState) → slice_get (lane_states fs ws) lane ≡ Some state → state.ring.sent ≡ []
   settled_fresh capacity workers fs ws h lane state e =
       let at = lane_at fs ws lane state e in ap (λ x. x.ring.sent) at.state_is ∙ (h.each lane at.feed at.worker (let l = at.within in let c = h.feeds_count in omega arith)).empty
 
@@ -90,8 +92,8 @@ some_settled dealing capacity old new s some = ∥∥₁_map some (λ h. record 
 
 -- ---- a round
 
-module _ {M D : Type 0} where
-  module _ (dealing : ℕ → ℕ → ℕ) (capacity : ℕ) (fs : List Feed) (ws : List (Worker (Seats M))) (d : Dealer D) (spent : Bool) (ready : AreReady capacity fs ws) where
+module _ {M D : Type 0} {g : Ghosts M SharedRoute} where
+  module _ (dealing : ℕ → ℕ → ℕ) (capacity : ℕ) (fs : List Feed) (ws : List (Worker (Seats M g))) (d : Dealer D) (spent : Bool) (ready : AreReady capacity fs ws) where
     abbrev lane_of : ℕ → ℕ
     lane_of n = dealing n (length fs)
 
@@ -120,7 +122,7 @@ module _ {M D : Type 0} where
         ∙ length-filter (λ u. eqb (lane_of (number_in d.peers.keys.items u.peer)) lane) units
         ∙ ap (λ m. count_by (λ u. eqb (dealing (number_in d.peers.keys.items u.peer) m) lane) units) (sym e)
 
-  module _ (dealing : ℕ → ℕ → ℕ) (plan : Plan) (fs fs' : List Feed) (ws ws' : List (Worker (Seats M))) (old new : Dealer D) (spent spent' : Bool) (u u' : UnitsState) (k k' : List (Option (List ℕ))) (result : Result Step ReplayError) (ready : AreReady plan.ring fs ws) (below : (n : ℕ) → dealing n (length fs) < length fs) (unspent : spent' ≡ false) (p : PlaysLanes SeatsHold (λ n. dealing n (length fs)) plan.ring plan.batch fs ws fs' ws' old new u k u' k' result) where
+  module _ (dealing : ℕ → ℕ → ℕ) (plan : Plan) (fs fs' : List Feed) (ws ws' : List (Worker (Seats M g))) (old new : Dealer D) (spent spent' : Bool) (u u' : UnitsState) (k k' : List (Option (List ℕ))) (result : Result Step ReplayError) (ready : AreReady plan.ring fs ws) (below : (n : ℕ) → dealing n (length fs) < length fs) (unspent : spent' ≡ false) (p : PlaysLanes SeatsHold (λ n. dealing n (length fs)) plan.ring plan.batch fs ws fs' ws' old new u k u' k' result) where
     abbrev before : ReplayerState
     before = state_at old fs ws spent
 
@@ -206,7 +208,7 @@ module _ {M D : Type 0} where
     }
 
   -- the same, where the lists are told by what they equal
-  pub PlaysOn-of : (dealing : ℕ → ℕ → ℕ) (plan : Plan) (batch : ℕ) (fs fs' fs₂ : List Feed) (ws ws' ws₂ : List (Worker (Seats M))) (old new : Dealer D) (spent spent' : Bool) (u u' : UnitsState) (k k' : List (Option (List ℕ))) (result : Result Step ReplayError)
+  pub PlaysOn-of : (dealing : ℕ → ℕ → ℕ) (plan : Plan) (batch : ℕ) (fs fs' fs₂ : List Feed) (ws ws' ws₂ : List (Worker (Seats M g))) (old new : Dealer D) (spent spent' : Bool) (u u' : UnitsState) (k k' : List (Option (List ℕ))) (result : Result Step ReplayError)
       → AreReady plan.ring fs ws → ((n : ℕ) → dealing n (length fs) < length fs) → fs₂ ≡ fs' → ws₂ ≡ ws' → batch ≡ plan.batch → spent' ≡ false
       → PlaysLanes SeatsHold (λ n. dealing n (length fs)) plan.ring batch fs ws fs' ws' old new u k u' k' result → PlaysOn dealing plan (state_at old fs ws spent) (state_at new fs₂ ws₂ spent') u k u' k' result
   PlaysOn-of dealing plan batch fs fs' fs₂ ws ws' ws₂ old new spent spent' u u' k k' result ready below e f b unspent p =
@@ -216,7 +218,7 @@ module _ {M D : Type 0} where
       (subst (λ n. PlaysLanes SeatsHold (λ m. dealing m (length fs)) plan.ring n fs ws fs' ws' old new u k u' k' result) b p)))
 
   -- it still stands for some units and refusals
-  pub some_after : (law : D → ℕ → ℕ → ℕ) (plan : Plan) (batch : ℕ) (fs fs' fs₂ : List Feed) (ws ws' ws₂ : List (Worker (Seats M))) (old new : Dealer D) (u u' : UnitsState) (k k' : List (Option (List ℕ))) (result : Result Step ReplayError)
+  pub some_after : (law : D → ℕ → ℕ → ℕ) (plan : Plan) (batch : ℕ) (fs fs' fs₂ : List Feed) (ws ws' ws₂ : List (Worker (Seats M g))) (old new : Dealer D) (u u' : UnitsState) (k k' : List (Option (List ℕ))) (result : Result Step ReplayError)
       → AreReady plan.ring fs ws → ((n : ℕ) → law old.dealing n (length fs) < length fs) → fs₂ ≡ fs' → ws₂ ≡ ws' → batch ≡ plan.batch
       → PlaysLanes SeatsHold (λ n. law old.dealing n (length fs)) plan.ring batch fs ws fs' ws' old new u k u' k' result
       → ∥ StandsForSome (law old.dealing) plan.ring (state_at old fs ws false) ∥₁ → ∥ StandsForSome (law new.dealing) plan.ring (state_at new fs₂ ws₂ false) ∥₁
@@ -230,7 +232,7 @@ module _ {M D : Type 0} where
 
   -- ---- a settling
 
-  pub Settles-of : (dealing : ℕ → ℕ → ℕ) (capacity : ℕ) (fs fs' fs₂ : List Feed) (ws ws' ws₂ : List (Worker (Seats M))) (d : Dealer D) (spent : Bool) → AreReady capacity fs ws → fs₂ ≡ fs' → ws₂ ≡ ws'
+  pub Settles-of : (dealing : ℕ → ℕ → ℕ) (capacity : ℕ) (fs fs' fs₂ : List Feed) (ws ws' ws₂ : List (Worker (Seats M g))) (d : Dealer D) (spent : Bool) → AreReady capacity fs ws → fs₂ ≡ fs' → ws₂ ≡ ws'
       → Settled SeatsHold capacity fs ws fs' ws' → Settles dealing capacity (state_at d fs ws spent) (state_at d fs₂ ws₂ spent)
   Settles-of dealing capacity fs fs' fs₂ ws ws' ws₂ d spent ready e f s =
       let settled : Settles dealing capacity (state_at d fs ws spent) (state_at d fs' ws' spent) = record {
@@ -253,14 +255,14 @@ module _ {M D : Type 0} where
 
   -- ---- a new replayer
 
-  pub stands_fresh : (dealing : ℕ → ℕ → ℕ) (capacity count : ℕ) (fs : List Feed) (ws : List (Worker (Seats M))) (d : Dealer D) → AreFresh SeatsHold capacity count fs ws → d.peers.keys.items ≡ [] → d.kept ≡ None → d.refused.items ≡ [] → d.dealt ≡ 0
+  pub stands_fresh : (dealing : ℕ → ℕ → ℕ) (capacity count : ℕ) (fs : List Feed) (ws : List (Worker (Seats M g))) (d : Dealer D) → AreFresh SeatsHold capacity count fs ws → d.peers.keys.items ≡ [] → d.kept ≡ None → d.refused.items ≡ [] → d.dealt ≡ 0
       → ReplayerStandsFor dealing capacity [] [] (state_at d fs ws false)
   unfolding peers_of
   stands_fresh dealing capacity count fs ws d h keys kept refused counted =
       record {
         unspent = refl;
         lanes = lanes_after dealing capacity fs ws d false (ready_fresh capacity count fs ws h) [] (λ lane x y l.
-            let fresh = h.each lane x y (let c = h.feeds_count in omega arith) in record { taken = []; sessions = fresh.sessions; whole = fresh.empty });
+            let fresh = h.each lane x y (let c = h.feeds_count in omega arith) in record { taken = []; sessions = fresh.sessions; whole = fresh.empty; counted = fresh.untaken });
         peers = keys ∙ ap (λ o. peers_of (option_to_list o)) (sym kept);
         refused_kept = refused;
         dealt_counted = counted;
@@ -268,21 +270,27 @@ module _ {M D : Type 0} where
 
 -- ---- what waits
 
-module _ {M : Type 0} (capacity : ℕ) (fs : List Feed) (ws : List (Worker (Seats M))) (ready : AreReady capacity fs ws) where
+module _ {M : Type 0} {g : Ghosts M SharedRoute} (capacity : ℕ) (fs : List Feed) (ws : List (Worker (Seats M g))) (ready : AreReady capacity fs ws) where
   -- the worker knows all that waits
-  pub waits_at : (lane : ℕ) (state : LaneState) → slice_get (lane_states fs ws) lane ≡ Some state → (e : Worker (Seats M)) → known_items (get_or ws lane e).consumer ≡ state.ring.sent
+  pub waits_at : (lane : ℕ) (state : LaneState) → slice_get (lane_states fs ws) lane ≡ Some state → (e : Worker (Seats M g)) → known_items (get_or ws lane e).consumer ≡ state.ring.sent
   waits_at lane state is e =
       let at = lane_at fs ws lane state is in
       let same : get_or ws lane e ≡ get_or ws lane at.worker = get_or_default ws lane e at.worker (let l = at.within in let c = ready.0 in omega arith) in
       ap (λ w. known_items w.consumer) same ∙ (ready.1 lane at.feed at.worker at.within).3 ∙ sym (ap (λ s. s.ring.sent) at.state_is)
 
-  pub known_none : ((lane : ℕ) (state : LaneState) → slice_get (lane_states fs ws) lane ≡ Some state → state.ring.sent ≡ []) → (lane : ℕ) (e : Worker (Seats M)) → lane < length ws → known_items (get_or ws lane e).consumer ≡ []
+  pub took_at : (lane : ℕ) (state : LaneState) → slice_get (lane_states fs ws) lane ≡ Some state → (e : Worker (Seats M g)) → (get_or ws lane e).taken ≡ state.took
+  took_at lane state is e =
+      let at = lane_at fs ws lane state is in
+      let same : get_or ws lane e ≡ get_or ws lane at.worker = get_or_default ws lane e at.worker (let l = at.within in let c = ready.0 in omega arith) in
+      ap (λ w. w.taken) same ∙ sym (ap (λ s. s.took) at.state_is)
+
+  pub known_none : ((lane : ℕ) (state : LaneState) → slice_get (lane_states fs ws) lane ≡ Some state → state.ring.sent ≡ []) → (lane : ℕ) (e : Worker (Seats M g)) → lane < length ws → known_items (get_or ws lane e).consumer ≡ []
   known_none settled lane e l =
       let within : lane < length fs = (let c = ready.0 in omega arith) in
       let f = some_item fs lane within in
       let is = lane_states-at fs ws lane f e ready.0 within in
       waits_at lane (lane_state (get_or fs lane f) (get_or ws lane e)) is e ∙ settled lane (lane_state (get_or fs lane f) (get_or ws lane e)) is
 
-  pub settled_known : ((lane : ℕ) (e : Worker (Seats M)) → lane < length ws → known_items (get_or ws lane e).consumer ≡ []) → (lane : ℕ) (state : LaneState) → slice_get (lane_states fs ws) lane ≡ Some state → state.ring.sent ≡ []
+  pub settled_known : ((lane : ℕ) (e : Worker (Seats M g)) → lane < length ws → known_items (get_or ws lane e).consumer ≡ []) → (lane : ℕ) (state : LaneState) → slice_get (lane_states fs ws) lane ≡ Some state → state.ring.sent ≡ []
   settled_known none lane state is =
       let at = lane_at fs ws lane state is in sym (waits_at lane state is at.worker) ∙ none lane at.worker (let l = at.within in let c = ready.0 in omega arith)

@@ -215,6 +215,13 @@ pub HoldsUnits-none : HoldsUnits [] []
 unfolding peers_of
 HoldsUnits-none number a = refl
 
+-- a session that took a unit keeps its number
+pub numbers_stay_at : {M : Type 0} (seats : List (Seated M)) (place : ℕ) (x : Seated M) (session : SessionState) → place < length seats
+    → map (λ seat. seat.number) (set seats place (record { number = (get_or seats place x).number; key = (get_or seats place x).key; session = session })) ≡ map (λ seat. seat.number) seats
+numbers_stay_at [] place x session l = refl
+numbers_stay_at (s ∷ seats) zero x session l = refl
+numbers_stay_at (s ∷ seats) (suc place) x session l = ap (λ ns. s.number ∷ ns) (numbers_stay_at seats place x session (omega (arith, l)))
+
 -- one session took a unit
 pub TakenAt-from : {M E : Type 0} (r : Result (Unit {0}) E) (seats : List (Seated M)) (place : ℕ) (u : ReplayUnit) (x : Seated M) (session : SessionState) → place < length seats
     → ((before : List ReplayUnit) → (get_or seats place x).session ≡ session_of before → OnOk r (session ≡ session_of (before ++ u ∷ [])))

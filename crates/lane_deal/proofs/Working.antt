@@ -1,19 +1,19 @@
 -- What a worker took, step by step.
-use Rattle.std.proofs.Common.{◌≡◌, ℕ, ◌+◌, take, drop, List, [], ◌++◌, refl, sym, ap, ◌∙◌, subst, append_assoc}
-use Rattle.std.proofs.lemmas.List.{append-nil}
-use Rattle.std.proofs.Math.Seq.{take-add}
-use Rattle.rtrb.specs.Ring.{received, known_items}
+use Rattle.std.proofs.Common.{◌≡◌, ℕ, ◌+◌, ◌-◌, ◌^◌, ◌<◌, min, List, [], ◌∷◌, ◌++◌, length, refl, sym, ap, ◌∙◌, subst, append_assoc, arith, length-append}
+use Rattle.std.proofs.lemmas.List.{append-nil, nil_from_length}
+use Rattle.rtrb.specs.Ring.{received, known_items, SameConsumer}
 use Rattle.lane_deal.specs.declared.numbered.Numbered.{Numbered}
 use Rattle.lane_deal.specs.declared.worker.Worker.{Worker}
-use Rattle.lane_deal.specs.LaneWorkers.{Took, TookSome, Worked}
+use Rattle.lane_deal.specs.LaneWorkers.{Pops, Took, TookFront, TookSome, Takes, Worked}
 
 module _ {S : Type 0} (stands_for : S → List Numbered → Type 0) where
-  pub Took-nil : (w : Worker S) → Took stands_for w w []
-  Took-nil w =
+  pub Took-nil : (w : Worker S) → w.taken < 2 ^ 64 → Took stands_for w w []
+  Took-nil w l =
       record {
         lane = refl;
         ring = ((refl, refl, refl, refl), refl);
         received = sym (append-nil (received w.consumer));
+        counted = omega arith;
         sessions = λ taken h. rw append-nil h;
       }
 
@@ -23,11 +23,12 @@ module _ {S : Type 0} (stands_for : S → List Numbered → Type 0) where
         lane = q.lane ∙ p.lane;
         ring = ((q.ring.0.0 ∙ p.ring.0.0, q.ring.0.1 ∙ p.ring.0.1, q.ring.0.2 ∙ p.ring.0.2, q.ring.0.3 ∙ p.ring.0.3), q.ring.1 ∙ p.ring.1);
         received = q.received ∙ (ap (λ r. r ++ ys) p.received ∙ append_assoc (received a.consumer) xs ys);
+        counted = (let m = p.counted in let n = q.counted in let k = length-append xs ys in omega arith);
         sessions = λ taken h. rw (← append_assoc) (q.sessions (taken ++ xs) (p.sessions taken h));
       }
 
-  pub TookSome-none : (w : Worker S) → TookSome stands_for w w
-  TookSome-none w = record { items = []; took = Took-nil w }
+  pub TookSome-none : (w : Worker S) → w.taken < 2 ^ 64 → TookSome stands_for w w
+  TookSome-none w l = record { items = []; took = Took-nil w l }
 
   pub TookSome-more : (a b c : Worker S) → TookSome stands_for a b → TookSome stands_for b c → TookSome stands_for a c
   TookSome-more a b c p q =
@@ -37,8 +38,58 @@ module _ {S : Type 0} (stands_for : S → List Numbered → Type 0) where
   Worked-both a b c p q =
       record { items = known_items a.consumer ++ q.items; took = Took-append a b c (known_items a.consumer) q.items p q.took; known = (q.items, refl) }
 
-  -- one more of the items that were known at first
-  pub Took-next : (a b c : Worker S) (xs : List Numbered) (k : ℕ) → known_items b.consumer ≡ drop k xs → Took stands_for a b (take k xs) → Took stands_for b c (take 1 (known_items b.consumer)) → Took stands_for a c (take (k + 1) xs)
-  Took-next a b c xs k rest p q =
-      let P : List Numbered → Type 0 = Took stands_for a c in
-      subst P (ap (λ ys. take k xs ++ take 1 ys) rest ∙ sym (take-add k 1 xs)) (Took-append a b c (take k xs) (take 1 (known_items b.consumer)) p q)
+  -- what was popped, and then taken
+  pub TookFront-from : (a b c : Worker S) (items : List Numbered) → b.lane ≡ a.lane → b.taken ≡ a.taken → b.sessions ≡ a.sessions → 0 < length items → Pops a.consumer b.consumer items → Takes stands_for b c items → TookFront stands_for a c
+  TookFront-from a b c items lane count same some p q =
+      record {
+        items = items;
+        took = record {
+          lane = q.lane ∙ lane;
+          ring = subst (SameConsumer a.consumer) (sym q.ring) p.ring;
+          received = ap received q.ring ∙ p.received;
+          counted = q.counted ∙ ap (λ n. min (n + length items) (2 ^ 64 - 1)) count;
+          sessions = subst (λ s. (taken : List Numbered) → stands_for s taken → stands_for c.sessions (taken ++ items)) same q.sessions;
+        };
+        some = some;
+        left = p.left ∙ ap (λ k. items ++ known_items k) (sym q.ring);
+      }
+
+  -- the first of the items that were known, and what is left of them
+  pub record TookKnown (a b : Worker S) : Type 0 where
+    pub items : List Numbered
+    pub took : Took stands_for a b items
+    pub left : known_items a.consumer ≡ items ++ known_items b.consumer
+
+  pub TookKnown-none : (w : Worker S) → w.taken < 2 ^ 64 → TookKnown w w
+  TookKnown-none w l = record { items = []; took = Took-nil w l; left = refl }
+
+  pub TookKnown-more : (a b c : Worker S) → TookKnown a b → TookFront stands_for b c → TookKnown a c
+  TookKnown-more a b c p q =
+      record {
+        items = p.items ++ q.items;
+        took = Took-append a b c p.items q.items p.took q.took;
+        left = p.left ∙ (ap (λ l. p.items ++ l) q.left ∙ sym (append_assoc p.items q.items (known_items c.consumer)));
+      }
+
+  -- nothing is left of them
+  pub TookKnown-all : (a b : Worker S) → TookKnown a b → length (known_items b.consumer) ≡ 0 → Took stands_for a b (known_items a.consumer)
+  TookKnown-all a b p none =
+      let nil = nil_from_length (known_items b.consumer) none in
+      subst (Took stands_for a b) (sym (p.left ∙ (ap (λ l. p.items ++ l) nil ∙ append-nil p.items))) p.took
+
+  pub TookSome-front : (a b : Worker S) → TookFront stands_for a b → TookSome stands_for a b
+  TookSome-front a b p = record { items = p.items; took = p.took }
+
+  -- what is taken, item by item
+  pub Takes-none : (w : Worker S) (s : S) → w.taken < 2 ^ 64 → ((taken : List Numbered) → stands_for w.sessions taken → stands_for s taken) → Takes stands_for w (record w { sessions = s }) []
+  Takes-none w s l h = record { lane = refl; ring = refl; counted = omega arith; sessions = λ taken g. rw append-nil (h taken g) }
+
+  pub Takes-more : (a b c : Worker S) (items : List Numbered) (item : Numbered) → Takes stands_for a b items → c.lane ≡ b.lane → c.consumer ≡ b.consumer → c.taken ≡ min (b.taken + 1) (2 ^ 64 - 1)
+      → ((taken : List Numbered) → stands_for b.sessions taken → stands_for c.sessions (taken ++ item ∷ [])) → Takes stands_for a c (items ++ item ∷ [])
+  Takes-more a b c items item p lane ring count h =
+      record {
+        lane = lane ∙ p.lane;
+        ring = ring ∙ p.ring;
+        counted = (let m = p.counted in let n = length-append items (item ∷ []) in omega (arith, count));
+        sessions = λ taken g. rw (← append_assoc) (h (taken ++ items) (p.sessions taken g));
+      }

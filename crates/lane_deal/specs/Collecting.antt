@@ -6,6 +6,8 @@ use Rattle.std.specs.declared.alloc.Global.{Global}
 use Rattle.rib_report.specs.declared.tables.Seated.{Seated}
 use Rattle.rib_report.specs.Seats.{seat_of}
 use Rattle.rib_report.specs.Tables.{Seat}
+use Rattle.bgp_prefix.specs.declared.map.PrefixMap.{Ghosts}
+use Rattle.adj_rib.specs.declared.shared_route.SharedRoute.{SharedRoute}
 use Rattle.lane_deal.specs.declared.numbered.Small.{Small}
 use Rattle.lane_deal.specs.declared.numbered.Numbered.{Numbered}
 use Rattle.lane_deal.specs.declared.seats.Seats.{Seats}
@@ -18,9 +20,9 @@ pub record WorkerState (M : Type 0) : Type 0 where
   pub seats : List (Seated M)
   pub taken : ℕ
 
-module _ {M : Type 0} where
+module _ {M : Type 0} {g : Ghosts M SharedRoute} where
   -- the worker's sessions are those of the list, and the other way round
-  pub record Exchanged (before after : Worker (Seats M)) (list list' : List (Seated M)) : Type 0 where
+  pub record Exchanged (before after : Worker (Seats M g)) (list list' : List (Seated M)) : Type 0 where
     pub given : list' ≡ before.sessions.seats.items
     pub got : after.sessions.seats.items ≡ list
     pub lane : after.lane ≡ before.lane
@@ -28,16 +30,16 @@ module _ {M : Type 0} where
     pub taken : after.taken ≡ before.taken
 
   -- the lanes below this one were exchanged, and the others are as they were
-  pub record ExchangedBelow (count : ℕ) (workers workers' : List (Worker (Seats M))) (lists lists' : List (List (Seated M))) : Type 0 where
+  pub record ExchangedBelow (count : ℕ) (workers workers' : List (Worker (Seats M g))) (lists lists' : List (List (Seated M))) : Type 0 where
     pub workers_count : length workers' ≡ length workers
     pub lists_count : length lists' ≡ length lists
-    pub each : (lane : ℕ) (d : Worker (Seats M)) (e : List (Seated M)) → lane < count → Exchanged (slice_index_or workers lane d) (slice_index_or workers' lane d) (slice_index_or lists lane e) (slice_index_or lists' lane e)
-    pub workers_rest : (lane : ℕ) (d : Worker (Seats M)) → count ≤ lane → slice_index_or workers' lane d ≡ slice_index_or workers lane d
+    pub each : (lane : ℕ) (d : Worker (Seats M g)) (e : List (Seated M)) → lane < count → Exchanged (slice_index_or workers lane d) (slice_index_or workers' lane d) (slice_index_or lists lane e) (slice_index_or lists' lane e)
+    pub workers_rest : (lane : ℕ) (d : Worker (Seats M g)) → count ≤ lane → slice_index_or workers' lane d ≡ slice_index_or workers lane d
     pub lists_rest : (lane : ℕ) (e : List (Seated M)) → count ≤ lane → slice_index_or lists' lane e ≡ slice_index_or lists lane e
 
-  abbrev pub worker_state : Worker (Seats M) → WorkerState M
+  abbrev pub worker_state : Worker (Seats M g) → WorkerState M
   worker_state w = record { lane = w.lane; consumer = w.consumer; seats = w.sessions.seats.items; taken = w.taken }
 
   -- the sessions of all workers
-  abbrev pub seats_of_workers : List (Worker (Seats M)) → List Seat
+  abbrev pub seats_of_workers : List (Worker (Seats M g)) → List Seat
   seats_of_workers workers = flat_map (λ w. map seat_of w.sessions.seats.items) workers

@@ -1,5 +1,5 @@
 -- A lane between two rounds, and its ring made anew.
-use Rattle.std.specs.Prelude.{◌≡◌, ℕ, ◌+◌, ◌<◌, ◌≤◌, List, [], ◌++◌, length, slice_index_or}
+use Rattle.std.specs.Prelude.{◌≡◌, ℕ, ◌+◌, ◌-◌, ◌^◌, ◌<◌, ◌≤◌, min, List, [], ◌++◌, length, slice_index_or}
 use Rattle.rtrb.specs.Ring.{sent, known_free, received, known_items, consumer_capacity, IsPair, SameProducer}
 use Rattle.rtrb.specs.declared.producer.Producer.{Producer}
 use Rattle.std.specs.declared.alloc.Global.{Global}
@@ -30,6 +30,7 @@ module _ {S : Type 0} (stands_for : S → List Numbered → Type 0) where
     pub taken : List Numbered
     pub sessions : stands_for worker.sessions taken
     pub whole : taken ++ sent feed.producer ≡ dealt
+    pub counted : worker.taken ≡ min (length taken) (2 ^ 64 - 1)
 
   -- each lane stands for its part of the items that were dealt
   abbrev pub LanesStand : (ℕ → ℕ) → List Feed → List (Worker S) → List Numbered → Type 0
@@ -40,6 +41,7 @@ module _ {S : Type 0} (stands_for : S → List Numbered → Type 0) where
 pub record Renewed {S : Type 0} (capacity : ℕ) (feed : Feed) (worker : Worker S) (feed' : Feed) (worker' : Worker S) : Type 0 where
   pub fifo : received worker.consumer ++ sent feed'.producer ≡ sent feed.producer
   pub sessions : worker'.sessions ≡ worker.sessions
+  pub taken : worker'.taken ≡ worker.taken
   pub pair : IsPair feed'.producer worker'.consumer
   pub received : received worker'.consumer ≡ []
   pub known : known_items worker'.consumer ≡ sent feed'.producer
@@ -76,6 +78,7 @@ pub record IsFresh {S : Type 0} (stands_for : S → List Numbered → Type 0) (c
   pub ready : IsReady capacity feed worker
   pub empty : sent feed.producer ≡ []
   pub sessions : stands_for worker.sessions []
+  pub untaken : worker.taken ≡ 0
 
 -- all lanes are fresh
 pub record AreFresh {S : Type 0} (stands_for : S → List Numbered → Type 0) (capacity count : ℕ) (feeds : List Feed) (workers : List (Worker S)) : Type 0 where

@@ -1,9 +1,22 @@
 -- What a worker does in a round.
-use Rattle.std.specs.Prelude.{◌≡◌, List, ◌++◌}
+use Rattle.std.specs.Prelude.{◌≡◌, ℕ, ◌+◌, ◌-◌, ◌^◌, ◌<◌, min, List, ◌++◌, map, length}
 use mathlib.Core.List.{IsPrefix}
 use Rattle.rtrb.specs.Ring.{received, known_items, SameConsumer}
 use Rattle.lane_deal.specs.declared.numbered.Numbered.{Numbered}
+use Rattle.lane_deal.specs.declared.popped.Popped.{Popped}
 use Rattle.lane_deal.specs.declared.worker.Worker.{Worker}
+use Rattle.rtrb.specs.declared.consumer.Consumer.{Consumer}
+use Rattle.std.specs.declared.alloc.Global.{Global}
+use Rattle.lane_deal.specs.declared.numbered.Small.{Small}
+
+abbrev pub items_of : List Popped → List Numbered
+items_of popped = map (λ near. near.item) popped
+
+-- these items were popped, the first of those that were known
+pub record Pops (before after : Consumer Numbered Global Small) (items : List Numbered) : Type 0 where
+  pub ring : SameConsumer before after
+  pub received : received after ≡ received before ++ items
+  pub left : known_items before ≡ items ++ known_items after
 
 module _ {S : Type 0} (stands_for : S → List Numbered → Type 0) where
   -- the worker took these items, in order, into its sessions
@@ -11,7 +24,22 @@ module _ {S : Type 0} (stands_for : S → List Numbered → Type 0) where
     pub lane : after.lane ≡ before.lane
     pub ring : SameConsumer before.consumer after.consumer
     pub received : received after.consumer ≡ received before.consumer ++ items
+    pub counted : after.taken ≡ min (before.taken + length items) (2 ^ 64 - 1)
     pub sessions : (taken : List Numbered) → stands_for before.sessions taken → stands_for after.sessions (taken ++ items)
+
+  -- the worker gave these items to its sessions, in order
+  pub record Takes (before after : Worker S) (items : List Numbered) : Type 0 where
+    pub lane : after.lane ≡ before.lane
+    pub ring : after.consumer ≡ before.consumer
+    pub counted : after.taken ≡ min (before.taken + length items) (2 ^ 64 - 1)
+    pub sessions : (taken : List Numbered) → stands_for before.sessions taken → stands_for after.sessions (taken ++ items)
+
+  -- the worker took some of the items that it knew, the first ones
+  pub record TookFront (before after : Worker S) : Type 0 where
+    pub items : List Numbered
+    pub took : Took before after items
+    pub some : 0 < length items
+    pub left : known_items before.consumer ≡ items ++ known_items after.consumer
 
   -- the worker took some items
   pub record TookSome (before after : Worker S) : Type 0 where

@@ -17,10 +17,11 @@ pub record RingState : Type 0 where
   pub received : List Numbered
   pub known : List Numbered
 
--- a lane's ring, and the sessions of its worker
+-- a lane's ring, the sessions of its worker, and how many units this took
 pub record LaneState : Type 0 where
   pub ring : RingState
   pub seats : List Seat
+  pub took : ℕ
 
 -- the lanes, the peers by number, the unit that came back from a full ring, the refusals, and how many units were dealt
 pub record ReplayerState : Type 0 where
@@ -48,6 +49,7 @@ pub record LaneStandsFor (capacity : ℕ) (all dealt : List ReplayUnit) (lane : 
   pub whole : taken ++ waiting ≡ dealt
   pub ring : WaitIn capacity (numbered (peers_of all) waiting) lane.ring
   pub seats : seats_of_lane all taken ≡ lane.seats
+  pub counted : lane.took ≡ min (length taken) (2 ^ 64 - 1)
 
 -- These units were dealt and these refusals listed. The dealing gives the lane of a peer's number, of so many lanes; the kept unit's peer
 -- has its number already.

@@ -1,5 +1,5 @@
 -- What the sessions of a lane hold.
-use Rattle.std.specs.Prelude.{◌≡◌, ℕ, ◌<◌, ◌⊎◌, true, false, List, [], ◌∷◌, ◌++◌, map, length, slice_index_or, slice_set, ◌==◌}
+use Rattle.std.specs.Prelude.{◌≡◌, ℕ, ◌<◌, ◌⊎◌, true, false, Option, Some, List, [], ◌∷◌, ◌++◌, map, length, slice_get, slice_index_or, slice_set, ◌==◌}
 use Rattle.std.specs.List.{AllByRecursion, list_any}
 use Rattle.mrt_body.specs.declared.unit.PeerKey.{PeerKey}
 use Rattle.mrt_body.specs.declared.unit.Unit.{Unit as ReplayUnit}
@@ -39,3 +39,7 @@ abbrev pub TakenAt : List Seat → List Seat → ℕ → ReplayUnit → Type 0
 TakenAt old new place unit =
     (before : List ReplayUnit) (d : Seat) → (slice_index_or old place d).session ≡ session_of before
     → new ≡ slice_set old place (record { number = (slice_index_or old place d).number; key = (slice_index_or old place d).key; session = session_of (before ++ unit ∷ []) })
+
+-- each session's position is remembered under its number
+abbrev pub AreIndexed : List (Option ℕ) → List ℕ → Type 0
+AreIndexed positions numbers = (at number : ℕ) → slice_get numbers at ≡ Some number → slice_get positions number ≡ Some (Some at)

@@ -2,6 +2,8 @@
 use Rattle.std.specs.Prelude.{◌≡◌, ℕ, ◌<◌, ◌≤◌, ◌-◌, ◌^◌, List, [], length, min, slice_index_or}
 use Rattle.mrt_body.specs.declared.unit.Unit.{Unit as ReplayUnit}
 use Rattle.rib_report.specs.Peers.{peers_of}
+use Rattle.bgp_prefix.specs.declared.map.PrefixMap.{Ghosts}
+use Rattle.adj_rib.specs.declared.shared_route.SharedRoute.{SharedRoute}
 use Rattle.lane_deal.specs.declared.numbered.Numbered.{Numbered}
 use Rattle.lane_deal.specs.declared.schedule.OneLane.{OneLane}
 use Rattle.lane_deal.specs.declared.schedule.Lanes.{Lanes}
@@ -9,18 +11,18 @@ use Rattle.lane_deal.specs.Numbers.{numbered}
 use Rattle.lane_deal.specs.Schedules.{LanesState}
 use Rattle.lane_deal.specs.Shown.{SeatsHold}
 
-module _ {M : Type 0} where
+module _ {M : Type 0} {g : Ghosts M SharedRoute} where
   -- the units that wait in the lane and those that it took, of these
-  pub record LaneShows (all : List ReplayUnit) (lane : OneLane M) (waiting taken : List ReplayUnit) : Type 0 where
+  pub record LaneShows (all : List ReplayUnit) (lane : OneLane M g) (waiting taken : List ReplayUnit) : Type 0 where
     pub ring : lane.ring.items ≡ numbered (peers_of all) waiting
     pub seats : SeatsHold lane.seats (numbered (peers_of all) taken)
     pub took : lane.took ≡ min (length taken) (2 ^ 64 - 1)
 
-  pub record LanesShow (all : List ReplayUnit) (undealt : List Numbered) (lanes : List (OneLane M)) (s : LanesState) : Type 0 where
+  pub record LanesShow (all : List ReplayUnit) (undealt : List Numbered) (lanes : List (OneLane M g)) (s : LanesState) : Type 0 where
     pub rest : undealt ≡ numbered (peers_of all) s.undealt
-    pub each : (lane : ℕ) (d : OneLane M) → lane < length lanes → LaneShows all (slice_index_or lanes lane d) (s.ring lane) (s.taken lane)
+    pub each : (lane : ℕ) (d : OneLane M g) → lane < length lanes → LaneShows all (slice_index_or lanes lane d) (s.ring lane) (s.taken lane)
     pub past : (lane : ℕ) → length lanes ≤ lane → (s.ring lane ≡ []) × (s.taken lane ≡ [])
 
   -- lanes that deal these units are in this state
-  abbrev pub Shows : List ReplayUnit → Lanes M → LanesState → Type 0
+  abbrev pub Shows : List ReplayUnit → Lanes M g → LanesState → Type 0
   Shows all lanes s = LanesShow all lanes.undealt.items lanes.lanes.items s

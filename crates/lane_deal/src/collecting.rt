@@ -38,7 +38,7 @@ fn exchange<M: PrefixMap<SharedRoute> + Drop>(
     ensures { Exchanged worker.old worker.new list.old list.new }
 {
     let given = mem::replace(list, Sequence::from_vec(Vec::new(alloc)));
-    let held = mem::replace(&mut worker.sessions.seats, given.into_vec());
+    let held = worker.sessions.exchange(given.into_vec());
     *list = Sequence::from_vec(held);
 }
 

@@ -33,10 +33,12 @@ pub struct Dealer<D> {
     ghost small: { ForSome kept IsSmallUnit },
 }
 
-/// Pushes the unit to its lane, or hands it back where that lane's ring is full.
+/// Pushes the unit to its lane, or hands it back where that lane's ring is full, and stays so for this many
+/// further tries.
 fn deal_one<G: Gate>(
     gate: &G,
     lane: usize,
+    looks: u32,
     item: Numbered,
     feeds: &mut [Feed],
 ) -> Result<(), Numbered>
@@ -45,7 +47,7 @@ fn deal_one<G: Gate>(
     ensures dealt { OnOk result ((lane_of : ℕ → ℕ) → lane_of item.number ≡ lane → Dealt lane_of feeds.old feeds.new (item ∷ [])) }
     ensures full { IfErr result (λ back. (back ≡ item) × ((lane_of : ℕ → ℕ) → Dealt lane_of feeds.old feeds.new []) × ((d : _) → known_free (slice_index_or feeds.old lane d).producer ≡ 0)) }
 {
-    feeds[lane].push(gate, lane, item)
+    feeds[lane].push(gate, lane, looks, item)
 }
 
 /// Lists what the files refuse, until they give a unit or end.
@@ -121,12 +123,13 @@ impl<D: Dealing> Dealer<D> {
         ask(alloc, units, files, &mut self.refused)
     }
 
-    /// Deals until a ring is full, a batch is dealt or the files end.
+    /// Deals until a ring is full, and stays so for this many further tries, a batch is dealt or the files end.
     pub fn deal<R: Source, G: Gate>(
         &mut self,
         alloc: Global,
         gate: &G,
         batch: u64,
+        looks: u32,
         units: &mut Units,
         files: &mut [R],
         feeds: &mut [Feed],
@@ -146,7 +149,7 @@ impl<D: Dealing> Dealer<D> {
             };
             let number = self.peers.number_of(&unit.peer)?;
             let lane = self.dealing.lane(number, feeds.len());
-            match deal_one(gate, lane, Numbered { number, unit }, feeds) {
+            match deal_one(gate, lane, looks, Numbered { number, unit }, feeds) {
                 Ok(()) => self.dealt = self.dealt.saturating_add(1),
                 Err(back) => {
                     self.kept = Some(back.unit);

@@ -18,7 +18,7 @@ impl Feed {
     ghost use Rattle.lane_deal.specs.Feeds.{Pushed};
 
     /// Pushes the item, or hands it back where the ring is full.
-    pub fn push<G: Gate>(&mut self, gate: &G, lane: usize, item: Numbered) -> Result<(), Numbered>
+    fn push_once<G: Gate>(&mut self, gate: &G, lane: usize, item: Numbered) -> Result<(), Numbered>
         requires { IsSmallUnit item.unit }
         ensures pushed { OnOk result (Pushed self.old self.new (item ∷ [])) }
         ensures full { IfErr result (λ back. (back ≡ item) × Pushed self.old self.new [] × (known_free self.old.producer ≡ 0)) }
@@ -30,6 +30,46 @@ impl Feed {
                 Ok(())
             }
             Err(PushError::Full(back)) => Err(back),
+        }
+    }
+
+    /// Tries so many times to push an item that came back.
+    fn push_again<G: Gate>(
+        &mut self,
+        gate: &G,
+        lane: usize,
+        looks: u32,
+        item: Numbered,
+    ) -> Result<(), Numbered>
+        requires { IsSmallUnit item.unit }
+        ensures pushed { OnOk result (Pushed self.old self.new (item ∷ [])) }
+        ensures full { IfErr result (λ back. (back ≡ item) × Pushed self.old self.new []) }
+    {
+        let mut item = item;
+        for look in 0..looks {
+            match self.push_once(gate, lane, item) {
+                Ok(()) => return Ok(()),
+                Err(back) => item = back,
+            }
+        }
+        Err(item)
+    }
+
+    /// Pushes the item, or hands it back where the ring is full and stays so for this many further tries.
+    pub fn push<G: Gate>(
+        &mut self,
+        gate: &G,
+        lane: usize,
+        looks: u32,
+        item: Numbered,
+    ) -> Result<(), Numbered>
+        requires { IsSmallUnit item.unit }
+        ensures pushed { OnOk result (Pushed self.old self.new (item ∷ [])) }
+        ensures full { IfErr result (λ back. (back ≡ item) × Pushed self.old self.new [] × (known_free self.old.producer ≡ 0)) }
+    {
+        match self.push_once(gate, lane, item) {
+            Ok(()) => Ok(()),
+            Err(back) => self.push_again(gate, lane, looks, back),
         }
     }
 }

@@ -11,6 +11,7 @@ mod lanes;
 mod numbered;
 mod peer_numbers;
 mod plan;
+mod popped;
 mod replayer;
 mod round;
 mod schedule;

@@ -1,32 +1,35 @@
 //! The numbers of peers.
 
 ghost use Rattle.std.specs.Prelude.{◌≡◌, ℕ, [], IfOk, false, MatchOption, slice_get, slice_index_or, length, ◌<◌, Some, true};
+ghost use Rattle.std.specs.HashMap as hash;
 ghost use Rattle.std.specs.List.{list_any};
+ghost use Rattle.mrt_body.specs.contracts.unit.PeerKeyPartialEq.TheImpl as key_impl;
 ghost use Rattle.mrt_body.specs.declared.unit.PeerKey.{PeerKey as Peer};
 ghost use Rattle.rib_report.specs.Peers.{peer_eq, addr_eq};
-ghost use Rattle.lane_deal.specs.Keys.{AreApart};
+ghost use Rattle.lane_deal.specs.Keys.{AreApart, AreListed};
 
 use bgp_prefix::Memory;
 use mrt_body::{PeerAddr, PeerKey};
 use std::alloc::Global;
 use std::collections::HashMap;
 
-/// How many places hold the number of a peer that was met before: as many as ten bits tell.
+/// How many slots hold the number of a peer that was met before: as many as ten bits tell.
 const RECENT: usize = 1_024;
 
 /// The peers so far, by number.
 #[derive(Drop)]
 pub struct Peers {
     keys: Vec<PeerKey>,
-    /// Where a peer may stand among them: each use looks.
+    /// The number of each peer.
     numbers: HashMap<PeerKey, usize>,
-    /// The number of the last peer at each place of keys: mostly the one that is looked for.
+    /// The number of the last peer at each slot: mostly the one that is looked for.
     recent: Vec<usize>,
     ghost apart: { AreApart keys.items },
+    ghost listed: { AreListed (hash.get key_impl.eq-value.it numbers) keys.items },
 }
 
-/// A place of a peer, below `RECENT`. Peers may share one.
-fn recent_place(peer: &PeerKey) -> usize {
+/// The slot of a peer, below `RECENT`. Peers may share one.
+fn recent_slot(peer: &PeerKey) -> usize {
     let low = match peer.addr {
         PeerAddr::V4(addr) => u64::from(addr),
         PeerAddr::V6(addr) => (addr & 0xFFFF_FFFF_FFFF_FFFF) as u64,
@@ -57,19 +60,7 @@ fn is_same_addr(addr: &PeerAddr, other: &PeerAddr) -> bool
     }
 }
 
-/// The place of a peer among these, found by going over all.
-fn scan(keys: &[PeerKey], peer: &PeerKey) -> Option<usize>
-    ensures { MatchOption result (list_any (peer_eq peer.now) keys.now ≡ false) (λ number. slice_get keys.now number ≡ Some peer.now) }
-{
-    for (number, key) in keys.iter().enumerate() {
-        if is_same_peer(peer, key) {
-            return Some(number);
-        }
-    }
-    None
-}
-
-/// The place of a peer, if it is this one.
+/// Whether this peer has this number.
 fn seen_at(keys: &[PeerKey], number: usize, peer: &PeerKey) -> bool
     ensures { result ≡ true → slice_get keys.now number ≡ Some peer.now }
 {
@@ -96,17 +87,15 @@ impl Peers {
     fn find(&self, peer: &PeerKey) -> Option<usize>
         ensures { MatchOption result (list_any (peer_eq peer.now) self.now.keys.items ≡ false) (λ number. slice_get self.now.keys.items number ≡ Some peer.now) }
     {
-        if let Some(number) = self.recent.get(recent_place(peer)) {
+        if let Some(number) = self.recent.get(recent_slot(peer)) {
             if seen_at(&self.keys, *number, peer) {
                 return Some(*number);
             }
         }
-        if let Some(number) = self.numbers.get(peer) {
-            if seen_at(&self.keys, *number, peer) {
-                return Some(*number);
-            }
+        match self.numbers.get(peer).copied() {
+            Some(number) => Some(number),
+            None => None,
         }
-        scan(&self.keys, peer)
     }
 
     /// A new peer gets the next number.
@@ -135,7 +124,7 @@ impl Peers {
         ensures { IfOk result (NumbersPeer self.old.keys.items self.new.keys.items peer.now) }
     {
         let number = self.find_or_add(peer)?;
-        if let Some(recent) = self.recent.get_mut(recent_place(peer)) {
+        if let Some(recent) = self.recent.get_mut(recent_slot(peer)) {
             *recent = number;
         }
         Ok(number)

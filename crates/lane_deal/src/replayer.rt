@@ -238,7 +238,7 @@ impl<M: PrefixMap<SharedRoute> + Drop, D: Dealing + Drop> Replayer<M, D> {
 }
 
 impl<M: PrefixMap<SharedRoute>, D: Dealing> Replayer<M, D> {
-    ghost use Rattle.std.specs.Prelude.{ℕ, ◌<◌, ◌≡◌, ◌≢◌, true, length, slice_get};
+    ghost use Rattle.std.specs.Prelude.{ℕ, ◌<◌, ◌≤◌, ◌≡◌, ◌≢◌, true, length, slice_get};
     ghost use Rattle.lane_deal.specs.Replayers.{LaneState};
     ghost use Rattle.lane_deal.specs.Playing.{shown};
     ghost use Rattle.lane_deal.specs.Rounds.{IsSettled};
@@ -270,9 +270,10 @@ impl<M: PrefixMap<SharedRoute>, D: Dealing> Replayer<M, D> {
         }
     }
 
-    /// How many units wait in a lane's ring.
+    /// How many units wait in a lane's ring, and 0 past the last lane.
     pub fn waiting(&self, lane: usize) -> usize
-        ensures { self.now.state ≢ Spent → (state : LaneState) → slice_get (shown self.now).lanes lane ≡ Some state → result ≡ length state.ring.sent }
+        ensures past { self.now.state ≢ Spent → length (shown self.now).lanes ≤ lane → result ≡ 0 }
+        ensures waiting { self.now.state ≢ Spent → (state : LaneState) → slice_get (shown self.now).lanes lane ≡ Some state → result ≡ length state.ring.sent }
     {
         let workers = self.workers.as_slice();
         if lane >= workers.len() {
@@ -301,11 +302,15 @@ impl<M: PrefixMap<SharedRoute>, D: Dealing> Replayer<M, D> {
         self.dealer.dealt
     }
 
-    /// How many units a lane took. It stops at `u64::MAX`.
-    pub fn took(&self, lane: usize) -> u64 {
-        match self.workers.get(lane) {
-            Some(worker) => worker.taken,
-            None => 0,
+    /// How many units a lane took, and 0 past the last lane. It stops at `u64::MAX`.
+    pub fn took(&self, lane: usize) -> u64
+        ensures took { self.now.state ≢ Spent → (state : LaneState) → slice_get (shown self.now).lanes lane ≡ Some state → result ≡ state.took }
+        ensures past { self.now.state ≢ Spent → length (shown self.now).lanes ≤ lane → result ≡ 0 }
+    {
+        let workers = self.workers.as_slice();
+        if lane >= workers.len() {
+            return 0;
         }
+        workers[lane].taken
     }
 }

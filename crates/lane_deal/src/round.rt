@@ -50,12 +50,12 @@ fn deal_and_work<
 {
     let flag = AtomicBool::new(false);
     let over = &flag;
-    let batch = patience.batch;
+    let (batch, looks) = (patience.batch, patience.looks);
     let mut deal = || -> Result<Step, ReplayError>
         requires { (0 < length feeds.now) × (length files.now ≡ units.now.count) }
         ensures { DealsOn (λ number. D.lane_of dealer.entry.now.dealing number (length feeds.entry.now)) batch feeds.entry.now feeds.exit.now dealer.entry.now dealer.exit.now units.entry.now (map R.remaining files.entry.now) (map R.failure_count files.entry.now) units.exit.now (map R.remaining files.exit.now) (map R.failure_count files.exit.now) result }
     {
-        let step = dealer.deal(alloc, gate, batch, units, files, feeds);
+        let step = dealer.deal(alloc, gate, batch, looks, units, files, feeds);
         over.store(true, Ordering::SeqCst);
         step
     };

@@ -14,7 +14,7 @@ use crate::peer_numbers::Peers;
 use crate::seats::Seats;
 use crate::sessions::Sessions;
 use crate::turn::Turn;
-use adj_rib::SharedRoute;
+use adj_rib::{AttrHash, SharedRoute};
 use bgp_prefix::{Memory, PrefixMap};
 use mrt_body::Unit;
 use std::alloc::Global;
@@ -93,7 +93,8 @@ fn take_one<M: PrefixMap<SharedRoute> + Drop>(
     let Some(item) = lane.ring.pop_front() else {
         return Ok(());
     };
-    lane.seats.take(alloc, &item)?;
+    let hash = AttrHash::of(&item.unit);
+    lane.seats.take(alloc, &item, hash)?;
     lane.took = lane.took.saturating_add(1);
     Ok(())
 }

@@ -1,54 +1,66 @@
 //! The sessions of one lane, by the peers' numbers.
 
-ghost use Rattle.std.specs.Prelude.{◌≡◌, ◌<◌, false, length, map, slice_index_or, IfOk, OnOk, MatchOption, true, ◌==◌};
+ghost use Rattle.std.specs.Prelude.{◌≡◌, ◌<◌, ℕ, Some, false, length, map, slice_get, slice_index_or, IfOk, IfSome, OnOk, IsTrue, MatchOption, true, ◌==◌};
 ghost use Rattle.std.specs.List.{list_any};
 ghost use Rattle.rib_report.specs.Seats.{seat_of};
-ghost use Rattle.lane_deal.specs.Seating.{SeatFor, TakenAt};
+ghost use Rattle.lane_deal.specs.Seating.{AreIndexed, SeatFor, TakenAt};
 
 use crate::numbered::Numbered;
+use crate::popped::Popped;
 use crate::sessions::Sessions;
-use adj_rib::{Session, SharedRoute};
+use adj_rib::{AttrHash, Session, SharedRoute};
 use bgp_prefix::{Memory, PrefixMap};
 use mrt_body::{PeerKey, Unit};
 use rib_report::Seated;
 use std::alloc::Global;
+use std::mem;
 
 /// The sessions of one lane, in the order in which their peers first came.
 #[derive(Drop)]
 pub struct Seats<M: PrefixMap<SharedRoute>> {
     pub seats: Vec<Seated<M>>,
-    /// By number, where the session may stand: each use looks.
-    pub places: Vec<usize>,
+    /// By peer's number, where its session stands.
+    positions: Vec<Option<usize>>,
+    /// Whether every session is found by its position: not those that were handed back.
+    is_indexed: bool,
+    /// What prefetching read last. It means nothing.
+    prefetched: usize,
+    ghost indexed: { IsTrue is_indexed → AreIndexed positions.items (map (λ seat. seat.number) seats.items) },
 }
 
 /// Where the session of this number stands, found by going over all.
 fn scan<M: PrefixMap<SharedRoute>>(seats: &[Seated<M>], number: usize) -> Option<usize>
-    ensures { MatchOption result (list_any (λ s. s.number == number) (map seat_of seats.now) ≡ false) (λ place. (place < length seats.now) × ((d : _) → (slice_index_or (map seat_of seats.now) place d).number ≡ number)) }
+    ensures { MatchOption result (list_any (λ s. s.number == number) (map seat_of seats.now) ≡ false) (λ at. (at < length seats.now) × ((d : _) → (slice_index_or (map seat_of seats.now) at d).number ≡ number)) }
 {
-    for (place, seat) in seats.iter().enumerate() {
+    for (at, seat) in seats.iter().enumerate() {
         if seat.number == number {
-            return Some(place);
+            return Some(at);
         }
     }
     None
 }
 
 /// Whether the session of this number stands there.
-fn stands_at<M: PrefixMap<SharedRoute>>(seats: &[Seated<M>], place: usize, number: usize) -> bool
-    ensures { result ≡ true → (place < length seats.now) × ((d : _) → (slice_index_or (map seat_of seats.now) place d).number ≡ number) }
+fn stands_at<M: PrefixMap<SharedRoute>>(seats: &[Seated<M>], at: usize, number: usize) -> bool
+    ensures here { result ≡ true → (at < length seats.now) × ((d : _) → (slice_index_or (map seat_of seats.now) at d).number ≡ number) }
+    ensures elsewhere { slice_get (map (λ seat. seat.number) seats.now) at ≡ Some number → result ≡ true }
 {
-    place < seats.len() && seats[place].number == number
+    at < seats.len() && seats[at].number == number
 }
 
-/// Remembers where the session of this number stands.
-fn remember(places: &mut Vec<usize>, number: usize, place: usize) -> Result<(), Memory> {
-    for _ in places.len()..number {
-        places.push(0)?;
+/// Remembers where the session of this number will stand.
+fn remember(positions: &mut Vec<Option<usize>>, number: usize, at: usize) -> Result<(), Memory>
+    ensures others { (other x : ℕ) → (other ≡ number → ⊥) → slice_get positions.old.items other ≡ Some (Some x) → slice_get positions.new.items other ≡ Some (Some x) }
+    ensures own { OnOk result (slice_get positions.new.items number ≡ Some (Some at)) }
+{
+    while positions.len() < number {
+        positions.push(None)?;
     }
-    match places.get_mut(number) {
-        Some(slot) => *slot = place,
-        None => places.push(place)?,
+    if number < positions.len() {
+        positions[number] = Some(at);
+        return Ok(());
     }
+    positions.push(Some(at))?;
     Ok(())
 }
 
@@ -56,45 +68,112 @@ fn remember(places: &mut Vec<usize>, number: usize, place: usize) -> Result<(), 
 fn take_at<M: PrefixMap<SharedRoute>>(
     alloc: Global,
     seats: &mut [Seated<M>],
-    place: usize,
+    at: usize,
     unit: &Unit,
+    hash: AttrHash,
 ) -> Result<(), Memory>
-    requires { place < length seats.old }
-    ensures { OnOk result (TakenAt (map seat_of seats.old) (map seat_of seats.new) place unit.now) }
+    requires { at < length seats.old }
+    ensures taken { OnOk result (TakenAt (map seat_of seats.old) (map seat_of seats.new) at unit.now) }
+    ensures numbers { map (λ seat. seat.number) seats.new ≡ map (λ seat. seat.number) seats.old }
 {
-    seats[place].session.take(alloc, unit)
+    seats[at].session.take_hashed(alloc, unit, hash)
 }
 
 impl<M: PrefixMap<SharedRoute> + Drop> Seats<M> {
+    /// The position that is remembered for this number.
+    fn position_of(&self, number: usize) -> Option<usize>
+        ensures { (at : ℕ) → slice_get self.now.positions.items number ≡ Some (Some at) → result ≡ Some at }
+    {
+        match self.positions.get(number) {
+            Some(Some(at)) => Some(*at),
+            _ => None,
+        }
+    }
+
+    /// Where the session of this number is remembered to stand, if it does.
+    fn remembered(&self, number: usize) -> Option<usize>
+        ensures here { IfSome result (λ at. (at < length self.now.seats.items) × ((d : _) → (slice_index_or (map seat_of self.now.seats.items) at d).number ≡ number)) }
+        ensures all { (at : ℕ) → slice_get self.now.positions.items number ≡ Some (Some at) → slice_get (map (λ seat. seat.number) self.now.seats.items) at ≡ Some number → result ≡ Some at }
+    {
+        let at = self.position_of(number)?;
+        if stands_at(&self.seats, at, number) {
+            Some(at)
+        } else {
+            None
+        }
+    }
+
     /// Where the session of this number stands.
     fn find(&self, number: usize) -> Option<usize>
-        ensures { MatchOption result (list_any (λ s. s.number == number) (map seat_of self.now.seats.items) ≡ false) (λ place. (place < length self.now.seats.items) × ((d : _) → (slice_index_or (map seat_of self.now.seats.items) place d).number ≡ number)) }
+        ensures { MatchOption result (list_any (λ s. s.number == number) (map seat_of self.now.seats.items) ≡ false) (λ at. (at < length self.now.seats.items) × ((d : _) → (slice_index_or (map seat_of self.now.seats.items) at d).number ≡ number)) }
     {
-        if let Some(place) = self.places.get(number) {
-            if stands_at(&self.seats, *place, number) {
-                return Some(*place);
-            }
+        if let Some(at) = self.remembered(number) {
+            return Some(at);
+        }
+        if self.is_indexed {
+            return None;
         }
         scan(&self.seats, number)
     }
 
-    /// Where the session of this number stands, which is made where there is none.
-    fn place_for(&mut self, alloc: Global, number: usize, key: &PeerKey) -> Result<usize, Memory>
-        ensures within { IfOk result (λ place. place < length self.new.seats.items) }
+    /// Makes a session for this number, behind the others.
+    fn add(&mut self, alloc: Global, number: usize, key: &PeerKey) -> Result<usize, Memory>
+        requires { list_any (λ s. s.number == number) (map seat_of self.old.seats.items) ≡ false }
+        ensures within { IfOk result (λ at. at < length self.new.seats.items) }
         ensures seat { IfOk result (SeatFor (map seat_of self.old.seats.items) (map seat_of self.new.seats.items) number key.now) }
     {
-        if let Some(place) = self.find(number) {
-            return Ok(place);
-        }
-        let place = self.seats.len();
-        remember(&mut self.places, number, place)?;
+        let at = self.seats.len();
+        remember(&mut self.positions, number, at)?;
         self.seats.reserve(1)?;
         self.seats.push_reserved(Seated {
             number,
             key: *key,
             session: Session::new(alloc),
         });
-        Ok(place)
+        Ok(at)
+    }
+
+    /// Where the session of this number stands, which is made where there is none.
+    fn position_for(&mut self, alloc: Global, number: usize, key: &PeerKey) -> Result<usize, Memory>
+        ensures within { IfOk result (λ at. at < length self.new.seats.items) }
+        ensures seat { IfOk result (SeatFor (map seat_of self.old.seats.items) (map seat_of self.new.seats.items) number key.now) }
+    {
+        if let Some(at) = self.find(number) {
+            return Ok(at);
+        }
+        self.add(alloc, number, key)
+    }
+
+    /// Exchanges the sessions for these.
+    pub fn exchange(&mut self, given: Vec<Seated<M>>) -> Vec<Seated<M>>
+        ensures given { self.new.seats ≡ given }
+        ensures held { result ≡ self.old.seats }
+    {
+        self.is_indexed = false;
+        mem::replace(&mut self.seats, given)
+    }
+
+    /// The session that probably takes a popped unit.
+    fn session_near(&self, near: &Popped) -> Option<&Session<M>> {
+        let at = self.position_of(near.item.number)?;
+        let seat = self.seats.get(at)?;
+        Some(&seat.session)
+    }
+
+    /// Reads a little of the slots of all first, and then of what these hold. The number means nothing.
+    fn touch(&self, popped: &[Popped]) -> usize {
+        let mut touched = 0usize;
+        for near in popped {
+            if let Some(session) = self.session_near(near) {
+                touched = touched.saturating_add(session.prefetch_slot(near.hash));
+            }
+        }
+        for near in popped {
+            if let Some(session) = self.session_near(near) {
+                touched = touched.saturating_add(session.prefetch_reading(near.hash));
+            }
+        }
+        touched
     }
 }
 
@@ -108,12 +187,18 @@ impl<M: PrefixMap<SharedRoute> + Drop> Sessions for Seats<M> {
     fn fresh(alloc: Global) -> Seats<M> {
         Seats {
             seats: Vec::new(alloc),
-            places: Vec::new(alloc),
+            positions: Vec::new(alloc),
+            is_indexed: true,
+            prefetched: 0,
         }
     }
 
-    fn take(&mut self, alloc: Global, item: &Numbered) -> Result<(), Memory> {
-        let place = self.place_for(alloc, item.number, &item.unit.peer)?;
-        take_at(alloc, &mut self.seats, place, &item.unit)
+    fn prefetch(&mut self, popped: &[Popped]) {
+        self.prefetched = self.touch(popped);
+    }
+
+    fn take(&mut self, alloc: Global, item: &Numbered, hash: AttrHash) -> Result<(), Memory> {
+        let at = self.position_for(alloc, item.number, &item.unit.peer)?;
+        take_at(alloc, &mut self.seats, at, &item.unit, hash)
     }
 }

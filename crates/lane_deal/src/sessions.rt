@@ -1,4 +1,6 @@
 use crate::numbered::Numbered;
+use crate::popped::Popped;
+use adj_rib::AttrHash;
 use bgp_prefix::Memory;
 use std::alloc::Global;
 
@@ -13,6 +15,11 @@ pub trait Sessions {
     fn fresh(alloc: Global) -> Self
         ensures { stands_for result [] };
 
-    fn take(&mut self, alloc: Global, item: &Numbered) -> Result<(), Memory>
+    /// Reads a little of what the sessions will need to take these, so that the cache misses overlap.
+    fn prefetch(&mut self, popped: &[Popped])
+        ensures { (taken : List Numbered) → stands_for self.old taken → stands_for self.new taken };
+
+    /// Takes the next unit, whatever the hash is.
+    fn take(&mut self, alloc: Global, item: &Numbered, hash: AttrHash) -> Result<(), Memory>
         ensures { OnOk result ((taken : List Numbered) → stands_for self.old taken → stands_for self.new (taken ++ item.now ∷ [])) };
 }

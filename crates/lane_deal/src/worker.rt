@@ -1,11 +1,12 @@
-ghost use Rattle.std.specs.Prelude.{◌≡◌, OnOk, IfOk, take, drop, IsTrue, IsFalse, [], length, ◌<◌};
-ghost use Rattle.rtrb.specs.Ring.{received, known_items};
+ghost use Rattle.std.specs.Prelude.{◌≡◌, OnOk, [], length, ◌<◌};
+ghost use Rattle.rtrb.specs.Ring.{known_items};
 ghost use Rattle.std.specs.List.{AllZip};
 ghost use Rattle.std.specs.Thread.{IsSync, IsSend};
-ghost use Rattle.lane_deal.specs.LaneWorkers.{Worked};
+ghost use Rattle.lane_deal.specs.LaneWorkers.{Pops, Worked, items_of};
 
 use crate::gate::Gate;
 use crate::numbered::{Numbered, Small};
+use crate::popped::Popped;
 use crate::sessions::Sessions;
 use bgp_prefix::Memory;
 use rtrb::Consumer;
@@ -29,8 +30,28 @@ pub struct Patience {
     pub batch: u64,
 }
 
+/// How many units a worker pops at most before it takes them: what it will read of them is prefetched.
+const NEAR_UNITS: usize = 32;
+
+/// Pops the first of what is known to wait.
+fn pop_near(
+    consumer: &mut Consumer<Numbered, Global, Small>,
+    popped: &mut Vec<Popped>,
+) -> Result<(), Memory>
+    requires known { 0 < length (known_items consumer.old) }
+    requires empty { popped.old.items ≡ [] }
+    ensures some { OnOk result (0 < length popped.new.items) }
+    ensures pops { OnOk result (Pops consumer.old consumer.new (items_of popped.new.items)) }
+{
+    for taken in 0..consumer.cached_slots().min(NEAR_UNITS) {
+        let item = consumer.pop_known();
+        popped.push(Popped::new(item))?;
+    }
+    Ok(())
+}
+
 impl<S: Sessions> Worker<S> {
-    ghost use Rattle.lane_deal.specs.LaneWorkers.{Took, TookSome, Worked};
+    ghost use Rattle.lane_deal.specs.LaneWorkers.{Took, TookFront, TookSome, Takes, Worked};
 
     /// Takes what it knows to be in its ring, and then what it finds by looking again.
     pub fn run<G: Gate>(
@@ -42,16 +63,22 @@ impl<S: Sessions> Worker<S> {
     ) -> Result<(), Memory>
         ensures { OnOk result (Worked S.stands_for self.old self.new) }
     {
-        self.take_all_known(alloc, gate)?;
-        self.look_again(alloc, gate, over, patience)
+        let mut popped = Vec::with_capacity(alloc, NEAR_UNITS)?;
+        self.take_all_known(alloc, gate, &mut popped)?;
+        self.look_again(alloc, gate, over, patience, &mut popped)
     }
 
-    fn take_all_known<G: Gate>(&mut self, alloc: Global, gate: &G) -> Result<(), Memory>
+    fn take_all_known<G: Gate>(
+        &mut self,
+        alloc: Global,
+        gate: &G,
+        popped: &mut Vec<Popped>,
+    ) -> Result<(), Memory>
         ensures { OnOk result (Took S.stands_for self.old self.new (known_items self.old.consumer)) }
     {
-        let known = self.consumer.cached_slots();
-        for taken in 0..known {
-            self.take_known(alloc, gate)?;
+        let _taken = self.taken;
+        while self.consumer.cached_slots() > 0 {
+            self.take_near(alloc, gate, popped)?;
         }
         Ok(())
     }
@@ -62,15 +89,16 @@ impl<S: Sessions> Worker<S> {
         gate: &G,
         over: &AtomicBool,
         patience: Patience,
+        popped: &mut Vec<Popped>,
     ) -> Result<(), Memory>
         ensures { OnOk result (TookSome S.stands_for self.old self.new) }
     {
         let mut empty = 0;
-        let mut further = 0;
+        let mut further = 0u64;
         while empty < patience.looks && further < patience.batch {
             let last = over.load(Ordering::SeqCst);
-            if self.take_next(alloc, gate)? {
-                further += 1;
+            if self.take_found(alloc, gate, popped)? {
+                further = further.saturating_add(popped.len() as u64).max(further + 1);
             } else if last {
                 break;
             } else {
@@ -80,24 +108,54 @@ impl<S: Sessions> Worker<S> {
         Ok(())
     }
 
-    fn take_next<G: Gate>(&mut self, alloc: Global, gate: &G) -> Result<bool, Memory>
+    /// Looks at the ring again, and takes the first of what it finds. The answer is whether it found any.
+    fn take_found<G: Gate>(
+        &mut self,
+        alloc: Global,
+        gate: &G,
+        popped: &mut Vec<Popped>,
+    ) -> Result<bool, Memory>
         ensures { OnOk result (TookSome S.stands_for self.old self.new) }
     {
+        let _taken = self.taken;
         if self.consumer.is_empty() {
             return Ok(false);
         }
-        self.take_known(alloc, gate)?;
+        self.take_near(alloc, gate, popped)?;
         Ok(true)
     }
 
-    fn take_known<G: Gate>(&mut self, alloc: Global, gate: &G) -> Result<(), Memory>
+    /// Takes the first of what it knows to be in its ring.
+    fn take_near<G: Gate>(
+        &mut self,
+        alloc: Global,
+        gate: &G,
+        popped: &mut Vec<Popped>,
+    ) -> Result<(), Memory>
         requires { 0 < length (known_items self.old.consumer) }
-        ensures { OnOk result (Took S.stands_for self.old self.new (take 1 (known_items self.old.consumer)) × (known_items self.new.consumer ≡ drop 1 (known_items self.old.consumer))) }
+        ensures { OnOk result (TookFront S.stands_for self.old self.new) }
     {
-        let item = self.consumer.pop_known();
-        gate.before(self.lane, self.taken);
-        self.sessions.take(alloc, &item)?;
-        self.taken = self.taken.saturating_add(1);
+        popped.clear();
+        pop_near(&mut self.consumer, popped)?;
+        self.take_popped(alloc, gate, popped)?;
+        Ok(())
+    }
+
+    /// Takes what was popped, in order.
+    fn take_popped<G: Gate>(
+        &mut self,
+        alloc: Global,
+        gate: &G,
+        popped: &[Popped],
+    ) -> Result<(), Memory>
+        ensures { OnOk result (Takes S.stands_for self.old self.new (items_of popped.now)) }
+    {
+        self.sessions.prefetch(popped);
+        for near in popped {
+            gate.before(self.lane, self.taken);
+            self.sessions.take(alloc, &near.item, near.hash)?;
+            self.taken = self.taken.saturating_add(1);
+        }
         Ok(())
     }
 }

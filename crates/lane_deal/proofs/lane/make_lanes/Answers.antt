@@ -1,4 +1,4 @@
-use Rattle.std.proofs.Common.{sym, ap, ◌∙◌, length, arith}
+use Rattle.std.proofs.Common.{refl, sym, ap, ◌∙◌, length, arith}
 use Rattle.lane_deal.proofs.Renewals.{AreFresh-more}
 use Rattle.lane_deal.proofs.lane.make_lanes.Goals as goal
 
@@ -11,4 +11,5 @@ loop-lane-preserved g c =
       ready = (made.pair, made.consumer.2, made.consumer.0, made.consumer.1 ∙ sym made.producer.0, omega arith, omega arith);
       empty = made.producer.0;
       sessions = c.fresh.ensures;
+      untaken = refl;
     })

@@ -22,6 +22,7 @@ returns g c =
     record {
       fifo = ap (λ w. received c.args.worker.now.consumer ++ w) now_sent ∙ whole;
       sessions = refl;
+      taken = refl;
       pair = (cc, cc, cc, cc);
       received = none_received;
       known = ap (λ r. r ++ known_items c.slots_beside-2.new.self) (sym none_received) ∙ last.fifo;

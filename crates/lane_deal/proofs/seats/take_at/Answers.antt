@@ -1,5 +1,8 @@
-use Rattle.lane_deal.proofs.SeatLists.{TakenAt-from}
+use Rattle.lane_deal.proofs.SeatLists.{TakenAt-from, numbers_stay_at}
 use Rattle.lane_deal.proofs.seats.take_at.Goals as goal
 
-pub returns : goal.returns
-returns g c = TakenAt-from c.take.result c.args.seats.now c.args.place c.args.unit.now c.index-seats-place.result c.take.new.self c.requires c.take.ensures.stands
+pub returns-clause-taken : goal.returns-clause-taken
+returns-clause-taken g c = TakenAt-from c.take_hashed.result c.args.seats.now c.args.at c.args.unit.now c.index-seats-at.result c.take_hashed.new.self c.requires c.take_hashed.ensures.stands
+
+pub returns-clause-numbers : goal.returns-clause-numbers
+returns-clause-numbers g c = numbers_stay_at c.args.seats.now c.args.at c.index-seats-at.result c.take_hashed.new.self c.requires

@@ -6,6 +6,6 @@ use Rattle.lane_deal.proofs.seats.SeatsSessions.take.Goals as goal
 
 pub returns : goal.returns
 returns g c =
-    let took = rw c.deref_mut.ensures.value at c.take_at.ensures in
-    let is = with_items_is c.place_for.new.self.seats c.take_at.new.seats (omega arith) in
-    HoldsUnits-taken c.take_at.result _ _ (map seat_of c.take_at.new.seats) _ c.args.item.now.number c.in_ok-place.place c.args.item.now.unit c.in_ok-place.ensures.seat (ap (map seat_of) is) took
+    let took = rw c.deref_mut.ensures.value at c.take_at.ensures.taken in
+    let is = with_items_is c.position_for.new.self.seats c.take_at.new.seats (omega arith) in
+    HoldsUnits-taken c.take_at.result _ _ (map seat_of c.take_at.new.seats) _ c.args.item.now.number c.in_ok-at.at c.args.item.now.unit c.in_ok-at.ensures.seat (ap (map seat_of) is) took

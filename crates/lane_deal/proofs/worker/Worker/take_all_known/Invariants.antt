@@ -1,9 +1,10 @@
-use Rattle.std.proofs.Common.{◌≡◌, take, drop}
+use Rattle.std.proofs.Common.{length}
 use Rattle.rtrb.specs.Ring.{known_items}
-use Rattle.lane_deal.specs.LaneWorkers.{Took}
+use Rattle.lane_deal.proofs.Working.{TookKnown}
 use Rattle.lane_deal.proofs.worker.Worker.take_all_known.Given as goal
 
-abbrev pub invariant-loop-taken : goal.invariant-loop-taken
-invariant-loop-taken g l =
-    Took g.S.Sessions.stands_for l.initial.self l.self (take l.taken (known_items l.initial.self.consumer))
-    × (known_items l.self.consumer ≡ drop l.taken (known_items l.initial.self.consumer))
+abbrev pub invariant-loop-alloc : goal.invariant-loop-alloc
+invariant-loop-alloc g l = TookKnown g.S.Sessions.stands_for l.initial.self l.self
+
+abbrev pub decreases-loop-alloc : goal.decreases-loop-alloc
+decreases-loop-alloc g l = length (known_items l.self.consumer)

@@ -1,0 +1,17 @@
+use Rattle.std.proofs.Common.{[], refl, sym, ◌∙◌, arith}
+use Rattle.std.proofs.lemmas.List.{append-nil}
+use Rattle.rtrb.specs.Ring.{received}
+use Rattle.lane_deal.proofs.worker.Worker.take_found.Goals as goal
+
+pub returns-then-is_empty : goal.returns-then-is_empty
+returns-then-is_empty g c =
+    record {
+      items = [];
+      took = record {
+        lane = refl;
+        ring = c.is_empty.ensures.looked.0;
+        received = c.is_empty.ensures.looked.1 ∙ sym (append-nil (received c.args.self.now.consumer));
+        counted = omega arith;
+        sessions = λ taken h. rw append-nil h;
+      };
+    }
