@@ -145,6 +145,7 @@ module _ {M D : Type 0} {g : Ghosts M SharedRoute} where
           lanes = lanes_after dealing plan.ring fs' ws' new spent' p.rounded.ready (units ++ dealt) (subst (λ n. LanesStand SeatsHold (λ m. dealing m n) fs' ws' (dealt_items (units ++ dealt))) (sym p.rounded.count) all);
           peers = keys;
           refused_kept = p.deals.handles.refused ∙ ap (λ l. l ++ filter_map damage_of p.deals.done) h.refused_kept;
+          some_lanes = (let n = lanes_now in let m = length-lane_states fs ws ready.0 in let s = h.some_lanes in omega arith);
           dealt_counted = (let n = length-append units dealt in let a = p.deals.handles.counted in let b = h.dealt_counted in omega arith);
         }
 
@@ -248,6 +249,7 @@ module _ {M D : Type 0} {g : Ghosts M SharedRoute} where
               (s.stands (λ m. dealing m (length fs)) (dealt_items units) (lanes_before dealing capacity fs ws d spent ready units refused h)));
           peers = h.peers;
           refused_kept = h.refused_kept;
+          some_lanes = (let n = length-lane_states fs' ws' s.ready.0 in let k = s.count in let m = length-lane_states fs ws ready.0 in let some = h.some_lanes in omega arith);
           dealt_counted = h.dealt_counted;
         };
       } in
@@ -255,16 +257,17 @@ module _ {M D : Type 0} {g : Ghosts M SharedRoute} where
 
   -- ---- a new replayer
 
-  pub stands_fresh : (dealing : ℕ → ℕ → ℕ) (capacity count : ℕ) (fs : List Feed) (ws : List (Worker (Seats M g))) (d : Dealer D) → AreFresh SeatsHold capacity count fs ws → d.peers.keys.items ≡ [] → d.kept ≡ None → d.refused.items ≡ [] → d.dealt ≡ 0
+  pub stands_fresh : (dealing : ℕ → ℕ → ℕ) (capacity count : ℕ) → 0 < count → (fs : List Feed) (ws : List (Worker (Seats M g))) (d : Dealer D) → AreFresh SeatsHold capacity count fs ws → d.peers.keys.items ≡ [] → d.kept ≡ None → d.refused.items ≡ [] → d.dealt ≡ 0
       → ReplayerStandsFor dealing capacity [] [] (state_at d fs ws false)
   unfolding peers_of
-  stands_fresh dealing capacity count fs ws d h keys kept refused counted =
+  stands_fresh dealing capacity count some fs ws d h keys kept refused counted =
       record {
         unspent = refl;
         lanes = lanes_after dealing capacity fs ws d false (ready_fresh capacity count fs ws h) [] (λ lane x y l.
             let fresh = h.each lane x y (let c = h.feeds_count in omega arith) in record { taken = []; sessions = fresh.sessions; whole = fresh.empty; counted = fresh.untaken });
         peers = keys ∙ ap (λ o. peers_of (option_to_list o)) (sym kept);
         refused_kept = refused;
+        some_lanes = (let n = length-lane_states fs ws (ready_fresh capacity count fs ws h).0 in let k = h.feeds_count in omega arith);
         dealt_counted = counted;
       }
 

@@ -1,5 +1,5 @@
 -- What a replayer shows between two rounds, and the units and refusals that it stands for.
-use Rattle.std.specs.Prelude.{◌≡◌, ℕ, ◌+◌, ◌-◌, ◌^◌, ◌≤◌, min, Bool, false, List, [], ◌++◌, length, Option, Some, option_to_list, slice_get}
+use Rattle.std.specs.Prelude.{◌≡◌, ℕ, ◌+◌, ◌-◌, ◌^◌, ◌<◌, ◌≤◌, min, Bool, false, List, [], ◌++◌, length, Option, Some, option_to_list, slice_get}
 use Rattle.mrt_body.specs.declared.unit.Damage.{Damage}
 use Rattle.mrt_body.specs.declared.unit.PeerKey.{PeerKey}
 use Rattle.mrt_body.specs.declared.unit.Unit.{Unit as ReplayUnit}
@@ -51,7 +51,7 @@ pub record LaneStandsFor (capacity : ℕ) (all dealt : List ReplayUnit) (lane : 
   pub seats : seats_of_lane all taken ≡ lane.seats
   pub counted : lane.took ≡ min (length taken) (2 ^ 64 - 1)
 
--- These units were dealt and these refusals listed. The dealing gives the lane of a peer's number, of so many lanes; the kept unit's peer
+-- These units were dealt and these refusals listed, and there are lanes. The dealing gives the lane of a peer's number, of so many lanes; the kept unit's peer
 -- has its number already.
 pub record ReplayerStandsFor (dealing : ℕ → ℕ → ℕ) (capacity : ℕ) (units : List ReplayUnit) (refused : List Damage) (r : ReplayerState) : Type 0 where
   pub unspent : r.spent ≡ false
@@ -59,6 +59,7 @@ pub record ReplayerStandsFor (dealing : ℕ → ℕ → ℕ) (capacity : ℕ) (u
       → LaneStandsFor capacity (units ++ option_to_list r.kept) (lane_units (λ number. dealing number (length r.lanes)) units lane) state
   pub peers : r.peers ≡ peers_of (units ++ option_to_list r.kept)
   pub refused_kept : r.refused ≡ refused
+  pub some_lanes : 0 < length r.lanes
   pub dealt_counted : r.dealt ≡ min (length units) (2 ^ 64 - 1)
 
 -- There are units that were dealt, and refusals that were listed.

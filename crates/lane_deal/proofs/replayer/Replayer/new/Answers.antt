@@ -12,7 +12,7 @@ invariant_of-result g c =
     record {
       lanes = omega arith;
       ready = λ ne. ready_fresh _ _ _ _ made;
-      stands = λ ne. ∣ record { units = []; refused = []; stands = stands_fresh _ _ _ _ _ c.in_ok-new.field-0 made d.1 d.2 d.3 d.4 } ∣₁;
+      stands = λ ne. ∣ record { units = []; refused = []; stands = stands_fresh _ _ c.args.plan.workers (omega arith) _ _ c.in_ok-new.field-0 made d.1 d.2 d.3 d.4 } ∣₁;
     }
 
 pub returns-clause-lanes : goal.returns-clause-lanes
@@ -24,4 +24,4 @@ returns-clause-settled g c = settled_fresh _ _ _ _ c.in_ok-feeds.ensures
 
 pub returns-clause-stands : goal.returns-clause-stands
 returns-clause-stands g c =
-    let d = c.in_ok-new.ensures in stands_fresh _ _ _ _ _ c.in_ok-new.field-0 c.in_ok-feeds.ensures d.1 d.2 d.3 d.4
+    let d = c.in_ok-new.ensures in let some = c.requires.workers in stands_fresh _ _ c.args.plan.workers (omega arith) _ _ c.in_ok-new.field-0 c.in_ok-feeds.ensures d.1 d.2 d.3 d.4
