@@ -6,6 +6,7 @@ use crate::gate::Gate;
 use crate::numbered::{Numbered, Small};
 use rtrb::{Producer, PushError};
 use std::alloc::Global;
+use std::thread::yield_now;
 
 /// The dealing half of a lane.
 #[derive(Drop)]
@@ -33,7 +34,7 @@ impl Feed {
         }
     }
 
-    /// Tries so many times to push an item that came back.
+    /// Tries so many times to push an item that came back, and lets other threads run before each try.
     fn push_again<G: Gate>(
         &mut self,
         gate: &G,
@@ -47,6 +48,7 @@ impl Feed {
     {
         let mut item = item;
         for look in 0..looks {
+            yield_now();
             match self.push_once(gate, lane, item) {
                 Ok(()) => return Ok(()),
                 Err(back) => item = back,

@@ -12,7 +12,7 @@ use bgp_prefix::Memory;
 use rtrb::Consumer;
 use std::alloc::Global;
 use std::sync::atomic::{AtomicBool, Ordering};
-use std::thread::{Threads, join_mut};
+use std::thread::{Threads, join_mut, yield_now};
 
 /// The taking half of a lane.
 #[derive(Drop)]
@@ -103,6 +103,7 @@ impl<S: Sessions> Worker<S> {
                 break;
             } else {
                 empty += 1;
+                yield_now();
             }
         }
         Ok(())
