@@ -9,14 +9,20 @@ use Rattle.mrt_frame.specs.declared.cut.Cut.{Cut}
 use Rattle.mrt_frame.specs.Devices.{HasFailed}
 use Rattle.mrt_frame.specs.declared.error.ReplayError.{ReplayError}
 use Rattle.mrt_frame.specs.declared.error.ReplayError.TheVariants as errors
-use Rattle.mrt_body.specs.declared.standing.Standing.TheVariants.{Going}
+use Rattle.mrt_body.specs.declared.standing.Standing.{Standing}
+use Rattle.mrt_body.specs.declared.standing.Standing.TheVariants.{Going, Failed}
+use Rattle.std.specs.Io.KnownBytes.{Consumes}
+use Rattle.mrt_frame.specs.Cuts.{fault_at}
 use Rattle.mrt_frame.specs.Frames.{Position, to_come, KeepsUnlessRead}
+use Rattle.mrt_frame.specs.declared.fault.Fault.{Fault}
+use Rattle.mrt_frame.specs.declared.phase.Phase.{Phase}
+use Rattle.mrt_frame.specs.declared.phase.Phase.TheVariants.{Reading}
 use Rattle.mrt_body.specs.declared.unit.PeerKey.{PeerKey}
 use Rattle.mrt_body.specs.declared.unit.Unit.{Unit as ReplayUnit}
 use Rattle.mrt_body.specs.declared.unit.Found.{Found}
 use Rattle.mrt_body.specs.declared.unit.Found.TheVariants as found
 use Rattle.mrt_body.specs.Units.{found_in, found_in_files, all_cuts, is_whole, is_aside}
-use Rattle.mrt_body.specs.ToCome.{UnitsState, in_next_file, as_found, found_here, found_left, found_to_come, cuts_to_come, Passes, TakesFound, GivesPending, StaysInFile, LeavesFile, Steps, HasRecord, HasMoreRecords, StopsAt, Stops, answers_left, units_left, unit_count, fresh_units}
+use Rattle.mrt_body.specs.ToCome.{UnitsState, in_next_file, as_found, found_here, found_left, found_to_come, cuts_to_come, Passes, TakesFound, GivesPending, StaysInFile, LeavesFile, Steps, HasRecord, HasMoreRecords, StopsAt, Stops, before_failure, FailsInRecord, FailsBehind, GivesAllBefore, answers_left, units_left, unit_count, fresh_units}
 use Rattle.mrt_body.proofs.IndexLaws.{found_in_file-is}
 
 abbrev Bytes : Type 0
@@ -207,6 +213,58 @@ module _ {R : Type 0} (fails : R → ℕ) (a b u v : UnitsState) (start files : 
   stops_in remaining errors.Memory same going limit before gives at within h = (going, h)
   stops_in remaining errors.Records same going limit before gives at within h = (going, h.0, h.1, more_in remaining limit before gives at within h.2)
   stops_in remaining errors.Spent same going limit before gives at within h = absurd h
+
+-- ---- a read that failed
+
+-- the bytes that a reader gave, and those that it gives still
+consumed : (known left : Option Bytes) (bytes part : Bytes) → known ≡ Some bytes → Consumes known left part → (rest : Bytes) × (left ≡ Some rest) × (bytes ≡ part ++ rest)
+consumed None left bytes part is gave = absurd cc
+consumed (Some known) None bytes part is gave = absurd gave
+consumed (Some known) (Some rest) bytes part is gave = let same : bytes ≡ known = cc in (rest, refl, same ∙ gave)
+
+-- a reading that goes on stands where it stood before the failure
+pub as_before : (u : UnitsState) (frames : Position) → u.standing ≡ Going → u.frames.phase ≡ Reading → frames.file ≡ u.frames.file → frames.offset ≡ u.frames.offset → before_failure (record u { frames = frames; standing = Failed }) ≡ u
+as_before u frames going reading file offset =
+    ap (λ (n : ℕ). record u { frames = record { file = n; offset = frames.offset; phase = Reading }; standing = Going }) file
+    ∙ ap (λ (n : ℕ). record u { frames = record { file = u.frames.file; offset = n; phase = Reading }; standing = Going }) offset
+    ∙ ap (λ (p : Phase). record u { frames = record { file = u.frames.file; offset = u.frames.offset; phase = p }; standing = Going }) (sym reading)
+    ∙ ap (λ (s : Standing). record u { standing = s }) (sym going)
+
+module _ {R : Type 0} (remaining : R → Option Bytes) (a b u v : UnitsState) (start files : List R) (i : ℕ) (d next : R) where
+  fails_behind : TakesFound a (map remaining start) b (map remaining files) [] → GivesPending b u [] → i ≡ u.file → i < length files
+      → before_failure v ≡ u → (part : Bytes) (fault : Fault) → fault_at u.frames.offset part ≡ Some fault → Consumes (remaining (get_or files i d)) (remaining next) part
+      → (contents : List Bytes) → drop a.file (map remaining start) ≡ known_all contents → FailsBehind a contents v (map remaining (set files i next))
+  fails_behind before gives at within same part fault broken gave contents known =
+      let to_u = TakesFound-more a b u (map remaining start) (map remaining files) (map remaining files) [] [] before (gives_found b u (map remaining files) [] gives) contents known in
+      let k = known_first (λ (r : R). 0) a b u v start files i d next remaining to_u.0 within (ap (λ (n : ℕ). drop n (map remaining files)) at ∙ to_u.1) in
+      let c = consumed (remaining (get_or files i d)) (remaining next) k.0 part k.2 gave in
+      let inside : i < length (map remaining files) = omega (arith, length-map files remaining) in
+      let split : drop i (map remaining files) ≡ remaining (get_or files i d) ∷ drop (i + 1) (map remaining files) =
+      drop-cons (map remaining files) i (remaining d) inside ∙ ap (λ (n : ℕ). get_or (map remaining files) i (remaining d) ∷ drop n (map remaining files)) (sym (add-one i)) ∙ ap (λ (o : Option Bytes). o ∷ drop (i + 1) (map remaining files)) (get_or-map remaining files i d (remaining d) within) in
+      let others : drop (i + 1) (map remaining files) ≡ known_all k.1 = tail_of (remaining (get_or files i d)) (Some k.0) (drop (i + 1) (map remaining files)) (known_all k.1) (sym split ∙ ap (λ (n : ℕ). drop n (map remaining files)) at ∙ to_u.1 ∙ ap known_all k.3) in
+      let file : v.file ≡ i = ap (λ (s : UnitsState). s.file) same ∙ sym at in
+      let put : drop i (map remaining (set files i next)) ≡ remaining next ∷ drop (i + 1) (map remaining files) =
+      ap (drop i) (map-set remaining files i next) ∙ drop-set (map remaining files) i (remaining next) inside in
+      record {
+        part = part;
+        fault = fault;
+        bytes = c.0;
+        later = k.1;
+        broken = ap (λ (s : UnitsState). fault_at s.frames.offset part) same ∙ broken;
+        left = ap (λ (n : ℕ). drop n (map remaining (set files i next))) file ∙ put ∙ ap (λ (o : Option Bytes). o ∷ drop (i + 1) (map remaining files)) c.1 ∙ ap (λ (l : List (Option Bytes)). Some c.0 ∷ l) others;
+        passes = subst (λ (s : UnitsState). Passes a contents s ((part ++ c.0) ∷ k.1) []) (sym same) (subst (λ (l : List Bytes). Passes a contents u l []) (k.3 ∙ ap (λ (bytes : Bytes). bytes ∷ k.1) c.2) to_u.2);
+      }
+    where
+      tail_of : (x y : Option Bytes) (xs ys : List (Option Bytes)) → x ∷ xs ≡ y ∷ ys → xs ≡ ys
+      tail_of x y xs ys e = cc
+
+  pub gives_before : (e : ReplayError) → TakesFound a (map remaining start) b (map remaining files) [] → GivesPending b u [] → i ≡ u.file → i < length files
+      → FailsInRecord u (remaining (get_or files i d)) v (remaining next) e → GivesAllBefore a (map remaining start) v (map remaining (set files i next)) e
+  gives_before (errors.Read file) before gives at within h = fails_behind before gives at within h.0 h.1.0 h.1.1 h.1.2 h.1.3
+  gives_before errors.Write before gives at within h = tt
+  gives_before errors.Memory before gives at within h = tt
+  gives_before errors.Records before gives at within h = tt
+  gives_before errors.Spent before gives at within h = tt
 
 -- ---- a reading that has ended
 

@@ -1,8 +1,10 @@
 -- What files still give, from where a reading of them stands.
-use Rattle.std.specs.Prelude.{◌<◌, ◌≡◌, ◌⊎◌, ℕ, ◌+◌, ◌-◌, ◌*◌, ◌≤◌, ◌^◌, Bool, List, [], ◌∷◌, ◌++◌, map, drop, length, Option, Some, None, option_to_list, slice_index}
+use Rattle.std.specs.Prelude.{◌<◌, ◌≡◌, ◌⊎◌, ℕ, ◌+◌, ◌-◌, ◌*◌, ◌≤◌, ◌^◌, Bool, List, [], ◌∷◌, ◌++◌, map, drop, length, Option, Some, None, option_to_list, slice_index, ⊤}
 use Rattle.std.specs.List.{count_by}
 use Rattle.mrt_frame.specs.Devices.{HasFailed}
-use Rattle.mrt_frame.specs.Frames.{Position, start_of, to_come, TakesCuts}
+use Rattle.mrt_frame.specs.Cuts.{fault_at}
+use Rattle.mrt_frame.specs.Frames.{Position, ReadsPart, start_of, to_come, TakesCuts}
+use Rattle.mrt_frame.specs.declared.fault.Fault.{Fault}
 use Rattle.mrt_frame.specs.declared.cut.Cut.{Cut}
 use Rattle.mrt_frame.specs.declared.cut.Cut.TheVariants.{Whole, Broken}
 use Rattle.mrt_frame.specs.declared.error.ReplayError.{ReplayError}
@@ -171,6 +173,39 @@ Steps old known new left taken = (bytes : List ℕ) → known ≡ Some bytes →
 -- the number of files, the greatest number of records and the last second stay
 abbrev pub KeepsPlan : UnitsState → UnitsState → Type 0
 KeepsPlan old new = (new.count ≡ old.count) × (new.max_records ≡ old.max_records) × (new.until ≡ old.until)
+
+-- ---- where a reading stands whose reader failed
+
+-- as it stood before the record at which the read failed
+abbrev pub before_failure : UnitsState → UnitsState
+before_failure u = record u { frames = record { file = u.frames.file; offset = u.frames.offset; phase = Reading }; standing = Going }
+
+-- at one file: the read failed at the record that is next, and took no whole record
+abbrev pub FailsInRecord : UnitsState → Option (List ℕ) → UnitsState → Option (List ℕ) → ReplayError → Type 0
+FailsInRecord old known new left (errors.Read file) = (before_failure new ≡ old) × ReadsPart old.frames.offset known left (errors.Read file)
+FailsInRecord old known new left errors.Write = ⊤
+FailsInRecord old known new left errors.Memory = ⊤
+FailsInRecord old known new left errors.Records = ⊤
+FailsInRecord old known new left errors.Spent = ⊤
+
+-- The read failed at the record behind all that was given and counted, and took this part of the current file, which holds no
+-- whole record. These bytes of that file and of the later ones are left.
+pub record FailsBehind (old : UnitsState) (contents : List (List ℕ)) (new : UnitsState) (after : List (Option (List ℕ))) : Type 0 where
+  pub part : List ℕ
+  pub fault : Fault
+  pub bytes : List ℕ
+  pub later : List (List ℕ)
+  pub broken : fault_at new.frames.offset part ≡ Some fault
+  pub left : drop new.file after ≡ map (λ bytes. Some bytes) (bytes ∷ later)
+  pub passes : Passes old contents (before_failure new) ((part ++ bytes) ∷ later) []
+
+-- where the bytes of the current and the later files are known, a read that failed left out nothing before its record
+abbrev pub GivesAllBefore : UnitsState → List (Option (List ℕ)) → UnitsState → List (Option (List ℕ)) → ReplayError → Type 0
+GivesAllBefore old before new after (errors.Read file) = (contents : List (List ℕ)) → drop old.file before ≡ map (λ bytes. Some bytes) contents → FailsBehind old contents new after
+GivesAllBefore old before new after errors.Write = ⊤
+GivesAllBefore old before new after errors.Memory = ⊤
+GivesAllBefore old before new after errors.Records = ⊤
+GivesAllBefore old before new after errors.Spent = ⊤
 
 -- ---- why a reading stops
 

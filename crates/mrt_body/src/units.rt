@@ -3,7 +3,7 @@
 ghost use Rattle.std.specs.Prelude.{◌≡◌, ℕ, Bool, List, ◌<◌, ◌≤◌, ◌+◌, ◌^◌, Some, None, true, false, [], map, Ok, Err, IfOk, IfErr, IfSome, OnOk, length, option_to_list};
 ghost use Rattle.mrt_body.specs.Units.{IsSmall, IsSmallUnit, alone, all_cuts, found_in, found_units, is_past, refused_at, at_record};
 ghost use Rattle.mrt_frame.specs.Frames.{StandsAt, KeepsUnlessRead};
-ghost use Rattle.mrt_body.specs.ToCome.{UnitsState, GivesPending, CutsOne, TakesRecord, TakesFound, NothingToCome, HasEnded, Steps, StopsAt, Stops, KeepsPlan, answers_left, units_left, unit_count, cuts_to_come, found_to_come, steps_left, fresh_units, standing_after};
+ghost use Rattle.mrt_body.specs.ToCome.{UnitsState, GivesPending, CutsOne, TakesRecord, TakesFound, NothingToCome, HasEnded, FailsInRecord, GivesAllBefore, Steps, StopsAt, Stops, KeepsPlan, answers_left, units_left, unit_count, cuts_to_come, found_to_come, steps_left, fresh_units, standing_after};
 ghost use Rattle.mrt_body.specs.declared.content.Content.TheVariants as content_spec;
 ghost use Rattle.mrt_body.specs.declared.standing.Standing.TheVariants as standings;
 
@@ -118,6 +118,8 @@ impl Units {
         // After Read each call answers the same Read, and reads nothing.
         ensures again { self.old.standing ≡ standings.Failed → (result ≡ Err (ReplayError.Read self.old.file)) × (self.new ≡ self.old) × (files.new ≡ files.old) }
         ensures sound { OnOk result (map R.failure_count files.new ≡ map R.failure_count files.old) }
+        // Before Read nothing is left out that stands before the record at which the read failed.
+        ensures before { self.old.standing ≡ standings.Going → IfErr result (GivesAllBefore self.old (map R.remaining files.old) self.new (map R.remaining files.new)) }
         // An error that is no Read comes with no failure of a reader.
         ensures unfailed { IfErr result (KeepsUnlessRead (map R.failure_count files.old) (map R.failure_count files.new)) }
         ensures plan { KeepsPlan self.old self.new }
@@ -139,6 +141,7 @@ impl Units {
     ) -> Result<Option<Found>, ReplayError>
         requires files { length files.old ≡ self.old.count }
         requires going { self.old.standing ≡ standings.Going }
+        ensures before { IfErr result (GivesAllBefore self.old (map R.remaining files.old) self.new (map R.remaining files.new)) }
         ensures found { IfOk result (λ found. TakesFound self.old (map R.remaining files.old) self.new (map R.remaining files.new) (option_to_list found)) }
         ensures ended { IfOk result (λ found. found ≡ None → NothingToCome self.old (map R.remaining files.old)) }
         ensures at_end { IfOk result (λ found. found ≡ None → self.new.file ≡ self.new.count) }
@@ -195,6 +198,7 @@ impl Units {
         requires within { self.old.file < self.old.count }
         ensures cuts { IfOk result (CutsOne self.old (R.remaining reader.old) self.new (R.remaining reader.new)) }
         ensures counted { self.old.aside ≤ self.old.records }
+        ensures before { IfErr result (FailsInRecord self.old (R.remaining reader.old) self.new (R.remaining reader.new)) }
         ensures cause { IfErr result (StopsAt self.old (R.remaining reader.old) self.new (R.failure_count reader.old) (R.failure_count reader.new)) }
         ensures sound { OnOk result (R.failure_count reader.new ≡ R.failure_count reader.old) }
         ensures unfailed { IfErr result (KeepsUnlessRead (R.failure_count reader.old) (R.failure_count reader.new)) }
@@ -255,6 +259,7 @@ impl Units {
         ensures steps { IfOk result (λ found. Steps self.old (R.remaining reader.old) self.new (R.remaining reader.new) (option_to_list found)) }
         ensures fewer { IfOk result (λ _. steps_left self.new < steps_left self.old) }
         ensures going { IfOk result (λ _. self.new.standing ≡ standings.Going) }
+        ensures before { IfErr result (FailsInRecord self.old (R.remaining reader.old) self.new (R.remaining reader.new)) }
         ensures cause { IfErr result (StopsAt self.old (R.remaining reader.old) self.new (R.failure_count reader.old) (R.failure_count reader.new)) }
         ensures sound { OnOk result (R.failure_count reader.new ≡ R.failure_count reader.old) }
         ensures unfailed { IfErr result (KeepsUnlessRead (R.failure_count reader.old) (R.failure_count reader.new)) }

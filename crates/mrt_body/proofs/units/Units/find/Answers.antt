@@ -2,7 +2,7 @@ use Rattle.std.proofs.Common.{◌<◌, Some, ap, ◌∙◌, sym, arith, length, 
 use Rattle.std.specs.Prelude.{option_to_list}
 use Rattle.std.proofs.lemmas.List.{length-set}
 use Rattle.mrt_body.specs.ToCome.{UnitsState}
-use Rattle.mrt_body.proofs.FilesLaws.{one_more_step, still_sound, still_unfailed, stops_in, gives_nothing, fewer_than, units_than}
+use Rattle.mrt_body.proofs.FilesLaws.{one_more_step, still_sound, still_unfailed, gives_before, stops_in, gives_nothing, fewer_than, units_than}
 use Rattle.mrt_body.proofs.units.Units.find.Goals as goal
 
 pub returns-in-Ok-Some-clause-found : goal.returns-in-Ok-Some-clause-found
@@ -34,6 +34,15 @@ returns-in-Err-clause-cause g c =
 pub returns-in-Err-clause-unfailed : goal.returns-in-Err-clause-unfailed
 returns-in-Err-clause-unfailed g c =
     still_unfailed g.R.Failures.failure_count c.args.self.now c.files.self c.next_entry.new.self c.step-in-files.new.self c.args.files.now c.files.files c.step.inside.file c.index-files-self.result c.step-in-files.new.reader c.in-Err.error c.files.invariant.counts c.in-Err.ensures.unfailed
+
+pub returns-in-Err-clause-before : goal.returns-in-Err-clause-before
+returns-in-Err-clause-before g c =
+    let file = ap (λ (u : UnitsState). u.file) c.step.view_is in
+    let file' = ap (λ (u : UnitsState). u.file) c.self.view_is in
+    let count = ap (λ (u : UnitsState). u.count) c.self.view_is in
+    let within : c.step.inside.file < length c.files.files = omega (arith, file, file', count, c.next_entry.ensures.plan.0, c.files.invariant.files, c.self.invariant.file_in, c.if-self.false) in
+    gives_before g.R.Source.remaining c.args.self.now c.files.self c.next_entry.new.self c.step-in-files.new.self c.args.files.now c.files.files c.step.inside.file c.index-files-self.result c.step-in-files.new.reader c.in-Err.error
+    c.files.invariant.taken (rw c.in_default.is at c.in_ok-unit.ensures.gives) file within c.in-Err.ensures.before
 
 pub files-preserved : goal.files-preserved
 files-preserved g c =
