@@ -3,20 +3,17 @@ use Rattle.std.proofs.Common.{suc, ◌≡◌, inl, inr, ℕ, ◌+◌, ◌<◌, B
 use Rattle.std.specs.List.{count_by}
 use Rattle.std.specs.Prelude.{option_to_list}
 use Rattle.std.proofs.Math.Seq.{drop-cons, map-set_same}
-use Rattle.std.proofs.lemmas.List.{map-set, map-append, drop-set, drop-set-lt, length-map, get_or-map, get_or-set_same}
+use Rattle.std.proofs.lemmas.List.{map-set, map-append, drop-drop, drop-set, drop-set-lt, length-map, get_or-map, get_or-set_same}
 use Rattle.std.proofs.lemmas.List.Sums.{sum_by-append}
 use Rattle.mrt_frame.specs.declared.cut.Cut.{Cut}
 use Rattle.mrt_frame.specs.Devices.{HasFailed}
 use Rattle.mrt_frame.specs.declared.error.ReplayError.{ReplayError}
 use Rattle.mrt_frame.specs.declared.error.ReplayError.TheVariants as errors
-use Rattle.mrt_body.specs.declared.standing.Standing.{Standing}
-use Rattle.mrt_body.specs.declared.standing.Standing.TheVariants.{Going, Failed}
+use Rattle.mrt_body.specs.declared.standing.Standing.TheVariants.{Going}
 use Rattle.std.specs.Io.KnownBytes.{Consumes}
 use Rattle.mrt_frame.specs.Cuts.{fault_at}
 use Rattle.mrt_frame.specs.Frames.{Position, to_come, KeepsUnlessRead}
 use Rattle.mrt_frame.specs.declared.fault.Fault.{Fault}
-use Rattle.mrt_frame.specs.declared.phase.Phase.{Phase}
-use Rattle.mrt_frame.specs.declared.phase.Phase.TheVariants.{Reading}
 use Rattle.mrt_body.specs.declared.unit.PeerKey.{PeerKey}
 use Rattle.mrt_body.specs.declared.unit.Unit.{Unit as ReplayUnit}
 use Rattle.mrt_body.specs.declared.unit.Found.{Found}
@@ -214,6 +211,15 @@ module _ {R : Type 0} (fails : R → ℕ) (a b u v : UnitsState) (start files : 
   stops_in remaining errors.Records same going limit before gives at within h = (going, h.0, h.1, more_in remaining limit before gives at within h.2)
   stops_in remaining errors.Spent same going limit before gives at within h = absurd h
 
+-- ---- files that are not read yet
+
+-- a step in the current file leaves those behind it
+pub later_left : {R : Type 0} (start files : List R) (i n m : ℕ) (next : R) → drop (n + 1) files ≡ drop (n + 1) start → i ≡ n → n ≤ m → drop (m + 1) (set files i next) ≡ drop (m + 1) start
+later_left start files i n m next same at onward =
+    let more : (n + 1) + (m - n) ≡ m + 1 = omega (arith, onward) in
+    let below : i < m + 1 = omega (arith, at, onward) in
+    drop-set-lt (m + 1) files i next below ∙ ap (λ k. drop k files) (sym more) ∙ sym (drop-drop (m - n) (n + 1) files) ∙ ap (drop (m - n)) same ∙ drop-drop (m - n) (n + 1) start ∙ ap (λ k. drop k start) more
+
 -- ---- a read that failed
 
 -- the bytes that a reader gave, and those that it gives still
@@ -222,18 +228,10 @@ consumed None left bytes part is gave = absurd cc
 consumed (Some known) None bytes part is gave = absurd gave
 consumed (Some known) (Some rest) bytes part is gave = let same : bytes ≡ known = cc in (rest, refl, same ∙ gave)
 
--- a reading that goes on stands where it stood before the failure
-pub as_before : (u : UnitsState) (frames : Position) → u.standing ≡ Going → u.frames.phase ≡ Reading → frames.file ≡ u.frames.file → frames.offset ≡ u.frames.offset → before_failure (record u { frames = frames; standing = Failed }) ≡ u
-as_before u frames going reading file offset =
-    ap (λ (n : ℕ). record u { frames = record { file = n; offset = frames.offset; phase = Reading }; standing = Going }) file
-    ∙ ap (λ (n : ℕ). record u { frames = record { file = u.frames.file; offset = n; phase = Reading }; standing = Going }) offset
-    ∙ ap (λ (p : Phase). record u { frames = record { file = u.frames.file; offset = u.frames.offset; phase = p }; standing = Going }) (sym reading)
-    ∙ ap (λ (s : Standing). record u { standing = s }) (sym going)
-
 module _ {R : Type 0} (remaining : R → Option Bytes) (a b u v : UnitsState) (start files : List R) (i : ℕ) (d next : R) where
   fails_behind : TakesFound a (map remaining start) b (map remaining files) [] → GivesPending b u [] → i ≡ u.file → i < length files
       → before_failure v ≡ u → (part : Bytes) (fault : Fault) → fault_at u.frames.offset part ≡ Some fault → Consumes (remaining (get_or files i d)) (remaining next) part
-      → (contents : List Bytes) → drop a.file (map remaining start) ≡ known_all contents → FailsBehind a contents v (map remaining (set files i next))
+      → (contents : List Bytes) → drop a.file (map remaining start) ≡ known_all contents → FailsBehind a contents v (map remaining (set files i next)) []
   fails_behind before gives at within same part fault broken gave contents known =
       let to_u = TakesFound-more a b u (map remaining start) (map remaining files) (map remaining files) [] [] before (gives_found b u (map remaining files) [] gives) contents known in
       let k = known_first (λ (r : R). 0) a b u v start files i d next remaining to_u.0 within (ap (λ (n : ℕ). drop n (map remaining files)) at ∙ to_u.1) in

@@ -2,9 +2,10 @@
 use Rattle.std.proofs.Common.{◌≡◌, ℕ, List, [], ◌∷◌, ◌++◌, length, map, drop, Option, Some, refl, sym, ap, ◌∙◌, arith, append-nil}
 use Rattle.std.specs.List.{count_by}
 use Rattle.std.proofs.lemmas.List.{drop_all}
+use Rattle.mrt_frame.specs.declared.error.ReplayError.TheVariants.{Read}
 use Rattle.mrt_body.specs.declared.unit.Found.{Found}
 use Rattle.mrt_body.specs.Units.{found_in, records_of, aside_of, is_whole, is_aside}
-use Rattle.mrt_body.specs.ToCome.{UnitsState, TakesFound, HasEnded, fresh_units, as_found, found_to_come, cuts_to_come}
+use Rattle.mrt_body.specs.ToCome.{UnitsState, TakesFound, HasEnded, GivesAllBefore, FailsBehind, fresh_units, as_found, found_to_come, cuts_to_come}
 use Rattle.mrt_body.proofs.FilesLaws.{fresh_found, fresh_cuts}
 
 abbrev Bytes : Type 0
@@ -25,6 +26,25 @@ module _ (count max_records : ℕ) (until : Option ℕ) (last : UnitsState) (con
   gave_front gave =
       let t = gave contents refl in
       (found_to_come last t.0, sym (fresh_found count max_records until contents) ∙ t.2.found)
+
+  -- up to a read that failed
+  pub gave_before : (file : ℕ) (stopped : UnitsState) (after : List (Option Bytes)) → Gave → GivesAllBefore last left stopped after (Read file) → FailsBehind (fresh_units count max_records until) contents stopped after given
+  gave_before file stopped after gave before =
+      let t = gave contents refl in
+      let f = before t.0 t.1 in
+      record {
+        part = f.part;
+        fault = f.fault;
+        bytes = f.bytes;
+        later = f.later;
+        broken = f.broken;
+        left = f.left;
+        passes = record {
+          found = t.2.found ∙ ap (λ (l : List Found). given ++ l) f.passes.found;
+          records = t.2.records ∙ f.passes.records;
+          aside = t.2.aside ∙ f.passes.aside;
+        };
+      }
 
   pub gave_all : Gave → HasEnded last → length left ≡ last.count → (given ≡ found_in until contents) × (last.records ≡ records_of contents) × (last.aside ≡ aside_of contents)
   gave_all gave ended size =

@@ -190,18 +190,18 @@ FailsInRecord old known new left errors.Spent = ⊤
 
 -- The read failed at the record behind all that was given and counted, and took this part of the current file, which holds no
 -- whole record. These bytes of that file and of the later ones are left.
-pub record FailsBehind (old : UnitsState) (contents : List (List ℕ)) (new : UnitsState) (after : List (Option (List ℕ))) : Type 0 where
+pub record FailsBehind (old : UnitsState) (contents : List (List ℕ)) (new : UnitsState) (after : List (Option (List ℕ))) (given : List Found) : Type 0 where
   pub part : List ℕ
   pub fault : Fault
   pub bytes : List ℕ
   pub later : List (List ℕ)
   pub broken : fault_at new.frames.offset part ≡ Some fault
   pub left : drop new.file after ≡ map (λ bytes. Some bytes) (bytes ∷ later)
-  pub passes : Passes old contents (before_failure new) ((part ++ bytes) ∷ later) []
+  pub passes : Passes old contents (before_failure new) ((part ++ bytes) ∷ later) given
 
 -- where the bytes of the current and the later files are known, a read that failed left out nothing before its record
 abbrev pub GivesAllBefore : UnitsState → List (Option (List ℕ)) → UnitsState → List (Option (List ℕ)) → ReplayError → Type 0
-GivesAllBefore old before new after (errors.Read file) = (contents : List (List ℕ)) → drop old.file before ≡ map (λ bytes. Some bytes) contents → FailsBehind old contents new after
+GivesAllBefore old before new after (errors.Read file) = (contents : List (List ℕ)) → drop old.file before ≡ map (λ bytes. Some bytes) contents → FailsBehind old contents new after []
 GivesAllBefore old before new after errors.Write = ⊤
 GivesAllBefore old before new after errors.Memory = ⊤
 GivesAllBefore old before new after errors.Records = ⊤

@@ -1,12 +1,14 @@
 // The laws of a whole reading.
 ghost use Rattle.std.specs.Prelude.{◌≡◌, ◌++◌, ℕ, List, Option, Some, length, map};
+ghost use Rattle.mrt_frame.specs.declared.error.ReplayError.TheVariants.{Read};
 ghost use Rattle.mrt_body.specs.declared.unit.Found.{Found};
-ghost use Rattle.mrt_body.specs.ToCome.{UnitsState, HasEnded, TakesFound, fresh_units};
+ghost use Rattle.mrt_body.specs.ToCome.{UnitsState, FailsBehind, GivesAllBefore, HasEnded, TakesFound, fresh_units};
 ghost use Rattle.mrt_body.specs.Units.{aside_of, found_in, records_of};
 
 /// What calls of `Units::next` gave joins, in order. What was given from `Units::new` on is a front
 /// of what the files hold, also where a call then answers an error, as no later call gives more.
-/// From `Units::new` to `None` it is all, and all records were counted.
+/// From `Units::new` to `None` it is all, and all records were counted. Up to `Read` it is all that
+/// stands before the record whose read failed.
 pub fn readings_give_all_found()
     ensures joined { (first second third : UnitsState) (old mid new : List (Option (List ℕ))) (given more : List Found) →
         TakesFound first old second mid given → TakesFound second mid third new more → TakesFound first old third new (given ++ more) }
@@ -19,4 +21,9 @@ pub fn readings_give_all_found()
         TakesFound (fresh_units count max_records until) (map (λ bytes. Some bytes) contents) last left given →
         HasEnded last → length left ≡ last.count →
         (given ≡ found_in until contents) × (last.records ≡ records_of contents) × (last.aside ≡ aside_of contents) }
+    ensures failed { (count max_records file : ℕ) (until : Option ℕ) (last stopped : UnitsState)
+        (contents : List (List ℕ)) (left after : List (Option (List ℕ))) (given : List Found) →
+        TakesFound (fresh_units count max_records until) (map (λ bytes. Some bytes) contents) last left given →
+        GivesAllBefore last left stopped after (Read file) →
+        FailsBehind (fresh_units count max_records until) contents stopped after given }
 {}

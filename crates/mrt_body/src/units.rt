@@ -1,6 +1,6 @@
 //! The units and refusals of files.
 
-ghost use Rattle.std.specs.Prelude.{◌≡◌, ℕ, Bool, List, ◌<◌, ◌≤◌, ◌+◌, ◌^◌, Some, None, true, false, [], map, Ok, Err, IfOk, IfErr, IfSome, OnOk, length, option_to_list};
+ghost use Rattle.std.specs.Prelude.{◌≡◌, ℕ, Bool, List, ◌<◌, ◌≤◌, ◌+◌, ◌^◌, Some, None, true, false, [], map, drop, Ok, Err, IfOk, IfErr, IfSome, OnOk, length, option_to_list};
 ghost use Rattle.mrt_body.specs.Units.{IsSmall, IsSmallUnit, alone, all_cuts, found_in, found_units, is_past, refused_at, at_record};
 ghost use Rattle.mrt_frame.specs.Frames.{StandsAt, KeepsUnlessRead};
 ghost use Rattle.mrt_body.specs.ToCome.{UnitsState, GivesPending, CutsOne, TakesRecord, TakesFound, NothingToCome, HasEnded, FailsInRecord, GivesAllBefore, Steps, StopsAt, Stops, KeepsPlan, answers_left, units_left, unit_count, cuts_to_come, found_to_come, steps_left, fresh_units, standing_after};
@@ -122,6 +122,8 @@ impl Units {
         ensures before { self.old.standing ≡ standings.Going → IfErr result (GivesAllBefore self.old (map R.remaining files.old) self.new (map R.remaining files.new)) }
         // An error that is no Read comes with no failure of a reader.
         ensures unfailed { IfErr result (KeepsUnlessRead (map R.failure_count files.old) (map R.failure_count files.new)) }
+        // No file behind the current one is read.
+        ensures later { drop (self.new.file + 1) files.new ≡ drop (self.new.file + 1) files.old }
         ensures plan { KeepsPlan self.old self.new }
         // A unit's bytes number at most 16,777,216.
         ensures small { IfOk result (λ found. IfSome found IsSmall) }
@@ -153,6 +155,7 @@ impl Units {
         ensures cause { IfErr result (Stops self.old (map R.remaining files.old) self.new (map R.failure_count files.old) (map R.failure_count files.new)) }
         ensures sound { OnOk result (map R.failure_count files.new ≡ map R.failure_count files.old) }
         ensures unfailed { IfErr result (KeepsUnlessRead (map R.failure_count files.old) (map R.failure_count files.new)) }
+        ensures later { drop (self.new.file + 1) files.new ≡ drop (self.new.file + 1) files.old }
         ensures plan { KeepsPlan self.old self.new }
         ensures small { IfOk result (λ found. IfSome found IsSmall) }
     {
@@ -177,6 +180,7 @@ impl Units {
         ensures ended { IfOk result (λ unit. unit ≡ None → self.old.pending ≡ []) }
         ensures none { self.old.pending ≡ [] → result ≡ Ok None }
         ensures want { IfErr result (λ e. (e ≡ ReplayError.Memory) × (self.new.standing ≡ standings.Spent)) }
+        ensures here { self.new.file ≡ self.old.file }
         ensures plan { KeepsPlan self.old self.new }
         ensures small { IfOk result (λ unit. IfSome unit IsSmallUnit) }
     {
@@ -198,6 +202,7 @@ impl Units {
         requires within { self.old.file < self.old.count }
         ensures cuts { IfOk result (CutsOne self.old (R.remaining reader.old) self.new (R.remaining reader.new)) }
         ensures counted { self.old.aside ≤ self.old.records }
+        ensures onward { self.old.file ≤ self.new.file }
         ensures before { IfErr result (FailsInRecord self.old (R.remaining reader.old) self.new (R.remaining reader.new)) }
         ensures cause { IfErr result (StopsAt self.old (R.remaining reader.old) self.new (R.failure_count reader.old) (R.failure_count reader.new)) }
         ensures sound { OnOk result (R.failure_count reader.new ≡ R.failure_count reader.old) }
@@ -259,6 +264,7 @@ impl Units {
         ensures steps { IfOk result (λ found. Steps self.old (R.remaining reader.old) self.new (R.remaining reader.new) (option_to_list found)) }
         ensures fewer { IfOk result (λ _. steps_left self.new < steps_left self.old) }
         ensures going { IfOk result (λ _. self.new.standing ≡ standings.Going) }
+        ensures onward { self.old.file ≤ self.new.file }
         ensures before { IfErr result (FailsInRecord self.old (R.remaining reader.old) self.new (R.remaining reader.new)) }
         ensures cause { IfErr result (StopsAt self.old (R.remaining reader.old) self.new (R.failure_count reader.old) (R.failure_count reader.new)) }
         ensures sound { OnOk result (R.failure_count reader.new ≡ R.failure_count reader.old) }
@@ -317,6 +323,7 @@ impl Units {
         ensures takes { IfOk result (TakesRecord self.old at is_extended content body self.new) }
         ensures few { IfOk result (λ found. length (option_to_list found) + length self.new.pending ≤ 65535) }
         ensures want { IfErr result (λ e. (e ≡ ReplayError.Memory) × (self.new.standing ≡ standings.Spent)) }
+        ensures here { self.new.file ≡ self.old.file }
         ensures plan { KeepsPlan self.old self.new }
         ensures small { IfOk result (λ found. IfSome found IsSmall) }
     {
@@ -376,6 +383,7 @@ impl Units {
         ensures takes { (extended : Bool) → IfOk result (TakesRecord self.old at extended content_spec.IndexTable body.now self.new) }
         ensures few { IfOk result (λ found. length (option_to_list found) + length self.new.pending ≤ 65535) }
         ensures want { IfErr result (λ e. (e ≡ ReplayError.Memory) × (self.new.standing ≡ standings.Spent)) }
+        ensures here { self.new.file ≡ self.old.file }
         ensures plan { KeepsPlan self.old self.new }
         ensures small { IfOk result (λ found. IfSome found IsSmall) }
     {
@@ -405,6 +413,7 @@ impl Units {
         ensures takes { (extended : Bool) → IfOk result (TakesRecord self.old at extended (content_spec.Rib add_path) body self.new) }
         ensures few { IfOk result (λ found. length (option_to_list found) + length self.new.pending ≤ 65535) }
         ensures want { IfErr result (λ e. (e ≡ ReplayError.Memory) × (self.new.standing ≡ standings.Spent)) }
+        ensures here { self.new.file ≡ self.old.file }
         ensures plan { KeepsPlan self.old self.new }
         ensures small { IfOk result (λ found. IfSome found IsSmall) }
     {

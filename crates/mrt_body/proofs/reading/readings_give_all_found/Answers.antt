@@ -1,5 +1,5 @@
 use Rattle.mrt_body.proofs.FilesLaws.{TakesFound-more}
-use Rattle.mrt_body.proofs.ReadingLaws.{gave_front, gave_all}
+use Rattle.mrt_body.proofs.ReadingLaws.{gave_front, gave_all, gave_before}
 use Rattle.mrt_body.proofs.reading.readings_give_all_found.Goals as goal
 
 pub returns : goal.returns
@@ -7,4 +7,5 @@ returns c = record {
   joined = TakesFound-more;
   front = gave_front;
   whole = gave_all;
+  failed = λ count max_records file until last stopped contents left after given gave before. gave_before count max_records until last contents left given file stopped after gave before;
 }

@@ -2,7 +2,7 @@ use Rattle.std.proofs.Common.{◌<◌, Some, ap, ◌∙◌, sym, arith, length, 
 use Rattle.std.specs.Prelude.{option_to_list}
 use Rattle.std.proofs.lemmas.List.{length-set}
 use Rattle.mrt_body.specs.ToCome.{UnitsState}
-use Rattle.mrt_body.proofs.FilesLaws.{one_more_step, still_sound, still_unfailed, gives_before, stops_in, gives_nothing, fewer_than, units_than}
+use Rattle.mrt_body.proofs.FilesLaws.{one_more_step, still_sound, still_unfailed, later_left, gives_before, stops_in, gives_nothing, fewer_than, units_than}
 use Rattle.mrt_body.proofs.units.Units.find.Goals as goal
 
 pub returns-in-Ok-Some-clause-found : goal.returns-in-Ok-Some-clause-found
@@ -35,6 +35,16 @@ pub returns-in-Err-clause-unfailed : goal.returns-in-Err-clause-unfailed
 returns-in-Err-clause-unfailed g c =
     still_unfailed g.R.Failures.failure_count c.args.self.now c.files.self c.next_entry.new.self c.step-in-files.new.self c.args.files.now c.files.files c.step.inside.file c.index-files-self.result c.step-in-files.new.reader c.in-Err.error c.files.invariant.counts c.in-Err.ensures.unfailed
 
+pub returns-in-Ok-Some-clause-later : goal.returns-in-Ok-Some-clause-later
+returns-in-Ok-Some-clause-later g c =
+    let file = ap (λ (u : UnitsState). u.file) c.step.view_is in
+    later_left c.args.files.now c.files.files c.step.inside.file c.files.self.file c.step-in-files.new.self.file c.step-in-files.new.reader c.files.invariant.later (file ∙ c.next_entry.ensures.here) (omega (arith, c.next_entry.ensures.here, c.step-in-files.ensures.onward))
+
+pub returns-in-Err-clause-later : goal.returns-in-Err-clause-later
+returns-in-Err-clause-later g c =
+    let file = ap (λ (u : UnitsState). u.file) c.step.view_is in
+    later_left c.args.files.now c.files.files c.step.inside.file c.files.self.file c.step-in-files.new.self.file c.step-in-files.new.reader c.files.invariant.later (file ∙ c.next_entry.ensures.here) (omega (arith, c.next_entry.ensures.here, c.step-in-files.ensures.onward))
+
 pub returns-in-Err-clause-before : goal.returns-in-Err-clause-before
 returns-in-Err-clause-before g c =
     let file = ap (λ (u : UnitsState). u.file) c.step.view_is in
@@ -53,6 +63,7 @@ files-preserved g c =
     let gives = rw c.in_default.is at c.in_ok-unit.ensures.gives in
     let same = gives_nothing c.files.self c.next_entry.new.self gives in
     record {
+      later = later_left c.args.files.now c.files.files c.step.inside.file c.files.self.file c.step-in-files.new.self.file c.step-in-files.new.reader c.files.invariant.later (file ∙ c.next_entry.ensures.here) (omega (arith, c.next_entry.ensures.here, c.step-in-files.ensures.onward));
       ended = λ h.
           let still = same ∙ (c.files.invariant.ended h).0 in
           absurd (omega (arith, file', count, ap (λ (u : UnitsState). u.file) still, ap (λ (u : UnitsState). u.count) still, h.1, c.if-self.false));
