@@ -22,3 +22,6 @@ pub mod Plays
 pub mod ScheduleRuns
 pub mod HandingIn
 pub mod AllTables
+pub mod Rising
+pub mod ClassLists
+pub mod TakenTables

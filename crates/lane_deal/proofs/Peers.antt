@@ -110,7 +110,7 @@ first_place p (x ∷ xs) ys e =
 pub number_stays : (units more : List ReplayUnit) (q : PeerKey) → is_seen units q ≡ true → number_of_peer (units ++ more) q ≡ number_of_peer units q
 number_stays units more q seen = ap (position_or_len (peer_eq q)) (peers_of-append units more) ∙ first_place (peer_eq q) (peers_of units) (new_peers units more) (listed_peer units q seen)
 
-seen_after : (before xs : List ReplayUnit) → AllByRecursion (λ u. is_seen (before ++ xs) u.peer ≡ true) xs
+pub seen_after : (before xs : List ReplayUnit) → AllByRecursion (λ u. is_seen (before ++ xs) u.peer ≡ true) xs
 seen_after before [] = tt
 seen_after before (x ∷ xs) = (
   list_any-append (λ u. peer_eq u.peer x.peer) before (x ∷ xs) ∙ ap (λ b. is_seen before x.peer || (b || is_seen xs x.peer)) (peer_itself x.peer) ∙ or-true (is_seen before x.peer),

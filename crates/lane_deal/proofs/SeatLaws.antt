@@ -19,7 +19,7 @@ use Rattle.lane_deal.proofs.Numbering.{numbered_peers, places_rise}
 abbrev seat_numbered : List ReplayUnit → ℕ → PeerKey → Seat
 seat_numbered units number q = record { number = number; key = q; session = session_of (units_of_peer units q) }
 
-map_filtered : {X Y : Type 0} (f g : X → Y) (p : X → Bool) (xs : List X) → ((x : X) → p x ≡ true → f x ≡ g x) → map f (filter p xs) ≡ map g (filter p xs)
+pub map_filtered : {X Y : Type 0} (f g : X → Y) (p : X → Bool) (xs : List X) → ((x : X) → p x ≡ true → f x ≡ g x) → map f (filter p xs) ≡ map g (filter p xs)
 map_filtered f g p [] h = refl
 map_filtered f g p (x ∷ xs) h =
     elim (p x) as (λ b. p x ≡ b → map f (cond b (x ∷ filter p xs) (filter p xs)) ≡ map g (cond b (x ∷ filter p xs) (filter p xs))) [
@@ -27,11 +27,11 @@ map_filtered f g p (x ∷ xs) h =
       | false ↦ λ e. map_filtered f g p xs h
     ] refl
 
-flat_map_alike : {X Y : Type 0} (f g : X → List Y) (xs : List X) → ((x : X) → f x ≡ g x) → flat_map f xs ≡ flat_map g xs
+pub flat_map_alike : {X Y : Type 0} (f g : X → List Y) (xs : List X) → ((x : X) → f x ≡ g x) → flat_map f xs ≡ flat_map g xs
 flat_map_alike f g [] h = refl
 flat_map_alike f g (x ∷ xs) h = ap (λ l. l ++ flat_map f xs) (h x) ∙ ap (λ l. g x ++ l) (flat_map_alike f g xs h)
 
-map_of_lists : {X Y Z : Type 0} (g : Y → Z) (h : X → List Y) (xs : List X) → flat_map (λ x. map g (h x)) xs ≡ map g (flat_map h xs)
+pub map_of_lists : {X Y Z : Type 0} (g : Y → Z) (h : X → List Y) (xs : List X) → flat_map (λ x. map g (h x)) xs ≡ map g (flat_map h xs)
 map_of_lists g h [] = refl
 map_of_lists g h (x ∷ xs) = ap (λ l. map g (h x) ++ l) (map_of_lists g h xs) ∙ sym (map-append g (h x) (flat_map h xs))
 

@@ -13,6 +13,28 @@ use Rattle.lane_deal.specs.declared.numbered.Numbered.{Numbered}
 use Rattle.lane_deal.specs.declared.seats.Seats.{Seats}
 use Rattle.lane_deal.specs.declared.worker.Worker.{Worker}
 
+-- ---- lanes of any kind, by what they show and the sessions that they hold
+
+-- the sessions of all lanes
+abbrev pub seats_held : {L M : Type 0} → (L → List (Seated M)) → List L → List Seat
+seats_held held lanes = flat_map (λ lane. map seat_of (held lane)) lanes
+
+module _ {L S X : Type 0} (state : L → S) (held : S → List X) (with_held : S → List X → S) where
+  -- the lane's sessions are those of the list, and the other way round
+  pub record Exchanged (before after : L) (list list' : List X) : Type 0 where
+    pub given : list' ≡ held (state before)
+    pub got : state after ≡ with_held (state before) list
+
+  -- the lanes below this one were exchanged, and the others are as they were
+  pub record ExchangedBelow (count : ℕ) (lanes lanes' : List L) (lists lists' : List (List X)) : Type 0 where
+    pub lanes_count : length lanes' ≡ length lanes
+    pub lists_count : length lists' ≡ length lists
+    pub each : (lane : ℕ) (d : L) (e : List X) → lane < count → Exchanged (slice_index_or lanes lane d) (slice_index_or lanes' lane d) (slice_index_or lists lane e) (slice_index_or lists' lane e)
+    pub lanes_rest : (lane : ℕ) (d : L) → count ≤ lane → slice_index_or lanes' lane d ≡ slice_index_or lanes lane d
+    pub lists_rest : (lane : ℕ) (e : List X) → count ≤ lane → slice_index_or lists' lane e ≡ slice_index_or lists lane e
+
+-- ---- workers
+
 -- a worker, but for where it looks for its sessions
 pub record WorkerState (M : Type 0) : Type 0 where
   pub lane : ℕ
@@ -21,25 +43,9 @@ pub record WorkerState (M : Type 0) : Type 0 where
   pub taken : ℕ
 
 module _ {M : Type 0} {g : Ghosts M SharedRoute} where
-  -- the worker's sessions are those of the list, and the other way round
-  pub record Exchanged (before after : Worker (Seats M g)) (list list' : List (Seated M)) : Type 0 where
-    pub given : list' ≡ before.sessions.seats.items
-    pub got : after.sessions.seats.items ≡ list
-    pub lane : after.lane ≡ before.lane
-    pub consumer : after.consumer ≡ before.consumer
-    pub taken : after.taken ≡ before.taken
-
-  -- the lanes below this one were exchanged, and the others are as they were
-  pub record ExchangedBelow (count : ℕ) (workers workers' : List (Worker (Seats M g))) (lists lists' : List (List (Seated M))) : Type 0 where
-    pub workers_count : length workers' ≡ length workers
-    pub lists_count : length lists' ≡ length lists
-    pub each : (lane : ℕ) (d : Worker (Seats M g)) (e : List (Seated M)) → lane < count → Exchanged (slice_index_or workers lane d) (slice_index_or workers' lane d) (slice_index_or lists lane e) (slice_index_or lists' lane e)
-    pub workers_rest : (lane : ℕ) (d : Worker (Seats M g)) → count ≤ lane → slice_index_or workers' lane d ≡ slice_index_or workers lane d
-    pub lists_rest : (lane : ℕ) (e : List (Seated M)) → count ≤ lane → slice_index_or lists' lane e ≡ slice_index_or lists lane e
-
   abbrev pub worker_state : Worker (Seats M g) → WorkerState M
   worker_state w = record { lane = w.lane; consumer = w.consumer; seats = w.sessions.seats.items; taken = w.taken }
 
   -- the sessions of all workers
   abbrev pub seats_of_workers : List (Worker (Seats M g)) → List Seat
-  seats_of_workers workers = flat_map (λ w. map seat_of w.sessions.seats.items) workers
+  seats_of_workers workers = seats_held (λ w. w.sessions.seats.items) workers

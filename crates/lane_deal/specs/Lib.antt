@@ -17,5 +17,7 @@ pub mod LaneRounds
 pub mod Shown
 pub mod Answers
 pub mod Playing
-pub mod ShownLanes
 pub mod Collecting
+pub mod OneLanes
+pub mod ShownLanes
+pub mod TakenTables

@@ -1,14 +1,15 @@
 -- What lanes on one thread show.
-use Rattle.std.specs.Prelude.{◌≡◌, ℕ, ◌<◌, ◌≤◌, ◌-◌, ◌^◌, List, [], length, min, slice_index_or}
+use Rattle.std.specs.Prelude.{◌≡◌, ℕ, ◌<◌, ◌≤◌, ◌-◌, ◌^◌, List, [], length, map, min, slice_index_or}
 use Rattle.mrt_body.specs.declared.unit.Unit.{Unit as ReplayUnit}
 use Rattle.rib_report.specs.Peers.{peers_of}
 use Rattle.bgp_prefix.specs.declared.map.PrefixMap.{Ghosts}
 use Rattle.adj_rib.specs.declared.shared_route.SharedRoute.{SharedRoute}
 use Rattle.lane_deal.specs.declared.numbered.Numbered.{Numbered}
 use Rattle.lane_deal.specs.declared.schedule.OneLane.{OneLane}
-use Rattle.lane_deal.specs.declared.schedule.Lanes.{Lanes}
+use Rattle.lane_deal.specs.declared.scheduled.Lanes.{Lanes}
 use Rattle.lane_deal.specs.Numbers.{numbered}
-use Rattle.lane_deal.specs.Schedules.{LanesState}
+use Rattle.lane_deal.specs.OneLanes.{one_lane_state}
+use Rattle.lane_deal.specs.Schedules.{LanesState, IsShared}
 use Rattle.lane_deal.specs.Shown.{SeatsHold}
 
 module _ {M : Type 0} {g : Ghosts M SharedRoute} where
@@ -23,6 +24,12 @@ module _ {M : Type 0} {g : Ghosts M SharedRoute} where
     pub each : (lane : ℕ) (d : OneLane M g) → lane < length lanes → LaneShows all (slice_index_or lanes lane d) (s.ring lane) (s.taken lane)
     pub past : (lane : ℕ) → length lanes ≤ lane → (s.ring lane ≡ []) × (s.taken lane ≡ [])
 
-  -- lanes that deal these units are in this state
-  abbrev pub Shows : List ReplayUnit → Lanes M g → LanesState → Type 0
-  Shows all lanes s = LanesShow all lanes.undealt.items lanes.lanes.items s
+  -- Lanes that deal these units are in this state: what each took and what waits in its ring are, in order, its own of those dealt.
+  pub record Shows (all : List ReplayUnit) (lanes : Lanes M g) (s : LanesState) : Type 0 where
+    pub lane_of : ℕ → ℕ
+    pub shared : IsShared lane_of all s
+    pub lists : LanesShow all lanes.undealt.items lanes.lanes.items s
+
+  -- the same units are not dealt or wait, and the sessions are the same
+  abbrev pub ShowsSame : Lanes M g → Lanes M g → Type 0
+  ShowsSame a b = (a.undealt ≡ b.undealt) × (map one_lane_state a.lanes.items ≡ map one_lane_state b.lanes.items)

@@ -1,11 +1,12 @@
-//! The tables of what the workers took.
+//! The tables of what the lanes took.
 
 ghost use Rattle.std.specs.Prelude.{◌≡◌, List, IfOk, IfErr, IsPermutation, length, map, nat_eq};
 ghost use Rattle.std.specs.List.{IsDistinct};
 ghost use Rattle.std.specs.List.Sorted.{IsStrictlyIncreasing};
 ghost use Rattle.rib_report.specs.Tables.{Seat};
-ghost use Rattle.lane_deal.specs.Collecting.{Exchanged, ExchangedBelow, seats_of_workers, worker_state};
+ghost use Rattle.lane_deal.specs.Collecting.{ExchangedBelow, seats_held};
 
+use crate::holding::{HoldsSeats, exchange_seats};
 use crate::seats::Seats;
 use crate::worker::Worker;
 use adj_rib::SharedRoute;
@@ -13,7 +14,26 @@ use bgp_prefix::{Memory, PrefixMap, Sequence};
 use mrt_body::Damage;
 use rib_report::{Gathered, Seated, Tables, collect};
 use std::alloc::Global;
-use std::mem;
+
+/// The worker of a lane.
+impl<M: PrefixMap<SharedRoute> + Drop> HoldsSeats<M> for Worker<Seats<M>> {
+    ghost use Rattle.std.specs.Prelude.{refl};
+    ghost use Rattle.lane_deal.specs.Collecting.{WorkerState, worker_state};
+
+    ghost State = { WorkerState M };
+
+    ghost state = { worker_state };
+
+    ghost held = { λ s. s.seats };
+
+    ghost with_held = { λ s list. record s { seats = list } };
+
+    fn exchange(&mut self, alloc: Global, list: &mut Sequence<Seated<M>>) {
+        exchange_seats(alloc, &mut self.sessions, list);
+    }
+
+    ghost is_back = { λ s list. refl };
+}
 
 /// So many empty lists.
 fn empty_lists<M: PrefixMap<SharedRoute> + Drop>(
@@ -29,47 +49,34 @@ fn empty_lists<M: PrefixMap<SharedRoute> + Drop>(
     Ok(lists)
 }
 
-/// Exchanges a worker's sessions for those of a list.
-fn exchange<M: PrefixMap<SharedRoute> + Drop>(
+/// Exchanges the sessions of each lane for those of its list.
+fn exchange_all<M: PrefixMap<SharedRoute> + Drop, L: HoldsSeats<M>>(
     alloc: Global,
-    worker: &mut Worker<Seats<M>>,
-    list: &mut Sequence<Seated<M>>,
-)
-    ensures { Exchanged worker.old worker.new list.old list.new }
-{
-    let given = mem::replace(list, Sequence::from_vec(Vec::new(alloc)));
-    let held = worker.sessions.exchange(given.into_vec());
-    *list = Sequence::from_vec(held);
-}
-
-/// Exchanges the sessions of each worker for those of its list.
-fn exchange_all<M: PrefixMap<SharedRoute> + Drop>(
-    alloc: Global,
-    workers: &mut [Worker<Seats<M>>],
+    lanes: &mut [L],
     lists: &mut [Sequence<Seated<M>>],
 )
-    requires { length lists.old ≡ length workers.old }
-    ensures { ExchangedBelow (length workers.old) workers.old workers.new lists.old lists.new }
+    requires { length lists.old ≡ length lanes.old }
+    ensures { ExchangedBelow L.state L.held L.with_held (length lanes.old) lanes.old lanes.new lists.old lists.new }
 {
-    for lane in 0..workers.len() {
-        exchange(alloc, &mut workers[lane], &mut lists[lane]);
+    for lane in 0..lanes.len() {
+        lanes[lane].exchange(alloc, &mut lists[lane]);
     }
 }
 
 /// The tables of all sessions and the refusals, or both as they were.
-pub fn collect_lanes<M: PrefixMap<SharedRoute> + Drop>(
+pub fn collect_lanes<M: PrefixMap<SharedRoute> + Drop, L: HoldsSeats<M> + Drop>(
     alloc: Global,
-    mut workers: Vec<Worker<Seats<M>>>,
+    mut lanes: Vec<L>,
     refused: Vec<Damage>,
-) -> Result<Tables<M>, (Vec<Worker<Seats<M>>>, Vec<Damage>)>
-    requires { IsDistinct nat_eq (map (λ seat. seat.number) (seats_of_workers workers.items)) }
-    ensures only { (seats : List Seat) → IsPermutation (seats_of_workers workers.items) seats → IsStrictlyIncreasing (map (λ seat. seat.number) seats) → IfOk result (λ tables. tables ≡ record { seats = seats; refused = refused.items }) }
-    ensures back { IfErr result (λ back. (map worker_state back.0.items ≡ map worker_state workers.items) × (back.1.items ≡ refused.items)) }
+) -> Result<Tables<M>, (Vec<L>, Vec<Damage>)>
+    requires { IsDistinct nat_eq (map (λ seat. seat.number) (seats_held (λ lane. L.held (L.state lane)) lanes.items)) }
+    ensures only { (seats : List Seat) → IsPermutation (seats_held (λ lane. L.held (L.state lane)) lanes.items) seats → IsStrictlyIncreasing (map (λ seat. seat.number) seats) → IfOk result (λ tables. tables ≡ record { seats = seats; refused = refused.items }) }
+    ensures back { IfErr result (λ back. (map L.state back.0.items ≡ map L.state lanes.items) × (back.1.items ≡ refused.items)) }
 {
-    let Ok(mut lists) = empty_lists(alloc, workers.len()) else {
-        return Err((workers, refused));
+    let Ok(mut lists) = empty_lists(alloc, lanes.len()) else {
+        return Err((lanes, refused));
     };
-    exchange_all(alloc, &mut workers, &mut lists);
+    exchange_all(alloc, &mut lanes, &mut lists);
     let gathered = Gathered {
         lanes: Sequence::from_vec(lists),
         refused: Sequence::from_vec(refused),
@@ -77,10 +84,13 @@ pub fn collect_lanes<M: PrefixMap<SharedRoute> + Drop>(
     match collect(alloc, gathered) {
         Ok(tables) => Ok(tables),
         Err((back, _)) => {
-            let Gathered { lanes, refused } = back;
-            let mut lists = lanes.into_vec();
-            exchange_all(alloc, &mut workers, &mut lists);
-            Err((workers, refused.into_vec()))
+            let Gathered {
+                lanes: handed_in,
+                refused,
+            } = back;
+            let mut lists = handed_in.into_vec();
+            exchange_all(alloc, &mut lanes, &mut lists);
+            Err((lanes, refused.into_vec()))
         }
     }
 }

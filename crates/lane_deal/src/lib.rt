@@ -6,6 +6,7 @@ mod dealer;
 mod dealing;
 mod feed;
 mod gate;
+mod holding;
 mod lane;
 mod lanes;
 mod numbered;
@@ -15,6 +16,7 @@ mod popped;
 mod replayer;
 mod round;
 mod schedule;
+mod scheduled;
 mod seats;
 mod sessions;
 mod state;
@@ -30,7 +32,8 @@ pub use lanes::{
 };
 pub use plan::Plan;
 pub use replayer::Replayer;
-pub use schedule::{Lanes, run_schedule};
+pub use schedule::run_schedule;
+pub use scheduled::Lanes;
 pub use step::Step;
 pub use turn::Turn;
 

@@ -1,6 +1,6 @@
 //! The lanes on one thread, by a list of events.
 
-ghost use Rattle.std.specs.Prelude.{◌≡◌, ℕ, ◌<◌, ◌++◌, ◌∷◌, [], List, length, take, drop, IfOk, OnOk, min, ◌-◌, ◌^◌};
+ghost use Rattle.std.specs.Prelude.{◌≡◌, ℕ, ◌<◌, ◌++◌, ◌∷◌, [], List, length, take, drop, IfOk, OnOk};
 ghost use Rattle.mrt_body.specs.declared.unit.Unit.{Unit as ReplayUnit};
 ghost use Rattle.rib_report.specs.Peers.{peers_of};
 ghost use Rattle.lane_deal.specs.Lanes.{lane_of_unit};
@@ -9,14 +9,17 @@ ghost use Rattle.lane_deal.specs.Schedules.{LanesState, dealt, took, after_turn,
 ghost use Rattle.lane_deal.specs.ShownLanes.{LaneShows, LanesShow, Shows};
 
 use crate::dealing::Dealing;
+use crate::holding::{HoldsSeats, exchange_seats};
 use crate::numbered::Numbered;
 use crate::peer_numbers::Peers;
+use crate::scheduled::Lanes;
 use crate::seats::Seats;
 use crate::sessions::Sessions;
 use crate::turn::Turn;
 use adj_rib::{AttrHash, SharedRoute};
-use bgp_prefix::{Memory, PrefixMap};
+use bgp_prefix::{Memory, PrefixMap, Sequence};
 use mrt_body::Unit;
+use rib_report::Seated;
 use std::alloc::Global;
 use std::collections::VecDeque;
 
@@ -28,11 +31,24 @@ pub struct OneLane<M: PrefixMap<SharedRoute>> {
     pub took: usize,
 }
 
-/// Lanes on one thread.
-#[derive(Drop)]
-pub struct Lanes<M: PrefixMap<SharedRoute>> {
-    undealt: VecDeque<Numbered>,
-    lanes: Vec<OneLane<M>>,
+/// A lane's sessions are those of its peers.
+impl<M: PrefixMap<SharedRoute> + Drop> HoldsSeats<M> for OneLane<M> {
+    ghost use Rattle.std.specs.Prelude.{refl};
+    ghost use Rattle.lane_deal.specs.OneLanes.{OneLaneState, one_lane_state};
+
+    ghost State = { OneLaneState M };
+
+    ghost state = { one_lane_state };
+
+    ghost held = { λ s. s.seats };
+
+    ghost with_held = { λ s list. record s { seats = list } };
+
+    fn exchange(&mut self, alloc: Global, list: &mut Sequence<Seated<M>>) {
+        exchange_seats(alloc, &mut self.seats, list);
+    }
+
+    ghost is_back = { λ s list. refl };
 }
 
 /// The units, each with its peer's number.
@@ -163,33 +179,4 @@ pub fn run_schedule<M: PrefixMap<SharedRoute> + Drop, D: Dealing>(
     let mut lanes = empty_lanes(alloc, workers)?;
     apply_all(alloc, &mut undealt, &mut lanes, turns, dealing)?;
     Ok(Lanes { undealt, lanes })
-}
-
-impl<M: PrefixMap<SharedRoute> + Drop> Lanes<M> {
-    /// How many units are not dealt.
-    pub fn undealt(&self) -> usize
-        ensures { (all : List ReplayUnit) (s : LanesState) → Shows all self.now s → result ≡ length s.undealt }
-    {
-        self.undealt.len()
-    }
-
-    /// How many units wait for a lane's worker.
-    pub fn waiting(&self, lane: usize) -> usize
-        ensures { (all : List ReplayUnit) (s : LanesState) → Shows all self.now s → result ≡ length (s.ring lane) }
-    {
-        match self.lanes.get(lane) {
-            Some(lane) => lane.ring.len(),
-            None => 0,
-        }
-    }
-
-    /// How many units a lane took.
-    pub fn took(&self, lane: usize) -> usize
-        ensures { (all : List ReplayUnit) (s : LanesState) → Shows all self.now s → result ≡ min (length (s.taken lane)) (2 ^ 64 - 1) }
-    {
-        match self.lanes.get(lane) {
-            Some(lane) => lane.took,
-            None => 0,
-        }
-    }
 }

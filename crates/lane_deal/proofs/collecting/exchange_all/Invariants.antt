@@ -2,4 +2,4 @@ use Rattle.lane_deal.specs.Collecting.{ExchangedBelow}
 use Rattle.lane_deal.proofs.collecting.exchange_all.Given as goal
 
 abbrev pub invariant-loop-lane : goal.invariant-loop-lane
-invariant-loop-lane g l = ExchangedBelow l.lane l.initial.workers l.workers l.initial.lists l.lists
+invariant-loop-lane g l = ExchangedBelow g.L.HoldsSeats.state g.L.HoldsSeats.held g.L.HoldsSeats.with_held l.lane l.initial.lanes l.lanes l.initial.lists l.lists
