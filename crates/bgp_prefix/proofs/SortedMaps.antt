@@ -68,7 +68,7 @@ found_of_any {V} p (e ∷ es) any =
       | false ↦ λ t h. let rest = found_of_any p es h in (rest.0, found_here _ _ _ rest.1)
     ] refl any
 
-prefix_rises : (a b : RouteKey) (p : IpPrefix) → key_cmp a b ≡ Less → ordering_index (prefix_cmp a.prefix p) ≤ ordering_index (prefix_cmp b.prefix p)
+pub prefix_rises : (a b : RouteKey) (p : IpPrefix) → key_cmp a b ≡ Less → ordering_index (prefix_cmp a.prefix p) ≤ ordering_index (prefix_cmp b.prefix p)
 prefix_rises a b p less =
     elim (prefix_cmp a.prefix b.prefix) as (λ r. prefix_cmp a.prefix b.prefix ≡ r → ordering_then r (nat_cmp a.id b.id) ≡ Less → ordering_index (prefix_cmp a.prefix p) ≤ ordering_index (prefix_cmp b.prefix p)) [
       | Less ↦ λ e h. index_le prefix_cmp prefix_cmp_total a.prefix b.prefix p e
@@ -85,10 +85,10 @@ prefixes_rise es p i j d sorted le in_range = elim (cases_order i j) [
 ]
 
 -- a prefix that is less, or greater, is another
-other_of_less : (q p : IpPrefix) → prefix_cmp q p ≡ Less → prefix_eq p q ≡ false
+pub other_of_less : (q p : IpPrefix) → prefix_cmp q p ≡ Less → prefix_eq p q ≡ false
 other_of_less q p e = sym (prefix_tied p q) ∙ ap is_eq (turn prefix_cmp prefix_cmp_total q p Less e)
 
-other_of_greater : (q p : IpPrefix) → prefix_cmp q p ≡ Greater → prefix_eq p q ≡ false
+pub other_of_greater : (q p : IpPrefix) → prefix_cmp q p ≡ Greater → prefix_eq p q ≡ false
 other_of_greater q p e = sym (prefix_tied p q) ∙ ap is_eq (turn prefix_cmp prefix_cmp_total q p Greater e)
 
 greater_of : (r : Ordering) → r ≢ Less → is_eq r ≡ false → r ≡ Greater
@@ -96,7 +96,7 @@ greater_of Less n e = absurd (n refl)
 greater_of Equal n e = cc
 greater_of Greater n e = refl
 
-greatest : (r : Ordering) → 2 ≤ ordering_index r → r ≡ Greater
+pub greatest : (r : Ordering) → 2 ≤ ordering_index r → r ≡ Greater
 greatest Less h = absurd (omega (arith, h))
 greatest Equal h = absurd (omega (arith, h))
 greatest Greater h = refl
@@ -169,7 +169,7 @@ first_key p = record { prefix = p; id = 0 }
 none_below : (n : ℕ) → nat_cmp n 0 ≢ Less
 none_below n e = omega (arith, ranked n 0 Less (sym e))
 
-lesser_prefix : (k : RouteKey) (p : IpPrefix) → key_cmp k (first_key p) ≡ Less → prefix_cmp k.prefix p ≡ Less
+pub lesser_prefix : (k : RouteKey) (p : IpPrefix) → key_cmp k (first_key p) ≡ Less → prefix_cmp k.prefix p ≡ Less
 lesser_prefix k p less =
     elim (prefix_cmp k.prefix p) as (λ r. ordering_then r (nat_cmp k.id 0) ≡ Less → r ≡ Less) [
       | Less ↦ λ h. refl

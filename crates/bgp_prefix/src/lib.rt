@@ -1,6 +1,7 @@
 //! IPv4 prefixes, the keys of routes, and finite maps from keys with the longest match.
 #![tactic(auto)]
 
+mod chunk;
 mod flat;
 mod key;
 mod key_set;
@@ -9,6 +10,7 @@ mod memory;
 mod prefix;
 mod radix;
 mod sequence;
+mod shelf;
 #[cfg(test)]
 mod tests;
 
@@ -20,3 +22,4 @@ pub use memory::Memory;
 pub use prefix::Prefix;
 pub use radix::Radix;
 pub use sequence::Sequence;
+pub use shelf::Shelf;

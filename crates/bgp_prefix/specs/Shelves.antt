@@ -1,0 +1,77 @@
+-- Lists of routes in arrays, and in chunks one after another.
+use Rattle.std.specs.Prelude.{◌≡◌, ℕ, zero, suc, ◌+◌, ◌-◌, ◌<◌, ◌≤◌, ◌⊎◌, true, false, not, T, List, [], ◌∷◌, ◌++◌, length, map, take, drop, slice_index_or, Option, Some, None}
+use Rattle.std.specs.List.{All, insert, remove}
+use Rattle.std.specs.List.Sorted.{IsPartitionPoint}
+use Rattle.std.specs.Ordering.{is_le}
+use Rattle.std.specs.declared.cmp.Ordering.TheVariants.{Less, Greater}
+use Rattle.std.specs.FinMap.{is_sorted}
+use Rattle.bgp_prefix.specs.Prefixes.{IpPrefix, IsIpPrefix, prefix_cmp}
+use Rattle.bgp_prefix.specs.Keys.{key_cmp, is_nil}
+use Rattle.bgp_prefix.specs.declared.key.RouteKey.{RouteKey}
+use lib.ListN.{replicate}
+
+-- the routes of three arrays; an identifier that is not there is 0
+abbrev pub routes_in : {V : Type 0} → List IpPrefix → List ℕ → List V → List (RouteKey × V)
+routes_in [] ids vs = []
+routes_in (p ∷ ps) ids [] = []
+routes_in (p ∷ ps) [] (v ∷ vs) = (record { prefix = p; id = 0 }, v) ∷ routes_in ps [] vs
+routes_in (p ∷ ps) (i ∷ is) (v ∷ vs) = (record { prefix = p; id = i }, v) ∷ routes_in ps is vs
+
+-- a value each, and either an identifier each or none
+pub record IsArrays {V : Type 0} (ps : List IpPrefix) (is : List ℕ) (vs : List V) : Type 0 where
+  pub values : length vs ≡ length ps
+  pub ids : (is ≡ []) ⊎ (length is ≡ length ps)
+
+-- the identifiers with one more, written out only once one isn't 0
+abbrev pub ids_put : ℕ → ℕ → ℕ → List ℕ → List ℕ
+ids_put len at zero [] = []
+ids_put len at (suc n) [] = insert (replicate len 0) at (suc n)
+ids_put len at id (i ∷ is) = insert (i ∷ is) at id
+
+abbrev pub ids_removed : ℕ → List ℕ → List ℕ
+ids_removed at [] = []
+ids_removed at (i ∷ is) = remove (i ∷ is) at
+
+abbrev pub in_chunks : {V : Type 0} → List (List (RouteKey × V)) → List (RouteKey × V)
+in_chunks [] = []
+in_chunks (c ∷ cs) = c ++ in_chunks cs
+
+abbrev pub first_key : {V : Type 0} → List (RouteKey × V) → RouteKey
+first_key [] = record { prefix = record { addr = 0; len = 0 }; id = 0 }
+first_key (e ∷ es) = e.0
+
+-- chunks that hold routes, in the order of their keys, and the first key of each
+pub record IsRows {V : Type 0} (ks : List RouteKey) (chunks : List (List (RouteKey × V))) : Type 0 where
+  pub sorted : T (is_sorted key_cmp (in_chunks chunks))
+  pub known : All (λ e. IsIpPrefix e.0.prefix) (in_chunks chunks)
+  pub held : All (λ c. is_nil c ≡ false) chunks
+  pub firsts : ks ≡ map first_key chunks
+
+-- what holds of each key of a list
+abbrev pub EachKey : {V : Type 0} → (RouteKey → Type 0) → List (RouteKey × V) → Type 0
+EachKey P [] = Unit {0}
+EachKey P (e ∷ es) = P e.0 × EachKey P es
+
+-- the chunk in which the key is, or would go
+pub record IsPlaceIn {V : Type 0} (chunks : List (List (RouteKey × V))) (key : RouteKey) (i : ℕ) : Type 0 where
+  pub in_range : i < length chunks
+  pub before : EachKey (λ k. key_cmp k key ≡ Less) (in_chunks (take i chunks))
+  pub after : EachKey (λ k. key_cmp k key ≡ Greater) (in_chunks (drop (suc i) chunks))
+
+-- the chunk in which the last prefix up to this one is, if any chunk has it
+pub record IsPlaceOf {V : Type 0} (chunks : List (List (RouteKey × V))) (last : IpPrefix) (i : ℕ) : Type 0 where
+  pub in_range : i < length chunks
+  pub before : EachKey (λ k. is_le (prefix_cmp k.prefix last) ≡ true) (in_chunks (take i chunks))
+  pub after : EachKey (λ k. is_le (prefix_cmp k.prefix last) ≡ false) (in_chunks (drop (suc i) chunks))
+  pub start : 0 < i → (d : List (RouteKey × V)) → is_le (prefix_cmp (first_key (slice_index_or chunks i d)).prefix last) ≡ true
+
+-- the last prefix up to this one, of a list in order
+abbrev pub IsBefore : {V : Type 0} → List (RouteKey × V) → ℕ → Option IpPrefix → Type 0
+IsBefore es place None = place ≡ 0
+IsBefore {V} es place (Some p) = (0 < place) × ((x : RouteKey × V) × (x ≡ slice_index_or es (place - 1) x) × (x.0.prefix ≡ p))
+
+pub record IsLastUpTo {V : Type 0} (es : List (RouteKey × V)) (last : IpPrefix) (p : Option IpPrefix) : Type 0 where
+  pub place : ℕ
+  pub inside : place ≤ length es
+  pub end : IsPartitionPoint (λ e. is_le (prefix_cmp e.0.prefix last) ≡ true) (λ e. is_le (prefix_cmp e.0.prefix last) ≡ false) es place
+  pub before : IsBefore es place p
