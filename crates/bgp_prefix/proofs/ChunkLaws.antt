@@ -2,18 +2,18 @@
 use Rattle.std.proofs.Common.{◌≡◌, ℕ, zero, suc, ◌+◌, ◌-◌, ◌<◌, ◌≤◌, Bool, true, false, T, List, [], ◌∷◌, ◌++◌, length, get_or, set, take, drop, map, cond, refl, sym, ap, ◌∙◌, subst, arith, inl, inr, ◌⊎◌}
 use Rattle.std.specs.List.{insert, remove}
 use Rattle.std.specs.List.Sorted.{IsPartitionPoint}
-use Rattle.std.specs.declared.cmp.Ordering.TheVariants.{Less, Equal, Greater}
+use Rattle.std.specs.declared.cmp.Ordering.TheVariants.{Less, Greater}
 use Rattle.std.specs.Ordering.{is_le}
 use Rattle.std.specs.FinMap.{is_sorted}
-use Rattle.std.proofs.lemmas.Bool.{cases_order, cases_lt}
+use Rattle.std.proofs.lemmas.Bool.{cases_lt}
 use Rattle.std.proofs.lemmas.List.Edits.{length-insert, length-remove}
 use Rattle.std.proofs.lemmas.List.Elements.{filter-append}
 use Rattle.bgp_prefix.specs.Maps.{paths_of}
-use Rattle.std.proofs.lemmas.List.{append-nil, append_assoc, map-append, get_or_default, length-take, length-drop, take_more}
+use Rattle.std.proofs.lemmas.List.{append-nil, append_assoc, map-append, length-take, length-drop, take_more}
 use Prim.Native.Nat.{min}
 use Rattle.bgp_prefix.specs.Prefixes.{IpPrefix, prefix_cmp, prefix_eq}
 use Rattle.bgp_prefix.specs.Keys.{key_cmp}
-use Rattle.bgp_prefix.specs.Searches.{IsAt, IsGap}
+use Rattle.bgp_prefix.specs.Searches.{IsGap}
 use Rattle.bgp_prefix.specs.Shelves.{routes_in, IsArrays, ids_put, ids_removed}
 use Rattle.bgp_prefix.specs.declared.key.RouteKey.{RouteKey}
 use Rattle.bgp_prefix.proofs.KeyLaws.{key_cmp_total}

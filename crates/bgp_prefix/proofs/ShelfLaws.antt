@@ -1,5 +1,5 @@
 -- Lists of routes in chunks: where a key lies, and changes of a chunk.
-use Rattle.std.proofs.Common.{◌≡◌, ◌≢◌, ℕ, zero, suc, ◌+◌, ◌-◌, ◌<◌, ◌≤◌, Bool, true, false, cond, not, ◌&&◌, T, List, [], ◌∷◌, ◌++◌, length, get_or, set, take, drop, map, Option, Some, None, refl, sym, ap, ◌∙◌, subst, arith, inl, inr}
+use Rattle.std.proofs.Common.{◌≡◌, ◌≢◌, ℕ, zero, suc, ◌+◌, ◌-◌, ◌==◌, ◌<◌, ◌≤◌, Bool, true, false, cond, not, ◌&&◌, T, List, [], ◌∷◌, ◌++◌, length, get_or, set, take, drop, map, Option, Some, None, Result, Ok, Err, OnErr, refl, sym, ap, ◌∙◌, subst, arith, inl, inr}
 use Rattle.std.specs.List.{All, insert, remove}
 use Rattle.std.specs.Ordering.{is_lt, is_le, is_eq, eq_by_cmp, ordering_index}
 use Rattle.std.specs.declared.cmp.Ordering.{Ordering}
@@ -7,13 +7,13 @@ use Rattle.std.specs.declared.cmp.Ordering.TheVariants.{Less, Equal, Greater}
 use Rattle.std.specs.FinMap.{find, put, is_sorted}
 use Rattle.std.specs.FinMap.Entries.{where_key, below_all, by_order, is_sorted-put, is_sorted-where_key}
 use Rattle.std.proofs.lemmas.Bool.{cases_lt}
-use Rattle.std.proofs.lemmas.List.{append_assoc, append-nil, map-append, map-set, length-set, set_split, take-append-drop, drop_more, drop_all, take_more, length-append, get_or_append_left, get_or-append_right, get_or_default, take-map, length-take, length-drop, length-map, get_or-drop}
+use Rattle.std.proofs.Math.Dec.{eqb-suc-zero}
+use Rattle.std.proofs.lemmas.List.{append_assoc, append-nil, map-append, map-set, take-append-drop, drop_all, take_more, length-append, get_or_append_left, get_or-append_right, get_or_default, take-map, length-take, length-drop, length-map, get_or-drop}
 use Rattle.std.proofs.lemmas.List.Edits.{insert_end}
-use Rattle.std.proofs.lemmas.List.Elements.{All-head, All-tail, All-cons, All-set, All-take, All-drop, All-append, All-get_or, All-filter, filter-append}
+use Rattle.std.proofs.lemmas.List.Elements.{All-head, All-tail, All-cons, All-set, All-take, All-drop, All-append, All-filter, filter-append}
 use Rattle.bgp_prefix.specs.Prefixes.{IpPrefix, IsIpPrefix, prefix_cmp, prefix_eq, contains, leading_bits}
 use Rattle.bgp_prefix.specs.Keys.{key_cmp, is_nil}
-use Rattle.bgp_prefix.specs.Searches.{IsAt, IsGap}
-use Rattle.bgp_prefix.specs.Shelves.{in_chunks, first_key, IsRows, EachKey, IsPlaceIn, IsPlaceOf, IsLastUpTo, IsBefore}
+use Rattle.bgp_prefix.specs.Shelves.{in_chunks, first_key, IsRows, EachKey, IsPlaceIn, IsPlaceOf, IsLastUpTo, IsBefore, IsCut, lesser_key}
 use Rattle.std.specs.List.Sorted.{IsPartitionPoint}
 use Rattle.std.specs.Option.{option_or}
 use Rattle.bgp_prefix.proofs.JumpLaws.{first_up_to, IsLimit, none_found, match_found, falls, IsLimit-miss}
@@ -39,15 +39,38 @@ tied_less a k e = ap is_eq (turn key_cmp key_cmp_total a k Less e)
 tied_greater : (a k : RouteKey) → key_cmp a k ≡ Greater → eq_by_cmp key_cmp k a ≡ false
 tied_greater a k e = ap is_eq (turn key_cmp key_cmp_total a k Greater e)
 
-get_map : {A B : Type 0} (f : A → B) (xs : List A) (i : ℕ) (a : A) (b : B) → i < length xs → get_or (map f xs) i b ≡ f (get_or xs i a)
+pub get_map : {A B : Type 0} (f : A → B) (xs : List A) (i : ℕ) (a : A) (b : B) → i < length xs → get_or (map f xs) i b ≡ f (get_or xs i a)
 get_map f [] i a b lt = absurd (omega (arith, lt))
 get_map f (x ∷ xs) zero a b lt = refl
 get_map f (x ∷ xs) (suc i) a b lt = get_map f xs i a b (omega (arith, lt))
 
-drop_map : {A B : Type 0} (f : A → B) (n : ℕ) (xs : List A) → drop n (map f xs) ≡ map f (drop n xs)
+pub drop_map : {A B : Type 0} (f : A → B) (n : ℕ) (xs : List A) → drop n (map f xs) ≡ map f (drop n xs)
 drop_map f zero xs = refl
 drop_map f (suc n) [] = refl
 drop_map f (suc n) (x ∷ xs) = drop_map f n xs
+
+pub part_read : {A B : Type 0} (f : A → B) (xs : List A) (i : ℕ) (x : A) → i < length xs → x ≡ get_or xs i x → f x ≡ get_or (map f xs) i (f x)
+part_read f xs i x lt read = ap f read ∙ sym (get_map f xs i x (f x) lt)
+
+pub map_insert : {A B : Type 0} (f : A → B) (xs : List A) (i : ℕ) (x : A) → map f (insert xs i x) ≡ insert (map f xs) i (f x)
+map_insert f [] zero x = refl
+map_insert f [] (suc i) x = refl
+map_insert f (y ∷ xs) zero x = refl
+map_insert f (y ∷ xs) (suc i) x = ap (λ t. f y ∷ t) (map_insert f xs i x)
+
+pub empty_parts : {A B : Type 0} (f : A → B) (xs : List A) (n : ℕ) → n ≡ length xs → (n == 0) ≡ is_nil (map f xs)
+empty_parts f [] n e = rw e refl
+empty_parts f (x ∷ xs) n e = rw e (eqb-suc-zero (length xs))
+
+pub on_err : {X Y Q : Type 0} (r : Result X Y) → Q → OnErr r Q
+on_err (Ok x) q = tt
+on_err (Err e) q = q
+
+pub map_remove : {A B : Type 0} (f : A → B) (xs : List A) (i : ℕ) → map f (remove xs i) ≡ remove (map f xs) i
+map_remove f [] zero = refl
+map_remove f [] (suc i) = refl
+map_remove f (y ∷ xs) zero = refl
+map_remove f (y ∷ xs) (suc i) = ap (λ t. f y ∷ t) (map_remove f xs i)
 
 less_past : (key k j : RouteKey) → key_cmp k j ≡ Less → key_cmp j key ≢ Greater → key_cmp k key ≡ Less
 less_past key k j less other = elim (key_cmp j key) as (λ r. key_cmp j key ≡ r → key_cmp k key ≡ Less) [
@@ -58,6 +81,14 @@ less_past key k j less other = elim (key_cmp j key) as (λ r. key_cmp j key ≡ 
 
 more_past : (key j k : RouteKey) → key_cmp j k ≡ Less → key_cmp j key ≡ Greater → key_cmp k key ≡ Greater
 more_past key j k less above = turn key_cmp key_cmp_total key k Less (key_cmp_total.trans key j k (turn key_cmp key_cmp_total j key Greater above) less)
+
+All-first : {X : Type 0} (P : X → Type 0) (xs ys : List X) → All P (xs ++ ys) → All P xs
+All-first P [] ys all = λ j d lt. absurd (omega (arith, lt))
+All-first P (x ∷ xs) ys all = All-cons P x xs (All-head P x (xs ++ ys) all) (All-first P xs ys (All-tail P x (xs ++ ys) all))
+
+All-second : {X : Type 0} (P : X → Type 0) (xs ys : List X) → All P (xs ++ ys) → All P ys
+All-second P [] ys all = all
+All-second P (x ∷ xs) ys all = All-second P xs ys (All-tail P x (xs ++ ys) all)
 
 All-insert : {X : Type 0} (P : X → Type 0) (xs : List X) (i : ℕ) (x : X) → P x → All P xs → All P (insert xs i x)
 All-insert P xs i x one all = All-append P (take i xs) (x ∷ drop i xs) (All-take P i xs all) (All-cons P x (drop i xs) one (All-drop P i xs all))
@@ -101,7 +132,7 @@ module _ {V : Type 0} where
   each_weaker P Q [] f h = tt
   each_weaker P Q (e ∷ es) f h = (f e.0 h.0, each_weaker P Q es f h.1)
 
-  find_below : (k : RouteKey) (es : List (RouteKey × V)) → EachBelow k es → find key_cmp k es ≡ None
+  pub find_below : (k : RouteKey) (es : List (RouteKey × V)) → EachBelow k es → find key_cmp k es ≡ None
   find_below k [] h = refl
   find_below k (e ∷ es) h = ap (λ b. cond b (Some e.1) (find key_cmp k es)) (tied_less e.0 k h.0) ∙ find_below k es h.1
 
@@ -270,6 +301,40 @@ module _ {V : Type 0} where
   put_held k v [] = refl
   put_held k v (e ∷ es) = elim (key_cmp k e.0) as (λ r. is_nil (by_order r ((k, v) ∷ e ∷ es) ((e.0, v) ∷ es) (e ∷ put key_cmp k v es)) ≡ false) [ Less ↦ refl | Equal ↦ refl | Greater ↦ refl ]
 
+  -- the first key of the routes of parts, and of parts of which none is empty
+  pub first_in : (ks : List RouteKey) (cs : List (List (RouteKey × V))) (k : RouteKey) → IsRows ks cs → 0 < length (in_chunks cs) → ((d : RouteKey) → k ≡ get_or ks 0 d) → k ≡ first_key (in_chunks cs)
+  first_in ks cs k rows some read = read k ∙ ap (λ (t : List RouteKey). get_or t 0 k) rows.firsts ∙ head cs rows.held some
+    where
+      head : (cs : List (List (RouteKey × V))) → All (λ c. is_nil c ≡ false) cs → 0 < length (in_chunks cs) → get_or (map first_key cs) 0 k ≡ first_key (in_chunks cs)
+      head [] held some = absurd (omega (arith, some))
+      head ([] ∷ cs) held some = let no = All-head (λ (c : List (RouteKey × V)). is_nil c ≡ false) [] cs held in cc
+      head ((e ∷ c) ∷ cs) held some = refl
+
+  pub some_in : (ks : List RouteKey) (cs : List (List (RouteKey × V))) → IsRows ks cs → 0 < length (in_chunks cs) → 0 < length ks
+  some_in ks [] rows some = absurd (omega (arith, some))
+  some_in ks (c ∷ cs) rows some = omega (arith, ap length rows.firsts)
+
+  pub rows_one : (k : RouteKey) (v : V) → IsIpPrefix k.prefix → IsRows (k ∷ []) (((k, v) ∷ []) ∷ [])
+  rows_one k v known = record {
+    sorted = tt;
+    known = All-cons (λ (e : RouteKey × V). IsIpPrefix e.0.prefix) (k, v) [] known (λ j d lt. absurd (omega (arith, lt)));
+    held = All-cons (λ (c : List (RouteKey × V)). is_nil c ≡ false) ((k, v) ∷ []) [] refl (λ j d lt. absurd (omega (arith, lt)));
+    firsts = refl;
+  }
+
+  pub empty_in : (cs : List (List (RouteKey × V))) → All (λ c. is_nil c ≡ false) cs → is_nil cs ≡ is_nil (in_chunks cs)
+  empty_in [] held = refl
+  empty_in ([] ∷ cs) held = let no = All-head (λ (c : List (RouteKey × V)). is_nil c ≡ false) [] cs held in cc
+  empty_in ((e ∷ c) ∷ cs) held = refl
+
+  pub first_put : (k : RouteKey) (v : V) (es : List (RouteKey × V)) → is_nil es ≡ false → first_key (put key_cmp k v es) ≡ lesser_key k (first_key es)
+  first_put k v [] held = cc
+  first_put k v (e ∷ es) held = elim (key_cmp k e.0) as (λ r. first_key (by_order r ((k, v) ∷ e ∷ es) ((e.0, v) ∷ es) (e ∷ put key_cmp k v es)) ≡ cond (is_lt r) k e.0) [ Less ↦ refl | Equal ↦ refl | Greater ↦ refl ]
+
+  -- the first key of a part in which one was put
+  pub lesser_at : (ks : List RouteKey) (cs : List (List (RouteKey × V))) (k : RouteKey) (i : ℕ) (v : V) (d : List (RouteKey × V)) (z : RouteKey) → IsRows ks cs → i < length cs → lesser_key k (get_or ks i z) ≡ first_key (put key_cmp k v (get_or cs i d))
+  lesser_at ks cs k i v d z rows lt = ap (lesser_key k) (ap (λ (t : List RouteKey). get_or t i z) rows.firsts ∙ get_map first_key cs i d z lt) ∙ sym (first_put k v (get_or cs i d) (rows.held i d lt))
+
   -- a chunk with a route put
   pub rows_put : (ks : List RouteKey) (cs : List (List (RouteKey × V))) (k : RouteKey) (i : ℕ) (v : V) (d : List (RouteKey × V)) → IsRows ks cs → IsPlaceIn cs k i → IsIpPrefix k.prefix → IsRows (set ks i (first_key (put key_cmp k v (get_or cs i d)))) (set cs i (put key_cmp k v (get_or cs i d)))
   rows_put ks cs k i v d rows is known = record {
@@ -293,6 +358,10 @@ module _ {V : Type 0} where
   held_of [] lt = absurd (omega (arith, lt))
   held_of (e ∷ es) lt = refl
 
+  pub length_nil : (es : List (RouteKey × V)) → is_nil es ≡ true → length es ≡ 0
+  length_nil [] h = refl
+  length_nil (e ∷ es) h = cc
+
   pub length_held : (es : List (RouteKey × V)) → is_nil es ≡ false → 0 < length es
   length_held [] h = cc
   length_held (e ∷ es) h = omega arith
@@ -306,23 +375,48 @@ module _ {V : Type 0} where
   first_is [] k lt h = absurd (omega (arith, lt))
   first_is (e ∷ es) k lt h = h e
 
-  -- a chunk in two
-  pub rows_split : (ks : List RouteKey) (cs : List (List (RouteKey × V))) (i : ℕ) (d : List (RouteKey × V)) → IsRows ks cs → i < length cs → 128 ≤ length (get_or cs i d) → (in_chunks (insert (set cs i (take 64 (get_or cs i d))) (i + 1) (drop 64 (get_or cs i d))) ≡ in_chunks cs) × IsRows (insert ks (i + 1) (first_key (drop 64 (get_or cs i d)))) (insert (set cs i (take 64 (get_or cs i d))) (i + 1) (drop 64 (get_or cs i d)))
-  rows_split ks cs i d rows lt long =
-      let c = get_or cs i d in
+  first_of_both : (a b c : List (RouteKey × V)) → 0 < length a → a ++ b ≡ c → first_key a ≡ first_key c
+  first_of_both [] b c some whole = absurd (omega (arith, some))
+  first_of_both (e ∷ a) b c some whole = ap first_key whole
+
+  -- a part in two
+  pub rows_split : (ks : List RouteKey) (cs : List (List (RouteKey × V))) (i : ℕ) (a b : List (RouteKey × V)) (d : List (RouteKey × V)) → IsRows ks cs → i < length cs → IsCut (get_or cs i d) a b → (in_chunks (insert (set cs i a) (i + 1) b) ≡ in_chunks cs) × IsRows (insert ks (i + 1) (first_key b)) (insert (set cs i a) (i + 1) b)
+  rows_split ks cs i a b d rows lt cut =
       let one : i + 1 ≡ suc i = omega arith in
-      let same : in_chunks (insert (set cs i (take 64 c)) (suc i) (drop 64 c)) ≡ in_chunks cs = split_chunks cs i (take 64 c) (drop 64 c) d lt (take-append-drop 64 c) in
-      let low : is_nil (take 64 c) ≡ false = held_of (take 64 c) (omega (arith, long, length-take 64 c)) in
-      let high : is_nil (drop 64 c) ≡ false = held_of (drop 64 c) (omega (arith, long, length-drop 64 c)) in
+      let same : in_chunks (insert (set cs i a) (suc i) b) ≡ in_chunks cs = split_chunks cs i a b d lt cut.whole in
       rw one (
         same,
         record {
           sorted = subst (λ (es : List (RouteKey × V)). T (is_sorted key_cmp es)) (sym same) rows.sorted;
           known = subst (λ (es : List (RouteKey × V)). All (λ e. IsIpPrefix e.0.prefix) es) (sym same) rows.known;
-          held = All-insert (λ x. is_nil x ≡ false) (set cs i (take 64 c)) (suc i) (drop 64 c) high (All-set (λ x. is_nil x ≡ false) cs i (take 64 c) low rows.held);
-          firsts = ap (λ (t : List RouteKey). insert t (suc i) (first_key (drop 64 c))) rows.firsts ∙ sym (split_firsts cs i (take 64 c) (drop 64 c) d lt (first_taken 64 c (omega arith)));
+          held = All-insert (λ x. is_nil x ≡ false) (set cs i a) (suc i) b (held_of b cut.high_held) (All-set (λ x. is_nil x ≡ false) cs i a (held_of a cut.low_held) rows.held);
+          firsts = ap (λ (t : List RouteKey). insert t (suc i) (first_key b)) rows.firsts ∙ sym (split_firsts cs i a b d lt (first_of_both a b (get_or cs i d) cut.low_held cut.whole));
         },
       )
+
+  length_all : (cs : List (List (RouteKey × V))) → All (λ c. is_nil c ≡ false) cs → length cs ≤ length (in_chunks cs)
+  length_all [] held = omega arith
+  length_all (c ∷ cs) held =
+      let one = length_held c (All-head (λ (x : List (RouteKey × V)). is_nil x ≡ false) c cs held) in
+      omega (arith, length-append c (in_chunks cs), one, length_all cs (All-tail (λ (x : List (RouteKey × V)). is_nil x ≡ false) c cs held))
+
+  -- the first parts, and the others
+  pub rows_cut : (ks : List RouteKey) (cs : List (List (RouteKey × V))) (n : ℕ) → IsRows ks cs → 0 < n → n < length cs → record { low : IsRows (take n ks) (take n cs); high : IsRows (drop n ks) (drop n cs); cut : IsCut (in_chunks cs) (in_chunks (take n cs)) (in_chunks (drop n cs)) }
+  rows_cut ks cs n rows some less =
+      let whole : in_chunks (take n cs) ++ in_chunks (drop n cs) ≡ in_chunks cs = sym (chunks_append (take n cs) (drop n cs)) ∙ ap in_chunks (take-append-drop n cs) in
+      let parts = sorted_parts (in_chunks (take n cs)) (in_chunks (drop n cs)) (subst (λ (es : List (RouteKey × V)). T (is_sorted key_cmp es)) (sym whole) rows.sorted) in
+      let known : All (λ (e : RouteKey × V). IsIpPrefix e.0.prefix) (in_chunks (take n cs) ++ in_chunks (drop n cs)) = subst (λ (es : List (RouteKey × V)). All (λ e. IsIpPrefix e.0.prefix) es) (sym whole) rows.known in
+      let low : All (λ (c : List (RouteKey × V)). is_nil c ≡ false) (take n cs) = All-take (λ c. is_nil c ≡ false) n cs rows.held in
+      let high : All (λ (c : List (RouteKey × V)). is_nil c ≡ false) (drop n cs) = All-drop (λ c. is_nil c ≡ false) n cs rows.held in
+      record {
+        low = record { sorted = parts.0; known = All-first (λ (e : RouteKey × V). IsIpPrefix e.0.prefix) (in_chunks (take n cs)) (in_chunks (drop n cs)) known; held = low; firsts = ap (take n) rows.firsts ∙ take-map first_key n cs };
+        high = record { sorted = parts.1; known = All-second (λ (e : RouteKey × V). IsIpPrefix e.0.prefix) (in_chunks (take n cs)) (in_chunks (drop n cs)) known; held = high; firsts = ap (drop n) rows.firsts ∙ drop_map first_key n cs };
+        cut = record {
+          whole = whole;
+          low_held = omega (arith, some, less, length-take n cs, length_all (take n cs) low);
+          high_held = omega (arith, less, length-drop n cs, length_all (drop n cs) high);
+        };
+      }
 
   -- one more chunk at the end
   pub rows_push : (ks : List RouteKey) (cs : List (List (RouteKey × V))) (k : RouteKey) (v : V) → IsRows ks cs → EachKey (λ j. key_cmp j k ≡ Less) (in_chunks cs) → IsIpPrefix k.prefix → (in_chunks (insert cs (length cs) ((k, v) ∷ [])) ≡ put key_cmp k v (in_chunks cs)) × IsRows (insert ks (length ks) k) (insert cs (length cs) ((k, v) ∷ []))
@@ -363,12 +457,6 @@ module _ {V : Type 0} where
   remove_set (b ∷ cs) zero c = refl
   remove_set (b ∷ cs) (suc i) c = ap (λ t. b ∷ t) (remove_set cs i c)
 
-  map_remove : (cs : List (List (RouteKey × V))) (i : ℕ) → map first_key (remove cs i) ≡ remove (map first_key cs) i
-  map_remove [] zero = refl
-  map_remove [] (suc i) = refl
-  map_remove (b ∷ cs) zero = refl
-  map_remove (b ∷ cs) (suc i) = ap (λ t. first_key b ∷ t) (map_remove cs i)
-
   none_of : (c : List (RouteKey × V)) → length c ≡ 0 → c ≡ []
   none_of [] h = refl
   none_of (e ∷ c) h = absurd (omega (arith, h))
@@ -383,7 +471,7 @@ module _ {V : Type 0} where
           sorted = subst (λ (es : List (RouteKey × V)). T (is_sorted key_cmp es)) (sym same) (is_sorted-where_key key_cmp (λ x. not (eq_by_cmp key_cmp k x)) (in_chunks cs) rows.sorted);
           known = subst (λ (es : List (RouteKey × V)). All (λ e. IsIpPrefix e.0.prefix) es) (sym same) (without_known k (in_chunks cs) rows.known);
           held = subst (λ (t : List (List (RouteKey × V))). All (λ x. is_nil x ≡ false) t) (sym (remove_set cs i c)) (All-append (λ x. is_nil x ≡ false) (take i cs) (drop (suc i) cs) (All-take (λ x. is_nil x ≡ false) i cs rows.held) (All-drop (λ x. is_nil x ≡ false) (suc i) cs rows.held));
-          firsts = ap (λ (t : List RouteKey). remove t i) rows.firsts ∙ sym (map_remove cs i) ∙ ap (map first_key) (sym (remove_set cs i c));
+          firsts = ap (λ (t : List RouteKey). remove t i) rows.firsts ∙ sym (map_remove first_key cs i) ∙ ap (map first_key) (sym (remove_set cs i c));
         },
       )
 
@@ -394,14 +482,25 @@ module _ {V : Type 0} where
   each_from k [] h = tt
   each_from k (e ∷ es) h = (h 0 e (omega arith), each_from k es (λ j d lt. h (suc j) d (omega (arith, lt))))
 
-  -- a key that would go at the end of the last chunk is above all
-  pub last_of : (cs : List (List (RouteKey × V))) (k : RouteKey) (i n : ℕ) (d : List (RouteKey × V)) → IsPlaceIn cs k i → i + 1 ≡ length cs → IsGap key_cmp (get_or cs i d) k n → n ≡ length (get_or cs i d) → EachBelow k (in_chunks cs)
-  last_of cs k i n d is last gap end =
+  pub ends_in : (es : List (RouteKey × V)) (k last : RouteKey) → T (is_sorted key_cmp es) → 0 < length es → ((d : RouteKey × V) → last ≡ (get_or es (length es - 1) d).0) → key_cmp last k ≡ Less → EachBelow k es
+  ends_in es k last sorted some read less = each_from k es (λ j d lt. elim (cases_lt j (length es - 1)) [
+    | inl early ↦ key_cmp_total.trans (get_or es j d).0 last k (subst (λ (q : RouteKey). key_cmp (get_or es j d).0 q ≡ Less) (sym (read d)) (sorted_at key_cmp key_cmp_total es j (length es - 1) d sorted early (omega (arith, some)))) less
+    | inr late ↦ let same : length es - 1 ≡ j = omega (arith, lt, late) in subst (λ (n : ℕ). key_cmp (get_or es n d).0 k ≡ Less) same (subst (λ (q : RouteKey). key_cmp q k ≡ Less) (read d) less)
+  ])
+
+  -- a key above the last part is above all
+  pub last_of : (ks : List RouteKey) (cs : List (List (RouteKey × V))) (k : RouteKey) (i : ℕ) (d : List (RouteKey × V)) → IsRows ks cs → i + 1 ≡ length cs → EachBelow k (get_or cs i d) → EachBelow k (in_chunks cs)
+  last_of ks cs k i d rows last below =
+      let lt : i < length cs = omega (arith, last) in
       let rest : drop (suc i) cs ≡ [] = drop_all (suc i) cs (omega (arith, last)) in
-      let whole : in_chunks cs ≡ in_chunks (take i cs) ++ (get_or cs i d ++ in_chunks (drop (suc i) cs)) = around cs i d is.in_range in
-      let chunk : EachBelow k (get_or cs i d) = each_from k (get_or cs i d) (λ j e lt. gap.before j e (omega (arith, lt, end))) in
+      let whole : in_chunks cs ≡ in_chunks (take i cs) ++ (get_or cs i d ++ in_chunks (drop (suc i) cs)) = around cs i d lt in
       let after : EachBelow k (in_chunks (drop (suc i) cs)) = subst (λ (t : List (List (RouteKey × V))). EachBelow k (in_chunks t)) (sym rest) tt in
-      subst (λ (es : List (RouteKey × V)). EachBelow k es) (sym whole) (each_append (λ j. key_cmp j k ≡ Less) (in_chunks (take i cs)) (get_or cs i d ++ in_chunks (drop (suc i) cs)) is.before (each_append (λ j. key_cmp j k ≡ Less) (get_or cs i d) (in_chunks (drop (suc i) cs)) chunk after))
+      let before : EachBelow k (in_chunks (take i cs)) = front (in_chunks (take i cs)) (get_or cs i d) (in_chunks (drop (suc i) cs)) (subst (λ (es : List (RouteKey × V)). T (is_sorted key_cmp es)) whole rows.sorted) (rows.held i d lt) below in
+      subst (λ (es : List (RouteKey × V)). EachBelow k es) (sym whole) (each_append (λ j. key_cmp j k ≡ Less) (in_chunks (take i cs)) (get_or cs i d ++ in_chunks (drop (suc i) cs)) before (each_append (λ j. key_cmp j k ≡ Less) (get_or cs i d) (in_chunks (drop (suc i) cs)) below after))
+    where
+      front : (es c bs : List (RouteKey × V)) → T (is_sorted key_cmp (es ++ (c ++ bs))) → is_nil c ≡ false → EachBelow k c → EachBelow k es
+      front es [] bs sorted held below = cc
+      front es (e ∷ c) bs sorted held below = each_weaker (λ j. key_cmp j e.0 ≡ Less) (λ j. key_cmp j k ≡ Less) es (λ j less. key_cmp_total.trans j e.0 k less below.0) (each_before e.0 e.1 es (c ++ bs) sorted)
 
   each_at : (P : RouteKey → Type 0) (es : List (RouteKey × V)) (j : ℕ) (d : RouteKey × V) → EachKey P es → j < length es → P (get_or es j d).0
   each_at P [] j d h lt = absurd (omega (arith, lt))
@@ -474,6 +573,21 @@ module _ {V : Type 0} where
             let x : RouteKey × V = get_or c (n - 1) e in
             let lt : n - 1 < length c = omega (arith, inside, some) in
             (omega (arith, some), (x, sym (at x ∙ get_or_default c (n - 1) x e lt), sym (has e)))
+
+  pub last_here : (es : List (RouteKey × V)) (p : IpPrefix) (n : ℕ) (q : IpPrefix) → 0 < n → n ≤ length es → IsEnd p es n → ((d : RouteKey × V) → q ≡ (get_or es (n - 1) d).0.prefix) → IsLastUpTo es p (Some q)
+  last_here [] p n q some inside end has = absurd (omega (arith, some, inside))
+  last_here (e ∷ es) p n q some inside end has =
+      let lt : n - 1 < length (e ∷ es) = omega (arith, some, inside) in
+      let x : RouteKey × V = get_or (e ∷ es) (n - 1) e in
+      record { place = n; inside = inside; end = end; before = (some, (x, get_or_default (e ∷ es) (n - 1) e x lt, sym (has e))) }
+
+  -- the last prefix up to one, by the part that has it
+  pub last_in : (ks : List RouteKey) (cs : List (List (RouteKey × V))) (p : IpPrefix) (i : ℕ) (c : List (RouteKey × V)) (r : Option IpPrefix) → IsRows ks cs → IsPlaceOf cs p i → c ≡ get_or cs i c → IsLastUpTo c p r → IsLastUpTo (in_chunks cs) p r
+  last_in ks cs p i c None rows is read last = none_before ks cs p i last.place c rows is read last.inside last.end last.before
+  last_in ks cs p i c (Some q) rows is read last =
+      let b = last.before in
+      let lt : last.place - 1 < length c = omega (arith, last.inside, b.0) in
+      some_before ks cs p i last.place c rows is read last.inside last.end b.0 q (λ d. sym b.1.2 ∙ ap (λ (x : RouteKey × V). x.0.prefix) (b.1.1 ∙ get_or_default c (last.place - 1) b.1.0 d lt))
 
   paths_none : (p : IpPrefix) (es : List (RouteKey × V)) → EachKey (λ k. prefix_eq p k.prefix ≡ false) es → paths_of p es ≡ []
   paths_none p [] h = refl

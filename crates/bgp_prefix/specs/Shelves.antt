@@ -1,8 +1,8 @@
 -- Lists of routes in arrays, and in chunks one after another.
-use Rattle.std.specs.Prelude.{◌≡◌, ℕ, zero, suc, ◌+◌, ◌-◌, ◌<◌, ◌≤◌, ◌⊎◌, true, false, not, T, List, [], ◌∷◌, ◌++◌, length, map, take, drop, slice_index_or, Option, Some, None}
+use Rattle.std.specs.Prelude.{◌≡◌, ℕ, zero, suc, ◌-◌, ◌<◌, ◌≤◌, ◌⊎◌, true, false, cond, T, List, [], ◌∷◌, ◌++◌, length, map, take, drop, slice_index_or, Option, Some, None}
 use Rattle.std.specs.List.{All, insert, remove}
 use Rattle.std.specs.List.Sorted.{IsPartitionPoint}
-use Rattle.std.specs.Ordering.{is_le}
+use Rattle.std.specs.Ordering.{is_lt, is_le}
 use Rattle.std.specs.declared.cmp.Ordering.TheVariants.{Less, Greater}
 use Rattle.std.specs.FinMap.{is_sorted}
 use Rattle.bgp_prefix.specs.Prefixes.{IpPrefix, IsIpPrefix, prefix_cmp}
@@ -40,12 +40,26 @@ abbrev pub first_key : {V : Type 0} → List (RouteKey × V) → RouteKey
 first_key [] = record { prefix = record { addr = 0; len = 0 }; id = 0 }
 first_key (e ∷ es) = e.0
 
+-- the key that comes first
+abbrev pub lesser_key : RouteKey → RouteKey → RouteKey
+lesser_key k j = cond (is_lt (key_cmp k j)) k j
+
 -- chunks that hold routes, in the order of their keys, and the first key of each
 pub record IsRows {V : Type 0} (ks : List RouteKey) (chunks : List (List (RouteKey × V))) : Type 0 where
   pub sorted : T (is_sorted key_cmp (in_chunks chunks))
   pub known : All (λ e. IsIpPrefix e.0.prefix) (in_chunks chunks)
   pub held : All (λ c. is_nil c ≡ false) chunks
   pub firsts : ks ≡ map first_key chunks
+
+-- the routes of parts, one part after another
+abbrev pub routes_of : {A V : Type 0} → (A → List (RouteKey × V)) → List A → List (RouteKey × V)
+routes_of routes parts = in_chunks (map routes parts)
+
+-- a list in two, neither of them empty
+pub record IsCut {V : Type 0} (es low high : List (RouteKey × V)) : Type 0 where
+  pub whole : low ++ high ≡ es
+  pub low_held : 0 < length low
+  pub high_held : 0 < length high
 
 -- what holds of each key of a list
 abbrev pub EachKey : {V : Type 0} → (RouteKey → Type 0) → List (RouteKey × V) → Type 0

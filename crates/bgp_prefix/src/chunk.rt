@@ -12,22 +12,16 @@ ghost use Rattle.bgp_prefix.specs.Shelves.{ids_put, ids_removed};
 
 use crate::key::RouteKey;
 use crate::memory::Memory;
+use crate::part::{HALF, Part, STEP, WHOLE};
 use crate::prefix::Prefix;
 use std::alloc::Global;
 use std::cmp::Ordering;
 use std::marker::Model;
 use std::mem;
 
-/// The most routes of a chunk.
-pub(crate) const WHOLE: usize = 128;
-/// How many a chunk keeps of those when it is split.
-const HALF: usize = 64;
-/// By how many routes the room of an array grows.
-const STEP: usize = 16;
-
 /// A list of routes, in three arrays: no identifiers are written while all are 0.
 #[derive(Drop)]
-pub struct Chunk<V> {
+pub(crate) struct Chunk<V> {
     keys: Vec<Prefix>,
     ids: Vec<u32>,
     values: Vec<V>,
@@ -46,39 +40,15 @@ impl<V> Model for Chunk<V> {
 }
 
 impl<V: Drop> Chunk<V> {
-    /// A chunk of no routes. It takes no memory.
-    pub(crate) fn new(alloc: Global) -> Chunk<V>
-        ensures { result ≡ [] }
-    {
-        Chunk {
-            keys: Vec::new(alloc),
-            ids: Vec::new(alloc),
-            values: Vec::new(alloc),
-        }
-    }
-
-    /// A chunk of one route.
-    pub(crate) fn one(alloc: Global, key: RouteKey, value: V) -> Result<Chunk<V>, Memory>
-        ensures { IfOk result (λ one. one ≡ (key, value) ∷ []) }
-    {
-        let mut keys = Vec::with_capacity(alloc, STEP)?;
-        let mut values = Vec::with_capacity(alloc, STEP)?;
-        let mut ids = Vec::new(alloc);
-        put_id(alloc, &mut ids, 0, 0, key.id)?;
-        put(&mut keys, 0, key.prefix);
-        put(&mut values, 0, value);
-        Ok(Chunk { keys, ids, values })
-    }
-
-    /// The number of routes.
-    pub(crate) fn len(&self) -> usize
+    // The number of routes.
+    fn len(&self) -> usize
         ensures { result ≡ length self.now }
     {
         self.keys.len()
     }
 
-    /// The key of a route.
-    pub(crate) fn key_at(&self, at: usize) -> RouteKey
+    // The key of a route.
+    fn key_at(&self, at: usize) -> RouteKey
         requires { at < length self.now }
         ensures { (d : _) → result ≡ (slice_index_or self.now at d).0 }
     {
@@ -88,16 +58,16 @@ impl<V: Drop> Chunk<V> {
         }
     }
 
-    /// The value of a route.
-    pub(crate) fn value_at(&self, at: usize) -> &V
+    // The value of a route.
+    fn value_at(&self, at: usize) -> &V
         requires { at < length self.now }
         ensures { (d : _) → result.now ≡ (slice_index_or self.now at d).1 }
     {
         &self.values[at]
     }
 
-    /// Where a key is, or would go. The end is tried first, since a RIB dump comes in order.
-    pub(crate) fn search(&self, key: &RouteKey) -> Result<usize, usize>
+    // Where a key is, or would go. The end is tried first, since a RIB dump comes in order.
+    fn search(&self, key: &RouteKey) -> Result<usize, usize>
         requires { T (is_sorted key_cmp self.now) }
         ensures found { IfOk result (λ i. IsAt key_cmp self.now key.now i) }
         ensures absent { IfErr result (λ i. IsGap key_cmp self.now key.now i) }
@@ -120,8 +90,8 @@ impl<V: Drop> Chunk<V> {
         Err(low)
     }
 
-    /// Sets the value of a route, and gives the one before.
-    pub(crate) fn set(&mut self, at: usize, value: V) -> V
+    // Sets the value of a route, and gives the one before.
+    fn set(&mut self, at: usize, value: V) -> V
         requires { at < length self.old }
         ensures before { (d : _) → result ≡ (slice_index_or self.old at d).1 }
         ensures set { (d : _) → self.new ≡ slice_set self.old at ((slice_index_or self.old at d).0, value) }
@@ -129,16 +99,10 @@ impl<V: Drop> Chunk<V> {
         exchange(&mut self.values, at, value)
     }
 
-    /// Puts a route at a place. An `Err` changes nothing.
-    pub(crate) fn insert(
-        &mut self,
-        alloc: Global,
-        at: usize,
-        key: RouteKey,
-        value: V,
-    ) -> Result<(), Memory>
+    // Puts a route at a place. An `Err` changes nothing.
+    fn put_at(&mut self, alloc: Global, at: usize, key: &RouteKey, value: V) -> Result<(), Memory>
         requires { at ≤ length self.old }
-        ensures { self.new ≡ (if is_ok result then insert self.old at (key, value) else self.old) }
+        ensures { self.new ≡ (if is_ok result then insert self.old at (key.now, value) else self.old) }
     {
         make_room(&mut self.keys)?;
         make_room(&mut self.values)?;
@@ -148,45 +112,8 @@ impl<V: Drop> Chunk<V> {
         Ok(())
     }
 
-    /// Sets the value of a key where a search of it has ended, and gives the one before. An `Err`
-    /// changes nothing.
-    pub(crate) fn store(
-        &mut self,
-        alloc: Global,
-        found: Result<usize, usize>,
-        key: RouteKey,
-        value: V,
-    ) -> Result<Option<V>, Memory>
-        requires sorted { T (is_sorted key_cmp self.old) }
-        requires at { IfOk found (λ i. IsAt key_cmp self.old key i) }
-        requires gap { IfErr found (λ i. IsGap key_cmp self.old key i) }
-        ensures before { IfOk result (λ before. before ≡ find key_cmp key self.old) }
-        ensures ok { OnOk result (self.new ≡ put key_cmp key value self.old) }
-        ensures err { OnErr result (self.new ≡ self.old) }
-    {
-        match found {
-            Ok(at) => Ok(Some(self.set(at, value))),
-            Err(at) => {
-                self.insert(alloc, at, key, value)?;
-                Ok(None)
-            }
-        }
-    }
-
-    /// Removes a key, and gives its value.
-    pub(crate) fn take(&mut self, key: &RouteKey) -> Option<V>
-        requires { T (is_sorted key_cmp self.old) }
-        ensures before { result ≡ find key_cmp key.now self.old }
-        ensures removed { self.new ≡ where_key key_cmp (λ x. not (eq_by_cmp key_cmp key.now x)) self.old }
-    {
-        match self.search(key) {
-            Ok(at) => Some(self.remove(at)),
-            Err(_) => None,
-        }
-    }
-
-    /// Takes a route out, and gives its value.
-    pub(crate) fn remove(&mut self, at: usize) -> V
+    // Takes a route out, and gives its value.
+    fn take_at(&mut self, at: usize) -> V
         requires { at < length self.old }
         ensures before { (d : _) → result ≡ (slice_index_or self.old at d).1 }
         ensures removed { self.new ≡ remove self.old at }
@@ -196,14 +123,14 @@ impl<V: Drop> Chunk<V> {
         self.values.remove(at)
     }
 
-    /// Keeps the first half of a whole chunk, and gives the rest. An `Err` changes nothing.
-    pub(crate) fn split(&mut self, alloc: Global) -> Result<Chunk<V>, Memory>
-        requires { 128 ≤ length self.old }
+    // Keeps the first half, and gives the rest. An `Err` changes nothing.
+    fn cut(&mut self, alloc: Global) -> Result<Chunk<V>, Memory>
+        requires { 64 < length self.old }
         ensures low { OnOk result (self.new ≡ take 64 self.old) }
         ensures high { IfOk result (λ high. high ≡ drop 64 self.old) }
         ensures err { OnErr result (self.new ≡ self.old) }
     {
-        let keys = keys_from(alloc, &self.keys, HALF)?;
+        let keys = copied_from(alloc, &self.keys, HALF)?;
         let ids = ids_from(alloc, &self.ids, HALF)?;
         let values = self.values.split_off(HALF)?;
         self.keys.truncate(HALF);
@@ -214,44 +141,8 @@ impl<V: Drop> Chunk<V> {
         Ok(Chunk { keys, ids, values })
     }
 
-    /// Adds the entries to a list, in their order.
-    pub(crate) fn list<'a>(&'a self, all: &mut Vec<(RouteKey, &'a V)>) -> Result<(), Memory>
-        ensures { OnOk result (entries_now all.new.items ≡ entries_now all.old.items ++ self.now) }
-    {
-        let mut at = 0;
-        while at < self.len() {
-            if all.push((self.key_at(at), self.value_at(at))).is_err() {
-                return Err(Memory);
-            }
-            at += 1;
-        }
-        Ok(())
-    }
-
-    /// Adds the identifiers and values of the routes of a prefix to a list.
-    pub(crate) fn paths<'a>(
-        &'a self,
-        prefix: &Prefix,
-        all: &mut Vec<(u32, &'a V)>,
-    ) -> Result<(), Memory>
-        ensures { OnOk result (map (λ e. (e.0, e.1.now)) all.new.items ≡ map (λ e. (e.0, e.1.now)) all.old.items ++ paths_of prefix.now self.now) }
-    {
-        let mut at = 0;
-        while at < self.len() {
-            let key = self.key_at(at);
-            let value = self.value_at(at);
-            if *prefix == key.prefix {
-                if all.push((key.id, value)).is_err() {
-                    return Err(Memory);
-                }
-            }
-            at += 1;
-        }
-        Ok(())
-    }
-
-    /// The number of routes whose prefixes are at most this one, in their order.
-    pub(crate) fn up_to(&self, last: &Prefix) -> usize
+    // The number of routes whose prefixes are at most this one, in their order.
+    fn up_to(&self, last: &Prefix) -> usize
         requires { T (is_sorted key_cmp self.now) }
         ensures bound { result ≤ length self.now }
         ensures end { IsPartitionPoint (λ e. is_le (prefix_cmp e.0.prefix last.now) ≡ true) (λ e. is_le (prefix_cmp e.0.prefix last.now) ≡ false) self.now result }
@@ -266,6 +157,113 @@ impl<V: Drop> Chunk<V> {
             }
         }
         low
+    }
+}
+
+impl<V: Drop> Part for Chunk<V> {
+    type Value = V;
+
+    ghost routes = { λ c. c };
+
+    fn one(alloc: Global, key: &RouteKey, value: V) -> Result<Chunk<V>, Memory> {
+        let mut keys = Vec::with_capacity(alloc, STEP)?;
+        let mut values = Vec::with_capacity(alloc, STEP)?;
+        let mut ids = Vec::new(alloc);
+        put_id(alloc, &mut ids, 0, 0, key.id)?;
+        put(&mut keys, 0, key.prefix);
+        put(&mut values, 0, value);
+        Ok(Chunk { keys, ids, values })
+    }
+
+    fn is_empty(&self) -> bool {
+        self.len() == 0
+    }
+
+    fn first(&self) -> RouteKey {
+        self.key_at(0)
+    }
+
+    fn ends_below(&self, key: &RouteKey) -> bool {
+        let len = self.len();
+        if len < WHOLE {
+            return false;
+        }
+        match self.key_at(len - 1).cmp(key) {
+            Ordering::Less => true,
+            _ => false,
+        }
+    }
+
+    fn is_over(&self) -> bool {
+        self.len() > WHOLE
+    }
+
+    fn get(&self, key: &RouteKey) -> Option<&V> {
+        match self.search(key) {
+            Ok(at) => Some(self.value_at(at)),
+            Err(_) => None,
+        }
+    }
+
+    fn insert(&mut self, alloc: Global, key: &RouteKey, value: V) -> Result<Option<V>, Memory> {
+        match self.search(key) {
+            Ok(at) => Ok(Some(self.set(at, value))),
+            Err(at) => {
+                self.put_at(alloc, at, key, value)?;
+                Ok(None)
+            }
+        }
+    }
+
+    fn remove(&mut self, key: &RouteKey) -> Option<V> {
+        match self.search(key) {
+            Ok(at) => Some(self.take_at(at)),
+            Err(_) => None,
+        }
+    }
+
+    fn split(&mut self, alloc: Global) -> Option<Chunk<V>> {
+        if self.len() <= HALF {
+            return None;
+        }
+        match self.cut(alloc) {
+            Ok(high) => Some(high),
+            Err(_) => None,
+        }
+    }
+
+    fn list<'a>(&'a self, all: &mut Vec<(RouteKey, &'a V)>) -> Result<(), Memory> {
+        let mut at = 0;
+        while at < self.len() {
+            if all.push((self.key_at(at), self.value_at(at))).is_err() {
+                return Err(Memory);
+            }
+            at += 1;
+        }
+        Ok(())
+    }
+
+    fn paths<'a>(&'a self, prefix: &Prefix, all: &mut Vec<(u32, &'a V)>) -> Result<(), Memory> {
+        let mut at = 0;
+        while at < self.len() {
+            let key = self.key_at(at);
+            let value = self.value_at(at);
+            if *prefix == key.prefix {
+                if all.push((key.id, value)).is_err() {
+                    return Err(Memory);
+                }
+            }
+            at += 1;
+        }
+        Ok(())
+    }
+
+    fn last_up_to(&self, last: &Prefix) -> Option<Prefix> {
+        let at = self.up_to(last);
+        if at == 0 {
+            return None;
+        }
+        Some(self.key_at(at - 1).prefix)
     }
 }
 
@@ -284,11 +282,16 @@ fn exchange<T>(items: &mut Vec<T>, at: usize, item: T) -> T
     mem::replace(&mut items[at], item)
 }
 
-fn keys_from(alloc: Global, keys: &Vec<Prefix>, from: usize) -> Result<Vec<Prefix>, Memory>
-    requires { from ≤ vec_len keys.now }
-    ensures { IfOk result (λ v. v.items ≡ drop from keys.now.items) }
+/// The items from a place on.
+pub(crate) fn copied_from<T: Copy>(
+    alloc: Global,
+    items: &Vec<T>,
+    from: usize,
+) -> Result<Vec<T>, Memory>
+    requires { from ≤ vec_len items.now }
+    ensures { IfOk result (λ v. v.items ≡ drop from items.now.items) }
 {
-    Ok(Vec::from_slice(alloc, &keys[from..])?)
+    Ok(Vec::from_slice(alloc, &items[from..])?)
 }
 
 fn ids_from(alloc: Global, ids: &Vec<u32>, from: usize) -> Result<Vec<u32>, Memory>
@@ -297,7 +300,7 @@ fn ids_from(alloc: Global, ids: &Vec<u32>, from: usize) -> Result<Vec<u32>, Memo
     if ids.len() < from {
         return Ok(Vec::new(alloc));
     }
-    Ok(Vec::from_slice(alloc, &ids[from..])?)
+    copied_from(alloc, ids, from)
 }
 
 // Takes an identifier out, where any is written.

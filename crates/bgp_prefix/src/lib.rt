@@ -7,8 +7,11 @@ mod key;
 mod key_set;
 mod map;
 mod memory;
+mod part;
 mod prefix;
 mod radix;
+mod row;
+mod rows;
 mod sequence;
 mod shelf;
 #[cfg(test)]

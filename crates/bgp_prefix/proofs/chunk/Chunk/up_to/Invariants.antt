@@ -1,4 +1,4 @@
-use Rattle.std.proofs.Common.{◌≡◌, ℕ, ◌-◌, ◌<◌, ◌≤◌, get_or, length, true, false}
+use Rattle.std.proofs.Common.{◌≡◌, ◌-◌, ◌<◌, ◌≤◌, get_or, length, true, false}
 use Rattle.std.specs.Ordering.{is_le}
 use Rattle.bgp_prefix.specs.Prefixes.{prefix_cmp}
 use Rattle.bgp_prefix.specs.declared.key.RouteKey.{RouteKey}
