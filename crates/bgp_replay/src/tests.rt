@@ -1,6 +1,7 @@
 //! Worked rows: dumps as bytes, and what a replay of them reports.
 
 mod addpath;
+mod dealings;
 mod devices;
 mod dumps;
 mod faults;
@@ -10,6 +11,7 @@ mod hostile;
 mod layers;
 mod maps;
 mod playing;
+mod refusing;
 mod rounds;
 mod rows;
 mod words;

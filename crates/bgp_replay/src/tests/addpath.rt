@@ -35,6 +35,7 @@ row add-path-local-aside
 file 00000001 0010 000B 00000045 H4 FF16 0031 02 0000 0014 A4 00000007 080A
 tables
 damaged 0
+counts aside 1
 ";
 
 const MULTIPROTOCOL: &str = "

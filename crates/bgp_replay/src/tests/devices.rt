@@ -2,6 +2,7 @@
 
 use super::dumps::dump;
 use super::harness::{PLAN, replay};
+use super::playing::Play;
 use crate::replay::run;
 use crate::request::Request;
 use crate::summary::{Summary, status};
@@ -22,6 +23,38 @@ const THREE_LINES: &str = "65000 192.0.2.1|10.0.0.0/8|65000|192.0.2.1|IGP|-|-|-|
 65000 192.0.2.2|10.0.0.0/8|65000|192.0.2.1|IGP|-|-|-|-
 65000 192.0.2.3|10.0.0.0/8|65000|192.0.2.1|IGP|-|-|-|-
 ";
+
+/// The routes and the churn of the first units, by their number.
+const TABLES_OF_FRONTS: [&str; 6] = [
+    "",
+    "65000 192.0.2.1|10.0.0.0/8|65000|192.0.2.1|IGP|-|-|-|-
+65000 192.0.2.1|1|0|0|0|0|0|0|0|1.000000|1.000000
+",
+    "65000 192.0.2.1|10.0.0.0/8|65000|192.0.2.1|IGP|-|-|-|-
+65000 192.0.2.2|10.0.0.0/8|65000|192.0.2.1|IGP|-|-|-|-
+65000 192.0.2.1|1|0|0|0|0|0|0|0|1.000000|1.000000
+65000 192.0.2.2|1|0|0|0|0|0|0|0|1.000000|1.000000
+",
+    "65000 192.0.2.1|10.0.0.0/8|65000|192.0.2.1|IGP|-|-|-|-
+65000 192.0.2.2|10.0.0.0/8|65000|192.0.2.1|IGP|-|-|-|-
+65000 192.0.2.1|1|0|1|0|0|0|0|0|1.000000|1.000000
+65000 192.0.2.2|1|0|0|0|0|0|0|0|1.000000|1.000000
+",
+    "65000 192.0.2.1|10.0.0.0/8|65000|192.0.2.1|IGP|-|-|-|-
+65000 192.0.2.2|10.0.0.0/8|65000|192.0.2.1|IGP|-|-|-|-
+65000 192.0.2.3|10.0.0.0/8|65000|192.0.2.1|IGP|-|-|-|-
+65000 192.0.2.1|1|0|1|0|0|0|0|0|1.000000|1.000000
+65000 192.0.2.2|1|0|0|0|0|0|0|0|1.000000|1.000000
+65000 192.0.2.3|1|0|0|0|0|0|0|0|1.000000|1.000000
+",
+    "65000 192.0.2.1|10.0.0.0/8|65000|192.0.2.1|IGP|-|-|-|-
+65000 192.0.2.2|10.0.0.0/8|65000|192.0.2.1|IGP|-|-|-|-
+65000 192.0.2.3|10.0.0.0/8|65000|192.0.2.1|IGP|-|-|-|-
+65000 192.0.2.1|1|0|1|0|0|0|0|0|1.000000|1.000000
+65000 192.0.2.2|1|0|1|0|0|0|0|0|1.000000|1.000000
+65000 192.0.2.3|1|0|0|0|0|0|0|0|1.000000|1.000000
+",
+];
 
 /// Gives its bytes one a read, and fails in place of the end.
 #[derive(Drop)]
@@ -111,6 +144,38 @@ fn every_read_failed(rt: HostRuntime) -> Result<(), Fail> {
         };
         assert!(rt; is_read && written == 0, "a read that fails at {k}");
         assert_eq!(rt; status(&result), 3);
+    }
+    Ok(())
+}
+
+/// A batch that takes all units, played until a read fails and settled: the units that came before.
+#[test]
+fn salvage_at_every_failed_read(rt: HostRuntime) -> Result<(), Fail> {
+    let alloc = rt.alloc();
+    let bytes = dump(alloc, THREE_PEERS)?;
+    let plan = Plan {
+        batch: 1_048_576,
+        ..PLAN
+    };
+    for k in 0..=bytes.len() {
+        let mut readers = Vec::new(alloc);
+        let rest = &bytes.as_slice()[..k];
+        readers.push(Counted::new(Breaking { rest }))?;
+        let mut play = Play::<Radix<SharedRoute>, _>::new(&rt, alloc, readers, plan)?;
+        assert!(rt;
+            play.round_until(&rt, alloc, "Read 0"),
+            "a read that fails at {k}"
+        );
+        assert!(rt; play.settle(&rt, alloc) == "Ok", "settled at {k}");
+        let units = k / 77;
+        assert!(rt;
+            play.count("took") == Some(units as u64),
+            "units before {k}"
+        );
+        let (answer, text) = play.into_text(&rt, alloc)?;
+        assert!(rt; answer == "Ok", "tables at {k}");
+        let expected = TABLES_OF_FRONTS.get(units).ok_or("five units at most")?;
+        assert!(rt; text.as_slice() == expected.as_bytes(), "the tables at {k}");
     }
     Ok(())
 }

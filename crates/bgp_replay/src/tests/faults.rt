@@ -17,12 +17,6 @@ faults
 > 1|0|-|2|ShortBody
 damaged 1
 churn
-row greatest-length-short-body
-file 00000001 0010 0004 01000000
-faults
-> 1|0|-|2|ShortBody
-damaged 1
-churn
 row body-too-long
 file 00000001 0010 0004 01000001
 faults
@@ -69,6 +63,16 @@ row bad-prefix-in-rib
 file P 00000003 000D 0002 00000030 00000000 210A 0002 0000 00000001 0014 A4 0001 00000001 0004 40010103
 faults
 > 1|56|-|9|BadPrefix
+damaged 1
+churn
+";
+
+/// The greatest body that a header may announce, of which nothing is there.
+const GREATEST: &str = "
+row greatest-length-short-body
+file 00000001 0010 0004 01000000
+faults
+> 1|0|-|2|ShortBody
 damaged 1
 churn
 ";
@@ -152,7 +156,13 @@ tables
 #[test]
 fn every_fault(rt: HostRuntime) -> Result<(), Fail> {
     let alloc = rt.alloc();
-    assert_eq!(rt; run_rows(&rt, alloc, RECORDS)?, 11);
+    assert_eq!(rt; run_rows(&rt, alloc, RECORDS)?, 10);
     assert_eq!(rt; run_rows(&rt, alloc, MESSAGES)?, 9);
+    Ok(())
+}
+
+#[test]
+fn greatest_length_of_a_short_body(rt: HostRuntime) -> Result<(), Fail> {
+    assert_eq!(rt; run_rows(&rt, rt.alloc(), GREATEST)?, 1);
     Ok(())
 }

@@ -116,7 +116,20 @@ struct Row<'a> {
     request: Option<Request>,
     expected: Vec<u8>,
     damaged: Option<u64>,
+    counts: &'a str,
+    rounds: Option<u64>,
     until: Option<u64>,
+}
+
+/// A number of the summary, by its name. Rounds depend on the plan.
+fn count_of(summary: &Summary, name: &str) -> Option<u64> {
+    match name {
+        "records" => Some(summary.records),
+        "units" => Some(summary.units),
+        "aside" => Some(summary.aside),
+        "peers" => Some(summary.peers as u64),
+        _ => None,
+    }
 }
 
 impl<'a> Row<'a> {
@@ -127,7 +140,22 @@ impl<'a> Row<'a> {
             request: None,
             expected: Vec::new(alloc),
             damaged: None,
+            counts: "",
+            rounds: None,
             until: None,
+        }
+    }
+
+    fn expect_counts(&self, rt: &impl Abort, summary: &Summary) {
+        let row = self.name;
+        let mut name = "";
+        for word in self.counts.split(' ') {
+            match word.parse::<u64>() {
+                Ok(number) => {
+                    assert!(rt; count_of(summary, name) == Some(number), "{name} in {row}");
+                }
+                Err(_) => name = word,
+            }
         }
     }
 
@@ -142,45 +170,46 @@ impl<'a> Row<'a> {
                     let expected = if damaged == 0 { 0 } else { 1 };
                     assert!(rt; status(&outcome.result) == expected, "status of {name}");
                 }
+                self.expect_counts(rt, summary);
             }
             Err(_) => assert!(rt; false, "{name} failed"),
         }
     }
 
-    /// Replays the row by every plan, map and reader, and compares.
+    /// Replays the row by several plans, both maps and two readers, and compares.
     fn check(&self, rt: &(impl Threads + Abort + Sync), alloc: Global) -> Result<(), Fail> {
         let Some(request) = &self.request else {
             return Ok(());
         };
         let files = self.files.as_slice();
-        let plan = Plan {
-            until: self.until,
-            ..PLAN
-        };
-        self.expect(
-            rt,
-            &replay::<Radix<SharedRoute>>(rt, alloc, files, request, &plan)?,
-        );
-        self.expect(
-            rt,
-            &replay::<Flat<SharedRoute>>(rt, alloc, files, request, &plan)?,
-        );
-        for workers in [1, 64] {
+        for (workers, ring, batch) in [(2, 4, 8), (2, 1, 1), (1, 4, 8), (64, 4, 8)] {
             let plan = Plan {
                 workers,
-                ring: 1,
-                batch: 1,
-                ..plan
+                ring,
+                batch,
+                until: self.until,
+                ..PLAN
             };
-            self.expect(
-                rt,
-                &replay::<Radix<SharedRoute>>(rt, alloc, files, request, &plan)?,
-            );
+            let radix = replay::<Radix<SharedRoute>>(rt, alloc, files, request, &plan)?;
+            self.expect(rt, &radix);
+            let flat = replay::<Flat<SharedRoute>>(rt, alloc, files, request, &plan)?;
+            self.expect(rt, &flat);
+            if workers == 2 && ring == 4 {
+                self.expect_rounds(rt, &radix);
+            }
         }
         if self.until.is_none() {
             self.expect(rt, &replay_slowly(rt, alloc, files, request)?);
         }
         Ok(())
+    }
+
+    /// Compares the rounds that the rows' plan took.
+    fn expect_rounds(&self, rt: &impl Abort, outcome: &Outcome) {
+        if let (Some(rounds), Ok(summary)) = (self.rounds, &outcome.result) {
+            let name = self.name;
+            assert!(rt; summary.rounds == rounds, "rounds of {name}");
+        }
     }
 }
 
@@ -201,7 +230,8 @@ fn request_of(line: &str) -> Option<Request> {
 
 /// Runs the rows of a table. A line `row NAME` begins a row, `file RECORDS` adds a file, the name of
 /// a request asks for its report, `> LINE` is a line of it, `damaged N` the number of listed faults,
-/// and `until N` leaves out what came later.
+/// `counts ..` has numbers of the summary by their names, `rounds N` those of the rows' plan, and
+/// `until N` leaves out what came later.
 pub fn run_rows(
     rt: &(impl Threads + Abort + Sync),
     alloc: Global,
@@ -221,6 +251,10 @@ pub fn run_rows(
             row.expected.push(b'\n')?;
         } else if let Some(count) = line.strip_prefix("damaged ") {
             row.damaged = count.parse::<u64>().ok();
+        } else if let Some(counts) = line.strip_prefix("counts ") {
+            row.counts = counts;
+        } else if let Some(rounds) = line.strip_prefix("rounds ") {
+            row.rounds = rounds.parse::<u64>().ok();
         } else if let Some(second) = line.strip_prefix("until ") {
             row.until = second.parse::<u64>().ok();
         } else if let Some(request) = request_of(line) {
@@ -228,6 +262,8 @@ pub fn run_rows(
             row.request = Some(request);
             row.expected = Vec::new(alloc);
             row.damaged = None;
+            row.counts = "";
+            row.rounds = None;
         } else {
             assert!(rt; line.is_empty(), "a line that says nothing: {line}");
         }

@@ -5,16 +5,12 @@ use super::harness::{PLAN, replay, run_rows};
 use crate::replay::run;
 use crate::request::Request;
 use adj_rib::SharedRoute;
-use bgp_prefix::{Flat, Radix};
-use lane_deal::{ByBlocks, ByList, ByTurns, Dealing, NoGate, Plan};
+use bgp_prefix::Radix;
+use lane_deal::{ByTurns, NoGate, Plan};
 use mrt_body::Units;
 use mrt_frame::{Counted, ReplayError};
-use std::alloc::Global;
 use std::io::{self, Read};
-use std::marker::Sync;
-use std::process::Abort;
 use std::test::Fail;
-use std::thread::Threads;
 
 const COUNTS: &str = "
 row peer-count-too-large
@@ -126,67 +122,5 @@ fn endless_zeros(rt: HostRuntime) -> Result<(), Fail> {
     }
     assert_eq!(rt; units.records(), 5);
     assert_eq!(rt; units.aside(), 5);
-    Ok(())
-}
-
-/// The bytes that a replay of one file with this dealing writes.
-fn text_by<D: Dealing + Sync>(
-    rt: &(impl Threads + Abort + Sync),
-    alloc: Global,
-    bytes: &[u8],
-    plan: &Plan,
-    dealing: &D,
-) -> Result<Vec<u8>, Fail> {
-    assert!(rt; plan.check());
-    let mut readers = [Counted::new(bytes)];
-    let mut out = Counted::new(Vec::<u8>::new(alloc));
-    let _summary = run::<Flat<SharedRoute>, _, _, _, _, _>(
-        rt,
-        alloc,
-        &mut readers,
-        &Request::Tables,
-        plan,
-        dealing,
-        &NoGate,
-        &mut out,
-    )?;
-    Ok(Vec::from_slice(alloc, out.device().as_slice())?)
-}
-
-/// 300 announcements, each of a peer with another address, 198.18.0.0 to 198.18.1.43.
-fn three_hundred(alloc: Global) -> Result<Vec<u8>, Fail> {
-    let mut bytes = Vec::new(alloc);
-    for peer in 0..300u32 {
-        let high = peer / 256;
-        let low = peer % 256;
-        let text = format!(in alloc;
-            "00000001 0010 0004 00000041 0000FDE8 0000FDE9 0000 0001 C612{high:02X}{low:02X} C0000202 FF16 002D 02 0000 0014 A4 080A"
-        )?;
-        let record = dump(alloc, text.as_str())?;
-        bytes.extend_from_slice(record.as_slice())?;
-    }
-    Ok(bytes)
-}
-
-#[test]
-fn three_hundred_peers(rt: HostRuntime) -> Result<(), Fail> {
-    let alloc = rt.alloc();
-    let bytes = three_hundred(alloc)?;
-    let file = [Vec::from_slice(alloc, bytes.as_slice())?];
-    let outcome = replay::<Radix<SharedRoute>>(&rt, alloc, &file, &Request::Tables, &PLAN)?;
-    assert_eq!(rt; outcome.result?.peers, 300);
-    let expected = outcome.text.as_slice();
-    let first = b"65000 198.18.0.0|10.0.0.0/8|65000|192.0.2.1|IGP|-|-|-|-\n";
-    assert!(rt; expected.starts_with(first.as_slice()));
-    let list = ByList::new(vec![in alloc; 1, 1, 0]?);
-    for workers in [1, 64] {
-        let plan = Plan { workers, ..PLAN };
-        let turns = text_by(&rt, alloc, bytes.as_slice(), &plan, &ByTurns)?;
-        assert!(rt; turns.as_slice() == expected, "by turns");
-        let blocks = text_by(&rt, alloc, bytes.as_slice(), &plan, &ByBlocks::new(2))?;
-        assert!(rt; blocks.as_slice() == expected, "by blocks");
-        let listed = text_by(&rt, alloc, bytes.as_slice(), &plan, &list)?;
-        assert!(rt; listed.as_slice() == expected, "by a list");
-    }
     Ok(())
 }

@@ -16,7 +16,7 @@ use std::test::Fail;
 const MAX_RECORDS: u64 = 1 << 47;
 
 /// What the files give, one after the other, to their end.
-fn found_in(rt: &impl Abort, alloc: Global, files: &[&str]) -> Result<Vec<Found>, Fail> {
+pub fn found_in(rt: &impl Abort, alloc: Global, files: &[&str]) -> Result<Vec<Found>, Fail> {
     let mut dumps = Vec::new(alloc);
     for words in files {
         dumps.push(dump(alloc, words)?)?;
