@@ -7,7 +7,7 @@ use bgp_prefix::PrefixMap;
 use lane_deal::{ByTurns, NoGate, Plan, Replayer, Step};
 use mrt_body::Units;
 use mrt_frame::{Counted, ReplayError, Source};
-use rib_report::{churn, write_churn, write_tables};
+use rib_report::{churn, table_rows, write_churn, write_rows};
 use std::alloc::Global;
 use std::io::{self, ErrorKind, Read};
 use std::marker::Sync;
@@ -202,7 +202,7 @@ impl<M: PrefixMap<SharedRoute> + Send + Drop, R: Source + Send + Drop> Play<M, R
         let mut out = Counted::new(Vec::<u8>::new(alloc));
         match replayer.into_tables(alloc) {
             Ok(tables) => {
-                write_tables(alloc, &mut out, &tables)?;
+                write_rows(&mut out, table_rows(alloc, &tables)?.as_slice())?;
                 write_churn(&mut out, churn(alloc, &tables)?.as_slice())?;
                 Ok(("Ok", Vec::from_slice(alloc, out.device().as_slice())?))
             }
