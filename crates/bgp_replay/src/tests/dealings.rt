@@ -175,11 +175,11 @@ fn three_hundred_peers_in_lists(rt: HostRuntime) -> Result<(), Fail> {
     check_plans::<Flat<SharedRoute>>(&rt, alloc, &file, &[1, 64], &RINGS_OF_300, &list)
 }
 
-/// The lanes on one thread, by a list of events. Those that find nothing change nothing.
-fn check_turns<M: PrefixMap<SharedRoute> + Drop>(
+/// The lanes of two workers on one thread, after a list of events: some find nothing.
+pub fn turned_lanes<M: PrefixMap<SharedRoute> + Drop>(
     rt: &impl Abort,
     alloc: Global,
-) -> Result<(), Fail> {
+) -> Result<Lanes<M>, Fail> {
     let mut units = Vec::new(alloc);
     for found in found_in(rt, alloc, &["M MB M MC MB"])? {
         match found {
@@ -197,7 +197,15 @@ fn check_turns<M: PrefixMap<SharedRoute> + Drop>(
         Turn::Take(0),
         Turn::Take(7),
     ];
-    let lanes: Lanes<M> = run_schedule(alloc, units, &turns, &ByTurns, 2)?;
+    Ok(run_schedule(alloc, units, &turns, &ByTurns, 2)?)
+}
+
+/// Events that find nothing change nothing.
+fn check_turns<M: PrefixMap<SharedRoute> + Drop>(
+    rt: &impl Abort,
+    alloc: Global,
+) -> Result<(), Fail> {
+    let lanes = turned_lanes::<M>(rt, alloc)?;
     assert_eq!(rt; lanes.undealt(), 2);
     for (lane, waiting, took) in [(0, 1, 1), (1, 0, 1), (2, 0, 0), (7, 0, 0)] {
         assert!(rt; lanes.waiting(lane) == waiting, "waiting for {lane}");
