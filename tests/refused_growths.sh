@@ -1,12 +1,20 @@
 #!/usr/bin/env bash
-# Refuses each growth of whole runs of the program in turn: each run must say `no memory`, end with status 3 and have written
-# nothing, or answer as it does with ample memory (where the growth isn't the program's own, or is not needed).
+# Lets one thing after the other fail in runs of the program as it is built, and judges how each run ended (refusals.c; refuse.c is the library
+# that stands before the C library):
+#   each growth of memory (and: it and all later ones)   status 3, `no memory` and nothing written, or as with ample memory
+#   each read of a dump (EIO, EINTR)                     status 3, `read failed: file N` and nothing written
+#   each write of the report (EIO, ENOSPC, EINTR, EPIPE, or no byte taken)   status 3, `write failed`, a front of the report
+#   each start of a thread (and: it and all later ones), reads and writes of one byte         as without it
 #   tests/refused_growths.sh PROGRAM
-# Runs every request on two small files (UPDATEs of three peers; an index, a RIB record and an UPDATE), and `tables` on the sample.
-# A request of which no refusal reached the program has failed too. Needs cc. The last line is `N runs, M failed`.
+# by 1, 2, 4 and 64 workers, with rings of 1 and of 1,024 units. Growths are counted in the order in which the threads of that run ask, which
+# isn't that of another run; behind the first 100 each STEPth is refused (by 64 workers every 7th, else each). Refused are the program's own
+# requests and those that the C library makes of its allocator for it, as for a thread's locals. The memory of a thread's stack is mapped
+# by pthread_create itself: its want is the start of a thread that fails. Where a growth isn't needed, as a thread's, the answer is as with
+# ample memory. A kind of failure that reached no run of a line has failed too. Dumps: UPDATEs of three peers; an index, a RIB record and an UPDATE; both
+# as files of one run; and the sample. Needs cc. The last line is `N passed, M failed`, counted in runs.
 set -u
 program=$(realpath "$1"); here=$(dirname "$(realpath "$0")"); work=$(mktemp -d); trap 'rm -rf "$work"' EXIT
-cc -O2 -shared -fPIC -o "$work/refuse.so" "$here/refuse.c" || exit 2
+cc -O2 -shared -fPIC -o "$work/refuse.so" "$here/refuse.c" && cc -O2 -o "$work/refusals" "$here/refusals.c" || exit 2
 bytes() { printf '%b' "$(printf '%s' "$*" | tr -d ' ' | sed 's/../\\x&/g')"; }
 
 marker=FFFFFFFFFFFFFFFFFFFFFFFFFFFFFFFF
@@ -14,29 +22,41 @@ attributes=4001010040020602010000FDE8400304C0000201
 update() { bytes 00000001 0010 0004 00000041 0000FDE8 0000FDE9 0000 0001 "$1" C0000202 $marker 002D 02 0000 0014 $attributes 080A; }
 index() { bytes 00000003 000D 0001 0000002C C0000263 0000 0002 01 C0000201 20010DB8000000000000000000000001 FDE8 02 C0000202 C0000202 00011170; }
 table() { bytes 00000003 000D 0002 00000030 00000000 080A 0002 0000 00000001 0014 $attributes 0001 00000001 0004 40010103; }
-{ update C0000201; update C0000202; update C0000201; update C0000203; update C0000202; } > "$work/three-peers"
-{ index; table; update C0000201; } > "$work/table-and-update"
-cp "$here/../examples/sample.mrt" "$work/sample"
+cd "$work" && ln -s "$program" program || exit 2
+{ update C0000201; update C0000202; update C0000201; update C0000203; update C0000202; } > three-peers
+{ index; table; update C0000201; } > table-and-update
+cp "$here/../examples/sample.mrt" sample
 
-runs=0; failed=0
-refuse_each() { # WORDS..
-  local asked n status
-  REFUSE=0 REFUSE_COUNT="$work/count" LD_PRELOAD="$work/refuse.so" "$program" "$@" > "$work/whole" 2> "$work/whole-said"; local whole=$?
-  asked=$(cat "$work/count" 2> "$work/none" || echo 0); met=0; rm -f "$work/count"
-  for ((n = 1; n <= asked; n++)); do
-    REFUSE=$n LD_PRELOAD="$work/refuse.so" "$program" "$@" > "$work/out" 2> "$work/said"; status=$?
-    runs=$((runs + 1))
-    if [ $status = 3 ] && [ ! -s "$work/out" ] && [ "$(cat "$work/said")" = 'no memory' ]; then met=$((met + 1))
-    elif [ $status = $whole ] && cmp -s "$work/out" "$work/whole" && cmp -s "$work/said" "$work/whole-said"; then :
-    else failed=$((failed + 1)); echo "growth $n of $*: status $status, $(stat -c %s "$work/out") bytes, said: $(cat "$work/said")"; fi
+tries() {
+  local file kind lanes
+  for lanes in '1 1' '1 1024' '2 1' '2 1024' '4 1' '4 1024' '64 1' '64 1024'; do
+    set -- $lanes; step=1; [ $1 = 64 ] && step=7
+    by="--workers $1 --ring $2"
+    for file in three-peers table-and-update; do
+      for request in tables visibility origins churn 'match --address 10.0.0.1' faults; do echo memory $step 1 $file $request $by $file; done
+      echo memory-on $step 1 $file tables $by $file
+      for kind in read-EIO read-EINTR; do echo $kind 1 1 $file tables $by $file; echo $kind 1 1 $file churn $by -; done
+      for kind in thread thread-on short-reads short-writes; do echo $kind 1 1 $file tables $by $file; done
+    done
+    echo memory $step 1 sample tables $by sample
+    echo memory-on $((step * 7)) 1 sample churn $by sample
+    for kind in read-EIO read-EINTR; do for file in 1 2; do echo $kind 1 $file "$([ $file = 1 ] && echo three-peers || echo table-and-update)" tables $by three-peers table-and-update; done; done
+    echo thread $step 1 sample tables $by sample; echo thread-on $step 1 sample tables $by sample
+    echo short-reads 1 1 sample tables $by sample
   done
-  if [ $met = 0 ]; then failed=$((failed + 1)); echo "$* : no refusal reached the program"; fi
-  echo "$* : $asked growths, $met answered 'no memory'"
+  for kind in write-EIO write-ENOSPC write-EINTR write-EPIPE write-none; do
+    for request in tables visibility origins churn 'match --address 17.150.214.7'; do echo $kind 1 1 sample $request sample; done
+    echo $kind 1 1 table-and-update faults table-and-update
+  done
+  for request in tables visibility origins churn 'match --address 17.150.214.7'; do echo short-writes 1 1 sample $request sample; done
 }
-cd "$work"
-for file in three-peers table-and-update; do
-  for request in tables visibility origins churn 'match --address 10.0.0.1' faults; do refuse_each $request $file; done
-done
-refuse_each tables sample
-echo "$runs runs, $failed failed"
-[ $failed = 0 ]
+tries > tries
+xargs -P "$(nproc)" -L 1 ./refusals ./program ./refuse.so < <(shuf --random-source=sample tries 2> none || cat tries) > lines
+grep -v '^tried ' lines
+awk '$1 == "tried" { runs[$6] += $2; met[$6] += $3; lines[$6]++ }
+     END { for (kind in runs) printf "%-13s %4d lines, %6d runs, %6d with a failure that the program met as it must\n", kind, lines[kind], runs[kind], met[kind] }' lines | sort
+read -r runs failed lines <<< "$(awk '$1 == "tried" { runs += $2; failed += $4; lines++ } END { print runs + 0, failed + 0, lines + 0 }' lines)"
+wanted=$(wc -l < tries)
+[ "$lines" = "$wanted" ] || { echo "$((wanted - lines)) of $wanted lines weren't tried to the end"; failed=$((failed + wanted - lines)); }
+echo "$((runs - failed)) passed, $failed failed"
+[ "$failed" = 0 ] && [ "$runs" -gt 0 ]
