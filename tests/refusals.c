@@ -52,7 +52,7 @@ int main(int n, char **words) {
   if (strstr(kind, "-on")) set("ON", "1");
   snprintf(line, sizeof line, place == READS ? "read failed: file %s" : place == WRITES ? "write failed" : "no memory", number);
   long runs = 0, met = 0, failed = 0, most = told[place], missed = 0;
-  if (whole.status > 1) { failed++; printf("%s:", kind); print_words(stdout, words + 1); printf(": status %d without a failure\n", whole.status); }
+  if (whole.status > 1) { runs++; failed++; printf("%s:", kind); print_words(stdout, words + 1); printf(": status %d without a failure\n", whole.status); }
   char *which = set(place == READS ? "FAIL_READ" : place == WRITES ? "FAIL_WRITE" : place == THREADS ? "FAIL_THREAD" : "REFUSE", "0");
   if (starts(kind, "short")) strcpy(which, place == READS ? "SHORT_READS=1" : "SHORT_WRITES=1");
   for (long at = 1; missed < 2; at += at < 100 ? 1 : step) {
@@ -75,7 +75,7 @@ int main(int n, char **words) {
     let_go(&ended);
     if (shorter) break;
   }
-  if (!met && (most || place != THREADS)) { failed++; printf("%s:", kind); print_words(stdout, words + 1); printf(": no failure reached the program\n"); }
+  if (!met && (most || place != THREADS)) { runs++; failed++; printf("%s:", kind); print_words(stdout, words + 1); printf(": no failure reached the program\n"); }
   unlink(tell);
   printf("tried %ld %ld %ld %ld %s", runs, met, failed, most, kind); print_words(stdout, words + 1); printf("\n");
   return failed != 0;

@@ -17,7 +17,7 @@ if [ -n "${SAMPLES:-}" ]; then
 fi
 cd "$work/dumps" && ln -s "$program" "$work/program" || exit 2
 tries() { # DUMP..: a line for each number of workers, so that they run side by side
-  for workers in 1 2 3 4 8 64; do printf '%s ' "-w $workers -r 1,2,1024,65536" ../program "$@"; echo; done
+  for workers in 1 2 3 4 8 64; do echo "-w $workers -r 1,2,1024,65536 ../program $*"; done
 }
 { for dump in *; do tries "$dump"; done; tries *; } | xargs -P "$(nproc)" -L 1 ../same > "$work/lines"
 grep -v '^tried ' "$work/lines"
