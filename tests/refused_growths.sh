@@ -7,7 +7,7 @@
 #   each start of a thread (and: it and all later ones), reads and writes of one byte         as without it
 #   tests/refused_growths.sh PROGRAM
 # by 1, 2, 4 and 64 workers, with rings of 1 and of 1,024 units. Growths are counted in the order in which the threads of that run ask, which
-# isn't that of another run; behind the first 100 each STEPth is refused (by 64 workers every 7th, else each). Refused are the program's own
+# isn't that of another run; behind the first 100 by 64 workers each 7th is refused (of the sample each 61st), by fewer each one (of the sample each third). Refused are the program's own
 # requests and those that the C library makes of its allocator for it, as for a thread's locals. The memory of a thread's stack is mapped
 # by pthread_create itself: its want is the start of a thread that fails. Where a growth isn't needed, as a thread's, the answer is as with
 # ample memory. A kind of failure that reached no run of a line has failed too. Dumps: UPDATEs of three peers; an index, a RIB record and an UPDATE; both
@@ -38,8 +38,9 @@ tries() {
       for kind in read-EIO read-EINTR; do echo $kind 1 1 $file tables $by $file; echo $kind 1 1 $file churn $by -; done
       for kind in thread thread-on short-reads short-writes; do echo $kind 1 1 $file tables $by $file; done
     done
+    [ $1 = 64 ] && step=61 || step=3
     echo memory $step 1 sample tables $by sample
-    echo memory-on $((step * 7)) 1 sample churn $by sample
+    echo memory-on $((step * 3)) 1 sample churn $by sample
     for kind in read-EIO read-EINTR; do for file in 1 2; do echo $kind 1 $file "$([ $file = 1 ] && echo three-peers || echo table-and-update)" tables $by three-peers table-and-update; done; done
     echo thread $step 1 sample tables $by sample; echo thread-on $step 1 sample tables $by sample
     echo short-reads 1 1 sample tables $by sample
