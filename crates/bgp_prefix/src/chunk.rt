@@ -19,7 +19,8 @@ use std::cmp::Ordering;
 use std::marker::Model;
 use std::mem;
 
-/// A list of routes, in three arrays: no identifiers are written while all are 0.
+/// A list of routes in three arrays. No identifiers are written while all are 0. That the routes are in
+/// order is not the chunk's own invariant: a call that needs it asks for it.
 #[derive(Drop)]
 pub(crate) struct Chunk<V> {
     keys: Vec<Prefix>,

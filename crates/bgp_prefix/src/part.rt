@@ -14,9 +14,9 @@ use crate::memory::Memory;
 use crate::prefix::Prefix;
 use std::alloc::Global;
 
-/// The most routes of a chunk, and the most chunks of a row.
+/// The most routes of a chunk, and the most chunks of a row: one more is cut in two.
 pub(crate) const WHOLE: usize = 128;
-/// How many are kept where one that has more is cut in two.
+/// How many stay where one is cut in two.
 pub(crate) const HALF: usize = 64;
 /// By how many the room of an array grows.
 pub(crate) const STEP: usize = 16;

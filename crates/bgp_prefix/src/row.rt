@@ -7,7 +7,7 @@ use crate::rows::Rows;
 use std::alloc::Global;
 use std::marker::Model;
 
-/// Chunks of routes one after another.
+/// Chunks of routes one after another, as one part of a shelf.
 #[derive(Drop)]
 pub(crate) struct Row<V> {
     rows: Rows<Chunk<V>>,

@@ -17,7 +17,8 @@ use crate::prefix::Prefix;
 use std::alloc::Global;
 use std::cmp::Ordering;
 
-/// Parts one after another in the order of their keys, and the first key of each.
+/// Parts one after another in the order of their keys, none of them empty, and the first key of each. It
+/// stands twice in a shelf: its rows of chunks, and the chunks of a row.
 #[derive(Drop)]
 pub(crate) struct Rows<P> {
     pub(crate) firsts: Vec<RouteKey>,
