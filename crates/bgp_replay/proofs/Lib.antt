@@ -7,3 +7,5 @@ pub mod FilesTaken
 pub mod RunLaws
 pub mod LanesTaken
 pub mod RoundsTaken
+pub mod Octets
+pub mod Points

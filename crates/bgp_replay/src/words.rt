@@ -1,6 +1,9 @@
 //! The words of the command line.
 
-ghost use Rattle.std.specs.Prelude.{◌≡◌, ◌<◌, ◌≤◌, vec_len};
+ghost use Rattle.std.specs.Prelude.{◌≡◌, ◌<◌, ◌≤◌, IfErr, IfOk, vec_len};
+ghost use Rattle.bgp_replay.specs.Addresses.{IsAddress};
+ghost use Rattle.bgp_replay.specs.Words.{IsRefusal};
+ghost use Rattle.bgp_replay.specs.declared.words.Usage.TheVariants.{Memory};
 
 use crate::address::read_address;
 use crate::request::Request;
@@ -61,12 +64,16 @@ pub enum Usage {
 }
 
 impl From<AllocError> for Usage {
+    ghost from_gives = { λ _ usage. usage ≡ Memory };
+
     fn from(_error: AllocError) -> Usage {
         Usage::Memory
     }
 }
 
 impl<T: Drop> From<AllocFailed<T>> for Usage {
+    ghost from_gives = { λ _ usage. usage ≡ Memory };
+
     fn from(_error: AllocFailed<T>) -> Usage {
         Usage::Memory
     }
@@ -170,8 +177,21 @@ fn command<'a>(alloc: Global) -> Result<Command<'a>, AllocError> {
         .subcommand(faults)
 }
 
+/// The number of the address that the words name.
+fn address_of(alloc: Global, text: &str) -> Result<u32, Usage>
+    ensures number { IfOk result (IsAddress text.now) }
+    ensures refusal { IfErr result IsRefusal }
+{
+    match read_address(text) {
+        Some(address) => Ok(address),
+        None => Err(Usage::Address(String::from_str(alloc, text)?)),
+    }
+}
+
 /// The report of a command's name.
-fn request_of(alloc: Global, name: &str, matches: &ArgMatches<'_>) -> Result<Request, Usage> {
+fn request_of(alloc: Global, name: &str, matches: &ArgMatches<'_>) -> Result<Request, Usage>
+    ensures { IfErr result IsRefusal }
+{
     match name {
         "visibility" => Ok(Request::Visibility),
         "origins" => Ok(Request::Origins),
@@ -179,21 +199,22 @@ fn request_of(alloc: Global, name: &str, matches: &ArgMatches<'_>) -> Result<Req
         "faults" => Ok(Request::Faults),
         "match" => {
             let text = matches.get_str("address").unwrap_or("");
-            match read_address(text) {
-                Some(address) => Ok(Request::Match(address)),
-                None => Err(Usage::Address(String::from_str(alloc, text)?)),
-            }
+            Ok(Request::Match(address_of(alloc, text)?))
         }
         _ => Ok(Request::Tables),
     }
 }
 
 /// Words that the parser lets through and no job has.
-fn refused(alloc: Global, text: &str) -> Result<Job, Usage> {
+fn refused(alloc: Global, text: &str) -> Result<Job, Usage>
+    ensures { IfErr result IsRefusal }
+{
     Err(Usage::Words(String::from_str(alloc, text)?))
 }
 
-fn files_of(alloc: Global, matches: &ArgMatches<'_>) -> Result<Vec<String>, Usage> {
+fn files_of(alloc: Global, matches: &ArgMatches<'_>) -> Result<Vec<String>, Usage>
+    ensures { IfErr result IsRefusal }
+{
     let mut files = Vec::new(alloc);
     if let Some(names) = matches.get_strs("file") {
         for file in names {
@@ -203,7 +224,9 @@ fn files_of(alloc: Global, matches: &ArgMatches<'_>) -> Result<Vec<String>, Usag
     Ok(files)
 }
 
-fn job_of(alloc: Global, name: &str, matches: &ArgMatches<'_>) -> Result<Job, Usage> {
+fn job_of(alloc: Global, name: &str, matches: &ArgMatches<'_>) -> Result<Job, Usage>
+    ensures { IfErr result IsRefusal }
+{
     let request = request_of(alloc, name, matches)?;
     let files = files_of(alloc, matches)?;
     let workers = matches
@@ -229,7 +252,9 @@ fn job_of(alloc: Global, name: &str, matches: &ArgMatches<'_>) -> Result<Job, Us
 }
 
 /// What a refused parse, or one that asks for help, is to the caller.
-fn usage_of(alloc: Global, error: &Error) -> Usage {
+fn usage_of(alloc: Global, error: &Error) -> Usage
+    ensures { IsRefusal result }
+{
     if error.kind() == ErrorKind::OutOfMemory {
         return Usage::Memory;
     }
@@ -242,7 +267,9 @@ fn usage_of(alloc: Global, error: &Error) -> Usage {
 
 /// The job that the words after the program's name ask for. A parse that is refused is told before
 /// the address is looked at.
-pub fn read_words(alloc: Global, words: &[String]) -> Result<Job, Usage> {
+pub fn read_words(alloc: Global, words: &[String]) -> Result<Job, Usage>
+    ensures { IfErr result IsRefusal }
+{
     let matches = match command(alloc)?.try_get_matches_from(words) {
         Ok(matches) => matches,
         Err(error) => return Err(usage_of(alloc, &error)),
