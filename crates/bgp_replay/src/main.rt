@@ -14,7 +14,7 @@ mod tests;
 mod words;
 
 use adj_rib::SharedRoute;
-use bgp_prefix::Radix;
+use bgp_prefix::Shelf;
 use input::{Input, OpenError, open_all};
 use lane_deal::{ByTurns, NoGate, Plan};
 use mrt_frame::{Counted, ReplayError};
@@ -145,7 +145,7 @@ fn main(rt: HostRuntime) -> ExitCode {
         Err(code) => return ExitCode::from(code),
     };
     let mut out = Counted::new(rt.stdout());
-    let outcome = run::<Radix<SharedRoute>, _, _, _, _, _>(
+    let outcome = run::<Shelf<SharedRoute>, _, _, _, _, _>(
         &rt,
         rt.alloc(),
         inputs.as_mut_slice(),

@@ -6,7 +6,7 @@ use crate::replay::run;
 use crate::request::Request;
 use crate::summary::{Summary, status};
 use adj_rib::SharedRoute;
-use bgp_prefix::{Flat, PrefixMap, Radix};
+use bgp_prefix::{Flat, PrefixMap, Radix, Shelf};
 use lane_deal::{ByTurns, NoGate, Plan};
 use mrt_frame::{Counted, ReplayError};
 use std::alloc::Global;
@@ -94,7 +94,7 @@ pub fn replay_slowly(
         }))?;
     }
     let mut out = Counted::new(Vec::<u8>::new(alloc));
-    let result = run::<Radix<SharedRoute>, _, _, _, _, _>(
+    let result = run::<Shelf<SharedRoute>, _, _, _, _, _>(
         rt,
         alloc,
         readers.as_mut_slice(),
@@ -176,7 +176,7 @@ impl<'a> Row<'a> {
         }
     }
 
-    /// Replays the row by several plans, both maps and two readers, and compares.
+    /// Replays the row by several plans, each map and two readers, and compares.
     fn check(&self, rt: &(impl Threads + Abort + Sync), alloc: Global) -> Result<(), Fail> {
         let Some(request) = &self.request else {
             return Ok(());
@@ -194,6 +194,8 @@ impl<'a> Row<'a> {
             self.expect(rt, &radix);
             let flat = replay::<Flat<SharedRoute>>(rt, alloc, files, request, &plan)?;
             self.expect(rt, &flat);
+            let shelf = replay::<Shelf<SharedRoute>>(rt, alloc, files, request, &plan)?;
+            self.expect(rt, &shelf);
             if workers == 2 && ring == 4 {
                 self.expect_rounds(rt, &radix);
             }

@@ -1,6 +1,6 @@
 //! Rows on prefixes and maps, with each map.
 
-use bgp_prefix::{Flat, Prefix, PrefixMap, Radix, RouteKey};
+use bgp_prefix::{Flat, Prefix, PrefixMap, Radix, RouteKey, Shelf};
 use std::alloc::Global;
 use std::process::Abort;
 use std::test::Fail;
@@ -86,8 +86,11 @@ fn calls_of_each_map(rt: HostRuntime) -> Result<(), Fail> {
     let mut radix = <Radix<u32> as PrefixMap<u32>>::new(alloc);
     basic_calls(&rt, alloc, &mut flat)?;
     basic_calls(&rt, alloc, &mut radix)?;
+    let mut shelf = <Shelf<u32> as PrefixMap<u32>>::new(alloc);
+    basic_calls(&rt, alloc, &mut shelf)?;
     paths_of_a_prefix(&rt, alloc, &mut flat)?;
     paths_of_a_prefix(&rt, alloc, &mut radix)?;
+    paths_of_a_prefix(&rt, alloc, &mut shelf)?;
     Ok(())
 }
 
