@@ -6,7 +6,7 @@ PROGRAM = bin/bgp_replay
 BUILT = crates/bgp_replay/out/bgp_replay
 # The program that is tried and packed: another one than the built one can be given, as make scripts BINARY=..
 BINARY ?= $(PROGRAM)
-VERSION = $(shell sed -n 's/.*\.version("\([^"]*\)").*/\1/p' crates/bgp_replay/src/words.rt)
+VERSION = $(shell sed -n 's/^static VERSION: &str = "\([^"]*\)";/\1/p' crates/bgp_replay/src/commands.rt)
 ROOT = $(DESTDIR)$(PREFIX)
 DIST ?= dist
 DOCUMENTS = README.md CHANGELOG.md LICENSE docs/ARCHITECTURE.md docs/DECISIONS.md docs/FORMATS.md docs/MODEL.md docs/PERFORMANCE.md

@@ -18,7 +18,9 @@ _bgp_replay() {
       options=(
         '--workers[threads that build tables]:number of 1 to 64:(1 2 4 8 16 32 64)'
         '--ring[units that may wait for each worker]:number of 1 to 65536:(1 64 1024 65536)'
-        '--until[leave out what was recorded after this second]:seconds since 1970 UTC:'
+        '--until[leave out what was recorded after this second]:seconds since 1970 UTC, or 2024-01-01T01\:00\:00Z:'
+        '--header[print the columns'\'' names first]'
+        '--summary[say on standard error what was read]'
         '(- *)'{-h,--help}'[print a help text]'
         '(- *)'{-V,--version}'[print the version]'
         '*:dump:_files'

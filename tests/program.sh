@@ -50,6 +50,11 @@ try 0 '' whole-tables tables sample --workers 2
 try 0 '' whole-tables tables --until 18446744073709551615 sample
 try 0 '' nothing tables --until 0 sample
 try 0 '' whole-tables tables -- sample
+try 0 '' whole-tables tables --workers 2 --workers 3 sample
+try 0 '' whole-tables tables --until 0 --until 18446744073709551615 sample
+try 0 '' whole-tables tables --until 9999-01-01T00:00:00Z sample
+{ printf 'peer|prefix|as_path|next_hop|origin|med|local_pref|atomic|aggregator\n'; cat whole-tables; } > headed; try 0 '' headed tables --header sample
+printf 'file|offset|entry|number|fault\n' > headed; try 0 '' headed faults --header sample
 for words in --help -h help 'tables --help' 'match -h' 'help tables' --version -V 'faults --version'; do try 0 '' something $words; done
 
 # 1: damaged
@@ -66,7 +71,7 @@ try 2 '?' nothing
 for words in nothing 'nothing sample' tables match 'match sample' 'match --address 10.1.2.3' 'tables --workers 0 sample' 'tables --workers 65 sample' \
   'tables --workers -1 sample' 'tables --workers 4x sample' 'tables --workers' 'tables --ring 0 sample' 'tables --ring 65537 sample' 'tables --ring 18446744073709551616 sample' \
   'tables --until -1 sample' 'tables --until 18446744073709551616 sample' 'tables --until soon sample' 'tables --until' 'tables --frobnicate sample' 'tables -x sample' \
-  'tables --address 10.0.0.1 sample' 'tables --workers 2 --workers 3 sample' 'tables --until 1 --until 2 sample' '--workers 2 tables sample' 'match --address 10.1.2 missing --workers 0'; do
+  'tables --address 10.0.0.1 sample' '--workers 2 tables sample' 'match --address 10.1.2 missing --workers 0'; do
   try 2 '?' nothing $words
 done
 try 2 '?' nothing '' sample
@@ -116,7 +121,7 @@ done
 ./bgp_replay --version > /dev/full 2> said; judge 'the version to a full device' 3 'write failed' nothing $?
 ./bgp_replay tables sample > /dev/full 2> /dev/full; [ $? = 3 ] && right || wrong 'two full devices'
 ./bgp_replay tables cut > out 2> /dev/full; [ $? = 1 ] && cmp -s out <(./bgp_replay tables cut 2> none) && right || wrong 'a full device for standard error'
-{ sleep 0.3; ./bgp_replay tables sample 2> said; echo $? > status; } | true; : > out; judge 'a pipe that nobody reads' 3 'write failed' nothing "$(cat status)"
+{ sleep 0.3; ./bgp_replay tables sample 2> said; echo $? > status; } | true; : > out; judge 'a pipe that nobody reads' 3 '' nothing "$(cat status)"
 : > out; ./bgp_replay tables sample 2> said >&-; judge 'a closed standard output' 3 'write failed' nothing $?
 { ./bgp_replay tables sample 2> said; echo $? > status; } | head -c 100 > front; head -c 100 whole-tables | cmp -s - front && right || wrong 'the front of a report'
 

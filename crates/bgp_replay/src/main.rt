@@ -4,11 +4,17 @@
 ghost use Rattle.lane_deal.specs.Plans.{IsPlan};
 
 mod address;
+mod commands;
 mod input;
+mod kind;
+mod moment;
+mod names;
+mod output;
 mod replay;
 mod replayed;
 mod request;
 mod summary;
+mod telling;
 #[cfg(test)]
 mod tests;
 mod words;
@@ -17,11 +23,17 @@ use adj_rib::SharedRoute;
 use bgp_prefix::Shelf;
 use input::{Input, OpenError, open_all};
 use lane_deal::{ByTurns, NoGate, Plan};
-use mrt_frame::{Counted, ReplayError};
+use mrt_frame::Counted;
+use output::{Report, columns};
 use replay::run;
+use std::env::Env;
 use std::io::ErrorKind;
+use std::marker::Sync;
 use std::process::ExitCode;
-use summary::{Summary, status};
+use std::thread::Threads;
+use std::time::{Duration, Instant};
+use summary::status;
+use telling::{tell, tell_memory, tell_open, tell_summary, tell_write};
 use words::{Job, Usage, read_words};
 
 /// How many units are dealt in a round at most.
@@ -39,6 +51,9 @@ const REFUSED: u8 = 2;
 /// The status where a file, the writer or memory failed.
 const FAILED: u8 = 3;
 
+/// How many words are looked through for one that isn't text.
+const MOST_WORDS: usize = 100_000;
+
 fn plan_of(job: &Job) -> Plan
     ensures { IsPlan result }
 {
@@ -52,28 +67,9 @@ fn plan_of(job: &Job) -> Plan
     }
 }
 
-/// Says on standard error why the status isn't 0.
-fn tell(rt: &HostRuntime, outcome: &Result<Summary, ReplayError>) {
-    let _ = match outcome {
-        Ok(summary) if summary.damaged == 0 => Ok(()),
-        Ok(summary) => {
-            let damaged = summary.damaged;
-            eprintln!(rt; "damaged: {damaged}")
-        }
-        Err(ReplayError::Read { file }) => {
-            let number = file.saturating_add(1);
-            eprintln!(rt; "read failed: file {number}")
-        }
-        Err(ReplayError::Write) => eprintln!(rt; "write failed"),
-        Err(ReplayError::Records) => eprintln!(rt; "too many records"),
-        Err(ReplayError::Memory) => eprintln!(rt; "no memory"),
-        Err(ReplayError::Spent) => eprintln!(rt; "no memory"),
-    };
-}
-
 /// Says that memory ran out, and gives the status.
-fn without_memory(rt: &HostRuntime) -> u8 {
-    let _ = eprintln!(rt; "no memory");
+fn without_memory(rt: &HostRuntime, during: &str) -> u8 {
+    tell_memory(rt, during);
     FAILED
 }
 
@@ -81,8 +77,8 @@ fn without_memory(rt: &HostRuntime) -> u8 {
 fn explain(rt: &HostRuntime, usage: &Usage) -> u8 {
     match usage {
         Usage::Help(text) => {
-            if print!(rt; "{text}").is_err() {
-                let _ = eprintln!(rt; "write failed");
+            if let Err(error) = print!(rt; "{text}") {
+                tell_write(rt, Some(error));
                 return FAILED;
             }
             0
@@ -95,8 +91,27 @@ fn explain(rt: &HostRuntime, usage: &Usage) -> u8 {
             let _ = eprintln!(rt; "bad address: {text}");
             REFUSED
         }
-        Usage::Memory => without_memory(rt),
+        Usage::Memory => without_memory(rt, "the words were read"),
     }
+}
+
+/// Says which word isn't text, and gives the status.
+fn explain_bytes(rt: &HostRuntime) -> u8 {
+    let _ = eprintln!(rt; "error: an argument is not UTF-8 text");
+    let mut buf = [0; 4096];
+    for i in 1..MOST_WORDS {
+        let Ok(count) = rt.arg(i, &mut buf) else {
+            break;
+        };
+        let word = &buf[..count];
+        if str::from_utf8(word).is_err() {
+            let shown = word.escape_ascii();
+            let _ = eprintln!(rt;
+                "  argument {i}: {shown}; give such a file a link, or as standard input"
+            );
+        }
+    }
+    REFUSED
 }
 
 /// The words after the program's name, or the status to end with.
@@ -104,13 +119,10 @@ fn given_words(rt: &HostRuntime) -> Result<Vec<String>, u8> {
     match std::env::args(rt) {
         Ok(args) => match args.skip(1).collect::<Vec<String>>(rt.alloc()) {
             Ok(words) => Ok(words),
-            Err(_) => Err(without_memory(rt)),
+            Err(_) => Err(without_memory(rt, "the words were read")),
         },
-        Err(error) if error.kind() == ErrorKind::InvalidData => {
-            let _ = eprintln!(rt; "error: an argument is not UTF-8 text");
-            Err(REFUSED)
-        }
-        Err(_) => Err(without_memory(rt)),
+        Err(error) if error.kind() == ErrorKind::InvalidData => Err(explain_bytes(rt)),
+        Err(_) => Err(without_memory(rt, "the words were read")),
     }
 }
 
@@ -124,37 +136,56 @@ fn given_job(rt: &HostRuntime) -> Result<Job, u8> {
 }
 
 /// The dumps, opened, or the status to end with.
-fn opened(rt: &HostRuntime, job: &Job) -> Result<Vec<Input>, u8> {
-    match open_all(rt, job.files.as_slice()) {
+fn opened<'a>(rt: &HostRuntime, names: &'a [String]) -> Result<Vec<Input<'a>>, u8> {
+    match open_all(rt, names) {
         Ok(inputs) => Ok(inputs),
-        Err(OpenError::File(number)) => {
-            let _ = eprintln!(rt; "open failed: file {number}");
+        Err(OpenError::File(number, error)) => {
+            let name = names.get(number.saturating_sub(1));
+            tell_open(rt, number, name.map_or("", |name| name.as_str()), &error);
             Err(FAILED)
         }
-        Err(OpenError::Memory) => Err(without_memory(rt)),
+        Err(OpenError::Memory) => Err(without_memory(rt, "the files were opened")),
     }
 }
 
-fn main(rt: HostRuntime) -> ExitCode {
-    let job = match given_job(&rt) {
-        Ok(job) => job,
-        Err(code) => return ExitCode::from(code),
-    };
-    let mut inputs = match opened(&rt, &job) {
+/// How long ago a moment was, where the clock tells.
+fn since(rt: &HostRuntime, start: Option<Instant>) -> Option<Duration> {
+    start?.elapsed(rt).ok()
+}
+
+/// Replays the dumps of a job by threads, and gives the status.
+fn replay_job(rt: &HostRuntime, threads: &(impl Threads + Sync), job: &Job) -> u8 {
+    let start = Instant::now(rt).ok();
+    let mut inputs = match opened(rt, job.files.as_slice()) {
         Ok(inputs) => inputs,
-        Err(code) => return ExitCode::from(code),
+        Err(code) => return code,
     };
-    let mut out = Counted::new(rt.stdout());
+    let header = if job.header {
+        Some(columns(&job.request))
+    } else {
+        None
+    };
+    let mut out = Counted::new(Report::new(rt, header));
     let outcome = run::<Shelf<SharedRoute>, _, _, _, _, _>(
-        &rt,
+        threads,
         rt.alloc(),
         inputs.as_mut_slice(),
         &job.request,
-        &plan_of(&job),
+        &plan_of(job),
         &ByTurns,
         &NoGate,
         &mut out,
     );
-    tell(&rt, &outcome);
-    ExitCode::from(status(&outcome))
+    tell(rt, &outcome, &job.request, inputs.as_slice(), &out);
+    if job.summary {
+        tell_summary(rt, &outcome, inputs.as_slice(), since(rt, start));
+    }
+    status(&outcome)
+}
+
+fn main(rt: HostRuntime) -> ExitCode {
+    match given_job(&rt) {
+        Ok(job) => ExitCode::from(replay_job(&rt, &rt, &job)),
+        Err(code) => ExitCode::from(code),
+    }
 }

@@ -6,28 +6,12 @@ ghost use Rattle.bgp_replay.specs.Words.{IsRefusal};
 ghost use Rattle.bgp_replay.specs.declared.words.Usage.TheVariants.{Memory};
 
 use crate::address::read_address;
+use crate::commands::command;
+use crate::moment::read_second;
 use crate::request::Request;
 use clap::error::ErrorKind;
-use clap::{Arg, ArgAction, ArgMatches, Command, Error, value_parser};
+use clap::{ArgMatches, Error};
 use std::alloc::{AllocError, AllocFailed, Global};
-
-static ABOUT: &str =
-    "Replays MRT route-collector dumps into one routing table (Adj-RIB-In) per BGP peer, and prints a report.";
-
-static AFTER: &str = "Examples:
-  bgp_replay tables rib.mrt updates.mrt
-  bgp_replay visibility rib.mrt
-  bgp_replay origins rib.mrt
-  bgp_replay churn --until 1704070800 updates.mrt
-  bgp_replay match --address 192.0.2.1 rib.mrt
-  bzcat updates.bz2 | bgp_replay faults -
-
-Status:
-  0  the dumps are whole
-  1  the report is whole, but damaged records were left out; standard error says `damaged: N`
-  2  the words were refused
-  3  a file could not be opened or read, the report could not be written, memory ran out, or there
-     were too many records; standard error says which";
 
 static WORKERS_DEFAULT: usize = 4;
 
@@ -43,6 +27,10 @@ pub struct Job {
     pub ring: usize,
     /// A second since 1970 UTC.
     pub until: Option<u64>,
+    /// Whether the columns' names come first.
+    pub header: bool,
+    /// Whether standard error says what was read.
+    pub summary: bool,
     /// At least one; `-` is standard input.
     pub files: Vec<String>,
     ghost workers_in: { (1 ≤ workers) × (workers ≤ 64) },
@@ -77,104 +65,6 @@ impl<T: Drop> From<AllocFailed<T>> for Usage {
     fn from(_error: AllocFailed<T>) -> Usage {
         Usage::Memory
     }
-}
-
-fn workers_option<'a>(alloc: Global) -> Arg<'a> {
-    Arg::new(alloc, "workers")
-        .long("workers")
-        .value_name("N")
-        .value_parser(value_parser!(usize).range(1..=64))
-        .allow_negative_numbers(true)
-        .default_value("4")
-        .help(
-            "Threads that build tables, 1 to 64 (checked, but of no effect yet: one thread replays)",
-        )
-}
-
-fn ring_option<'a>(alloc: Global) -> Arg<'a> {
-    Arg::new(alloc, "ring")
-        .long("ring")
-        .value_name("N")
-        .value_parser(value_parser!(usize).range(1..=65536))
-        .allow_negative_numbers(true)
-        .default_value("1024")
-        .help("Units that may wait for each thread, 1 to 65536 (checked, but of no effect yet)")
-}
-
-fn until_option<'a>(alloc: Global) -> Arg<'a> {
-    Arg::new(alloc, "until")
-        .long("until")
-        .value_name("SECONDS")
-        .value_parser(value_parser!(u64))
-        .allow_negative_numbers(true)
-        .help("Leave out messages and RIB entries recorded after this second since 1970 UTC")
-}
-
-fn file_words<'a>(alloc: Global) -> Arg<'a> {
-    Arg::new(alloc, "file")
-        .value_name("FILE")
-        .num_args(1..)
-        .required(true)
-        .action(ArgAction::Append)
-        .help("MRT dumps, uncompressed, replayed in this order; '-' is standard input")
-}
-
-fn report_command<'a>(
-    alloc: Global,
-    name: &'a str,
-    about: &'a str,
-) -> Result<Command<'a>, AllocError> {
-    Command::new(alloc, name)
-        .about(about)
-        .arg(workers_option(alloc))?
-        .arg(ring_option(alloc))?
-        .arg(until_option(alloc))?
-        .arg(file_words(alloc))
-}
-
-fn match_command<'a>(alloc: Global) -> Result<Command<'a>, AllocError> {
-    let address = Arg::new(alloc, "address")
-        .long("address")
-        .value_name("A")
-        .required(true)
-        .help("An IPv4 address, such as 192.0.2.1");
-    report_command(
-        alloc,
-        "match",
-        "Print each peer's routes of the longest prefix that contains an address",
-    )?
-    .arg(address)
-}
-
-fn command<'a>(alloc: Global) -> Result<Command<'a>, AllocError> {
-    let tables = report_command(alloc, "tables", "Print every route of every peer")?;
-    let visibility = report_command(alloc, "visibility", "Count the peers that have each prefix")?;
-    let origins = report_command(
-        alloc,
-        "origins",
-        "Print the prefixes that have more than one origin AS",
-    )?;
-    let churn = report_command(
-        alloc,
-        "churn",
-        "Count what each peer announced and withdrew",
-    )?;
-    let faults = report_command(alloc, "faults", "List the damaged records of the dumps")?;
-    Command::new(alloc, "bgp_replay")
-        .bin_name("bgp_replay")?
-        .version("0.2.0")
-        .about(ABOUT)
-        .after_help(AFTER)
-        .no_binary_name(true)
-        .propagate_version(true)
-        .subcommand_required(true)
-        .arg_required_else_help(true)
-        .subcommand(tables)?
-        .subcommand(visibility)?
-        .subcommand(origins)?
-        .subcommand(churn)?
-        .subcommand(match_command(alloc)?)?
-        .subcommand(faults)
 }
 
 /// The number of the address that the words name.
@@ -212,6 +102,21 @@ fn refused(alloc: Global, text: &str) -> Result<Job, Usage>
     Err(Usage::Words(String::from_str(alloc, text)?))
 }
 
+/// The second that `--until` names, where it is given.
+fn until_of(alloc: Global, matches: &ArgMatches<'_>) -> Result<Option<u64>, Usage>
+    ensures { IfErr result IsRefusal }
+{
+    let Some(text) = matches.get_str("until") else {
+        return Ok(None);
+    };
+    match read_second(text) {
+        Some(second) => Ok(Some(second)),
+        None => Err(Usage::Words(format!(in alloc;
+            "error: invalid value '{text}' for '--until <TIME>': neither seconds since 1970 UTC, as 1704070800, nor a date and time with its offset from UTC, as 2024-01-01T01:00:00Z or 2024-01-01T02:00:00+01:00\n"
+        )?)),
+    }
+}
+
 fn files_of(alloc: Global, matches: &ArgMatches<'_>) -> Result<Vec<String>, Usage>
     ensures { IfErr result IsRefusal }
 {
@@ -228,6 +133,7 @@ fn job_of(alloc: Global, name: &str, matches: &ArgMatches<'_>) -> Result<Job, Us
     ensures { IfErr result IsRefusal }
 {
     let request = request_of(alloc, name, matches)?;
+    let until = until_of(alloc, matches)?;
     let files = files_of(alloc, matches)?;
     let workers = matches
         .get_one::<usize>("workers")
@@ -246,7 +152,9 @@ fn job_of(alloc: Global, name: &str, matches: &ArgMatches<'_>) -> Result<Job, Us
         request,
         workers,
         ring,
-        until: matches.get_one::<u64>("until"),
+        until,
+        header: matches.get_flag("header"),
+        summary: matches.get_flag("summary"),
         files,
     })
 }

@@ -1,0 +1,95 @@
+//! What a file is that is no MRT dump, by its first bytes.
+
+ghost use Rattle.std.specs.Prelude.{◌≤◌};
+
+/// How many first bytes are looked at.
+const LOOKED_AT: usize = 8;
+
+/// A kind of data that is taken for a dump by mistake.
+#[derive(Clone, Copy, Debug, PartialEq, Eq)]
+pub enum Kind {
+    Gzip,
+    Bzip2,
+    Xz,
+    Zstd,
+    Capture,
+    Text,
+}
+
+impl Kind {
+    /// Its name, as in 'looks like'.
+    pub fn name(self) -> &'static str {
+        match self {
+            Kind::Gzip => "gzip data",
+            Kind::Bzip2 => "bzip2 data",
+            Kind::Xz => "xz data",
+            Kind::Zstd => "zstd data",
+            Kind::Capture => "a packet capture",
+            Kind::Text => "text",
+        }
+    }
+
+    /// The command that unpacks it, where it is a packed file.
+    pub fn unpacker(self) -> Option<&'static str> {
+        match self {
+            Kind::Gzip => Some("zcat"),
+            Kind::Bzip2 => Some("bzcat"),
+            Kind::Xz => Some("xzcat"),
+            Kind::Zstd => Some("zstdcat"),
+            Kind::Capture | Kind::Text => None,
+        }
+    }
+}
+
+/// The first bytes of a file, as far as they were read.
+#[derive(Clone, Copy)]
+pub struct FirstBytes {
+    bytes: [u8; LOOKED_AT],
+    len: usize,
+    ghost within: { len ≤ 8 },
+}
+
+impl FirstBytes {
+    pub fn new() -> FirstBytes {
+        FirstBytes {
+            bytes: [0; LOOKED_AT],
+            len: 0,
+        }
+    }
+
+    /// Takes the next bytes that were read.
+    pub fn take(&mut self, bytes: &[u8]) {
+        for byte in bytes {
+            if self.len >= LOOKED_AT {
+                return;
+            }
+            self.bytes[self.len] = *byte;
+            self.len += 1;
+        }
+    }
+
+    /// What they look like, where that is no MRT dump: of a dump, the first four bytes are a second of
+    /// its time, and the fifth is 0.
+    pub fn kind(&self) -> Option<Kind> {
+        match &self.bytes[..self.len] {
+            [0x1f, 0x8b, 0x08, ..] => Some(Kind::Gzip),
+            [b'B', b'Z', b'h', b'1'..=b'9', ..] => Some(Kind::Bzip2),
+            [0xfd, b'7', b'z', b'X', b'Z', 0, ..] => Some(Kind::Xz),
+            [0x28, 0xb5, 0x2f, 0xfd, ..] => Some(Kind::Zstd),
+            [0xa1, 0xb2, 0xc3, 0xd4, 0, 2, ..] | [0xd4, 0xc3, 0xb2, 0xa1, 2, 0, ..] => {
+                Some(Kind::Capture)
+            }
+            [0xa1, 0xb2, 0x3c, 0x4d, 0, 2, ..] | [0x4d, 0x3c, 0xb2, 0xa1, 2, 0, ..] => {
+                Some(Kind::Capture)
+            }
+            [0x0a, 0x0d, 0x0d, 0x0a, ..] => Some(Kind::Capture),
+            bytes if is_text(bytes) => Some(Kind::Text),
+            _ => None,
+        }
+    }
+}
+
+fn is_text(bytes: &[u8]) -> bool {
+    bytes.len() == LOOKED_AT
+        && bytes.iter().all(|byte| byte.is_ascii_graphic() || byte.is_ascii_whitespace())
+}

@@ -1,0 +1,81 @@
+//! The report's way to standard output.
+
+use crate::request::Request;
+use mrt_frame::Counted;
+use std::io::{self, Stdout, Write};
+
+static ROUTE_COLUMNS: &str =
+    "peer|prefix|as_path|next_hop|origin|med|local_pref|atomic|aggregator\n";
+
+/// The names of a report's columns, as a line.
+pub fn columns(request: &Request) -> &'static str {
+    match request {
+        Request::Tables | Request::Match(_) => ROUTE_COLUMNS,
+        Request::Visibility => "prefix|peers\n",
+        Request::Origins => "prefix|origins\n",
+        Request::Churn => { "peer|new|changed|same|gone|void|resets|idle|refused|first|last\n" }
+        Request::Faults => "file|offset|entry|number|fault\n",
+    }
+}
+
+/// Standard output, with a header that comes before the first byte of the report. A report without a
+/// byte gets it when it is flushed.
+#[derive(Drop)]
+pub struct Report {
+    out: Stdout,
+    header: Option<&'static str>,
+    error: Option<io::Error>,
+}
+
+/// The report's writer, with a count of its failures.
+pub type Output = Counted<Report>;
+
+impl Report {
+    pub fn new(rt: &HostRuntime, header: Option<&'static str>) -> Report {
+        Report {
+            out: rt.stdout(),
+            header,
+            error: None,
+        }
+    }
+
+    /// Why it couldn't be written, after a failure.
+    pub fn error(&self) -> Option<io::Error> {
+        self.error
+    }
+
+    fn write_header(&mut self) -> io::Result<()> {
+        match self.header.take() {
+            Some(header) => self.out.write_all(header.as_bytes()),
+            None => Ok(()),
+        }
+    }
+
+    /// Keeps why it failed.
+    fn keep(&mut self, error: io::Error) -> io::Error {
+        self.error = Some(error);
+        error
+    }
+}
+
+impl Write for Report {
+    fn write(&mut self, buf: &[u8]) -> io::Result<usize> {
+        if let Err(error) = self.write_header() {
+            return Err(self.keep(error));
+        }
+        match self.out.write(buf) {
+            Ok(count) => Ok(count),
+            Err(error) => Err(self.keep(error)),
+        }
+    }
+
+    fn flush(&mut self) -> io::Result<()> {
+        if let Err(error) = self.write_header() {
+            return Err(self.keep(error));
+        }
+        match self.out.flush() {
+            Ok(()) => Ok(()),
+            Err(error) => Err(self.keep(error)),
+        }
+    }
+}

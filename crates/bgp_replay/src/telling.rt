@@ -1,0 +1,193 @@
+//! What the program says on standard error. A line behind the first is indented by two spaces, and
+//! says which file and why. No failure to say it changes the status.
+
+use crate::input::Input;
+use crate::kind::Kind;
+use crate::names::FileName;
+use crate::output::Output;
+use crate::request::Request;
+use crate::summary::Summary;
+use mrt_frame::ReplayError;
+use std::fmt::Display;
+use std::io::{self, ErrorKind};
+use std::time::Duration;
+
+/// Says why what has this name couldn't be used, in the system's words.
+fn tell_cause<N: Display + Drop>(rt: &HostRuntime, name: N, error: &io::Error) {
+    if let Ok(text) = format!(in rt.alloc(); "{error}") {
+        // The number behind the system's words says nothing more.
+        let words = text.as_str().split(" (os error ").next().unwrap_or("");
+        let _ = eprintln!(rt; "  {name}: {words}");
+    }
+}
+
+/// Says that memory ran out, and while what.
+pub fn tell_memory(rt: &HostRuntime, during: &str) {
+    let _ = eprintln!(rt; "no memory\n  the system refused memory while {during}");
+}
+
+/// Says that a file couldn't be opened.
+pub fn tell_open(rt: &HostRuntime, number: usize, name: &str, error: &io::Error) {
+    let _ = eprintln!(rt; "open failed: file {number}");
+    tell_cause(rt, FileName(name), error);
+}
+
+/// Says that standard output couldn't be written, but where its reader is gone, as `head` is after
+/// some lines.
+pub fn tell_write(rt: &HostRuntime, error: Option<io::Error>) {
+    match error {
+        Some(error) if error.kind() == ErrorKind::BrokenPipe => {}
+        Some(error) => {
+            let _ = eprintln!(rt; "write failed");
+            tell_cause(rt, "standard output", &error);
+        }
+        None => {
+            let _ = eprintln!(rt; "write failed\n  standard output: it takes no more bytes");
+        }
+    }
+}
+
+/// Says that a file couldn't be read; where that is for want of memory for its block, that memory ran
+/// out.
+fn tell_read(rt: &HostRuntime, file: usize, inputs: &[Input<'_>]) {
+    let number = file.saturating_add(1);
+    let dump = inputs.get(file).map(|input| input.device());
+    let error = dump.and_then(|dump| dump.error());
+    match (dump, error) {
+        (Some(_), Some(error)) if error.kind() == ErrorKind::OutOfMemory => {
+            tell_memory(rt, "the dumps were read");
+        }
+        (Some(dump), Some(error)) => {
+            let _ = eprintln!(rt; "read failed: file {number}");
+            tell_cause(rt, FileName(dump.name()), &error);
+        }
+        _ => {
+            let _ = eprintln!(rt; "read failed: file {number}");
+        }
+    }
+}
+
+/// The command of a request.
+fn command_of(request: &Request) -> &'static str {
+    match request {
+        Request::Tables => "tables",
+        Request::Visibility => "visibility",
+        Request::Origins => "origins",
+        Request::Churn => "churn",
+        Request::Match(_) => "match --address A",
+        Request::Faults => "faults",
+    }
+}
+
+/// Says how a packed file is unpacked for a command.
+fn tell_unpacking(rt: &HostRuntime, command: &str, unpacker: &str, kind: Kind, name: &str) {
+    let data = kind.name();
+    let shown = FileName(name);
+    let _ = if name == "-" {
+        eprintln!(rt; "  {shown}: looks like {data}; try: {unpacker} FILE | bgp_replay {command} -")
+    } else {
+        eprintln!(rt;
+            "  {shown}: looks like {data}; try: bgp_replay {command} <({unpacker} {shown})"
+        )
+    };
+}
+
+/// Says of each file that looks like no dump what it looks like.
+fn tell_kinds(rt: &HostRuntime, request: &Request, inputs: &[Input<'_>]) {
+    for input in inputs {
+        let dump = input.device();
+        if let Some(kind) = dump.kind() {
+            match kind.unpacker() {
+                Some(unpacker) => {
+                    tell_unpacking(rt, command_of(request), unpacker, kind, dump.name());
+                }
+                None => {
+                    let shown = FileName(dump.name());
+                    let data = kind.name();
+                    let _ = eprintln!(rt; "  {shown}: looks like {data}, and not like an MRT dump");
+                }
+            }
+        }
+    }
+}
+
+/// Says why the status isn't 0.
+pub fn tell(
+    rt: &HostRuntime,
+    outcome: &Result<Summary, ReplayError>,
+    request: &Request,
+    inputs: &[Input<'_>],
+    out: &Output,
+) {
+    match outcome {
+        Ok(summary) => {
+            let damaged = summary.damaged;
+            if damaged > 0 {
+                let _ = eprintln!(rt; "damaged: {damaged}");
+            }
+            if damaged > 0 || summary.units == 0 {
+                tell_kinds(rt, request, inputs);
+            }
+        }
+        Err(ReplayError::Read { file }) => tell_read(rt, *file, inputs),
+        Err(ReplayError::Write) => tell_write(rt, out.device().error()),
+        Err(ReplayError::Records) => {
+            let _ = eprintln!(rt; "too many records");
+        }
+        Err(ReplayError::Memory) | Err(ReplayError::Spent) => {
+            tell_memory(rt, "the dumps were replayed");
+        }
+    }
+}
+
+/// How many bytes were read of all files.
+fn all_bytes(inputs: &[Input<'_>]) -> u64 {
+    inputs.iter().fold(
+        0u64,
+        |sum, input| sum.saturating_add(input.device().bytes()),
+    )
+}
+
+/// What the replay counted. A line `damaged: N` stands there already where there is damage.
+fn tell_counts(rt: &HostRuntime, summary: &Summary) {
+    let Summary {
+        records,
+        units,
+        aside,
+        damaged,
+        rounds,
+        peers,
+    } = *summary;
+    let _ = eprintln!(rt; "records: {records}\nunits: {units}\naside: {aside}");
+    if damaged == 0 {
+        let _ = eprintln!(rt; "damaged: 0");
+    }
+    let _ = eprintln!(rt; "peers: {peers}\nrounds: {rounds}");
+}
+
+/// Says what was read, in lines of a key and a value: `file` is a file's number, how many of its bytes
+/// were read, and its name.
+pub fn tell_summary(
+    rt: &HostRuntime,
+    outcome: &Result<Summary, ReplayError>,
+    inputs: &[Input<'_>],
+    elapsed: Option<Duration>,
+) {
+    for (i, input) in inputs.iter().enumerate() {
+        let number = i.saturating_add(1);
+        let bytes = input.device().bytes();
+        let name = FileName(input.device().name());
+        let _ = eprintln!(rt; "file: {number} {bytes} {name}");
+    }
+    let files = inputs.len();
+    let bytes = all_bytes(inputs);
+    let _ = eprintln!(rt; "files: {files}\nbytes: {bytes}");
+    if let Ok(summary) = outcome {
+        tell_counts(rt, summary);
+    }
+    if let Some(elapsed) = elapsed {
+        let seconds = elapsed.as_secs();
+        let millis = elapsed.subsec_millis();
+        let _ = eprintln!(rt; "seconds: {seconds}.{millis:03}");
+    }
+}
