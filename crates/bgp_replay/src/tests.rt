@@ -11,7 +11,6 @@ mod hostile;
 mod layers;
 mod maps;
 mod playing;
-mod refusing;
 mod rounds;
 mod rows;
 mod words;

@@ -148,13 +148,10 @@ impl<'a> Row<'a> {
 
     fn expect_counts(&self, rt: &impl Abort, summary: &Summary) {
         let row = self.name;
-        let mut name = "";
-        for word in self.counts.split(' ') {
-            match word.parse::<u64>() {
-                Ok(number) => {
-                    assert!(rt; count_of(summary, name) == Some(number), "{name} in {row}");
-                }
-                Err(_) => name = word,
+        for pair in self.counts.split(',') {
+            if let Some((name, number)) = pair.split_once(' ') {
+                let count = number.parse::<u64>().ok();
+                assert!(rt; count_of(summary, name) == count, "{name} in {row}");
             }
         }
     }

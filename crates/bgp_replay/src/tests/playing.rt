@@ -1,10 +1,15 @@
 //! Plays rows that stand as text on replayers: rounds, and what is seen between them.
 
+ghost use Rattle.std.specs.Prelude.{◌≡◌, ◌≢◌, true};
+ghost use Rattle.lane_deal.specs.Playing.{shown};
+ghost use Rattle.lane_deal.specs.Rounds.{IsSettled};
+ghost use Rattle.lane_deal.specs.declared.state.State.TheVariants.{Spent};
+
 use super::dumps::dump;
 use super::harness::PLAN;
 use adj_rib::SharedRoute;
 use bgp_prefix::PrefixMap;
-use lane_deal::{ByTurns, NoGate, Plan, Replayer, Step};
+use lane_deal::{ByTurns, Dealing, NoGate, Plan, Replayer, Step};
 use mrt_body::Units;
 use mrt_frame::{Counted, ReplayError, Source};
 use rib_report::{churn, table_rows, write_churn, write_rows};
@@ -155,11 +160,10 @@ impl<M: PrefixMap<SharedRoute> + Send + Drop, R: Source + Send + Drop> Play<M, R
     }
 
     fn shows(&self, rt: &impl Abort, row: &str, counts: &str) {
-        let mut name = "";
-        for word in counts.split(' ') {
-            match word.parse::<u64>() {
-                Ok(number) => assert!(rt; self.count(name) == Some(number), "{name} in {row}"),
-                Err(_) => name = word,
+        for pair in counts.split(',') {
+            if let Some((name, number)) = pair.split_once(' ') {
+                let number = number.parse::<u64>().ok();
+                assert!(rt; self.count(name) == number, "{name} in {row}");
             }
         }
     }
@@ -198,7 +202,8 @@ impl<M: PrefixMap<SharedRoute> + Send + Drop, R: Source + Send + Drop> Play<M, R
         alloc: Global,
     ) -> Result<(&'static str, Vec<u8>), Fail> {
         let replayer = self.replayer;
-        assert!(rt; replayer.is_spent() || replayer.is_settled());
+        let ends = may_end(&replayer);
+        assert!(rt; ends, "rings are empty");
         let mut out = Counted::new(Vec::<u8>::new(alloc));
         match replayer.into_tables(alloc) {
             Ok(tables) => {
@@ -209,6 +214,16 @@ impl<M: PrefixMap<SharedRoute> + Send + Drop, R: Source + Send + Drop> Play<M, R
             Err((_, error)) => Ok((error_name(&error), Vec::new(alloc))),
         }
     }
+}
+
+/// Whether its tables can be had: all rings are empty, or it is spent.
+fn may_end<M: PrefixMap<SharedRoute>, D: Dealing>(replayer: &Replayer<M, D>) -> bool
+    ensures { result ≡ true → replayer.now.state ≢ Spent → IsSettled (shown replayer.now) }
+{
+    if replayer.is_spent() {
+        return true;
+    }
+    replayer.is_settled()
 }
 
 /// A file of a row, and whether it fails in place of its end.
@@ -237,19 +252,32 @@ impl<'a> Row<'a> {
         }
     }
 
+    /// Takes a number into the plan, by its name.
+    fn set_number(&mut self, name: &str, number: u64) {
+        match name {
+            "workers" => self.plan.workers = number as usize,
+            "ring" => self.plan.ring = number as usize,
+            "batch" => self.plan.batch = number,
+            "records" => self.plan.max_records = number,
+            _ => {}
+        }
+    }
+
+    /// What `into_tables` answers at the end of the row.
+    fn ending(&self) -> Option<&'a str> {
+        for line in &self.lines {
+            if let Some(wanted) = line.strip_prefix("into_tables ") {
+                return Some(wanted);
+            }
+        }
+        None
+    }
+
     /// Takes the numbers of a line into the plan.
     fn set_plan(&mut self, words: &str) {
-        let mut name = "";
-        for word in words.split(' ') {
-            match word.parse::<u64>() {
-                Ok(number) => match name {
-                    "workers" => self.plan.workers = number as usize,
-                    "ring" => self.plan.ring = number as usize,
-                    "batch" => self.plan.batch = number,
-                    "records" => self.plan.max_records = number,
-                    _ => {}
-                },
-                Err(_) => name = word,
+        for pair in words.split(',') {
+            if let Some((name, number)) = pair.split_once(' ') {
+                self.set_number(name, number.parse::<u64>().unwrap_or(0));
             }
         }
     }
@@ -267,22 +295,19 @@ impl<'a> Row<'a> {
             }))?;
         }
         let mut play = Play::<M, _>::new(rt, alloc, readers, self.plan)?;
-        let mut ending = "";
         let mut expected = Vec::new(alloc);
         for line in &self.lines {
             if let Some(text) = line.strip_prefix("> ") {
                 expected.extend_from_slice(text.as_bytes())?;
                 expected.push(b'\n')?;
-            } else if let Some(wanted) = line.strip_prefix("into_tables ") {
-                ending = wanted;
-            } else {
+            } else if !line.starts_with("into_tables ") {
                 play.step(rt, alloc, self.name, line);
             }
         }
-        if !ending.is_empty() {
+        if let Some(wanted) = self.ending() {
             let name = self.name;
             let (answer, text) = play.into_text(rt, alloc)?;
-            assert!(rt; answer == ending, "into_tables in {name}");
+            assert!(rt; answer == wanted, "into_tables in {name}");
             assert!(rt;
                 text.as_slice() == expected.as_slice(),
                 "the tables in {name}"

@@ -10,55 +10,55 @@ const ROUNDS: &str = "
 row settle-a-fresh-replayer
 file
 settle Ok
-shows rounds 1 dealt 0 took 0 waiting 0
+shows rounds 1,dealt 0,took 0,waiting 0
 settled
 unspent
 into_tables Ok
 row ring-of-one-then-settle
 file M M M
-plan workers 1 ring 1
+plan workers 1,ring 1
 round Blocked
-shows rounds 1 dealt 1 waiting 1 took 0
+shows rounds 1,dealt 1,waiting 1,took 0
 unsettled
 settle Ok
-shows rounds 2 dealt 1 took 1 waiting 0
+shows rounds 2,dealt 1,took 1,waiting 0
 settled
 into_tables Ok
 > 65000 192.0.2.1|10.0.0.0/8|65000|192.0.2.1|IGP|-|-|-|-
 > 65000 192.0.2.1|1|0|0|0|0|0|0|0|1.000000|1.000000
 row ring-of-one-second-round
 file M M M
-plan workers 1 ring 1
+plan workers 1,ring 1
 round Blocked
 round Blocked
-shows rounds 2 took 1
+shows rounds 2,took 1
 dealt 1 or 2
 row batch-of-two
 file M M M
-plan workers 1 batch 2
+plan workers 1,batch 2
 round FullBatch
-shows rounds 1 dealt 2 waiting 2 took 0
+shows rounds 1,dealt 2,waiting 2,took 0
 round End
-shows rounds 2 dealt 3 took 2 waiting 1
+shows rounds 2,dealt 3,took 2,waiting 1
 round End
-shows rounds 2 dealt 3 took 2 waiting 1
+shows rounds 2,dealt 3,took 2,waiting 1
 settle Ok
-shows rounds 3 dealt 3 took 3 waiting 0
+shows rounds 3,dealt 3,took 3,waiting 0
 row batch-of-three
 file M M M
-plan workers 1 batch 3
+plan workers 1,batch 3
 round FullBatch
 shows dealt 3
 round End
-shows rounds 2 dealt 3
+shows rounds 2,dealt 3
 row blocked-unit-stays
 file M M M
-plan workers 1 ring 1
+plan workers 1,ring 1
 round Blocked
 settle Ok
 round until End
 settle Ok
-shows dealt 3 took 3 waiting 0
+shows dealt 3,took 3,waiting 0
 into_tables Ok
 > 65000 192.0.2.1|10.0.0.0/8|65000|192.0.2.1|IGP|-|-|-|-
 > 65000 192.0.2.1|1|0|2|0|0|0|0|0|1.000000|1.000000
@@ -88,9 +88,9 @@ row reader-fails-inside-a-record
 broken M 00000001 0010 0004 00000041
 round Read 0
 unspent
-shows rounds 1 dealt 1
+shows rounds 1,dealt 1
 round Read 0
-shows rounds 1 dealt 1
+shows rounds 1,dealt 1
 settle Ok
 round Read 0
 settled
