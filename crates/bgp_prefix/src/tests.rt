@@ -71,7 +71,8 @@ fn calls<M: PrefixMap<u32> + Drop>(rt: &impl Abort, alloc: Global) -> Result<(),
 #[test]
 fn each_map_answers_its_calls(rt: HostRuntime) -> Result<(), Fail> {
     calls::<Flat<u32>>(&rt, rt.alloc())?;
-    calls::<Radix<u32>>(&rt, rt.alloc())
+    calls::<Radix<u32>>(&rt, rt.alloc())?;
+    calls::<Shelf<u32>>(&rt, rt.alloc())
 }
 
 #[test]
@@ -283,10 +284,38 @@ impl Plain {
     }
 }
 
+// What the plainest map answers.
+#[derive(Drop)]
+struct Answers {
+    value: Option<u32>,
+    longest: Option<Prefix>,
+    paths: Vec<(u32, u32)>,
+    len: usize,
+}
+
+fn expect_answers<M: PrefixMap<u32>>(
+    rt: &impl Abort,
+    alloc: Global,
+    map: &M,
+    key: &RouteKey,
+    addr: u32,
+    wanted: &Answers,
+) -> Result<(), Memory> {
+    assert_eq!(rt; map.get(key).copied(), wanted.value);
+    assert_eq!(rt; map.longest(addr), wanted.longest);
+    assert_eq!(rt;
+        paths(map, alloc, &key.prefix)?.as_slice(),
+        wanted.paths.as_slice()
+    );
+    assert_eq!(rt; map.len(), wanted.len);
+    Ok(())
+}
+
 #[derive(Drop)]
 struct Maps {
     flat: Flat<u32>,
     radix: Radix<u32>,
+    shelf: Shelf<u32>,
     plain: Plain,
 }
 
@@ -295,6 +324,7 @@ impl Maps {
         Maps {
             flat: PrefixMap::new(alloc),
             radix: PrefixMap::new(alloc),
+            shelf: PrefixMap::new(alloc),
             plain: Plain {
                 entries: Vec::new(alloc),
             },
@@ -314,6 +344,7 @@ impl Maps {
             before
         );
         assert_eq!(rt; self.radix.insert(alloc, key, value)?, before);
+        assert_eq!(rt; self.shelf.insert(alloc, key, value)?, before);
         Ok(())
     }
 
@@ -321,12 +352,14 @@ impl Maps {
         let before = self.plain.remove(key);
         assert_eq!(rt; self.flat.remove(key), before);
         assert_eq!(rt; self.radix.remove(key), before);
+        assert_eq!(rt; self.shelf.remove(key), before);
     }
 
     fn clear(&mut self) {
         self.plain.entries.clear();
         self.flat.clear();
         self.radix.clear();
+        self.shelf.clear();
     }
 
     fn compare(
@@ -336,25 +369,16 @@ impl Maps {
         key: &RouteKey,
         addr: u32,
     ) -> Result<(), Memory> {
-        let value = self.plain.get(key);
-        assert_eq!(rt; self.flat.get(key).copied(), value);
-        assert_eq!(rt; self.radix.get(key).copied(), value);
-        let longest = self.plain.longest(addr);
-        assert_eq!(rt; self.flat.longest(addr), longest);
-        assert_eq!(rt; self.flat.longest_steps(addr).0, longest);
-        assert_eq!(rt; self.radix.longest(addr), longest);
-        let of_prefix = self.plain.paths(alloc, &key.prefix)?;
-        assert_eq!(rt;
-            paths(&self.flat, alloc, &key.prefix)?.as_slice(),
-            of_prefix.as_slice()
-        );
-        assert_eq!(rt;
-            paths(&self.radix, alloc, &key.prefix)?.as_slice(),
-            of_prefix.as_slice()
-        );
-        let len = self.plain.entries.len();
-        assert_eq!(rt; self.flat.len(), len);
-        assert_eq!(rt; self.radix.len(), len);
+        let wanted = Answers {
+            value: self.plain.get(key),
+            longest: self.plain.longest(addr),
+            paths: self.plain.paths(alloc, &key.prefix)?,
+            len: self.plain.entries.len(),
+        };
+        expect_answers(rt, alloc, &self.flat, key, addr, &wanted)?;
+        expect_answers(rt, alloc, &self.radix, key, addr, &wanted)?;
+        expect_answers(rt, alloc, &self.shelf, key, addr, &wanted)?;
+        assert_eq!(rt; self.flat.longest_steps(addr).0, wanted.longest);
         Ok(())
     }
 
@@ -363,12 +387,13 @@ impl Maps {
         let all = self.plain.entries.as_slice();
         assert_eq!(rt; entries(&self.flat, alloc)?.as_slice(), all);
         assert_eq!(rt; entries(&self.radix, alloc)?.as_slice(), all);
+        assert_eq!(rt; entries(&self.shelf, alloc)?.as_slice(), all);
         Ok(())
     }
 }
 
 #[test]
-fn both_maps_answer_as_a_plain_list(rt: HostRuntime) -> Result<(), Fail> {
+fn each_map_answers_as_a_plain_list(rt: HostRuntime) -> Result<(), Fail> {
     let alloc = rt.alloc();
     let mut draws = Draws { state: 1 };
     let mut maps = Maps::new(alloc);
@@ -407,8 +432,8 @@ const FIRST_KEYS: [(u32, u8, u32); 9] = [
     (0x0A02_0000, 16, 4),
 ];
 
-// More keys than a leaf of the trie has, so that leaves become forks.
-const GROWING: usize = 80;
+// More keys than a leaf of the trie or a chunk of the shelf has, so that leaves become forks, and chunks two.
+const GROWING: usize = 200;
 
 // The key of a place: after those of the table, prefixes of 24 bits by turns in two halves of a network.
 fn growing(i: usize) -> Result<RouteKey, &'static str> {
@@ -461,4 +486,79 @@ fn a_refused_growth_leaves_the_flat_map(rt: HostRuntime) -> Result<(), Fail> {
 #[test]
 fn a_refused_growth_leaves_the_radix_map(rt: HostRuntime) -> Result<(), Fail> {
     grow::<Radix<usize>>(&rt, rt.alloc())
+}
+
+#[test]
+fn a_refused_growth_leaves_the_shelf(rt: HostRuntime) -> Result<(), Fail> {
+    grow::<Shelf<usize>>(&rt, rt.alloc())
+}
+
+// Keys in order that fill a row of the shelf, and begin another.
+const IN_ORDER: u32 = 128 * 128 + 200;
+
+// The key of a place, in the order of the places.
+fn in_order(place: u32) -> Result<RouteKey, &'static str> {
+    key(0x0A00_0000 + place % 0x2_0000 * 0x100, 24, 0)
+}
+
+fn fill_in_order<M: PrefixMap<u32>>(
+    rt: &impl Abort,
+    alloc: Global,
+    map: &mut M,
+) -> Result<(), Fail> {
+    for place in 0..IN_ORDER {
+        assert_eq!(rt; map.insert(alloc, in_order(2 * place)?, 2 * place)?, None);
+    }
+    Ok(())
+}
+
+// The keys between, from the end, by which full chunks and a full row are cut in two.
+fn fill_between<M: PrefixMap<u32>>(
+    rt: &impl Abort,
+    alloc: Global,
+    map: &mut M,
+) -> Result<(), Fail> {
+    for place in (0..IN_ORDER).rev() {
+        let between = in_order(2 * place + 1)?;
+        assert_eq!(rt; map.insert(alloc, between, 2 * place + 1)?, None);
+    }
+    Ok(())
+}
+
+fn expect_all<M: PrefixMap<u32>>(rt: &impl Abort, alloc: Global, map: &M) -> Result<(), Fail> {
+    let mut next = 0u32;
+    for entry in &map.entries(alloc)? {
+        assert_eq!(rt; (entry.0, *entry.1), (in_order(next)?, next));
+        next = next.wrapping_add(1);
+    }
+    assert_eq!(rt; next, 2 * IN_ORDER);
+    Ok(())
+}
+
+fn empty_in_order<M: PrefixMap<u32>>(rt: &impl Abort, map: &mut M) -> Result<(), Fail> {
+    for place in 0..2 * IN_ORDER {
+        let here = in_order(place)?;
+        assert_eq!(rt; map.longest(here.prefix.addr() | 1), Some(here.prefix));
+        assert_eq!(rt; map.remove(&here), Some(place));
+    }
+    assert_eq!(rt; map.len(), 0);
+    Ok(())
+}
+
+fn fill_and_empty<M: PrefixMap<u32> + Drop>(rt: &impl Abort, alloc: Global) -> Result<(), Fail> {
+    let mut map: M = PrefixMap::new(alloc);
+    fill_in_order(rt, alloc, &mut map)?;
+    fill_between(rt, alloc, &mut map)?;
+    expect_all(rt, alloc, &map)?;
+    empty_in_order(rt, &mut map)
+}
+
+#[test]
+fn a_large_radix_map_fills_and_empties(rt: HostRuntime) -> Result<(), Fail> {
+    fill_and_empty::<Radix<u32>>(&rt, rt.alloc())
+}
+
+#[test]
+fn a_large_shelf_fills_and_empties(rt: HostRuntime) -> Result<(), Fail> {
+    fill_and_empty::<Shelf<u32>>(&rt, rt.alloc())
 }
