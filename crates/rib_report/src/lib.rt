@@ -21,7 +21,7 @@ mod write;
 
 pub use activity::churn;
 pub use defined::{faults_stand_by_place, origins_are_of_all_routes, visibility_counts_peers};
-pub use entries::{table_rows, list_tables};
+pub use entries::{list_tables, table_rows};
 pub use listed::faults;
 pub use matching::matches;
 pub use origin::origins;

@@ -2,8 +2,8 @@
 
 use super::peers::{Peers, Said, tables_of};
 use crate::{
-    Tables, churn, faults, matches, origins, table_rows, visibility, write_churn, write_faults,
-    write_origins, write_rows, list_tables, write_visibility,
+    Tables, churn, faults, list_tables, matches, origins, table_rows, visibility, write_churn,
+    write_faults, write_origins, write_rows, write_visibility,
 };
 use adj_rib::SharedRoute;
 use bgp_prefix::{Flat, PrefixMap, Radix};
