@@ -9,7 +9,7 @@ BINARY ?= $(PROGRAM)
 VERSION = $(shell sed -n 's/^static VERSION: &str = "\([^"]*\)";/\1/p' crates/bgp_replay/src/commands.rt)
 ROOT = $(DESTDIR)$(PREFIX)
 DIST ?= dist
-DOCUMENTS = README.md CHANGELOG.md LICENSE docs/ARCHITECTURE.md docs/DECISIONS.md docs/FORMATS.md docs/MODEL.md docs/PERFORMANCE.md
+DOCUMENTS = README.md CHANGELOG.md LICENSE docs/ARCHITECTURE.md docs/DECISIONS.md docs/FORMATS.md docs/MODEL.md docs/PERFORMANCE.md docs/PROOFS.md
 ARCHITECTURE = $(shell dpkg --print-architecture 2> /dev/null || uname -m)
 TARBALL = bgp_replay-$(VERSION)-linux-$(shell uname -m)
 
