@@ -5,7 +5,8 @@
      memory        a growth: status 3, `no memory` and nothing written, or as without a failure
      memory-on     that growth and each later one: the same
      read-ERROR    a read of DUMP, the file of this NUMBER among WORDS: status 3, `read failed: file NUMBER` and nothing written
-     write-ERROR   a write on standard output (each takes 61 bytes at most): status 3, `write failed`, a front of the report
+     write-ERROR   a write on standard output (each takes 61 bytes at most): status 3, `write failed`, a front of the report;
+                   for EPIPE, a reader that is gone, nothing is said
      thread        the start of a thread: as without a failure
      thread-on     that start and each later one: the same
      short-reads   nothing: the one run reads one byte at a time, and ends as without it
@@ -50,6 +51,7 @@ int main(int n, char **words) {
     set(place == READS ? "READ_ERROR" : "WRITE_ERROR", value);
   }
   if (strstr(kind, "-on")) set("ON", "1");
+  int gone = !strcmp(kind, "write-EPIPE");
   snprintf(line, sizeof line, place == READS ? "read failed: file %s" : place == WRITES ? "write failed" : "no memory", number);
   long runs = 0, met = 0, failed = 0, most = told[place], missed = 0;
   if (whole.status > 1) { runs++; failed++; printf("%s:", kind); print_words(stdout, words + 1); printf(": status %d without a failure\n", whole.status); }
@@ -59,7 +61,7 @@ int main(int n, char **words) {
     if (!starts(kind, "short")) sprintf(strchr(which, '=') + 1, "%ld", at);
     memset(told, 0, 64);
     struct ended ended = run(words, &terms);
-    int shorter = starts(kind, "short"), hit = told[place + 1] > 0, stopped = ended.status == 3 && says(&ended.err, line), same = 0, good;
+    int shorter = starts(kind, "short"), hit = told[place + 1] > 0, stopped = ended.status == 3 && (gone ? !ended.err.length : says(&ended.err, line)), same = 0, good;
     same = ended.status == whole.status && is_same(&ended.out, &whole.out) && is_same(&ended.err, &whole.err);
     if (shorter) good = same && told[place] > most && (place == READS || told[place] >= (long) whole.out.length);
     else if (!hit || place == THREADS) good = same;
