@@ -1,9 +1,9 @@
 //! What units do to a table and to its counts, over both maps.
 
 use crate::{Churn, Session, SharedRoute};
-use bgp_prefix::{Flat, Prefix, PrefixMap, Radix, RouteKey, Sequence};
+use bgp_prefix::{Flat, Prefix, PrefixMap, Radix, RouteKey};
 use bgp_update::{NextHop, Width};
-use mrt_body::{Payload, PeerAddr, PeerKey, Place, Unit};
+use mrt_body::{Payload, PayloadBytes, PeerAddr, PeerKey, Place, Unit};
 use mrt_frame::Fault;
 use std::alloc::Global;
 use std::process::Abort;
@@ -58,7 +58,7 @@ fn message(alloc: Global, seconds: u64, add_path: bool, digits: &str) -> Result<
     Ok(unit(
         seconds,
         Payload::Message {
-            bytes: Sequence::from_vec(bytes),
+            bytes: PayloadBytes::from_vec(bytes),
             width: Width::Four,
             add_path,
         },
@@ -74,7 +74,7 @@ fn entry(alloc: Global, id: u32, digits: &str) -> Result<Unit, Fail> {
         3,
         Payload::Entry {
             key: RouteKey { prefix, id },
-            attrs: Sequence::from_vec(attrs),
+            attrs: PayloadBytes::from_vec(attrs),
         },
     ))
 }
@@ -402,7 +402,7 @@ fn longest_message(rt: HostRuntime) -> Result<(), Fail> {
     }
     let mut session = Session::<Radix<SharedRoute>>::new(alloc);
     let payload = Payload::Message {
-        bytes: Sequence::from_vec(bytes),
+        bytes: PayloadBytes::from_vec(bytes),
         width: Width::Four,
         add_path: false,
     };
@@ -424,7 +424,7 @@ fn entries_share_their_readings(rt: HostRuntime) -> Result<(), Fail> {
         let prefix = Prefix::new(0x0A00_0000, 8).ok_or("a prefix")?;
         let payload = Payload::Entry {
             key: RouteKey { prefix, id },
-            attrs: Sequence::from_vec(attrs),
+            attrs: PayloadBytes::from_vec(attrs),
         };
         session.take(alloc, &unit(3, payload))?;
     }

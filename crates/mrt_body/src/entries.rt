@@ -6,6 +6,7 @@ ghost use Rattle.mrt_body.specs.Units.{IsSmallUnit, rib_units_in, time_of};
 ghost use Rattle.mrt_body.specs.Pending.{AreListed, units_left};
 
 use crate::at::RecordAt;
+use crate::payload_bytes::PayloadBytes;
 use crate::rib::{ListedEntry, list_entries, rib_head_at};
 use crate::unit::{Payload, PeerKey, Unit};
 use bgp_prefix::{Memory, Prefix, RouteKey, Sequence};
@@ -33,16 +34,12 @@ fn entry_unit(
 ) -> Result<Unit, Memory>
     ensures { IfOk result (λ unit. unit ≡ record { place = record { file = at.file; offset = at.offset; entry = Some number }; time = time_of at 0; peer = peer; payload = Payload.Entry key attributes.now }) }
 {
-    let mut attrs = Vec::with_capacity(alloc, attributes.len())?;
-    attrs.extend_from_slice(attributes)?;
+    let attrs = PayloadBytes::from_slice(alloc, attributes)?;
     Ok(Unit {
         place: at.place(Some(number)),
         time: at.time(0),
         peer,
-        payload: Payload::Entry {
-            key,
-            attrs: Sequence::from_vec(attrs),
-        },
+        payload: Payload::Entry { key, attrs },
     })
 }
 

@@ -1,4 +1,5 @@
-use bgp_prefix::{RouteKey, Sequence};
+use crate::payload_bytes::PayloadBytes;
+use bgp_prefix::RouteKey;
 use bgp_update::Width;
 use mrt_frame::Fault;
 
@@ -42,14 +43,14 @@ pub enum Payload {
     },
     /// A BGP message (RFC 6396, 4.4.2 and 4.4.3; with identifiers RFC 8050, 3).
     Message {
-        bytes: Sequence<u8>,
+        bytes: PayloadBytes,
         width: Width,
         add_path: bool,
     },
     /// An entry of a RIB record (RFC 6396, 4.3.4; with an identifier RFC 8050, 4.1).
     Entry {
         key: RouteKey,
-        attrs: Sequence<u8>,
+        attrs: PayloadBytes,
     },
 }
 
