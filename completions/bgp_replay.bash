@@ -16,7 +16,7 @@ _bgp_replay() {
   if [[ -z $command ]]; then
     mapfile -t COMPREPLY < <(compgen -W "$commands help --help --version" -- "$word")
   elif [[ $word == -* ]]; then
-    local options='--workers --ring --until --header --summary --help --version'
+    local options='--workers --ring --until --header --summary --progress --help --version'
     [[ $command == match ]] && options="--address $options"
     mapfile -t COMPREPLY < <(compgen -W "$options" -- "$word")
   else

@@ -14,6 +14,7 @@ complete -c bgp_replay -n $some -l ring -x -a '1 64 1024 65536' -d 'units that m
 complete -c bgp_replay -n $some -l until -x -d 'leave out what was recorded after this second: since 1970 UTC, or as 2024-01-01T01:00:00Z'
 complete -c bgp_replay -n $some -l header -d 'print the columns\' names first'
 complete -c bgp_replay -n $some -l summary -d 'say on standard error what was read'
+complete -c bgp_replay -n $some -l progress -d 'show on standard error how far the reading is'
 complete -c bgp_replay -n '__fish_seen_subcommand_from match' -l address -x -d 'the IPv4 address to look up'
 complete -c bgp_replay -s h -l help -d 'print a help text'
 complete -c bgp_replay -s V -l version -d 'print the version'

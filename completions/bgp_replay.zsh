@@ -21,6 +21,7 @@ _bgp_replay() {
         '--until[leave out what was recorded after this second]:seconds since 1970 UTC, or 2024-01-01T01\:00\:00Z:'
         '--header[print the columns'\'' names first]'
         '--summary[say on standard error what was read]'
+        '--progress[show on standard error how far the reading is]'
         '(- *)'{-h,--help}'[print a help text]'
         '(- *)'{-V,--version}'[print the version]'
         '*:dump:_files'

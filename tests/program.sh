@@ -1,9 +1,11 @@
 #!/usr/bin/env bash
 # Tries the program's lines on standard error and its statuses, on the program as it is built: each row of the README's table, and names, files and
-# streams that are out of the ordinary. Of standard error the first line is compared; further lines must begin with two spaces (but where
-# words are refused or help is printed, whose text is free). `too many records` can't be had: a run has room for 2^47.
+# streams that are out of the ordinary. Of standard error the first line is compared; further lines must begin with two spaces (but with
+# bad arguments, --summary and help, whose text is free). `too many records` can't be had: a run has room for 2^47.
+# The counts of --summary are compared with those of the headers of each dump: of examples/, and of each file in the directory that the variable SAMPLES
+# names.
 #   tests/program.sh PROGRAM
-# Needs bash and coreutils, and setpriv or runuser where it runs as root. The last line is `N passed, M failed`.
+# Needs bash, awk and coreutils, and setpriv or runuser where it runs as root. The last line is `N passed, M failed`.
 set -u
 program=$(realpath "$1"); here=$(dirname "$(realpath "$0")"); work=$(mktemp -d); trap 'chmod -R u+rwx "$work"; rm -rf "$work"' EXIT
 cd "$work" && ln -s "$program" bgp_replay && cp "$here/../examples/sample.mrt" sample || exit 2
@@ -66,7 +68,7 @@ printf '1|892|-|2|ShortBody\n' > fault; try 1 'damaged: 1' fault faults cut
 printf '1|0|-|1|ShortHeader\n' > fault; try 1 'damaged: 1' fault faults stump
 printf '2|0|-|1|ShortHeader\n' > fault; try 1 'damaged: 1' fault faults sample stump
 
-# 2: refused words
+# 2: bad arguments
 try 2 '?' nothing
 for words in nothing 'nothing sample' tables match 'match sample' 'match --address 10.1.2.3' 'tables --workers 0 sample' 'tables --workers 65 sample' \
   'tables --workers -1 sample' 'tables --workers 4x sample' 'tables --workers' 'tables --ring 0 sample' 'tables --ring 65537 sample' 'tables --ring 18446744073709551616 sample' \
@@ -150,12 +152,81 @@ for name in 'two words' $'two\nlines' ' ' $'tab\there' 'dump*?[a]' $'caf\xc3\xa9
   cp sample "./$name"; try 0 '' whole-tables tables -- "./$name"
 done
 cp sample ./-x; try 0 '' whole-tables tables -- -x
-cp sample $'./raw\xff'; try 2 '?' nothing tables $'./raw\xff'; INPUT=$'./raw\xff' try 0 '' whole-tables tables -
+cp sample $'./raw\xff'; try 2 'error: an argument is not UTF-8 text' nothing tables $'./raw\xff' sample $'\xfe'
+[ "$(tail -n +2 said)" = '  argument 2: ./raw\xff; give such a file by a symbolic link with another name, or as <(cat FILE)
+  argument 4: \xfe; give such a file by a symbolic link with another name, or as <(cat FILE)' ] && right || wrong "what is said of names that aren't text: $(tail -n +2 said)"
+try 2 'error: an argument is not UTF-8 text' nothing tables "$(head -c 5000 /dev/zero | tr '\0' 1)" $'./raw\xff'; [ "$(wc -l < said)" = 2 ] && right || wrong 'a long word before one that is not text'
+INPUT=$'./raw\xff' try 0 '' whole-tables tables -
+ln -s $'./raw\xff' link; try 0 '' whole-tables tables link
+try 0 '' whole-tables tables <(cat $'./raw\xff')
 try 3 'open failed: file 1' nothing tables $'no\nsuch'
 try 3 'open failed: file 2' nothing tables sample $'  no such'
 printf '%s\n' {1..300} > numbers; mapfile -t many < <(sed 's/.*/empty/' numbers)
 try 0 '' whole-tables tables sample "${many[@]}"
+printf '%s\n' {1..3000} > numbers; mapfile -t thousands < <(sed 's/.*/empty/' numbers)
+(ulimit -n 256; ./bgp_replay tables sample "${thousands[@]}" > out 2> said); judge '3,001 files with 256 descriptors' 0 '' whole-tables $?
+(ulimit -n 256; ./bgp_replay churn "${thousands[@]}" 'cut' > out 2> said); judge '3,000 files and a damaged one with 256 descriptors' 1 'damaged: 1' something $?
 (ulimit -n 20; ./bgp_replay tables sample "${many[@]}" > out 2> said; status=$?; head -n 1 said | grep -q '^open failed: file [0-9][0-9]*$' && [ $status = 3 ] && [ ! -s out ]) && right || wrong 'more files than descriptors'
+
+
+# --summary: lines of a key and a value
+summary() { ./bgp_replay "$@" --summary > out 2> said < "${INPUT:-/dev/null}"; }
+value() { sed -n "s/^$1: //p" said; } # of a key
+values() { local key value; for key in "$@"; do value=$(value "$key"); printf '%s ' "${value:-none}"; done; }
+holds() { if [ "$2" = "$3" ]; then right; else wrong "$1: $2 in place of $3"; fi; } # NAME HAS WANTED
+total() { sed -n "s/^file [0-9]* $1: //p" said | awk '{ sum += $1 } END { print sum + 0 }'; } # of a key of all files
+# Follows the headers of a dump, and prints the whole records, those that aren't interpreted, the bytes behind the last whole one, and the first and the last second.
+count_records() { od -An -v -tu1 -w1 "$1" | awk -v size="$(stat -Lc %s "$1")" '
+  left > 0 { left--; if (!left) whole(); next }
+  { header[filled++] = $1 }
+  filled == 12 { filled = 0; length_ = number(8, 4); if (length_ > 16777216) { exit } if (length_) left = length_; else whole() }
+  function number(at, count,   i, n) { for (i = 0; i < count; i++) n = n * 256 + header[at + i]; return n }
+  function whole(   type, subtype) {
+    records++; bytes += 12 + number(8, 4); last = number(0, 4); if (records == 1) first = last
+    type = number(4, 2); subtype = number(6, 2)
+    if (!(type == 13 && subtype ~ /^[128]$/) && !((type == 16 || type == 17) && subtype ~ /^[014589]$/)) aside++
+  }
+  END { printf "%d %d %d %s %s ", records, aside, size - bytes, records ? first : "-", records ? last : "-" }'; }
+record() { printf '\0\0\0\7\0%b\0%b\0\0\0%b' "$1" "$2" "$3"; head -c "$4" /dev/zero; } # type, subtype and length as escapes, and the length
+{ record '\015' '\004' '\005' 5; record '\015' '\004' '\0' 0; record '\020' '\006' '\1' 1; record '\143' '\003' '\0' 0; cat sample; record '\014' '\001' '\002' 2; record '\143' '\003' '\0' 0; } > several
+{ cat several; printf '\0\0\0\1\0\15\0\2\1\0\0\1rest of the file'; } > long
+for file in empty stump 'cut' sample several long "$here"/../examples/*.mrt ${SAMPLES:+"$SAMPLES"/*}; do
+  [ -f "$file" ] || continue
+  summary churn "$file"; name="--summary of ${file##*/}"
+  holds "$name" "$(values 'file 1 records' 'file 1 aside' 'file 1 unread' 'file 1 first' 'file 1 last')" "$(count_records "$file")"
+  holds "$name: sums" "$(values records aside)" "$(total records) $(total aside) "
+  holds "$name: kinds" "$(total aside)" "$(total 'aside .*')"
+  holds "$name: bytes" "$(value bytes)" "$(total bytes)"
+done
+summary churn several
+holds '--summary: keys' "$(grep -cvE '^(damaged|(file [0-9]+)( (bytes|unread|records|aside|first|last|aside [A-Za-z0-9_]+ [A-Za-z0-9_]+|aside others))?|files|bytes|records|units|aside|peers|rounds|workers|seconds|peak_kib): .' said)" 0
+holds '--summary: kinds by their names' "$(grep '^file 1 aside .*:' said)" "$(printf 'file 1 aside %s\n' 'TABLE_DUMP_V2 RIB_IPV6_UNICAST: 2' 'BGP4MP BGP4MP_MESSAGE_LOCAL: 1' '99 3: 2' 'TABLE_DUMP AFI_IPv4: 1')"
+holds '--summary: the replay is the same' "$(cksum < out)" "$(./bgp_replay churn several | cksum)"
+for i in {1..70}; do record '\040' "\\0$(printf %o $i)" '\0' 0; done > kinds; summary churn kinds
+holds '--summary: 64 kinds at most' "$(value 'file 1 aside') $(grep -c '^file 1 aside ISIS [0-9]*: 1$' said) $(value 'file 1 aside others')" '70 64 6'
+summary churn sample stump 'cut' - < /dev/null
+holds '--summary of four files' "$(value 'file [1-4]' | tr '\n' ' ')$(value files) $(value damaged) $(value 'file 2 unread') $(value 'file 4 first')" 'sample stump cut standard input 4 2 5 -'
+holds '--summary: first the damage' "$(head -n 1 said)" 'damaged: 2'
+summary tables sample --workers 3; holds '--summary: workers' "$(value workers)" 3
+summary tables sample; if [[ $(value workers) -ge 1 && $(value workers) -le 64 && $(value workers) -le $(nproc --all) ]]; then right; else wrong "--summary: $(value workers) workers"; fi
+if taskset -c 0 true 2> none; then taskset -c 0 ./bgp_replay tables sample --summary > out 2> said; holds 'workers on one processor' "$(value workers)" 1; fi
+if [ -r /proc/self/status ]; then [[ $(value peak_kib) -gt 100 ]] && right || wrong "--summary: $(value peak_kib) KiB"; fi
+INPUT=long summary faults -
+holds '--summary of a stream that ends in a body too long' "$(values 'file 1 records' 'file 1 unread')" "$(count_records long | cut -d ' ' -f 1) - "
+cat 'cut' | INPUT=/dev/stdin summary faults -; holds '--summary of a pipe' "$(values 'file 1 bytes' 'file 1 unread')" '1000 108 '
+summary tables sample folder; holds '--summary after a failed read' "$(head -n 1 said) $(values 'file 1 records' 'file 2 records' records)" "read failed: file 2 $(count_records sample | cut -d ' ' -f 1) 0 none "
+
+# --progress: a line that is rewritten
+slowly() { head -c 3000000 large; sleep 0.6; tail -c +3000001 large | head -c 3000000; sleep 0.6; tail -c +6000001 large; }
+slowly | ./bgp_replay churn --progress - > out 2> said; status=$?
+holds '--progress: its last line is cleared' "$(tail -c 1 said | od -An -tx1)" ' 0d'
+tr '\r' '\n' < said > lines
+if grep -qE '^standard input \(1 of 1\): [0-9]+ MB, [0-9]+ MB/s, 0 records *$' lines; then right; else wrong "--progress: $(head -n 2 lines | tail -n 1)"; fi
+holds '--progress: blanks at last' "$(tail -n 1 lines | tr -d ' ')" ''
+tr -d '\r' < lines > said; grep -vE '^standard input \(1 of 1\): [0-9]+ MB, [0-9]+ MB/s, [0-9]+ records *$|^ *$' said > others; : > said; judge '--progress' 0 '' nothing $status
+holds '--progress: nothing else' "$(wc -c < others)" 0
+./bgp_replay tables --progress sample > out 2> said; judge '--progress of a small file' 0 '' whole-tables $?
+./bgp_replay tables --progress 'cut' > out 2> said; judge '--progress of damage' 1 'damaged: 1' something $?
 
 echo "$passed passed, $failed failed"
 [ $failed = 0 ] && [ $passed -gt 0 ]

@@ -21,7 +21,7 @@ Each command's help says what its columns are: bgp_replay tables --help
 Status:
   0  the dumps are whole
   1  the report is whole, but damaged records were left out; standard error says `damaged: N`
-  2  the words were refused
+  2  bad arguments
   3  a file could not be opened or read, the report could not be written, memory ran out, or there
      were too many records; standard error says which, and why";
 
@@ -109,8 +109,9 @@ fn workers_option<'a>(alloc: Global) -> Arg<'a> {
         .value_name("N")
         .value_parser(value_parser!(usize).range(1..=64))
         .allow_negative_numbers(true)
-        .default_value("4")
-        .help("Threads that replay, 1 to 64; the report never depends on it")
+        .help(
+            "Threads that replay, 1 to 64; the report never depends on it [default: one for each processor]",
+        )
 }
 
 fn ring_option<'a>(alloc: Global) -> Arg<'a> {
@@ -149,6 +150,13 @@ fn summary_flag<'a>(alloc: Global) -> Arg<'a> {
         .help("Say on standard error what was read, in lines of a key and a value")
 }
 
+fn progress_flag<'a>(alloc: Global) -> Arg<'a> {
+    Arg::new(alloc, "progress")
+        .long("progress")
+        .action(ArgAction::SetTrue)
+        .help("Show on standard error how far the reading is")
+}
+
 fn file_words<'a>(alloc: Global) -> Arg<'a> {
     Arg::new(alloc, "file")
         .value_name("FILE")
@@ -173,6 +181,7 @@ fn report_command<'a>(
         .arg(until_option(alloc))?
         .arg(header_flag(alloc))?
         .arg(summary_flag(alloc))?
+        .arg(progress_flag(alloc))?
         .arg(file_words(alloc))
 }
 

@@ -3,6 +3,8 @@
 ghost use Rattle.std.specs.Io.{ReadsAtMost};
 
 use crate::kind::{FirstBytes, Kind};
+use crate::progress::{Board, LOOK, Place};
+use crate::records::Records;
 use bgp_prefix::Memory;
 use mrt_frame::Counted;
 use std::fs::File;
@@ -44,30 +46,103 @@ enum State {
     Ended,
 }
 
+/// What is counted of a dump while it is read, where someone wants to know.
+#[derive(Drop)]
+struct Watch<'a> {
+    records: Records,
+    board: Option<&'a Board>,
+    /// How many bytes and records the board doesn't know yet.
+    bytes: u64,
+    known: u64,
+}
+
+impl<'a> Watch<'a> {
+    fn new(rt: &HostRuntime, board: Option<&'a Board>) -> Watch<'a> {
+        Watch {
+            records: Records::new(rt.alloc()),
+            board,
+            bytes: 0,
+            known: 0,
+        }
+    }
+
+    /// Takes the next bytes, up to which the dump is read as far as its place says.
+    fn take(&mut self, bytes: &[u8], place: Place<'_>) {
+        self.records.take(bytes);
+        if let Some(board) = self.board {
+            self.bytes = self.bytes.saturating_add(bytes.len() as u64);
+            if self.bytes >= LOOK || bytes.is_empty() {
+                let count = self.records.count();
+                board.add(place, self.bytes, count.saturating_sub(self.known));
+                self.bytes = 0;
+                self.known = count;
+            }
+        }
+    }
+}
+
+/// What is watched while dumps are read.
+#[derive(Clone, Copy)]
+pub struct Watched<'a> {
+    /// Whether records are counted.
+    pub is_counted: bool,
+    /// Where the progress is shown.
+    pub board: Option<&'a Board>,
+}
+
+impl Watched<'_> {
+    fn is_any(&self) -> bool {
+        self.is_counted || self.board.is_some()
+    }
+}
+
 /// A dump that is read in blocks of 64 KiB. Its block of memory is there only while it is read, and
 /// it is closed at its end.
 #[derive(Drop)]
 pub struct Dump<'a> {
     rt: HostRuntime,
     name: &'a str,
+    /// From 1.
+    number: usize,
+    /// How many bytes it has, where that is known.
+    size: Option<u64>,
     state: State,
     bytes: u64,
+    /// Whether its end was read.
+    is_at_end: bool,
     first: FirstBytes,
     error: Option<io::Error>,
+    watch: Option<Watch<'a>>,
 }
 
 /// A dump, with a count of its failures.
 pub type Input<'a> = Counted<Dump<'a>>;
 
 impl<'a> Dump<'a> {
-    fn new(rt: &HostRuntime, name: &'a str, state: State) -> Dump<'a> {
+    fn new(
+        rt: &HostRuntime,
+        name: &'a str,
+        number: usize,
+        opened: Opened,
+        watched: Watched<'a>,
+    ) -> Dump<'a> {
+        let Opened { state, size } = opened;
+        let watch = if watched.is_any() {
+            Some(Watch::new(rt, watched.board))
+        } else {
+            None
+        };
         Dump {
             rt: *rt,
             name,
+            number,
+            size,
             state,
             bytes: 0,
+            is_at_end: false,
             first: FirstBytes::new(),
             error: None,
+            watch,
         }
     }
 
@@ -81,6 +156,24 @@ impl<'a> Dump<'a> {
         self.bytes
     }
 
+    /// Its records, where they are counted.
+    pub fn records(&self) -> Option<&Records> {
+        match &self.watch {
+            Some(watch) => Some(&watch.records),
+            None => None,
+        }
+    }
+
+    /// How many of its bytes are in no whole record, where its size is known or its end was read.
+    pub fn unread(&self) -> Option<u64> {
+        let whole = self.records()?.whole_bytes();
+        match self.size {
+            Some(size) => Some(size.max(self.bytes).saturating_sub(whole)),
+            None if self.is_at_end => Some(self.bytes.saturating_sub(whole)),
+            None => None,
+        }
+    }
+
     /// What its first bytes look like, if they aren't those of an MRT dump.
     pub fn kind(&self) -> Option<Kind> {
         self.first.kind()
@@ -89,6 +182,15 @@ impl<'a> Dump<'a> {
     /// Why it couldn't be read, after a failure.
     pub fn error(&self) -> Option<io::Error> {
         self.error
+    }
+
+    fn place(&self) -> Place<'a> {
+        Place {
+            name: self.name,
+            number: self.number,
+            bytes: self.bytes,
+            size: self.size,
+        }
     }
 
     /// Makes it ready to be read.
@@ -123,7 +225,12 @@ impl Read for Dump<'_> {
             Ok(count) => {
                 self.first.take(&buf[..count]);
                 self.bytes = self.bytes.saturating_add(count as u64);
+                let place = self.place();
+                if let Some(watch) = &mut self.watch {
+                    watch.take(&buf[..count], place);
+                }
                 if count == 0 && !buf.is_empty() {
+                    self.is_at_end = true;
                     self.state = State::Ended;
                 }
                 Ok(count)
@@ -151,35 +258,57 @@ impl From<Memory> for OpenError {
     }
 }
 
-/// Whether a file may be closed and opened again.
-fn can_be_reopened(file: &File) -> bool {
+/// A dump that was opened, and how many bytes it has, where that is known.
+struct Opened {
+    state: State,
+    size: Option<u64>,
+}
+
+/// How many bytes a file has, where it is one that may be closed and opened again.
+fn size_of(file: &File) -> Option<u64> {
     match file.metadata() {
-        Ok(metadata) => metadata.is_file(),
-        Err(_) => false,
+        Ok(metadata) if metadata.is_file() => Some(metadata.len()),
+        _ => None,
     }
 }
 
-fn open(rt: &HostRuntime, name: &str, earlier: usize) -> io::Result<State> {
+/// Opens a dump, before which so many are kept open.
+fn open(rt: &HostRuntime, name: &str, earlier: usize, is_watched: bool) -> io::Result<Opened> {
     if name == "-" {
-        return Ok(State::Open(Device::Standard(rt.stdin())));
+        let state = State::Open(Device::Standard(rt.stdin()));
+        return Ok(Opened { state, size: None });
     }
     let file = std::fs::open(rt, name)?;
-    if earlier >= KEPT_OPEN && can_be_reopened(&file) {
-        return Ok(State::Closed);
-    }
-    Ok(State::Open(Device::Named(file)))
+    let is_kept = earlier < KEPT_OPEN;
+    let size = if is_kept && !is_watched {
+        None
+    } else {
+        size_of(&file)
+    };
+    let state = if is_kept || size.is_none() {
+        State::Open(Device::Named(file))
+    } else {
+        State::Closed
+    };
+    Ok(Opened { state, size })
 }
 
 /// Opens all dumps, in order, before any is read. `-` is standard input; a second one finds nothing
 /// left.
-pub fn open_all<'a>(rt: &HostRuntime, names: &'a [String]) -> Result<Vec<Input<'a>>, OpenError> {
+pub fn open_all<'a>(
+    rt: &HostRuntime,
+    names: &'a [String],
+    watched: Watched<'a>,
+) -> Result<Vec<Input<'a>>, OpenError> {
+    let is_watched = watched.is_any();
     let mut inputs = Vec::new(rt.alloc());
     for (i, name) in names.iter().enumerate() {
-        let state = match open(rt, name.as_str(), i) {
-            Ok(state) => state,
-            Err(error) => return Err(OpenError::File(i.saturating_add(1), error)),
+        let number = i.saturating_add(1);
+        let opened = match open(rt, name.as_str(), i, is_watched) {
+            Ok(opened) => opened,
+            Err(error) => return Err(OpenError::File(number, error)),
         };
-        let dump = Dump::new(rt, name.as_str(), state);
+        let dump = Dump::new(rt, name.as_str(), number, opened, watched);
         if inputs.push(Counted::new(dump)).is_err() {
             return Err(OpenError::Memory);
         }

@@ -1,6 +1,7 @@
 //! `bgp_replay`: the replay of MRT route-collector dumps into one table per peer, and reports on it.
 #![tactic(auto)]
 
+ghost use Rattle.std.specs.Prelude.{◌≤◌};
 ghost use Rattle.lane_deal.specs.Plans.{IsPlan};
 
 mod address;
@@ -8,8 +9,11 @@ mod commands;
 mod input;
 mod kind;
 mod moment;
+mod mrt_names;
 mod names;
 mod output;
+mod progress;
+mod records;
 mod replay;
 mod replayed;
 mod request;
@@ -21,16 +25,17 @@ mod words;
 
 use adj_rib::SharedRoute;
 use bgp_prefix::Shelf;
-use input::{Input, OpenError, open_all};
+use input::{Input, OpenError, Watched, open_all};
 use lane_deal::{ByTurns, NoGate, Plan};
 use mrt_frame::Counted;
 use output::{Report, columns};
+use progress::Board;
 use replay::run;
-use std::env::Env;
+use std::env::{Env, FillError};
 use std::io::ErrorKind;
 use std::marker::Sync;
 use std::process::ExitCode;
-use std::thread::Threads;
+use std::thread::{Threads, available_parallelism};
 use std::time::{Duration, Instant};
 use summary::status;
 use telling::{tell, tell_memory, tell_open, tell_summary, tell_write};
@@ -46,7 +51,7 @@ const LOOKS: u32 = 100_000;
 /// Whole records that are cut at most.
 const MAX_RECORDS: u64 = 1 << 47;
 
-/// The status where words are refused.
+/// The status of bad arguments.
 const REFUSED: u8 = 2;
 
 /// The status where a file, the writer or memory failed.
@@ -55,11 +60,31 @@ const FAILED: u8 = 3;
 /// How many words are looked through for one that isn't text.
 const MOST_WORDS: usize = 100_000;
 
-fn plan_of(job: &Job) -> Plan
+/// How many workers there are at most.
+const MOST_WORKERS: usize = 64;
+
+/// As many workers as the words ask for, else one for each processor; where the system doesn't tell how
+/// many there are, as many as the job has.
+fn workers_of(threads: &impl Threads, job: &Job) -> usize
+    ensures least { 1 ≤ result }
+    ensures most { result ≤ 64 }
+{
+    if job.has_workers {
+        return job.workers;
+    }
+    match available_parallelism(threads) {
+        Ok(count) => count.get().min(MOST_WORKERS),
+        Err(_) => job.workers,
+    }
+}
+
+fn plan_of(job: &Job, workers: usize) -> Plan
+    requires least { 1 ≤ workers }
+    requires most { workers ≤ 64 }
     ensures { IsPlan result }
 {
     Plan {
-        workers: job.workers,
+        workers,
         ring: job.ring,
         batch: BATCH,
         looks: LOOKS,
@@ -96,23 +121,28 @@ fn explain(rt: &HostRuntime, usage: &Usage) -> u8 {
     }
 }
 
-/// Says which word isn't text, and gives the status.
+/// Says which words aren't text, and gives the status.
 fn explain_bytes(rt: &HostRuntime) -> u8 {
     let _ = eprintln!(rt; "error: an argument is not UTF-8 text");
     let mut buf = [0; 4096];
     for i in 1..MOST_WORDS {
-        let Ok(count) = rt.arg(i, &mut buf) else {
-            break;
-        };
-        let word = &buf[..count];
-        if str::from_utf8(word).is_err() {
-            let shown = word.escape_ascii();
-            let _ = eprintln!(rt;
-                "  argument {i}: {shown}; give such a file a link, or as standard input"
-            );
+        match rt.arg(i, &mut buf) {
+            Ok(count) => explain_word(rt, i, &buf[..count]),
+            Err(FillError::TooLong) => {}
+            Err(FillError::NotPresent) => break,
         }
     }
     REFUSED
+}
+
+/// Says of a word that isn't text how such a file can be given.
+fn explain_word(rt: &HostRuntime, number: usize, word: &[u8]) {
+    if str::from_utf8(word).is_err() {
+        let shown = word.escape_ascii();
+        let _ = eprintln!(rt;
+            "  argument {number}: {shown}; give such a file by a symbolic link with another name, or as <(cat FILE)"
+        );
+    }
 }
 
 /// The words after the program's name, or the status to end with.
@@ -137,8 +167,12 @@ fn given_job(rt: &HostRuntime) -> Result<Job, u8> {
 }
 
 /// The dumps, opened, or the status to end with.
-fn opened<'a>(rt: &HostRuntime, names: &'a [String]) -> Result<Vec<Input<'a>>, u8> {
-    match open_all(rt, names) {
+fn opened<'a>(
+    rt: &HostRuntime,
+    names: &'a [String],
+    watched: Watched<'a>,
+) -> Result<Vec<Input<'a>>, u8> {
+    match open_all(rt, names, watched) {
         Ok(inputs) => Ok(inputs),
         Err(OpenError::File(number, error)) => {
             let name = names.get(number.saturating_sub(1));
@@ -154,10 +188,23 @@ fn since(rt: &HostRuntime, start: Option<Instant>) -> Option<Duration> {
     start?.elapsed(rt).ok()
 }
 
+/// The board that shows the progress, where that is asked for and the clock tells.
+fn board_of(rt: &HostRuntime, job: &Job, start: Option<Instant>) -> Option<Board> {
+    match start {
+        Some(start) if job.progress => Some(Board::new(rt, job.files.len(), start)),
+        _ => None,
+    }
+}
+
 /// Replays the dumps of a job by threads, and gives the status.
 fn replay_job(rt: &HostRuntime, threads: &(impl Threads + Sync), job: &Job) -> u8 {
     let start = Instant::now(rt).ok();
-    let mut inputs = match opened(rt, job.files.as_slice()) {
+    let board = board_of(rt, job, start);
+    let watched = Watched {
+        is_counted: job.summary,
+        board: board.as_ref(),
+    };
+    let mut inputs = match opened(rt, job.files.as_slice(), watched) {
         Ok(inputs) => inputs,
         Err(code) => return code,
     };
@@ -166,20 +213,24 @@ fn replay_job(rt: &HostRuntime, threads: &(impl Threads + Sync), job: &Job) -> u
     } else {
         None
     };
-    let mut out = Counted::new(Report::new(rt, header));
+    let workers = workers_of(threads, job);
+    let mut out = Counted::new(Report::new(rt, header, board.as_ref()));
     let outcome = run::<Shelf<SharedRoute>, _, _, _, _, _>(
         threads,
         rt.alloc(),
         inputs.as_mut_slice(),
         &job.request,
-        &plan_of(job),
+        &plan_of(job, workers),
         &ByTurns,
         &NoGate,
         &mut out,
     );
+    if let Some(board) = &board {
+        board.clear();
+    }
     tell(rt, &outcome, &job.request, inputs.as_slice(), &out);
     if job.summary {
-        tell_summary(rt, &outcome, inputs.as_slice(), since(rt, start));
+        tell_summary(rt, &outcome, inputs.as_slice(), workers, since(rt, start));
     }
     status(&outcome)
 }

@@ -1,5 +1,6 @@
 //! The report's way to standard output.
 
+use crate::progress::Board;
 use crate::request::Request;
 use mrt_frame::Counted;
 use std::io::{self, Stdout, Write};
@@ -19,22 +20,28 @@ pub fn columns(request: &Request) -> &'static str {
 }
 
 /// Standard output, with a header that comes before the first byte of the report. A report without a
-/// byte gets it when it is flushed.
+/// byte gets it when it is flushed. What is shown of the progress goes away before it.
 #[derive(Drop)]
-pub struct Report {
+pub struct Report<'a> {
     out: Stdout,
     header: Option<&'static str>,
+    board: Option<&'a Board>,
     error: Option<io::Error>,
 }
 
 /// The report's writer, with a count of its failures.
-pub type Output = Counted<Report>;
+pub type Output<'a> = Counted<Report<'a>>;
 
-impl Report {
-    pub fn new(rt: &HostRuntime, header: Option<&'static str>) -> Report {
+impl<'a> Report<'a> {
+    pub fn new(
+        rt: &HostRuntime,
+        header: Option<&'static str>,
+        board: Option<&'a Board>,
+    ) -> Report<'a> {
         Report {
             out: rt.stdout(),
             header,
+            board,
             error: None,
         }
     }
@@ -45,6 +52,9 @@ impl Report {
     }
 
     fn write_header(&mut self) -> io::Result<()> {
+        if let Some(board) = self.board.take() {
+            board.clear();
+        }
         match self.header.take() {
             Some(header) => self.out.write_all(header.as_bytes()),
             None => Ok(()),
@@ -58,7 +68,7 @@ impl Report {
     }
 }
 
-impl Write for Report {
+impl Write for Report<'_> {
     fn write(&mut self, buf: &[u8]) -> io::Result<usize> {
         if let Err(error) = self.write_header() {
             return Err(self.keep(error));

@@ -1,10 +1,11 @@
 //! What the program says on standard error. A line behind the first is indented by two spaces, and
 //! says which file and why. No failure to say it changes the status.
 
-use crate::input::Input;
+use crate::input::{Dump, Input};
 use crate::kind::Kind;
 use crate::names::FileName;
 use crate::output::Output;
+use crate::records::Records;
 use crate::request::Request;
 use crate::summary::Summary;
 use mrt_frame::ReplayError;
@@ -117,7 +118,7 @@ pub fn tell(
     outcome: &Result<Summary, ReplayError>,
     request: &Request,
     inputs: &[Input<'_>],
-    out: &Output,
+    out: &Output<'_>,
 ) {
     match outcome {
         Ok(summary) => {
@@ -148,6 +149,44 @@ fn all_bytes(inputs: &[Input<'_>]) -> u64 {
     )
 }
 
+/// A number, or `-` where there is none.
+fn tell_or_none(rt: &HostRuntime, number: usize, key: &str, value: Option<u64>) {
+    let _ = match value {
+        Some(value) => eprintln!(rt; "file {number} {key}: {value}"),
+        None => eprintln!(rt; "file {number} {key}: -"),
+    };
+}
+
+/// The records of a file, and those of them that aren't interpreted by type and subtype.
+fn tell_records(rt: &HostRuntime, number: usize, records: &Records) {
+    let count = records.count();
+    let aside = records.aside();
+    let _ = eprintln!(rt; "file {number} records: {count}\nfile {number} aside: {aside}");
+    let mut others = aside;
+    for row in records.kinds() {
+        let kind = row.kind;
+        let count = row.count;
+        others = others.saturating_sub(count);
+        let _ = eprintln!(rt; "file {number} aside {kind}: {count}");
+    }
+    if others > 0 {
+        let _ = eprintln!(rt; "file {number} aside others: {others}");
+    }
+    tell_or_none(rt, number, "first", records.first().map(u64::from));
+    tell_or_none(rt, number, "last", records.last().map(u64::from));
+}
+
+/// What was read of a file.
+fn tell_file(rt: &HostRuntime, number: usize, dump: &Dump<'_>) {
+    let name = FileName(dump.name());
+    let bytes = dump.bytes();
+    let _ = eprintln!(rt; "file {number}: {name}\nfile {number} bytes: {bytes}");
+    tell_or_none(rt, number, "unread", dump.unread());
+    if let Some(records) = dump.records() {
+        tell_records(rt, number, records);
+    }
+}
+
 /// What the replay counted. A line `damaged: N` stands there already where there is damage.
 fn tell_counts(rt: &HostRuntime, summary: &Summary) {
     let Summary {
@@ -165,19 +204,30 @@ fn tell_counts(rt: &HostRuntime, summary: &Summary) {
     let _ = eprintln!(rt; "peers: {peers}\nrounds: {rounds}");
 }
 
-/// Says what was read, in lines of a key and a value: `file` is a file's number, how many of its bytes
-/// were read, and its name.
+/// The most memory that the process had at once, in kibibytes, where the system has a file that tells
+/// it, as Linux does.
+fn peak_memory(rt: &HostRuntime) -> Option<u64> {
+    let text = std::fs::read_to_string(rt, "/proc/self/status").ok()?;
+    for line in text.as_str().lines() {
+        if let Some(rest) = line.strip_prefix("VmHWM:") {
+            let number = rest.trim().split(' ').next()?;
+            return number.parse::<u64>().ok();
+        }
+    }
+    None
+}
+
+/// Says what was read, in lines of a key and a value. What is said of a file has its number in the
+/// key.
 pub fn tell_summary(
     rt: &HostRuntime,
     outcome: &Result<Summary, ReplayError>,
     inputs: &[Input<'_>],
+    workers: usize,
     elapsed: Option<Duration>,
 ) {
     for (i, input) in inputs.iter().enumerate() {
-        let number = i.saturating_add(1);
-        let bytes = input.device().bytes();
-        let name = FileName(input.device().name());
-        let _ = eprintln!(rt; "file: {number} {bytes} {name}");
+        tell_file(rt, i.saturating_add(1), input.device());
     }
     let files = inputs.len();
     let bytes = all_bytes(inputs);
@@ -185,9 +235,13 @@ pub fn tell_summary(
     if let Ok(summary) = outcome {
         tell_counts(rt, summary);
     }
+    let _ = eprintln!(rt; "workers: {workers}");
     if let Some(elapsed) = elapsed {
         let seconds = elapsed.as_secs();
         let millis = elapsed.subsec_millis();
         let _ = eprintln!(rt; "seconds: {seconds}.{millis:03}");
+    }
+    if let Some(peak) = peak_memory(rt) {
+        let _ = eprintln!(rt; "peak_kib: {peak}");
     }
 }

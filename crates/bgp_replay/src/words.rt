@@ -21,8 +21,10 @@ static RING_DEFAULT: usize = 1024;
 #[derive(Drop)]
 pub struct Job {
     pub request: Request,
-    /// 1 to 64.
+    /// 1 to 64; 4 where the words leave it open.
     pub workers: usize,
+    /// Whether the words say how many workers.
+    pub has_workers: bool,
     /// 1 to 65,536.
     pub ring: usize,
     /// A second since 1970 UTC.
@@ -31,6 +33,8 @@ pub struct Job {
     pub header: bool,
     /// Whether standard error says what was read.
     pub summary: bool,
+    /// Whether standard error shows how far the reading is.
+    pub progress: bool,
     /// At least one; `-` is standard input.
     pub files: Vec<String>,
     ghost workers_in: { (1 ≤ workers) × (workers ≤ 64) },
@@ -43,11 +47,11 @@ pub struct Job {
 pub enum Usage {
     /// Help or the version was asked for: its text, for standard output.
     Help(String),
-    /// The words are refused: why, for standard error.
+    /// Bad arguments: why, for standard error.
     Words(String),
     /// The word for an address is none.
     Address(String),
-    /// A growth was refused.
+    /// An allocation failed.
     Memory,
 }
 
@@ -135,9 +139,8 @@ fn job_of(alloc: Global, name: &str, matches: &ArgMatches<'_>) -> Result<Job, Us
     let request = request_of(alloc, name, matches)?;
     let until = until_of(alloc, matches)?;
     let files = files_of(alloc, matches)?;
-    let workers = matches
-        .get_one::<usize>("workers")
-        .unwrap_or(WORKERS_DEFAULT);
+    let given = matches.get_one::<usize>("workers");
+    let workers = given.unwrap_or(WORKERS_DEFAULT);
     let ring = matches.get_one::<usize>("ring").unwrap_or(RING_DEFAULT);
     if !(1..=64).contains(&workers) {
         return refused(alloc, "error: --workers is not in 1..=64\n");
@@ -151,10 +154,12 @@ fn job_of(alloc: Global, name: &str, matches: &ArgMatches<'_>) -> Result<Job, Us
     Ok(Job {
         request,
         workers,
+        has_workers: given.is_some(),
         ring,
         until,
         header: matches.get_flag("header"),
         summary: matches.get_flag("summary"),
+        progress: matches.get_flag("progress"),
         files,
     })
 }

@@ -1,0 +1,145 @@
+//! How far the reading is, on a line of standard error that is rewritten.
+
+use crate::names::FileName;
+use std::alloc::{AllocError, Global};
+use std::sync::atomic::{AtomicU64, Ordering};
+use std::time::Instant;
+
+/// How much time lies between two lines at least.
+const PAUSE_MILLIS: u64 = 250;
+
+/// How many bytes are read between two looks at the clock.
+pub const LOOK: u64 = 1 << 20;
+
+/// How many characters of a name are shown: the last ones.
+const NAME_SHOWN: usize = 30;
+
+/// What all dumps of a run have in common: how much was read, and what the line shows.
+#[derive(Drop)]
+pub struct Board {
+    rt: HostRuntime,
+    start: Instant,
+    files: usize,
+    bytes: AtomicU64,
+    records: AtomicU64,
+    /// Milliseconds from the start to the last line.
+    told: AtomicU64,
+    /// How many characters stand on the line.
+    width: AtomicU64,
+}
+
+/// How far a dump is read.
+#[derive(Clone, Copy)]
+pub struct Place<'a> {
+    pub name: &'a str,
+    /// From 1.
+    pub number: usize,
+    /// How many of its bytes were read.
+    pub bytes: u64,
+    /// How many bytes it has, where that is known.
+    pub size: Option<u64>,
+}
+
+impl Board {
+    /// The board of so many dumps.
+    pub fn new(rt: &HostRuntime, files: usize, start: Instant) -> Board {
+        Board {
+            rt: *rt,
+            start,
+            files,
+            bytes: AtomicU64::new(0),
+            records: AtomicU64::new(0),
+            told: AtomicU64::new(0),
+            width: AtomicU64::new(0),
+        }
+    }
+
+    /// Adds what was read, and writes the line where the last one is old enough.
+    pub fn add(&self, place: Place<'_>, bytes: u64, records: u64) {
+        self.bytes.fetch_add(bytes, Ordering::Relaxed);
+        self.records.fetch_add(records, Ordering::Relaxed);
+        let Ok(elapsed) = self.start.elapsed(&self.rt) else {
+            return;
+        };
+        let seconds = elapsed.as_secs().saturating_mul(1000);
+        let now = seconds.saturating_add(u64::from(elapsed.subsec_millis()));
+        let told = self.told.load(Ordering::Relaxed);
+        if now >= told.saturating_add(PAUSE_MILLIS) {
+            self.told.store(now, Ordering::Relaxed);
+            self.write(place, now);
+        }
+    }
+
+    /// Rewrites the line.
+    fn write(&self, place: Place<'_>, millis: u64) {
+        let Some(mut line) = self.line(place, millis) else {
+            return;
+        };
+        let width = line.as_str().chars().count();
+        let before = self.width.swap(width as u64, Ordering::Relaxed);
+        if push_blanks(&mut line, before.saturating_sub(width as u64)).is_ok() {
+            let _ = eprint!(self.rt; "\r{line}");
+        }
+    }
+
+    /// Empties the line.
+    pub fn clear(&self) {
+        let before = self.width.swap(0, Ordering::Relaxed);
+        let mut line = String::new(self.rt.alloc());
+        if before > 0 && push_blanks(&mut line, before).is_ok() {
+            let _ = eprint!(self.rt; "\r{line}\r");
+        }
+    }
+
+    fn line(&self, place: Place<'_>, millis: u64) -> Option<String> {
+        let alloc = self.rt.alloc();
+        let name = shown_name(alloc, place.name)?;
+        let number = place.number;
+        let files = self.files;
+        let share = share_of(alloc, place)?;
+        let records = self.records.load(Ordering::Relaxed);
+        // Bytes in a microsecond are megabytes in a second.
+        let micros = millis.saturating_mul(1000).max(1);
+        let speed = self.bytes.load(Ordering::Relaxed) / micros;
+        format!(in alloc;
+            "{name} ({number} of {files}): {share}, {speed} MB/s, {records} records"
+        ).ok()
+    }
+}
+
+fn push_blanks(line: &mut String, count: u64) -> Result<(), AllocError> {
+    for _ in 0..count {
+        line.push(' ')?;
+    }
+    Ok(())
+}
+
+/// The end of a name, as messages print it.
+fn shown_name(alloc: Global, name: &str) -> Option<String> {
+    let name = FileName(name);
+    let whole = format!(in alloc; "{name}").ok()?;
+    let count = whole.as_str().chars().count();
+    if count <= NAME_SHOWN {
+        return Some(whole);
+    }
+    let mut shown = String::new(alloc);
+    shown.push_str("..").ok()?;
+    for c in whole.as_str().chars().skip(count - NAME_SHOWN) {
+        shown.push(c).ok()?;
+    }
+    Some(shown)
+}
+
+/// How much of a dump is read: in percent where its size is known, else in megabytes.
+fn share_of(alloc: Global, place: Place<'_>) -> Option<String> {
+    match place.size {
+        Some(size) if size > 0 => {
+            let percent = (place.bytes.saturating_mul(100) / size).min(100);
+            format!(in alloc; "{percent} %").ok()
+        }
+        _ => {
+            let megabytes = place.bytes / 1_000_000;
+            format!(in alloc; "{megabytes} MB").ok()
+        }
+    }
+}
