@@ -26,11 +26,11 @@ help:
 	@echo 'make run        replays the sample by `tables`'
 	@echo 'make check      the gate: every proof, edit that must fail, test and run from nothing'
 	@echo 'make verdict    each crate from nothing, with its tests'
-	@echo 'make scripts    tries lines and statuses, the packages, and recipes'
+	@echo 'make scripts    tries lines and statuses, the packages, and the recipes of README.md'
 	@echo 'make refusals   fails each growth, read, write and thread start in turn'
 	@echo 'make same       every number of workers and ring gives the same bytes'
 	@echo 'make fuzz       replays damaged dumps (FILES=800 of them; SAMPLES=DIRECTORY adds dumps to damage)'
-	@echo 'make hostile    replays dumps that are dear to read, at a size and twice that size'
+	@echo 'make hostile    replays dumps that are costly to read, at a size and twice that size'
 	@echo 'make bench      measures the program beside bgpdump and others'
 	@echo 'make install    copies program, manual page, completions and documents to DESTDIR PREFIX (~/.local)'
 	@echo 'make uninstall  removes these'
@@ -75,11 +75,11 @@ dist: $(BINARY)
 deb: $(BINARY)
 	tests/deb.sh '$(BINARY)' '$(VERSION)' '$(ARCHITECTURE)' '$(DIST)'
 
-# Lines and statuses, packages, and recipes, on the program as it is built: quick.
+# Lines and statuses, packages, and the recipes of README.md, on the program as it is built: quick.
 scripts: $(BINARY)
 	tests/program.sh '$(BINARY)'
 	tests/packaging.sh '$(BINARY)'
-	@if [ -x tests/recipes.sh ]; then echo tests/recipes.sh '$(BINARY)'; tests/recipes.sh '$(BINARY)'; fi
+	tests/recipes.sh '$(BINARY)'
 
 # Each growth, read, write and thread start of whole runs fails in turn, on the program as it is built.
 refusals: $(BINARY)

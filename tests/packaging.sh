@@ -33,6 +33,12 @@ for command in $commands; do
     check "fish completes $option" grep -qE -- "-l ${option#--}( |\$)" completions/bgp_replay.fish
   done
 done
+"$program" churn --summary examples/updates.mrt 2>&1 > "$work/none" | sed -n 's/^\(file 1 \)*\([a-z_]*\)[ a-zA-Z0-9_]*: .*/\2/p' | grep -vx file | sort -u > "$work/keys"
+check '--summary has its keys' [ "$(wc -l < "$work/keys")" -ge 14 ]
+while read -r key; do
+  check "the manual page has the key $key" grep -qw -- "$key" <(sed -n '/^\.SH SUMMARY/,/^\.SH EXIT/p' man/bgp_replay.1)
+  check "README.md has the key $key" grep -qE "^\| .*\`(file N )?$key( TYPE SUBTYPE)?\`" README.md
+done < "$work/keys"
 make -s --no-print-directory help > "$work/targets"
 for target in $(sed -n 's/^\.PHONY: all help//p' Makefile); do check "make help names $target" grep -q "^make $target " "$work/targets"; done
 
@@ -52,7 +58,7 @@ if has man; then
   check 'man finds the page' [ -n "$(MANPATH=$root/share/man man -w bgp_replay)" ]
   warned=$(LC_ALL=C.UTF-8 man --warnings -E UTF-8 -l -Tutf8 -Z "$root/share/man/man1/bgp_replay.1" 2>&1 > "$work/set"); check "man --warnings says nothing: $warned" [ -z "$warned" ]
   LC_ALL=C.UTF-8 MANWIDTH=80 man -l "$root/share/man/man1/bgp_replay.1" > "$work/page" 2> "$work/log"
-  for word in NAME SYNOPSIS COMMANDS OPTIONS FAULTS 'EXIT STATUS' LIMITS EXAMPLES; do check "the page has $word" grep -q "^$word" "$work/page"; done
+  for word in NAME SYNOPSIS COMMANDS OPTIONS FAULTS SUMMARY 'EXIT STATUS' LIMITS EXAMPLES; do check "the page has $word" grep -q "^$word" "$work/page"; done
   for line in 'damaged: N' 'bad address: A' 'open failed: file N' 'read failed: file N' 'write failed' 'no memory' 'too many records'; do
     check "the page has $line" grep -q "${line// / *}" <(tr -s ' \n\302\240' ' ' < "$work/page" | sed 's/‐ //g; s/ad dress/address/')
   done
