@@ -24,10 +24,10 @@ $(PROGRAM): $(shell find crates -path '*/out' -prune -o -type f -print) crates.t
 help:
 	@echo 'make            builds bin/bgp_replay (a first build proves every crate and takes minutes)'
 	@echo 'make run        replays the sample by `tables`'
-	@echo 'make check      the gate: every proof, edit that must fail, test and run from nothing'
+	@echo 'make check      the gate: every proof, must-fail edit, test and run from nothing'
 	@echo 'make verdict    each crate from nothing, with its tests'
 	@echo 'make scripts    tries lines and statuses, the packages, and the recipes of README.md'
-	@echo 'make refusals   fails each growth, read, write and thread start in turn'
+	@echo 'make refusals   fails each allocation, read, write and thread start in turn'
 	@echo 'make same       every number of workers and ring gives the same bytes'
 	@echo 'make fuzz       replays damaged dumps (FILES=800 of them; SAMPLES=DIRECTORY adds dumps to damage)'
 	@echo 'make hostile    replays dumps that are costly to read, at a size and twice that size'
@@ -81,7 +81,7 @@ scripts: $(BINARY)
 	tests/packaging.sh '$(BINARY)'
 	tests/recipes.sh '$(BINARY)'
 
-# Each growth, read, write and thread start of whole runs fails in turn, on the program as it is built.
+# Each allocation, read, write and thread start of whole runs fails in turn, on the program as it is built.
 refusals: $(BINARY)
 	tests/refused_growths.sh '$(BINARY)'
 

@@ -214,14 +214,16 @@ if [ -r /proc/self/status ]; then [[ $(value peak_kib) -gt 100 ]] && right || wr
 INPUT=long summary faults -
 holds '--summary of a stream that ends in a body too long' "$(values 'file 1 records' 'file 1 unread')" "$(count_records long | cut -d ' ' -f 1) - "
 cat 'cut' | INPUT=/dev/stdin summary faults -; holds '--summary of a pipe' "$(values 'file 1 bytes' 'file 1 unread')" '1000 108 '
+summary churn $'./two\nlines'; holds '--summary of a name of two lines' "$(value 'file 1')" '"./two\nlines"'
 summary tables sample folder; holds '--summary after a failed read' "$(head -n 1 said) $(values 'file 1 records' 'file 2 records' records)" "read failed: file 2 $(count_records sample | cut -d ' ' -f 1) 0 none "
 
 # --progress: a line that is rewritten
 slowly() { head -c 3000000 large; sleep 0.6; tail -c +3000001 large | head -c 3000000; sleep 0.6; tail -c +6000001 large; }
-slowly | ./bgp_replay churn --progress - > out 2> said; status=$?
+start=${EPOCHREALTIME//[!0-9]/}; slowly | ./bgp_replay churn --progress - > out 2> said; status=$?; micros=$((${EPOCHREALTIME//[!0-9]/} - start))
 holds '--progress: its last line is cleared' "$(tail -c 1 said | od -An -tx1)" ' 0d'
 tr '\r' '\n' < said > lines
 if grep -qE '^standard input \(1 of 1\): [0-9]+ MB, [0-9]+ MB/s, 0 records *$' lines; then right; else wrong "--progress: $(head -n 2 lines | tail -n 1)"; fi
+[ "$(grep -c 'MB/s' lines)" -le $((micros / 250000 + 1)) ] && right || wrong "--progress: $(grep -c 'MB/s' lines) lines in $micros microseconds"
 holds '--progress: blanks at last' "$(tail -n 1 lines | tr -d ' ')" ''
 tr -d '\r' < lines > said; grep -vE '^standard input \(1 of 1\): [0-9]+ MB, [0-9]+ MB/s, [0-9]+ records *$|^ *$' said > others; : > said; judge '--progress' 0 '' nothing $status
 holds '--progress: nothing else' "$(wc -c < others)" 0
