@@ -19,6 +19,7 @@ use bgp_prefix::Memory;
 use mrt_body::{Damage, Found, Unit, Units};
 use mrt_frame::{ReplayError, Source};
 use std::alloc::Global;
+use std::sync::atomic::AtomicBool;
 
 /// Deals what files give.
 #[derive(Drop)]
@@ -39,6 +40,7 @@ fn deal_one<G: Gate>(
     gate: &G,
     lane: usize,
     looks: u32,
+    over: &AtomicBool,
     item: Numbered,
     feeds: &mut [Feed],
 ) -> Result<(), Numbered>
@@ -47,7 +49,7 @@ fn deal_one<G: Gate>(
     ensures dealt { OnOk result ((lane_of : ℕ → ℕ) → lane_of item.number ≡ lane → Dealt lane_of feeds.old feeds.new (item ∷ [])) }
     ensures full { IfErr result (λ back. (back ≡ item) × ((lane_of : ℕ → ℕ) → Dealt lane_of feeds.old feeds.new []) × ((d : _) → known_free (slice_index_or feeds.old lane d).producer ≡ 0)) }
 {
-    feeds[lane].push(gate, lane, looks, item)
+    feeds[lane].push(gate, lane, looks, over, item)
 }
 
 /// Lists what the files refuse, until they give a unit or end.
@@ -130,6 +132,7 @@ impl<D: Dealing> Dealer<D> {
         gate: &G,
         batch: u64,
         looks: u32,
+        over: &AtomicBool,
         units: &mut Units,
         files: &mut [R],
         feeds: &mut [Feed],
@@ -149,7 +152,7 @@ impl<D: Dealing> Dealer<D> {
             };
             let number = self.peers.number_of(&unit.peer)?;
             let lane = self.dealing.lane(number, feeds.len());
-            match deal_one(gate, lane, looks, Numbered { number, unit }, feeds) {
+            match deal_one(gate, lane, looks, over, Numbered { number, unit }, feeds) {
                 Ok(()) => self.dealt = self.dealt.saturating_add(1),
                 Err(back) => {
                     self.kept = Some(back.unit);

@@ -6,6 +6,7 @@ use crate::gate::Gate;
 use crate::numbered::{Numbered, Small};
 use rtrb::{Producer, PushError};
 use std::alloc::Global;
+use std::sync::atomic::{AtomicBool, Ordering};
 use std::thread::yield_now;
 
 /// The dealing half of a lane.
@@ -34,12 +35,14 @@ impl Feed {
         }
     }
 
-    /// Tries so many times to push an item that came back, and lets other threads run before each try.
+    /// Tries so many times to push an item that came back, and lets other threads run before each try. Where the round
+    /// is over, since a worker failed, it doesn't try on.
     fn push_again<G: Gate>(
         &mut self,
         gate: &G,
         lane: usize,
         looks: u32,
+        over: &AtomicBool,
         item: Numbered,
     ) -> Result<(), Numbered>
         requires { IsSmallUnit item.unit }
@@ -48,6 +51,9 @@ impl Feed {
     {
         let mut item = item;
         for look in 0..looks {
+            if over.load(Ordering::SeqCst) {
+                break;
+            }
             yield_now();
             match self.push_once(gate, lane, item) {
                 Ok(()) => return Ok(()),
@@ -63,6 +69,7 @@ impl Feed {
         gate: &G,
         lane: usize,
         looks: u32,
+        over: &AtomicBool,
         item: Numbered,
     ) -> Result<(), Numbered>
         requires { IsSmallUnit item.unit }
@@ -71,7 +78,7 @@ impl Feed {
     {
         match self.push_once(gate, lane, item) {
             Ok(()) => Ok(()),
-            Err(back) => self.push_again(gate, lane, looks, back),
+            Err(back) => self.push_again(gate, lane, looks, over, back),
         }
     }
 }

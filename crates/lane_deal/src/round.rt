@@ -25,7 +25,7 @@ use std::alloc::Global;
 use std::sync::atomic::{AtomicBool, Ordering};
 use std::thread::{Threads, join_mut};
 
-/// Deals in one half while the workers take in the other.
+/// Deals in one half while the workers take in the other. The round is over once the dealer ends or a worker fails.
 fn deal_and_work<
     T: Threads + Sync,
     D: Dealing + Send,
@@ -55,7 +55,7 @@ fn deal_and_work<
         requires { (0 < length feeds.now) × (length files.now ≡ units.now.count) }
         ensures { DealsOn (λ number. D.lane_of dealer.entry.now.dealing number (length feeds.entry.now)) batch feeds.entry.now feeds.exit.now dealer.entry.now dealer.exit.now units.entry.now (map R.remaining files.entry.now) (map R.failure_count files.entry.now) units.exit.now (map R.remaining files.exit.now) (map R.failure_count files.exit.now) result }
     {
-        let step = dealer.deal(alloc, gate, batch, looks, units, files, feeds);
+        let step = dealer.deal(alloc, gate, batch, looks, over, units, files, feeds);
         over.store(true, Ordering::SeqCst);
         step
     };

@@ -221,5 +221,10 @@ fn run_at_most_one<S: Sessions, G: Gate>(
     if workers.is_empty() {
         return Ok(());
     }
-    workers[0].run(alloc, gate, over, patience)
+    let ran = workers[0].run(alloc, gate, over, patience);
+    if ran.is_err() {
+        // So that the dealer doesn't try for long to push into this lane.
+        over.store(true, Ordering::SeqCst);
+    }
+    ran
 }
