@@ -44,8 +44,8 @@ use words::{Job, Usage, read_words};
 /// How many units are dealt in a round at most.
 const BATCH: u64 = 65_536;
 
-/// Empty looks at its ring after which a worker ends its round, and tries of the dealer at a full ring. They take some
-/// 30 ms, longer than a thread loses its core to another: one that left sooner would end the round for all.
+/// Empty looks at its ring after which a worker ends its round. They take some 30 ms, longer than the dealer loses its
+/// core to another thread: a worker that left sooner would end the round for all.
 const LOOKS: u32 = 100_000;
 
 /// Whole records that are cut at most.

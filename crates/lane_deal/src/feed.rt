@@ -9,6 +9,9 @@ use std::alloc::Global;
 use std::sync::atomic::{AtomicBool, Ordering};
 use std::thread::yield_now;
 
+/// How many times the dealer tries a push again at most: a round's end costs no more than these.
+const MOST_TRIES: u32 = 1_000;
+
 /// The dealing half of a lane.
 #[derive(Drop)]
 pub struct Feed {
@@ -63,7 +66,8 @@ impl Feed {
         Err(item)
     }
 
-    /// Pushes the item, or hands it back where the ring is full and stays so for this many further tries.
+    /// Pushes the item, or hands it back where the ring is full and stays so for this many further tries, or for
+    /// `MOST_TRIES` of them.
     pub fn push<G: Gate>(
         &mut self,
         gate: &G,
@@ -78,7 +82,7 @@ impl Feed {
     {
         match self.push_once(gate, lane, item) {
             Ok(()) => Ok(()),
-            Err(back) => self.push_again(gate, lane, looks, over, back),
+            Err(back) => self.push_again(gate, lane, looks.min(MOST_TRIES), over, back),
         }
     }
 }
