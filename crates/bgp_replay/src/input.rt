@@ -51,8 +51,9 @@ enum State {
 struct Watch<'a> {
     records: Records,
     board: Option<&'a Board>,
-    /// How many bytes and records the board doesn't know yet.
+    /// How many bytes the board doesn't know yet.
     bytes: u64,
+    /// How many records it knows.
     known: u64,
 }
 
@@ -66,17 +67,23 @@ impl<'a> Watch<'a> {
         }
     }
 
-    /// Takes the next bytes, up to which the dump is read as far as its place says.
-    fn take(&mut self, bytes: &[u8], place: Place<'_>) {
+    /// Takes the next bytes, and says whether the board should know of them.
+    fn take(&mut self, bytes: &[u8]) -> bool {
         self.records.take(bytes);
+        if self.board.is_none() {
+            return false;
+        }
+        self.bytes = self.bytes.saturating_add(bytes.len() as u64);
+        self.bytes >= LOOK || bytes.is_empty()
+    }
+
+    /// Tells the board what it doesn't know yet, and how far the dump is read.
+    fn tell(&mut self, place: Place<'_>) {
         if let Some(board) = self.board {
-            self.bytes = self.bytes.saturating_add(bytes.len() as u64);
-            if self.bytes >= LOOK || bytes.is_empty() {
-                let count = self.records.count();
-                board.add(place, self.bytes, count.saturating_sub(self.known));
-                self.bytes = 0;
-                self.known = count;
-            }
+            let count = self.records.count();
+            board.add(place, self.bytes, count.saturating_sub(self.known));
+            self.bytes = 0;
+            self.known = count;
         }
     }
 }
@@ -184,12 +191,17 @@ impl<'a> Dump<'a> {
         self.error
     }
 
-    fn place(&self) -> Place<'a> {
-        Place {
-            name: self.name,
-            number: self.number,
-            bytes: self.bytes,
-            size: self.size,
+    /// Counts the bytes that were read, where someone wants to know.
+    fn watch(&mut self, bytes: &[u8]) {
+        if let Some(watch) = &mut self.watch {
+            if watch.take(bytes) {
+                watch.tell(Place {
+                    name: self.name,
+                    number: self.number,
+                    bytes: self.bytes,
+                    size: self.size,
+                });
+            }
         }
     }
 
@@ -225,10 +237,7 @@ impl Read for Dump<'_> {
             Ok(count) => {
                 self.first.take(&buf[..count]);
                 self.bytes = self.bytes.saturating_add(count as u64);
-                let place = self.place();
-                if let Some(watch) = &mut self.watch {
-                    watch.take(&buf[..count], place);
-                }
+                self.watch(&buf[..count]);
                 if count == 0 && !buf.is_empty() {
                     self.is_at_end = true;
                     self.state = State::Ended;

@@ -25,19 +25,23 @@ pub struct Aside {
 /// What was counted of a dump.
 #[derive(Drop)]
 pub struct Records {
+    /// The first bytes of a header, and how many came.
     header: [u8; HEADER_SIZE],
-    /// How many bytes of the header came.
     filled: usize,
-    /// How many bytes of the body are still to come.
+    /// What the last whole header says.
+    seconds: u32,
+    kind: RecordKind,
+    length: u32,
+    /// How many bytes of its body are still to come.
     left: u32,
-    /// Whether a body was too long.
+    /// Whether its body is too long.
     is_cut_off: bool,
     whole_bytes: u64,
     count: u64,
     aside: u64,
     kinds: Vec<Aside>,
-    first: Option<u32>,
-    last: Option<u32>,
+    first: u32,
+    last: u32,
     ghost room: { filled < 12 },
 }
 
@@ -46,14 +50,20 @@ impl Records {
         Records {
             header: [0; HEADER_SIZE],
             filled: 0,
+            seconds: 0,
+            kind: RecordKind {
+                kind: 0,
+                subtype: 0,
+            },
+            length: 0,
             left: 0,
             is_cut_off: false,
             whole_bytes: 0,
             count: 0,
             aside: 0,
             kinds: Vec::new(alloc),
-            first: None,
-            last: None,
+            first: 0,
+            last: 0,
         }
     }
 
@@ -79,16 +89,40 @@ impl Records {
 
     /// The second since 1970 UTC of the first whole record.
     pub fn first(&self) -> Option<u32> {
-        self.first
+        if self.count > 0 {
+            Some(self.first)
+        } else {
+            None
+        }
     }
 
     /// That of the last one.
     pub fn last(&self) -> Option<u32> {
-        self.last
+        if self.count > 0 {
+            Some(self.last)
+        } else {
+            None
+        }
     }
 
     /// Takes the next bytes of the dump.
     pub fn take(&mut self, bytes: &[u8]) {
+        // Mostly they are a whole body or a whole header, since these are read one after the other.
+        if self.left > 0 {
+            if bytes.len() == self.left as usize {
+                self.left = 0;
+                self.end();
+            } else {
+                self.take_parts(bytes);
+            }
+        } else if bytes.len() == HEADER_SIZE && self.filled == 0 && !self.is_cut_off {
+            self.begin(bytes);
+        } else {
+            self.take_parts(bytes);
+        }
+    }
+
+    fn take_parts(&mut self, bytes: &[u8]) {
         let mut rest = bytes;
         // Each step takes a byte at least.
         for _ in 0..bytes.len() {
@@ -108,7 +142,7 @@ impl Records {
         let count = bytes.len().min(self.left as usize);
         self.left -= count as u32;
         if self.left == 0 {
-            self.end_record();
+            self.end();
         }
         &bytes[count..]
     }
@@ -122,45 +156,44 @@ impl Records {
             self.filled = end;
         } else {
             self.filled = 0;
-            self.begin_body();
+            let header = self.header;
+            self.begin(&header);
         }
         &bytes[count..]
     }
 
-    /// The length that the header gives.
-    fn length(&self) -> u32 {
-        let [_, _, _, _, _, _, _, _, a, b, c, d] = self.header;
-        u32::from_be_bytes([a, b, c, d])
-    }
-
-    fn begin_body(&mut self) {
-        let length = self.length();
-        if length > BODY_LIMIT {
-            self.is_cut_off = true;
-        } else if length == 0 {
-            self.end_record();
-        } else {
-            self.left = length;
-        }
-    }
-
-    fn end_record(&mut self) {
-        let [s, t, u, v, k, l, m, n, _, _, _, _] = self.header;
-        let seconds = Some(u32::from_be_bytes([s, t, u, v]));
-        let kind = RecordKind {
-            kind: u16::from_be_bytes([k, l]),
-            subtype: u16::from_be_bytes([m, n]),
+    /// Takes a whole header.
+    fn begin(&mut self, bytes: &[u8]) {
+        let [a, b, c, d, e, f, g, h, i, j, k, l] = bytes else {
+            return;
         };
-        let bytes = HEADER_SIZE as u64 + u64::from(self.length());
-        self.whole_bytes = self.whole_bytes.saturating_add(bytes);
-        self.count = self.count.saturating_add(1);
-        if self.first.is_none() {
-            self.first = seconds;
+        self.seconds = u32::from_be_bytes([*a, *b, *c, *d]);
+        self.kind = RecordKind {
+            kind: u16::from_be_bytes([*e, *f]),
+            subtype: u16::from_be_bytes([*g, *h]),
+        };
+        self.length = u32::from_be_bytes([*i, *j, *k, *l]);
+        if self.length > BODY_LIMIT {
+            self.is_cut_off = true;
+        } else if self.length == 0 {
+            self.end();
+        } else {
+            self.left = self.length;
         }
-        self.last = seconds;
-        if kind.is_aside() {
+    }
+
+    /// Counts a record whose body came to its end.
+    fn end(&mut self) {
+        let bytes = HEADER_SIZE as u64 + u64::from(self.length);
+        self.whole_bytes = self.whole_bytes.saturating_add(bytes);
+        if self.count == 0 {
+            self.first = self.seconds;
+        }
+        self.last = self.seconds;
+        self.count = self.count.saturating_add(1);
+        if self.kind.is_aside() {
             self.aside = self.aside.saturating_add(1);
-            self.count_kind(kind);
+            self.count_kind(self.kind);
         }
     }
 
