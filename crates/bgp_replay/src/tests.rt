@@ -11,6 +11,7 @@ mod hostile;
 mod layers;
 mod maps;
 mod playing;
+mod records;
 mod rounds;
 mod rows;
 mod words;

@@ -121,15 +121,18 @@ fn options(rt: HostRuntime) -> Result<(), Fail> {
         "tables --workers 2 x --header --workers 3 --until 6 --until 2024-01-01T01:00:00Z y";
     match job_of(alloc, words)? {
         Ok(job) => {
-            assert!(rt; job.header && !job.summary);
+            assert!(rt; job.header && !job.summary && !job.progress && job.has_workers);
             assert_eq!(rt; job.workers, 3, "the last one counts");
             assert!(rt; job.until == Some(1_704_070_800));
             assert_eq!(rt; job.files.len(), 2);
         }
         Err(_) => assert!(rt; false, "{words}"),
     }
-    match job_of(alloc, "faults --summary -")? {
-        Ok(job) => assert!(rt; job.summary && !job.header && job.until.is_none()),
+    match job_of(alloc, "faults --summary --progress -")? {
+        Ok(job) => {
+            assert!(rt; job.summary && job.progress && !job.header && job.until.is_none());
+            assert!(rt; !job.has_workers);
+        }
         Err(_) => assert!(rt; false, "summary"),
     }
     Ok(())
