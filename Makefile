@@ -28,6 +28,7 @@ help:
 	@echo 'make verdict    each crate from nothing, with its tests'
 	@echo 'make scripts    tries lines and statuses, the packages, and the recipes of README.md'
 	@echo 'make refusals   fails each allocation, read, write and thread start in turn'
+	@echo 'make growths    fails each allocation of the test programs, which say what is left then'
 	@echo 'make same       every number of workers and ring gives the same bytes'
 	@echo 'make fuzz       replays damaged dumps (FILES=800 of them; SAMPLES=DIRECTORY adds dumps to damage)'
 	@echo 'make hostile    replays dumps that are costly to read, at a size and twice that size'
@@ -85,6 +86,11 @@ scripts: $(BINARY)
 refusals: $(BINARY)
 	tests/refused_growths.sh '$(BINARY)'
 
+# Each growth of the tests that say what a refused one leaves fails in turn. The tests are proved and built first.
+growths:
+	for crate in bgp_prefix adj_rib bgp_replay; do (cd crates/$$crate && rt test) || exit 1; done
+	tests/growths.sh
+
 same: $(BINARY)
 	tests/same_bytes.sh '$(BINARY)'
 
@@ -100,4 +106,4 @@ bench: $(PROGRAM)
 clean:
 	rm -rf bin dist bench/out crates/*/out
 
-.PHONY: all help run check verdict install uninstall dist deb scripts refusals same fuzz hostile bench clean
+.PHONY: all help run check verdict install uninstall dist deb scripts refusals growths same fuzz hostile bench clean

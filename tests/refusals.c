@@ -4,6 +4,7 @@
    after the first 100, N rises by STEP. KIND says what fails, and how a run must end in which it failed:
      memory        a growth: status 3, `no memory` and nothing written, or as without a failure
      memory-on     that growth and each later one: the same
+     memory-test   a growth of a program of tests, of which WORDS name one: the test passes, or ends with an error of its own; an assertion aborts it
      read-ERROR    a read of DUMP, the file of this NUMBER among WORDS: status 3, `read failed: file NUMBER` and nothing written
      write-ERROR   a write on standard output (each takes 61 bytes at most): status 3, `write failed`, a front of the report;
                    for EPIPE, a reader that is gone, nothing is said
@@ -51,8 +52,8 @@ int main(int n, char **words) {
     set(place == READS ? "READ_ERROR" : "WRITE_ERROR", value);
   }
   if (strstr(kind, "-on")) set("ON", "1");
-  int gone = !strcmp(kind, "write-EPIPE");
-  snprintf(line, sizeof line, place == READS ? "read failed: file %s" : place == WRITES ? "write failed" : "no memory", number);
+  int gone = !strcmp(kind, "write-EPIPE"), test = !strcmp(kind, "memory-test");
+  snprintf(line, sizeof line, test ? "the test failed: its result gives status 1" : place == READS ? "read failed: file %s" : place == WRITES ? "write failed" : "no memory", number);
   long runs = 0, met = 0, failed = 0, most = told[place], missed = 0;
   if (whole.status > 1) { runs++; failed++; printf("%s:", kind); print_words(stdout, words + 1); printf(": status %d without a failure\n", whole.status); }
   char *which = set(place == READS ? "FAIL_READ" : place == WRITES ? "FAIL_WRITE" : place == THREADS ? "FAIL_THREAD" : "REFUSE", "0");
@@ -61,7 +62,8 @@ int main(int n, char **words) {
     if (!starts(kind, "short")) sprintf(strchr(which, '=') + 1, "%ld", at);
     memset(told, 0, 64);
     struct ended ended = run(words, &terms);
-    int shorter = starts(kind, "short"), hit = told[place + 1] > 0, stopped = ended.status == 3 && (gone ? !ended.err.length : says(&ended.err, line)), same = 0, good;
+    int shorter = starts(kind, "short"), hit = told[place + 1] > 0, same = 0, good;
+    int stopped = test ? ended.status == 101 && says(&ended.err, line) : ended.status == 3 && (gone ? !ended.err.length : says(&ended.err, line));
     same = ended.status == whole.status && is_same(&ended.out, &whole.out) && is_same(&ended.err, &whole.err);
     if (shorter) good = same && told[place] > most && (place == READS || told[place] >= (long) whole.out.length);
     else if (!hit || place == THREADS) good = same;
@@ -69,7 +71,7 @@ int main(int n, char **words) {
     else if (place == WRITES) good = stopped && is_front(&ended.out, &whole.out) && ended.out.length < whole.out.length;
     else good = same || (stopped && !ended.out.length);
     if (told[place] > most) most = told[place];
-    runs++; met += shorter ? good : place == THREADS ? hit : hit && stopped; missed = hit ? 0 : missed + 1;
+    runs++; met += shorter ? good : place == THREADS ? hit : hit && (test ? same : stopped); missed = hit ? 0 : missed + 1;
     if (!good) {
       failed++; printf("%s %ld:", kind, at); print_words(stdout, words + 1);
       printf(": status %d, %zu bytes, said: ", ended.status, ended.out.length); print_first_line(stdout, &ended.err); printf("\n");

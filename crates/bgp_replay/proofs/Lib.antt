@@ -1,3 +1,4 @@
+pub mod EmptyMaps
 pub mod Numbers
 pub mod Dumps
 pub mod Examples

@@ -6,10 +6,11 @@ use super::layers::found_in;
 use crate::replay::run;
 use crate::request::Request;
 use adj_rib::SharedRoute;
-use bgp_prefix::{Flat, PrefixMap, Radix};
+use bgp_prefix::{Flat, Memory, PrefixMap, Radix, Shelf};
 use lane_deal::{ByBlocks, ByList, ByTurns, Dealing, Lanes, NoGate, Plan, Turn, run_schedule};
-use mrt_body::Found;
+use mrt_body::{Found, PeerAddr};
 use mrt_frame::Counted;
+use rib_report::{Tables, table_rows};
 use std::alloc::Global;
 use std::marker::Sync;
 use std::process::Abort;
@@ -123,7 +124,8 @@ fn three_peers_by_every_dealing(rt: HostRuntime) -> Result<(), Fail> {
     let rings = [(1, 1, 17), (1, 8, 12), (4, 8, 4), (65_536, 1_048_576, 2)];
     let list = ByList::new(vec![in alloc; 1, 1, 0]?);
     check_plans::<Radix<SharedRoute>>(&rt, alloc, &file, &[1, 2, 3, 64], &rings, &list)?;
-    check_plans::<Flat<SharedRoute>>(&rt, alloc, &file, &[1, 2, 3, 64], &rings, &list)
+    check_plans::<Flat<SharedRoute>>(&rt, alloc, &file, &[1, 2, 3, 64], &rings, &list)?;
+    check_plans::<Shelf<SharedRoute>>(&rt, alloc, &file, &[1, 2, 3, 64], &rings, &list)
 }
 
 /// 300 announcements, each by a peer of another address, 198.18.0.0 to 198.18.1.43.
@@ -168,6 +170,14 @@ fn three_hundred_peers_in_tries(rt: HostRuntime) -> Result<(), Fail> {
 }
 
 #[test]
+fn three_hundred_peers_in_shelves(rt: HostRuntime) -> Result<(), Fail> {
+    let alloc = rt.alloc();
+    let file = three_hundred(alloc)?;
+    let list = long_list(alloc)?;
+    check_plans::<Shelf<SharedRoute>>(&rt, alloc, &file, &[1, 64], &RINGS_OF_300, &list)
+}
+
+#[test]
 fn three_hundred_peers_in_lists(rt: HostRuntime) -> Result<(), Fail> {
     let alloc = rt.alloc();
     let file = three_hundred(alloc)?;
@@ -176,10 +186,10 @@ fn three_hundred_peers_in_lists(rt: HostRuntime) -> Result<(), Fail> {
 }
 
 /// The lanes of two workers on one thread, after a list of events: some find nothing.
-pub fn turned_lanes<M: PrefixMap<SharedRoute> + Drop>(
+pub fn scheduled<M: PrefixMap<SharedRoute> + Drop>(
     rt: &impl Abort,
     alloc: Global,
-) -> Result<Lanes<M>, Fail> {
+) -> Result<Result<Lanes<M>, Memory>, Fail> {
     let mut units = Vec::new(alloc);
     for found in found_in(rt, alloc, &["M MB M MC MB"])? {
         match found {
@@ -197,7 +207,29 @@ pub fn turned_lanes<M: PrefixMap<SharedRoute> + Drop>(
         Turn::Take(0),
         Turn::Take(7),
     ];
-    Ok(run_schedule(alloc, units, &turns, &ByTurns, 2)?)
+    Ok(run_schedule(alloc, units, &turns, &ByTurns, 2))
+}
+
+/// The tables of what lanes took. Where a growth is refused they come back, and the call is made again.
+fn tables_of_lanes<M: PrefixMap<SharedRoute> + Drop>(
+    rt: &impl Abort,
+    alloc: Global,
+    lanes: Lanes<M>,
+) -> Result<Tables<M>, Fail> {
+    let counts = (
+        lanes.undealt(),
+        lanes.waiting(0),
+        lanes.took(0),
+        lanes.took(1),
+    );
+    match lanes.into_tables(alloc) {
+        Ok(tables) => Ok(tables),
+        Err((back, _)) => {
+            let again = (back.undealt(), back.waiting(0), back.took(0), back.took(1));
+            assert!(rt; again == counts, "the lanes that came back");
+            Ok(back.into_tables(alloc).map_err(|refused| refused.1)?)
+        }
+    }
 }
 
 /// Events that find nothing change nothing.
@@ -205,17 +237,26 @@ fn check_turns<M: PrefixMap<SharedRoute> + Drop>(
     rt: &impl Abort,
     alloc: Global,
 ) -> Result<(), Fail> {
-    let lanes = turned_lanes::<M>(rt, alloc)?;
+    let lanes = scheduled::<M>(rt, alloc)??;
     assert_eq!(rt; lanes.undealt(), 2);
     for (lane, waiting, took) in [(0, 1, 1), (1, 0, 1), (2, 0, 0), (7, 0, 0)] {
         assert!(rt; lanes.waiting(lane) == waiting, "waiting for {lane}");
         assert!(rt; lanes.took(lane) == took, "taken by {lane}");
     }
+    let tables = tables_of_lanes(rt, alloc, lanes)?;
+    assert_eq!(rt; tables.peers(), 2);
+    let mut routes = Vec::new(alloc);
+    for row in &table_rows(alloc, &tables)? {
+        routes.push(row.peer.addr)?;
+    }
+    let addrs = [PeerAddr::V4(0xC000_0201), PeerAddr::V4(0xC000_0202)];
+    assert!(rt; routes.as_slice() == addrs.as_slice(), "a route of each");
     Ok(())
 }
 
 #[test]
 fn turns_one_by_one(rt: HostRuntime) -> Result<(), Fail> {
     check_turns::<Radix<SharedRoute>>(&rt, rt.alloc())?;
+    check_turns::<Shelf<SharedRoute>>(&rt, rt.alloc())?;
     check_turns::<Flat<SharedRoute>>(&rt, rt.alloc())
 }

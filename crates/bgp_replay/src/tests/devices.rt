@@ -60,6 +60,7 @@ const TABLES_OF_FRONTS: [&str; 6] = [
 #[derive(Drop)]
 struct Breaking<'a> {
     rest: &'a [u8],
+    kind: ErrorKind,
 }
 
 impl Read for Breaking<'_> {
@@ -71,7 +72,7 @@ impl Read for Breaking<'_> {
                 Ok(1)
             }
             (Some(_), None) => Ok(0),
-            (None, _) => Err(io::Error::from(ErrorKind::Interrupted)),
+            (None, _) => Err(io::Error::from(self.kind)),
         }
     }
 }
@@ -107,75 +108,112 @@ impl Write for Full {
     }
 }
 
-/// What a run over readers that fail in place of their ends answers, and how much it wrote.
-fn run_breaking(
-    rt: &(impl Threads + Sync),
+/// Expects that a run over a reader that fails in place of its end fails with it, and writes nothing.
+fn expect_read(
+    rt: &(impl Threads + Abort + Sync),
     alloc: Global,
-    files: &[&[u8]],
-) -> Result<(Result<Summary, ReplayError>, usize), Fail> {
-    let mut readers = Vec::new(alloc);
-    for bytes in files {
-        readers.push(Counted::new(Breaking { rest: *bytes }))?;
-    }
+    rest: &[u8],
+    kind: ErrorKind,
+    workers: usize,
+) {
+    let plan = Plan { workers, ..PLAN };
+    assert!(rt; plan.check());
+    let mut readers = [Counted::new(Breaking { rest, kind })];
     let mut out = Counted::new(Vec::<u8>::new(alloc));
     let result = run::<Radix<SharedRoute>, _, _, _, _, _>(
         rt,
         alloc,
-        readers.as_mut_slice(),
+        &mut readers,
         &Request::Tables,
-        &PLAN,
+        &plan,
         &ByTurns,
         &NoGate,
         &mut out,
     );
-    Ok((result, out.device().len()))
+    let k = rest.len();
+    let is_read = match &result {
+        Err(error) => *error == ReplayError::Read { file: 0 },
+        Ok(_) => false,
+    };
+    assert!(rt; is_read, "a read that fails at {k}, {workers} workers");
+    assert!(rt; out.device().is_empty(), "nothing written at {k}");
+    assert_eq!(rt; status(&result), 3);
 }
 
-#[test]
-fn every_read_failed(rt: HostRuntime) -> Result<(), Fail> {
-    let alloc = rt.alloc();
+/// Fails the read of each byte, and of the end, in turn.
+fn expect_every_read(
+    rt: &(impl Threads + Abort + Sync),
+    alloc: Global,
+    kind: ErrorKind,
+    workers: usize,
+) -> Result<(), Fail> {
     let bytes = dump(alloc, THREE_PEERS)?;
     assert_eq!(rt; bytes.len(), 385);
     for k in 0..=bytes.len() {
-        let (result, written) = run_breaking(&rt, alloc, &[&bytes.as_slice()[..k]])?;
-        let is_read = match &result {
-            Err(error) => *error == ReplayError::Read { file: 0 },
-            Ok(_) => false,
-        };
-        assert!(rt; is_read && written == 0, "a read that fails at {k}");
-        assert_eq!(rt; status(&result), 3);
+        expect_read(rt, alloc, &bytes.as_slice()[..k], kind, workers);
     }
     Ok(())
 }
 
+#[test]
+fn every_read_failed_by_one_worker(rt: HostRuntime) -> Result<(), Fail> {
+    expect_every_read(&rt, rt.alloc(), ErrorKind::Other, 1)
+}
+
+#[test]
+fn every_read_failed_by_four_workers(rt: HostRuntime) -> Result<(), Fail> {
+    expect_every_read(&rt, rt.alloc(), ErrorKind::Other, 4)
+}
+
+/// An interrupted read is a failure like any other.
+#[test]
+fn every_read_interrupted_by_one_worker(rt: HostRuntime) -> Result<(), Fail> {
+    expect_every_read(&rt, rt.alloc(), ErrorKind::Interrupted, 1)
+}
+
+#[test]
+fn every_read_interrupted_by_four_workers(rt: HostRuntime) -> Result<(), Fail> {
+    expect_every_read(&rt, rt.alloc(), ErrorKind::Interrupted, 4)
+}
+
 /// A batch that takes all units, played until a read fails and settled: the units that came before.
+fn expect_salvage(
+    rt: &(impl Threads + Abort + Sync),
+    alloc: Global,
+    rest: &[u8],
+    workers: usize,
+) -> Result<(), Fail> {
+    let plan = Plan {
+        workers,
+        batch: 1_048_576,
+        ..PLAN
+    };
+    let kind = ErrorKind::Interrupted;
+    let mut readers = Vec::new(alloc);
+    readers.push(Counted::new(Breaking { rest, kind }))?;
+    let mut play = Play::<Radix<SharedRoute>, _>::new(rt, alloc, readers, plan)?;
+    let k = rest.len();
+    let failed = play.round_until(rt, alloc, "Read 0");
+    assert!(rt; failed, "a read that fails at {k}, {workers} workers");
+    assert!(rt; play.settle(rt, alloc) == "Ok", "settled at {k}");
+    let units = k / 77;
+    assert!(rt;
+        play.count("took") == Some(units as u64),
+        "units before {k}"
+    );
+    let (answer, text) = play.into_text(rt, alloc)?;
+    assert!(rt; answer == "Ok", "tables at {k}");
+    let expected = TABLES_OF_FRONTS.get(units).ok_or("five units at most")?;
+    assert!(rt; text.as_slice() == expected.as_bytes(), "the tables at {k}");
+    Ok(())
+}
+
 #[test]
 fn salvage_at_every_failed_read(rt: HostRuntime) -> Result<(), Fail> {
     let alloc = rt.alloc();
     let bytes = dump(alloc, THREE_PEERS)?;
-    let plan = Plan {
-        batch: 1_048_576,
-        ..PLAN
-    };
     for k in 0..=bytes.len() {
-        let mut readers = Vec::new(alloc);
-        let rest = &bytes.as_slice()[..k];
-        readers.push(Counted::new(Breaking { rest }))?;
-        let mut play = Play::<Radix<SharedRoute>, _>::new(&rt, alloc, readers, plan)?;
-        assert!(rt;
-            play.round_until(&rt, alloc, "Read 0"),
-            "a read that fails at {k}"
-        );
-        assert!(rt; play.settle(&rt, alloc) == "Ok", "settled at {k}");
-        let units = k / 77;
-        assert!(rt;
-            play.count("took") == Some(units as u64),
-            "units before {k}"
-        );
-        let (answer, text) = play.into_text(&rt, alloc)?;
-        assert!(rt; answer == "Ok", "tables at {k}");
-        let expected = TABLES_OF_FRONTS.get(units).ok_or("five units at most")?;
-        assert!(rt; text.as_slice() == expected.as_bytes(), "the tables at {k}");
+        expect_salvage(&rt, alloc, &bytes.as_slice()[..k], 1 + k % 4)?;
     }
     Ok(())
 }
@@ -267,11 +305,8 @@ fn writer_fails_after_ten_bytes(rt: HostRuntime) -> Result<(), Fail> {
 fn reader_fails_inside_a_record(rt: HostRuntime) -> Result<(), Fail> {
     let alloc = rt.alloc();
     let bytes = dump(alloc, "M 00000001 0010 0004 00000041")?;
-    let (result, written) = run_breaking(&rt, alloc, &[bytes.as_slice()])?;
-    match result {
-        Err(error) => assert!(rt; error == ReplayError::Read { file: 0 } && written == 0),
-        Ok(_) => assert!(rt; false, "inside a record"),
-    }
+    assert_eq!(rt; bytes.len(), 89);
+    expect_read(&rt, alloc, bytes.as_slice(), ErrorKind::Other, 2);
     Ok(())
 }
 

@@ -12,7 +12,7 @@ use bgp_prefix::PrefixMap;
 use lane_deal::{ByTurns, Dealing, NoGate, Plan, Replayer, Step};
 use mrt_body::Units;
 use mrt_frame::{Counted, ReplayError, Source};
-use rib_report::{churn, table_rows, write_churn, write_rows};
+use rib_report::{Tables, churn, table_rows, write_churn, write_rows};
 use std::alloc::Global;
 use std::io::{self, ErrorKind, Read};
 use std::marker::Sync;
@@ -201,18 +201,47 @@ impl<M: PrefixMap<SharedRoute> + Send + Drop, R: Source + Send + Drop> Play<M, R
         rt: &impl Abort,
         alloc: Global,
     ) -> Result<(&'static str, Vec<u8>), Fail> {
-        let replayer = self.replayer;
-        let ends = may_end(&replayer);
-        assert!(rt; ends, "rings are empty");
         let mut out = Counted::new(Vec::<u8>::new(alloc));
-        match replayer.into_tables(alloc) {
+        match tables_of(rt, alloc, self.replayer) {
             Ok(tables) => {
                 write_rows(&mut out, table_rows(alloc, &tables)?.as_slice())?;
                 write_churn(&mut out, churn(alloc, &tables)?.as_slice())?;
                 Ok(("Ok", Vec::from_slice(alloc, out.device().as_slice())?))
             }
-            Err((_, error)) => Ok((error_name(&error), Vec::new(alloc))),
+            Err(error) => Ok((error_name(&error), Vec::new(alloc))),
         }
+    }
+
+    /// Expects that each call answers `Spent`.
+    pub fn expect_spent(mut self, rt: &(impl Threads + Abort + Sync), alloc: Global) {
+        assert!(rt; self.replayer.is_spent());
+        assert!(rt; self.round(rt, alloc) == "Spent" && self.settle(rt, alloc) == "Spent");
+        match tables_of(rt, alloc, self.replayer) {
+            Ok(_) => assert!(rt; false, "the tables of a spent replayer"),
+            Err(error) => assert!(rt; error == ReplayError::Spent),
+        }
+    }
+}
+
+/// The tables of a replayer. Where a growth is refused it comes back, and the call is made again.
+fn tables_of<M: PrefixMap<SharedRoute> + Drop>(
+    rt: &impl Abort,
+    alloc: Global,
+    replayer: Replayer<M, ByTurns>,
+) -> Result<Tables<M>, ReplayError> {
+    let counts = (replayer.rounds(), replayer.dealt(), replayer.took(0));
+    let ends = may_end(&replayer);
+    assert!(rt; ends, "rings are empty");
+    match replayer.into_tables(alloc) {
+        Err((back, ReplayError::Memory)) => {
+            assert!(rt; !back.is_spent() && back.is_settled());
+            assert!(rt; (back.rounds(), back.dealt(), back.took(0)) == counts);
+            let ends = may_end(&back);
+            assert!(rt; ends, "rings are empty");
+            back.into_tables(alloc).map_err(|refused| refused.1)
+        }
+        Ok(tables) => Ok(tables),
+        Err((_, error)) => Err(error),
     }
 }
 

@@ -3,7 +3,7 @@
 
 use super::playing::play_rows;
 use adj_rib::SharedRoute;
-use bgp_prefix::{Flat, Radix};
+use bgp_prefix::{Flat, Radix, Shelf};
 use std::test::Fail;
 
 const ROUNDS: &str = "
@@ -112,6 +112,7 @@ fn rounds_of_each_map(rt: HostRuntime) -> Result<(), Fail> {
     let alloc = rt.alloc();
     assert_eq!(rt; play_rows::<Radix<SharedRoute>>(&rt, alloc, ROUNDS)?, 8);
     assert_eq!(rt; play_rows::<Flat<SharedRoute>>(&rt, alloc, ROUNDS)?, 8);
+    assert_eq!(rt; play_rows::<Shelf<SharedRoute>>(&rt, alloc, ROUNDS)?, 8);
     Ok(())
 }
 
@@ -120,5 +121,6 @@ fn salvage_after_a_failed_read(rt: HostRuntime) -> Result<(), Fail> {
     let alloc = rt.alloc();
     assert_eq!(rt; play_rows::<Radix<SharedRoute>>(&rt, alloc, SALVAGE)?, 2);
     assert_eq!(rt; play_rows::<Flat<SharedRoute>>(&rt, alloc, SALVAGE)?, 2);
+    assert_eq!(rt; play_rows::<Shelf<SharedRoute>>(&rt, alloc, SALVAGE)?, 2);
     Ok(())
 }
