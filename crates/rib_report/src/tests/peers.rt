@@ -8,7 +8,7 @@ use crate::{Gathered, Seated, Tables, collect};
 use adj_rib::{Session, SharedRoute};
 use bgp_prefix::{PrefixMap, Sequence};
 use bgp_update::Width;
-use mrt_body::{Damage, Payload, PeerAddr, PeerKey, Place, Unit};
+use mrt_body::{Damage, Payload, PayloadBytes, PeerAddr, PeerKey, Place, Unit};
 use std::alloc::Global;
 use std::test::Fail;
 
@@ -55,7 +55,7 @@ fn message(alloc: Global, said: Said<'_>) -> Result<Payload, Fail> {
         push_word(&mut bytes, word)?;
     }
     Ok(Payload::Message {
-        bytes: Sequence::from_vec(bytes),
+        bytes: PayloadBytes::from_vec(bytes),
         width: Width::Four,
         add_path,
     })
