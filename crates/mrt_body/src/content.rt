@@ -7,7 +7,7 @@ use bgp_update::Width;
 
 /// What a record holds.
 #[derive(Clone, Copy, Debug, PartialEq, Eq)]
-pub(crate) enum Content {
+pub enum Content {
     /// PEER_INDEX_TABLE.
     IndexTable,
     /// RIB_IPV4_UNICAST, with path identifiers or without.
@@ -75,7 +75,7 @@ fn session_content(subtype: u16) -> Content
 
 /// What a record of this type and subtype holds.
 #[tactic(auto, unfolding(crate::specs::Units::content_of))]
-pub(crate) fn content_of(kind: u16, subtype: u16) -> Content
+pub fn content_of(kind: u16, subtype: u16) -> Content
     ensures { result ≡ units_spec.content_of kind subtype }
 {
     match kind {

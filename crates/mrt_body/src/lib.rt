@@ -20,6 +20,7 @@ mod unit;
 mod units;
 
 pub use agreement::{bodies_agree_with_their_forms, events_agree_with_their_payloads};
+pub use content::{Content, content_of};
 pub use interpret::event;
 pub use meaning::Event;
 pub use payload_bytes::PayloadBytes;

@@ -20,6 +20,7 @@ pub use error::ReplayError;
 pub use fault::Fault;
 pub use field::{byte_at, bytes_at, u16_at, u32_at, u128_at};
 pub use frame_reader::FrameReader;
+pub use header::{BODY_LIMIT, HEADER_SIZE, Header};
 pub use phase::Phase;
 pub use writing::write_full;
 

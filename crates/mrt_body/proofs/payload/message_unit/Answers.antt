@@ -6,5 +6,5 @@ overflow_sub-front c = message-le c.args.is_extended c.args.width c.as_slice-byt
 
 pub returns-clause-reads : goal.returns-clause-reads
 returns-clause-reads c =
-    rw (c.message_bytes-message.ensures, c.into_vec.ensures, c.as_slice-bytes.ensures, c.place.ensures, c.time.ensures)
+    rw (c.from_end-message.ensures, c.into_vec.ensures, c.as_slice-bytes.ensures, c.place.ensures, c.time.ensures)
     (message_is c.args.at c.args.is_extended c.args.width c.args.add_path c.args.body c.in_ok-microseconds.microseconds c.in_ok-microseconds.after.now c.in_ok-peer.peer c.in_ok-peer.rest.now (rw c.as_slice-bytes.ensures at c.in_ok-microseconds.ensures) c.in_ok-peer.ensures)
