@@ -18,6 +18,3 @@ pub use holding::table_has_what_holds;
 pub use session::Session;
 pub use shared_route::SharedRoute;
 pub use source::routes_come_while_up;
-
-#[cfg(test)]
-mod tests;

@@ -14,9 +14,6 @@ mod row;
 mod rows;
 mod sequence;
 mod shelf;
-#[cfg(test)]
-mod tests;
-
 pub use flat::Flat;
 pub use key::RouteKey;
 pub use key_set::KeySet;

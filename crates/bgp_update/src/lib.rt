@@ -24,6 +24,3 @@ pub use path::{AsPath, Segment, SegmentKind};
 pub use route::{Aggregator, Origin, Route, Update};
 pub use update::{read_attrs, read_update};
 pub use width::{AttrError, Width};
-
-#[cfg(test)]
-mod tests;

@@ -36,6 +36,3 @@ pub use schedule::run_schedule;
 pub use scheduled::Lanes;
 pub use step::Step;
 pub use turn::Turn;
-
-#[cfg(test)]
-mod tests;

@@ -27,6 +27,3 @@ pub use payload_bytes::PayloadBytes;
 pub use reading::readings_give_all_found;
 pub use unit::{Damage, Found, Payload, PeerAddr, PeerKey, Place, Unit};
 pub use units::Units;
-
-#[cfg(test)]
-mod tests;

@@ -23,6 +23,3 @@ pub use frame_reader::FrameReader;
 pub use header::{BODY_LIMIT, HEADER_SIZE, Header};
 pub use phase::Phase;
 pub use writing::write_full;
-
-#[cfg(test)]
-mod tests;

@@ -16,6 +16,5 @@ pub mod SeatOrder
 pub mod StandingLaws
 pub mod UnitReportLaws
 pub mod DefinedLaws
-pub mod SeatNumbers
 pub mod Examples
 pub mod ExamplesOfUnits

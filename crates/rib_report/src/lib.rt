@@ -32,6 +32,3 @@ pub use standing::{
 };
 pub use tables::{Gathered, Seated, Tables, collect};
 pub use write::{write_churn, write_faults, write_origins, write_rows, write_visibility};
-
-#[cfg(test)]
-mod tests;

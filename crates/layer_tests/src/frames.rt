@@ -1,4 +1,6 @@
-use super::*;
+//! Records cut from readers, and writers.
+
+use mrt_frame::*;
 use std::alloc::Global;
 use std::io;
 use std::io::{ErrorKind, Read, Write};

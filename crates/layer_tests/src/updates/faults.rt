@@ -1,7 +1,7 @@
 //! Damaged messages: which fault is named.
 
 use super::bytes::*;
-use crate::*;
+use bgp_update::*;
 use mrt_frame::Fault;
 use std::test::Fail;
 

@@ -4,11 +4,11 @@ ghost use Rattle.std.specs.Prelude.{◌≡◌, ◌≢◌, [], ◌∷◌, IfOk, m
 ghost use Rattle.std.specs.List.{IsDistinct};
 ghost use Rattle.rib_report.specs.Gathers.{gathered_seats};
 
-use crate::{Gathered, Seated, Tables, collect};
 use adj_rib::{Session, SharedRoute};
 use bgp_prefix::{PrefixMap, Sequence};
 use bgp_update::Width;
 use mrt_body::{Damage, Payload, PayloadBytes, PeerAddr, PeerKey, Place, Unit};
+use rib_report::{Gathered, Seated, Tables, collect};
 use std::alloc::Global;
 use std::test::Fail;
 

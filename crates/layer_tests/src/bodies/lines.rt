@@ -1,6 +1,6 @@
 //! What files give, as text.
 
-use crate::{Found, Payload, PeerAddr, Unit, Units};
+use mrt_body::{Found, Payload, PeerAddr, Unit, Units};
 use mrt_frame::Source;
 use std::alloc::Global;
 use std::test::Fail;

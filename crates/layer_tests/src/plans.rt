@@ -1,4 +1,6 @@
-use super::*;
+//! Plans: the least and greatest numbers.
+
+use lane_deal::*;
 use std::test::Fail;
 
 const PLAN: Plan = Plan {

@@ -1,14 +1,14 @@
 //! The lines of rows, each beside its text.
 
-use crate::{
-    ChurnRow, OriginRow, SeenRow, TableRow, write_churn, write_faults, write_origins, write_rows,
-    write_visibility,
-};
 use adj_rib::Churn;
 use bgp_prefix::{Memory, Prefix, RouteKey, Sequence};
 use bgp_update::{Aggregator, AsPath, NextHop, Origin, Route, Segment, SegmentKind};
 use mrt_body::{Damage, PeerAddr, PeerKey, Place};
 use mrt_frame::{Counted, Fault};
+use rib_report::{
+    ChurnRow, OriginRow, SeenRow, TableRow, write_churn, write_faults, write_origins, write_rows,
+    write_visibility,
+};
 use std::alloc::Global;
 use std::test::Fail;
 

@@ -2,7 +2,7 @@
 
 use super::dumps::dump;
 use super::lines::push_found;
-use crate::{Found, Payload, Units};
+use mrt_body::{Found, Payload, Units};
 use mrt_frame::Counted;
 use std::alloc::Global;
 use std::process::Abort;

@@ -1,6 +1,6 @@
 //! What units do to a table and to its counts, over both maps.
 
-use crate::{Churn, Session, SharedRoute};
+use adj_rib::{Churn, Session, SharedRoute};
 use bgp_prefix::{Flat, Prefix, PrefixMap, Radix, RouteKey};
 use bgp_update::{NextHop, Width};
 use mrt_body::{Payload, PayloadBytes, PeerAddr, PeerKey, Place, Unit};

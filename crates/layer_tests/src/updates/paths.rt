@@ -1,7 +1,7 @@
 //! Paths, and AS_PATH with AS4_PATH.
 
 use super::bytes::*;
-use crate::*;
+use bgp_update::*;
 use std::test::Fail;
 
 #[test]

@@ -1,7 +1,7 @@
 //! The attributes of RIB entries.
 
 use super::bytes::*;
-use crate::*;
+use bgp_update::*;
 use mrt_frame::Fault;
 use std::test::Fail;
 

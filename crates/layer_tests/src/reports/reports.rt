@@ -1,14 +1,14 @@
 //! Reports on three peers, however their seats are spread over lanes, with each map.
 
 use super::peers::{Peers, Said, tables_of};
-use crate::{
-    Tables, churn, faults, list_tables, matches, origins, table_rows, visibility, write_churn,
-    write_faults, write_origins, write_rows, write_visibility,
-};
 use adj_rib::SharedRoute;
 use bgp_prefix::{Flat, PrefixMap, Radix};
 use mrt_body::{Damage, Place};
 use mrt_frame::{Counted, Fault, ReplayError, Sink};
+use rib_report::{
+    Tables, churn, faults, list_tables, matches, origins, table_rows, visibility, write_churn,
+    write_faults, write_origins, write_rows, write_visibility,
+};
 use std::alloc::Global;
 use std::process::Abort;
 use std::test::Fail;

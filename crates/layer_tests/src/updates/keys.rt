@@ -1,8 +1,8 @@
 //! Prefixes and path identifiers.
 
 use super::bytes::*;
-use crate::*;
 use bgp_prefix::Prefix;
+use bgp_update::*;
 use mrt_frame::Fault;
 use std::test::Fail;
 

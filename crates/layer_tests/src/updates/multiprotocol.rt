@@ -1,7 +1,7 @@
 //! MP_REACH_NLRI and MP_UNREACH_NLRI.
 
 use super::bytes::*;
-use crate::*;
+use bgp_update::*;
 use mrt_frame::Fault;
 use std::test::Fail;
 

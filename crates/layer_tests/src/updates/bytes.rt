@@ -1,7 +1,7 @@
 //! Messages as hexadecimal text, and their readings. A message is what stands behind its header.
 
-use crate::*;
 use bgp_prefix::RouteKey;
+use bgp_update::*;
 use mrt_frame::Fault;
 use std::alloc::Global;
 use std::process::Abort;

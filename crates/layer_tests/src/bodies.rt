@@ -6,8 +6,8 @@ mod lines;
 mod rows;
 mod sizes;
 
-use crate::{Event, Found, Payload, PeerAddr, Unit, Units, event};
 use bgp_update::{AttrError, Width};
+use mrt_body::{Event, Found, Payload, PeerAddr, Unit, Units, event};
 use mrt_frame::{Counted, Fault, ReplayError};
 use std::alloc::Global;
 use std::process::Abort;

@@ -2,7 +2,7 @@
 
 use super::dumps::dump;
 use super::lines::push_found;
-use crate::{Found, Units};
+use mrt_body::{Found, Units};
 use mrt_frame::{Counted, Failures, ReplayError};
 use std::io::{self, ErrorKind, Read};
 use std::process::Abort;

@@ -5,10 +5,10 @@ use super::reports::{
     BAD_LENGTH, BAD_ORIGIN, BAD_SEGMENT, BY_ANOTHER, ONE, REFUSED, Report, THREE_LENGTHS,
     write_report,
 };
-use crate::{SeenRow, Tables, write_visibility};
 use adj_rib::SharedRoute;
 use bgp_prefix::{Prefix, Radix};
 use mrt_frame::{Counted, Failures, ReplayError};
+use rib_report::{SeenRow, Tables, write_visibility};
 use std::alloc::Global;
 use std::io::{self, ErrorKind, Write};
 use std::process::Abort;

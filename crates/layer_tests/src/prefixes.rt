@@ -1,4 +1,6 @@
-use crate::*;
+//! Prefixes, their order, and the maps from them.
+
+use bgp_prefix::*;
 use std::alloc::Global;
 use std::process::Abort;
 use std::test::Fail;
@@ -76,45 +78,46 @@ fn each_map_answers_its_calls(rt: HostRuntime) -> Result<(), Fail> {
 }
 
 #[test]
-fn parts_a_list_around_its_cover(rt: HostRuntime) -> Result<(), Fail> {
+fn a_full_leaf_parts_around_its_cover(rt: HostRuntime) -> Result<(), Fail> {
     let alloc = rt.alloc();
-    let mut list: Flat<u32> = PrefixMap::new(alloc);
+    let mut map: Radix<u32> = PrefixMap::new(alloc);
     let eight = key(0x0A00_0000, 8, 0)?;
     let eight_too = key(0x0A00_0000, 8, 7)?;
-    let low = key(0x0A01_0000, 16, 0)?;
-    let high = key(0x0A80_0000, 9, 0)?;
-    for entry in &[(high, 1), (eight_too, 2), (low, 3), (eight, 4)] {
-        assert_eq!(rt; list.insert(entry.0, entry.1)?, None);
+    assert_eq!(rt; map.insert(alloc, eight_too, 2)?, None);
+    assert_eq!(rt; map.insert(alloc, eight, 4)?, None);
+    // As many routes on each side of the bit behind the cover, more than a leaf holds.
+    for at in 0..20u32 {
+        let low = key(0x0A00_0000 + at * 0x1_0000, 16, 0)?;
+        let high = key(0x0A80_0000 + at * 0x1_0000, 16, 0)?;
+        assert_eq!(rt; map.insert(alloc, high, 100 + at)?, None);
+        assert_eq!(rt; map.insert(alloc, low, at)?, None);
     }
-    let parted = match list.split(alloc) {
-        Ok(parted) => parted,
-        Err(_) => {
-            // A refused split leaves the list.
-            assert_eq!(rt; list.len(), 4);
-            list.split(alloc)?
-        }
-    };
-    let mut parts = parted.ok_or("several prefixes")?;
-    assert_eq!(rt; (parts.at, list.len()), (eight.prefix, 0));
+    assert_eq!(rt; map.len(), 42);
     assert_eq!(rt;
-        entries(&parts.here, alloc)?.as_slice(),
-        [(eight, 4), (eight_too, 2)].as_slice()
+        paths(&map, alloc, &eight.prefix)?.as_slice(),
+        [(0, 4), (7, 2)].as_slice()
+    );
+    assert_eq!(rt; map.longest(0x0A40_0000), Some(eight.prefix));
+    assert_eq!(rt;
+        map.longest_steps(0x0A03_0001),
+        (Prefix::new(0x0A03_0000, 16), 2)
     );
     assert_eq!(rt;
-        entries(&parts.low, alloc)?.as_slice(),
-        [(low, 3)].as_slice()
+        map.longest_steps(0x0A83_0001),
+        (Prefix::new(0x0A83_0000, 16), 2)
     );
+    let all = entries(&map, alloc)?;
     assert_eq!(rt;
-        entries(&parts.high, alloc)?.as_slice(),
-        [(high, 1)].as_slice()
+        &all[..4],
+        [
+            (eight, 4),
+            (eight_too, 2),
+            (key(0x0A00_0000, 16, 0)?, 0),
+            (key(0x0A01_0000, 16, 0)?, 1)
+        ]
+        .as_slice()
     );
-    // One prefix is not parted. The cover of two may be that of neither.
-    assert!(rt; parts.here.split(alloc)?.is_none() && list.split(alloc)?.is_none());
-    assert_eq!(rt; parts.here.len(), 2);
-    assert_eq!(rt; parts.low.insert(high, 5)?, None);
-    let halves = parts.low.split(alloc)?.ok_or("two prefixes")?;
-    assert_eq!(rt; (halves.at, halves.here.len()), (eight.prefix, 0));
-    assert_eq!(rt; (halves.low.len(), halves.high.len()), (1, 1));
+    assert_eq!(rt; all[41], (key(0x0A93_0000, 16, 0)?, 119));
     Ok(())
 }
 
