@@ -24,7 +24,7 @@ $(PROGRAM): $(shell find crates -path '*/out' -prune -o -type f -print) crates.t
 help:
 	@echo 'make            builds bin/bgp_replay (a first build proves every crate and takes minutes)'
 	@echo 'make run        replays the sample by `tables`'
-	@echo 'make check      the gate: every proof, must-fail edit, test and run from nothing'
+	@echo 'make check      the gate: every proof, must-fail edit, test and run from nothing, and make scripts'
 	@echo 'make verdict    each crate from nothing, with its tests'
 	@echo 'make scripts    tries lines and statuses, the packages, and the recipes of README.md'
 	@echo 'make refusals   fails each allocation, read, write and thread start in turn'
@@ -42,8 +42,10 @@ help:
 run: $(PROGRAM)
 	$(PROGRAM) tables examples/sample.mrt
 
+# The gate, and then the scripts that are quick, on the program that the gate built.
 check:
 	rt ci
+	$(MAKE) --no-print-directory scripts BINARY='$(BUILT)'
 
 verdict:
 	rt all verdict
@@ -88,7 +90,7 @@ refusals: $(BINARY)
 
 # Each growth of the tests that say what a refused one leaves fails in turn. The tests are proved and built first.
 growths:
-	for crate in bgp_prefix adj_rib bgp_replay; do (cd crates/$$crate && rt test) || exit 1; done
+	for crate in layer_tests bgp_replay; do (cd crates/$$crate && rt test) || exit 1; done
 	tests/growths.sh
 
 same: $(BINARY)

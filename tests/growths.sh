@@ -10,13 +10,14 @@ cc -O2 -shared -fPIC -o "$work/refuse.so" "$top/tests/refuse.c" && cc -O2 -o "$w
 cd "$work" || exit 2
 tries() { # CRATE TEST..
   local crate=$1; shift
-  for name in "$@"; do echo "$top/crates/$crate/out/${crate}_tests" ./refuse.so memory-test 1 0 none "tests::$name"; done
+  for name in "$@"; do echo "$top/crates/$crate/out/${crate}_tests" ./refuse.so memory-test 1 0 none "$name"; done
 }
 {
-  tries bgp_prefix a_refused_growth_leaves_the_flat_map a_refused_growth_leaves_the_radix_map a_refused_growth_leaves_the_shelf
-  tries adj_rib spent_after_a_refused_growth
-  tries bgp_replay growths::growths_of_runs_by_each_dealing growths::growths_of_runs_of_each_request growths::growths_of_rounds \
-    growths::growths_of_a_path growths::growths_of_words layers::collect_orders_by_number dealings::turns_one_by_one
+  tries layer_tests prefixes::a_refused_growth_leaves_the_flat_map prefixes::a_refused_growth_leaves_the_radix_map \
+    prefixes::a_refused_growth_leaves_the_shelf ribs::spent_after_a_refused_growth
+  tries bgp_replay tests::growths::growths_of_runs_by_each_dealing tests::growths::growths_of_runs_of_each_request \
+    tests::growths::growths_of_rounds tests::growths::growths_of_a_path tests::growths::growths_of_words \
+    tests::layers::collect_orders_by_number tests::dealings::turns_one_by_one
 } > tries
 xargs -P "$(nproc)" -L 1 ./refusals < tries > lines
 grep -v '^tried ' lines

@@ -3,7 +3,7 @@
 ghost use Rattle.std.specs.Io.{ReadsAtMost};
 
 use crate::kind::{FirstBytes, Kind};
-use crate::progress::{Board, LOOK, Place};
+use crate::progress::{Board, LOOK, ReadSoFar};
 use crate::records::Records;
 use bgp_prefix::Memory;
 use mrt_frame::Counted;
@@ -78,10 +78,10 @@ impl<'a> Watch<'a> {
     }
 
     /// Tells the board what it doesn't know yet, and how far the dump is read.
-    fn tell(&mut self, place: Place<'_>) {
+    fn tell(&mut self, dump: ReadSoFar<'_>) {
         if let Some(board) = self.board {
             let count = self.records.count();
-            board.add(place, self.bytes, count.saturating_sub(self.known));
+            board.add(dump, self.bytes, count.saturating_sub(self.known));
             self.bytes = 0;
             self.known = count;
         }
@@ -195,7 +195,7 @@ impl<'a> Dump<'a> {
     fn watch(&mut self, bytes: &[u8]) {
         if let Some(watch) = &mut self.watch {
             if watch.take(bytes) {
-                watch.tell(Place {
+                watch.tell(ReadSoFar {
                     name: self.name,
                     number: self.number,
                     bytes: self.bytes,

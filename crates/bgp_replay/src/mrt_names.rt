@@ -1,5 +1,7 @@
 //! The names of the types and subtypes of MRT records (RFC 6396, 4 and appendix B; RFC 6397; RFC 8050).
 
+use mrt_body::{Content, content_of};
+use mrt_frame::Header;
 use std::fmt;
 
 const TABLE_DUMP: u16 = 12;
@@ -18,13 +20,17 @@ pub struct RecordKind {
 }
 
 impl RecordKind {
+    /// The type and the subtype that a header names.
+    pub fn of(header: Header) -> RecordKind {
+        RecordKind {
+            kind: header.kind,
+            subtype: header.subtype,
+        }
+    }
+
     /// Whether records of it are counted and not interpreted.
     pub fn is_aside(self) -> bool {
-        match self.kind {
-            TABLE_DUMP_V2 => !matches!(self.subtype, 1 | 2 | 8),
-            BGP4MP | BGP4MP_ET => !matches!(self.subtype, 0 | 1 | 4 | 5 | 8 | 9),
-            _ => true,
-        }
+        content_of(self.kind, self.subtype) == Content::Aside
     }
 
     /// The name of the type, where it has one.

@@ -30,7 +30,7 @@ pub struct Board {
 
 /// How far a dump is read.
 #[derive(Clone, Copy)]
-pub struct Place<'a> {
+pub struct ReadSoFar<'a> {
     pub name: &'a str,
     /// From 1.
     pub number: usize,
@@ -55,7 +55,7 @@ impl Board {
     }
 
     /// Adds what was read, and writes the line where the last one is old enough.
-    pub fn add(&self, place: Place<'_>, bytes: u64, records: u64) {
+    pub fn add(&self, dump: ReadSoFar<'_>, bytes: u64, records: u64) {
         self.bytes.fetch_add(bytes, Ordering::Relaxed);
         self.records.fetch_add(records, Ordering::Relaxed);
         let Ok(elapsed) = self.start.elapsed(&self.rt) else {
@@ -66,13 +66,13 @@ impl Board {
         let told = self.told.load(Ordering::Relaxed);
         if now >= told.saturating_add(PAUSE_MILLIS) {
             self.told.store(now, Ordering::Relaxed);
-            self.write(place, now);
+            self.write(dump, now);
         }
     }
 
     /// Rewrites the line.
-    fn write(&self, place: Place<'_>, millis: u64) {
-        let Some(mut line) = self.line(place, millis) else {
+    fn write(&self, dump: ReadSoFar<'_>, millis: u64) {
+        let Some(mut line) = self.line(dump, millis) else {
             return;
         };
         let width = line.as_str().chars().count();
@@ -91,12 +91,12 @@ impl Board {
         }
     }
 
-    fn line(&self, place: Place<'_>, millis: u64) -> Option<String> {
+    fn line(&self, dump: ReadSoFar<'_>, millis: u64) -> Option<String> {
         let alloc = self.rt.alloc();
-        let name = shown_name(alloc, place.name)?;
-        let number = place.number;
+        let name = shown_name(alloc, dump.name)?;
+        let number = dump.number;
         let files = self.files;
-        let share = share_of(alloc, place)?;
+        let share = share_of(alloc, dump)?;
         let records = self.records.load(Ordering::Relaxed);
         // Bytes in a microsecond are megabytes in a second.
         let micros = millis.saturating_mul(1000).max(1);
@@ -131,14 +131,14 @@ fn shown_name(alloc: Global, name: &str) -> Option<String> {
 }
 
 /// How much of a dump is read: in percent where its size is known, else in megabytes.
-fn share_of(alloc: Global, place: Place<'_>) -> Option<String> {
-    match place.size {
+fn share_of(alloc: Global, dump: ReadSoFar<'_>) -> Option<String> {
+    match dump.size {
         Some(size) if size > 0 => {
-            let percent = (place.bytes.saturating_mul(100) / size).min(100);
+            let percent = (dump.bytes.saturating_mul(100) / size).min(100);
             format!(in alloc; "{percent} %").ok()
         }
         _ => {
-            let megabytes = place.bytes / 1_000_000;
+            let megabytes = dump.bytes / 1_000_000;
             format!(in alloc; "{megabytes} MB").ok()
         }
     }

@@ -4,13 +4,11 @@
 ghost use Rattle.std.specs.Prelude.{◌<◌, ◌≤◌};
 
 use crate::mrt_names::RecordKind;
+use mrt_frame::{Header, is_within_limits};
 use std::alloc::Global;
 
-/// How many bytes a header has: seconds, type, subtype and the body's length (RFC 6396, 2).
-const HEADER_SIZE: usize = 12;
-
-/// A longer body ends its file.
-const BODY_LIMIT: u32 = 16_777_216;
+/// How many bytes a header has.
+const HEADER_SIZE: usize = mrt_frame::HEADER_SIZE as usize;
 
 /// How many kinds of records are told apart, of those that are aside.
 const MOST_KINDS: usize = 64;
@@ -28,13 +26,11 @@ pub struct Records {
     /// The first bytes of a header, and how many came.
     header: [u8; HEADER_SIZE],
     filled: usize,
-    /// What the last whole header says.
-    seconds: u32,
-    kind: RecordKind,
-    length: u32,
+    /// The last whole one.
+    last_header: Header,
     /// How many bytes of its body are still to come.
     left: u32,
-    /// Whether its body is too long.
+    /// Whether it ends the dump, since its record is too long.
     is_cut_off: bool,
     whole_bytes: u64,
     count: u64,
@@ -50,12 +46,12 @@ impl Records {
         Records {
             header: [0; HEADER_SIZE],
             filled: 0,
-            seconds: 0,
-            kind: RecordKind {
+            last_header: Header {
+                seconds: 0,
                 kind: 0,
                 subtype: 0,
+                length: 0,
             },
-            length: 0,
             left: 0,
             is_cut_off: false,
             whole_bytes: 0,
@@ -116,7 +112,8 @@ impl Records {
                 self.take_parts(bytes);
             }
         } else if bytes.len() == HEADER_SIZE && self.filled == 0 && !self.is_cut_off {
-            self.begin(bytes);
+            self.header.copy_from_slice(bytes);
+            self.begin();
         } else {
             self.take_parts(bytes);
         }
@@ -156,44 +153,38 @@ impl Records {
             self.filled = end;
         } else {
             self.filled = 0;
-            let header = self.header;
-            self.begin(&header);
+            self.begin();
         }
         &bytes[count..]
     }
 
-    /// Takes a whole header.
-    fn begin(&mut self, bytes: &[u8]) {
-        let [a, b, c, d, e, f, g, h, i, j, k, l] = bytes else {
-            return;
-        };
-        self.seconds = u32::from_be_bytes([*a, *b, *c, *d]);
-        self.kind = RecordKind {
-            kind: u16::from_be_bytes([*e, *f]),
-            subtype: u16::from_be_bytes([*g, *h]),
-        };
-        self.length = u32::from_be_bytes([*i, *j, *k, *l]);
-        if self.length > BODY_LIMIT {
+    /// Takes the header, which is whole.
+    fn begin(&mut self) {
+        let header = Header::parse(&self.header);
+        self.last_header = header;
+        if !is_within_limits(self.whole_bytes, header.length) {
             self.is_cut_off = true;
-        } else if self.length == 0 {
+        } else if header.length == 0 {
             self.end();
         } else {
-            self.left = self.length;
+            self.left = header.length;
         }
     }
 
     /// Counts a record whose body came to its end.
     fn end(&mut self) {
-        let bytes = HEADER_SIZE as u64 + u64::from(self.length);
+        let header = self.last_header;
+        let bytes = HEADER_SIZE as u64 + u64::from(header.length);
         self.whole_bytes = self.whole_bytes.saturating_add(bytes);
         if self.count == 0 {
-            self.first = self.seconds;
+            self.first = header.seconds;
         }
-        self.last = self.seconds;
+        self.last = header.seconds;
         self.count = self.count.saturating_add(1);
-        if self.kind.is_aside() {
+        let kind = RecordKind::of(header);
+        if kind.is_aside() {
             self.aside = self.aside.saturating_add(1);
-            self.count_kind(self.kind);
+            self.count_kind(kind);
         }
     }
 

@@ -10,7 +10,6 @@ mod growths;
 mod harness;
 mod hostile;
 mod layers;
-mod maps;
 mod playing;
 mod records;
 mod refusals;

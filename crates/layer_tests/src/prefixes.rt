@@ -1,5 +1,7 @@
 //! Prefixes, their order, and the maps from them.
 
+mod maps;
+
 use bgp_prefix::*;
 use std::alloc::Global;
 use std::process::Abort;

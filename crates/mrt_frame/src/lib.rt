@@ -20,6 +20,6 @@ pub use error::ReplayError;
 pub use fault::Fault;
 pub use field::{byte_at, bytes_at, u16_at, u32_at, u128_at};
 pub use frame_reader::FrameReader;
-pub use header::{BODY_LIMIT, HEADER_SIZE, Header};
+pub use header::{HEADER_SIZE, Header, is_within_limits};
 pub use phase::Phase;
 pub use writing::write_full;
