@@ -1,6 +1,6 @@
 //! Prefixes, their order, and the maps from them.
 
-mod maps;
+mod map_rows;
 
 use bgp_prefix::*;
 use std::alloc::Global;
