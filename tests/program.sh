@@ -199,7 +199,8 @@ for file in empty stump 'cut' sample several long "$here"/../examples/*.mrt ${SA
   holds "$name: bytes" "$(value bytes)" "$(total bytes)"
 done
 summary churn several
-holds '--summary: keys' "$(grep -cvE '^(damaged|(file [0-9]+)( (bytes|unread|records|aside|first|last|aside [A-Za-z0-9_]+ [A-Za-z0-9_]+|aside others))?|files|bytes|records|units|aside|peers|rounds|workers|seconds|peak_kib): .' said)" 0
+holds '--summary: keys' "$(grep -cvE '^(damaged|(file [0-9]+)( (bytes|unread|records|aside|first|last|aside [A-Za-z0-9_]+ [A-Za-z0-9_]+|aside others))?|files|bytes|records|units|aside|peers|routes|rounds|workers|seconds|peak_kib): .' said)" 0
+holds '--summary: routes' "$(value routes)" "$(./bgp_replay tables several | wc -l)"
 holds '--summary: kinds by their names' "$(grep '^file 1 aside .*:' said)" "$(printf 'file 1 aside %s\n' 'TABLE_DUMP_V2 RIB_IPV6_UNICAST: 2' 'BGP4MP BGP4MP_MESSAGE_LOCAL: 1' '99 3: 2' 'TABLE_DUMP AFI_IPv4: 1')"
 holds '--summary: the replay is the same' "$(cksum < out)" "$(./bgp_replay churn several | cksum)"
 for i in {1..70}; do record '\040' "\\0$(printf %o $i)" '\0' 0; done > kinds; summary churn kinds

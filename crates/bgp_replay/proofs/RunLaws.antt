@@ -16,7 +16,7 @@ use Rattle.mrt_body.specs.Units.{units_of, refused_of}
 use Rattle.adj_rib.specs.Churns.{stopped}
 use Rattle.rib_report.specs.Peers.{peers_of}
 use Rattle.rib_report.specs.Tables.{TablesState, tables_of, all_faults}
-use Rattle.rib_report.specs.Reports.{place_cmp, placed, in_place_order}
+use Rattle.rib_report.specs.Reports.{place_cmp, placed, in_place_order, route_rows}
 use Rattle.bgp_replay.specs.declared.request.Request.{Request}
 use Rattle.bgp_replay.specs.Reports.{lines_of, text, report, listed_faults}
 use Rattle.std.proofs.KnownBytes.{Keeps-refl}
@@ -46,6 +46,9 @@ length_in_order (d ∷ ds) = let later = length_in_order ds in omega (arith, len
 pub damaged_counted : (until : Option ℕ) (files : List (List ℕ)) (tables : TablesState) (n : ℕ) → tables ≡ tables_of (units_of until files) (refused_of until files) → n ≡ min (length (all_faults tables)) (2 ^ 64 - 1) → n ≡ stopped (length (listed_faults until files))
 damaged_counted until files tables n stands count =
     count ∙ ap (λ t. stopped (length (all_faults t))) stands ∙ ap stopped (sym (length_in_order (all_faults (tables_of (units_of until files) (refused_of until files)))))
+
+pub routes_counted : (until : Option ℕ) (files : List (List ℕ)) (tables : TablesState) (n : ℕ) → tables ≡ tables_of (units_of until files) (refused_of until files) → n ≡ min (length (route_rows tables)) (2 ^ 64 - 1) → n ≡ stopped (length (route_rows (tables_of (units_of until files) (refused_of until files))))
+routes_counted until files tables n stands count = count ∙ ap (λ t. stopped (length (route_rows t))) stands
 
 pub peers_counted : (units : List ReplayUnit) (refused : List Damage) (tables : TablesState) (n : ℕ) → tables ≡ tables_of units refused → n ≡ length tables.seats → n ≡ length (peers_of units)
 unfolding tables_of

@@ -83,6 +83,7 @@ where
         damaged: replayed.tables.damaged(),
         rounds: replayed.rounds,
         peers: replayed.tables.peers(),
+        routes: replayed.tables.routes(),
     };
     // Tables aren't taken apart route by route, since the process ends after the run (docs/DECISIONS.md).
     mem::forget(replayed);

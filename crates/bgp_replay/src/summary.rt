@@ -18,6 +18,8 @@ pub struct Summary {
     pub rounds: u64,
     /// Peers with at least one unit.
     pub peers: usize,
+    /// Routes in the tables at the end.
+    pub routes: u64,
 }
 
 /// The program's status after a run: 0 where the dumps are whole, 1 where damaged records were left

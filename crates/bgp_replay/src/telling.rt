@@ -196,12 +196,13 @@ fn tell_counts(rt: &HostRuntime, summary: &Summary) {
         damaged,
         rounds,
         peers,
+        routes,
     } = *summary;
     let _ = eprintln!(rt; "records: {records}\nunits: {units}\naside: {aside}");
     if damaged == 0 {
         let _ = eprintln!(rt; "damaged: 0");
     }
-    let _ = eprintln!(rt; "peers: {peers}\nrounds: {rounds}");
+    let _ = eprintln!(rt; "peers: {peers}\nroutes: {routes}\nrounds: {rounds}");
 }
 
 /// The most memory that the process had at once, in kibibytes, where the system has a file that tells

@@ -6,6 +6,7 @@ ghost use Rattle.std.specs.List.Sorted.{IsStrictlyIncreasing};
 ghost use Rattle.std.specs.Vec.{vec_capacity};
 ghost use Rattle.rib_report.specs.Tables.{Seat, TablesState, IsCollected, all_faults};
 ghost use Rattle.rib_report.specs.Gathers.{gathered_seats};
+ghost use Rattle.rib_report.specs.Reports.{route_rows};
 ghost use Rattle.rib_report.specs.Seats.{seat_of};
 
 use adj_rib::{Session, SharedRoute};
@@ -75,6 +76,17 @@ impl<M: PrefixMap<SharedRoute>> Tables<M> {
         let mut count = self.refused().len() as u64;
         for seat in self.seats() {
             count = count.saturating_add(seat.session.faults().len() as u64);
+        }
+        count
+    }
+
+    /// The number of routes in all tables, which is how many rows the report on tables has. It stops at `u64::MAX`.
+    pub fn routes(&self) -> u64
+        ensures { result ≡ min (length (route_rows self.now)) (2 ^ 64 - 1) }
+    {
+        let mut count = 0u64;
+        for seat in self.seats() {
+            count = count.saturating_add(seat.session.table().len() as u64);
         }
         count
     }

@@ -128,6 +128,7 @@ fn count_of(summary: &Summary, name: &str) -> Option<u64> {
         "units" => Some(summary.units),
         "aside" => Some(summary.aside),
         "peers" => Some(summary.peers as u64),
+        "routes" => Some(summary.routes),
         _ => None,
     }
 }

@@ -18,7 +18,7 @@ file M
 tables
 > 65000 192.0.2.1|10.0.0.0/8|65000|192.0.2.1|IGP|-|-|-|-
 damaged 0
-counts records 1,units 1,aside 0,peers 1
+counts records 1,units 1,aside 0,peers 1,routes 1
 rounds 2
 row host-bits-cleared
 file M3

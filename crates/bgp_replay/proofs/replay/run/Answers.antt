@@ -7,7 +7,7 @@ use Rattle.mrt_frame.specs.declared.error.ReplayError.TheVariants as errors
 use Rattle.bgp_replay.specs.Headline.{RunState}
 use Rattle.bgp_replay.proofs.HeadlineLaws.{stopped}
 use Rattle.bgp_replay.specs.Reports.{lines_of}
-use Rattle.bgp_replay.proofs.RunLaws.{lines_are_report, damaged_counted, peers_counted, flush_failed, front_whole, stops_writing, stops_reading}
+use Rattle.bgp_replay.proofs.RunLaws.{lines_are_report, damaged_counted, peers_counted, routes_counted, flush_failed, front_whole, stops_writing, stops_reading}
 use Rattle.bgp_replay.proofs.replay.run.Goals as goal
 
 pub returns-in-Err-clause-promised : goal.returns-in-Err-clause-promised
@@ -83,6 +83,7 @@ returns-clause-promised g c = record {
           units = p.units_counted;
           aside = p.aside_counted;
           damaged = damaged_counted until files tables c.damaged.result p.stands c.damaged.ensures;
+          routes = routes_counted until files tables c.routes.result p.stands c.routes.ensures;
           peers = peers_counted (units_of until files) (refused_of until files) tables c.peers.result p.stands c.peers.ensures;
           rounds = p.few_rounds;
         };
