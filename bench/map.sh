@@ -1,7 +1,7 @@
 #!/usr/bin/env bash
-# Measures the radix map beside std's BTreeMap over the same million prefixes, sorted and in random order: nanoseconds an
-# operation (the best of N runs, which take turns), their ratios, and the bytes that an entry adds to the peak of memory.
-# A walk lists the whole map in order, as `entries` does. Both must find the same. The program is made in a repository
+# Measures the radix map and the shelf beside std's BTreeMap over the same million prefixes, sorted and in random order:
+# nanoseconds an operation (the best of N runs, which take turns), the ratios to BTreeMap's, and the bytes that an entry adds
+# to the peak of memory. A walk lists the whole map in order, as `entries` does. All must find the same. The program is made in a repository
 # of its own under the folder for temporary files, over a copy of this one's crate.
 #   bench/map.sh [ROUNDS]          Needs rt, rustc and GNU time.
 set -eu
@@ -15,22 +15,24 @@ cp "$here/map_bench.rattle" "$program/src/main.rt"
 (cd "$program" && rt run -- keys > "$out/build.log" 2>&1) || { cat "$out/build.log"; exit 1; }
 rustc --edition 2021 -O -o "$out/map_baseline" "$here/map_baseline.rs"
 
-ours=$program/out/map_bench; theirs=$out/map_baseline; runs=$(mktemp -d); trap 'rm -rf "$runs"' EXIT
+ours=$program/out/map_bench; baseline=$out/map_baseline; runs=$(mktemp -d); trap 'rm -rf "$runs"' EXIT
 peak() { command time -f %M "$@" 2>&1 > /dev/null | tail -1; }
+run() { # MAP WORDS..
+  case $1 in BTreeMap) "$baseline" "${@:2}";; *) "$ours" "$@";; esac
+}
+export -f run; export ours baseline
 for order in sorted random; do
-  for i in $(seq "$rounds"); do
-    "$ours" "$order" all >> "$runs/ours.$order"
-    "$theirs" "$order" all >> "$runs/theirs.$order"
-  done
-  for who in ours theirs; do
-    echo "bytes $(( ($(peak "${!who}" "$order" fill) - $(peak "${!who}" "$order" keys)) * 1024 ))" >> "$runs/$who.$order"
+  for i in $(seq "$rounds"); do for map in radix shelf BTreeMap; do run "$map" "$order" all >> "$runs/$map.$order"; done; done
+  for map in radix shelf BTreeMap; do
+    echo "bytes $(( ($(peak bash -c 'run "$@"' . "$map" "$order" fill) - $(peak bash -c 'run "$@"' . "$map" "$order" keys)) * 1024 ))" >> "$runs/$map.$order"
   done
 done
-printf '%-8s %-8s %10s %10s %8s\n' '' '' 'radix' 'BTreeMap' 'ratio'
+printf '%-8s %-8s %10s %10s %10s %8s %8s\n' '' '' radix shelf BTreeMap 'radix to' 'shelf to'
 for order in sorted random; do for pass in insert get longest walk remove bytes; do
-  for who in ours theirs; do
-    grep "^$pass " "$runs/$who.$order" | sort -k2n | head -1 | sed "s/^/$who /"
+  for map in radix shelf BTreeMap; do
+    grep "^$pass " "$runs/$map.$order" | sort -k2n | head -1 | sed "s/^/$map /"
   done | awk -v order="$order" '{ took[$1] = $3; found[$1] = $4; pass = $2 }
-    END { printf "%-8s %-8s %10.1f %10.1f %8.2f%s\n", order, pass, took["ours"] / 1e6, took["theirs"] / 1e6,
-          took["ours"] / took["theirs"], found["ours"] == found["theirs"] ? "" : "  DIFFERS" }'
+    END { printf "%-8s %-8s %10.1f %10.1f %10.1f %8.2f %8.2f%s\n", order, pass, took["radix"] / 1e6, took["shelf"] / 1e6, took["BTreeMap"] / 1e6,
+          took["radix"] / took["BTreeMap"], took["shelf"] / took["BTreeMap"],
+          found["radix"] == found["BTreeMap"] && found["shelf"] == found["BTreeMap"] ? "" : "  DIFFERS" }'
 done; done

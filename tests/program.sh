@@ -223,11 +223,14 @@ slowly() { head -c 3000000 large; sleep 0.6; tail -c +3000001 large | head -c 30
 start=${EPOCHREALTIME//[!0-9]/}; slowly | ./bgp_replay churn --progress - > out 2> said; status=$?; micros=$((${EPOCHREALTIME//[!0-9]/} - start))
 holds '--progress: its last line is cleared' "$(tail -c 1 said | od -An -tx1)" ' 0d'
 tr '\r' '\n' < said > lines
-if grep -qE '^standard input \(1 of 1\): [0-9]+ MB, [0-9]+ MB/s, 0 records *$' lines; then right; else wrong "--progress: $(head -n 2 lines | tail -n 1)"; fi
+if grep -qE '^standard input \(1 of 1\): [0-9]+ MB, [0-9]+ MB/s, 0 routes *$' lines; then right; else wrong "--progress: $(head -n 2 lines | tail -n 1)"; fi
 [ "$(grep -c 'MB/s' lines)" -le $((micros / 250000 + 1)) ] && right || wrong "--progress: $(grep -c 'MB/s' lines) lines in $micros microseconds"
 holds '--progress: blanks at last' "$(tail -n 1 lines | tr -d ' ')" ''
-tr -d '\r' < lines > said; grep -vE '^standard input \(1 of 1\): [0-9]+ MB, [0-9]+ MB/s, [0-9]+ records *$|^ *$' said > others; : > said; judge '--progress' 0 '' nothing $status
+tr -d '\r' < lines > said; grep -vE '^standard input \(1 of 1\): [0-9]+ MB, [0-9]+ MB/s, [0-9]+ routes *$|^ *$' said > others; : > said; judge '--progress' 0 '' nothing $status
 holds '--progress: nothing else' "$(wc -c < others)" 0
+for _ in {1..2000}; do cat sample; done > many
+{ head -c 9000000 many; sleep 0.6; tail -c +9000001 many; } | ./bgp_replay tables --progress - > out 2> said; tr '\r' '\n' < said > lines
+holds '--progress: routes' "$(grep -oE '[0-9]+ routes' lines | sort -u | tail -n 1)" "$(wc -l < whole-tables) routes"
 ./bgp_replay tables --progress sample > out 2> said; judge '--progress of a small file' 0 '' whole-tables $?
 ./bgp_replay tables --progress 'cut' > out 2> said; judge '--progress of damage' 1 'damaged: 1' something $?
 

@@ -167,8 +167,8 @@ impl<V: Drop> Part for Chunk<V> {
     ghost routes = { λ c. c };
 
     fn one(alloc: Global, key: &RouteKey, value: V) -> Result<Chunk<V>, Memory> {
-        let mut keys = Vec::with_capacity(alloc, STEP)?;
-        let mut values = Vec::with_capacity(alloc, STEP)?;
+        let mut keys = Vec::with_capacity(alloc, 1)?;
+        let mut values = Vec::with_capacity(alloc, 1)?;
         let mut ids = Vec::new(alloc);
         put_id(alloc, &mut ids, 0, 0, key.id)?;
         put(&mut keys, 0, key.prefix);
@@ -314,13 +314,13 @@ fn remove_id(ids: &mut Vec<u32>, at: usize)
     }
 }
 
-/// Room for one more, by steps.
+/// Room for one more: a short list is doubled, a longer one grows by steps.
 pub(crate) fn make_room<T>(items: &mut Vec<T>) -> Result<(), Memory>
     ensures items { items.new.items ≡ items.old.items }
     ensures room { OnOk result (vec_len items.new < vec_capacity items.new) }
 {
     if items.len() == items.capacity() {
-        items.reserve_exact(STEP)?;
+        items.reserve_exact(items.len().clamp(1, STEP))?;
     }
     Ok(())
 }

@@ -14,6 +14,7 @@ mod row;
 mod rows;
 mod sequence;
 mod shelf;
+
 pub use flat::Flat;
 pub use key::RouteKey;
 pub use key_set::KeySet;

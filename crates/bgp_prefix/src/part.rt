@@ -18,7 +18,7 @@ use std::alloc::Global;
 pub(crate) const WHOLE: usize = 128;
 /// How many stay where one is cut in two.
 pub(crate) const HALF: usize = 64;
-/// By how many the room of an array grows.
+/// By how many the room of an array grows at most: it is doubled up to then.
 pub(crate) const STEP: usize = 16;
 
 /// Routes in the order of their keys, which `Rows` keeps one part after another.

@@ -32,8 +32,8 @@ impl<P: Part> Rows<P> {
         ensures routes { IfOk result (λ one. routes_of P.routes one.parts.items ≡ (key.now, value) ∷ []) }
         ensures rows { IfOk result (λ one. IsRows one.firsts.items (map P.routes one.parts.items)) }
     {
-        let mut firsts = Vec::with_capacity(alloc, STEP)?;
-        let mut parts = Vec::with_capacity(alloc, STEP)?;
+        let mut firsts = Vec::with_capacity(alloc, 1)?;
+        let mut parts = Vec::with_capacity(alloc, 1)?;
         let part = P::one(alloc, key, value)?;
         put(&mut firsts, 0, *key);
         put(&mut parts, 0, part);

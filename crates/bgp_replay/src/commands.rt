@@ -166,13 +166,51 @@ fn file_words<'a>(alloc: Global) -> Arg<'a> {
         .help("MRT dumps, uncompressed, replayed in this order; '-' is standard input")
 }
 
+fn address_option<'a>(alloc: Global) -> Arg<'a> {
+    Arg::new(alloc, "address")
+        .long("address")
+        .value_name("A")
+        .required(true)
+        .help("An IPv4 address, such as 192.0.2.1")
+}
+
+/// The reports: the command, what it prints, and what its help says behind the options.
+const REPORTS: [(&str, &str, &str); 6] = [
+    ("tables", "Print every route of every peer", TABLES_AFTER),
+    (
+        "visibility",
+        "Count the peers that have each prefix",
+        VISIBILITY_AFTER,
+    ),
+    (
+        "origins",
+        "Print the prefixes that have more than one origin AS",
+        ORIGINS_AFTER,
+    ),
+    (
+        "churn",
+        "Count what each peer announced and withdrew",
+        CHURN_AFTER,
+    ),
+    (
+        "match",
+        "Print each peer's routes of the longest prefix that contains an address",
+        MATCH_AFTER,
+    ),
+    (
+        "faults",
+        "List the damaged records of the dumps",
+        FAULTS_AFTER,
+    ),
+];
+
 fn report_command<'a>(
     alloc: Global,
     name: &'a str,
     about: &'a str,
     after: &'a str,
 ) -> Result<Command<'a>, AllocError> {
-    Command::new(alloc, name)
+    let report = Command::new(alloc, name)
         .about(about)
         .after_help(after)
         .args_override_self(true)
@@ -182,72 +220,16 @@ fn report_command<'a>(
         .arg(header_flag(alloc))?
         .arg(summary_flag(alloc))?
         .arg(progress_flag(alloc))?
-        .arg(file_words(alloc))
-}
-
-fn tables_command<'a>(alloc: Global) -> Result<Command<'a>, AllocError> {
-    report_command(
-        alloc,
-        "tables",
-        "Print every route of every peer",
-        TABLES_AFTER,
-    )
-}
-
-fn visibility_command<'a>(alloc: Global) -> Result<Command<'a>, AllocError> {
-    report_command(
-        alloc,
-        "visibility",
-        "Count the peers that have each prefix",
-        VISIBILITY_AFTER,
-    )
-}
-
-fn origins_command<'a>(alloc: Global) -> Result<Command<'a>, AllocError> {
-    report_command(
-        alloc,
-        "origins",
-        "Print the prefixes that have more than one origin AS",
-        ORIGINS_AFTER,
-    )
-}
-
-fn churn_command<'a>(alloc: Global) -> Result<Command<'a>, AllocError> {
-    report_command(
-        alloc,
-        "churn",
-        "Count what each peer announced and withdrew",
-        CHURN_AFTER,
-    )
-}
-
-fn match_command<'a>(alloc: Global) -> Result<Command<'a>, AllocError> {
-    let address = Arg::new(alloc, "address")
-        .long("address")
-        .value_name("A")
-        .required(true)
-        .help("An IPv4 address, such as 192.0.2.1");
-    report_command(
-        alloc,
-        "match",
-        "Print each peer's routes of the longest prefix that contains an address",
-        MATCH_AFTER,
-    )?
-    .arg(address)
-}
-
-fn faults_command<'a>(alloc: Global) -> Result<Command<'a>, AllocError> {
-    report_command(
-        alloc,
-        "faults",
-        "List the damaged records of the dumps",
-        FAULTS_AFTER,
-    )
+        .arg(file_words(alloc))?;
+    if name == "match" {
+        return report.arg(address_option(alloc));
+    }
+    Ok(report)
 }
 
 /// The command line of the program.
 pub fn command<'a>(alloc: Global) -> Result<Command<'a>, AllocError> {
-    Command::new(alloc, "bgp_replay")
+    let mut whole = Command::new(alloc, "bgp_replay")
         .bin_name("bgp_replay")?
         .version(VERSION)
         .about(ABOUT)
@@ -255,11 +237,9 @@ pub fn command<'a>(alloc: Global) -> Result<Command<'a>, AllocError> {
         .no_binary_name(true)
         .propagate_version(true)
         .subcommand_required(true)
-        .arg_required_else_help(true)
-        .subcommand(tables_command(alloc)?)?
-        .subcommand(visibility_command(alloc)?)?
-        .subcommand(origins_command(alloc)?)?
-        .subcommand(churn_command(alloc)?)?
-        .subcommand(match_command(alloc)?)?
-        .subcommand(faults_command(alloc)?)
+        .arg_required_else_help(true);
+    for (name, about, after) in REPORTS {
+        whole = whole.subcommand(report_command(alloc, name, about, after)?)?;
+    }
+    Ok(whole)
 }

@@ -53,8 +53,6 @@ struct Watch<'a> {
     board: Option<&'a Board>,
     /// How many bytes the board doesn't know yet.
     bytes: u64,
-    /// How many records it knows.
-    known: u64,
 }
 
 impl<'a> Watch<'a> {
@@ -63,7 +61,6 @@ impl<'a> Watch<'a> {
             records: Records::new(rt.alloc()),
             board,
             bytes: 0,
-            known: 0,
         }
     }
 
@@ -80,10 +77,8 @@ impl<'a> Watch<'a> {
     /// Tells the board what it doesn't know yet, and how far the dump is read.
     fn tell(&mut self, dump: ReadSoFar<'_>) {
         if let Some(board) = self.board {
-            let count = self.records.count();
-            board.add(dump, self.bytes, count.saturating_sub(self.known));
+            board.add(dump, self.bytes);
             self.bytes = 0;
-            self.known = count;
         }
     }
 }

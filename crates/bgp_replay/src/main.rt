@@ -26,10 +26,10 @@ mod words;
 use adj_rib::SharedRoute;
 use bgp_prefix::Shelf;
 use input::{Input, OpenError, Watched, open_all};
-use lane_deal::{ByTurns, NoGate, Plan};
+use lane_deal::{ByTurns, Plan};
 use mrt_frame::Counted;
 use output::{Report, columns};
-use progress::Board;
+use progress::{Board, Counter};
 use replay::run;
 use std::env::{Env, FillError};
 use std::io::ErrorKind;
@@ -222,7 +222,9 @@ fn replay_job(rt: &HostRuntime, threads: &(impl Threads + Sync), job: &Job) -> u
         &job.request,
         &plan_of(job, workers),
         &ByTurns,
-        &NoGate,
+        &Counter {
+            board: board.as_ref(),
+        },
         &mut out,
     );
     if let Some(board) = &board {

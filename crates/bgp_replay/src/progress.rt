@@ -1,6 +1,7 @@
 //! How far the reading is, on a line of standard error that is rewritten.
 
 use crate::names::FileName;
+use lane_deal::Gate;
 use std::alloc::{AllocError, Global};
 use std::sync::atomic::{AtomicU64, Ordering};
 use std::time::Instant;
@@ -21,7 +22,9 @@ pub struct Board {
     start: Instant,
     files: usize,
     bytes: AtomicU64,
-    records: AtomicU64,
+    /// How many routes there were when they were last counted, and at how many milliseconds that was.
+    routes: AtomicU64,
+    counted: AtomicU64,
     /// Milliseconds from the start to the last line.
     told: AtomicU64,
     /// How many characters stand on the line.
@@ -48,26 +51,31 @@ impl Board {
             start,
             files,
             bytes: AtomicU64::new(0),
-            records: AtomicU64::new(0),
+            routes: AtomicU64::new(0),
+            counted: AtomicU64::new(0),
             told: AtomicU64::new(0),
             width: AtomicU64::new(0),
         }
     }
 
     /// Adds what was read, and writes the line where the last one is old enough.
-    pub fn add(&self, dump: ReadSoFar<'_>, bytes: u64, records: u64) {
+    pub fn add(&self, dump: ReadSoFar<'_>, bytes: u64) {
         self.bytes.fetch_add(bytes, Ordering::Relaxed);
-        self.records.fetch_add(records, Ordering::Relaxed);
-        let Ok(elapsed) = self.start.elapsed(&self.rt) else {
+        let Some(now) = self.millis() else {
             return;
         };
-        let seconds = elapsed.as_secs().saturating_mul(1000);
-        let now = seconds.saturating_add(u64::from(elapsed.subsec_millis()));
         let told = self.told.load(Ordering::Relaxed);
         if now >= told.saturating_add(PAUSE_MILLIS) {
             self.told.store(now, Ordering::Relaxed);
             self.write(dump, now);
         }
+    }
+
+    /// Milliseconds from the start, where the clock tells.
+    fn millis(&self) -> Option<u64> {
+        let elapsed = self.start.elapsed(&self.rt).ok()?;
+        let seconds = elapsed.as_secs().saturating_mul(1000);
+        Some(seconds.saturating_add(u64::from(elapsed.subsec_millis())))
     }
 
     /// Rewrites the line.
@@ -97,13 +105,44 @@ impl Board {
         let number = dump.number;
         let files = self.files;
         let share = share_of(alloc, dump)?;
-        let records = self.records.load(Ordering::Relaxed);
+        let routes = self.routes.load(Ordering::Relaxed);
         // Bytes in a microsecond are megabytes in a second.
         let micros = millis.saturating_mul(1000).max(1);
         let speed = self.bytes.load(Ordering::Relaxed) / micros;
         format!(in alloc;
-            "{name} ({number} of {files}): {share}, {speed} MB/s, {records} records"
+            "{name} ({number} of {files}): {share}, {speed} MB/s, {routes} routes"
         ).ok()
+    }
+}
+
+/// The gate of the program: a board, if there is one, hears how many routes there are, as often as it shows them.
+#[derive(Clone, Copy)]
+pub struct Counter<'a> {
+    pub board: Option<&'a Board>,
+}
+
+impl Gate for Counter<'_> {
+    fn before(&self, _worker: usize, _number: u64) {}
+
+    fn dealt(&self, _lane: usize, _number: u64) {}
+
+    fn is_counting(&self) -> bool {
+        let Some(board) = self.board else {
+            return false;
+        };
+        let counted = board.counted.load(Ordering::Relaxed);
+        board
+            .millis()
+            .is_some_and(|now| now >= counted.saturating_add(PAUSE_MILLIS))
+    }
+
+    fn counted(&self, routes: u64) {
+        if let Some(board) = self.board {
+            board.routes.store(routes, Ordering::Relaxed);
+            if let Some(now) = board.millis() {
+                board.counted.store(now, Ordering::Relaxed);
+            }
+        }
     }
 }
 

@@ -67,6 +67,9 @@ where
             Ok(step) => step,
             Err(error) => return Err(error),
         };
+        if gate.is_counting() {
+            gate.counted(replayer.routes());
+        }
         if is_end(step) {
             return Ok(());
         }

@@ -1,3 +1,5 @@
+//! Gates, which are told how a replay goes on.
+
 use std::marker::Sync;
 
 /// Is told when units are dealt and taken, and returns. Numbers count from 0 in each lane.
@@ -7,6 +9,14 @@ pub trait Gate: Sync {
 
     /// Called by the dealer just after its push of the unit with this number to a lane.
     fn dealt(&self, lane: usize, number: u64);
+
+    /// Whether it is to be told how many routes there are now. Asked after each round of a replay.
+    fn is_counting(&self) -> bool {
+        false
+    }
+
+    /// Called after a round, where `is_counting` says so, with the number of routes in the tables of all lanes.
+    fn counted(&self, _routes: u64) {}
 }
 
 /// A gate that does nothing.

@@ -260,6 +260,17 @@ impl<M: PrefixMap<SharedRoute>, D: Dealing> Replayer<M, D> {
         self.rounds
     }
 
+    /// How many routes the tables of all lanes have. It stops at `u64::MAX`. It goes over all sessions.
+    pub fn routes(&self) -> u64 {
+        let mut count = 0u64;
+        for worker in &self.workers {
+            for seat in &worker.sessions.seats {
+                count = count.saturating_add(seat.session.table().len() as u64);
+            }
+        }
+        count
+    }
+
     /// Whether memory ran out, or there were too many records.
     pub fn is_spent(&self) -> bool
         ensures { result ≡ (shown self.now).spent }
