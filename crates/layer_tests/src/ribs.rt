@@ -359,12 +359,12 @@ fn new_and_damaged(rt: HostRuntime) -> Result<(), Fail> {
     let mut session = Session::<Flat<SharedRoute>>::new(alloc);
     assert!(rt; session.is_up() && !session.is_spent());
     assert!(rt; session.churn().first.is_none() && session.faults().is_empty());
-    session.take(alloc, &named(alloc, "bad-origin")?)?;
-    match session.faults() {
-        [damage] => assert!(rt;
-            damage.fault == Fault::BadAttribute(1) && damage.place.offset == 56
-        ),
-        _ => assert!(rt; false, "one damaged unit"),
+    for name in ["bad-origin", "bad-entry"] {
+        session.take(alloc, &named(alloc, name)?)?;
+    }
+    assert!(rt; session.faults().len() == 2);
+    for damage in session.faults() {
+        assert!(rt; damage.fault == Fault::BadAttribute(1) && damage.place.offset == 56);
     }
     session.take(alloc, &named(alloc, "6-1")?)?;
     assert!(rt; !session.is_up());
@@ -384,30 +384,6 @@ fn reached_over_ipv6(rt: HostRuntime) -> Result<(), Fail> {
         }
         _ => assert!(rt; false, "one route"),
     }
-    Ok(())
-}
-
-/// A message of 65,535 bytes that announces 0.0.0.0/0 65,492 times.
-#[test]
-fn longest_message(rt: HostRuntime) -> Result<(), Fail> {
-    let alloc = rt.alloc();
-    let mut bytes = Vec::new(alloc);
-    for _ in 0..16 {
-        bytes.push(0xFF)?;
-    }
-    push_digits(&mut bytes, "FFFF 02 0000 0014")?;
-    push_digits(&mut bytes, PLAIN)?;
-    for _ in 0..65_492u32 {
-        bytes.push(0)?;
-    }
-    let mut session = Session::<Radix<SharedRoute>>::new(alloc);
-    let payload = Payload::Message {
-        bytes: PayloadBytes::from_vec(bytes),
-        width: Width::Four,
-        add_path: false,
-    };
-    session.take(alloc, &unit(1, payload))?;
-    assert_eq!(rt; counts(&session.churn()), [1, 0, 65_491, 0, 0, 0, 0, 0]);
     Ok(())
 }
 

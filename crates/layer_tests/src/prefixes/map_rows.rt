@@ -25,7 +25,7 @@ fn addr(octets: [u8; 4]) -> u32 {
 fn prefix_relations(rt: HostRuntime) -> Result<(), Fail> {
     assert!(rt; Prefix::new(0, 33).is_none());
     let ten = prefix([10, 0, 0, 0], 8)?;
-    let inner = prefix([10, 1, 0, 0], 16)?;
+    let inner = Prefix::new(0x0A01_0000, 16).ok_or("16 bits")?;
     assert!(rt; ten.covers(&inner) && ten.covers(&ten) && !inner.covers(&ten));
     assert!(rt; inner.shortened(8) == ten);
     let host = prefix([10, 1, 2, 3], 8)?;
