@@ -81,31 +81,34 @@ fn expect_steps(rt: &impl Abort, map: &Radix<u32>, prefix: Prefix, steps: u32) {
     assert!(rt; found == (Some(prefix), steps));
 }
 
-#[test]
-fn a_full_leaf_parts_around_its_cover(rt: HostRuntime) -> Result<(), Fail> {
-    let alloc = rt.alloc();
-    let mut map = parted(&rt, alloc)?;
-    expect_parted(&rt, alloc, &map)?;
-    assert!(rt; map.longest(0x0A40_0000) == Some(cover(0)?.prefix));
-    for place in [3, 23] {
-        expect_steps(&rt, &map, beside(place)?.prefix, 2);
-    }
-    // The cover's own routes keep the fork when a branch is gone. Without them the other branch stands alone.
+// The cover's own routes keep the fork when a branch is gone. Without them the other branch stands alone.
+fn expect_pruned(rt: &impl Abort, alloc: Global, mut map: Radix<u32>) -> Result<(), Fail> {
     for place in 0..20u32 {
         assert!(rt; map.remove(&beside(place)?) == Some(place));
     }
-    expect_steps(&rt, &map, beside(23)?.prefix, 2);
-    assert!(rt; map.longest(0x0A03_0001) == Some(cover(0)?.prefix));
-    for (id, value) in [(0, 50), (7, 52)] {
+    expect_steps(rt, &map, beside(23)?.prefix, 2);
+    for (id, value, longest, steps) in [(0, 50, Some(cover(7)?.prefix), 2), (7, 52, None, 1)] {
         assert!(rt; map.remove(&cover(id)?) == Some(value));
+        assert!(rt; map.longest(0x0A03_0001) == longest);
+        expect_steps(rt, &map, beside(23)?.prefix, steps);
     }
-    expect_steps(&rt, &map, beside(23)?.prefix, 1);
-    assert!(rt; map.longest(0x0A03_0001).is_none());
     for place in 20..40u32 {
         assert!(rt; map.remove(&beside(place)?) == Some(place));
     }
     assert!(rt; map.entries(alloc)?.is_empty());
     Ok(())
+}
+
+#[test]
+fn a_full_leaf_parts_around_its_cover(rt: HostRuntime) -> Result<(), Fail> {
+    let alloc = rt.alloc();
+    let map = parted(&rt, alloc)?;
+    expect_parted(&rt, alloc, &map)?;
+    assert!(rt; map.longest(0x0A40_0000) == Some(cover(0)?.prefix));
+    for place in [3, 23] {
+        expect_steps(&rt, &map, beside(place)?.prefix, 2);
+    }
+    expect_pruned(&rt, alloc, map)
 }
 
 #[test]

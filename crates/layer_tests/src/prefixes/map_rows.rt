@@ -54,9 +54,9 @@ fn addresses_in_prefixes(rt: HostRuntime) -> Result<(), Fail> {
 fn basic_calls<M: PrefixMap<u32>>(rt: &impl Abort, alloc: Global, map: &mut M) -> Result<(), Fail> {
     let ten = key([10, 0, 0, 0], 8)?;
     let inner = key([10, 1, 0, 0], 16)?;
-    assert!(rt; map.insert(alloc, ten, 1)?.is_none());
-    assert!(rt; map.insert(alloc, ten, 2)? == Some(1));
-    assert!(rt; map.insert(alloc, inner, 3)?.is_none());
+    for (key, value, before) in [(ten, 1, None), (ten, 2, Some(1)), (inner, 3, None)] {
+        assert!(rt; map.insert(alloc, key, value)? == before);
+    }
     match map.entries(alloc)?.as_slice() {
         [(first, two), (second, three)] => {
             assert!(rt; *first == ten && **two == 2 && *second == inner && **three == 3);
@@ -64,11 +64,16 @@ fn basic_calls<M: PrefixMap<u32>>(rt: &impl Abort, alloc: Global, map: &mut M) -
         _ => assert!(rt; false, "two entries"),
     }
     assert!(rt; map.len() == 2);
-    assert!(rt; map.longest(addr([10, 1, 255, 255])) == Some(inner.prefix));
-    assert!(rt; map.longest(addr([10, 2, 0, 0])) == Some(ten.prefix));
-    assert!(rt; map.longest(addr([11, 0, 0, 0])).is_none());
-    assert!(rt; map.remove(&ten) == Some(2));
-    assert!(rt; map.remove(&ten).is_none());
+    for (octets, longest) in [
+        ([10, 1, 255, 255], Some(inner.prefix)),
+        ([10, 2, 0, 0], Some(ten.prefix)),
+        ([11, 0, 0, 0], None),
+    ] {
+        assert!(rt; map.longest(addr(octets)) == longest);
+    }
+    for before in [Some(2), None] {
+        assert!(rt; map.remove(&ten) == before);
+    }
     assert!(rt; map.longest(addr([10, 2, 0, 0])).is_none());
     assert!(rt; map.get(&inner).is_some() && map.get(&ten).is_none());
     Ok(())
@@ -147,21 +152,5 @@ fn all_33_prefixes(rt: HostRuntime) -> Result<(), Fail> {
     assert!(rt; PrefixMap::len(&map) == 33);
     assert!(rt; PrefixMap::remove(&mut map, &host).is_some());
     assert!(rt; PrefixMap::longest(&map, ones) == Some(prefix([255, 255, 255, 255], 31)?));
-    Ok(())
-}
-
-#[test]
-fn fork_goes_with_its_branch(rt: HostRuntime) -> Result<(), Fail> {
-    let alloc = rt.alloc();
-    let mut map = <Radix<u32> as PrefixMap<u32>>::new(alloc);
-    let low = key([10, 0, 0, 0], 16)?;
-    let high = key([10, 1, 0, 0], 16)?;
-    let _ = PrefixMap::insert(&mut map, alloc, low, 1)?;
-    let _ = PrefixMap::insert(&mut map, alloc, high, 2)?;
-    assert!(rt; PrefixMap::remove(&mut map, &low) == Some(1));
-    assert!(rt; PrefixMap::longest(&map, addr([10, 0, 0, 1])).is_none());
-    assert!(rt; PrefixMap::longest(&map, addr([10, 1, 0, 1])) == Some(high.prefix));
-    assert!(rt; PrefixMap::remove(&mut map, &high) == Some(2));
-    assert!(rt; PrefixMap::entries(&map, alloc)?.is_empty());
     Ok(())
 }
