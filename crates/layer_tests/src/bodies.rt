@@ -6,8 +6,8 @@ mod lines;
 mod rows;
 mod sizes;
 
-use bgp_update::{AttrError, Width};
-use mrt_body::{Event, Found, Payload, PeerAddr, Unit, Units, event};
+use bgp_update::Width;
+use mrt_body::{Found, Payload, PeerAddr, Units};
 use mrt_frame::{Counted, Fault, ReplayError};
 use std::alloc::Global;
 use std::process::Abort;
@@ -47,19 +47,20 @@ const PATHS: [u8; 52] = [
     20, 64, 1, 1, 0, 64, 2, 6, 2, 1, 0, 0, 253, 232, 64, 3, 4, 192, 0, 2, 1,
 ];
 
-/// What the files give, each of them in memory, and then `None`.
-fn all_found(
-    alloc: Global,
-    files: &mut [Counted<&[u8]>],
-    until: Option<u64>,
-) -> Result<Vec<Found>, Fail> {
+/// What a file of these parts gives.
+fn found_in(alloc: Global, parts: &[&[u8]]) -> Result<Vec<Found>, Fail> {
+    let mut bytes = Vec::new(alloc);
+    for part in parts {
+        bytes.extend_from_slice(part)?;
+    }
+    let mut files = [Counted::new(bytes.as_slice())];
     let mut all = Vec::new(alloc);
-    let mut units = Units::new(files.len(), 1000, until);
+    let mut units = Units::new(1, 1000, None);
     for _ in 0..1000 {
         if units.count() != files.len() {
             return Ok(all);
         }
-        match units.next(alloc, files)? {
+        match units.next(alloc, &mut files)? {
             Some(found) => all.push(found)?,
             None => return Ok(all),
         }
@@ -67,32 +68,30 @@ fn all_found(
     Ok(all)
 }
 
-/// What one file gives.
-fn found_in(alloc: Global, parts: &[&[u8]], until: Option<u64>) -> Result<Vec<Found>, Fail> {
-    let mut bytes = Vec::new(alloc);
-    for part in parts {
-        bytes.extend_from_slice(part)?;
-    }
-    let mut files = [Counted::new(bytes.as_slice())];
-    all_found(alloc, &mut files, until)
-}
-
-fn expect_refused(rt: &impl Abort, found: Option<&Found>, file: usize, offset: u64, fault: Fault) {
+fn expect_refused(rt: &impl Abort, found: Option<&Found>, offset: u64, fault: Fault) {
     match found {
         Some(Found::Refused(damage)) => {
             assert!(rt; damage.fault == fault);
-            assert!(rt; damage.place.file == file && damage.place.offset == offset);
+            assert!(rt; damage.place.file == 0 && damage.place.offset == offset);
             assert!(rt; damage.place.entry.is_none());
         }
         _ => assert!(rt; false),
     }
 }
 
-fn expect_entry(rt: &impl Abort, found: Option<&Found>, number: u16, id: u32, attributes: &[u8]) {
+/// Expects the entry of this number in the record at this offset.
+fn expect_entry(
+    rt: &impl Abort,
+    found: Option<&Found>,
+    offset: u64,
+    number: u16,
+    id: u32,
+    attributes: &[u8],
+) {
     match found {
         Some(Found::Unit(unit)) => {
             assert!(rt; unit.place.entry == Some(number));
-            assert!(rt; unit.place.offset == 56 && unit.time == 3_000_000);
+            assert!(rt; unit.place.offset == offset && unit.time == 3_000_000);
             match &unit.payload {
                 Payload::Entry { key, attrs } => {
                     assert!(rt; key.prefix.addr() == 0x0A00_0000 && key.prefix.len() == 8);
@@ -107,37 +106,12 @@ fn expect_entry(rt: &impl Abort, found: Option<&Found>, number: u16, id: u32, at
 }
 
 #[test]
-fn entries_are_units(rt: HostRuntime) -> Result<(), Fail> {
-    let found = found_in(rt.alloc(), &[&PEERS, &RIB], None)?;
-    assert_eq!(rt; found.len(), 2);
-    expect_entry(&rt, found.get(0), 1, 0, &RIB[28..48]);
-    expect_entry(&rt, found.get(1), 2, 0, &[0x40, 1, 1, 3]);
-    match &found[0] {
-        Found::Unit(unit) => {
-            assert_eq!(rt; unit.peer.asn, 65000);
-            assert!(rt; unit.peer.addr == PeerAddr::V6(0x2001_0DB8_0000_0000_0000_0000_0000_0001));
-        }
-        Found::Refused(_) => assert!(rt; false),
-    }
-    match &found[1] {
-        Found::Unit(unit) => {
-            assert_eq!(rt; unit.peer.asn, 70000);
-            assert!(rt; unit.peer.addr == PeerAddr::V4(0xC000_0202));
-            match event(rt.alloc(), &unit.payload) {
-                Err(error) => assert!(rt; error == AttrError::Bad(Fault::BadAttribute(1))),
-                Ok(_) => assert!(rt; false),
-            }
-        }
-        Found::Refused(_) => assert!(rt; false),
-    }
-    Ok(())
-}
-
-#[test]
-fn an_identifier_in_a_rib_record(rt: HostRuntime) -> Result<(), Fail> {
-    let found = found_in(rt.alloc(), &[&PEERS, &PATHS], None)?;
-    assert_eq!(rt; found.len(), 1);
-    expect_entry(&rt, found.get(0), 1, 7, &PATHS[32..52]);
+fn entries_of_rib_records(rt: HostRuntime) -> Result<(), Fail> {
+    let found = found_in(rt.alloc(), &[&PEERS, &RIB, &PATHS])?;
+    assert!(rt; found.len() == 3);
+    expect_entry(&rt, found.get(0), 56, 1, 0, &RIB[28..48]);
+    expect_entry(&rt, found.get(1), 56, 2, 0, &[0x40, 1, 1, 3]);
+    expect_entry(&rt, found.get(2), 116, 1, 7, &PATHS[32..52]);
     Ok(())
 }
 
@@ -148,7 +122,7 @@ fn messages_and_state_changes(rt: HostRuntime) -> Result<(), Fail> {
     let mut two_bytes = UPDATE;
     two_bytes[7] = 1;
     let parts: [&[u8]; 4] = [&UPDATE, &STATES, &with_paths, &two_bytes];
-    let found = found_in(rt.alloc(), &parts, None)?;
+    let found = found_in(rt.alloc(), &parts)?;
     assert_eq!(rt; found.len(), 4);
     expect_message(&rt, &found[0], &UPDATE[32..], false);
     expect_message(&rt, &found[2], &UPDATE[32..], true);
@@ -163,7 +137,7 @@ fn messages_and_state_changes(rt: HostRuntime) -> Result<(), Fail> {
         Found::Refused(_) => assert!(rt; false),
     }
     // 65000 is read as two AS numbers, and the address family is the second half of 65001.
-    expect_refused(&rt, found.get(3), 0, 77 + 36 + 77, Fault::BadFamily);
+    expect_refused(&rt, found.get(3), 77 + 36 + 77, Fault::BadFamily);
     Ok(())
 }
 
@@ -198,11 +172,11 @@ fn records_then_spent(rt: HostRuntime) -> Result<(), Fail> {
     let mut units = Units::new(1, 1, None);
     assert!(rt; units.count() == 1);
     assert!(rt; units.next(alloc, &mut files)?.is_some());
-    assert!(rt; units.count() == 1);
-    expect_error(&rt, units.next(alloc, &mut files), ReplayError::Records);
-    assert!(rt; units.count() == 1);
-    expect_error(&rt, units.next(alloc, &mut files), ReplayError::Spent);
-    assert_eq!(rt; units.records(), 1);
+    for error in [ReplayError::Records, ReplayError::Spent, ReplayError::Spent] {
+        assert!(rt; units.count() == 1);
+        expect_error(&rt, units.next(alloc, &mut files), error);
+    }
+    assert!(rt; units.records() == 1);
     Ok(())
 }
 
@@ -211,29 +185,4 @@ fn expect_error(rt: &impl Abort, answer: Result<Option<Found>, ReplayError>, err
         Err(e) => assert!(rt; e == error),
         Ok(_) => assert!(rt; false),
     }
-}
-
-#[test]
-fn a_rest_behind_the_last_record(rt: HostRuntime) -> Result<(), Fail> {
-    let alloc = rt.alloc();
-    let mut bytes = [0; 80];
-    bytes[..77].copy_from_slice(&UPDATE);
-    let mut files = [
-        Counted::new(&bytes[..]),
-        Counted::new(&[0, 0, 0, 1, 0, 12, 0, 1][..]),
-    ];
-    let mut units = Units::new(2, 1, None);
-    assert!(rt; units.count() == 2);
-    assert!(rt; units.next(alloc, &mut files)?.is_some());
-    assert!(rt; units.count() == 2);
-    let rest = units.next(alloc, &mut files)?;
-    expect_refused(&rt, rest.as_ref(), 0, 77, Fault::ShortHeader);
-    assert!(rt; units.count() == 2);
-    let rest = units.next(alloc, &mut files)?;
-    expect_refused(&rt, rest.as_ref(), 1, 0, Fault::ShortHeader);
-    assert!(rt; units.count() == 2);
-    assert!(rt; units.next(alloc, &mut files)?.is_none());
-    assert!(rt; units.count() == 2);
-    assert!(rt; units.next(alloc, &mut files)?.is_none());
-    Ok(())
 }

@@ -95,43 +95,31 @@ fn a_whole_record_and_a_short_header(rt: HostRuntime) -> Result<(), Fail> {
     Ok(())
 }
 
+/// Short reads cut the same records. A failing read is told, and told again without another.
 #[test]
-fn a_failing_read_is_told_and_repeated(rt: HostRuntime) -> Result<(), Fail> {
+fn short_and_failing_reads(rt: HostRuntime) -> Result<(), Fail> {
     let alloc = rt.alloc();
-    let bytes = updates(alloc, 1, &UPDATE[..12])?;
-    let mut reader = Counted::new(Failing {
-        bytes,
-        at: 0,
-        piece: 5,
-        asked: 0,
-    });
-    let mut frames = FrameReader::new(3);
-    expect_update(&rt, &frames.next(alloc, &mut reader)?, 0);
-    assert!(rt; reader.failures() == 0);
-    for _ in 0..2u8 {
-        match frames.next(alloc, &mut reader) {
-            Err(error) => assert!(rt; error == ReplayError::Read { file: 3 }),
-            Ok(_) => assert!(rt; false),
+    for piece in [1, 5] {
+        let bytes = updates(alloc, 2, &UPDATE[..12])?;
+        let mut reader = Counted::new(Failing {
+            bytes,
+            at: 0,
+            piece,
+            asked: 0,
+        });
+        let mut frames = FrameReader::new(3);
+        for at in [0, 77] {
+            expect_update(&rt, &frames.next(alloc, &mut reader)?, at);
         }
+        assert!(rt; reader.failures() == 0);
+        for _ in 0..2u8 {
+            match frames.next(alloc, &mut reader) {
+                Err(error) => assert!(rt; error == ReplayError::Read { file: 3 }),
+                Ok(_) => assert!(rt; false),
+            }
+        }
+        assert!(rt; reader.failures() == 1 && reader.device().asked == 1);
     }
-    assert!(rt; reader.failures() == 1);
-    assert!(rt; reader.device().asked == 1);
-    Ok(())
-}
-
-#[test]
-fn short_reads_cut_the_same_records(rt: HostRuntime) -> Result<(), Fail> {
-    let alloc = rt.alloc();
-    let bytes = updates(alloc, 2, &[])?;
-    let mut reader = Counted::new(Failing {
-        bytes,
-        at: 0,
-        piece: 1,
-        asked: 0,
-    });
-    let mut frames = FrameReader::new(0);
-    expect_update(&rt, &frames.next(alloc, &mut reader)?, 0);
-    expect_update(&rt, &frames.next(alloc, &mut reader)?, 77);
     Ok(())
 }
 

@@ -43,15 +43,14 @@ fn peers_by_turns_blocks_and_lists(rt: HostRuntime) -> Result<(), Fail> {
     for peer in 0..7 {
         lanes.push(blocks.lane(peer, 3))?;
     }
-    assert_eq!(rt; lanes.as_slice(), [0, 0, 1, 1, 2, 2, 0].as_slice());
+    assert!(rt; lanes.as_slice() == [0, 0, 1, 1, 2, 2, 0].as_slice());
     let empty = ByList::new(Vec::new(rt.alloc()));
     for peer in 0..4 {
-        assert_eq!(rt; empty.lane(peer, 3), 0);
-        assert_eq!(rt; ByTurns.lane(peer, 3), peer % 3);
+        assert!(rt; empty.lane(peer, 3) == 0 && ByTurns.lane(peer, 3) == peer % 3);
     }
     let listed = ByList::new(vec![in rt.alloc(); 1, 1, 0, 5]?);
     for (peer, lane) in [(0, 1), (1, 1), (2, 0), (3, 2), (4, 0)] {
-        assert_eq!(rt; listed.lane(peer, 3), lane);
+        assert!(rt; listed.lane(peer, 3) == lane);
     }
     Ok(())
 }

@@ -37,104 +37,78 @@ fn paths<M: PrefixMap<u32>>(
     Ok(paths)
 }
 
-fn calls<M: PrefixMap<u32> + Drop>(rt: &impl Abort, alloc: Global) -> Result<(), Fail> {
-    let mut map: M = PrefixMap::new(alloc);
-    let eight = key(0x0A00_0000, 8, 0)?;
-    let sixteen = key(0x0A01_0000, 16, 0)?;
-    assert_eq!(rt; map.insert(alloc, eight, 1)?, None);
-    assert_eq!(rt; map.insert(alloc, eight, 2)?, Some(1));
-    assert_eq!(rt; map.insert(alloc, sixteen, 3)?, None);
-    assert_eq!(rt;
-        entries(&map, alloc)?.as_slice(),
-        [(eight, 2), (sixteen, 3)].as_slice()
-    );
-    assert_eq!(rt; map.longest(0x0A01_FFFF), Some(sixteen.prefix));
-    assert_eq!(rt; map.longest(0x0A02_0000), Some(eight.prefix));
-    assert_eq!(rt; map.longest(0x0B00_0000), None);
-    assert_eq!(rt; map.remove(&eight), Some(2));
-    assert_eq!(rt; map.remove(&eight), None);
-    assert_eq!(rt; map.longest(0x0A02_0000), None);
-    // The bits past the length don't count, and the default contains every address.
-    assert_eq!(rt; map.insert(alloc, key(0x0A01_0203, 16, 0)?, 4)?, Some(3));
-    assert_eq!(rt; map.insert(alloc, key(0xFFFF_FFFF, 0, 0)?, 5)?, None);
-    assert_eq!(rt; map.longest(0x0B00_0000), Prefix::new(0, 0));
-    map.clear();
-    assert_eq!(rt; map.len(), 0);
-    assert_eq!(rt; map.longest(0x0A01_0000), None);
-    assert_eq!(rt; map.insert(alloc, key(0x0A00_0000, 8, 7)?, 1)?, None);
-    assert_eq!(rt; map.insert(alloc, eight, 2)?, None);
-    assert_eq!(rt;
-        paths(&map, alloc, &eight.prefix)?.as_slice(),
-        [(0, 2), (7, 1)].as_slice()
-    );
-    assert_eq!(rt; map.longest(0x0A00_0001), Some(eight.prefix));
-    assert_eq!(rt; map.len(), 2);
+// Routes of one prefix, and then 20 on each side of the bit behind it: more than a leaf holds.
+fn cover(id: u32) -> Result<RouteKey, &'static str> {
+    key(0x0A00_0000, 8, id)
+}
+
+fn beside(place: u32) -> Result<RouteKey, &'static str> {
+    let side = place / 20 % 2 * 0x0080_0000;
+    key(0x0A00_0000 + side + place % 20 * 0x1_0000, 16, 0)
+}
+
+fn parted(rt: &impl Abort, alloc: Global) -> Result<Radix<u32>, Fail> {
+    let mut map: Radix<u32> = PrefixMap::new(alloc);
+    for (id, value) in [(7, 52), (0, 50)] {
+        assert!(rt; map.insert(alloc, cover(id)?, value)?.is_none());
+    }
+    for step in 0..40u32 {
+        let place = (step + 1) % 2 * 20 + step / 2;
+        assert!(rt; map.insert(alloc, beside(place)?, place)?.is_none());
+    }
+    assert!(rt; map.len() == 42);
+    Ok(map)
+}
+
+// The routes in the order of their keys.
+fn expect_parted(rt: &impl Abort, alloc: Global, map: &Radix<u32>) -> Result<(), Fail> {
+    let covers = paths(map, alloc, &cover(0)?.prefix)?;
+    assert!(rt; covers.as_slice() == [(0, 50), (7, 52)].as_slice());
+    let mut expected = Vec::new(alloc);
+    for (id, value) in [(0, 50), (7, 52)] {
+        expected.push((cover(id)?, value))?;
+    }
+    for place in 0..40u32 {
+        expected.push((beside(place)?, place))?;
+    }
+    assert!(rt; entries(map, alloc)?.as_slice() == expected.as_slice());
     Ok(())
 }
 
-#[test]
-fn each_map_answers_its_calls(rt: HostRuntime) -> Result<(), Fail> {
-    calls::<Flat<u32>>(&rt, rt.alloc())?;
-    calls::<Radix<u32>>(&rt, rt.alloc())?;
-    calls::<Shelf<u32>>(&rt, rt.alloc())
+// The longest match of an address in a prefix is that prefix, after so many nodes.
+fn expect_steps(rt: &impl Abort, map: &Radix<u32>, prefix: Prefix, steps: u32) {
+    let found = map.longest_steps(prefix.addr() | 1);
+    assert!(rt; found == (Some(prefix), steps));
+}
+
+// The cover's own routes keep the fork when a branch is gone. Without them the other branch stands alone.
+fn expect_pruned(rt: &impl Abort, alloc: Global, mut map: Radix<u32>) -> Result<(), Fail> {
+    for place in 0..20u32 {
+        assert!(rt; map.remove(&beside(place)?) == Some(place));
+    }
+    expect_steps(rt, &map, beside(23)?.prefix, 2);
+    for (id, value, longest, steps) in [(0, 50, Some(cover(7)?.prefix), 2), (7, 52, None, 1)] {
+        assert!(rt; map.remove(&cover(id)?) == Some(value));
+        assert!(rt; map.longest(0x0A03_0001) == longest);
+        expect_steps(rt, &map, beside(23)?.prefix, steps);
+    }
+    for place in 20..40u32 {
+        assert!(rt; map.remove(&beside(place)?) == Some(place));
+    }
+    assert!(rt; map.entries(alloc)?.is_empty());
+    Ok(())
 }
 
 #[test]
 fn a_full_leaf_parts_around_its_cover(rt: HostRuntime) -> Result<(), Fail> {
     let alloc = rt.alloc();
-    let mut map: Radix<u32> = PrefixMap::new(alloc);
-    let eight = key(0x0A00_0000, 8, 0)?;
-    let eight_too = key(0x0A00_0000, 8, 7)?;
-    assert_eq!(rt; map.insert(alloc, eight_too, 2)?, None);
-    assert_eq!(rt; map.insert(alloc, eight, 4)?, None);
-    // As many routes on each side of the bit behind the cover, more than a leaf holds.
-    for at in 0..20u32 {
-        let low = key(0x0A00_0000 + at * 0x1_0000, 16, 0)?;
-        let high = key(0x0A80_0000 + at * 0x1_0000, 16, 0)?;
-        assert_eq!(rt; map.insert(alloc, high, 100 + at)?, None);
-        assert_eq!(rt; map.insert(alloc, low, at)?, None);
+    let map = parted(&rt, alloc)?;
+    expect_parted(&rt, alloc, &map)?;
+    assert!(rt; map.longest(0x0A40_0000) == Some(cover(0)?.prefix));
+    for place in [3, 23] {
+        expect_steps(&rt, &map, beside(place)?.prefix, 2);
     }
-    assert_eq!(rt; map.len(), 42);
-    assert_eq!(rt;
-        paths(&map, alloc, &eight.prefix)?.as_slice(),
-        [(0, 4), (7, 2)].as_slice()
-    );
-    assert_eq!(rt; map.longest(0x0A40_0000), Some(eight.prefix));
-    assert_eq!(rt;
-        map.longest_steps(0x0A03_0001),
-        (Prefix::new(0x0A03_0000, 16), 2)
-    );
-    assert_eq!(rt;
-        map.longest_steps(0x0A83_0001),
-        (Prefix::new(0x0A83_0000, 16), 2)
-    );
-    let all = entries(&map, alloc)?;
-    assert_eq!(rt;
-        &all[..4],
-        [
-            (eight, 4),
-            (eight_too, 2),
-            (key(0x0A00_0000, 16, 0)?, 0),
-            (key(0x0A01_0000, 16, 0)?, 1)
-        ]
-        .as_slice()
-    );
-    assert_eq!(rt; all[41], (key(0x0A93_0000, 16, 0)?, 119));
-    Ok(())
-}
-
-#[test]
-fn relates_prefixes(rt: HostRuntime) -> Result<(), Fail> {
-    assert_eq!(rt; Prefix::new(0, 33), None);
-    let default = Prefix::new(0xFFFF_FFFF, 0).ok_or("0 bits")?;
-    let eight = Prefix::new(0x0A01_0203, 8).ok_or("8 bits")?;
-    let sixteen = Prefix::new(0x0A01_0000, 16).ok_or("16 bits")?;
-    assert_eq!(rt; (eight.addr(), eight.len()), (0x0A00_0000, 8));
-    assert!(rt; eight.covers(&sixteen) && eight.covers(&eight) && !sixteen.covers(&eight));
-    assert!(rt; default.contains(0xFFFF_FFFF) && default.contains(0));
-    assert!(rt; sixteen.contains(0x0A01_FFFF) && !sixteen.contains(0x0A02_0000));
-    assert_eq!(rt; sixteen.shortened(8), eight);
-    Ok(())
+    expect_pruned(&rt, alloc, map)
 }
 
 #[test]
@@ -144,62 +118,6 @@ fn a_key_set_has_its_keys(rt: HostRuntime) -> Result<(), Fail> {
     let set = KeySet::from_slice(rt.alloc(), &[sixteen, eight, sixteen])?;
     assert!(rt; set.contains(&eight) && set.contains(&sixteen));
     assert!(rt; !set.contains(&key(0x0A00_0000, 8, 1)?) && !set.contains(&key(0, 8, 0)?));
-    Ok(())
-}
-
-#[test]
-fn counts_the_nodes_of_all_33_prefixes(rt: HostRuntime) -> Result<(), Fail> {
-    let alloc = rt.alloc();
-    let mut map: Radix<u32> = PrefixMap::new(alloc);
-    for len in 0..33u8 {
-        assert_eq!(rt; map.insert(alloc, key(u32::MAX, len, 0)?, 1)?, None);
-    }
-    assert_eq!(rt;
-        map.longest_steps(u32::MAX),
-        (Prefix::new(u32::MAX, 32), 33)
-    );
-    assert_eq!(rt; map.len(), 33);
-    let mut list: Flat<u32> = PrefixMap::new(alloc);
-    for len in 0..33u8 {
-        assert_eq!(rt; list.insert(key(u32::MAX, len, 0)?, 1)?, None);
-    }
-    assert_eq!(rt;
-        list.longest_steps(u32::MAX),
-        (Prefix::new(u32::MAX, 32), 33)
-    );
-    assert_eq!(rt; map.remove(&key(u32::MAX, 32, 0)?), Some(1));
-    assert_eq!(rt; map.longest(u32::MAX), Prefix::new(u32::MAX, 31));
-    Ok(())
-}
-
-#[test]
-fn a_fork_goes_with_its_branch(rt: HostRuntime) -> Result<(), Fail> {
-    let alloc = rt.alloc();
-    let mut map: Radix<u32> = PrefixMap::new(alloc);
-    let whole = key(0x0A00_0000, 14, 0)?;
-    let high = key(0x0A02_0000, 24, 0)?;
-    assert_eq!(rt; map.insert(alloc, whole, 1)?, None);
-    assert_eq!(rt; map.insert(alloc, high, 2)?, None);
-    for low in 0..50u32 {
-        assert_eq!(rt;
-            map.insert(alloc, key(0x0A00_0000 + low * 0x100, 24, 0)?, 3)?,
-            None
-        );
-    }
-    assert_eq!(rt; map.len(), 52);
-    assert_eq!(rt; map.longest_steps(0x0A02_0001), (Some(high.prefix), 2));
-    for low in 0..50u32 {
-        assert_eq!(rt;
-            map.remove(&key(0x0A00_0000 + low * 0x100, 24, 0)?),
-            Some(3)
-        );
-    }
-    assert_eq!(rt; map.longest(0x0A00_0001), Some(whole.prefix));
-    assert_eq!(rt; map.remove(&whole), Some(1));
-    assert_eq!(rt; map.longest(0x0A00_0001), None);
-    assert_eq!(rt; map.longest_steps(0x0A02_0001), (Some(high.prefix), 1));
-    assert_eq!(rt; map.remove(&high), Some(2));
-    assert_eq!(rt; entries(&map, alloc)?.len(), 0);
     Ok(())
 }
 
@@ -306,13 +224,10 @@ fn expect_answers<M: PrefixMap<u32>>(
     addr: u32,
     wanted: &Answers,
 ) -> Result<(), Memory> {
-    assert_eq!(rt; map.get(key).copied(), wanted.value);
-    assert_eq!(rt; map.longest(addr), wanted.longest);
-    assert_eq!(rt;
-        paths(map, alloc, &key.prefix)?.as_slice(),
-        wanted.paths.as_slice()
-    );
-    assert_eq!(rt; map.len(), wanted.len);
+    assert!(rt; map.get(key).copied() == wanted.value);
+    assert!(rt; map.longest(addr) == wanted.longest);
+    assert!(rt; paths(map, alloc, &key.prefix)?.as_slice() == wanted.paths.as_slice());
+    assert!(rt; map.len() == wanted.len);
     Ok(())
 }
 
@@ -344,20 +259,17 @@ impl Maps {
         value: u32,
     ) -> Result<(), Memory> {
         let before = self.plain.insert(key, value)?;
-        assert_eq!(rt;
-            PrefixMap::insert(&mut self.flat, alloc, key, value)?,
-            before
-        );
-        assert_eq!(rt; self.radix.insert(alloc, key, value)?, before);
-        assert_eq!(rt; self.shelf.insert(alloc, key, value)?, before);
+        assert!(rt; PrefixMap::insert(&mut self.flat, alloc, key, value)? == before);
+        assert!(rt; self.radix.insert(alloc, key, value)? == before);
+        assert!(rt; self.shelf.insert(alloc, key, value)? == before);
         Ok(())
     }
 
     fn remove(&mut self, rt: &impl Abort, key: &RouteKey) {
         let before = self.plain.remove(key);
-        assert_eq!(rt; self.flat.remove(key), before);
-        assert_eq!(rt; self.radix.remove(key), before);
-        assert_eq!(rt; self.shelf.remove(key), before);
+        assert!(rt; self.flat.remove(key) == before);
+        assert!(rt; self.radix.remove(key) == before);
+        assert!(rt; self.shelf.remove(key) == before);
     }
 
     fn clear(&mut self) {
@@ -390,9 +302,9 @@ impl Maps {
     fn compare_entries(&mut self, rt: &impl Abort, alloc: Global) -> Result<(), Memory> {
         self.plain.entries.sort_unstable();
         let all = self.plain.entries.as_slice();
-        assert_eq!(rt; entries(&self.flat, alloc)?.as_slice(), all);
-        assert_eq!(rt; entries(&self.radix, alloc)?.as_slice(), all);
-        assert_eq!(rt; entries(&self.shelf, alloc)?.as_slice(), all);
+        assert!(rt; entries(&self.flat, alloc)?.as_slice() == all);
+        assert!(rt; entries(&self.radix, alloc)?.as_slice() == all);
+        assert!(rt; entries(&self.shelf, alloc)?.as_slice() == all);
         Ok(())
     }
 }
@@ -467,18 +379,18 @@ fn grow<M: PrefixMap<usize> + Drop>(rt: &impl Abort, alloc: Global) -> Result<()
         let new = growing(i)?;
         if map.insert(alloc, new, i).is_err() {
             expect_first(rt, &map, i)?;
-            assert_eq!(rt; map.insert(alloc, new, i)?, None);
+            assert!(rt; map.insert(alloc, new, i)?.is_none());
         }
         expect_first(rt, &map, i + 1)?;
     }
     if map.entries(alloc).is_err() {
         expect_first(rt, &map, GROWING)?;
-        assert_eq!(rt; map.entries(alloc)?.len(), GROWING);
+        assert!(rt; map.entries(alloc)?.len() == GROWING);
     }
     let prefix = key(0x0A02_0000, 16, 0)?.prefix;
     if map.paths(alloc, &prefix).is_err() {
         expect_first(rt, &map, GROWING)?;
-        assert_eq!(rt; map.paths(alloc, &prefix)?.len(), 4);
+        assert!(rt; map.paths(alloc, &prefix)?.len() == 4);
     }
     Ok(())
 }
@@ -543,10 +455,10 @@ fn expect_all<M: PrefixMap<u32>>(rt: &impl Abort, alloc: Global, map: &M) -> Res
 fn empty_in_order<M: PrefixMap<u32>>(rt: &impl Abort, map: &mut M) -> Result<(), Fail> {
     for place in 0..2 * IN_ORDER {
         let here = in_order(place)?;
-        assert_eq!(rt; map.longest(here.prefix.addr() | 1), Some(here.prefix));
-        assert_eq!(rt; map.remove(&here), Some(place));
+        assert!(rt; map.longest(here.prefix.addr() | 1) == Some(here.prefix));
+        assert!(rt; map.remove(&here) == Some(place));
     }
-    assert_eq!(rt; map.len(), 0);
+    assert!(rt; map.len() == 0);
     Ok(())
 }
 

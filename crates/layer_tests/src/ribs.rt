@@ -154,12 +154,6 @@ fn named(alloc: Global, name: &str) -> Result<Unit, Fail> {
             false,
             "0032 02 0000 001B 40010100 4002060201 0000FDE8 800E0B 0001 01 05 C0000209 00 080A",
         ),
-        "reach-over-ipv6" => message(
-            alloc,
-            1,
-            false,
-            "003E 02 0000 0027 40010100 4002060201 0000FDE8 800E17 0001 01 10 20010DB8000000000000000000000009 00 080A",
-        ),
         "unreach" => message(alloc, 2, false, "001F 02 0000 0008 800F05 0001 01 080A"),
         "6-1" => states(6, 1),
         "5-6" => states(5, 6),
@@ -359,55 +353,17 @@ fn new_and_damaged(rt: HostRuntime) -> Result<(), Fail> {
     let mut session = Session::<Flat<SharedRoute>>::new(alloc);
     assert!(rt; session.is_up() && !session.is_spent());
     assert!(rt; session.churn().first.is_none() && session.faults().is_empty());
-    session.take(alloc, &named(alloc, "bad-origin")?)?;
-    match session.faults() {
-        [damage] => assert!(rt;
-            damage.fault == Fault::BadAttribute(1) && damage.place.offset == 56
-        ),
-        _ => assert!(rt; false, "one damaged unit"),
+    for name in ["bad-origin", "bad-entry"] {
+        session.take(alloc, &named(alloc, name)?)?;
     }
-    session.take(alloc, &named(alloc, "6-1")?)?;
-    assert!(rt; !session.is_up());
-    session.take(alloc, &named(alloc, "5-6")?)?;
-    assert!(rt; session.is_up());
-    Ok(())
-}
-
-#[test]
-fn reached_over_ipv6(rt: HostRuntime) -> Result<(), Fail> {
-    let alloc = rt.alloc();
-    let session = session_after::<Radix<SharedRoute>>(alloc, "reach-over-ipv6")?;
-    match session.table().entries(alloc)?.as_slice() {
-        [(_, shared)] => {
-            let hop = NextHop::V6(0x2001_0DB8_0000_0000_0000_0000_0000_0009);
-            assert!(rt; shared.route().next_hop == Some(hop));
-        }
-        _ => assert!(rt; false, "one route"),
+    assert!(rt; session.faults().len() == 2);
+    for damage in session.faults() {
+        assert!(rt; damage.fault == Fault::BadAttribute(1) && damage.place.offset == 56);
     }
-    Ok(())
-}
-
-/// A message of 65,535 bytes that announces 0.0.0.0/0 65,492 times.
-#[test]
-fn longest_message(rt: HostRuntime) -> Result<(), Fail> {
-    let alloc = rt.alloc();
-    let mut bytes = Vec::new(alloc);
-    for _ in 0..16 {
-        bytes.push(0xFF)?;
+    for (name, is_up) in [("6-1", false), ("5-6", true)] {
+        session.take(alloc, &named(alloc, name)?)?;
+        assert!(rt; session.is_up() == is_up, "{name}");
     }
-    push_digits(&mut bytes, "FFFF 02 0000 0014")?;
-    push_digits(&mut bytes, PLAIN)?;
-    for _ in 0..65_492u32 {
-        bytes.push(0)?;
-    }
-    let mut session = Session::<Radix<SharedRoute>>::new(alloc);
-    let payload = Payload::Message {
-        bytes: PayloadBytes::from_vec(bytes),
-        width: Width::Four,
-        add_path: false,
-    };
-    session.take(alloc, &unit(1, payload))?;
-    assert_eq!(rt; counts(&session.churn()), [1, 0, 65_491, 0, 0, 0, 0, 0]);
     Ok(())
 }
 

@@ -191,7 +191,7 @@ pub fn scheduled<M: PrefixMap<SharedRoute> + Drop>(
     alloc: Global,
 ) -> Result<Result<Lanes<M>, Memory>, Fail> {
     let mut units = Vec::new(alloc);
-    for found in found_in(rt, alloc, &["M MB M MC MB"])? {
+    for found in found_in(rt, alloc, "M MB M MC MB")? {
         match found {
             Found::Unit(unit) => units.push(unit)?,
             Found::Refused(_) => assert!(rt; false, "a refusal"),

@@ -262,7 +262,10 @@ fn every_write_failed(rt: HostRuntime) -> Result<(), Fail> {
                 written: Vec::new(alloc),
             };
             let (result, written) = run_into(&rt, alloc, bytes.as_slice(), writer)?;
-            assert!(rt; is_write_error(&result), "a write that fails at {k}");
+            assert!(rt;
+                is_write_error(&result) && status(&result) == 3,
+                "a write that fails at {k}"
+            );
             assert!(rt;
                 written.as_slice() == &text[..k],
                 "what was written before {k}"
@@ -281,32 +284,6 @@ fn every_write_failed(rt: HostRuntime) -> Result<(), Fail> {
         "a flush that fails"
     );
     assert_eq!(rt; status(&result), 3);
-    Ok(())
-}
-
-#[test]
-fn writer_fails_after_ten_bytes(rt: HostRuntime) -> Result<(), Fail> {
-    let alloc = rt.alloc();
-    let bytes = dump(alloc, "M")?;
-    let writer = Full {
-        room: 10,
-        fails: true,
-        flushes: true,
-        written: Vec::new(alloc),
-    };
-    let (result, written) = run_into(&rt, alloc, bytes.as_slice(), writer)?;
-    assert!(rt; is_write_error(&result) && status(&result) == 3);
-    assert!(rt; written.as_slice() == b"65000 192.".as_slice());
-    Ok(())
-}
-
-/// A file whose second record is cut off by a failure.
-#[test]
-fn reader_fails_inside_a_record(rt: HostRuntime) -> Result<(), Fail> {
-    let alloc = rt.alloc();
-    let bytes = dump(alloc, "M 00000001 0010 0004 00000041")?;
-    assert_eq!(rt; bytes.len(), 89);
-    expect_read(&rt, alloc, bytes.as_slice(), ErrorKind::Other, 2);
     Ok(())
 }
 
@@ -353,36 +330,40 @@ fn second_file_fails_at_once(rt: HostRuntime) -> Result<(), Fail> {
     Ok(())
 }
 
-fn text_is(rt: &impl Abort, text: &[u8], expected: &str) {
-    assert!(rt; text == expected.as_bytes(), "{expected}");
-}
-
+/// Records, the limit on them, the report, and how many faults there are where the limit isn't passed.
 #[test]
 fn limits_on_records(rt: HostRuntime) -> Result<(), Fail> {
     let alloc = rt.alloc();
-    let two = [dump(alloc, "M M")?];
     let line = "65000 192.0.2.1|10.0.0.0/8|65000|192.0.2.1|IGP|-|-|-|-\n";
-    let one_record = Plan {
-        max_records: 1,
-        ..PLAN
-    };
-    let two_records = Plan {
-        max_records: 2,
-        ..PLAN
-    };
-    let outcome = replay::<Radix<SharedRoute>>(&rt, alloc, &two, &Request::Tables, &one_record)?;
-    match &outcome.result {
-        Err(error) => assert!(rt; *error == ReplayError::Records && outcome.text.is_empty()),
-        Ok(_) => assert!(rt; false, "too many records"),
+    for (words, max_records, request, text, damaged) in [
+        ("M M", 1, Request::Tables, "", None),
+        ("M M", 2, Request::Tables, line, Some(0)),
+        ("M 000000", 1, Request::Tables, line, Some(1)),
+        (
+            "M 000000",
+            1,
+            Request::Faults,
+            "1|77|-|1|ShortHeader\n",
+            Some(1),
+        ),
+    ] {
+        let files = [dump(alloc, words)?];
+        let plan = Plan {
+            max_records,
+            ..PLAN
+        };
+        let outcome = replay::<Radix<SharedRoute>>(&rt, alloc, &files, &request, &plan)?;
+        assert!(rt; outcome.text.as_slice() == text.as_bytes(), "{words}");
+        match &outcome.result {
+            Err(error) => {
+                assert!(rt;
+                    *error == ReplayError::Records && damaged.is_none(),
+                    "{words}"
+                );
+                assert!(rt; status(&outcome.result) == 3, "{words}");
+            }
+            Ok(summary) => assert!(rt; Some(summary.damaged) == damaged, "{words}"),
+        }
     }
-    assert_eq!(rt; status(&outcome.result), 3);
-    let outcome = replay::<Radix<SharedRoute>>(&rt, alloc, &two, &Request::Tables, &two_records)?;
-    text_is(&rt, outcome.text.as_slice(), line);
-    let rest = [dump(alloc, "M 000000")?];
-    let outcome = replay::<Radix<SharedRoute>>(&rt, alloc, &rest, &Request::Tables, &one_record)?;
-    text_is(&rt, outcome.text.as_slice(), line);
-    let outcome = replay::<Radix<SharedRoute>>(&rt, alloc, &rest, &Request::Faults, &one_record)?;
-    text_is(&rt, outcome.text.as_slice(), "1|77|-|1|ShortHeader\n");
-    assert_eq!(rt; outcome.result?.damaged, 1);
     Ok(())
 }

@@ -7,7 +7,6 @@ use crate::request::Request;
 use adj_rib::SharedRoute;
 use bgp_prefix::Radix;
 use lane_deal::{ByTurns, NoGate, Plan};
-use mrt_body::Units;
 use mrt_frame::{Counted, ReplayError};
 use std::io::{self, Read};
 use std::test::Fail;
@@ -115,12 +114,5 @@ fn endless_zeros(rt: HostRuntime) -> Result<(), Fail> {
         Ok(_) => assert!(rt; false, "endless"),
     }
     assert!(rt; out.device().is_empty());
-    let mut units = Units::new(1, 5, None);
-    match units.next(alloc, &mut readers) {
-        Err(error) => assert!(rt; error == ReplayError::Records),
-        Ok(_) => assert!(rt; false, "endless"),
-    }
-    assert_eq!(rt; units.records(), 5);
-    assert_eq!(rt; units.aside(), 5);
     Ok(())
 }

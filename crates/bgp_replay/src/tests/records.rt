@@ -32,9 +32,8 @@ fn counts(rt: HostRuntime) -> Result<(), Fail> {
         for bytes in DUMP.as_slice().chunks(piece.max(1)) {
             records.take(bytes);
         }
-        assert_eq!(rt; records.count(), 5, "{piece}");
-        assert_eq!(rt; records.aside(), 3, "{piece}");
-        assert_eq!(rt; records.whole_bytes(), 66, "{piece}");
+        assert!(rt; records.count() == 5 && records.aside() == 3, "{piece}");
+        assert!(rt; records.whole_bytes() == 66, "{piece}");
         assert!(rt;
             records.first() == Some(7) && records.last() == Some(11),
             "{piece}"

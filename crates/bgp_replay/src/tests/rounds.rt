@@ -4,7 +4,11 @@
 use super::playing::play_rows;
 use adj_rib::SharedRoute;
 use bgp_prefix::{Flat, Radix, Shelf};
+use std::alloc::Global;
+use std::marker::Sync;
+use std::process::Abort;
 use std::test::Fail;
+use std::thread::Threads;
 
 const ROUNDS: &str = "
 row settle-a-fresh-replayer
@@ -107,20 +111,25 @@ into_tables Ok
 > 65000 192.0.2.1|1|0|0|0|0|0|0|0|1.000000|1.000000
 ";
 
-#[test]
-fn rounds_of_each_map(rt: HostRuntime) -> Result<(), Fail> {
-    let alloc = rt.alloc();
-    assert_eq!(rt; play_rows::<Radix<SharedRoute>>(&rt, alloc, ROUNDS)?, 8);
-    assert_eq!(rt; play_rows::<Flat<SharedRoute>>(&rt, alloc, ROUNDS)?, 8);
-    assert_eq!(rt; play_rows::<Shelf<SharedRoute>>(&rt, alloc, ROUNDS)?, 8);
+/// Plays so many rows on replayers with each map.
+fn play_each(
+    rt: &(impl Threads + Abort + Sync),
+    alloc: Global,
+    table: &str,
+    rows: usize,
+) -> Result<(), Fail> {
+    assert!(rt; play_rows::<Radix<SharedRoute>>(rt, alloc, table)? == rows);
+    assert!(rt; play_rows::<Flat<SharedRoute>>(rt, alloc, table)? == rows);
+    assert!(rt; play_rows::<Shelf<SharedRoute>>(rt, alloc, table)? == rows);
     Ok(())
 }
 
 #[test]
+fn rounds_of_each_map(rt: HostRuntime) -> Result<(), Fail> {
+    play_each(&rt, rt.alloc(), ROUNDS, 8)
+}
+
+#[test]
 fn salvage_after_a_failed_read(rt: HostRuntime) -> Result<(), Fail> {
-    let alloc = rt.alloc();
-    assert_eq!(rt; play_rows::<Radix<SharedRoute>>(&rt, alloc, SALVAGE)?, 2);
-    assert_eq!(rt; play_rows::<Flat<SharedRoute>>(&rt, alloc, SALVAGE)?, 2);
-    assert_eq!(rt; play_rows::<Shelf<SharedRoute>>(&rt, alloc, SALVAGE)?, 2);
-    Ok(())
+    play_each(&rt, rt.alloc(), SALVAGE, 2)
 }

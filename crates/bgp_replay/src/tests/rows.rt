@@ -174,10 +174,14 @@ origins
 #[test]
 fn reports_of_rows(rt: HostRuntime) -> Result<(), Fail> {
     let alloc = rt.alloc();
-    assert_eq!(rt; run_rows(&rt, alloc, ONE_FILE)?, 12);
-    assert_eq!(rt; run_rows(&rt, alloc, STATE_CHANGES)?, 3);
-    assert_eq!(rt; run_rows(&rt, alloc, ATTRIBUTES)?, 5);
-    assert_eq!(rt; run_rows(&rt, alloc, RIB_RECORDS)?, 3);
-    assert_eq!(rt; run_rows(&rt, alloc, SEVERAL_PEERS)?, 5);
+    for (table, rows) in [
+        (ONE_FILE, 12),
+        (STATE_CHANGES, 3),
+        (ATTRIBUTES, 5),
+        (RIB_RECORDS, 3),
+        (SEVERAL_PEERS, 5),
+    ] {
+        assert!(rt; run_rows(&rt, alloc, table)? == rows);
+    }
     Ok(())
 }

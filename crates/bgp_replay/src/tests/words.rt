@@ -18,78 +18,136 @@ fn job_of(alloc: Global, text: &str) -> Result<Result<Job, Usage>, Fail> {
     Ok(read_words(alloc, words.as_slice()))
 }
 
+/// The address that is refused, or which answer it is.
+fn answer_of(answer: &Result<Job, Usage>) -> &str {
+    match answer {
+        Ok(_) => "a job",
+        Err(Usage::Help(_)) => "help",
+        Err(Usage::Words(_)) => "words",
+        Err(Usage::Address(address)) => address.as_str(),
+        Err(Usage::Memory) => "memory",
+    }
+}
+
 #[test]
 fn refused_words(rt: HostRuntime) -> Result<(), Fail> {
     let alloc = rt.alloc();
     for (text, expected) in [
         ("match --address 10.1.2 x", "10.1.2"),
         ("match --address 10.1.2.03 x", "10.1.2.03"),
+        ("tables --workers 0 x", "words"),
+        ("tables", "words"),
+        ("match --address 10.1.2", "words"),
+        ("tables --ring 65537 x", "words"),
+        ("nothing x", "words"),
+        ("tables --until yesterday x", "words"),
+        ("tables --until -5 x", "words"),
+        ("--help", "help"),
     ] {
-        let refused = job_of(alloc, text)?;
-        match &refused {
-            Err(Usage::Address(address)) => assert!(rt; address.as_str() == expected, "{text}"),
-            _ => assert!(rt; false, "{text}"),
-        }
-    }
-    for text in [
-        "tables --workers 0 x",
-        "tables",
-        "match --address 10.1.2",
-        "tables --ring 65537 x",
-        "nothing x",
-        "tables --until yesterday x",
-        "tables --until -5 x",
-    ] {
-        let refused = job_of(alloc, text)?;
-        match &refused {
-            Err(Usage::Words(_)) => {}
-            _ => assert!(rt; false, "{text}"),
-        }
-    }
-    let refused = job_of(alloc, "--help")?;
-    match &refused {
-        Err(Usage::Help(_)) => {}
-        _ => assert!(rt; false, "help"),
+        let answer = job_of(alloc, text)?;
+        assert!(rt; answer_of(&answer) == expected, "{text}");
     }
     Ok(())
 }
 
+/// Options and files by turns, and options twice: the last counts.
+const SEVERAL: &str =
+    "tables --workers 2 x --header --workers 3 --until 6 --until 2024-01-01T01:00:00Z y";
+
+/// Requests, workers and the size of rings, seconds, and files.
 #[test]
 fn jobs(rt: HostRuntime) -> Result<(), Fail> {
     let alloc = rt.alloc();
-    match job_of(alloc, "tables --workers 64 x")? {
-        Ok(job) => {
-            assert!(rt; job.request == Request::Tables);
-            assert_eq!(rt; job.workers, 64);
-            assert_eq!(rt; job.ring, 1024);
-            assert!(rt; job.until.is_none());
-        }
-        Err(_) => assert!(rt; false, "64 workers"),
-    }
-    match job_of(alloc, "match --address 10.1.2.3 x -")? {
-        Ok(job) => {
-            assert!(rt; job.request == Request::Match(167_838_211));
-            assert_eq!(rt; job.workers, 4);
-            match job.files.as_slice() {
-                [first, second] => assert!(rt; first.as_str() == "x" && second.as_str() == "-"),
-                _ => assert!(rt; false, "two files"),
-            }
-        }
-        Err(_) => assert!(rt; false, "match"),
-    }
-    for (name, request) in [
-        ("visibility", Request::Visibility),
-        ("origins", Request::Origins),
-        ("churn", Request::Churn),
-        ("faults", Request::Faults),
+    for (text, request, numbers, until, files) in [
+        (
+            "tables --workers 64 x",
+            Request::Tables,
+            (64, 1024),
+            None,
+            "x;",
+        ),
+        (
+            "match --address 10.1.2.3 x -",
+            Request::Match(167_838_211),
+            (4, 1024),
+            None,
+            "x;-;",
+        ),
+        (
+            "visibility --until 5 --ring 65536 x",
+            Request::Visibility,
+            (4, 65_536),
+            Some(5),
+            "x;",
+        ),
+        (
+            "origins --until 5 --ring 65536 x",
+            Request::Origins,
+            (4, 65_536),
+            Some(5),
+            "x;",
+        ),
+        (
+            "churn --until 5 --ring 65536 x",
+            Request::Churn,
+            (4, 65_536),
+            Some(5),
+            "x;",
+        ),
+        (
+            "faults --until 5 --ring 65536 x",
+            Request::Faults,
+            (4, 65_536),
+            Some(5),
+            "x;",
+        ),
+        (
+            SEVERAL,
+            Request::Tables,
+            (3, 1024),
+            Some(1_704_070_800),
+            "x;y;",
+        ),
+        (
+            "faults --summary --progress -",
+            Request::Faults,
+            (4, 1024),
+            None,
+            "-;",
+        ),
     ] {
-        let text = format!(in alloc; "{name} --until 5 --ring 65536 x")?;
-        match job_of(alloc, text.as_str())? {
-            Ok(job) => assert!(rt;
-                job.request == request && job.until == Some(5) && job.ring == 65_536,
-                "{name}"
-            ),
-            Err(_) => assert!(rt; false, "{name}"),
+        match job_of(alloc, text)? {
+            Ok(job) => {
+                assert!(rt; job.request == request && job.until == until, "{text}");
+                assert!(rt; (job.workers, job.ring) == numbers, "{text}");
+                let mut names = String::new(alloc);
+                for file in &job.files {
+                    names.push_str(file.as_str())?;
+                    names.push(';')?;
+                }
+                assert!(rt; names.as_str() == files, "{text}");
+            }
+            Err(_) => assert!(rt; false, "{text}"),
+        }
+    }
+    Ok(())
+}
+
+/// Whether the words say how many workers, and ask for a header, a summary and the progress.
+#[test]
+fn switches(rt: HostRuntime) -> Result<(), Fail> {
+    let alloc = rt.alloc();
+    for (text, expected) in [
+        (SEVERAL, [true, true, false, false]),
+        ("faults --summary --progress -", [false, false, true, true]),
+        ("tables x", [false, false, false, false]),
+    ] {
+        match job_of(alloc, text)? {
+            Ok(job) => {
+                let found = [job.has_workers, job.header, job.summary, job.progress];
+                assert!(rt; found == expected, "{text}");
+            }
+            Err(_) => assert!(rt; false, "{text}"),
         }
     }
     Ok(())
@@ -112,30 +170,6 @@ fn addresses(rt: HostRuntime) {
     ] {
         assert!(rt; read_address(text) == expected, "{text}");
     }
-}
-
-#[test]
-fn options(rt: HostRuntime) -> Result<(), Fail> {
-    let alloc = rt.alloc();
-    let words =
-        "tables --workers 2 x --header --workers 3 --until 6 --until 2024-01-01T01:00:00Z y";
-    match job_of(alloc, words)? {
-        Ok(job) => {
-            assert!(rt; job.header && !job.summary && !job.progress && job.has_workers);
-            assert_eq!(rt; job.workers, 3, "the last one counts");
-            assert!(rt; job.until == Some(1_704_070_800));
-            assert_eq!(rt; job.files.len(), 2);
-        }
-        Err(_) => assert!(rt; false, "{words}"),
-    }
-    match job_of(alloc, "faults --summary --progress -")? {
-        Ok(job) => {
-            assert!(rt; job.summary && job.progress && !job.header && job.until.is_none());
-            assert!(rt; !job.has_workers);
-        }
-        Err(_) => assert!(rt; false, "summary"),
-    }
-    Ok(())
 }
 
 #[test]

@@ -125,6 +125,14 @@ most 1
 > 0|0|-|1000000|65000 C0000201|message 45 Four false
 > 0|77|ShortHeader
 > records 1 aside 0
+row limit-before-rests-of-two-files
+file M 000000
+file 00000001 000C 0001
+most 1
+> 0|0|-|1000000|65000 C0000201|message 45 Four false
+> 0|77|ShortHeader
+> 1|0|ShortHeader
+> records 1 aside 0
 row too-long-then-next-file
 file 00000001 0010 0004 01000001 0102030405
 file M
@@ -304,7 +312,7 @@ file P 00000003 000D 0008 00000011 00000000 080A 0001 0000 00000001 000000
 
 #[test]
 fn several_files(rt: HostRuntime) -> Result<(), Fail> {
-    assert_eq!(rt; run_rows(&rt, rt.alloc(), FILES)?, 14);
+    assert_eq!(rt; run_rows(&rt, rt.alloc(), FILES)?, 15);
     Ok(())
 }
 

@@ -51,23 +51,6 @@ fn first_fault_wins(rt: HostRuntime) -> Result<(), Fail> {
     Ok(())
 }
 
-#[test]
-fn fronts_of_a_message(rt: HostRuntime) -> Result<(), Fail> {
-    let body = bytes_of(rt.alloc(), REPLACE)?;
-    assert_eq!(rt; body.len(), 28);
-    for n in 0..=body.len() {
-        let want = match n {
-            0..=3 => Some(Fault::BadLength),
-            4..=25 => Some(Fault::BadUpdate),
-            27 => Some(Fault::BadPrefix),
-            _ => None,
-        };
-        let fault = fault_in(rt.alloc(), &body.as_slice()[..n], Width::Four, false)?;
-        assert!(rt; fault == want, "at {n}");
-    }
-    Ok(())
-}
-
 /// The fault of a message's front of n bytes, where the message has its attributes up to one place and keys up to others.
 fn fault_of_front(n: usize, attributes_end: usize, key_ends: &[usize]) -> Option<Fault> {
     if n < 4 {
@@ -84,6 +67,7 @@ fn fault_of_front(n: usize, attributes_end: usize, key_ends: &[usize]) -> Option
 #[test]
 fn fronts_of_messages(rt: HostRuntime) -> Result<(), Fail> {
     for (text, width, add_path, attributes_end, key_ends) in [
+        (REPLACE, Width::Four, false, 26, [28].as_slice()),
         (
             THREE_LENGTHS,
             Width::Four,
