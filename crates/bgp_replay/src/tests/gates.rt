@@ -206,3 +206,45 @@ fn gates_are_told_each_number(rt: HostRuntime) -> Result<(), Fail> {
     }
     Ok(())
 }
+
+/// Writes down the numbers of routes that it is told, as digits of one number.
+#[derive(Drop)]
+struct Digits {
+    told: AtomicU64,
+}
+
+impl Gate for Digits {
+    fn before(&self, _worker: usize, _number: u64) {}
+
+    fn dealt(&self, _lane: usize, _number: u64) {}
+
+    fn is_counting(&self) -> bool {
+        true
+    }
+
+    fn counted(&self, routes: u64) {
+        let told = self.told.load(Ordering::SeqCst);
+        let next = told.saturating_mul(10).saturating_add(routes);
+        self.told.store(next, Ordering::SeqCst);
+    }
+}
+
+/// A worker without a second look takes what was dealt in the rounds before: two units of two peers after the
+/// second round, and four of three peers after the third.
+#[test]
+fn gates_are_told_the_routes_after_rounds(rt: HostRuntime) -> Result<(), Fail> {
+    let gate = Digits {
+        told: AtomicU64::new(9),
+    };
+    let plan = Plan {
+        workers: 1,
+        ring: 4,
+        batch: 2,
+        looks: 0,
+        ..PLAN
+    };
+    let summary = run_with(&rt, rt.alloc(), "M MB M MC MB", &plan, &gate)??;
+    assert!(rt; gate.told.load(Ordering::SeqCst) == 9023);
+    assert!(rt; summary.routes == 3 && summary.rounds == 4);
+    Ok(())
+}
