@@ -1,5 +1,6 @@
 //! What units do to a table and to its counts, over both maps.
 
+use crate::hexadecimal::push_digits;
 use adj_rib::{Churn, Session, SharedRoute};
 use bgp_prefix::{Flat, Prefix, PrefixMap, Radix, RouteKey};
 use bgp_update::{NextHop, Width};
@@ -14,23 +15,6 @@ const PLAIN: &str = "40010100 4002060201 0000FDE8 400304 C0000201";
 
 /// The same with MED 10.
 const WITH_MED: &str = "40010100 4002060201 0000FDE8 400304 C0000201 800404 0000000A";
-
-/// Adds the bytes that hexadecimal digits spell, two by two; other letters are passed over.
-fn push_digits(bytes: &mut Vec<u8>, text: &str) -> Result<(), Fail> {
-    let mut high: Option<u32> = None;
-    for letter in text.chars() {
-        if let Some(digit) = letter.to_digit(16) {
-            match high {
-                None => high = Some(digit),
-                Some(first) => {
-                    bytes.push((first.wrapping_mul(16).wrapping_add(digit) & 0xFF) as u8)?;
-                    high = None;
-                }
-            }
-        }
-    }
-    Ok(())
-}
 
 fn unit(seconds: u64, payload: Payload) -> Unit {
     Unit {

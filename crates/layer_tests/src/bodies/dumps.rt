@@ -1,24 +1,8 @@
 //! Named records, as hexadecimal text.
 
+use crate::hexadecimal::push_digits;
 use std::alloc::Global;
 use std::test::Fail;
-
-/// Adds the bytes that hexadecimal digits spell, two by two; other letters are passed over.
-fn push_digits(bytes: &mut Vec<u8>, text: &str) -> Result<(), Fail> {
-    let mut high: Option<u32> = None;
-    for letter in text.chars() {
-        if let Some(digit) = letter.to_digit(16) {
-            match high {
-                None => high = Some(digit),
-                Some(first) => {
-                    bytes.push((first.wrapping_mul(16).wrapping_add(digit) & 0xFF) as u8)?;
-                    high = None;
-                }
-            }
-        }
-    }
-    Ok(())
-}
 
 /// What a word of a record stands for: fields that many records share, or digits.
 fn digits_of(word: &str) -> &str {

@@ -4,6 +4,7 @@ ghost use Rattle.std.specs.Prelude.{◌≡◌, ◌≢◌, [], ◌∷◌, IfOk, m
 ghost use Rattle.std.specs.List.{IsDistinct};
 ghost use Rattle.rib_report.specs.Gathers.{gathered_seats};
 
+use crate::hexadecimal::push_digits;
 use adj_rib::{Session, SharedRoute};
 use bgp_prefix::{PrefixMap, Sequence};
 use bgp_update::Width;
@@ -31,18 +32,7 @@ fn push_word(bytes: &mut Vec<u8>, word: &str) -> Result<(), Fail> {
         "A4" => "4001010040020602010000FDE8400304C0000201",
         _ => word,
     };
-    let mut high: Option<u32> = None;
-    for letter in digits.chars() {
-        let digit = letter.to_digit(16).ok_or("a hexadecimal digit")?;
-        match high {
-            None => high = Some(digit),
-            Some(first) => {
-                bytes.push((first.wrapping_mul(16).wrapping_add(digit) & 0xFF) as u8)?;
-                high = None;
-            }
-        }
-    }
-    Ok(())
+    push_digits(bytes, digits)
 }
 
 fn message(alloc: Global, said: Said<'_>) -> Result<Payload, Fail> {

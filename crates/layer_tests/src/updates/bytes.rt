@@ -1,5 +1,6 @@
 //! Messages as hexadecimal text, and their readings. A message is what stands behind its header.
 
+use crate::hexadecimal::push_digits;
 use bgp_prefix::RouteKey;
 use bgp_update::*;
 use mrt_frame::Fault;
@@ -31,18 +32,7 @@ pub const REACH: &str = "0000 001B 40010100 4002060201 0000FDE8 800E0B 0001 01 0
 /// The bytes that hexadecimal digits spell, two by two; other letters are passed over.
 pub fn bytes_of(alloc: Global, text: &str) -> Result<Vec<u8>, Fail> {
     let mut bytes = Vec::new(alloc);
-    let mut high: Option<u32> = None;
-    for letter in text.chars() {
-        if let Some(digit) = letter.to_digit(16) {
-            match high {
-                None => high = Some(digit),
-                Some(first) => {
-                    bytes.push((first.wrapping_mul(16).wrapping_add(digit) & 0xFF) as u8)?;
-                    high = None;
-                }
-            }
-        }
-    }
+    push_digits(&mut bytes, text)?;
     Ok(bytes)
 }
 
