@@ -1,7 +1,7 @@
 -- The tables of what a settled replayer was dealt.
-use Rattle.std.proofs.Common.{◌≡◌, ◌≢◌, ℕ, zero, suc, ◌+◌, ◌<◌, ◌≤◌, Bool, false, List, [], ◌∷◌, ◌++◌, length, map, get_or, nat_eq, refl, sym, ap, ◌∙◌, subst, arith}
+use Rattle.std.proofs.Common.{◌≡◌, ℕ, zero, suc, ◌+◌, ◌<◌, ◌≤◌, Bool, false, List, [], ◌∷◌, ◌++◌, length, map, get_or, nat_eq, refl, sym, ap, ◌∙◌, subst, arith}
 use Rattle.std.proofs.Math.ListN.{get_or-map}
-use Rattle.std.proofs.Math.Logic.{∥∥₁_elim, ∥∥₁_map}
+use Rattle.std.proofs.Math.Logic.{∥∥₁_elim}
 use Rattle.std.specs.List.{flat_map, IsDistinct, AllByRecursion, range_with_len, enumerate_from}
 use Rattle.std.specs.List.Sorted.{IsPermutation, IsStrictlyIncreasing}
 use Rattle.std.proofs.lemmas.Bool.{ne_eqb}
@@ -22,7 +22,7 @@ use Rattle.lane_deal.specs.declared.feed.Feed.{Feed}
 use Rattle.lane_deal.specs.declared.seats.Seats.{Seats}
 use Rattle.lane_deal.specs.declared.worker.Worker.{Worker}
 use Rattle.lane_deal.specs.Collecting.{WorkerState, worker_state, seats_of_workers}
-use Rattle.lane_deal.specs.LaneRings.{AreReady, IsReady}
+use Rattle.lane_deal.specs.LaneRings.{AreReady}
 use Rattle.lane_deal.specs.Replayers.{LaneState, ReplayerState, ReplayerStandsFor, StandsForSome}
 use Rattle.lane_deal.specs.Rounds.{IsSettled}
 use Rattle.lane_deal.specs.Shown.{lane_state, lane_states, state_at}

@@ -1,5 +1,5 @@
 -- What a worker does in a round.
-use Rattle.std.specs.Prelude.{◌≡◌, ℕ, ◌+◌, ◌-◌, ◌^◌, ◌<◌, min, List, ◌++◌, map, length}
+use Rattle.std.specs.Prelude.{◌≡◌, ◌+◌, ◌-◌, ◌^◌, ◌<◌, min, List, ◌++◌, map, length}
 use mathlib.Core.List.{IsPrefix}
 use Rattle.rtrb.specs.Ring.{received, known_items, SameConsumer}
 use Rattle.lane_deal.specs.declared.numbered.Numbered.{Numbered}

@@ -63,7 +63,9 @@ fn deal_and_work<
         requires { IsSync T.row × IsSync G.row × IsSend S.row }
         ensures { OnOk result (AllZip (Worked S.stands_for) workers.entry.now workers.exit.now) }
     { run_all(rt, alloc, gate, over, patience, workers) };
-    join_mut(rt, &mut deal, &mut work)
+    // Where no thread can be started, the workers come last, when the round is over.
+    let (worked, step) = join_mut(rt, &mut work, &mut deal);
+    (step, worked)
 }
 
 /// One round over all lanes, whose rings are made anew at its end.

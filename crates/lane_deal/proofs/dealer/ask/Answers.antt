@@ -1,5 +1,5 @@
-use Rattle.std.proofs.Common.{◌∙◌, refl, map}
-use Rattle.lane_deal.proofs.Asking.{Listed-none, Listed-more, Asked-unit, Asked-end, AskedInVain-from, TakesUnits-one, stops_one, stops_later}
+use Rattle.std.proofs.Common.{◌∙◌, refl}
+use Rattle.lane_deal.proofs.Asking.{Listed-none, Listed-more, Asked-unit, TakesUnits-one}
 use Rattle.lane_deal.proofs.dealer.ask.Goals as goal
 
 pub loop-found-init : goal.loop-found-init

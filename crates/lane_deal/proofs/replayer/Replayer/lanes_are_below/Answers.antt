@@ -1,4 +1,4 @@
-use Rattle.std.proofs.Common.{◌≡◌, ◌<◌, ℕ, length, sym, ◌∙◌, subst, arith}
+use Rattle.std.proofs.Common.{◌≡◌, ◌<◌, length, sym, ◌∙◌, subst, arith}
 use Rattle.lane_deal.proofs.Bridges.{length-lane_states}
 use Rattle.lane_deal.proofs.replayer.Replayer.lanes_are_below.Goals as goal
 

@@ -1,4 +1,4 @@
-use Rattle.std.proofs.Common.{length, ap, sym, ◌∙◌, arith}
+use Rattle.std.proofs.Common.{length, ap, arith}
 use Rattle.lane_deal.proofs.Bridges.{lane_at, length-lane_states}
 use Rattle.lane_deal.proofs.Plays.{took_at}
 use Rattle.lane_deal.proofs.replayer.Replayer.took.Goals as goal

@@ -1,4 +1,3 @@
-use Rattle.std.proofs.Common.{◌≡◌, Some, None, sym, ◌∙◌}
 use Rattle.lane_deal.proofs.SeatIndexes.{not_there}
 use Rattle.lane_deal.proofs.seats.Seats.find.Goals as goal
 
