@@ -198,8 +198,13 @@ for file in empty stump 'cut' sample several long "$here"/../examples/*.mrt ${SA
   holds "$name: kinds" "$(total aside)" "$(total 'aside .*')"
   holds "$name: bytes" "$(value bytes)" "$(total bytes)"
 done
+{ head -c 40 "$here"/../examples/updates.mrt; printf '\0'; tail -c +42 "$here"/../examples/updates.mrt; } > marred # a byte of a marker
+files=(sample marred 'cut' sample); summary churn "${files[@]}"; ./bgp_replay faults "${files[@]}" > listed 2> none
+holds '--summary: units by file' "$(total units) $(value 'file 1 units') $(value 'file 4 units')" "$(value units) $(./bgp_replay churn sample --summary 2>&1 > none | sed -n 's/^units: \(.*\)/\1 \1/p')"
+holds '--summary: faults by file' "$(for i in 1 2 3 4; do echo $(($(value "file $i refused") + $(value "file $i damaged"))); done)" "$(for i in 1 2 3 4; do grep -c "^$i|" listed; done)"
+holds '--summary: damaged units and refused records' "$(values 'file 2 refused' 'file 2 damaged' 'file 3 refused' 'file 3 damaged')" '0 2 1 0 '
 summary churn several
-holds '--summary: keys' "$(grep -cvE '^(damaged|(file [0-9]+)( (bytes|unread|records|aside|first|last|aside [A-Za-z0-9_]+ [A-Za-z0-9_]+|aside others))?|files|bytes|records|units|aside|peers|routes|rounds|workers|seconds|peak_kib): .' said)" 0
+holds '--summary: keys' "$(grep -cvE '^(damaged|(file [0-9]+)( (bytes|unread|records|aside|first|last|aside [A-Za-z0-9_]+ [A-Za-z0-9_]+|aside others|units|refused|damaged))?|files|bytes|records|units|aside|peers|routes|rounds|workers|seconds|peak_kib): .' said)" 0
 holds '--summary: routes' "$(value routes)" "$(./bgp_replay tables several | wc -l)"
 holds '--summary: kinds by their names' "$(grep '^file 1 aside .*:' said)" "$(printf 'file 1 aside %s\n' 'TABLE_DUMP_V2 RIB_IPV6_UNICAST: 2' 'BGP4MP BGP4MP_MESSAGE_LOCAL: 1' '99 3: 2' 'TABLE_DUMP AFI_IPv4: 1')"
 holds '--summary: the replay is the same' "$(cksum < out)" "$(./bgp_replay churn several | cksum)"

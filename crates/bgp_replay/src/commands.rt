@@ -132,7 +132,7 @@ fn until_option<'a>(alloc: Global) -> Arg<'a> {
         .value_name("TIME")
         .allow_negative_numbers(true)
         .help(
-            "Leave out messages and entries recorded after this second: seconds since 1970 UTC, or as 2024-01-01T01:00:00Z",
+            "Leave out messages, state changes and entries recorded after this second: seconds since 1970 UTC, or as 2024-01-01T01:00:00Z",
         )
 }
 

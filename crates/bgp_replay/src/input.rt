@@ -2,6 +2,7 @@
 
 ghost use Rattle.std.specs.Io.{ReadsAtMost};
 
+use crate::counts::Counts;
 use crate::kind::{FirstBytes, Kind};
 use crate::progress::{Board, LOOK, ReadSoFar};
 use crate::records::Records;
@@ -86,15 +87,15 @@ impl<'a> Watch<'a> {
 /// What is watched while dumps are read.
 #[derive(Clone, Copy)]
 pub struct Watched<'a> {
-    /// Whether records are counted.
-    pub is_counted: bool,
+    /// Where units are counted, if records are.
+    pub counts: Option<&'a Counts>,
     /// Where the progress is shown.
     pub board: Option<&'a Board>,
 }
 
 impl Watched<'_> {
     fn is_any(&self) -> bool {
-        self.is_counted || self.board.is_some()
+        self.counts.is_some() || self.board.is_some()
     }
 }
 
@@ -115,6 +116,7 @@ pub struct Dump<'a> {
     first: FirstBytes,
     error: Option<io::Error>,
     watch: Option<Watch<'a>>,
+    counts: Option<&'a Counts>,
 }
 
 /// A dump, with a count of its failures.
@@ -145,6 +147,7 @@ impl<'a> Dump<'a> {
             first: FirstBytes::new(),
             error: None,
             watch,
+            counts: watched.counts,
         }
     }
 
@@ -212,6 +215,9 @@ impl<'a> Dump<'a> {
         };
         let reader = BufReader::with_capacity(self.rt.alloc(), BLOCK, device)?;
         self.state = State::Reading(reader);
+        if let Some(counts) = self.counts {
+            counts.begin(self.number.saturating_sub(1));
+        }
         Ok(())
     }
 

@@ -6,6 +6,7 @@ ghost use Rattle.lane_deal.specs.Plans.{IsPlan};
 
 mod address;
 mod commands;
+mod counts;
 mod input;
 mod kind;
 mod moment;
@@ -25,6 +26,7 @@ mod words;
 
 use adj_rib::SharedRoute;
 use bgp_prefix::Shelf;
+use counts::Counts;
 use input::{Input, OpenError, Watched, open_all};
 use lane_deal::{ByTurns, Plan};
 use mrt_frame::Counted;
@@ -196,12 +198,27 @@ fn board_of(rt: &HostRuntime, job: &Job, start: Option<Instant>) -> Option<Board
     }
 }
 
+/// The counts of the dumps, where the summary is asked for, or the status to end with.
+fn counts_of(rt: &HostRuntime, job: &Job) -> Result<Option<Counts>, u8> {
+    if !job.summary {
+        return Ok(None);
+    }
+    match Counts::new(rt.alloc(), job.files.len()) {
+        Ok(counts) => Ok(Some(counts)),
+        Err(_) => Err(without_memory(rt, "the files were opened")),
+    }
+}
+
 /// Replays the dumps of a job by threads, and gives the status.
 fn replay_job(rt: &HostRuntime, threads: &(impl Threads + Sync), job: &Job) -> u8 {
     let start = Instant::now(rt).ok();
     let board = board_of(rt, job, start);
+    let counts = match counts_of(rt, job) {
+        Ok(counts) => counts,
+        Err(code) => return code,
+    };
     let watched = Watched {
-        is_counted: job.summary,
+        counts: counts.as_ref(),
         board: board.as_ref(),
     };
     let mut inputs = match opened(rt, job.files.as_slice(), watched) {
@@ -224,6 +241,7 @@ fn replay_job(rt: &HostRuntime, threads: &(impl Threads + Sync), job: &Job) -> u
         &ByTurns,
         &Counter {
             board: board.as_ref(),
+            counts: counts.as_ref(),
         },
         &mut out,
     );
@@ -232,7 +250,15 @@ fn replay_job(rt: &HostRuntime, threads: &(impl Threads + Sync), job: &Job) -> u
     }
     tell(rt, &outcome, &job.request, inputs.as_slice(), &out);
     if job.summary {
-        tell_summary(rt, &outcome, inputs.as_slice(), workers, since(rt, start));
+        let elapsed = since(rt, start);
+        tell_summary(
+            rt,
+            &outcome,
+            inputs.as_slice(),
+            counts.as_ref(),
+            workers,
+            elapsed,
+        );
     }
     status(&outcome)
 }

@@ -1,7 +1,9 @@
 //! How far the reading is, on a line of standard error that is rewritten.
 
+use crate::counts::Counts;
 use crate::names::FileName;
 use lane_deal::Gate;
+use mrt_body::Damage;
 use std::alloc::{AllocError, Global};
 use std::sync::atomic::{AtomicU64, Ordering};
 use std::time::Instant;
@@ -115,16 +117,22 @@ impl Board {
     }
 }
 
-/// The gate of the program: a board, if there is one, hears how many routes there are, as often as it shows them.
+/// The gate of the program. A board, if there is one, hears how many routes there are, as often as it shows them, and
+/// counts, if there are any, hear of units and faults.
 #[derive(Clone, Copy)]
 pub struct Counter<'a> {
     pub board: Option<&'a Board>,
+    pub counts: Option<&'a Counts>,
 }
 
 impl Gate for Counter<'_> {
     fn before(&self, _worker: usize, _number: u64) {}
 
-    fn dealt(&self, _lane: usize, _number: u64) {}
+    fn dealt(&self, _lane: usize, _number: u64) {
+        if let Some(counts) = self.counts {
+            counts.add_unit();
+        }
+    }
 
     fn is_counting(&self) -> bool {
         let Some(board) = self.board else {
@@ -142,6 +150,12 @@ impl Gate for Counter<'_> {
             if let Some(now) = board.millis() {
                 board.counted.store(now, Ordering::Relaxed);
             }
+        }
+    }
+
+    fn listed(&self, damage: &Damage, is_refused: bool) {
+        if let Some(counts) = self.counts {
+            counts.add_fault(damage.place.file, is_refused);
         }
     }
 }

@@ -76,6 +76,7 @@ where
     if out.flush_all().is_err() {
         return Err(ReplayError::Write);
     }
+    tell_faults(gate, &replayed.tables);
     let summary = Summary {
         records: replayed.records,
         units: replayed.units,
@@ -88,6 +89,18 @@ where
     // Tables aren't taken apart route by route, since the process ends after the run (docs/DECISIONS.md).
     mem::forget(replayed);
     Ok(summary)
+}
+
+/// Tells the gate each listed fault.
+fn tell_faults<M: PrefixMap<SharedRoute>, G: Gate>(gate: &G, tables: &Tables<M>) {
+    for damage in tables.refused() {
+        gate.listed(damage, true);
+    }
+    for seat in tables.seats() {
+        for damage in seat.session.faults() {
+            gate.listed(damage, false);
+        }
+    }
 }
 
 /// Writes the report that is asked for.

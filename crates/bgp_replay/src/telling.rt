@@ -1,6 +1,7 @@
 //! What the program says on standard error. A line behind the first is indented by two spaces, and
 //! says which file and why. No failure to say it changes the status.
 
+use crate::counts::{Counts, FileCounts};
 use crate::input::{Dump, Input};
 use crate::kind::Kind;
 use crate::names::FileName;
@@ -218,17 +219,34 @@ fn peak_memory(rt: &HostRuntime) -> Option<u64> {
     None
 }
 
+/// Units and faults of a file. They are known after a whole run.
+fn tell_units(rt: &HostRuntime, number: usize, counts: &FileCounts) {
+    let units = counts.units();
+    let refused = counts.refused();
+    let damaged = counts.damaged();
+    let _ = eprintln!(rt;
+        "file {number} units: {units}\nfile {number} refused: {refused}\nfile {number} damaged: {damaged}"
+    );
+}
+
 /// Says what was read, in lines of a key and a value. What is said of a file has its number in the
 /// key.
 pub fn tell_summary(
     rt: &HostRuntime,
     outcome: &Result<Summary, ReplayError>,
     inputs: &[Input<'_>],
+    counts: Option<&Counts>,
     workers: usize,
     elapsed: Option<Duration>,
 ) {
     for (i, input) in inputs.iter().enumerate() {
-        tell_file(rt, i.saturating_add(1), input.device());
+        let number = i.saturating_add(1);
+        tell_file(rt, number, input.device());
+        if let (Ok(_), Some(counts)) = (outcome, counts) {
+            if let Some(counts) = counts.of(i) {
+                tell_units(rt, number, counts);
+            }
+        }
     }
     let files = inputs.len();
     let bytes = all_bytes(inputs);

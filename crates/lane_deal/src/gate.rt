@@ -1,5 +1,6 @@
 //! Gates, which are told how a replay goes on.
 
+use mrt_body::Damage;
 use std::marker::Sync;
 
 /// Is told when units are dealt and taken, and returns. Numbers count from 0 in each lane.
@@ -17,6 +18,9 @@ pub trait Gate: Sync {
 
     /// Called after a round, where `is_counting` says so, with the number of routes in the tables of all lanes.
     fn counted(&self, _routes: u64) {}
+
+    /// Called after a run that is whole, once for each listed fault: of a record that was refused, or of a damaged unit.
+    fn listed(&self, _damage: &Damage, _is_refused: bool) {}
 }
 
 /// A gate that does nothing.

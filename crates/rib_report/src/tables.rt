@@ -49,14 +49,14 @@ impl<M: PrefixMap<SharedRoute>> Model for Tables<M> {
 
 impl<M: PrefixMap<SharedRoute>> Tables<M> {
     /// The sessions, by number.
-    pub(crate) fn seats(&self) -> &[Seated<M>]
+    pub fn seats(&self) -> &[Seated<M>]
         ensures { map seat_of result.now ≡ self.now.seats }
     {
         self.seats.as_slice()
     }
 
     /// The refusals, in place order.
-    pub(crate) fn refused(&self) -> &[Damage]
+    pub fn refused(&self) -> &[Damage]
         ensures { result.now ≡ self.now.refused }
     {
         self.refused.as_slice()
