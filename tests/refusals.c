@@ -63,7 +63,7 @@ int main(int n, char **words) {
     memset(told, 0, 64);
     struct ended ended = run(words, &terms);
     int shorter = starts(kind, "short"), hit = told[place + 1] > 0, same = 0, good;
-    int stopped = test ? ended.status == 101 && says(&ended.err, line) : ended.status == 3 && (gone ? !ended.err.length : says(&ended.err, line));
+    int stopped = test ? ended.status == 101 && ends_with(&ended.err, line) : ended.status == 3 && (gone ? !ended.err.length : says(&ended.err, line));
     same = ended.status == whole.status && is_same(&ended.out, &whole.out) && is_same(&ended.err, &whole.err);
     if (shorter) good = same && told[place] > most && (place == READS || told[place] >= (long) whole.out.length);
     else if (!hit || place == THREADS) good = same;

@@ -102,6 +102,13 @@ static inline int says(const struct written *said, const char *line) {
   return 1;
 }
 
+/* Whether the last line is this one. */
+static inline int ends_with(const struct written *said, const char *line) {
+  size_t n = strlen(line);
+  if (said->length <= n || said->bytes[said->length - 1] != '\n' || memcmp(said->bytes + said->length - n - 1, line, n)) return 0;
+  return said->length == n + 1 || said->bytes[said->length - n - 2] == '\n';
+}
+
 static inline void print_words(FILE *to, char **words) { for (; *words; words++) fprintf(to, " %s", *words); }
 
 /* The first line of what was said, for a report. */
