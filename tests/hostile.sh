@@ -7,8 +7,8 @@
 # times the time of n by any report, by 1 or by 4 workers (times under 0.1 s aren't judged; one over the bound is measured again, up to
 # five times, so that a busy machine doesn't count), where 4 workers give other bytes or another status than one, or where a run holds
 # more than 64 MB and PER_BYTE (40) bytes a byte. Of each report ROUNDS (2) runs are made, of which the least time counts. Dumps of the
-# list `scattered` have the bound SCATTERED (3.0): each of their keys falls somewhere else in the tables, which outgrow one cache after the
-# other, so that an insertion takes more cache misses, and not more steps, the larger they are.
+# list `scattered` have the bound SCATTERED (3.0), since they don't keep to RATIO: each of their keys falls somewhere else in the tables, which
+# outgrow one cache after the other (docs/PERFORMANCE.md).
 # Needs cc and awk. The last line is `N passed, M failed`.
 set -u
 program=$(realpath "$1"); shift; here=$(dirname "$(realpath "$0")"); work=$(mktemp -d); trap 'rm -rf "$work"' EXIT
