@@ -6,7 +6,7 @@ PROGRAM = bin/bgp_replay
 BUILT = crates/bgp_replay/out/bgp_replay
 # The program that is tried and packed: another one than the built one can be given, as make scripts BINARY=..
 BINARY ?= $(PROGRAM)
-VERSION = $(shell sed -n 's/^static VERSION: &str = "\([^"]*\)";/\1/p' crates/bgp_replay/src/commands.rt)
+VERSION = $(shell sed -n 's/^static VERSION: &str = "\([^"]*\)";/\1/p' crates/command_line/src/commands.rt)
 ROOT = $(DESTDIR)$(PREFIX)
 DIST ?= dist
 DOCUMENTS = README.md CHANGELOG.md LICENSE docs/ARCHITECTURE.md docs/DECISIONS.md docs/FORMATS.md docs/MODEL.md docs/PERFORMANCE.md docs/PROOFS.md
@@ -31,6 +31,7 @@ help:
 	@echo 'make growths    fails each allocation of the test programs, which say what is left then'
 	@echo 'make same       every number of workers and ring gives the same bytes'
 	@echo 'make fuzz       replays damaged dumps (FILES=800 of them; SAMPLES=DIRECTORY adds dumps to damage)'
+	@echo 'make edits      tries further wrong bodies of each crate: the check must refuse them'
 	@echo 'make hostile    replays dumps that are costly to read, at a size and twice that size'
 	@echo 'make bench      measures the program beside bgpdump and others'
 	@echo 'make install    copies program, manual page, completions and documents to DESTDIR PREFIX (~/.local)'
@@ -88,9 +89,13 @@ scripts: $(BINARY)
 refusals: $(BINARY)
 	tests/refused_growths.sh '$(BINARY)'
 
+# Wrong bodies beside those of the gate.
+edits:
+	tests/edits.sh
+
 # Each growth of the tests that say what a refused one leaves fails in turn. The tests are proved and built first.
 growths:
-	for crate in layer_tests bgp_replay; do (cd crates/$$crate && rt test) || exit 1; done
+	for crate in layer_tests replay_tests; do (cd crates/$$crate && rt test) || exit 1; done
 	tests/growths.sh
 
 same: $(BINARY)
@@ -108,4 +113,4 @@ bench: $(PROGRAM)
 clean:
 	rm -rf bin dist bench/out crates/*/out
 
-.PHONY: all help run check verdict install uninstall dist deb scripts refusals growths same fuzz hostile bench clean
+.PHONY: all help run check verdict edits install uninstall dist deb scripts refusals growths same fuzz hostile bench clean

@@ -15,9 +15,9 @@ tries() { # CRATE TEST..
 {
   tries layer_tests prefixes::a_refused_growth_leaves_the_flat_map prefixes::a_refused_growth_leaves_the_radix_map \
     prefixes::a_refused_growth_leaves_the_shelf ribs::spent_after_a_refused_growth
-  tries bgp_replay tests::growths::growths_of_runs_by_each_dealing tests::growths::growths_of_runs_of_each_request \
-    tests::growths::growths_of_rounds tests::growths::growths_of_a_path tests::growths::growths_of_words \
-    tests::layers::collect_orders_by_number tests::dealings::turns_one_by_one
+  tries replay_tests growths::growths_of_runs_by_each_dealing growths::growths_of_runs_of_each_request \
+    growths::growths_of_rounds growths::growths_of_a_path growths::growths_of_words \
+    layers::collect_orders_by_number dealings::turns_one_by_one
 } > tries
 xargs -P "$(nproc)" -L 1 ./refusals < tries > lines
 grep -v '^tried ' lines

@@ -3,10 +3,9 @@
 ghost use Rattle.std.specs.Io.{ReadsAtMost};
 
 use crate::counts::Counts;
-use crate::kind::{FirstBytes, Kind};
 use crate::progress::{Board, LOOK, ReadSoFar};
-use crate::records::Records;
 use bgp_prefix::Memory;
+use command_line::{FirstBytes, Kind, Records};
 use mrt_frame::Counted;
 use std::fs::File;
 use std::io::{self, BufReader, Read, Stdin};

@@ -4,44 +4,29 @@
 ghost use Rattle.std.specs.Prelude.{◌≤◌};
 ghost use Rattle.lane_deal.specs.Plans.{IsPlan};
 
-mod address;
-mod commands;
 mod counts;
 mod input;
-mod kind;
-mod moment;
-mod mrt_names;
-mod names;
 mod output;
 mod progress;
-mod records;
-mod replay;
-mod replayed;
-mod request;
-mod summary;
 mod telling;
-#[cfg(test)]
-mod tests;
-mod words;
 
 use adj_rib::SharedRoute;
 use bgp_prefix::Shelf;
+use command_line::{Job, Usage, read_words};
 use counts::Counts;
 use input::{Input, OpenError, Watched, open_all};
 use lane_deal::{ByTurns, Plan};
 use mrt_frame::Counted;
+use mrt_replay::{run, status};
 use output::{Report, columns};
 use progress::{Board, Counter};
-use replay::run;
 use std::env::{Env, FillError};
 use std::io::ErrorKind;
 use std::marker::Sync;
 use std::process::ExitCode;
 use std::thread::{Threads, available_parallelism};
 use std::time::{Duration, Instant};
-use summary::status;
 use telling::{tell, tell_memory, tell_open, tell_summary, tell_write};
-use words::{Job, Usage, read_words};
 
 /// How many units are dealt in a round at most.
 const BATCH: u64 = 65_536;

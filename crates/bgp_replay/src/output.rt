@@ -1,8 +1,8 @@
 //! The report's way to standard output.
 
 use crate::progress::Board;
-use crate::request::Request;
 use mrt_frame::Counted;
+use rib_report::Request;
 use std::io::{self, Stdout, Write};
 
 static ROUTE_COLUMNS: &str =

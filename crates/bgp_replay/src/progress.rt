@@ -1,7 +1,7 @@
 //! How far the reading is, on a line of standard error that is rewritten.
 
 use crate::counts::Counts;
-use crate::names::FileName;
+use command_line::FileName;
 use lane_deal::Gate;
 use mrt_body::Damage;
 use std::alloc::{AllocError, Global};

@@ -3,13 +3,11 @@
 
 use crate::counts::{Counts, FileCounts};
 use crate::input::{Dump, Input};
-use crate::kind::Kind;
-use crate::names::FileName;
 use crate::output::Output;
-use crate::records::Records;
-use crate::request::Request;
-use crate::summary::Summary;
+use command_line::{FileName, Kind, Records};
 use mrt_frame::ReplayError;
+use mrt_replay::Summary;
+use rib_report::Request;
 use std::fmt::Display;
 use std::io::{self, ErrorKind};
 use std::time::Duration;

@@ -1,7 +1,6 @@
 //! Tests on records in memory.
 
 mod devices;
-mod dumps;
 mod lines;
 mod rows;
 mod sizes;

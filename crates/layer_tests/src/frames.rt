@@ -135,6 +135,10 @@ fn faults_of_a_rest(rt: HostRuntime) -> Result<(), Fail> {
     expect_broken(&rt, &frames.next(alloc, &mut long)?, 0, Fault::BodyTooLong);
     assert!(rt; frames.next(alloc, &mut long)?.is_none());
     assert!(rt; long.device().len() == 5);
+    // A body of the greatest length that isn't there.
+    let mut longest = Counted::new([0, 0, 0, 1, 0, 16, 0, 4, 1, 0, 0, 0].as_slice());
+    let mut frames = FrameReader::new(0);
+    expect_broken(&rt, &frames.next(alloc, &mut longest)?, 0, Fault::ShortBody);
     Ok(())
 }
 

@@ -6,8 +6,6 @@ mod bodies;
 #[cfg(test)]
 mod frames;
 #[cfg(test)]
-mod hexadecimal;
-#[cfg(test)]
 mod plans;
 #[cfg(test)]
 mod prefixes;

@@ -1,14 +1,14 @@
 //! What units do to a table and to its counts, over both maps.
 
-use crate::hexadecimal::push_digits;
 use adj_rib::{Churn, Session, SharedRoute};
 use bgp_prefix::{Flat, Prefix, PrefixMap, Radix, RouteKey};
-use bgp_update::{NextHop, Width};
-use mrt_body::{Payload, PayloadBytes, PeerAddr, PeerKey, Place, Unit};
+use bgp_update::{AttrError, NextHop, Width};
+use mrt_body::{Payload, PayloadBytes, PeerAddr, PeerKey, Place, Unit, event};
 use mrt_frame::Fault;
 use std::alloc::Global;
 use std::process::Abort;
 use std::test::Fail;
+use test_dumps::push_digits;
 
 /// ORIGIN IGP, AS_PATH 65000, NEXT_HOP 192.0.2.1.
 const PLAIN: &str = "40010100 4002060201 0000FDE8 400304 C0000201";
@@ -338,7 +338,12 @@ fn new_and_damaged(rt: HostRuntime) -> Result<(), Fail> {
     assert!(rt; session.is_up() && !session.is_spent());
     assert!(rt; session.churn().first.is_none() && session.faults().is_empty());
     for name in ["bad-origin", "bad-entry"] {
-        session.take(alloc, &named(alloc, name)?)?;
+        let unit = named(alloc, name)?;
+        match event(alloc, &unit.payload) {
+            Err(AttrError::Bad(fault)) => assert!(rt; fault == Fault::BadAttribute(1), "{name}"),
+            _ => assert!(rt; false, "{name}"),
+        }
+        session.take(alloc, &unit)?;
     }
     assert!(rt; session.faults().len() == 2);
     for damage in session.faults() {

@@ -12,6 +12,7 @@ mod matching;
 mod numbers;
 mod origin;
 mod place;
+mod request;
 mod row;
 mod seen;
 mod short;
@@ -25,6 +26,7 @@ pub use entries::{list_tables, table_rows};
 pub use listed::faults;
 pub use matching::matches;
 pub use origin::origins;
+pub use request::Request;
 pub use row::{ChurnRow, OriginRow, SeenRow, TableRow};
 pub use seen::visibility;
 pub use standing::{

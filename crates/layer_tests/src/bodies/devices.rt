@@ -1,48 +1,14 @@
 //! Readers that give little at a time, that fail, and that never end.
 
-use super::dumps::dump;
 use super::lines::push_found;
 use mrt_body::{Found, Units};
 use mrt_frame::{Counted, Failures, ReplayError};
-use std::io::{self, ErrorKind, Read};
 use std::process::Abort;
 use std::test::Fail;
+use test_dumps::{Dripping, Zeros, dump};
 
 /// Five announcements of three peers, in 385 bytes.
 const THREE_PEERS: &str = "M MB M MC MB";
-
-/// Gives its bytes one a read, and fails in place of the end where it is to.
-#[derive(Drop)]
-struct Dripping<'a> {
-    rest: &'a [u8],
-    fails: bool,
-    asked: u32,
-}
-
-impl<'a> Dripping<'a> {
-    fn new(rest: &'a [u8], fails: bool) -> Counted<Dripping<'a>> {
-        Counted::new(Dripping {
-            rest,
-            fails,
-            asked: 0,
-        })
-    }
-}
-
-impl Read for Dripping<'_> {
-    fn read(&mut self, buf: &mut [u8]) -> io::Result<usize> {
-        self.asked = self.asked.saturating_add(1);
-        match (self.rest.split_first(), buf.first_mut()) {
-            (Some((first, rest)), Some(place)) => {
-                *place = *first;
-                self.rest = rest;
-                Ok(1)
-            }
-            (None, _) if self.fails => Err(io::Error::from(ErrorKind::Interrupted)),
-            _ => Ok(0),
-        }
-    }
-}
 
 #[test]
 fn one_byte_a_read(rt: HostRuntime) -> Result<(), Fail> {
@@ -50,7 +16,7 @@ fn one_byte_a_read(rt: HostRuntime) -> Result<(), Fail> {
     let bytes = dump(alloc, THREE_PEERS)?;
     assert_eq!(rt; bytes.len(), 385);
     let mut text = String::new(alloc);
-    let mut files = [Dripping::new(bytes.as_slice(), false)];
+    let mut files = [Counted::new(Dripping::new(bytes.as_slice(), false))];
     push_found(alloc, &mut text, &mut files, 1000, None)?;
     let expected = "0|0|-|1000000|65000 C0000201|message 45 Four false
 0|77|-|1000000|65000 C0000202|message 45 Four false
@@ -77,7 +43,7 @@ fn every_read_fails(rt: HostRuntime) -> Result<(), Fail> {
     let alloc = rt.alloc();
     let bytes = dump(alloc, THREE_PEERS)?;
     for k in 0..=bytes.len() {
-        let mut files = [Dripping::new(&bytes.as_slice()[..k], true)];
+        let mut files = [Counted::new(Dripping::new(&bytes.as_slice()[..k], true))];
         let mut units = Units::new(1, 1000, None);
         for record in 0..k / 77 {
             assert!(rt; units.count() == 1);
@@ -105,8 +71,8 @@ fn the_second_file_fails_at_once(rt: HostRuntime) -> Result<(), Fail> {
     let alloc = rt.alloc();
     let bytes = dump(alloc, "M")?;
     let mut files = [
-        Dripping::new(bytes.as_slice(), false),
-        Dripping::new(&[], true),
+        Counted::new(Dripping::new(bytes.as_slice(), false)),
+        Counted::new(Dripping::new(&[], true)),
     ];
     let mut units = Units::new(2, 1000, None);
     assert!(rt; units.count() == 2);
@@ -115,17 +81,6 @@ fn the_second_file_fails_at_once(rt: HostRuntime) -> Result<(), Fail> {
     expect_read(&rt, units.next(alloc, &mut files), 1);
     assert_eq!(rt; files[0].failures(), 0);
     Ok(())
-}
-
-/// Gives zeros for ever.
-#[derive(Drop)]
-struct Zeros;
-
-impl Read for Zeros {
-    fn read(&mut self, buf: &mut [u8]) -> io::Result<usize> {
-        buf.fill(0);
-        Ok(buf.len())
-    }
 }
 
 #[test]

@@ -57,6 +57,23 @@ pub fn push_line(alloc: Global, text: &mut String, found: &Found) -> Result<(), 
     Ok(())
 }
 
+/// Adds a line where something comes behind the end.
+fn push_more<R: Source>(
+    alloc: Global,
+    text: &mut String,
+    units: &mut Units,
+    files: &mut [R],
+) -> Result<(), Fail> {
+    if units.count() != files.len() {
+        return Ok(());
+    }
+    match units.next(alloc, files) {
+        Ok(None) => {}
+        _ => text.push_str("more behind the end\n")?,
+    }
+    Ok(())
+}
+
 /// Adds what the units of files give up to the end or an error, a line each, and then a line of the
 /// counts.
 pub fn push_found<R: Source>(
@@ -76,7 +93,10 @@ pub fn push_found<R: Source>(
         }
         match units.next(alloc, files) {
             Ok(Some(found)) => push_line(alloc, text, &found)?,
-            Ok(None) => break,
+            Ok(None) => {
+                push_more(alloc, text, &mut units, files)?;
+                break;
+            }
             Err(error) => {
                 let line = format!(in alloc; "{error:?}\n")?;
                 text.push_str(line.as_str())?;

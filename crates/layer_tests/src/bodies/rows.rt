@@ -1,11 +1,11 @@
 //! Rows that stand as text: what files hold, and what they give.
 
-use super::dumps::dump;
 use super::lines::push_found;
 use mrt_frame::Counted;
 use std::alloc::Global;
 use std::process::Abort;
 use std::test::Fail;
+use test_dumps::dump;
 
 /// A row as far as it was read.
 #[derive(Drop)]

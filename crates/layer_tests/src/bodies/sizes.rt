@@ -1,12 +1,12 @@
 //! Cut bodies, and the greatest ones.
 
-use super::dumps::dump;
 use super::lines::push_found;
 use mrt_body::{Found, Payload, Units};
 use mrt_frame::Counted;
 use std::alloc::Global;
 use std::process::Abort;
 use std::test::Fail;
+use test_dumps::dump;
 
 /// Bodies in hexadecimal digits with the type and the subtype of their record, and how many of their
 /// first bytes are read. A front is refused: with fewer bytes as ShortRecord, but for a RIB record's

@@ -4,7 +4,6 @@ ghost use Rattle.std.specs.Prelude.{◌≡◌, ◌≢◌, [], ◌∷◌, IfOk, m
 ghost use Rattle.std.specs.List.{IsDistinct};
 ghost use Rattle.rib_report.specs.Gathers.{gathered_seats};
 
-use crate::hexadecimal::push_digits;
 use adj_rib::{Session, SharedRoute};
 use bgp_prefix::{PrefixMap, Sequence};
 use bgp_update::Width;
@@ -12,6 +11,7 @@ use mrt_body::{Damage, Payload, PayloadBytes, PeerAddr, PeerKey, Place, Unit};
 use rib_report::{Gathered, Seated, Tables, collect};
 use std::alloc::Global;
 use std::test::Fail;
+use test_dumps::push_digits;
 
 /// A message of a peer: its form, and its bytes as words (`push_word`).
 #[derive(Clone, Copy)]
@@ -32,7 +32,8 @@ fn push_word(bytes: &mut Vec<u8>, word: &str) -> Result<(), Fail> {
         "A4" => "4001010040020602010000FDE8400304C0000201",
         _ => word,
     };
-    push_digits(bytes, digits)
+    push_digits(bytes, digits)?;
+    Ok(())
 }
 
 fn message(alloc: Global, said: Said<'_>) -> Result<Payload, Fail> {

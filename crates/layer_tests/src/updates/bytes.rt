@@ -1,12 +1,12 @@
 //! Messages as hexadecimal text, and their readings. A message is what stands behind its header.
 
-use crate::hexadecimal::push_digits;
 use bgp_prefix::RouteKey;
 use bgp_update::*;
 use mrt_frame::Fault;
 use std::alloc::Global;
 use std::process::Abort;
 use std::test::Fail;
+use test_dumps::push_digits;
 
 /// Announces 10.0.0.0/8: ORIGIN IGP, AS_PATH sequence 65000, NEXT_HOP 192.0.2.1.
 pub const ANNOUNCE: &str = "0000 0014 40010100 4002060201 0000FDE8 400304 C0000201 080A";

@@ -1,0 +1,12 @@
+-- Why words give no job.
+use Rattle.std.specs.Prelude.{string_bytes}
+use Rattle.command_line.specs.declared.words.Usage.{Usage}
+use Rattle.command_line.specs.declared.words.Usage.TheVariants.{Help, Words, Address, Memory}
+use Rattle.command_line.specs.Addresses.{IsNoAddress}
+
+-- a text is told as none for an address only where it is none
+abbrev pub IsRefusal : Usage → Type 0
+IsRefusal (Help text) = Unit {0}
+IsRefusal (Words text) = Unit {0}
+IsRefusal (Address text) = IsNoAddress (string_bytes text)
+IsRefusal Memory = Unit {0}

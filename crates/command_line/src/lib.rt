@@ -1,0 +1,19 @@
+//! What the command line asks for, and the names by which the program tells of files and records.
+#![tactic(auto)]
+
+mod address;
+mod commands;
+mod kind;
+mod moment;
+mod mrt_names;
+mod names;
+mod records;
+mod words;
+
+pub use address::read_address;
+pub use kind::{FirstBytes, Kind};
+pub use moment::read_second;
+pub use mrt_names::RecordKind;
+pub use names::FileName;
+pub use records::{Aside, Records};
+pub use words::{Job, Usage, read_words};

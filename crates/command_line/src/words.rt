@@ -1,0 +1,194 @@
+//! The words of the command line.
+
+ghost use Rattle.std.specs.Prelude.{◌≡◌, ◌<◌, ◌≤◌, IfErr, IfOk, vec_len};
+ghost use Rattle.command_line.specs.Addresses.{IsAddress};
+ghost use Rattle.command_line.specs.Words.{IsRefusal};
+ghost use Rattle.command_line.specs.declared.words.Usage.TheVariants.{Memory};
+
+use crate::address::read_address;
+use crate::commands::command;
+use crate::moment::read_second;
+use clap::error::ErrorKind;
+use clap::{ArgMatches, Error};
+use rib_report::Request;
+use std::alloc::{AllocError, AllocFailed, Global};
+
+static WORKERS_DEFAULT: usize = 4;
+
+static RING_DEFAULT: usize = 1024;
+
+/// What the words ask for.
+#[derive(Drop)]
+pub struct Job {
+    pub request: Request,
+    /// 1 to 64; 4 where the words leave it open.
+    pub workers: usize,
+    /// Whether the words say how many workers.
+    pub has_workers: bool,
+    /// 1 to 65,536.
+    pub ring: usize,
+    /// A second since 1970 UTC.
+    pub until: Option<u64>,
+    /// Whether the columns' names come first.
+    pub header: bool,
+    /// Whether standard error says what was read.
+    pub summary: bool,
+    /// Whether standard error shows how far the reading is.
+    pub progress: bool,
+    /// At least one; `-` is standard input.
+    pub files: Vec<String>,
+    ghost workers_in: { (1 ≤ workers) × (workers ≤ 64) },
+    ghost ring_in: { (1 ≤ ring) × (ring ≤ 65536) },
+    ghost some_file: { 0 < vec_len files },
+}
+
+/// Why there is no job.
+#[derive(Drop)]
+pub enum Usage {
+    /// Help or the version was asked for: its text, for standard output.
+    Help(String),
+    /// Bad arguments: why, for standard error.
+    Words(String),
+    /// The word for an address is none.
+    Address(String),
+    /// An allocation failed.
+    Memory,
+}
+
+impl From<AllocError> for Usage {
+    ghost from_gives = { λ _ usage. usage ≡ Memory };
+
+    fn from(_error: AllocError) -> Usage {
+        Usage::Memory
+    }
+}
+
+impl<T: Drop> From<AllocFailed<T>> for Usage {
+    ghost from_gives = { λ _ usage. usage ≡ Memory };
+
+    fn from(_error: AllocFailed<T>) -> Usage {
+        Usage::Memory
+    }
+}
+
+/// The number of the address that the words name.
+fn address_of(alloc: Global, text: &str) -> Result<u32, Usage>
+    ensures number { IfOk result (IsAddress text.now) }
+    ensures refusal { IfErr result IsRefusal }
+{
+    match read_address(text) {
+        Some(address) => Ok(address),
+        None => Err(Usage::Address(String::from_str(alloc, text)?)),
+    }
+}
+
+/// The report of a command's name.
+fn request_of(alloc: Global, name: &str, matches: &ArgMatches<'_>) -> Result<Request, Usage>
+    ensures { IfErr result IsRefusal }
+{
+    match name {
+        "visibility" => Ok(Request::Visibility),
+        "origins" => Ok(Request::Origins),
+        "churn" => Ok(Request::Churn),
+        "faults" => Ok(Request::Faults),
+        "match" => {
+            let text = matches.get_str("address").unwrap_or("");
+            Ok(Request::Match(address_of(alloc, text)?))
+        }
+        _ => Ok(Request::Tables),
+    }
+}
+
+/// Words that the parser lets through and no job has.
+fn refused(alloc: Global, text: &str) -> Result<Job, Usage>
+    ensures { IfErr result IsRefusal }
+{
+    Err(Usage::Words(String::from_str(alloc, text)?))
+}
+
+/// The second that `--until` names, where it is given.
+fn until_of(alloc: Global, matches: &ArgMatches<'_>) -> Result<Option<u64>, Usage>
+    ensures { IfErr result IsRefusal }
+{
+    let Some(text) = matches.get_str("until") else {
+        return Ok(None);
+    };
+    match read_second(text) {
+        Some(second) => Ok(Some(second)),
+        None => Err(Usage::Words(format!(in alloc;
+            "error: invalid value '{text}' for '--until <TIME>': neither seconds since 1970 UTC, as 1704070800, nor a date and time with its offset from UTC, as 2024-01-01T01:00:00Z or 2024-01-01T02:00:00+01:00\n"
+        )?)),
+    }
+}
+
+fn files_of(alloc: Global, matches: &ArgMatches<'_>) -> Result<Vec<String>, Usage>
+    ensures { IfErr result IsRefusal }
+{
+    let mut files = Vec::new(alloc);
+    if let Some(names) = matches.get_strs("file") {
+        for file in names {
+            files.push(String::from_str(alloc, file)?)?;
+        }
+    }
+    Ok(files)
+}
+
+fn job_of(alloc: Global, name: &str, matches: &ArgMatches<'_>) -> Result<Job, Usage>
+    ensures { IfErr result IsRefusal }
+{
+    let request = request_of(alloc, name, matches)?;
+    let until = until_of(alloc, matches)?;
+    let files = files_of(alloc, matches)?;
+    let given = matches.get_one::<usize>("workers");
+    let workers = given.unwrap_or(WORKERS_DEFAULT);
+    let ring = matches.get_one::<usize>("ring").unwrap_or(RING_DEFAULT);
+    if !(1..=64).contains(&workers) {
+        return refused(alloc, "error: --workers is not in 1..=64\n");
+    }
+    if !(1..=65_536).contains(&ring) {
+        return refused(alloc, "error: --ring is not in 1..=65536\n");
+    }
+    if files.is_empty() {
+        return refused(alloc, "error: no file\n");
+    }
+    Ok(Job {
+        request,
+        workers,
+        has_workers: given.is_some(),
+        ring,
+        until,
+        header: matches.get_flag("header"),
+        summary: matches.get_flag("summary"),
+        progress: matches.get_flag("progress"),
+        files,
+    })
+}
+
+/// What a refused parse, or one that asks for help, is to the caller.
+fn usage_of(alloc: Global, error: &Error) -> Usage
+    ensures { IsRefusal result }
+{
+    if error.kind() == ErrorKind::OutOfMemory {
+        return Usage::Memory;
+    }
+    match error.to_string(alloc) {
+        Ok(text) if error.use_stderr() => Usage::Words(text),
+        Ok(text) => Usage::Help(text),
+        Err(_) => Usage::Memory,
+    }
+}
+
+/// The job that the words after the program's name ask for. A parse that is refused is told before
+/// the address is looked at.
+pub fn read_words(alloc: Global, words: &[String]) -> Result<Job, Usage>
+    ensures { IfErr result IsRefusal }
+{
+    let matches = match command(alloc)?.try_get_matches_from(words) {
+        Ok(matches) => matches,
+        Err(error) => return Err(usage_of(alloc, &error)),
+    };
+    match matches.subcommand() {
+        Some((name, below)) => job_of(alloc, name, below),
+        None => refused(alloc, "error: no command\n"),
+    }
+}

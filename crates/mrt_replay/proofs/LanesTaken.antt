@@ -1,0 +1,45 @@
+-- What a replayer took, for a replay by lanes: its rounds take what came, as seats do.
+use Rattle.std.proofs.Common.{◌≡◌, ℕ, List, [], ◌++◌, Option, Some, None, refl, sym, ap, ◌∙◌, subst, append_assoc}
+use Rattle.std.specs.Prelude.{option_to_list}
+use Rattle.std.specs.List.{filter_map}
+use Rattle.std.proofs.lemmas.List.{append-nil}
+use Rattle.std.proofs.lemmas.List.Elements.{filter_map-append}
+use Rattle.mrt_body.specs.declared.unit.Damage.{Damage}
+use Rattle.mrt_body.specs.declared.unit.Found.{Found}
+use Rattle.mrt_body.specs.declared.unit.Unit.{Unit as ReplayUnit}
+use Rattle.mrt_body.specs.Units.{unit_of, damage_of}
+use Rattle.lane_deal.specs.Replayers.{ReplayerState, ReplayerStandsFor}
+use Rattle.lane_deal.specs.Rounds.{PlaysRound}
+use Rattle.lane_deal.specs.Kept.{to_deal}
+use Rattle.mrt_replay.specs.Replays.{DealtAll}
+
+pub units_to_deal : (kept : Option ReplayUnit) (items : List Found) → filter_map unit_of (to_deal kept items) ≡ option_to_list kept ++ filter_map unit_of items
+units_to_deal None items = refl
+units_to_deal (Some unit) items = refl
+
+refused_to_deal : (kept : Option ReplayUnit) (items : List Found) → filter_map damage_of (to_deal kept items) ≡ filter_map damage_of items
+refused_to_deal None items = refl
+refused_to_deal (Some unit) items = refl
+
+-- a round that dealt and listed these of what came
+pub played_took : (dealing : ℕ → ℕ → ℕ) (capacity : ℕ) (old new : ReplayerState) (items done : List Found) → PlaysRound dealing capacity old new items [] done
+    → (units : List ReplayUnit) (refused : List Damage) → DealtAll dealing capacity old units refused → DealtAll dealing capacity new (units ++ filter_map unit_of items) (refused ++ filter_map damage_of items)
+played_took dealing capacity old new items done p units refused h =
+    let units_are : option_to_list old.kept ++ filter_map unit_of items ≡ filter_map unit_of done ++ option_to_list new.kept =
+    sym (units_to_deal old.kept items) ∙ ap (filter_map unit_of) p.order ∙ filter_map-append unit_of done (to_deal new.kept [])
+    ∙ ap (λ l. filter_map unit_of done ++ l) (units_to_deal new.kept [] ∙ append-nil (option_to_list new.kept)) in
+    let refused_are : filter_map damage_of items ≡ filter_map damage_of done =
+    sym (refused_to_deal old.kept items) ∙ ap (filter_map damage_of) p.order ∙ filter_map-append damage_of done (to_deal new.kept [])
+    ∙ ap (λ l. filter_map damage_of done ++ l) (refused_to_deal new.kept []) ∙ append-nil (filter_map damage_of done) in
+    record {
+      dealt = h.dealt ++ filter_map unit_of done;
+      whole = ap (λ l. l ++ filter_map unit_of items) h.whole ∙ append_assoc h.dealt (option_to_list old.kept) (filter_map unit_of items) ∙ ap (λ l. h.dealt ++ l) units_are
+          ∙ sym (append_assoc h.dealt (filter_map unit_of done) (option_to_list new.kept));
+      stands = subst (λ l. ReplayerStandsFor dealing capacity (h.dealt ++ filter_map unit_of done) l new) (ap (λ l. refused ++ l) (sym refused_are)) (p.stands h.dealt refused h.stands);
+    }
+
+-- where nothing is kept, all was dealt
+pub all_dealt : (dealing : ℕ → ℕ → ℕ) (capacity : ℕ) (r : ReplayerState) (units : List ReplayUnit) (refused : List Damage) → r.kept ≡ None → DealtAll dealing capacity r units refused → ReplayerStandsFor dealing capacity units refused r
+all_dealt dealing capacity r units refused none h =
+    let all : h.dealt ≡ units = sym (h.whole ∙ ap (λ k. h.dealt ++ option_to_list k) none ∙ append-nil h.dealt) in
+    subst (λ l. ReplayerStandsFor dealing capacity l refused r) all h.stands

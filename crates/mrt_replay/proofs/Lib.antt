@@ -1,0 +1,8 @@
+pub mod Dumps
+pub mod Examples
+pub mod FilesTaken
+pub mod HeadlineLaws
+pub mod LanesTaken
+pub mod ReportLaws
+pub mod RoundsTaken
+pub mod RunLaws

@@ -1,0 +1,93 @@
+use Rattle.std.proofs.Common.{sym, ap, ◌∙◌, subst, Err, map, refl}
+use Rattle.std.proofs.KnownBytes.{Keeps-refl, Appends-kept}
+use Rattle.std.specs.Io.KnownBytes.{Appends, Keeps}
+use Rattle.mrt_body.specs.Units.{units_of, refused_of}
+use Rattle.mrt_frame.specs.Writes.{WritesFront}
+use Rattle.mrt_frame.specs.declared.error.ReplayError.TheVariants as errors
+use Rattle.mrt_replay.specs.Headline.{RunState}
+use Rattle.mrt_replay.proofs.HeadlineLaws.{stopped}
+use Rattle.mrt_replay.specs.Reports.{lines_of}
+use Rattle.mrt_replay.proofs.RunLaws.{lines_are_report, damaged_counted, peers_counted, routes_counted, flush_failed, front_whole, stops_writing, stops_reading}
+use Rattle.mrt_replay.proofs.replay.run.Goals as goal
+
+pub returns-in-Err-clause-promised : goal.returns-in-Err-clause-promised
+returns-in-Err-clause-promised g c =
+    let run : RunState = record {
+      request = c.args.request.now;
+      plan = c.args.plan.now;
+      told = map g.R.Source.remaining c.args.files.now;
+      held = g.W.Sink.contents c.args.out.now;
+      held_after = g.W.Sink.contents c.args.out.now;
+      readers = map g.R.Failures.failure_count c.args.files.now;
+      readers_after = map g.R.Failures.failure_count c.replay.new.files;
+      writer = g.W.Failures.failure_count c.args.out.now;
+      writer_after = g.W.Failures.failure_count c.args.out.now;
+      result = Err c.in-Err.error;
+    } in
+    stopped run c.in-Err.error refl (stops_reading run c.in-Err.error refl c.in-Err.ensures.cause)
+
+pub returns-in-Err-write_report-clause-promised : goal.returns-in-Err-write_report-clause-promised
+returns-in-Err-write_report-clause-promised g c =
+    let request = c.args.request.now in
+    let tables = c.in-Ok.replayed.tables in
+    let error = c.in-Err-write_report.error in
+    let h = c.in-Err-write_report.ensures in
+    let run : RunState = record {
+      request = request;
+      plan = c.args.plan.now;
+      told = map g.R.Source.remaining c.args.files.now;
+      held = g.W.Sink.contents c.args.out.now;
+      held_after = g.W.Sink.contents c.write_report.new.out;
+      readers = map g.R.Failures.failure_count c.args.files.now;
+      readers_after = map g.R.Failures.failure_count c.replay.new.files;
+      writer = g.W.Failures.failure_count c.args.out.now;
+      writer_after = g.W.Failures.failure_count c.write_report.new.out;
+      result = Err error;
+    } in
+    stopped run error refl (stops_writing run error h.errors
+    (λ s. subst (λ o. Keeps (g.W.Sink.contents c.args.out.now) (g.W.Sink.contents o)) (sym (h.untouched (ap (λ x. Err x) s))) (Keeps-refl (g.W.Sink.contents c.args.out.now)))
+    (λ s. h.risen (ap (λ x. Err x) s))
+    (λ files honest s. subst (WritesFront (g.W.Sink.contents c.args.out.now) (g.W.Sink.contents c.write_report.new.out)) (lines_are_report request c.args.plan.now.until files tables (c.in-Ok.ensures.replayed files honest.readers_tell).stands) (h.front (ap (λ x. Err x) s))))
+
+pub returns-then-is_err-clause-promised : goal.returns-then-is_err-clause-promised
+returns-then-is_err-clause-promised g c =
+    let wrote = Appends-kept (g.W.Sink.contents c.args.out.now) (g.W.Sink.contents c.write_report.new.out) (g.W.Sink.contents c.flush_all.new.self) (lines_of c.args.request.now c.in-Ok.replayed.tables) c.in_default.ensures.ok c.flush_all.ensures.bytes in
+    let run : RunState = record {
+      request = c.args.request.now;
+      plan = c.args.plan.now;
+      told = map g.R.Source.remaining c.args.files.now;
+      held = g.W.Sink.contents c.args.out.now;
+      held_after = g.W.Sink.contents c.flush_all.new.self;
+      readers = map g.R.Failures.failure_count c.args.files.now;
+      readers_after = map g.R.Failures.failure_count c.replay.new.files;
+      writer = g.W.Failures.failure_count c.args.out.now;
+      writer_after = g.W.Failures.failure_count c.flush_all.new.self;
+      result = Err errors.Write;
+    } in
+    stopped run errors.Write refl (
+      flush_failed c.flush_all.result _ _ _ c.in_default.ensures.sound (sym c.is_err.ensures.value ∙ c.if-is_err.true) c.flush_all.ensures.counted,
+      λ files honest. front_whole _ _ _ (subst (Appends (g.W.Sink.contents c.args.out.now) (g.W.Sink.contents c.flush_all.new.self)) (lines_are_report c.args.request.now c.args.plan.now.until files c.in-Ok.replayed.tables (c.in-Ok.ensures.replayed files honest.readers_tell).stands) wrote),
+    )
+
+pub returns-clause-promised : goal.returns-clause-promised
+returns-clause-promised g c = record {
+  headline = λ files honest.
+      let p = c.in-Ok.ensures.replayed files honest.readers_tell in
+      let until = c.args.plan.now.until in
+      let tables = c.in-Ok.replayed.tables in
+      let wrote = Appends-kept (g.W.Sink.contents c.args.out.now) (g.W.Sink.contents c.write_report.new.out) (g.W.Sink.contents c.flush_all.new.self) (lines_of c.args.request.now tables) c.in_default.ensures.ok c.flush_all.ensures.bytes in
+      record {
+        written = subst (Appends (g.W.Sink.contents c.args.out.now) (g.W.Sink.contents c.flush_all.new.self)) (lines_are_report c.args.request.now until files tables p.stands) wrote;
+        counted = record {
+          records = p.records_counted;
+          units = p.units_counted;
+          aside = p.aside_counted;
+          damaged = damaged_counted until files tables c.damaged.result p.stands c.damaged.ensures;
+          routes = routes_counted until files tables c.routes.result p.stands c.routes.ensures;
+          peers = peers_counted (units_of until files) (refused_of until files) tables c.peers.result p.stands c.peers.ensures;
+          rounds = p.few_rounds;
+        };
+      };
+  cause = tt;
+  completes = λ files honest sound within. tt;
+}

@@ -1,0 +1,65 @@
+-- The headline: what a run that completes has done, and why one doesn't. The contract of `run` names these.
+use Rattle.std.specs.Prelude.{◌≡◌, ℕ, ◌<◌, List, Option, Result, IfOk, IfErr, length, slice_index}
+use Rattle.std.specs.Io.KnownBytes.{Appends, Keeps}
+use Rattle.mrt_frame.specs.Devices.{HasFailed}
+use Rattle.mrt_frame.specs.Writes.{WritesFront}
+use Rattle.mrt_frame.specs.declared.error.ReplayError.{ReplayError}
+use Rattle.mrt_frame.specs.declared.error.ReplayError.TheVariants as errors
+use Rattle.lane_deal.specs.declared.plan.Plan.{Plan}
+use Rattle.rib_report.specs.declared.request.Request.{Request}
+use Rattle.mrt_replay.specs.declared.summary.Summary.{Summary}
+use Rattle.mrt_replay.specs.Reports.{report, IsSummary}
+use Rattle.mrt_replay.specs.Premises.{AreSound, AreWithin, AreHonest}
+
+-- What a run is given, and what it leaves: the bytes that the readers tell, those that the writer holds, and how often each failed.
+pub record RunState : Type 0 where
+  pub request : Request
+  pub plan : Plan
+  pub told : List (Option (List ℕ))
+  pub held : Option (List ℕ)
+  pub held_after : Option (List ℕ)
+  pub readers : List ℕ
+  pub readers_after : List ℕ
+  pub writer : ℕ
+  pub writer_after : ℕ
+  pub result : Result Summary ReplayError
+
+-- ---- a run that completes
+
+-- It wrote byte for byte the report that is defined over the records alone, and counted them.
+pub record IsReplayed (run : RunState) (files : List (List ℕ)) (summary : Summary) : Type 0 where
+  pub written : Appends run.held run.held_after (report run.request run.plan.until files)
+  pub counted : IsSummary run.plan files summary
+
+-- For every list of files, every plan and every dealing, a run that completes has replayed them.
+abbrev pub Headline : RunState → Type 0
+Headline run = (files : List (List ℕ)) → AreHonest run.told files → IfOk run.result (IsReplayed run files)
+
+-- ---- a run that doesn't
+
+-- Why it stops, and what it leaves: nothing written, or a front of the report. What is said of the bytes is said of honest devices;
+-- that a device failed is said of all.
+abbrev pub IsStopped : RunState → ReplayError → Type 0
+IsStopped run (errors.Read file) = (file < length run.readers) × HasFailed (slice_index run.readers file) (slice_index run.readers_after file) × Keeps run.held run.held_after
+IsStopped run errors.Write = HasFailed run.writer run.writer_after × ((files : List (List ℕ)) → AreHonest run.told files → WritesFront run.held run.held_after (report run.request run.plan.until files))
+IsStopped run errors.Memory = Keeps run.held run.held_after
+IsStopped run errors.Records = ((files : List (List ℕ)) → AreHonest run.told files → AreWithin run.plan.max_records files → ⊥) × Keeps run.held run.held_after
+IsStopped run errors.Spent = ⊥
+
+-- A run that answers an error has its cause.
+abbrev pub StopsWithCause : RunState → Type 0
+StopsWithCause run = IfErr run.result (IsStopped run)
+
+-- With sound devices and records within the limit a run completes, unless it wants memory.
+abbrev pub Completes : RunState → Type 0
+Completes run =
+    (files : List (List ℕ)) → AreHonest run.told files → AreSound run.readers run.readers_after run.writer run.writer_after → AreWithin run.plan.max_records files
+    → IfErr run.result (λ error. error ≡ errors.Memory)
+
+-- ---- all of it
+
+-- What is promised of every run, whatever came of it.
+pub record IsPromised (run : RunState) : Type 0 where
+  pub headline : Headline run
+  pub cause : StopsWithCause run
+  pub completes : Completes run

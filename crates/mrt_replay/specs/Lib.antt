@@ -1,0 +1,5 @@
+pub mod Headline
+pub mod Premises
+pub mod Replays
+pub mod Reports
+pub mod Statuses

@@ -1,0 +1,46 @@
+-- The report of a request on the records of files, and what a run counts.
+use Rattle.std.specs.Prelude.{◌≡◌, ℕ, ◌+◌, ◌*◌, ◌/◌, ◌≤◌, List, Option, length}
+use Rattle.std.specs.List.{flat_map}
+use Rattle.mrt_body.specs.declared.unit.Damage.{Damage}
+use Rattle.mrt_body.specs.declared.unit.Unit.{Unit as ReplayUnit}
+use Rattle.mrt_body.specs.Units.{units_of, refused_of, records_of, aside_of}
+use Rattle.adj_rib.specs.Churns.{stopped}
+use Rattle.rib_report.specs.Peers.{peers_of}
+use Rattle.rib_report.specs.Tables.{TablesState, tables_of}
+use Rattle.rib_report.specs.Reports.{route_rows, match_rows, visibility_rows, origin_rows, churn_rows, fault_rows}
+use Rattle.rib_report.specs.Lines.{route_line, visibility_line, origin_line, churn_line, fault_line}
+use Rattle.lane_deal.specs.declared.plan.Plan.{Plan}
+use Rattle.rib_report.specs.declared.request.Request.{Request}
+use Rattle.rib_report.specs.declared.request.Request.TheVariants as request
+use Rattle.mrt_replay.specs.declared.summary.Summary.{Summary}
+
+-- the lines of a request's rows
+abbrev pub lines_of : Request → TablesState → List ℕ
+lines_of request.Tables tables = flat_map route_line (route_rows tables)
+lines_of request.Visibility tables = flat_map visibility_line (visibility_rows tables)
+lines_of request.Origins tables = flat_map origin_line (origin_rows tables)
+lines_of request.Churn tables = flat_map churn_line (churn_rows tables)
+lines_of (request.Match addr) tables = flat_map route_line (match_rows tables addr)
+lines_of request.Faults tables = flat_map fault_line (fault_rows tables)
+
+-- the text of a request about units and refusals
+unfoldable pub text : Request → List ReplayUnit → List Damage → List ℕ
+text request units refused = lines_of request (tables_of units refused)
+
+-- the report on files, with the last second that counts: workers, ring, batch, looks and dealing have no part in it
+unfoldable pub report : Request → Option ℕ → List (List ℕ) → List ℕ
+report request until files = text request (units_of until files) (refused_of until files)
+
+-- all faults that are listed
+abbrev pub listed_faults : Option ℕ → List (List ℕ) → List Damage
+listed_faults until files = fault_rows (tables_of (units_of until files) (refused_of until files))
+
+-- What a run over files counts. A round that deals fills a ring, deals a batch or is the last one, and one more settles.
+pub record IsSummary (plan : Plan) (files : List (List ℕ)) (s : Summary) : Type 0 where
+  pub records : s.records ≡ records_of files
+  pub units : s.units ≡ length (units_of plan.until files)
+  pub aside : s.aside ≡ aside_of files
+  pub damaged : s.damaged ≡ stopped (length (listed_faults plan.until files))
+  pub peers : s.peers ≡ length (peers_of (units_of plan.until files))
+  pub routes : s.routes ≡ stopped (length (route_rows (tables_of (units_of plan.until files) (refused_of plan.until files))))
+  pub rounds : s.rounds ≤ 2 * s.units / plan.ring + s.units / plan.batch + 2

@@ -1,0 +1,127 @@
+//! The replay of dumps into a report.
+
+ghost use Rattle.std.specs.Prelude.{◌≡◌, ◌⊎◌, Err, IfErr, OnOk, map};
+ghost use Rattle.std.specs.Io.KnownBytes.{Appends};
+ghost use Rattle.mrt_frame.specs.Devices.{HasFailed};
+ghost use Rattle.mrt_frame.specs.Writes.{WritesFront};
+ghost use Rattle.mrt_frame.specs.declared.error.ReplayError.TheVariants as errors;
+ghost use Rattle.lane_deal.specs.Plans.{IsPlan};
+ghost use Rattle.mrt_replay.specs.Headline.{IsPromised};
+ghost use Rattle.mrt_replay.specs.Reports.{lines_of};
+
+use crate::replayed::replay;
+use crate::summary::Summary;
+use adj_rib::SharedRoute;
+use bgp_prefix::PrefixMap;
+use lane_deal::{Dealing, Gate, Plan};
+use mrt_frame::{ReplayError, Sink, Source};
+use rib_report::{
+    Request, Tables, churn, faults, list_tables, matches, origins, visibility, write_churn,
+    write_faults, write_origins, write_rows, write_visibility,
+};
+use std::alloc::Global;
+use std::marker::Sync;
+use std::mem;
+use std::thread::Threads;
+
+/// Replays the files in order and writes the report on them, and then flushes the writer once.
+///
+/// Nothing is written before the last record was read and the report's rows are made, so `Read`,
+/// `Memory` and `Records` leave nothing written; `Write` leaves a front of the report. Workers, ring,
+/// batch and dealing have no part in what is written.
+pub fn run<M, T, R, W, D, G>(
+    rt: &T,
+    alloc: Global,
+    files: &mut [R],
+    request: &Request,
+    plan: &Plan,
+    dealing: &D,
+    gate: &G,
+    out: &mut W,
+) -> Result<Summary, ReplayError>
+where
+    M: PrefixMap<SharedRoute> + Send + Drop,
+    T: Threads + Sync,
+    R: Source + Send,
+    W: Sink,
+    D: Dealing + Sync,
+    G: Gate,
+    requires { IsPlan plan.now }
+    // A run that completes wrote the report on the files' bytes, byte for byte, and counted them. An error has
+    // its cause, and leaves nothing written, or a front of the report. With sound devices and records within
+    // the limit it completes, unless it wants memory.
+    ensures promised { IsPromised (record {
+      request = request.now;
+      plan = plan.now;
+      told = map R.remaining files.old;
+      held = W.contents out.old;
+      held_after = W.contents out.new;
+      readers = map R.failure_count files.old;
+      readers_after = map R.failure_count files.new;
+      writer = W.failure_count out.old;
+      writer_after = W.failure_count out.new;
+      result = result;
+    }) }
+    // Any error but that of the writer leaves it untouched.
+    ensures untouched { IfErr result (λ e. (e ≡ errors.Write → ⊥) → out.new ≡ out.old) }
+{
+    let replayed = match replay::<M, T, R, D, G>(rt, alloc, files, plan, dealing, gate) {
+        Ok(replayed) => replayed,
+        Err(error) => return Err(error),
+    };
+    if let Err(error) = write_report(alloc, request, &replayed.tables, out) {
+        return Err(error);
+    }
+    if out.flush_all().is_err() {
+        return Err(ReplayError::Write);
+    }
+    tell_faults(gate, &replayed.tables);
+    let summary = Summary {
+        records: replayed.records,
+        units: replayed.units,
+        aside: replayed.aside,
+        damaged: replayed.tables.damaged(),
+        rounds: replayed.rounds,
+        peers: replayed.tables.peers(),
+        routes: replayed.tables.routes(),
+    };
+    // Tables aren't taken apart route by route, since the process ends after the run (docs/DECISIONS.md).
+    mem::forget(replayed);
+    Ok(summary)
+}
+
+/// Tells the gate each listed fault.
+fn tell_faults<M: PrefixMap<SharedRoute>, G: Gate>(gate: &G, tables: &Tables<M>) {
+    for damage in tables.refused() {
+        gate.listed(damage, true);
+    }
+    for seat in tables.seats() {
+        for damage in seat.session.faults() {
+            gate.listed(damage, false);
+        }
+    }
+}
+
+/// Writes the report that is asked for.
+fn write_report<M: PrefixMap<SharedRoute> + Drop, W: Sink>(
+    alloc: Global,
+    request: &Request,
+    tables: &Tables<M>,
+    out: &mut W,
+) -> Result<(), ReplayError>
+    ensures ok { OnOk result (Appends (W.contents out.old) (W.contents out.new) (lines_of request.now tables.now)) }
+    ensures sound { OnOk result (W.failure_count out.new ≡ W.failure_count out.old) }
+    ensures errors { IfErr result (λ e. (e ≡ errors.Memory) ⊎ (e ≡ errors.Write)) }
+    ensures untouched { result ≡ Err errors.Memory → out.new ≡ out.old }
+    ensures front { result ≡ Err errors.Write → WritesFront (W.contents out.old) (W.contents out.new) (lines_of request.now tables.now) }
+    ensures risen { result ≡ Err errors.Write → HasFailed (W.failure_count out.old) (W.failure_count out.new) }
+{
+    match request {
+        Request::Tables => list_tables(alloc, out, tables),
+        Request::Visibility => write_visibility(out, visibility(alloc, tables)?.as_slice()),
+        Request::Origins => write_origins(out, origins(alloc, tables)?.as_slice()),
+        Request::Churn => write_churn(out, churn(alloc, tables)?.as_slice()),
+        Request::Match(addr) => write_rows(out, matches(alloc, tables, *addr)?.as_slice()),
+        Request::Faults => write_faults(out, faults(alloc, tables)?.as_slice()),
+    }
+}

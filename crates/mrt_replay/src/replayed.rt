@@ -1,0 +1,120 @@
+//! The replay of files into tables, by workers in lanes.
+
+ghost use Rattle.std.specs.Prelude.{◌≡◌, ◌≢◌, ◌≤◌, true, false, List, ℕ, IfOk, IfErr, OnOk, Some, length, map};
+ghost use Rattle.mrt_body.specs.declared.standing.Standing.TheVariants.{Going};
+ghost use Rattle.lane_deal.specs.declared.state.State.TheVariants.{Running, Ended};
+ghost use Rattle.lane_deal.specs.declared.step.Step.TheVariants.{End};
+ghost use Rattle.lane_deal.specs.Plans.{IsPlan};
+ghost use Rattle.lane_deal.specs.Playing.{shown};
+ghost use Rattle.mrt_replay.specs.Replays.{HasPlayed, IsReplayOf, StopsFiles, StopsReplay};
+
+use adj_rib::SharedRoute;
+use bgp_prefix::PrefixMap;
+use lane_deal::{Dealing, Gate, Plan, Replayer, Step};
+use mrt_body::Units;
+use mrt_frame::{ReplayError, Source};
+use rib_report::Tables;
+use std::alloc::Global;
+use std::marker::Sync;
+use std::thread::Threads;
+
+/// What a replay of files gives: the tables of all peers, and what was counted.
+#[derive(Drop)]
+pub struct Replayed<M: PrefixMap<SharedRoute>> {
+    pub tables: Tables<M>,
+    pub records: u64,
+    pub units: u64,
+    pub aside: u64,
+    pub rounds: u64,
+}
+
+fn is_end(step: Step) -> bool
+    ensures end { result ≡ true → step ≡ End }
+    ensures more { result ≡ false → step ≢ End }
+{
+    match step {
+        Step::End => true,
+        _ => false,
+    }
+}
+
+/// Plays rounds until the files end.
+fn play<M, T, R, D, G>(
+    rt: &T,
+    alloc: Global,
+    units: &mut Units,
+    files: &mut [R],
+    replayer: &mut Replayer<M, D>,
+    gate: &G,
+) -> Result<(), ReplayError>
+where
+    M: PrefixMap<SharedRoute> + Send + Drop,
+    T: Threads + Sync,
+    R: Source + Send,
+    D: Dealing + Send,
+    G: Gate,
+    requires files { length files.old ≡ units.old.count }
+    requires going { units.old.standing ≡ Going }
+    requires running { replayer.old.state ≡ Running }
+    requires plan { IsPlan replayer.old.plan }
+    ensures kept { OnOk result ((replayer.new.plan ≡ replayer.old.plan) × (replayer.new.dealer.dealing ≡ replayer.old.dealer.dealing) × (replayer.new.state ≡ Ended)) }
+    ensures played { OnOk result (HasPlayed (D.lane_of replayer.old.dealer.dealing) replayer.old.plan (shown replayer.old) (shown replayer.new) units.old units.new (map R.remaining files.old) replayer.old.rounds replayer.new.rounds) }
+    ensures cause { IfErr result (StopsFiles units.old (map R.remaining files.old) (map R.failure_count files.old) (map R.failure_count files.new)) }
+{
+    'rounds: loop {
+        replayer.lanes_are_below();
+        let step = match replayer.round(rt, alloc, units, files, gate) {
+            Ok(step) => step,
+            Err(error) => return Err(error),
+        };
+        if gate.is_counting() {
+            gate.counted(replayer.routes());
+        }
+        if is_end(step) {
+            return Ok(());
+        }
+    }
+}
+
+/// Replays the files in order into one table for each peer.
+pub fn replay<M, T, R, D, G>(
+    rt: &T,
+    alloc: Global,
+    files: &mut [R],
+    plan: &Plan,
+    dealing: &D,
+    gate: &G,
+) -> Result<Replayed<M>, ReplayError>
+where
+    M: PrefixMap<SharedRoute> + Send + Drop,
+    T: Threads + Sync,
+    R: Source + Send,
+    D: Dealing + Sync,
+    G: Gate,
+    requires { IsPlan plan.now }
+    // Where the readers tell their bytes, the tables stand for the units and refusals of these.
+    ensures replayed { (contents : List (List ℕ)) → map R.remaining files.old ≡ map (λ bytes. Some bytes) contents → IfOk result (IsReplayOf plan.now contents) }
+    // An error has its cause.
+    ensures cause { IfErr result (StopsReplay plan.now.max_records (map R.remaining files.old) (map R.failure_count files.old) (map R.failure_count files.new)) }
+{
+    let mut units = Units::new(files.len(), plan.max_records, plan.until);
+    let mut replayer = Replayer::<M, &D>::new(alloc, *plan, dealing)?;
+    if let Err(error) = play(rt, alloc, &mut units, files, &mut replayer, gate) {
+        return Err(error);
+    }
+    let Ok(()) = replayer.settle(rt, alloc, gate) else {
+        return Err(ReplayError::Memory);
+    };
+    let dealt = replayer.dealt();
+    let rounds = replayer.rounds();
+    let Ok(tables) = replayer.into_tables(alloc) else {
+        return Err(ReplayError::Memory);
+    };
+    Ok(Replayed {
+        tables,
+        records: units.records(),
+        units: dealt,
+        aside: units.aside(),
+        rounds,
+    })
+}

@@ -1,0 +1,35 @@
+ghost use Rattle.std.specs.Prelude.{◌≡◌, ◌==◌, Ok, Err, if◌then◌else◌};
+ghost use Rattle.mrt_replay.specs.Statuses.{status_of};
+
+use mrt_frame::ReplayError;
+
+/// What a replay counted.
+#[derive(Clone, Copy, Debug, PartialEq, Eq)]
+pub struct Summary {
+    /// Whole records that were cut.
+    pub records: u64,
+    /// Messages, state changes and RIB entries that were replayed, damaged ones among them.
+    pub units: u64,
+    /// Records of types and subtypes that are not read.
+    pub aside: u64,
+    /// Faults that `faults` lists.
+    pub damaged: u64,
+    /// Rounds of dealing and taking.
+    pub rounds: u64,
+    /// Peers with at least one unit.
+    pub peers: usize,
+    /// Routes in the tables at the end.
+    pub routes: u64,
+}
+
+/// The program's status after a run: 0 where the dumps are whole, 1 where damaged records were left
+/// out, 3 where the run failed.
+pub fn status(outcome: &Result<Summary, ReplayError>) -> u8
+    ensures { result ≡ status_of outcome.now }
+{
+    match outcome {
+        Ok(summary) if summary.damaged == 0 => 0,
+        Ok(_) => 1,
+        Err(_) => 3,
+    }
+}

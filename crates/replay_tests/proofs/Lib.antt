@@ -1,0 +1,2 @@
+pub mod EmptyMaps
+pub mod Numbers

@@ -1,0 +1,261 @@
+//! Rows on dealings: whichever lane a peer has, the reports are the same.
+
+use super::harness::PLAN;
+use super::layers::found_in;
+use adj_rib::SharedRoute;
+use bgp_prefix::{Flat, Memory, PrefixMap, Radix, Shelf};
+use lane_deal::{ByBlocks, ByList, ByTurns, Dealing, Lanes, NoGate, Plan, Turn, run_schedule};
+use mrt_body::{Found, PeerAddr};
+use mrt_frame::Counted;
+use mrt_replay::run;
+use rib_report::{Request, Tables, table_rows};
+use std::alloc::Global;
+use std::marker::Sync;
+use std::process::Abort;
+use std::test::Fail;
+use std::thread::Threads;
+use test_dumps::dump;
+
+/// A file, the lines of its tables, and how many peers it has.
+#[derive(Drop)]
+struct Dumped {
+    bytes: Vec<u8>,
+    text: Vec<u8>,
+    peers: usize,
+}
+
+/// Replays the file by this dealing, which takes at most so many rounds.
+fn check_dealing<M: PrefixMap<SharedRoute> + Send + Drop, D: Dealing + Sync>(
+    rt: &(impl Threads + Abort + Sync),
+    alloc: Global,
+    file: &Dumped,
+    plan: &Plan,
+    most: u64,
+    dealing: &D,
+) -> Result<(), Fail> {
+    assert!(rt; plan.check());
+    let mut readers = [Counted::new(file.bytes.as_slice())];
+    let mut out = Counted::new(Vec::<u8>::new(alloc));
+    let summary = run::<M, _, _, _, _, _>(
+        rt,
+        alloc,
+        &mut readers,
+        &Request::Tables,
+        plan,
+        dealing,
+        &NoGate,
+        &mut out,
+    )?;
+    let workers = plan.workers;
+    let ring = plan.ring;
+    assert!(rt;
+        summary.peers == file.peers,
+        "peers of {workers} workers, ring {ring}"
+    );
+    assert!(rt;
+        summary.rounds <= most,
+        "rounds of {workers} workers, ring {ring}"
+    );
+    assert!(rt;
+        out.device().as_slice() == file.text.as_slice(),
+        "tables of {workers} workers, ring {ring}"
+    );
+    Ok(())
+}
+
+/// Replays the file by turns, by blocks and by this list.
+fn check_dealings<M: PrefixMap<SharedRoute> + Send + Drop>(
+    rt: &(impl Threads + Abort + Sync),
+    alloc: Global,
+    file: &Dumped,
+    plan: &Plan,
+    most: u64,
+    list: &ByList,
+) -> Result<(), Fail> {
+    check_dealing::<M, _>(rt, alloc, file, plan, most, &ByTurns)?;
+    check_dealing::<M, _>(rt, alloc, file, plan, most, &ByBlocks::new(2))?;
+    check_dealing::<M, _>(rt, alloc, file, plan, most, list)
+}
+
+/// Replays the file by each number of workers, and each ring, batch and greatest number of rounds.
+fn check_plans<M: PrefixMap<SharedRoute> + Send + Drop>(
+    rt: &(impl Threads + Abort + Sync),
+    alloc: Global,
+    file: &Dumped,
+    workers: &[usize],
+    rings: &[(usize, u64, u64)],
+    list: &ByList,
+) -> Result<(), Fail> {
+    for workers in workers {
+        for (ring, batch, most) in rings {
+            let plan = Plan {
+                workers: *workers,
+                ring: *ring,
+                batch: *batch,
+                ..PLAN
+            };
+            check_dealings::<M>(rt, alloc, file, &plan, *most, list)?;
+        }
+    }
+    Ok(())
+}
+
+/// The line of a peer's route.
+fn push_line(alloc: Global, text: &mut Vec<u8>, addr: &str) -> Result<(), Fail> {
+    let line = format!(in alloc; "65000 {addr}|10.0.0.0/8|65000|192.0.2.1|IGP|-|-|-|-\n")?;
+    text.extend_from_slice(line.as_bytes())?;
+    Ok(())
+}
+
+/// Five announcements by three peers.
+#[test]
+fn three_peers_by_every_dealing(rt: HostRuntime) -> Result<(), Fail> {
+    let alloc = rt.alloc();
+    let mut text = Vec::new(alloc);
+    for addr in ["192.0.2.1", "192.0.2.2", "192.0.2.3"] {
+        push_line(alloc, &mut text, addr)?;
+    }
+    let file = Dumped {
+        bytes: dump(alloc, "M MB M MC MB")?,
+        text,
+        peers: 3,
+    };
+    let rings = [(1, 1, 17), (1, 8, 12), (4, 8, 4), (65_536, 1_048_576, 2)];
+    let list = ByList::new(vec![in alloc; 1, 1, 0]?);
+    check_plans::<Radix<SharedRoute>>(&rt, alloc, &file, &[1, 2, 3, 64], &rings, &list)?;
+    check_plans::<Flat<SharedRoute>>(&rt, alloc, &file, &[1, 2, 3, 64], &rings, &list)?;
+    check_plans::<Shelf<SharedRoute>>(&rt, alloc, &file, &[1, 2, 3, 64], &rings, &list)
+}
+
+/// 300 announcements, each by a peer of another address, 198.18.0.0 to 198.18.1.43.
+fn three_hundred(alloc: Global) -> Result<Dumped, Fail> {
+    let mut bytes = Vec::new(alloc);
+    let mut text = Vec::new(alloc);
+    for peer in 0..300u32 {
+        let high = peer / 256;
+        let low = peer % 256;
+        let words = format!(in alloc;
+            "00000001 0010 0004 00000041 0000FDE8 0000FDE9 0000 0001 C612{high:02X}{low:02X} C0000202 FF16 002D 02 0000 0014 A4 080A"
+        )?;
+        bytes.extend_from_slice(dump(alloc, words.as_str())?.as_slice())?;
+        let addr = format!(in alloc; "198.18.{high}.{low}")?;
+        push_line(alloc, &mut text, addr.as_str())?;
+    }
+    Ok(Dumped {
+        bytes,
+        text,
+        peers: 300,
+    })
+}
+
+/// Ring, batch and the greatest number of rounds for 300 units.
+const RINGS_OF_300: [(usize, u64, u64); 2] = [(1, 8, 639), (65_536, 1_048_576, 2)];
+
+/// Lanes of the first 290 peers, of which neighbours have different ones.
+fn long_list(alloc: Global) -> Result<ByList, Fail> {
+    let mut lanes = Vec::new(alloc);
+    for peer in 0..290usize {
+        lanes.push(peer * 7)?;
+    }
+    Ok(ByList::new(lanes))
+}
+
+#[test]
+fn three_hundred_peers_in_tries(rt: HostRuntime) -> Result<(), Fail> {
+    let alloc = rt.alloc();
+    let file = three_hundred(alloc)?;
+    let list = long_list(alloc)?;
+    check_plans::<Radix<SharedRoute>>(&rt, alloc, &file, &[1, 64], &RINGS_OF_300, &list)
+}
+
+#[test]
+fn three_hundred_peers_in_shelves(rt: HostRuntime) -> Result<(), Fail> {
+    let alloc = rt.alloc();
+    let file = three_hundred(alloc)?;
+    let list = long_list(alloc)?;
+    check_plans::<Shelf<SharedRoute>>(&rt, alloc, &file, &[1, 64], &RINGS_OF_300, &list)
+}
+
+#[test]
+fn three_hundred_peers_in_lists(rt: HostRuntime) -> Result<(), Fail> {
+    let alloc = rt.alloc();
+    let file = three_hundred(alloc)?;
+    let list = long_list(alloc)?;
+    check_plans::<Flat<SharedRoute>>(&rt, alloc, &file, &[1, 64], &RINGS_OF_300, &list)
+}
+
+/// The lanes of two workers on one thread, after a list of events: some find nothing.
+pub fn scheduled<M: PrefixMap<SharedRoute> + Drop>(
+    rt: &impl Abort,
+    alloc: Global,
+) -> Result<Result<Lanes<M>, Memory>, Fail> {
+    let mut units = Vec::new(alloc);
+    for found in found_in(rt, alloc, "M MB M MC MB")? {
+        match found {
+            Found::Unit(unit) => units.push(unit)?,
+            Found::Refused(_) => assert!(rt; false, "a refusal"),
+        }
+    }
+    assert_eq!(rt; units.len(), 5);
+    let turns = [
+        Turn::Take(0),
+        Turn::Deal,
+        Turn::Deal,
+        Turn::Take(1),
+        Turn::Deal,
+        Turn::Take(0),
+        Turn::Take(7),
+    ];
+    Ok(run_schedule(alloc, units, &turns, &ByTurns, 2))
+}
+
+/// The tables of what lanes took. Where a growth is refused they come back, and the call is made again.
+fn tables_of_lanes<M: PrefixMap<SharedRoute> + Drop>(
+    rt: &impl Abort,
+    alloc: Global,
+    lanes: Lanes<M>,
+) -> Result<Tables<M>, Fail> {
+    let counts = (
+        lanes.undealt(),
+        lanes.waiting(0),
+        lanes.took(0),
+        lanes.took(1),
+    );
+    match lanes.into_tables(alloc) {
+        Ok(tables) => Ok(tables),
+        Err((back, _)) => {
+            let again = (back.undealt(), back.waiting(0), back.took(0), back.took(1));
+            assert!(rt; again == counts, "the lanes that came back");
+            Ok(back.into_tables(alloc).map_err(|refused| refused.1)?)
+        }
+    }
+}
+
+/// Events that find nothing change nothing.
+fn check_turns<M: PrefixMap<SharedRoute> + Drop>(
+    rt: &impl Abort,
+    alloc: Global,
+) -> Result<(), Fail> {
+    let lanes = scheduled::<M>(rt, alloc)??;
+    assert_eq!(rt; lanes.undealt(), 2);
+    for (lane, waiting, took) in [(0, 1, 1), (1, 0, 1), (2, 0, 0), (7, 0, 0)] {
+        assert!(rt; lanes.waiting(lane) == waiting, "waiting for {lane}");
+        assert!(rt; lanes.took(lane) == took, "taken by {lane}");
+    }
+    let tables = tables_of_lanes(rt, alloc, lanes)?;
+    assert_eq!(rt; tables.peers(), 2);
+    let mut routes = Vec::new(alloc);
+    for row in &table_rows(alloc, &tables)? {
+        routes.push(row.peer.addr)?;
+    }
+    let addrs = [PeerAddr::V4(0xC000_0201), PeerAddr::V4(0xC000_0202)];
+    assert!(rt; routes.as_slice() == addrs.as_slice(), "a route of each");
+    Ok(())
+}
+
+#[test]
+fn turns_one_by_one(rt: HostRuntime) -> Result<(), Fail> {
+    check_turns::<Radix<SharedRoute>>(&rt, rt.alloc())?;
+    check_turns::<Shelf<SharedRoute>>(&rt, rt.alloc())?;
+    check_turns::<Flat<SharedRoute>>(&rt, rt.alloc())
+}

@@ -1,0 +1,250 @@
+//! Runs rows that stand as text: what files hold, and what each report on them is.
+
+use adj_rib::SharedRoute;
+use bgp_prefix::{Flat, PrefixMap, Radix, Shelf};
+use command_line::read_address;
+use lane_deal::{ByTurns, NoGate, Plan};
+use mrt_frame::{Counted, ReplayError};
+use mrt_replay::{Summary, run, status};
+use rib_report::Request;
+use std::alloc::Global;
+use std::marker::Sync;
+use std::process::Abort;
+use std::test::Fail;
+use std::thread::Threads;
+use test_dumps::{Dripping, dump};
+
+/// The plan of the rows.
+pub const PLAN: Plan = Plan {
+    workers: 2,
+    ring: 4,
+    batch: 8,
+    looks: 0,
+    max_records: 1 << 47,
+    until: None,
+};
+
+/// What a run answered, and what it wrote.
+#[derive(Drop)]
+pub struct Outcome {
+    pub result: Result<Summary, ReplayError>,
+    pub text: Vec<u8>,
+}
+
+/// Replays files in memory.
+pub fn replay<M: PrefixMap<SharedRoute> + Send + Drop>(
+    rt: &(impl Threads + Abort + Sync),
+    alloc: Global,
+    files: &[Vec<u8>],
+    request: &Request,
+    plan: &Plan,
+) -> Result<Outcome, Fail> {
+    let mut readers = Vec::new(alloc);
+    for file in files {
+        readers.push(Counted::new(file.as_slice()))?;
+    }
+    assert!(rt; plan.check());
+    let mut out = Counted::new(Vec::<u8>::new(alloc));
+    let result = run::<M, _, _, _, _, _>(
+        rt,
+        alloc,
+        readers.as_mut_slice(),
+        request,
+        plan,
+        &ByTurns,
+        &NoGate,
+        &mut out,
+    );
+    let text = Vec::from_slice(alloc, out.device().as_slice())?;
+    Ok(Outcome { result, text })
+}
+
+/// Replays files from readers that give one byte a read.
+pub fn replay_slowly(
+    rt: &(impl Threads + Sync),
+    alloc: Global,
+    files: &[Vec<u8>],
+    request: &Request,
+) -> Result<Outcome, Fail> {
+    let mut readers = Vec::new(alloc);
+    for file in files {
+        readers.push(Counted::new(Dripping::new(file.as_slice(), false)))?;
+    }
+    let mut out = Counted::new(Vec::<u8>::new(alloc));
+    let result = run::<Shelf<SharedRoute>, _, _, _, _, _>(
+        rt,
+        alloc,
+        readers.as_mut_slice(),
+        request,
+        &PLAN,
+        &ByTurns,
+        &NoGate,
+        &mut out,
+    );
+    let text = Vec::from_slice(alloc, out.device().as_slice())?;
+    Ok(Outcome { result, text })
+}
+
+/// A row as far as it was read.
+#[derive(Drop)]
+struct Row<'a> {
+    name: &'a str,
+    files: Vec<Vec<u8>>,
+    request: Option<Request>,
+    expected: Vec<u8>,
+    damaged: Option<u64>,
+    counts: &'a str,
+    rounds: Option<u64>,
+    until: Option<u64>,
+}
+
+/// A number of the summary, by its name. Rounds depend on the plan.
+fn count_of(summary: &Summary, name: &str) -> Option<u64> {
+    match name {
+        "records" => Some(summary.records),
+        "units" => Some(summary.units),
+        "aside" => Some(summary.aside),
+        "peers" => Some(summary.peers as u64),
+        "routes" => Some(summary.routes),
+        _ => None,
+    }
+}
+
+impl<'a> Row<'a> {
+    fn new(alloc: Global, name: &'a str) -> Row<'a> {
+        Row {
+            name,
+            files: Vec::new(alloc),
+            request: None,
+            expected: Vec::new(alloc),
+            damaged: None,
+            counts: "",
+            rounds: None,
+            until: None,
+        }
+    }
+
+    fn expect_counts(&self, rt: &impl Abort, summary: &Summary) {
+        let row = self.name;
+        for pair in self.counts.split(',') {
+            if let Some((name, number)) = pair.split_once(' ') {
+                let count = number.parse::<u64>().ok();
+                assert!(rt; count_of(summary, name) == count, "{name} in {row}");
+            }
+        }
+    }
+
+    fn expect(&self, rt: &impl Abort, outcome: &Outcome) {
+        let name = self.name;
+        let same = outcome.text.as_slice() == self.expected.as_slice();
+        assert!(rt; same, "the report of {name}");
+        match &outcome.result {
+            Ok(summary) => {
+                if let Some(damaged) = self.damaged {
+                    assert!(rt; summary.damaged == damaged, "damaged in {name}");
+                    let expected = if damaged == 0 { 0 } else { 1 };
+                    assert!(rt; status(&outcome.result) == expected, "status of {name}");
+                }
+                self.expect_counts(rt, summary);
+            }
+            Err(_) => assert!(rt; false, "{name} failed"),
+        }
+    }
+
+    /// Replays the row by several plans, each map and two readers, and compares.
+    fn check(&self, rt: &(impl Threads + Abort + Sync), alloc: Global) -> Result<(), Fail> {
+        let Some(request) = &self.request else {
+            return Ok(());
+        };
+        let files = self.files.as_slice();
+        for (workers, ring, batch) in [(2, 4, 8), (2, 1, 1), (1, 4, 8), (64, 4, 8)] {
+            let plan = Plan {
+                workers,
+                ring,
+                batch,
+                until: self.until,
+                ..PLAN
+            };
+            let radix = replay::<Radix<SharedRoute>>(rt, alloc, files, request, &plan)?;
+            self.expect(rt, &radix);
+            let flat = replay::<Flat<SharedRoute>>(rt, alloc, files, request, &plan)?;
+            self.expect(rt, &flat);
+            let shelf = replay::<Shelf<SharedRoute>>(rt, alloc, files, request, &plan)?;
+            self.expect(rt, &shelf);
+            if workers == 2 && ring == 4 {
+                self.expect_rounds(rt, &radix);
+            }
+        }
+        if self.until.is_none() {
+            self.expect(rt, &replay_slowly(rt, alloc, files, request)?);
+        }
+        Ok(())
+    }
+
+    /// Compares the rounds that the rows' plan took.
+    fn expect_rounds(&self, rt: &impl Abort, outcome: &Outcome) {
+        if let (Some(rounds), Ok(summary)) = (self.rounds, &outcome.result) {
+            let name = self.name;
+            assert!(rt; summary.rounds == rounds, "rounds of {name}");
+        }
+    }
+}
+
+/// The request that a line names.
+fn request_of(line: &str) -> Option<Request> {
+    match line {
+        "tables" => Some(Request::Tables),
+        "visibility" => Some(Request::Visibility),
+        "origins" => Some(Request::Origins),
+        "churn" => Some(Request::Churn),
+        "faults" => Some(Request::Faults),
+        _ => match line.strip_prefix("match ") {
+            Some(address) => read_address(address).map(Request::Match),
+            None => None,
+        },
+    }
+}
+
+/// Runs the rows of a table. A line `row NAME` begins a row, `file RECORDS` adds a file, the name of
+/// a request asks for its report, `> LINE` is a line of it, `damaged N` the number of listed faults,
+/// `counts ..` has numbers of the summary by their names, `rounds N` those of the rows' plan, and
+/// `until N` leaves out what came later.
+pub fn run_rows(
+    rt: &(impl Threads + Abort + Sync),
+    alloc: Global,
+    table: &str,
+) -> Result<usize, Fail> {
+    let mut row = Row::new(alloc, "");
+    let mut checked = 0usize;
+    for line in table.lines() {
+        if let Some(name) = line.strip_prefix("row ") {
+            row.check(rt, alloc)?;
+            row = Row::new(alloc, name);
+            checked = checked.wrapping_add(1);
+        } else if let Some(words) = line.strip_prefix("file") {
+            row.files.push(dump(alloc, words)?)?;
+        } else if let Some(text) = line.strip_prefix("> ") {
+            row.expected.extend_from_slice(text.as_bytes())?;
+            row.expected.push(b'\n')?;
+        } else if let Some(count) = line.strip_prefix("damaged ") {
+            row.damaged = count.parse::<u64>().ok();
+        } else if let Some(counts) = line.strip_prefix("counts ") {
+            row.counts = counts;
+        } else if let Some(rounds) = line.strip_prefix("rounds ") {
+            row.rounds = rounds.parse::<u64>().ok();
+        } else if let Some(second) = line.strip_prefix("until ") {
+            row.until = second.parse::<u64>().ok();
+        } else if let Some(request) = request_of(line) {
+            row.check(rt, alloc)?;
+            row.request = Some(request);
+            row.expected = Vec::new(alloc);
+            row.damaged = None;
+            row.counts = "";
+            row.rounds = None;
+        } else {
+            assert!(rt; line.is_empty(), "a line that says nothing: {line}");
+        }
+    }
+    row.check(rt, alloc)?;
+    Ok(checked)
+}

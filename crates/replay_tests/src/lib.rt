@@ -1,0 +1,33 @@
+//! Tests of whole replays and of the command line: worked rows, dumps as bytes and what a replay of them reports.
+#![tactic(auto)]
+
+#[cfg(test)]
+mod addpath;
+#[cfg(test)]
+mod dealings;
+#[cfg(test)]
+mod devices;
+#[cfg(test)]
+mod faults;
+#[cfg(test)]
+mod gates;
+#[cfg(test)]
+mod growths;
+#[cfg(test)]
+mod harness;
+#[cfg(test)]
+mod hostile;
+#[cfg(test)]
+mod layers;
+#[cfg(test)]
+mod playing;
+#[cfg(test)]
+mod records;
+#[cfg(test)]
+mod refusals;
+#[cfg(test)]
+mod rounds;
+#[cfg(test)]
+mod rows;
+#[cfg(test)]
+mod words;

@@ -1,0 +1,230 @@
+//! Rows on words, addresses and statuses.
+
+use command_line::{FileName, FirstBytes, Job, Kind, Usage, read_address, read_second, read_words};
+use rib_report::Request;
+use std::alloc::Global;
+use std::test::Fail;
+
+/// What the words, split at blanks, ask for.
+fn job_of(alloc: Global, text: &str) -> Result<Result<Job, Usage>, Fail> {
+    let mut words = Vec::new(alloc);
+    for word in text.split(' ') {
+        words.push(String::from_str(alloc, word)?)?;
+    }
+    Ok(read_words(alloc, words.as_slice()))
+}
+
+/// The address that is refused, or which answer it is.
+fn answer_of(answer: &Result<Job, Usage>) -> &str {
+    match answer {
+        Ok(_) => "a job",
+        Err(Usage::Help(_)) => "help",
+        Err(Usage::Words(_)) => "words",
+        Err(Usage::Address(address)) => address.as_str(),
+        Err(Usage::Memory) => "memory",
+    }
+}
+
+#[test]
+fn refused_words(rt: HostRuntime) -> Result<(), Fail> {
+    let alloc = rt.alloc();
+    for (text, expected) in [
+        ("match --address 10.1.2 x", "10.1.2"),
+        ("match --address 10.1.2.03 x", "10.1.2.03"),
+        ("tables --workers 0 x", "words"),
+        ("tables", "words"),
+        ("match --address 10.1.2", "words"),
+        ("tables --ring 65537 x", "words"),
+        ("nothing x", "words"),
+        ("tables --until yesterday x", "words"),
+        ("tables --until -5 x", "words"),
+        ("--help", "help"),
+    ] {
+        let answer = job_of(alloc, text)?;
+        assert!(rt; answer_of(&answer) == expected, "{text}");
+    }
+    Ok(())
+}
+
+/// Options and files by turns, and options twice: the last counts.
+const SEVERAL: &str =
+    "tables --workers 2 x --header --workers 3 --until 6 --until 2024-01-01T01:00:00Z y";
+
+/// Requests, workers and the size of rings, seconds, and files.
+#[test]
+fn jobs(rt: HostRuntime) -> Result<(), Fail> {
+    let alloc = rt.alloc();
+    for (text, request, numbers, until, files) in [
+        (
+            "tables --workers 64 x",
+            Request::Tables,
+            (64, 1024),
+            None,
+            "x;",
+        ),
+        (
+            "match --address 10.1.2.3 x -",
+            Request::Match(167_838_211),
+            (4, 1024),
+            None,
+            "x;-;",
+        ),
+        (
+            "visibility --until 5 --ring 65536 x",
+            Request::Visibility,
+            (4, 65_536),
+            Some(5),
+            "x;",
+        ),
+        (
+            "origins --until 5 --ring 65536 x",
+            Request::Origins,
+            (4, 65_536),
+            Some(5),
+            "x;",
+        ),
+        (
+            "churn --until 5 --ring 65536 x",
+            Request::Churn,
+            (4, 65_536),
+            Some(5),
+            "x;",
+        ),
+        (
+            "faults --until 5 --ring 65536 x",
+            Request::Faults,
+            (4, 65_536),
+            Some(5),
+            "x;",
+        ),
+        (
+            SEVERAL,
+            Request::Tables,
+            (3, 1024),
+            Some(1_704_070_800),
+            "x;y;",
+        ),
+        (
+            "faults --summary --progress -",
+            Request::Faults,
+            (4, 1024),
+            None,
+            "-;",
+        ),
+    ] {
+        match job_of(alloc, text)? {
+            Ok(job) => {
+                assert!(rt; job.request == request && job.until == until, "{text}");
+                assert!(rt; (job.workers, job.ring) == numbers, "{text}");
+                let mut names = String::new(alloc);
+                for file in &job.files {
+                    names.push_str(file.as_str())?;
+                    names.push(';')?;
+                }
+                assert!(rt; names.as_str() == files, "{text}");
+            }
+            Err(_) => assert!(rt; false, "{text}"),
+        }
+    }
+    Ok(())
+}
+
+/// Whether the words say how many workers, and ask for a header, a summary and the progress.
+#[test]
+fn switches(rt: HostRuntime) -> Result<(), Fail> {
+    let alloc = rt.alloc();
+    for (text, expected) in [
+        (SEVERAL, [true, true, false, false]),
+        ("faults --summary --progress -", [false, false, true, true]),
+        ("tables x", [false, false, false, false]),
+    ] {
+        match job_of(alloc, text)? {
+            Ok(job) => {
+                let found = [job.has_workers, job.header, job.summary, job.progress];
+                assert!(rt; found == expected, "{text}");
+            }
+            Err(_) => assert!(rt; false, "{text}"),
+        }
+    }
+    Ok(())
+}
+
+#[test]
+fn addresses(rt: HostRuntime) {
+    for (text, expected) in [
+        ("255.255.255.255", Some(4_294_967_295)),
+        ("0.0.0.0", Some(0)),
+        ("256.0.0.0", None),
+        ("+1.0.0.0", None),
+        ("", None),
+        ("1.2.3", None),
+        ("1.2.3.4.5", None),
+        ("1.2.3.", None),
+        ("01.2.3.4", None),
+        ("1.2.3.4 ", None),
+        ("192.0.2.1", Some(3_221_225_985)),
+    ] {
+        assert!(rt; read_address(text) == expected, "{text}");
+    }
+}
+
+#[test]
+fn moments(rt: HostRuntime) {
+    for (text, expected) in [
+        ("0", Some(0)),
+        ("18446744073709551615", Some(u64::MAX)),
+        ("1970-01-01T00:00:00Z", Some(0)),
+        ("2024-01-01T01:00:00Z", Some(1_704_070_800)),
+        ("2024-01-01T02:00:00+01:00", Some(1_704_070_800)),
+        ("2023-12-31T20:30:00-04:30", Some(1_704_070_800)),
+        ("2024-01-01T01:00:00.999Z", Some(1_704_070_800)),
+        ("1969-12-31T23:59:59.5Z", None),
+        ("2024-01-01T01:00:00", None),
+        ("2024-02-30T01:00:00Z", None),
+        ("18446744073709551616", None),
+        ("", None),
+    ] {
+        assert!(rt; read_second(text) == expected, "{text}");
+    }
+}
+
+#[test]
+fn kinds(rt: HostRuntime) {
+    let rows: [(&[u8], Option<Kind>); 9] = [
+        (
+            b"\x1f\x8b\x08\x00\x00\x00\x00\x00\x00\x03",
+            Some(Kind::Gzip),
+        ),
+        (b"BZh91AY&SY", Some(Kind::Bzip2)),
+        (b"\xfd7zXZ\x00\x00\x04", Some(Kind::Xz)),
+        (b"\x28\xb5\x2f\xfd\x04\x58", Some(Kind::Zstd)),
+        (b"\xd4\xc3\xb2\xa1\x02\x00\x04\x00", Some(Kind::Capture)),
+        (b"\x0a\x0d\x0d\x0a\x1c\x00\x00\x00", Some(Kind::Capture)),
+        (b"TABLE_DUMP2|1|B|", Some(Kind::Text)),
+        (b"\x00\x00\x00\x01\x00\x10\x00\x04", None),
+        (b"", None),
+    ];
+    for (bytes, expected) in rows {
+        let mut first = FirstBytes::new();
+        for byte in bytes {
+            first.take(&[*byte]);
+        }
+        assert!(rt; first.kind() == expected, "{bytes:?}");
+    }
+}
+
+#[test]
+fn names(rt: HostRuntime) -> Result<(), Fail> {
+    let alloc = rt.alloc();
+    for (name, expected) in [
+        ("-", "standard input"),
+        ("/srv/rib.0815.mrt", "/srv/rib.0815.mrt"),
+        ("two words", "\"two words\""),
+        ("a\nb", "\"a\\nb\""),
+    ] {
+        let shown = FileName(name);
+        let text = format!(in alloc; "{shown}")?;
+        assert!(rt; text.as_str() == expected, "{expected}");
+    }
+    Ok(())
+}
