@@ -13,11 +13,12 @@ tries() { # CRATE TEST..
   for name in "$@"; do echo "$top/crates/$crate/out/${crate}_tests" ./refuse.so memory-test 1 0 none "$name"; done
 }
 {
-  tries layer_tests prefixes::a_refused_growth_leaves_the_flat_map prefixes::a_refused_growth_leaves_the_radix_map \
-    prefixes::a_refused_growth_leaves_the_shelf ribs::spent_after_a_refused_growth
-  tries replay_tests growths::growths_of_runs_by_each_dealing growths::growths_of_runs_of_each_request \
-    growths::growths_of_rounds growths::growths_of_a_path growths::growths_of_words \
-    layers::collect_orders_by_number dealings::turns_one_by_one
+  tries prefix_tests prefixes::a_refused_growth_leaves_the_flat_map prefixes::a_refused_growth_leaves_the_radix_map \
+    prefixes::a_refused_growth_leaves_the_shelf
+  tries record_tests updates::paths::growths_of_a_path
+  tries table_tests ribs::spent_after_a_refused_growth
+  tries lane_tests growths::growths_of_rounds layers::collect_orders_by_number schedules::turns_one_by_one
+  tries replay_tests growths::growths_of_runs_by_each_dealing growths::growths_of_runs_of_each_request growths::growths_of_words
 } > tries
 xargs -P "$(nproc)" -L 1 ./refusals < tries > lines
 grep -v '^tried ' lines

@@ -1,6 +1,6 @@
 //! Rows on path identifiers, and on MP_REACH_NLRI and MP_UNREACH_NLRI.
 
-use super::harness::run_rows;
+use crate::harness::run_rows;
 use std::test::Fail;
 
 const IDENTIFIERS: &str = "

@@ -1,20 +1,18 @@
 //! Rows on dealings: whichever lane a peer has, the reports are the same.
 
-use super::harness::PLAN;
-use super::layers::found_in;
+use crate::harness::PLAN;
 use adj_rib::SharedRoute;
-use bgp_prefix::{Flat, Memory, PrefixMap, Radix, Shelf};
-use lane_deal::{ByBlocks, ByList, ByTurns, Dealing, Lanes, NoGate, Plan, Turn, run_schedule};
-use mrt_body::{Found, PeerAddr};
+use bgp_prefix::{Flat, PrefixMap, Radix, Shelf};
+use fixtures::dump;
+use lane_deal::{ByBlocks, ByList, ByTurns, Dealing, NoGate, Plan};
 use mrt_frame::Counted;
 use mrt_replay::run;
-use rib_report::{Request, Tables, table_rows};
+use rib_report::Request;
 use std::alloc::Global;
 use std::marker::Sync;
 use std::process::Abort;
 use std::test::Fail;
 use std::thread::Threads;
-use test_dumps::dump;
 
 /// A file, the lines of its tables, and how many peers it has.
 #[derive(Drop)]
@@ -182,80 +180,4 @@ fn three_hundred_peers_in_lists(rt: HostRuntime) -> Result<(), Fail> {
     let file = three_hundred(alloc)?;
     let list = long_list(alloc)?;
     check_plans::<Flat<SharedRoute>>(&rt, alloc, &file, &[1, 64], &RINGS_OF_300, &list)
-}
-
-/// The lanes of two workers on one thread, after a list of events: some find nothing.
-pub fn scheduled<M: PrefixMap<SharedRoute> + Drop>(
-    rt: &impl Abort,
-    alloc: Global,
-) -> Result<Result<Lanes<M>, Memory>, Fail> {
-    let mut units = Vec::new(alloc);
-    for found in found_in(rt, alloc, "M MB M MC MB")? {
-        match found {
-            Found::Unit(unit) => units.push(unit)?,
-            Found::Refused(_) => assert!(rt; false, "a refusal"),
-        }
-    }
-    assert_eq!(rt; units.len(), 5);
-    let turns = [
-        Turn::Take(0),
-        Turn::Deal,
-        Turn::Deal,
-        Turn::Take(1),
-        Turn::Deal,
-        Turn::Take(0),
-        Turn::Take(7),
-    ];
-    Ok(run_schedule(alloc, units, &turns, &ByTurns, 2))
-}
-
-/// The tables of what lanes took. Where a growth is refused they come back, and the call is made again.
-fn tables_of_lanes<M: PrefixMap<SharedRoute> + Drop>(
-    rt: &impl Abort,
-    alloc: Global,
-    lanes: Lanes<M>,
-) -> Result<Tables<M>, Fail> {
-    let counts = (
-        lanes.undealt(),
-        lanes.waiting(0),
-        lanes.took(0),
-        lanes.took(1),
-    );
-    match lanes.into_tables(alloc) {
-        Ok(tables) => Ok(tables),
-        Err((back, _)) => {
-            let again = (back.undealt(), back.waiting(0), back.took(0), back.took(1));
-            assert!(rt; again == counts, "the lanes that came back");
-            Ok(back.into_tables(alloc).map_err(|refused| refused.1)?)
-        }
-    }
-}
-
-/// Events that find nothing change nothing.
-fn check_turns<M: PrefixMap<SharedRoute> + Drop>(
-    rt: &impl Abort,
-    alloc: Global,
-) -> Result<(), Fail> {
-    let lanes = scheduled::<M>(rt, alloc)??;
-    assert_eq!(rt; lanes.undealt(), 2);
-    for (lane, waiting, took) in [(0, 1, 1), (1, 0, 1), (2, 0, 0), (7, 0, 0)] {
-        assert!(rt; lanes.waiting(lane) == waiting, "waiting for {lane}");
-        assert!(rt; lanes.took(lane) == took, "taken by {lane}");
-    }
-    let tables = tables_of_lanes(rt, alloc, lanes)?;
-    assert_eq!(rt; tables.peers(), 2);
-    let mut routes = Vec::new(alloc);
-    for row in &table_rows(alloc, &tables)? {
-        routes.push(row.peer.addr)?;
-    }
-    let addrs = [PeerAddr::V4(0xC000_0201), PeerAddr::V4(0xC000_0202)];
-    assert!(rt; routes.as_slice() == addrs.as_slice(), "a route of each");
-    Ok(())
-}
-
-#[test]
-fn turns_one_by_one(rt: HostRuntime) -> Result<(), Fail> {
-    check_turns::<Radix<SharedRoute>>(&rt, rt.alloc())?;
-    check_turns::<Shelf<SharedRoute>>(&rt, rt.alloc())?;
-    check_turns::<Flat<SharedRoute>>(&rt, rt.alloc())
 }

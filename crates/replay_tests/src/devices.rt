@@ -1,9 +1,9 @@
 //! Rows on devices that fail: at each read, at each write, and past the limit on records.
 
-use super::harness::{PLAN, replay};
-use super::playing::Play;
+use crate::harness::{PLAN, replay};
 use adj_rib::SharedRoute;
 use bgp_prefix::Radix;
+use fixtures::{Dripping, dump};
 use lane_deal::{ByTurns, NoGate, Plan};
 use mrt_frame::{Counted, ReplayError};
 use mrt_replay::{Summary, run, status};
@@ -14,7 +14,6 @@ use std::marker::Sync;
 use std::process::Abort;
 use std::test::Fail;
 use std::thread::Threads;
-use test_dumps::dump;
 
 const THREE_PEERS: &str = "M MB M MC MB";
 
@@ -22,59 +21,6 @@ const THREE_LINES: &str = "65000 192.0.2.1|10.0.0.0/8|65000|192.0.2.1|IGP|-|-|-|
 65000 192.0.2.2|10.0.0.0/8|65000|192.0.2.1|IGP|-|-|-|-
 65000 192.0.2.3|10.0.0.0/8|65000|192.0.2.1|IGP|-|-|-|-
 ";
-
-/// The routes and the churn of the first units, by their number.
-const TABLES_OF_FRONTS: [&str; 6] = [
-    "",
-    "65000 192.0.2.1|10.0.0.0/8|65000|192.0.2.1|IGP|-|-|-|-
-65000 192.0.2.1|1|0|0|0|0|0|0|0|1.000000|1.000000
-",
-    "65000 192.0.2.1|10.0.0.0/8|65000|192.0.2.1|IGP|-|-|-|-
-65000 192.0.2.2|10.0.0.0/8|65000|192.0.2.1|IGP|-|-|-|-
-65000 192.0.2.1|1|0|0|0|0|0|0|0|1.000000|1.000000
-65000 192.0.2.2|1|0|0|0|0|0|0|0|1.000000|1.000000
-",
-    "65000 192.0.2.1|10.0.0.0/8|65000|192.0.2.1|IGP|-|-|-|-
-65000 192.0.2.2|10.0.0.0/8|65000|192.0.2.1|IGP|-|-|-|-
-65000 192.0.2.1|1|0|1|0|0|0|0|0|1.000000|1.000000
-65000 192.0.2.2|1|0|0|0|0|0|0|0|1.000000|1.000000
-",
-    "65000 192.0.2.1|10.0.0.0/8|65000|192.0.2.1|IGP|-|-|-|-
-65000 192.0.2.2|10.0.0.0/8|65000|192.0.2.1|IGP|-|-|-|-
-65000 192.0.2.3|10.0.0.0/8|65000|192.0.2.1|IGP|-|-|-|-
-65000 192.0.2.1|1|0|1|0|0|0|0|0|1.000000|1.000000
-65000 192.0.2.2|1|0|0|0|0|0|0|0|1.000000|1.000000
-65000 192.0.2.3|1|0|0|0|0|0|0|0|1.000000|1.000000
-",
-    "65000 192.0.2.1|10.0.0.0/8|65000|192.0.2.1|IGP|-|-|-|-
-65000 192.0.2.2|10.0.0.0/8|65000|192.0.2.1|IGP|-|-|-|-
-65000 192.0.2.3|10.0.0.0/8|65000|192.0.2.1|IGP|-|-|-|-
-65000 192.0.2.1|1|0|1|0|0|0|0|0|1.000000|1.000000
-65000 192.0.2.2|1|0|1|0|0|0|0|0|1.000000|1.000000
-65000 192.0.2.3|1|0|0|0|0|0|0|0|1.000000|1.000000
-",
-];
-
-/// Gives its bytes one a read, and fails in place of the end.
-#[derive(Drop)]
-struct Breaking<'a> {
-    rest: &'a [u8],
-    kind: ErrorKind,
-}
-
-impl Read for Breaking<'_> {
-    fn read(&mut self, buf: &mut [u8]) -> io::Result<usize> {
-        match (self.rest.split_first(), buf.first_mut()) {
-            (Some((first, rest)), Some(place)) => {
-                *place = *first;
-                self.rest = rest;
-                Ok(1)
-            }
-            (Some(_), None) => Ok(0),
-            (None, _) => Err(io::Error::from(self.kind)),
-        }
-    }
-}
 
 /// Takes so many bytes and no more: then it fails, or takes none.
 #[derive(Drop)]
@@ -117,7 +63,7 @@ fn expect_read(
 ) {
     let plan = Plan { workers, ..PLAN };
     assert!(rt; plan.check());
-    let mut readers = [Counted::new(Breaking { rest, kind })];
+    let mut readers = [Counted::new(Dripping::new(rest, Some(kind)))];
     let mut out = Counted::new(Vec::<u8>::new(alloc));
     let result = run::<Radix<SharedRoute>, _, _, _, _, _>(
         rt,
@@ -173,48 +119,6 @@ fn every_read_interrupted_by_one_worker(rt: HostRuntime) -> Result<(), Fail> {
 #[test]
 fn every_read_interrupted_by_four_workers(rt: HostRuntime) -> Result<(), Fail> {
     expect_every_read(&rt, rt.alloc(), ErrorKind::Interrupted, 4)
-}
-
-/// A batch that takes all units, played until a read fails and settled: the units that came before.
-fn expect_salvage(
-    rt: &(impl Threads + Abort + Sync),
-    alloc: Global,
-    rest: &[u8],
-    workers: usize,
-) -> Result<(), Fail> {
-    let plan = Plan {
-        workers,
-        batch: 1_048_576,
-        ..PLAN
-    };
-    let kind = ErrorKind::Interrupted;
-    let mut readers = Vec::new(alloc);
-    readers.push(Counted::new(Breaking { rest, kind }))?;
-    let mut play = Play::<Radix<SharedRoute>, _>::new(rt, alloc, readers, plan)?;
-    let k = rest.len();
-    let failed = play.round_until(rt, alloc, "Read 0");
-    assert!(rt; failed, "a read that fails at {k}, {workers} workers");
-    assert!(rt; play.settle(rt, alloc) == "Ok", "settled at {k}");
-    let units = k / 77;
-    assert!(rt;
-        play.count("took") == Some(units as u64),
-        "units before {k}"
-    );
-    let (answer, text) = play.into_text(rt, alloc)?;
-    assert!(rt; answer == "Ok", "tables at {k}");
-    let expected = TABLES_OF_FRONTS.get(units).ok_or("five units at most")?;
-    assert!(rt; text.as_slice() == expected.as_bytes(), "the tables at {k}");
-    Ok(())
-}
-
-#[test]
-fn salvage_at_every_failed_read(rt: HostRuntime) -> Result<(), Fail> {
-    let alloc = rt.alloc();
-    let bytes = dump(alloc, THREE_PEERS)?;
-    for k in 0..=bytes.len() {
-        expect_salvage(&rt, alloc, &bytes.as_slice()[..k], 1 + k % 4)?;
-    }
-    Ok(())
 }
 
 /// What a run over one file in memory answers, to a writer.

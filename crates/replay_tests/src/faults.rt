@@ -1,6 +1,6 @@
 //! A row for each fault: the file, the line that lists it, and what the peer counts.
 
-use super::harness::run_rows;
+use crate::harness::run_rows;
 use std::test::Fail;
 
 /// Faults of files and records: no unit is found.

@@ -1,8 +1,9 @@
 //! Gates of the tests: who runs beside whom, and what gates are told.
 
-use super::harness::PLAN;
+use crate::harness::PLAN;
 use adj_rib::SharedRoute;
 use bgp_prefix::Radix;
+use fixtures::dump;
 use lane_deal::{ByTurns, Gate, Plan};
 use mrt_frame::{Counted, ReplayError};
 use mrt_replay::{Summary, run};
@@ -14,7 +15,6 @@ use std::process::Abort;
 use std::sync::atomic::{AtomicBool, AtomicU64, Ordering};
 use std::test::Fail;
 use std::thread::Threads;
-use test_dumps::dump;
 
 /// How often a flag is looked at.
 const TURNS: u32 = 200_000_000;

@@ -3,6 +3,7 @@
 use adj_rib::SharedRoute;
 use bgp_prefix::{Flat, PrefixMap, Radix, Shelf};
 use command_line::read_address;
+use fixtures::{Dripping, dump};
 use lane_deal::{ByTurns, NoGate, Plan};
 use mrt_frame::{Counted, ReplayError};
 use mrt_replay::{Summary, run, status};
@@ -12,7 +13,6 @@ use std::marker::Sync;
 use std::process::Abort;
 use std::test::Fail;
 use std::thread::Threads;
-use test_dumps::{Dripping, dump};
 
 /// The plan of the rows.
 pub const PLAN: Plan = Plan {
@@ -68,7 +68,7 @@ pub fn replay_slowly(
 ) -> Result<Outcome, Fail> {
     let mut readers = Vec::new(alloc);
     for file in files {
-        readers.push(Counted::new(Dripping::new(file.as_slice(), false)))?;
+        readers.push(Counted::new(Dripping::new(file.as_slice(), None)))?;
     }
     let mut out = Counted::new(Vec::<u8>::new(alloc));
     let result = run::<Shelf<SharedRoute>, _, _, _, _, _>(

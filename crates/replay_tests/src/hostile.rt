@@ -1,14 +1,14 @@
 //! Rows on truncated, malicious and endless input.
 
-use super::harness::{PLAN, replay, run_rows};
+use crate::harness::{PLAN, replay, run_rows};
 use adj_rib::SharedRoute;
 use bgp_prefix::Radix;
+use fixtures::{Zeros, dump};
 use lane_deal::{ByTurns, NoGate, Plan};
 use mrt_frame::{Counted, ReplayError};
 use mrt_replay::run;
 use rib_report::Request;
 use std::test::Fail;
-use test_dumps::{Zeros, dump};
 
 const COUNTS: &str = "
 row peer-count-too-large

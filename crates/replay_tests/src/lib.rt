@@ -18,15 +18,9 @@ mod harness;
 #[cfg(test)]
 mod hostile;
 #[cfg(test)]
-mod layers;
-#[cfg(test)]
-mod playing;
-#[cfg(test)]
 mod records;
 #[cfg(test)]
 mod refusals;
-#[cfg(test)]
-mod rounds;
 #[cfg(test)]
 mod rows;
 #[cfg(test)]

@@ -1,6 +1,6 @@
 //! Rows on reports: one file and one line, state changes, attributes, RIB records, several peers.
 
-use super::harness::run_rows;
+use crate::harness::run_rows;
 use std::test::Fail;
 
 const ONE_FILE: &str = "

@@ -1,0 +1,69 @@
+//! Rounds of which one growth may be refused: each answers `Memory`, or what it answers with ample memory, and
+//! leaves what it says. The gate runs them with ample memory; `make growths` refuses the Nth growth of each
+//! test, for N = 1, 2 and so on. A growth that is refused to a test itself ends it with an error.
+
+use crate::playing::{PLAN, Play};
+use adj_rib::SharedRoute;
+use bgp_prefix::{PrefixMap, Radix, Shelf};
+use fixtures::dump;
+use lane_deal::Plan;
+use mrt_frame::Counted;
+use std::alloc::Global;
+use std::marker::Sync;
+use std::process::Abort;
+use std::test::Fail;
+use std::thread::Threads;
+
+const THREE_PEERS: &str = "M MB M MC MB";
+
+const THREE_LINES: &str = "65000 192.0.2.1|10.0.0.0/8|65000|192.0.2.1|IGP|-|-|-|-
+65000 192.0.2.2|10.0.0.0/8|65000|192.0.2.1|IGP|-|-|-|-
+65000 192.0.2.3|10.0.0.0/8|65000|192.0.2.1|IGP|-|-|-|-
+";
+
+const THREE_CHURNS: &str = "65000 192.0.2.1|1|0|1|0|0|0|0|0|1.000000|1.000000
+65000 192.0.2.2|1|0|1|0|0|0|0|0|1.000000|1.000000
+65000 192.0.2.3|1|0|0|0|0|0|0|0|1.000000|1.000000
+";
+
+/// Rounds, a settling and the tables, or a replayer that is spent.
+fn play_to_the_end<M: PrefixMap<SharedRoute> + Send + Drop>(
+    rt: &(impl Threads + Abort + Sync),
+    alloc: Global,
+    plan: Plan,
+) -> Result<(), Fail> {
+    let bytes = dump(alloc, THREE_PEERS)?;
+    let mut readers = Vec::new(alloc);
+    readers.push(Counted::new(bytes.as_slice()))?;
+    let mut play = Play::<M, _>::new(rt, alloc, readers, plan)?;
+    for _ in 0..20u32 {
+        match play.round(rt, alloc) {
+            "End" => break,
+            "Memory" => {
+                play.expect_spent(rt, alloc);
+                return Ok(());
+            }
+            answer => assert!(rt; answer == "Blocked" || answer == "FullBatch", "{answer}"),
+        }
+    }
+    if play.settle(rt, alloc) != "Ok" {
+        play.expect_spent(rt, alloc);
+        return Ok(());
+    }
+    let (answer, text) = play.into_text(rt, alloc)?;
+    let expected = format!(in alloc; "{THREE_LINES}{THREE_CHURNS}")?;
+    assert!(rt; answer == "Ok" && text.as_slice() == expected.as_bytes());
+    Ok(())
+}
+
+#[test]
+fn growths_of_rounds(rt: HostRuntime) -> Result<(), Fail> {
+    let alloc = rt.alloc();
+    let small = Plan {
+        ring: 1,
+        batch: 2,
+        ..PLAN
+    };
+    play_to_the_end::<Shelf<SharedRoute>>(&rt, alloc, small)?;
+    play_to_the_end::<Radix<SharedRoute>>(&rt, alloc, PLAN)
+}

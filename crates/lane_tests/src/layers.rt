@@ -1,0 +1,138 @@
+//! Calls below `run`: units, sessions and collecting.
+
+ghost use Rattle.std.specs.Prelude.{◌≡◌, [], ◌∷◌, IfOk, map};
+
+use adj_rib::{Session, SharedRoute};
+use bgp_prefix::{Radix, Sequence};
+use fixtures::dump;
+use mrt_body::{Found, PeerAddr, PeerKey, Unit, Units};
+use mrt_frame::Counted;
+use rib_report::{Gathered, Seated, Tables, collect, table_rows};
+use std::alloc::Global;
+use std::process::Abort;
+use std::test::Fail;
+
+/// What a file gives, to its end.
+pub fn found_in(rt: &impl Abort, alloc: Global, words: &str) -> Result<Vec<Found>, Fail> {
+    let bytes = dump(alloc, words)?;
+    let mut readers = [Counted::new(bytes.as_slice())];
+    let mut units = Units::new(1, 1 << 47, None);
+    let mut all = Vec::new(alloc);
+    for _ in 0..1_000_000u32 {
+        assert!(rt; readers.len() == units.count());
+        match units.next(alloc, &mut readers)? {
+            Some(found) => all.push(found)?,
+            None => return Ok(all),
+        }
+    }
+    Ok(all)
+}
+
+/// The only unit of one record.
+pub fn unit_in(rt: &impl Abort, alloc: Global, words: &str) -> Result<Unit, Fail> {
+    match found_in(rt, alloc, words)?.pop() {
+        Some(Found::Unit(unit)) => Ok(unit),
+        _ => Err(Fail::from("no unit")),
+    }
+}
+
+#[test]
+fn state_changes_of_a_new_session(rt: HostRuntime) -> Result<(), Fail> {
+    let alloc = rt.alloc();
+    let mut session = Session::<Radix<SharedRoute>>::new(alloc);
+    assert!(rt; session.is_up() && !session.is_spent());
+    assert!(rt; session.churn().first.is_none() && session.faults().is_empty());
+    for (record, is_up, resets) in [
+        ("S56", true, 1),
+        ("S66", true, 1),
+        ("S60", false, 2),
+        ("S00", false, 3),
+    ] {
+        session.take(alloc, &unit_in(&rt, alloc, record)?)?;
+        assert!(rt; session.is_up() == is_up, "up after {record}");
+        assert!(rt; session.churn().resets == resets, "resets after {record}");
+    }
+    Ok(())
+}
+
+/// A session that took the announcement of 10.0.0.0/8.
+fn session_of(rt: &impl Abort, alloc: Global) -> Result<Session<Radix<SharedRoute>>, Fail> {
+    let mut session = Session::new(alloc);
+    let unit = unit_in(rt, alloc, "M")?;
+    session.take(alloc, &unit)?;
+    Ok(session)
+}
+
+/// One lane with one peer, which has this number and an address of this number.
+fn lane_of(
+    alloc: Global,
+    number: usize,
+    addr: u32,
+    session: Session<Radix<SharedRoute>>,
+) -> Result<Sequence<Seated<Radix<SharedRoute>>>, Fail>
+    ensures { IfOk result (λ lane. map (λ seat. seat.number) lane ≡ number ∷ []) }
+{
+    let mut lane = Vec::new(alloc);
+    let key = PeerKey {
+        asn: 65_000,
+        addr: PeerAddr::V4(addr),
+    };
+    lane.push(Seated {
+        number,
+        key,
+        session,
+    })?;
+    Ok(Sequence::from_vec(lane))
+}
+
+/// What two lanes hand in, without refusals.
+fn two_lanes(
+    alloc: Global,
+    first: Sequence<Seated<Radix<SharedRoute>>>,
+    second: Sequence<Seated<Radix<SharedRoute>>>,
+) -> Result<Gathered<Radix<SharedRoute>>, Fail>
+    ensures { IfOk result (λ gathered. gathered.lanes ≡ first ∷ second ∷ []) }
+{
+    let mut lanes = Vec::new(alloc);
+    lanes.push(first)?;
+    lanes.push(second)?;
+    Ok(Gathered {
+        lanes: Sequence::from_vec(lanes),
+        refused: Sequence::from_vec(Vec::new(alloc)),
+    })
+}
+
+/// Expects the two peers, in the order of their numbers.
+fn expect_two_peers(
+    rt: &impl Abort,
+    alloc: Global,
+    tables: &Tables<Radix<SharedRoute>>,
+) -> Result<(), Fail> {
+    assert_eq!(rt; tables.peers(), 2);
+    match table_rows(alloc, tables)?.as_slice() {
+        [first, second] => {
+            assert!(rt; first.peer.addr == PeerAddr::V4(0));
+            assert!(rt; second.peer.addr == PeerAddr::V4(1));
+        }
+        _ => assert!(rt; false, "two rows"),
+    }
+    Ok(())
+}
+
+/// Where a growth is refused, what was handed in comes back, and the call is made again.
+#[tactic(auto, using(crate::proofs::Numbers::two_numbers))]
+#[test]
+fn collect_orders_by_number(rt: HostRuntime) -> Result<(), Fail> {
+    let alloc = rt.alloc();
+    let later = lane_of(alloc, 1, 1, session_of(&rt, alloc)?)?;
+    let earlier = lane_of(alloc, 0, 0, session_of(&rt, alloc)?)?;
+    let gathered = two_lanes(alloc, later, earlier)?;
+    match collect(alloc, gathered) {
+        Ok(tables) => expect_two_peers(&rt, alloc, &tables)?,
+        Err((back, _)) => match collect(alloc, back) {
+            Ok(tables) => expect_two_peers(&rt, alloc, &tables)?,
+            Err(_) => assert!(rt; false, "collected"),
+        },
+    }
+    Ok(())
+}

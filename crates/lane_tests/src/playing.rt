@@ -1,0 +1,391 @@
+//! Plays rows that stand as text on replayers: rounds, and what is seen between them.
+
+ghost use Rattle.std.specs.Prelude.{◌≡◌, ◌≢◌, true};
+ghost use Rattle.lane_deal.specs.Playing.{shown};
+ghost use Rattle.lane_deal.specs.Rounds.{IsSettled};
+ghost use Rattle.lane_deal.specs.declared.state.State.TheVariants.{Spent};
+
+use adj_rib::SharedRoute;
+use bgp_prefix::PrefixMap;
+use fixtures::dump;
+use lane_deal::{ByTurns, Dealing, NoGate, Plan, Replayer, Step};
+use mrt_body::Units;
+use mrt_frame::{Counted, ReplayError, Source};
+use rib_report::{Tables, churn, table_rows, write_churn, write_rows};
+use std::alloc::Global;
+use std::io::{self, ErrorKind, Read};
+use std::marker::Sync;
+use std::process::Abort;
+use std::test::Fail;
+use std::thread::Threads;
+
+/// The plan of the rows.
+pub const PLAN: Plan = Plan {
+    workers: 2,
+    ring: 4,
+    batch: 8,
+    looks: 0,
+    max_records: 1 << 47,
+    until: None,
+};
+
+/// Gives its bytes, and then ends or fails.
+#[derive(Drop)]
+struct Giving<'a> {
+    rest: &'a [u8],
+    fails: bool,
+}
+
+impl Read for Giving<'_> {
+    fn read(&mut self, buf: &mut [u8]) -> io::Result<usize> {
+        if self.rest.is_empty() && self.fails {
+            return Err(io::Error::from(ErrorKind::Other));
+        }
+        self.rest.read(buf)
+    }
+}
+
+fn error_name(error: &ReplayError) -> &'static str {
+    match error {
+        ReplayError::Read { file: 0 } => "Read 0",
+        ReplayError::Read { file: 1 } => "Read 1",
+        ReplayError::Read { .. } => "Read",
+        ReplayError::Write => "Write",
+        ReplayError::Memory => "Memory",
+        ReplayError::Records => "Records",
+        ReplayError::Spent => "Spent",
+    }
+}
+
+fn answer_name(answer: &Result<Step, ReplayError>) -> &'static str {
+    match answer {
+        Ok(Step::Blocked) => "Blocked",
+        Ok(Step::FullBatch) => "FullBatch",
+        Ok(Step::End) => "End",
+        Err(error) => error_name(error),
+    }
+}
+
+/// A replay under way.
+#[derive(Drop)]
+pub struct Play<M: PrefixMap<SharedRoute>, R> {
+    lanes: usize,
+    readers: Vec<R>,
+    units: Units,
+    replayer: Replayer<M, ByTurns>,
+}
+
+impl<M: PrefixMap<SharedRoute> + Send + Drop, R: Source + Send + Drop> Play<M, R> {
+    pub fn new(
+        rt: &impl Abort,
+        alloc: Global,
+        readers: Vec<R>,
+        plan: Plan,
+    ) -> Result<Play<M, R>, Fail> {
+        assert!(rt; plan.check());
+        Ok(Play {
+            lanes: plan.workers,
+            units: Units::new(readers.len(), plan.max_records, plan.until),
+            readers,
+            replayer: Replayer::new(alloc, plan, ByTurns)?,
+        })
+    }
+
+    /// Plays a round, and names its answer.
+    pub fn round(&mut self, rt: &(impl Threads + Abort + Sync), alloc: Global) -> &'static str {
+        assert!(rt; self.readers.len() == self.units.count());
+        let answer = self.replayer.round(
+            rt,
+            alloc,
+            &mut self.units,
+            self.readers.as_mut_slice(),
+            &NoGate,
+        );
+        answer_name(&answer)
+    }
+
+    /// Plays rounds until one answers this.
+    pub fn round_until(
+        &mut self,
+        rt: &(impl Threads + Abort + Sync),
+        alloc: Global,
+        wanted: &str,
+    ) -> bool {
+        for _ in 0..100u32 {
+            if self.round(rt, alloc) == wanted {
+                return true;
+            }
+        }
+        false
+    }
+
+    /// Asks the units alone, until they answer this error.
+    fn ask_until(&mut self, rt: &impl Abort, alloc: Global, wanted: &str) -> bool {
+        for _ in 0..100u32 {
+            assert!(rt; self.readers.len() == self.units.count());
+            if let Err(error) = self.units.next(alloc, self.readers.as_mut_slice()) {
+                return error_name(&error) == wanted;
+            }
+        }
+        false
+    }
+
+    /// Settles, and names the answer.
+    pub fn settle(&mut self, rt: &(impl Threads + Sync), alloc: Global) -> &'static str {
+        match self.replayer.settle(rt, alloc, &NoGate) {
+            Ok(()) => "Ok",
+            Err(error) => error_name(&error),
+        }
+    }
+
+    /// The units that wait, and those that were taken, in all lanes.
+    fn lane_sums(&self) -> (u64, u64) {
+        let mut waiting = 0u64;
+        let mut took = 0u64;
+        for lane in 0..self.lanes {
+            waiting = waiting.saturating_add(self.replayer.waiting(lane) as u64);
+            took = took.saturating_add(self.replayer.took(lane));
+        }
+        (waiting, took)
+    }
+
+    /// A number of the replayer, by its name.
+    pub fn count(&self, name: &str) -> Option<u64> {
+        match name {
+            "rounds" => Some(self.replayer.rounds()),
+            "dealt" => Some(self.replayer.dealt()),
+            "waiting" => Some(self.lane_sums().0),
+            "took" => Some(self.lane_sums().1),
+            _ => None,
+        }
+    }
+
+    /// Each unit that was dealt waits or was taken, and past the last lane there is none.
+    fn adds_up(&self) -> bool {
+        let (waiting, took) = self.lane_sums();
+        let sum = waiting.saturating_add(took);
+        let past = self.replayer.waiting(self.lanes) == 0 && self.replayer.took(self.lanes) == 0;
+        past && (self.replayer.is_spent() || sum == self.replayer.dealt())
+    }
+
+    fn shows(&self, rt: &impl Abort, row: &str, counts: &str) {
+        for pair in counts.split(',') {
+            if let Some((name, number)) = pair.split_once(' ') {
+                let number = number.parse::<u64>().ok();
+                assert!(rt; self.count(name) == number, "{name} in {row}");
+            }
+        }
+    }
+
+    /// Does what a line says, or looks at what it says.
+    fn step(&mut self, rt: &(impl Threads + Abort + Sync), alloc: Global, row: &str, line: &str) {
+        if let Some(wanted) = line.strip_prefix("round until ") {
+            assert!(rt; self.round_until(rt, alloc, wanted), "{line} in {row}");
+        } else if let Some(wanted) = line.strip_prefix("round ") {
+            assert!(rt; self.round(rt, alloc) == wanted, "{line} in {row}");
+        } else if let Some(wanted) = line.strip_prefix("settle ") {
+            assert!(rt; self.settle(rt, alloc) == wanted, "{line} in {row}");
+        } else if let Some(wanted) = line.strip_prefix("units until ") {
+            assert!(rt; self.ask_until(rt, alloc, wanted), "{line} in {row}");
+        } else if let Some(counts) = line.strip_prefix("shows ") {
+            self.shows(rt, row, counts);
+        } else {
+            match line {
+                "settled" => assert!(rt; self.replayer.is_settled(), "{line} in {row}"),
+                "unsettled" => assert!(rt; !self.replayer.is_settled(), "{line} in {row}"),
+                "spent" => assert!(rt; self.replayer.is_spent(), "{line} in {row}"),
+                "unspent" => assert!(rt; !self.replayer.is_spent(), "{line} in {row}"),
+                "dealt 1 or 2" => {
+                    assert!(rt; (1..=2).contains(&self.replayer.dealt()), "{line} in {row}");
+                }
+                _ => assert!(rt; false, "a line that says nothing: {line}"),
+            }
+        }
+        assert!(rt; self.adds_up(), "units after {line} in {row}");
+    }
+
+    /// The routes and the churn of all peers, or the name of the error.
+    pub fn into_text(
+        self,
+        rt: &impl Abort,
+        alloc: Global,
+    ) -> Result<(&'static str, Vec<u8>), Fail> {
+        let mut out = Counted::new(Vec::<u8>::new(alloc));
+        match tables_of(rt, alloc, self.replayer) {
+            Ok(tables) => {
+                write_rows(&mut out, table_rows(alloc, &tables)?.as_slice())?;
+                write_churn(&mut out, churn(alloc, &tables)?.as_slice())?;
+                Ok(("Ok", Vec::from_slice(alloc, out.device().as_slice())?))
+            }
+            Err(error) => Ok((error_name(&error), Vec::new(alloc))),
+        }
+    }
+
+    /// Expects that each call answers `Spent`.
+    pub fn expect_spent(mut self, rt: &(impl Threads + Abort + Sync), alloc: Global) {
+        assert!(rt; self.replayer.is_spent());
+        assert!(rt; self.round(rt, alloc) == "Spent" && self.settle(rt, alloc) == "Spent");
+        match tables_of(rt, alloc, self.replayer) {
+            Ok(_) => assert!(rt; false, "the tables of a spent replayer"),
+            Err(error) => assert!(rt; error == ReplayError::Spent),
+        }
+    }
+}
+
+/// The tables of a replayer. Where a growth is refused it comes back, and the call is made again.
+fn tables_of<M: PrefixMap<SharedRoute> + Drop>(
+    rt: &impl Abort,
+    alloc: Global,
+    replayer: Replayer<M, ByTurns>,
+) -> Result<Tables<M>, ReplayError> {
+    let counts = (replayer.rounds(), replayer.dealt(), replayer.took(0));
+    let ends = may_end(&replayer);
+    assert!(rt; ends, "rings are empty");
+    match replayer.into_tables(alloc) {
+        Err((back, ReplayError::Memory)) => {
+            assert!(rt; !back.is_spent() && back.is_settled());
+            assert!(rt; (back.rounds(), back.dealt(), back.took(0)) == counts);
+            let ends = may_end(&back);
+            assert!(rt; ends, "rings are empty");
+            back.into_tables(alloc).map_err(|refused| refused.1)
+        }
+        Ok(tables) => Ok(tables),
+        Err((_, error)) => Err(error),
+    }
+}
+
+/// Whether its tables can be had: all rings are empty, or it is spent.
+fn may_end<M: PrefixMap<SharedRoute>, D: Dealing>(replayer: &Replayer<M, D>) -> bool
+    ensures { result ≡ true → replayer.now.state ≢ Spent → IsSettled (shown replayer.now) }
+{
+    if replayer.is_spent() {
+        return true;
+    }
+    replayer.is_settled()
+}
+
+/// A file of a row, and whether it fails in place of its end.
+#[derive(Drop)]
+struct File {
+    bytes: Vec<u8>,
+    fails: bool,
+}
+
+/// A row: files, a plan, and what is done and seen, a line each.
+#[derive(Drop)]
+struct Row<'a> {
+    name: &'a str,
+    files: Vec<File>,
+    plan: Plan,
+    lines: Vec<&'a str>,
+}
+
+impl<'a> Row<'a> {
+    fn new(alloc: Global, name: &'a str) -> Row<'a> {
+        Row {
+            name,
+            files: Vec::new(alloc),
+            plan: PLAN,
+            lines: Vec::new(alloc),
+        }
+    }
+
+    /// Takes a number into the plan, by its name.
+    fn set_number(&mut self, name: &str, number: u64) {
+        match name {
+            "workers" => self.plan.workers = number as usize,
+            "ring" => self.plan.ring = number as usize,
+            "batch" => self.plan.batch = number,
+            "records" => self.plan.max_records = number,
+            _ => {}
+        }
+    }
+
+    /// What `into_tables` answers at the end of the row.
+    fn ending(&self) -> Option<&'a str> {
+        for line in &self.lines {
+            if let Some(wanted) = line.strip_prefix("into_tables ") {
+                return Some(wanted);
+            }
+        }
+        None
+    }
+
+    /// Takes the numbers of a line into the plan.
+    fn set_plan(&mut self, words: &str) {
+        for pair in words.split(',') {
+            if let Some((name, number)) = pair.split_once(' ') {
+                self.set_number(name, number.parse::<u64>().unwrap_or(0));
+            }
+        }
+    }
+
+    fn play<M: PrefixMap<SharedRoute> + Send + Drop>(
+        &self,
+        rt: &(impl Threads + Abort + Sync),
+        alloc: Global,
+    ) -> Result<(), Fail> {
+        let mut readers = Vec::new(alloc);
+        for file in &self.files {
+            readers.push(Counted::new(Giving {
+                rest: file.bytes.as_slice(),
+                fails: file.fails,
+            }))?;
+        }
+        let mut play = Play::<M, _>::new(rt, alloc, readers, self.plan)?;
+        let mut expected = Vec::new(alloc);
+        for line in &self.lines {
+            if let Some(text) = line.strip_prefix("> ") {
+                expected.extend_from_slice(text.as_bytes())?;
+                expected.push(b'\n')?;
+            } else if !line.starts_with("into_tables ") {
+                play.step(rt, alloc, self.name, line);
+            }
+        }
+        if let Some(wanted) = self.ending() {
+            let name = self.name;
+            let (answer, text) = play.into_text(rt, alloc)?;
+            assert!(rt; answer == wanted, "into_tables in {name}");
+            assert!(rt;
+                text.as_slice() == expected.as_slice(),
+                "the tables in {name}"
+            );
+        }
+        Ok(())
+    }
+}
+
+/// Plays the rows of a table on a replayer with this map. A line `row NAME` begins a row, `file
+/// RECORDS` adds a file, `broken RECORDS` one that fails in place of its end, `plan ..` changes
+/// numbers of the rows' plan; the other lines are done and seen in turn. `into_tables ANSWER` comes
+/// last, and `> LINE` is a line of the routes and then the churn.
+pub fn play_rows<M: PrefixMap<SharedRoute> + Send + Drop>(
+    rt: &(impl Threads + Abort + Sync),
+    alloc: Global,
+    table: &str,
+) -> Result<usize, Fail> {
+    let mut row = Row::new(alloc, "");
+    let mut played = 0usize;
+    for line in table.lines() {
+        if let Some(name) = line.strip_prefix("row ") {
+            row.play::<M>(rt, alloc)?;
+            row = Row::new(alloc, name);
+            played = played.wrapping_add(1);
+        } else if let Some(words) = line.strip_prefix("file") {
+            let bytes = dump(alloc, words)?;
+            row.files.push(File {
+                bytes,
+                fails: false,
+            })?;
+        } else if let Some(words) = line.strip_prefix("broken") {
+            let bytes = dump(alloc, words)?;
+            row.files.push(File { bytes, fails: true })?;
+        } else if let Some(words) = line.strip_prefix("plan ") {
+            row.set_plan(words);
+        } else if !line.is_empty() {
+            row.lines.push(line)?;
+        }
+    }
+    row.play::<M>(rt, alloc)?;
+    Ok(played)
+}

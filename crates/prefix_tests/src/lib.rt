@@ -1,0 +1,5 @@
+//! Tests of prefixes and maps.
+#![tactic(auto)]
+
+#[cfg(test)]
+mod prefixes;

@@ -1,2 +1,0 @@
-pub mod EmptyMaps
-pub mod Numbers

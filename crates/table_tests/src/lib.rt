@@ -1,0 +1,7 @@
+//! Tests of sessions, of the tables of all peers and of their reports.
+#![tactic(auto)]
+
+#[cfg(test)]
+mod reports;
+#[cfg(test)]
+mod ribs;
