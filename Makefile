@@ -95,7 +95,7 @@ edits:
 
 # Each growth of the tests that say what a refused one leaves fails in turn. The tests are proved and built first.
 growths:
-	for crate in prefix_tests record_tests table_tests lane_tests replay_tests; do (cd crates/$$crate && rt test) || exit 1; done
+	for crate in prefix_tests update_tests record_tests table_tests lane_tests replay_tests; do (cd crates/$$crate && rt test) || exit 1; done
 	tests/growths.sh
 
 same: $(BINARY)

@@ -2,15 +2,15 @@
 # Measures the radix map and the shelf beside std's BTreeMap over the same million prefixes, sorted and in random order:
 # nanoseconds an operation (the best of N runs, which take turns), the ratios to BTreeMap's, and the bytes that an entry adds
 # to the peak of memory. A walk lists the whole map in order, as `entries` does. All must find the same. The program is made in a repository
-# of its own under the folder for temporary files, over a copy of this one's crate.
+# of its own under the folder for temporary files, over copies of this one's crates.
 #   bench/map.sh [ROUNDS]          Needs rt, rustc and GNU time.
 set -eu
 rounds=${1:-5}
 here=$(dirname "$(realpath "$0")"); out=$(dirname "$(mktemp -u)")/bgp_replay_bench/map; program=$out/crates/map_bench
 mkdir -p "$program/src"
 cp "$here/../HANDLES" "$out/"
-printf 'bgp_prefix:\nmap_bench: bgp_prefix anyhow\n' > "$out/crates.txt"
-rm -rf "$out/crates/bgp_prefix"; cp -a "$here/../crates/bgp_prefix" "$out/crates/"
+printf 'bgp_prefix:\nprefix_shelf: bgp_prefix\nmap_bench: bgp_prefix prefix_shelf anyhow\n' > "$out/crates.txt"
+rm -rf "$out/crates/bgp_prefix" "$out/crates/prefix_shelf"; cp -a "$here/../crates/bgp_prefix" "$here/../crates/prefix_shelf" "$out/crates/"
 cp "$here/map_bench.rattle" "$program/src/main.rt"
 (cd "$program" && rt run -- keys > "$out/build.log" 2>&1) || { cat "$out/build.log"; exit 1; }
 rustc --edition 2021 -O -o "$out/map_baseline" "$here/map_baseline.rs"

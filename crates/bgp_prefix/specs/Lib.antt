@@ -6,4 +6,3 @@ pub mod Searches
 pub mod Tries
 pub mod Places
 pub mod Splits
-pub mod Shelves

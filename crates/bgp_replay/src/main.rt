@@ -11,7 +11,6 @@ mod progress;
 mod telling;
 
 use adj_rib::SharedRoute;
-use bgp_prefix::Shelf;
 use command_line::{Job, Usage, read_words};
 use counts::Counts;
 use input::{Input, OpenError, Watched, open_all};
@@ -19,6 +18,7 @@ use lane_deal::{ByTurns, Plan};
 use mrt_frame::Counted;
 use mrt_replay::{run, status};
 use output::{Report, columns};
+use prefix_shelf::Shelf;
 use progress::{Board, Counter};
 use std::env::{Env, FillError};
 use std::io::ErrorKind;

@@ -12,9 +12,9 @@ use Rattle.std.proofs.lemmas.Simd.{map-map}
 use Rattle.rtrb.specs.Ring.{sent, known_free, received, known_items, consumer_capacity, IsPair}
 use Rattle.mrt_body.specs.declared.unit.Damage.{Damage}
 use Rattle.mrt_body.specs.declared.unit.Unit.{Unit as ReplayUnit}
-use Rattle.rib_report.specs.Peers.{peers_of}
-use Rattle.rib_report.specs.Seats.{seat_of}
-use Rattle.rib_report.specs.Tables.{Seat, TablesState, tables_of}
+use Rattle.peer_tables.specs.Peers.{peers_of}
+use Rattle.peer_tables.specs.Seats.{seat_of}
+use Rattle.peer_tables.specs.Tables.{Seat, TablesState, tables_of}
 use Rattle.bgp_prefix.specs.declared.map.PrefixMap.{Ghosts}
 use Rattle.adj_rib.specs.declared.shared_route.SharedRoute.{SharedRoute}
 use Rattle.lane_deal.specs.declared.dealer.Dealer.{Dealer}

@@ -5,6 +5,7 @@ pub mod ScheduleLaws
 pub mod SeatLaws
 pub mod SettledLaws
 pub mod RoundLaws
+pub mod RouteCounts
 pub mod Examples
 pub mod PeerPlaces
 pub mod Moves

@@ -9,7 +9,7 @@ use Rattle.mrt_body.specs.declared.unit.PeerAddr.TheVariants.{V4, V6}
 use Rattle.mrt_body.specs.declared.unit.PeerKey.{PeerKey}
 use Rattle.mrt_body.specs.contracts.unit.PeerAddrPartialEq.TheImpl as addr_impl
 use Rattle.mrt_body.specs.contracts.unit.PeerKeyPartialEq.TheImpl as key_impl
-use Rattle.rib_report.specs.Peers.{peer_eq, addr_eq}
+use Rattle.peer_tables.specs.Peers.{peer_eq, addr_eq}
 use Rattle.lane_deal.specs.Keys.{AreApart, AreListed}
 use Rattle.lane_deal.specs.Numbers.{NumbersPeer, number_in}
 use Rattle.lane_deal.proofs.Peers.{peer_itself, same_peer, first_place}

@@ -11,7 +11,7 @@ use Rattle.mrt_body.specs.declared.unit.PeerAddr.{PeerAddr}
 use Rattle.mrt_body.specs.declared.unit.PeerAddr.TheVariants.{V4, V6}
 use Rattle.mrt_body.specs.declared.unit.PeerKey.{PeerKey}
 use Rattle.mrt_body.specs.declared.unit.Unit.{Unit as ReplayUnit}
-use Rattle.rib_report.specs.Peers.{addr_eq, peer_eq, peers_of, units_of_peer}
+use Rattle.peer_tables.specs.Peers.{addr_eq, peer_eq, peers_of, units_of_peer}
 use Rattle.lane_deal.specs.Lanes.{number_of_peer}
 
 -- ---- equality of peers

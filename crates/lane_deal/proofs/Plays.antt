@@ -12,7 +12,7 @@ use Rattle.mrt_body.specs.declared.unit.Found.{Found}
 use Rattle.mrt_body.specs.declared.unit.Unit.{Unit as ReplayUnit}
 use Rattle.mrt_body.specs.Units.{unit_of, damage_of}
 use Rattle.mrt_body.specs.ToCome.{UnitsState}
-use Rattle.rib_report.specs.Peers.{peers_of}
+use Rattle.peer_tables.specs.Peers.{peers_of}
 use Rattle.bgp_prefix.specs.declared.map.PrefixMap.{Ghosts}
 use Rattle.adj_rib.specs.declared.shared_route.SharedRoute.{SharedRoute}
 use Rattle.lane_deal.specs.declared.dealer.Dealer.{Dealer}

@@ -4,9 +4,9 @@ use Rattle.std.specs.Prelude.{slice_get}
 use Rattle.std.specs.List.{list_any, position_or_len}
 use Rattle.std.proofs.lemmas.Bool.{eqb-true, eq-eqb}
 use Rattle.std.proofs.lemmas.List.{length-map, map-append}
-use Rattle.rib_report.specs.Seats.{seat_of}
-use Rattle.rib_report.specs.Tables.{Seat}
-use Rattle.rib_report.specs.declared.tables.Seated.{Seated}
+use Rattle.peer_tables.specs.Seats.{seat_of}
+use Rattle.peer_tables.specs.Tables.{Seat}
+use Rattle.peer_tables.specs.declared.tables.Seated.{Seated}
 use Rattle.lane_deal.specs.Seating.{AreIndexed}
 use Rattle.lane_deal.proofs.PeerPlaces.{some_is, split_get, place_gets}
 

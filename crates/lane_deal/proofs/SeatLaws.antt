@@ -9,8 +9,8 @@ use Rattle.mrt_body.specs.declared.unit.Damage.{Damage}
 use Rattle.mrt_body.specs.declared.unit.PeerKey.{PeerKey}
 use Rattle.mrt_body.specs.declared.unit.Unit.{Unit as ReplayUnit}
 use Rattle.adj_rib.specs.Sessions.{session_of}
-use Rattle.rib_report.specs.Peers.{peers_of, units_of_peer}
-use Rattle.rib_report.specs.Tables.{Seat, tables_of}
+use Rattle.peer_tables.specs.Peers.{peers_of, units_of_peer}
+use Rattle.peer_tables.specs.Tables.{Seat, tables_of}
 use Rattle.lane_deal.specs.Lanes.{number_of_peer, lane_units, seats_of_lane}
 use Rattle.lane_deal.proofs.Classes.{of_class, by_class, by_class-IsPermutation, all_of}
 use Rattle.lane_deal.proofs.Peers.{units_of_chosen, peers_of_chosen}

@@ -12,10 +12,10 @@ use Rattle.std.proofs.Math.Bool.{or-true}
 use Rattle.mrt_body.specs.declared.unit.PeerKey.{PeerKey}
 use Rattle.mrt_body.specs.declared.unit.Unit.{Unit as ReplayUnit}
 use Rattle.adj_rib.specs.Sessions.{SessionState, session_of}
-use Rattle.rib_report.specs.Peers.{peer_eq, peers_of, units_of_peer}
-use Rattle.rib_report.specs.Seats.{seat_of}
-use Rattle.rib_report.specs.Tables.{Seat}
-use Rattle.rib_report.specs.declared.tables.Seated.{Seated}
+use Rattle.peer_tables.specs.Peers.{peer_eq, peers_of, units_of_peer}
+use Rattle.peer_tables.specs.Seats.{seat_of}
+use Rattle.peer_tables.specs.Tables.{Seat}
+use Rattle.peer_tables.specs.declared.tables.Seated.{Seated}
 use Rattle.lane_deal.specs.declared.numbered.Numbered.{Numbered}
 use Rattle.lane_deal.specs.Keys.{AreApart}
 use Rattle.lane_deal.specs.Numbers.{number_in, units_in}

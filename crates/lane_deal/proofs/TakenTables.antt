@@ -16,9 +16,9 @@ use Rattle.std.proofs.lemmas.Simd.{map-map}
 use Rattle.mrt_body.specs.declared.unit.PeerKey.{PeerKey}
 use Rattle.mrt_body.specs.declared.unit.Unit.{Unit as ReplayUnit}
 use Rattle.adj_rib.specs.Sessions.{session_of}
-use Rattle.rib_report.specs.Peers.{peer_eq, peers_of, units_of_peer}
-use Rattle.rib_report.specs.Seats.{seat_of}
-use Rattle.rib_report.specs.Tables.{Seat, TablesState, tables_of}
+use Rattle.peer_tables.specs.Peers.{peer_eq, peers_of, units_of_peer}
+use Rattle.peer_tables.specs.Seats.{seat_of}
+use Rattle.peer_tables.specs.Tables.{Seat, TablesState, tables_of}
 use Rattle.bgp_prefix.specs.declared.map.PrefixMap.{Ghosts}
 use Rattle.adj_rib.specs.declared.shared_route.SharedRoute.{SharedRoute}
 use Rattle.lane_deal.specs.declared.numbered.Numbered.{Numbered}

@@ -3,9 +3,9 @@ use Rattle.std.specs.Prelude.{◌≡◌, ℕ, ◌<◌, ◌≤◌, List, map, len
 use Rattle.std.specs.List.{flat_map}
 use Rattle.rtrb.specs.declared.consumer.Consumer.{Consumer}
 use Rattle.std.specs.declared.alloc.Global.{Global}
-use Rattle.rib_report.specs.declared.tables.Seated.{Seated}
-use Rattle.rib_report.specs.Seats.{seat_of}
-use Rattle.rib_report.specs.Tables.{Seat}
+use Rattle.peer_tables.specs.declared.tables.Seated.{Seated}
+use Rattle.peer_tables.specs.Seats.{seat_of}
+use Rattle.peer_tables.specs.Tables.{Seat}
 use Rattle.bgp_prefix.specs.declared.map.PrefixMap.{Ghosts}
 use Rattle.adj_rib.specs.declared.shared_route.SharedRoute.{SharedRoute}
 use Rattle.lane_deal.specs.declared.numbered.Small.{Small}

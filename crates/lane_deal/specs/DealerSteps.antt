@@ -8,7 +8,7 @@ use Rattle.mrt_body.specs.declared.unit.Found.{Found}
 use Rattle.mrt_body.specs.declared.unit.Unit.{Unit as ReplayUnit}
 use Rattle.mrt_body.specs.Units.{unit_of, damage_of}
 use Rattle.mrt_body.specs.ToCome.{UnitsState, as_found}
-use Rattle.rib_report.specs.Peers.{peer_eq, peers_of}
+use Rattle.peer_tables.specs.Peers.{peer_eq, peers_of}
 use Rattle.lane_deal.specs.declared.dealer.Dealer.{Dealer}
 use Rattle.lane_deal.specs.declared.feed.Feed.{Feed}
 use Rattle.lane_deal.specs.declared.step.Step.{Step}

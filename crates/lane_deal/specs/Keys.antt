@@ -2,7 +2,7 @@
 use Rattle.std.specs.Prelude.{◌≡◌, ◌↔◌, ℕ, List, Option, Some, slice_get}
 use Rattle.std.specs.List.{position_or_len}
 use Rattle.mrt_body.specs.declared.unit.PeerKey.{PeerKey}
-use Rattle.rib_report.specs.Peers.{peer_eq}
+use Rattle.peer_tables.specs.Peers.{peer_eq}
 
 -- no peer stands there twice: each one's place is the first at which it stands
 abbrev pub AreApart : List PeerKey → Type 0

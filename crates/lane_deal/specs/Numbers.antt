@@ -3,7 +3,7 @@ use Rattle.std.specs.Prelude.{◌≡◌, ℕ, List, [], ◌∷◌, ◌++◌, map
 use Rattle.std.specs.List.{list_any, position_or_len}
 use Rattle.mrt_body.specs.declared.unit.PeerKey.{PeerKey}
 use Rattle.mrt_body.specs.declared.unit.Unit.{Unit as ReplayUnit}
-use Rattle.rib_report.specs.Peers.{peer_eq}
+use Rattle.peer_tables.specs.Peers.{peer_eq}
 use Rattle.lane_deal.specs.declared.numbered.Numbered.{Numbered}
 
 -- the number of a peer among these

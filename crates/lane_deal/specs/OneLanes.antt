@@ -1,7 +1,7 @@
 -- What a lane on one thread holds.
 use Rattle.std.specs.Prelude.{ℕ, List}
-use Rattle.rib_report.specs.declared.tables.Seated.{Seated}
-use Rattle.rib_report.specs.Tables.{Seat}
+use Rattle.peer_tables.specs.declared.tables.Seated.{Seated}
+use Rattle.peer_tables.specs.Tables.{Seat}
 use Rattle.bgp_prefix.specs.declared.map.PrefixMap.{Ghosts}
 use Rattle.adj_rib.specs.declared.shared_route.SharedRoute.{SharedRoute}
 use Rattle.lane_deal.specs.declared.numbered.Numbered.{Numbered}

@@ -1,10 +1,13 @@
 -- What a replayer shows between two rounds, and the units and refusals that it stands for.
 use Rattle.std.specs.Prelude.{◌≡◌, ℕ, ◌+◌, ◌-◌, ◌^◌, ◌<◌, ◌≤◌, min, Bool, false, List, [], ◌++◌, length, Option, Some, option_to_list, slice_get}
+use Rattle.std.specs.List.{flat_map}
+use Rattle.bgp_prefix.specs.declared.key.RouteKey.{RouteKey}
+use Rattle.bgp_update.specs.declared.route.Route.{Route}
 use Rattle.mrt_body.specs.declared.unit.Damage.{Damage}
 use Rattle.mrt_body.specs.declared.unit.PeerKey.{PeerKey}
 use Rattle.mrt_body.specs.declared.unit.Unit.{Unit as ReplayUnit}
-use Rattle.rib_report.specs.Peers.{peers_of}
-use Rattle.rib_report.specs.Tables.{Seat}
+use Rattle.peer_tables.specs.Peers.{peers_of}
+use Rattle.peer_tables.specs.Tables.{Seat, seat_routes}
 use Rattle.lane_deal.specs.declared.numbered.Numbered.{Numbered}
 use Rattle.lane_deal.specs.Lanes.{lane_units, seats_of_lane}
 use Rattle.lane_deal.specs.Numbers.{numbered}
@@ -31,6 +34,10 @@ pub record ReplayerState : Type 0 where
   pub refused : List Damage
   pub dealt : ℕ
   pub spent : Bool
+
+-- every route of the lanes' sessions, lane after lane
+abbrev pub held_routes : ReplayerState → List (RouteKey × Route)
+held_routes r = flat_map (λ lane. seat_routes lane.seats) r.lanes
 
 -- These units wait in a ring of this capacity: all that was sent, none of it received and all of it known to wait. All other slots are
 -- known as free.

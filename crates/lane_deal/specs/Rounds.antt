@@ -5,7 +5,7 @@ use Rattle.mrt_body.specs.declared.unit.Damage.{Damage}
 use Rattle.mrt_body.specs.declared.unit.Found.{Found}
 use Rattle.mrt_body.specs.declared.unit.Unit.{Unit as ReplayUnit}
 use Rattle.mrt_body.specs.Units.{unit_of, damage_of}
-use Rattle.rib_report.specs.Peers.{peer_eq}
+use Rattle.peer_tables.specs.Peers.{peer_eq}
 use Rattle.lane_deal.specs.declared.plan.Plan.{Plan}
 use Rattle.lane_deal.specs.declared.step.Step.{Step}
 use Rattle.lane_deal.specs.declared.step.Step.TheVariants.{Blocked, FullBatch, End}

@@ -4,8 +4,8 @@ use Rattle.std.specs.List.{AllByRecursion, list_any}
 use Rattle.mrt_body.specs.declared.unit.PeerKey.{PeerKey}
 use Rattle.mrt_body.specs.declared.unit.Unit.{Unit as ReplayUnit}
 use Rattle.adj_rib.specs.Sessions.{session_of}
-use Rattle.rib_report.specs.Peers.{peer_eq, peers_of, units_of_peer}
-use Rattle.rib_report.specs.Tables.{Seat}
+use Rattle.peer_tables.specs.Peers.{peer_eq, peers_of, units_of_peer}
+use Rattle.peer_tables.specs.Tables.{Seat}
 use Rattle.lane_deal.specs.declared.numbered.Numbered.{Numbered}
 use Rattle.lane_deal.specs.Numbers.{units_in}
 

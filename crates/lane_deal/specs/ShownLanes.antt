@@ -1,7 +1,7 @@
 -- What lanes on one thread show.
 use Rattle.std.specs.Prelude.{◌≡◌, ℕ, ◌<◌, ◌≤◌, ◌-◌, ◌^◌, List, [], length, map, min, slice_index_or}
 use Rattle.mrt_body.specs.declared.unit.Unit.{Unit as ReplayUnit}
-use Rattle.rib_report.specs.Peers.{peers_of}
+use Rattle.peer_tables.specs.Peers.{peers_of}
 use Rattle.bgp_prefix.specs.declared.map.PrefixMap.{Ghosts}
 use Rattle.adj_rib.specs.declared.shared_route.SharedRoute.{SharedRoute}
 use Rattle.lane_deal.specs.declared.numbered.Numbered.{Numbered}

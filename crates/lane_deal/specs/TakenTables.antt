@@ -3,8 +3,8 @@ use Rattle.std.specs.Prelude.{ℕ, List, [], map}
 use Rattle.std.specs.List.{filter, flat_map, list_any, range_with_len}
 use Rattle.mrt_body.specs.declared.unit.Unit.{Unit as ReplayUnit}
 use Rattle.adj_rib.specs.Sessions.{session_of}
-use Rattle.rib_report.specs.Peers.{peer_eq, peers_of, units_of_peer}
-use Rattle.rib_report.specs.Tables.{Seat, TablesState}
+use Rattle.peer_tables.specs.Peers.{peer_eq, peers_of, units_of_peer}
+use Rattle.peer_tables.specs.Tables.{Seat, TablesState}
 use Rattle.lane_deal.specs.Lanes.{number_of_peer}
 use Rattle.lane_deal.specs.Schedules.{LanesState}
 

@@ -3,7 +3,7 @@
 ghost use Rattle.std.specs.Prelude.{◌≡◌, List, IfOk, IfErr, IsPermutation, length, map, nat_eq};
 ghost use Rattle.std.specs.List.{IsDistinct};
 ghost use Rattle.std.specs.List.Sorted.{IsStrictlyIncreasing};
-ghost use Rattle.rib_report.specs.Tables.{Seat};
+ghost use Rattle.peer_tables.specs.Tables.{Seat};
 ghost use Rattle.lane_deal.specs.Collecting.{ExchangedBelow, seats_held};
 
 use crate::holding::{HoldsSeats, exchange_seats};
@@ -12,7 +12,7 @@ use crate::worker::Worker;
 use adj_rib::SharedRoute;
 use bgp_prefix::{Memory, PrefixMap, Sequence};
 use mrt_body::Damage;
-use rib_report::{Gathered, Seated, Tables, collect};
+use peer_tables::{Gathered, Seated, Tables, collect};
 use std::alloc::Global;
 
 /// The worker of a lane.

@@ -5,14 +5,14 @@ ghost use Rattle.std.specs.Prelude.{◌≡◌};
 use crate::seats::Seats;
 use adj_rib::SharedRoute;
 use bgp_prefix::{PrefixMap, Sequence};
-use rib_report::Seated;
+use peer_tables::Seated;
 use std::alloc::Global;
 use std::mem;
 
 /// What holds a lane's sessions, which can be handed in and given back.
 pub trait HoldsSeats<M: PrefixMap<SharedRoute>> {
     ghost use Rattle.std.specs.Prelude.{List};
-    ghost use Rattle.rib_report.specs.declared.tables.Seated.{Seated};
+    ghost use Rattle.peer_tables.specs.declared.tables.Seated.{Seated};
 
     /// All that it shows.
     ghost State: { Type 0 };

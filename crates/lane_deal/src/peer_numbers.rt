@@ -5,7 +5,7 @@ ghost use Rattle.std.specs.HashMap as hash;
 ghost use Rattle.std.specs.List.{list_any};
 ghost use Rattle.mrt_body.specs.contracts.unit.PeerKeyPartialEq.TheImpl as key_impl;
 ghost use Rattle.mrt_body.specs.declared.unit.PeerKey.{PeerKey as Peer};
-ghost use Rattle.rib_report.specs.Peers.{peer_eq, addr_eq};
+ghost use Rattle.peer_tables.specs.Peers.{peer_eq, addr_eq};
 ghost use Rattle.lane_deal.specs.Keys.{AreApart, AreListed};
 
 use bgp_prefix::Memory;

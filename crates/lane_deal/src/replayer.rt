@@ -23,7 +23,7 @@ use adj_rib::SharedRoute;
 use bgp_prefix::{Memory, PrefixMap};
 use mrt_body::Units;
 use mrt_frame::{ReplayError, Source};
-use rib_report::Tables;
+use peer_tables::{Tables, count_routes};
 use std::alloc::Global;
 use std::thread::Threads;
 
@@ -179,7 +179,7 @@ impl<M: PrefixMap<SharedRoute> + Drop, D: Dealing + Drop> Replayer<M, D> {
     ghost use Rattle.std.specs.Prelude.{◌≡◌, ◌≢◌, List, IfOk, IfErr, IsErr};
     ghost use Rattle.mrt_body.specs.declared.unit.Damage.{Damage};
     ghost use Rattle.mrt_body.specs.declared.unit.Unit.{Unit as ReplayUnit};
-    ghost use Rattle.rib_report.specs.Tables.{tables_of};
+    ghost use Rattle.peer_tables.specs.Tables.{tables_of};
     ghost use Rattle.lane_deal.specs.declared.state.State.TheVariants.{Spent};
     ghost use Rattle.lane_deal.specs.Playing.{shown};
     ghost use Rattle.lane_deal.specs.Replayers.{ReplayerStandsFor};
@@ -238,8 +238,8 @@ impl<M: PrefixMap<SharedRoute> + Drop, D: Dealing + Drop> Replayer<M, D> {
 }
 
 impl<M: PrefixMap<SharedRoute>, D: Dealing> Replayer<M, D> {
-    ghost use Rattle.std.specs.Prelude.{ℕ, ◌<◌, ◌≤◌, ◌≡◌, ◌≢◌, true, length, slice_get};
-    ghost use Rattle.lane_deal.specs.Replayers.{LaneState};
+    ghost use Rattle.std.specs.Prelude.{ℕ, ◌<◌, ◌≤◌, ◌≡◌, ◌≢◌, ◌^◌, ◌-◌, true, length, min, slice_get};
+    ghost use Rattle.lane_deal.specs.Replayers.{LaneState, held_routes};
     ghost use Rattle.lane_deal.specs.Playing.{shown};
     ghost use Rattle.lane_deal.specs.Rounds.{IsSettled};
     ghost use Rattle.lane_deal.specs.declared.state.State.TheVariants.{Spent};
@@ -261,12 +261,12 @@ impl<M: PrefixMap<SharedRoute>, D: Dealing> Replayer<M, D> {
     }
 
     /// How many routes the tables of all lanes have. It stops at `u64::MAX`. It goes over all sessions.
-    pub fn routes(&self) -> u64 {
+    pub fn routes(&self) -> u64
+        ensures { self.now.state ≢ Spent → result ≡ min (length (held_routes (shown self.now))) (2 ^ 64 - 1) }
+    {
         let mut count = 0u64;
         for worker in &self.workers {
-            for seat in &worker.sessions.seats {
-                count = count.saturating_add(seat.session.table().len() as u64);
-            }
+            count = count.saturating_add(count_routes(worker.sessions.seats.as_slice()));
         }
         count
     }

@@ -2,7 +2,7 @@
 
 ghost use Rattle.std.specs.Prelude.{◌≡◌, ℕ, ◌<◌, ◌++◌, ◌∷◌, [], List, length, take, drop, IfOk, OnOk};
 ghost use Rattle.mrt_body.specs.declared.unit.Unit.{Unit as ReplayUnit};
-ghost use Rattle.rib_report.specs.Peers.{peers_of};
+ghost use Rattle.peer_tables.specs.Peers.{peers_of};
 ghost use Rattle.lane_deal.specs.Lanes.{lane_of_unit};
 ghost use Rattle.lane_deal.specs.Numbers.{numbered};
 ghost use Rattle.lane_deal.specs.Schedules.{LanesState, dealt, took, after_turn, after_turns, start};
@@ -19,7 +19,7 @@ use crate::turn::Turn;
 use adj_rib::{AttrHash, SharedRoute};
 use bgp_prefix::{Memory, PrefixMap, Sequence};
 use mrt_body::Unit;
-use rib_report::Seated;
+use peer_tables::Seated;
 use std::alloc::Global;
 use std::collections::VecDeque;
 

@@ -10,7 +10,7 @@ use crate::numbered::Numbered;
 use crate::schedule::OneLane;
 use adj_rib::SharedRoute;
 use bgp_prefix::{Memory, PrefixMap};
-use rib_report::Tables;
+use peer_tables::Tables;
 use std::alloc::Global;
 use std::collections::VecDeque;
 
@@ -25,7 +25,7 @@ pub struct Lanes<M: PrefixMap<SharedRoute>> {
 impl<M: PrefixMap<SharedRoute> + Drop> Lanes<M> {
     ghost use Rattle.std.specs.Prelude.{◌≡◌, ℕ, ◌-◌, ◌^◌, List, [], length, min, IfOk, IfErr};
     ghost use Rattle.mrt_body.specs.declared.unit.Unit.{Unit as ReplayUnit};
-    ghost use Rattle.rib_report.specs.Tables.{tables_of};
+    ghost use Rattle.peer_tables.specs.Tables.{tables_of};
     ghost use Rattle.lane_deal.specs.Schedules.{LanesState};
     ghost use Rattle.lane_deal.specs.ShownLanes.{Shows, ShowsSame};
     ghost use Rattle.lane_deal.specs.TakenTables.{tables_taken};

@@ -2,7 +2,7 @@
 
 ghost use Rattle.std.specs.Prelude.{◌≡◌, ◌<◌, ℕ, Some, false, length, map, slice_get, slice_index_or, IfOk, IfSome, OnOk, IsTrue, MatchOption, true, ◌==◌};
 ghost use Rattle.std.specs.List.{list_any};
-ghost use Rattle.rib_report.specs.Seats.{seat_of};
+ghost use Rattle.peer_tables.specs.Seats.{seat_of};
 ghost use Rattle.lane_deal.specs.Seating.{AreIndexed, SeatFor, TakenAt};
 
 use crate::numbered::Numbered;
@@ -11,7 +11,7 @@ use crate::sessions::Sessions;
 use adj_rib::{AttrHash, Session, SharedRoute};
 use bgp_prefix::{Memory, PrefixMap};
 use mrt_body::{PeerKey, Unit};
-use rib_report::Seated;
+use peer_tables::Seated;
 use std::alloc::Global;
 use std::mem;
 
@@ -179,7 +179,7 @@ impl<M: PrefixMap<SharedRoute> + Drop> Seats<M> {
 
 impl<M: PrefixMap<SharedRoute> + Drop> Sessions for Seats<M> {
     ghost use Rattle.std.specs.Prelude.{map};
-    ghost use Rattle.rib_report.specs.Seats.{seat_of};
+    ghost use Rattle.peer_tables.specs.Seats.{seat_of};
     ghost use Rattle.lane_deal.specs.Seating.{HoldsUnits};
 
     ghost stands_for = { λ s items. HoldsUnits (map seat_of s.seats.items) items };

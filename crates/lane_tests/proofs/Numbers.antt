@@ -4,12 +4,12 @@ use Rattle.std.specs.List.{IsDistinct, AllByRecursion, range_with_len}
 use Rattle.std.proofs.lemmas.Bool.{ne_eqb}
 use Rattle.std.proofs.lemmas.List.{map-append, append-nil}
 use Rattle.std.proofs.lemmas.Simd.{map-map}
-use Rattle.rib_report.specs.declared.tables.Seated.{Seated}
-use Rattle.rib_report.specs.declared.tables.Gathered.{Gathered}
-use Rattle.rib_report.specs.Gathers.{gathered_seats}
+use Rattle.peer_tables.specs.declared.tables.Seated.{Seated}
+use Rattle.peer_tables.specs.declared.tables.Gathered.{Gathered}
+use Rattle.peer_tables.specs.Gathers.{gathered_seats}
 use Rattle.std.specs.List.{flat_map}
-use Rattle.rib_report.specs.Tables.{Seat}
-use Rattle.rib_report.specs.Seats.{seat_of}
+use Rattle.peer_tables.specs.Tables.{Seat}
+use Rattle.peer_tables.specs.Seats.{seat_of}
 
 range_with_suc : (a n : ℕ) → range_with_len a (suc n) ≡ range_with_len a n ++ (a + n) ∷ []
 range_with_suc a zero = ap (λ k. k ∷ []) (sym (add-zero a))

@@ -10,7 +10,6 @@ use std::alloc::Global;
 use std::io::ErrorKind;
 use std::marker::Sync;
 use std::process::Abort;
-use std::test::Fail;
 use std::thread::Threads;
 
 const THREE_PEERS: &str = "M MB M MC MB";
@@ -47,22 +46,28 @@ const TABLES_OF_FRONTS: [&str; 6] = [
 ",
 ];
 
-/// A batch that takes all units, played until a read fails and settled: the units that came before.
-fn expect_salvage(
-    rt: &(impl Threads + Abort + Sync),
+/// A replay of these bytes, whose reader fails in place of its end. A batch takes all units.
+fn play_of<'a>(
+    rt: &impl Abort,
     alloc: Global,
-    rest: &[u8],
+    rest: &'a [u8],
     workers: usize,
-) -> Result<(), Fail> {
+) -> Play<Radix<SharedRoute>, Counted<Dripping<'a>>> {
     let plan = Plan {
         workers,
         batch: 1_048_576,
         ..PLAN
     };
-    let kind = ErrorKind::Interrupted;
     let mut readers = Vec::new(alloc);
-    readers.push(Counted::new(Dripping::new(rest, Some(kind))))?;
-    let mut play = Play::<Radix<SharedRoute>, _>::new(rt, alloc, readers, plan)?;
+    let dripping = Dripping::new(rest, Some(ErrorKind::Interrupted));
+    let pushed = readers.push(Counted::new(dripping));
+    pushed.expect(rt, "memory for a reader");
+    Play::new(rt, alloc, readers, plan).expect(rt, "memory for a replayer")
+}
+
+/// Plays until a read fails, and settles: the units that came before.
+fn expect_salvage(rt: &(impl Threads + Abort + Sync), alloc: Global, rest: &[u8], workers: usize) {
+    let mut play = play_of(rt, alloc, rest, workers);
     let k = rest.len();
     let failed = play.round_until(rt, alloc, "Read 0");
     assert!(rt; failed, "a read that fails at {k}, {workers} workers");
@@ -72,19 +77,18 @@ fn expect_salvage(
         play.count("took") == Some(units as u64),
         "units before {k}"
     );
-    let (answer, text) = play.into_text(rt, alloc)?;
+    let (answer, text) = play.into_text(rt, alloc).expect(rt, "memory for a text");
     assert!(rt; answer == "Ok", "tables at {k}");
-    let expected = TABLES_OF_FRONTS.get(units).ok_or("five units at most")?;
+    let expected = TABLES_OF_FRONTS.get(units);
+    let expected = expected.expect(rt, "five units at most");
     assert!(rt; text.as_slice() == expected.as_bytes(), "the tables at {k}");
-    Ok(())
 }
 
 #[test]
-fn salvage_at_every_failed_read(rt: HostRuntime) -> Result<(), Fail> {
+fn salvage_at_every_failed_read(rt: HostRuntime) {
     let alloc = rt.alloc();
-    let bytes = dump(alloc, THREE_PEERS)?;
+    let bytes = dump(alloc, THREE_PEERS).expect(&rt, "memory for a dump");
     for k in 0..=bytes.len() {
-        expect_salvage(&rt, alloc, &bytes.as_slice()[..k], 1 + k % 4)?;
+        expect_salvage(&rt, alloc, &bytes.as_slice()[..k], 1 + k % 4);
     }
-    Ok(())
 }

@@ -6,7 +6,7 @@ use adj_rib::{Session, SharedRoute};
 use bgp_prefix::{Radix, Sequence};
 use fixtures::dump;
 use mrt_body::{Found, PeerAddr, PeerKey, Unit, Units};
-use mrt_frame::Counted;
+use mrt_frame::{Counted, ReplayError};
 use rib_report::{Gathered, Seated, Tables, collect, table_rows};
 use std::alloc::Global;
 use std::process::Abort;
@@ -15,17 +15,28 @@ use std::test::Fail;
 /// What a file gives, to its end.
 pub fn found_in(rt: &impl Abort, alloc: Global, words: &str) -> Result<Vec<Found>, Fail> {
     let bytes = dump(alloc, words)?;
-    let mut readers = [Counted::new(bytes.as_slice())];
-    let mut units = Units::new(1, 1 << 47, None);
     let mut all = Vec::new(alloc);
+    push_found(rt, alloc, bytes.as_slice(), &mut all)?;
+    Ok(all)
+}
+
+/// Adds what these bytes give, to their end.
+fn push_found(
+    rt: &impl Abort,
+    alloc: Global,
+    bytes: &[u8],
+    all: &mut Vec<Found>,
+) -> Result<(), ReplayError> {
+    let mut readers = [Counted::new(bytes)];
+    let mut units = Units::new(1, 1 << 47, None);
     for _ in 0..1_000_000u32 {
         assert!(rt; readers.len() == units.count());
         match units.next(alloc, &mut readers)? {
             Some(found) => all.push(found)?,
-            None => return Ok(all),
+            None => break,
         }
     }
-    Ok(all)
+    Ok(())
 }
 
 /// The only unit of one record.
@@ -48,30 +59,41 @@ fn state_changes_of_a_new_session(rt: HostRuntime) -> Result<(), Fail> {
         ("S60", false, 2),
         ("S00", false, 3),
     ] {
-        session.take(alloc, &unit_in(&rt, alloc, record)?)?;
+        take(&rt, alloc, &mut session, record)?;
         assert!(rt; session.is_up() == is_up, "up after {record}");
         assert!(rt; session.churn().resets == resets, "resets after {record}");
     }
     Ok(())
 }
 
+/// Has a session take the only unit of a record.
+fn take(
+    rt: &impl Abort,
+    alloc: Global,
+    session: &mut Session<Radix<SharedRoute>>,
+    record: &str,
+) -> Result<(), Fail> {
+    let unit = unit_in(rt, alloc, record)?;
+    Ok(session.take(alloc, &unit)?)
+}
+
 /// A session that took the announcement of 10.0.0.0/8.
 fn session_of(rt: &impl Abort, alloc: Global) -> Result<Session<Radix<SharedRoute>>, Fail> {
     let mut session = Session::new(alloc);
-    let unit = unit_in(rt, alloc, "M")?;
-    session.take(alloc, &unit)?;
+    take(rt, alloc, &mut session, "M")?;
     Ok(session)
 }
 
 /// One lane with one peer, which has this number and an address of this number.
 fn lane_of(
+    rt: &impl Abort,
     alloc: Global,
     number: usize,
     addr: u32,
-    session: Session<Radix<SharedRoute>>,
 ) -> Result<Sequence<Seated<Radix<SharedRoute>>>, Fail>
     ensures { IfOk result (λ lane. map (λ seat. seat.number) lane ≡ number ∷ []) }
 {
+    let session = session_of(rt, alloc)?;
     let mut lane = Vec::new(alloc);
     let key = PeerKey {
         asn: 65_000,
@@ -124,15 +146,14 @@ fn expect_two_peers(
 #[test]
 fn collect_orders_by_number(rt: HostRuntime) -> Result<(), Fail> {
     let alloc = rt.alloc();
-    let later = lane_of(alloc, 1, 1, session_of(&rt, alloc)?)?;
-    let earlier = lane_of(alloc, 0, 0, session_of(&rt, alloc)?)?;
+    let later = lane_of(&rt, alloc, 1, 1)?;
+    let earlier = lane_of(&rt, alloc, 0, 0)?;
     let gathered = two_lanes(alloc, later, earlier)?;
     match collect(alloc, gathered) {
-        Ok(tables) => expect_two_peers(&rt, alloc, &tables)?,
+        Ok(tables) => expect_two_peers(&rt, alloc, &tables),
         Err((back, _)) => match collect(alloc, back) {
-            Ok(tables) => expect_two_peers(&rt, alloc, &tables)?,
-            Err(_) => assert!(rt; false, "collected"),
+            Ok(tables) => expect_two_peers(&rt, alloc, &tables),
+            Err(_) => panic!(rt; "collected"),
         },
     }
-    Ok(())
 }

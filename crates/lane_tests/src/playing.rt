@@ -6,7 +6,7 @@ ghost use Rattle.lane_deal.specs.Rounds.{IsSettled};
 ghost use Rattle.lane_deal.specs.declared.state.State.TheVariants.{Spent};
 
 use adj_rib::SharedRoute;
-use bgp_prefix::PrefixMap;
+use bgp_prefix::{Memory, PrefixMap};
 use fixtures::dump;
 use lane_deal::{ByTurns, Dealing, NoGate, Plan, Replayer, Step};
 use mrt_body::Units;
@@ -16,7 +16,6 @@ use std::alloc::Global;
 use std::io::{self, ErrorKind, Read};
 use std::marker::Sync;
 use std::process::Abort;
-use std::test::Fail;
 use std::thread::Threads;
 
 /// The plan of the rows.
@@ -81,13 +80,14 @@ impl<M: PrefixMap<SharedRoute> + Send + Drop, R: Source + Send + Drop> Play<M, R
         alloc: Global,
         readers: Vec<R>,
         plan: Plan,
-    ) -> Result<Play<M, R>, Fail> {
+    ) -> Result<Play<M, R>, Memory> {
         assert!(rt; plan.check());
+        let replayer = Replayer::new(alloc, plan, ByTurns)?;
         Ok(Play {
             lanes: plan.workers,
             units: Units::new(readers.len(), plan.max_records, plan.until),
             readers,
-            replayer: Replayer::new(alloc, plan, ByTurns)?,
+            replayer,
         })
     }
 
@@ -177,29 +177,49 @@ impl<M: PrefixMap<SharedRoute> + Send + Drop, R: Source + Send + Drop> Play<M, R
         }
     }
 
+    /// Does what a line says, if that is a call: whether its answer is the wanted one.
+    fn does(
+        &mut self,
+        rt: &(impl Threads + Abort + Sync),
+        alloc: Global,
+        line: &str,
+    ) -> Option<bool> {
+        if let Some(wanted) = line.strip_prefix("round until ") {
+            Some(self.round_until(rt, alloc, wanted))
+        } else if let Some(wanted) = line.strip_prefix("round ") {
+            Some(self.round(rt, alloc) == wanted)
+        } else if let Some(wanted) = line.strip_prefix("settle ") {
+            Some(self.settle(rt, alloc) == wanted)
+        } else if let Some(wanted) = line.strip_prefix("units until ") {
+            Some(self.ask_until(rt, alloc, wanted))
+        } else {
+            None
+        }
+    }
+
+    /// Whether the state is the one that a line says, if it says one.
+    fn is_so(&self, line: &str) -> Option<bool> {
+        match line {
+            "settled" => Some(self.replayer.is_settled()),
+            "unsettled" => Some(!self.replayer.is_settled()),
+            "spent" => Some(self.replayer.is_spent()),
+            "unspent" => Some(!self.replayer.is_spent()),
+            "dealt 1 or 2" => Some((1..=2).contains(&self.replayer.dealt())),
+            _ => None,
+        }
+    }
+
     /// Does what a line says, or looks at what it says.
     fn step(&mut self, rt: &(impl Threads + Abort + Sync), alloc: Global, row: &str, line: &str) {
-        if let Some(wanted) = line.strip_prefix("round until ") {
-            assert!(rt; self.round_until(rt, alloc, wanted), "{line} in {row}");
-        } else if let Some(wanted) = line.strip_prefix("round ") {
-            assert!(rt; self.round(rt, alloc) == wanted, "{line} in {row}");
-        } else if let Some(wanted) = line.strip_prefix("settle ") {
-            assert!(rt; self.settle(rt, alloc) == wanted, "{line} in {row}");
-        } else if let Some(wanted) = line.strip_prefix("units until ") {
-            assert!(rt; self.ask_until(rt, alloc, wanted), "{line} in {row}");
-        } else if let Some(counts) = line.strip_prefix("shows ") {
+        if let Some(counts) = line.strip_prefix("shows ") {
             self.shows(rt, row, counts);
         } else {
-            match line {
-                "settled" => assert!(rt; self.replayer.is_settled(), "{line} in {row}"),
-                "unsettled" => assert!(rt; !self.replayer.is_settled(), "{line} in {row}"),
-                "spent" => assert!(rt; self.replayer.is_spent(), "{line} in {row}"),
-                "unspent" => assert!(rt; !self.replayer.is_spent(), "{line} in {row}"),
-                "dealt 1 or 2" => {
-                    assert!(rt; (1..=2).contains(&self.replayer.dealt()), "{line} in {row}");
-                }
-                _ => assert!(rt; false, "a line that says nothing: {line}"),
-            }
+            let answer = match self.does(rt, alloc, line) {
+                Some(as_wanted) => Some(as_wanted),
+                None => self.is_so(line),
+            };
+            assert!(rt; answer.is_some(), "a line that says nothing: {line}");
+            assert!(rt; answer == Some(true), "{line} in {row}");
         }
         assert!(rt; self.adds_up(), "units after {line} in {row}");
     }
@@ -209,14 +229,9 @@ impl<M: PrefixMap<SharedRoute> + Send + Drop, R: Source + Send + Drop> Play<M, R
         self,
         rt: &impl Abort,
         alloc: Global,
-    ) -> Result<(&'static str, Vec<u8>), Fail> {
-        let mut out = Counted::new(Vec::<u8>::new(alloc));
+    ) -> Result<(&'static str, Vec<u8>), ReplayError> {
         match tables_of(rt, alloc, self.replayer) {
-            Ok(tables) => {
-                write_rows(&mut out, table_rows(alloc, &tables)?.as_slice())?;
-                write_churn(&mut out, churn(alloc, &tables)?.as_slice())?;
-                Ok(("Ok", Vec::from_slice(alloc, out.device().as_slice())?))
-            }
+            Ok(tables) => Ok(("Ok", text_of(alloc, &tables)?)),
             Err(error) => Ok((error_name(&error), Vec::new(alloc))),
         }
     }
@@ -230,6 +245,25 @@ impl<M: PrefixMap<SharedRoute> + Send + Drop, R: Source + Send + Drop> Play<M, R
             Err(error) => assert!(rt; error == ReplayError::Spent),
         }
     }
+}
+
+/// The routes and the churn of these tables.
+fn text_of<M: PrefixMap<SharedRoute>>(
+    alloc: Global,
+    tables: &Tables<M>,
+) -> Result<Vec<u8>, ReplayError> {
+    let mut out = Counted::new(Vec::<u8>::new(alloc));
+    write_text(alloc, tables, &mut out)?;
+    Ok(Vec::from_slice(alloc, out.device().as_slice())?)
+}
+
+fn write_text<M: PrefixMap<SharedRoute>>(
+    alloc: Global,
+    tables: &Tables<M>,
+    out: &mut Counted<Vec<u8>>,
+) -> Result<(), ReplayError> {
+    write_rows(out, table_rows(alloc, tables)?.as_slice())?;
+    write_churn(out, churn(alloc, tables)?.as_slice())
 }
 
 /// The tables of a replayer. Where a growth is refused it comes back, and the call is made again.
@@ -320,72 +354,110 @@ impl<'a> Row<'a> {
         }
     }
 
+    /// Adds a file of these records.
+    fn add_file(&mut self, rt: &impl Abort, alloc: Global, words: &str, fails: bool) {
+        let bytes = dump(alloc, words).expect(rt, "memory for a file");
+        let file = File { bytes, fails };
+        self.files.push(file).expect(rt, "memory for a row");
+    }
+
+    /// Takes a line that isn't a row's first.
+    fn take(&mut self, rt: &impl Abort, alloc: Global, line: &'a str) {
+        if let Some(words) = line.strip_prefix("file") {
+            self.add_file(rt, alloc, words, false);
+        } else if let Some(words) = line.strip_prefix("broken") {
+            self.add_file(rt, alloc, words, true);
+        } else if let Some(words) = line.strip_prefix("plan ") {
+            self.set_plan(words);
+        } else if !line.is_empty() {
+            self.lines.push(line).expect(rt, "memory for a row");
+        }
+    }
+
+    /// A reader of each file.
+    fn readers(&self, rt: &impl Abort, alloc: Global) -> Vec<Counted<Giving<'_>>> {
+        let mut readers = Vec::new(alloc);
+        for file in &self.files {
+            let giving = Giving {
+                rest: file.bytes.as_slice(),
+                fails: file.fails,
+            };
+            let pushed = readers.push(Counted::new(giving));
+            pushed.expect(rt, "memory for a reader");
+        }
+        readers
+    }
+
+    /// The lines of the tables that the row expects.
+    fn expected(&self, rt: &impl Abort, alloc: Global) -> Vec<u8> {
+        let mut expected = Vec::new(alloc);
+        for line in &self.lines {
+            if let Some(text) = line.strip_prefix("> ") {
+                let added = expected.extend_from_slice(text.as_bytes());
+                added.expect(rt, "memory for a line");
+                expected.push(b'\n').expect(rt, "memory for a line");
+            }
+        }
+        expected
+    }
+
+    /// Compares an ending with what the row expects.
+    fn expect_ending(
+        &self,
+        rt: &impl Abort,
+        alloc: Global,
+        wanted: &str,
+        answer: &str,
+        text: &[u8],
+    ) {
+        let name = self.name;
+        assert!(rt; answer == wanted, "into_tables in {name}");
+        let expected = self.expected(rt, alloc);
+        assert!(rt; text == expected.as_slice(), "the tables in {name}");
+    }
+
     fn play<M: PrefixMap<SharedRoute> + Send + Drop>(
         &self,
         rt: &(impl Threads + Abort + Sync),
         alloc: Global,
-    ) -> Result<(), Fail> {
-        let mut readers = Vec::new(alloc);
-        for file in &self.files {
-            readers.push(Counted::new(Giving {
-                rest: file.bytes.as_slice(),
-                fails: file.fails,
-            }))?;
-        }
-        let mut play = Play::<M, _>::new(rt, alloc, readers, self.plan)?;
-        let mut expected = Vec::new(alloc);
+    ) {
+        let readers = self.readers(rt, alloc);
+        let mut play = Play::<M, _>::new(rt, alloc, readers, self.plan).expect(
+            rt,
+            "memory for a replayer",
+        );
         for line in &self.lines {
-            if let Some(text) = line.strip_prefix("> ") {
-                expected.extend_from_slice(text.as_bytes())?;
-                expected.push(b'\n')?;
-            } else if !line.starts_with("into_tables ") {
+            if !line.starts_with("> ") && !line.starts_with("into_tables ") {
                 play.step(rt, alloc, self.name, line);
             }
         }
         if let Some(wanted) = self.ending() {
-            let name = self.name;
-            let (answer, text) = play.into_text(rt, alloc)?;
-            assert!(rt; answer == wanted, "into_tables in {name}");
-            assert!(rt;
-                text.as_slice() == expected.as_slice(),
-                "the tables in {name}"
-            );
+            let (answer, text) = play.into_text(rt, alloc).expect(rt, "memory for a text");
+            self.expect_ending(rt, alloc, wanted, answer, text.as_slice());
         }
-        Ok(())
     }
 }
 
-/// Plays the rows of a table on a replayer with this map. A line `row NAME` begins a row, `file
-/// RECORDS` adds a file, `broken RECORDS` one that fails in place of its end, `plan ..` changes
-/// numbers of the rows' plan; the other lines are done and seen in turn. `into_tables ANSWER` comes
-/// last, and `> LINE` is a line of the routes and then the churn.
+/// Plays the rows of a table on a replayer with this map, and counts them. A line `row NAME` begins a
+/// row, `file RECORDS` adds a file, `broken RECORDS` one that fails in place of its end, `plan ..`
+/// changes numbers of the rows' plan; the other lines are done and seen in turn. `into_tables ANSWER`
+/// comes last, and `> LINE` is a line of the routes and then the churn.
 pub fn play_rows<M: PrefixMap<SharedRoute> + Send + Drop>(
     rt: &(impl Threads + Abort + Sync),
     alloc: Global,
     table: &str,
-) -> Result<usize, Fail> {
+) -> usize {
     let mut row = Row::new(alloc, "");
     let mut played = 0usize;
     for line in table.lines() {
         if let Some(name) = line.strip_prefix("row ") {
-            row.play::<M>(rt, alloc)?;
+            row.play::<M>(rt, alloc);
             row = Row::new(alloc, name);
             played = played.wrapping_add(1);
-        } else if let Some(words) = line.strip_prefix("file") {
-            let bytes = dump(alloc, words)?;
-            row.files.push(File {
-                bytes,
-                fails: false,
-            })?;
-        } else if let Some(words) = line.strip_prefix("broken") {
-            let bytes = dump(alloc, words)?;
-            row.files.push(File { bytes, fails: true })?;
-        } else if let Some(words) = line.strip_prefix("plan ") {
-            row.set_plan(words);
-        } else if !line.is_empty() {
-            row.lines.push(line)?;
+        } else {
+            row.take(rt, alloc, line);
         }
     }
-    row.play::<M>(rt, alloc)?;
-    Ok(played)
+    row.play::<M>(rt, alloc);
+    played
 }

@@ -3,11 +3,11 @@
 
 use crate::playing::play_rows;
 use adj_rib::SharedRoute;
-use bgp_prefix::{Flat, Radix, Shelf};
+use bgp_prefix::{Flat, Radix};
+use prefix_shelf::Shelf;
 use std::alloc::Global;
 use std::marker::Sync;
 use std::process::Abort;
-use std::test::Fail;
 use std::thread::Threads;
 
 const ROUNDS: &str = "
@@ -112,24 +112,18 @@ into_tables Ok
 ";
 
 /// Plays so many rows on replayers with each map.
-fn play_each(
-    rt: &(impl Threads + Abort + Sync),
-    alloc: Global,
-    table: &str,
-    rows: usize,
-) -> Result<(), Fail> {
-    assert!(rt; play_rows::<Radix<SharedRoute>>(rt, alloc, table)? == rows);
-    assert!(rt; play_rows::<Flat<SharedRoute>>(rt, alloc, table)? == rows);
-    assert!(rt; play_rows::<Shelf<SharedRoute>>(rt, alloc, table)? == rows);
-    Ok(())
+fn play_each(rt: &(impl Threads + Abort + Sync), alloc: Global, table: &str, rows: usize) {
+    assert!(rt; play_rows::<Radix<SharedRoute>>(rt, alloc, table) == rows);
+    assert!(rt; play_rows::<Flat<SharedRoute>>(rt, alloc, table) == rows);
+    assert!(rt; play_rows::<Shelf<SharedRoute>>(rt, alloc, table) == rows);
 }
 
 #[test]
-fn rounds_of_each_map(rt: HostRuntime) -> Result<(), Fail> {
-    play_each(&rt, rt.alloc(), ROUNDS, 8)
+fn rounds_of_each_map(rt: HostRuntime) {
+    play_each(&rt, rt.alloc(), ROUNDS, 8);
 }
 
 #[test]
-fn salvage_after_a_failed_read(rt: HostRuntime) -> Result<(), Fail> {
-    play_each(&rt, rt.alloc(), SALVAGE, 2)
+fn salvage_after_a_failed_read(rt: HostRuntime) {
+    play_each(&rt, rt.alloc(), SALVAGE, 2);
 }

@@ -2,27 +2,40 @@
 
 use crate::layers::found_in;
 use adj_rib::SharedRoute;
-use bgp_prefix::{Flat, Memory, PrefixMap, Radix, Shelf};
+use bgp_prefix::{Flat, Memory, PrefixMap, Radix};
 use lane_deal::{ByTurns, Lanes, Turn, run_schedule};
-use mrt_body::{Found, PeerAddr};
+use mrt_body::{Found, PeerAddr, Unit};
+use prefix_shelf::Shelf;
 use rib_report::{Tables, table_rows};
 use std::alloc::Global;
 use std::process::Abort;
 use std::test::Fail;
+
+/// Adds the units of what was found, which are all of it.
+fn push_units(rt: &impl Abort, all: Vec<Found>, units: &mut Vec<Unit>) -> Result<(), Memory> {
+    for found in all {
+        match found {
+            Found::Unit(unit) => units.push(unit)?,
+            Found::Refused(_) => assert!(rt; false, "a refusal"),
+        }
+    }
+    Ok(())
+}
+
+/// The units of records.
+fn units_in(rt: &impl Abort, alloc: Global, words: &str) -> Result<Vec<Unit>, Fail> {
+    let mut units = Vec::new(alloc);
+    push_units(rt, found_in(rt, alloc, words)?, &mut units)?;
+    Ok(units)
+}
 
 /// The lanes of two workers on one thread, after a list of events: some find nothing.
 pub fn scheduled<M: PrefixMap<SharedRoute> + Drop>(
     rt: &impl Abort,
     alloc: Global,
 ) -> Result<Result<Lanes<M>, Memory>, Fail> {
-    let mut units = Vec::new(alloc);
-    for found in found_in(rt, alloc, "M MB M MC MB")? {
-        match found {
-            Found::Unit(unit) => units.push(unit)?,
-            Found::Refused(_) => assert!(rt; false, "a refusal"),
-        }
-    }
-    assert_eq!(rt; units.len(), 5);
+    let units = units_in(rt, alloc, "M MB M MC MB")?;
+    assert!(rt; units.len() == 5);
     let turns = [
         Turn::Take(0),
         Turn::Deal,
@@ -40,7 +53,7 @@ fn tables_of_lanes<M: PrefixMap<SharedRoute> + Drop>(
     rt: &impl Abort,
     alloc: Global,
     lanes: Lanes<M>,
-) -> Result<Tables<M>, Fail> {
+) -> Result<Tables<M>, Memory> {
     let counts = (
         lanes.undealt(),
         lanes.waiting(0),
@@ -52,31 +65,51 @@ fn tables_of_lanes<M: PrefixMap<SharedRoute> + Drop>(
         Err((back, _)) => {
             let again = (back.undealt(), back.waiting(0), back.took(0), back.took(1));
             assert!(rt; again == counts, "the lanes that came back");
-            Ok(back.into_tables(alloc).map_err(|refused| refused.1)?)
+            back.into_tables(alloc).map_err(|refused| refused.1)
         }
     }
 }
 
-/// Events that find nothing change nothing.
+/// Expects what waits and was taken where events that find nothing change nothing.
+fn expect_counts<M: PrefixMap<SharedRoute> + Drop>(rt: &impl Abort, lanes: &Lanes<M>) {
+    assert!(rt; lanes.undealt() == 2);
+    for (lane, waiting, took) in [(0, 1, 1), (1, 0, 1), (2, 0, 0), (7, 0, 0)] {
+        assert!(rt; lanes.waiting(lane) == waiting, "waiting for {lane}");
+        assert!(rt; lanes.took(lane) == took, "taken by {lane}");
+    }
+}
+
+/// Expects a route of each of the two peers.
+fn expect_routes<M: PrefixMap<SharedRoute>>(
+    rt: &impl Abort,
+    alloc: Global,
+    tables: &Tables<M>,
+) -> Result<(), Memory> {
+    assert!(rt; tables.peers() == 2);
+    match table_rows(alloc, tables)?.as_slice() {
+        [first, second] => {
+            assert!(rt;
+                first.peer.addr == PeerAddr::V4(0xC000_0201),
+                "a route of each"
+            );
+            assert!(rt;
+                second.peer.addr == PeerAddr::V4(0xC000_0202),
+                "a route of each"
+            );
+        }
+        _ => assert!(rt; false, "a route of each"),
+    }
+    Ok(())
+}
+
 fn check_turns<M: PrefixMap<SharedRoute> + Drop>(
     rt: &impl Abort,
     alloc: Global,
 ) -> Result<(), Fail> {
     let lanes = scheduled::<M>(rt, alloc)??;
-    assert_eq!(rt; lanes.undealt(), 2);
-    for (lane, waiting, took) in [(0, 1, 1), (1, 0, 1), (2, 0, 0), (7, 0, 0)] {
-        assert!(rt; lanes.waiting(lane) == waiting, "waiting for {lane}");
-        assert!(rt; lanes.took(lane) == took, "taken by {lane}");
-    }
+    expect_counts(rt, &lanes);
     let tables = tables_of_lanes(rt, alloc, lanes)?;
-    assert_eq!(rt; tables.peers(), 2);
-    let mut routes = Vec::new(alloc);
-    for row in &table_rows(alloc, &tables)? {
-        routes.push(row.peer.addr)?;
-    }
-    let addrs = [PeerAddr::V4(0xC000_0201), PeerAddr::V4(0xC000_0202)];
-    assert!(rt; routes.as_slice() == addrs.as_slice(), "a route of each");
-    Ok(())
+    Ok(expect_routes(rt, alloc, &tables)?)
 }
 
 #[test]

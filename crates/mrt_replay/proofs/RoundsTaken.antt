@@ -1,5 +1,5 @@
 -- Rounds of a replayer, one after the other, to the end of the files.
-use Rattle.std.proofs.Common.{◌≡◌, ◌≢◌, ◌⊎◌, inl, inr, ℕ, ◌+◌, ◌-◌, ◌*◌, ◌/◌, ◌≤◌, ◌<◌, List, [], ◌∷◌, ◌++◌, Option, Some, None, Ok, refl, sym, ap, ◌∙◌, subst, arith, map, length, drop, append_assoc, length-append}
+use Rattle.std.proofs.Common.{◌≡◌, ◌≢◌, ◌⊎◌, inl, inr, ℕ, ◌+◌, ◌*◌, ◌/◌, ◌≤◌, ◌<◌, List, [], ◌++◌, Option, Ok, refl, sym, ap, ◌∙◌, subst, arith, length, append_assoc, length-append}
 use Rattle.std.specs.Prelude.{option_to_list}
 use Rattle.std.specs.List.{filter_map, count_by}
 use Rattle.std.proofs.Math.Nat.{add-mul, zero-mul, one-mul}
@@ -8,7 +8,7 @@ use Rattle.std.proofs.lemmas.List.{append-nil}
 use Rattle.std.proofs.lemmas.List.Elements.{filter_map-append}
 use Rattle.mrt_frame.specs.declared.error.ReplayError.{ReplayError}
 use Rattle.mrt_frame.specs.declared.error.ReplayError.TheVariants as errors
-use Rattle.mrt_body.specs.declared.standing.Standing.TheVariants.{Going, Failed, Spent}
+use Rattle.mrt_body.specs.declared.standing.Standing.TheVariants.{Going}
 use Rattle.mrt_body.specs.declared.unit.Damage.{Damage}
 use Rattle.mrt_body.specs.declared.unit.Found.{Found}
 use Rattle.mrt_body.specs.declared.unit.Unit.{Unit as ReplayUnit}
@@ -24,10 +24,10 @@ use Rattle.lane_deal.specs.Kept.{to_deal}
 use Rattle.lane_deal.specs.Plans.{IsPlan}
 use Rattle.lane_deal.specs.Playing.{PlaysOn}
 use Rattle.lane_deal.specs.Replayers.{ReplayerState}
-use Rattle.lane_deal.specs.Rounds.{PlaysRound, IsSettled}
+use Rattle.lane_deal.specs.Rounds.{PlaysRound}
 use Rattle.lane_deal.proofs.Asking.{TakesUnits-none, TakesUnits-more, all_more_given}
 use Rattle.lane_deal.proofs.RoundLaws.{waiting_in, none_waits, waits_after, fills}
-use Rattle.mrt_replay.specs.Replays.{DealtAll, HasTakenFiles, HasPlayed, StopsFiles}
+use Rattle.mrt_replay.specs.Replays.{DealtAll, HasPlayed, StopsFiles}
 use Rattle.mrt_replay.proofs.FilesTaken.{none_known}
 use Rattle.mrt_replay.proofs.LanesTaken.{units_to_deal, played_took}
 

@@ -14,9 +14,9 @@ use Rattle.mrt_body.specs.declared.unit.Damage.{Damage}
 use Rattle.mrt_body.specs.declared.unit.Unit.{Unit as ReplayUnit}
 use Rattle.mrt_body.specs.Units.{units_of, refused_of}
 use Rattle.adj_rib.specs.Churns.{stopped}
-use Rattle.rib_report.specs.Peers.{peers_of}
-use Rattle.rib_report.specs.Tables.{TablesState, tables_of, all_faults}
-use Rattle.rib_report.specs.Reports.{place_cmp, placed, in_place_order, route_rows}
+use Rattle.peer_tables.specs.Peers.{peers_of}
+use Rattle.peer_tables.specs.Tables.{TablesState, tables_of, all_faults, all_routes}
+use Rattle.rib_report.specs.Reports.{place_cmp, placed, in_place_order}
 use Rattle.rib_report.specs.declared.request.Request.{Request}
 use Rattle.mrt_replay.specs.Reports.{lines_of, text, report, listed_faults}
 use Rattle.std.proofs.KnownBytes.{Keeps-refl}
@@ -47,8 +47,8 @@ pub damaged_counted : (until : Option ℕ) (files : List (List ℕ)) (tables : T
 damaged_counted until files tables n stands count =
     count ∙ ap (λ t. stopped (length (all_faults t))) stands ∙ ap stopped (sym (length_in_order (all_faults (tables_of (units_of until files) (refused_of until files)))))
 
-pub routes_counted : (until : Option ℕ) (files : List (List ℕ)) (tables : TablesState) (n : ℕ) → tables ≡ tables_of (units_of until files) (refused_of until files) → n ≡ min (length (route_rows tables)) (2 ^ 64 - 1) → n ≡ stopped (length (route_rows (tables_of (units_of until files) (refused_of until files))))
-routes_counted until files tables n stands count = count ∙ ap (λ t. stopped (length (route_rows t))) stands
+pub routes_counted : (until : Option ℕ) (files : List (List ℕ)) (tables : TablesState) (n : ℕ) → tables ≡ tables_of (units_of until files) (refused_of until files) → n ≡ min (length (all_routes tables)) (2 ^ 64 - 1) → n ≡ stopped (length (all_routes (tables_of (units_of until files) (refused_of until files))))
+routes_counted until files tables n stands count = count ∙ ap (λ t. stopped (length (all_routes t))) stands
 
 pub peers_counted : (units : List ReplayUnit) (refused : List Damage) (tables : TablesState) (n : ℕ) → tables ≡ tables_of units refused → n ≡ length tables.seats → n ≡ length (peers_of units)
 unfolding tables_of

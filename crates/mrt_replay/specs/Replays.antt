@@ -9,7 +9,7 @@ use Rattle.mrt_body.specs.declared.unit.Found.{Found}
 use Rattle.mrt_body.specs.declared.unit.Unit.{Unit as ReplayUnit}
 use Rattle.mrt_body.specs.Units.{units_of, refused_of, records_of, aside_of, unit_of, damage_of, is_whole, is_aside}
 use Rattle.mrt_body.specs.ToCome.{UnitsState, TakesFound, HasMoreRecords, found_to_come, cuts_to_come, units_left}
-use Rattle.rib_report.specs.Tables.{tables_of}
+use Rattle.peer_tables.specs.Tables.{tables_of}
 use Rattle.lane_deal.specs.declared.plan.Plan.{Plan}
 use Rattle.lane_deal.specs.Replayers.{ReplayerState, ReplayerStandsFor}
 use Rattle.lane_deal.specs.Rounds.{IsSettled}

@@ -5,8 +5,8 @@ use Rattle.mrt_body.specs.declared.unit.Damage.{Damage}
 use Rattle.mrt_body.specs.declared.unit.Unit.{Unit as ReplayUnit}
 use Rattle.mrt_body.specs.Units.{units_of, refused_of, records_of, aside_of}
 use Rattle.adj_rib.specs.Churns.{stopped}
-use Rattle.rib_report.specs.Peers.{peers_of}
-use Rattle.rib_report.specs.Tables.{TablesState, tables_of}
+use Rattle.peer_tables.specs.Peers.{peers_of}
+use Rattle.peer_tables.specs.Tables.{TablesState, tables_of, all_routes}
 use Rattle.rib_report.specs.Reports.{route_rows, match_rows, visibility_rows, origin_rows, churn_rows, fault_rows}
 use Rattle.rib_report.specs.Lines.{route_line, visibility_line, origin_line, churn_line, fault_line}
 use Rattle.lane_deal.specs.declared.plan.Plan.{Plan}
@@ -42,5 +42,5 @@ pub record IsSummary (plan : Plan) (files : List (List ℕ)) (s : Summary) : Typ
   pub aside : s.aside ≡ aside_of files
   pub damaged : s.damaged ≡ stopped (length (listed_faults plan.until files))
   pub peers : s.peers ≡ length (peers_of (units_of plan.until files))
-  pub routes : s.routes ≡ stopped (length (route_rows (tables_of (units_of plan.until files) (refused_of plan.until files))))
+  pub routes : s.routes ≡ stopped (length (all_routes (tables_of (units_of plan.until files) (refused_of plan.until files))))
   pub rounds : s.rounds ≤ 2 * s.units / plan.ring + s.units / plan.batch + 2

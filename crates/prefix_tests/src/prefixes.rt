@@ -3,13 +3,17 @@
 mod map_rows;
 
 use bgp_prefix::*;
+use prefix_shelf::Shelf;
 use std::alloc::Global;
 use std::process::Abort;
 use std::test::Fail;
 
-fn key(addr: u32, len: u8, id: u32) -> Result<RouteKey, &'static str> {
-    let prefix = Prefix::new(addr, len).ok_or("over 32 bits")?;
-    Ok(RouteKey { prefix, id })
+// A length over 32 is taken for 32. It answers no error, since a check takes long of a function with many exits.
+fn key(addr: u32, len: u8, id: u32) -> RouteKey {
+    let Some(prefix) = Prefix::new(addr, len.min(32)) else {
+        unreachable!()
+    };
+    RouteKey { prefix, id }
 }
 
 fn owned(all: &[(RouteKey, &u32)], into: &mut Vec<(RouteKey, u32)>) -> Result<(), Memory> {
@@ -38,11 +42,11 @@ fn paths<M: PrefixMap<u32>>(
 }
 
 // Routes of one prefix, and then 20 on each side of the bit behind it: more than a leaf holds.
-fn cover(id: u32) -> Result<RouteKey, &'static str> {
+fn cover(id: u32) -> RouteKey {
     key(0x0A00_0000, 8, id)
 }
 
-fn beside(place: u32) -> Result<RouteKey, &'static str> {
+fn beside(place: u32) -> RouteKey {
     let side = place / 20 % 2 * 0x0080_0000;
     key(0x0A00_0000 + side + place % 20 * 0x1_0000, 16, 0)
 }
@@ -50,11 +54,11 @@ fn beside(place: u32) -> Result<RouteKey, &'static str> {
 fn parted(rt: &impl Abort, alloc: Global) -> Result<Radix<u32>, Fail> {
     let mut map: Radix<u32> = PrefixMap::new(alloc);
     for (id, value) in [(7, 52), (0, 50)] {
-        assert!(rt; map.insert(alloc, cover(id)?, value)?.is_none());
+        assert!(rt; map.insert(alloc, cover(id), value)?.is_none());
     }
     for step in 0..40u32 {
         let place = (step + 1) % 2 * 20 + step / 2;
-        assert!(rt; map.insert(alloc, beside(place)?, place)?.is_none());
+        assert!(rt; map.insert(alloc, beside(place), place)?.is_none());
     }
     assert!(rt; map.len() == 42);
     Ok(map)
@@ -62,14 +66,14 @@ fn parted(rt: &impl Abort, alloc: Global) -> Result<Radix<u32>, Fail> {
 
 // The routes in the order of their keys.
 fn expect_parted(rt: &impl Abort, alloc: Global, map: &Radix<u32>) -> Result<(), Fail> {
-    let covers = paths(map, alloc, &cover(0)?.prefix)?;
+    let covers = paths(map, alloc, &cover(0).prefix)?;
     assert!(rt; covers.as_slice() == [(0, 50), (7, 52)].as_slice());
     let mut expected = Vec::new(alloc);
     for (id, value) in [(0, 50), (7, 52)] {
-        expected.push((cover(id)?, value))?;
+        expected.push((cover(id), value))?;
     }
     for place in 0..40u32 {
-        expected.push((beside(place)?, place))?;
+        expected.push((beside(place), place))?;
     }
     assert!(rt; entries(map, alloc)?.as_slice() == expected.as_slice());
     Ok(())
@@ -84,16 +88,16 @@ fn expect_steps(rt: &impl Abort, map: &Radix<u32>, prefix: Prefix, steps: u32) {
 // The cover's own routes keep the fork when a branch is gone. Without them the other branch stands alone.
 fn expect_pruned(rt: &impl Abort, alloc: Global, mut map: Radix<u32>) -> Result<(), Fail> {
     for place in 0..20u32 {
-        assert!(rt; map.remove(&beside(place)?) == Some(place));
+        assert!(rt; map.remove(&beside(place)) == Some(place));
     }
-    expect_steps(rt, &map, beside(23)?.prefix, 2);
-    for (id, value, longest, steps) in [(0, 50, Some(cover(7)?.prefix), 2), (7, 52, None, 1)] {
-        assert!(rt; map.remove(&cover(id)?) == Some(value));
+    expect_steps(rt, &map, beside(23).prefix, 2);
+    for (id, value, longest, steps) in [(0, 50, Some(cover(7).prefix), 2), (7, 52, None, 1)] {
+        assert!(rt; map.remove(&cover(id)) == Some(value));
         assert!(rt; map.longest(0x0A03_0001) == longest);
-        expect_steps(rt, &map, beside(23)?.prefix, steps);
+        expect_steps(rt, &map, beside(23).prefix, steps);
     }
     for place in 20..40u32 {
-        assert!(rt; map.remove(&beside(place)?) == Some(place));
+        assert!(rt; map.remove(&beside(place)) == Some(place));
     }
     assert!(rt; map.entries(alloc)?.is_empty());
     Ok(())
@@ -104,20 +108,20 @@ fn a_full_leaf_parts_around_its_cover(rt: HostRuntime) -> Result<(), Fail> {
     let alloc = rt.alloc();
     let map = parted(&rt, alloc)?;
     expect_parted(&rt, alloc, &map)?;
-    assert!(rt; map.longest(0x0A40_0000) == Some(cover(0)?.prefix));
+    assert!(rt; map.longest(0x0A40_0000) == Some(cover(0).prefix));
     for place in [3, 23] {
-        expect_steps(&rt, &map, beside(place)?.prefix, 2);
+        expect_steps(&rt, &map, beside(place).prefix, 2);
     }
     expect_pruned(&rt, alloc, map)
 }
 
 #[test]
 fn a_key_set_has_its_keys(rt: HostRuntime) -> Result<(), Fail> {
-    let eight = key(0x0A00_0000, 8, 0)?;
-    let sixteen = key(0x0A00_0000, 16, 0)?;
+    let eight = key(0x0A00_0000, 8, 0);
+    let sixteen = key(0x0A00_0000, 16, 0);
     let set = KeySet::from_slice(rt.alloc(), &[sixteen, eight, sixteen])?;
     assert!(rt; set.contains(&eight) && set.contains(&sixteen));
-    assert!(rt; !set.contains(&key(0x0A00_0000, 8, 1)?) && !set.contains(&key(0, 8, 0)?));
+    assert!(rt; !set.contains(&key(0x0A00_0000, 8, 1)) && !set.contains(&key(0, 8, 0)));
     Ok(())
 }
 
@@ -141,7 +145,7 @@ impl Draws {
         (self.bits() << 1) & 0xC100_8003
     }
 
-    fn key(&mut self) -> Result<RouteKey, &'static str> {
+    fn key(&mut self) -> RouteKey {
         let addr = self.addr();
         let len = (self.bits() >> 8) % 33;
         key(addr, len as u8, (self.bits() >> 8) % 3)
@@ -195,6 +199,16 @@ impl Plain {
         longest
     }
 
+    fn answers(&self, alloc: Global, key: &RouteKey, addr: u32) -> Result<Answers, Memory> {
+        let paths = self.paths(alloc, &key.prefix)?;
+        Ok(Answers {
+            value: self.get(key),
+            longest: self.longest(addr),
+            paths,
+            len: self.entries.len(),
+        })
+    }
+
     fn paths(&self, alloc: Global, prefix: &Prefix) -> Result<Vec<(u32, u32)>, Memory> {
         let mut paths = Vec::new(alloc);
         for entry in &self.entries {
@@ -216,6 +230,17 @@ struct Answers {
     len: usize,
 }
 
+fn expect_entries<M: PrefixMap<u32>>(
+    rt: &impl Abort,
+    alloc: Global,
+    map: &M,
+    all: &[(RouteKey, u32)],
+) -> Result<(), Memory> {
+    let listed = entries(map, alloc)?;
+    assert!(rt; listed.as_slice() == all);
+    Ok(())
+}
+
 fn expect_answers<M: PrefixMap<u32>>(
     rt: &impl Abort,
     alloc: Global,
@@ -224,10 +249,10 @@ fn expect_answers<M: PrefixMap<u32>>(
     addr: u32,
     wanted: &Answers,
 ) -> Result<(), Memory> {
+    let listed = paths(map, alloc, &key.prefix)?;
+    assert!(rt; listed.as_slice() == wanted.paths.as_slice());
     assert!(rt; map.get(key).copied() == wanted.value);
-    assert!(rt; map.longest(addr) == wanted.longest);
-    assert!(rt; paths(map, alloc, &key.prefix)?.as_slice() == wanted.paths.as_slice());
-    assert!(rt; map.len() == wanted.len);
+    assert!(rt; map.longest(addr) == wanted.longest && map.len() == wanted.len);
     Ok(())
 }
 
@@ -280,32 +305,25 @@ impl Maps {
     }
 
     fn compare(
-        &mut self,
+        &self,
         rt: &impl Abort,
         alloc: Global,
         key: &RouteKey,
         addr: u32,
     ) -> Result<(), Memory> {
-        let wanted = Answers {
-            value: self.plain.get(key),
-            longest: self.plain.longest(addr),
-            paths: self.plain.paths(alloc, &key.prefix)?,
-            len: self.plain.entries.len(),
-        };
+        let wanted = self.plain.answers(alloc, key, addr)?;
+        assert!(rt; self.flat.longest_steps(addr).0 == wanted.longest);
         expect_answers(rt, alloc, &self.flat, key, addr, &wanted)?;
         expect_answers(rt, alloc, &self.radix, key, addr, &wanted)?;
-        expect_answers(rt, alloc, &self.shelf, key, addr, &wanted)?;
-        assert_eq!(rt; self.flat.longest_steps(addr).0, wanted.longest);
-        Ok(())
+        expect_answers(rt, alloc, &self.shelf, key, addr, &wanted)
     }
 
     fn compare_entries(&mut self, rt: &impl Abort, alloc: Global) -> Result<(), Memory> {
         self.plain.entries.sort_unstable();
         let all = self.plain.entries.as_slice();
-        assert!(rt; entries(&self.flat, alloc)?.as_slice() == all);
-        assert!(rt; entries(&self.radix, alloc)?.as_slice() == all);
-        assert!(rt; entries(&self.shelf, alloc)?.as_slice() == all);
-        Ok(())
+        expect_entries(rt, alloc, &self.flat, all)?;
+        expect_entries(rt, alloc, &self.radix, all)?;
+        expect_entries(rt, alloc, &self.shelf, all)
     }
 }
 
@@ -315,7 +333,7 @@ fn each_map_answers_as_a_plain_list(rt: HostRuntime) -> Result<(), Fail> {
     let mut draws = Draws { state: 1 };
     let mut maps = Maps::new(alloc);
     for step in 0..6000u32 {
-        let key = draws.key()?;
+        let key = draws.key();
         // Mostly inserts at first, and then mostly removals.
         let kind = (draws.bits() >> 8) % 16;
         if kind < 4 + step / 500 % 2 * 8 {
@@ -353,7 +371,7 @@ const FIRST_KEYS: [(u32, u8, u32); 9] = [
 const GROWING: usize = 200;
 
 // The key of a place: after those of the table, prefixes of 24 bits by turns in two halves of a network.
-fn growing(i: usize) -> Result<RouteKey, &'static str> {
+fn growing(i: usize) -> RouteKey {
     match FIRST_KEYS.get(i) {
         Some((addr, len, id)) => key(*addr, *len, *id),
         None => {
@@ -364,32 +382,31 @@ fn growing(i: usize) -> Result<RouteKey, &'static str> {
 }
 
 // The first `count` keys have their places as values, and no other key has one.
-fn expect_first<M: PrefixMap<usize>>(rt: &impl Abort, map: &M, count: usize) -> Result<(), Fail> {
+fn expect_first<M: PrefixMap<usize>>(rt: &impl Abort, map: &M, count: usize) {
     assert_eq!(rt; map.len(), count);
     for i in 0..GROWING {
-        let value = map.get(&growing(i)?).copied();
+        let value = map.get(&growing(i)).copied();
         assert_eq!(rt; value, if i < count { Some(i) } else { None });
     }
-    Ok(())
 }
 
 fn grow<M: PrefixMap<usize> + Drop>(rt: &impl Abort, alloc: Global) -> Result<(), Fail> {
     let mut map: M = PrefixMap::new(alloc);
     for i in 0..GROWING {
-        let new = growing(i)?;
+        let new = growing(i);
         if map.insert(alloc, new, i).is_err() {
-            expect_first(rt, &map, i)?;
+            expect_first(rt, &map, i);
             assert!(rt; map.insert(alloc, new, i)?.is_none());
         }
-        expect_first(rt, &map, i + 1)?;
+        expect_first(rt, &map, i + 1);
     }
     if map.entries(alloc).is_err() {
-        expect_first(rt, &map, GROWING)?;
+        expect_first(rt, &map, GROWING);
         assert!(rt; map.entries(alloc)?.len() == GROWING);
     }
-    let prefix = key(0x0A02_0000, 16, 0)?.prefix;
+    let prefix = key(0x0A02_0000, 16, 0).prefix;
     if map.paths(alloc, &prefix).is_err() {
-        expect_first(rt, &map, GROWING)?;
+        expect_first(rt, &map, GROWING);
         assert!(rt; map.paths(alloc, &prefix)?.len() == 4);
     }
     Ok(())
@@ -414,7 +431,7 @@ fn a_refused_growth_leaves_the_shelf(rt: HostRuntime) -> Result<(), Fail> {
 const IN_ORDER: u32 = 128 * 128 + 200;
 
 // The key of a place, in the order of the places.
-fn in_order(place: u32) -> Result<RouteKey, &'static str> {
+fn in_order(place: u32) -> RouteKey {
     key(0x0A00_0000 + place % 0x2_0000 * 0x100, 24, 0)
 }
 
@@ -424,7 +441,7 @@ fn fill_in_order<M: PrefixMap<u32>>(
     map: &mut M,
 ) -> Result<(), Fail> {
     for place in 0..IN_ORDER {
-        assert_eq!(rt; map.insert(alloc, in_order(2 * place)?, 2 * place)?, None);
+        assert_eq!(rt; map.insert(alloc, in_order(2 * place), 2 * place)?, None);
     }
     Ok(())
 }
@@ -436,7 +453,7 @@ fn fill_between<M: PrefixMap<u32>>(
     map: &mut M,
 ) -> Result<(), Fail> {
     for place in (0..IN_ORDER).rev() {
-        let between = in_order(2 * place + 1)?;
+        let between = in_order(2 * place + 1);
         assert_eq!(rt; map.insert(alloc, between, 2 * place + 1)?, None);
     }
     Ok(())
@@ -445,21 +462,20 @@ fn fill_between<M: PrefixMap<u32>>(
 fn expect_all<M: PrefixMap<u32>>(rt: &impl Abort, alloc: Global, map: &M) -> Result<(), Fail> {
     let mut next = 0u32;
     for entry in &map.entries(alloc)? {
-        assert_eq!(rt; (entry.0, *entry.1), (in_order(next)?, next));
+        assert_eq!(rt; (entry.0, *entry.1), (in_order(next), next));
         next = next.wrapping_add(1);
     }
     assert_eq!(rt; next, 2 * IN_ORDER);
     Ok(())
 }
 
-fn empty_in_order<M: PrefixMap<u32>>(rt: &impl Abort, map: &mut M) -> Result<(), Fail> {
+fn empty_in_order<M: PrefixMap<u32>>(rt: &impl Abort, map: &mut M) {
     for place in 0..2 * IN_ORDER {
-        let here = in_order(place)?;
+        let here = in_order(place);
         assert!(rt; map.longest(here.prefix.addr() | 1) == Some(here.prefix));
         assert!(rt; map.remove(&here) == Some(place));
     }
     assert!(rt; map.len() == 0);
-    Ok(())
 }
 
 fn fill_and_empty<M: PrefixMap<u32> + Drop>(rt: &impl Abort, alloc: Global) -> Result<(), Fail> {
@@ -467,7 +483,8 @@ fn fill_and_empty<M: PrefixMap<u32> + Drop>(rt: &impl Abort, alloc: Global) -> R
     fill_in_order(rt, alloc, &mut map)?;
     fill_between(rt, alloc, &mut map)?;
     expect_all(rt, alloc, &map)?;
-    empty_in_order(rt, &mut map)
+    empty_in_order(rt, &mut map);
+    Ok(())
 }
 
 #[test]

@@ -1,9 +1,5 @@
-//! Tests of records: their framing, UPDATE messages, and what bodies mean.
+//! Tests of what the bodies of records mean.
 #![tactic(auto)]
 
 #[cfg(test)]
 mod bodies;
-#[cfg(test)]
-mod frames;
-#[cfg(test)]
-mod updates;

@@ -2,11 +2,12 @@
 
 use crate::harness::PLAN;
 use adj_rib::SharedRoute;
-use bgp_prefix::{Flat, PrefixMap, Radix, Shelf};
+use bgp_prefix::{Flat, PrefixMap, Radix};
 use fixtures::dump;
 use lane_deal::{ByBlocks, ByList, ByTurns, Dealing, NoGate, Plan};
 use mrt_frame::Counted;
 use mrt_replay::run;
+use prefix_shelf::Shelf;
 use rib_report::Request;
 use std::alloc::Global;
 use std::marker::Sync;

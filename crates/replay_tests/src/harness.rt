@@ -1,12 +1,13 @@
 //! Runs rows that stand as text: what files hold, and what each report on them is.
 
 use adj_rib::SharedRoute;
-use bgp_prefix::{Flat, PrefixMap, Radix, Shelf};
+use bgp_prefix::{Flat, PrefixMap, Radix};
 use command_line::read_address;
 use fixtures::{Dripping, dump};
 use lane_deal::{ByTurns, NoGate, Plan};
 use mrt_frame::{Counted, ReplayError};
 use mrt_replay::{Summary, run, status};
+use prefix_shelf::Shelf;
 use rib_report::Request;
 use std::alloc::Global;
 use std::marker::Sync;

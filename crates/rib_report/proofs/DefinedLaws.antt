@@ -17,11 +17,11 @@ use Rattle.bgp_prefix.specs.Ordered.{tabulated, in_order}
 use Rattle.bgp_prefix.proofs.KeyLaws.{prefix_cmp_total, prefix_cmp_exact, prefix_tied}
 use Rattle.bgp_prefix.proofs.OrderedLaws.{is_sorted-tabulated, find-tabulated}
 use Rattle.mrt_body.specs.declared.unit.Damage.{Damage}
-use Rattle.rib_report.specs.Tables.{Seat, TablesState}
+use Rattle.peer_tables.specs.Tables.{Seat, TablesState}
 use Rattle.rib_report.specs.Rows.{VisibilityRow, PrefixOrigins, visibility_pair, origins_pair}
 use Rattle.rib_report.specs.Reports.{seat_prefixes, table_prefixes, is_visible_at, visibility_of, visibility_rows, table_origins, origins_among, origins_of, has_several, grouped_origins, origin_rows, place_cmp, in_place_order}
 use Rattle.rib_report.proofs.ListedLaws.{place_cmp_total, insertion_is}
-use Rattle.rib_report.proofs.RowLaws.{map_twice}
+use Rattle.peer_tables.proofs.RowLaws.{map_twice}
 use Rattle.rib_report.proofs.RunLaws.{set_of}
 use Rattle.rib_report.proofs.SeenLaws.{true_of}
 use Rattle.rib_report.proofs.StableSort.{Ascends, ascends_insertion, stable_insertion, insertion_by}

@@ -22,8 +22,8 @@ use Rattle.adj_rib.specs.Steps.{unit_steps, steps_of}
 use Rattle.adj_rib.specs.Tables.{table_of}
 use Rattle.adj_rib.specs.Churns.{outcomes_of, churn_of, damaged_of}
 use Rattle.adj_rib.specs.Sessions.{session_of}
-use Rattle.rib_report.specs.Peers.{peers_of}
-use Rattle.rib_report.specs.Tables.{tables_of}
+use Rattle.peer_tables.specs.Peers.{peers_of}
+use Rattle.peer_tables.specs.Tables.{tables_of}
 use Rattle.rib_report.specs.Reports.{route_rows, match_rows, visibility_rows, origin_rows, churn_rows, fault_rows}
 use Rattle.rib_report.specs.Lines.{route_line, visibility_line, origin_line, churn_line, fault_line}
 

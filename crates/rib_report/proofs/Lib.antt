@@ -1,7 +1,5 @@
 pub mod TextLaws
 pub mod JoinLaws
-pub mod CollectLaws
-pub mod RowLaws
 pub mod RowLines
 pub mod PieceLaws
 pub mod RunLaws
@@ -12,8 +10,6 @@ pub mod SeenLaws
 pub mod OriginLaws
 pub mod MatchLaws
 pub mod ShortNumbers
-pub mod SeatOrder
-pub mod StandingLaws
 pub mod UnitReportLaws
 pub mod DefinedLaws
 pub mod Examples

@@ -1,5 +1,5 @@
 -- The longest match, and the entries of its prefix.
-use Rattle.std.proofs.Common.{◌≡◌, ◌≢◌, ℕ, zero, suc, ◌<◌, Bool, true, false, not, cond, ◌&&◌, ◌||◌, ltb, List, [], ◌∷◌, refl, sym, ap, ◌∙◌, get_or, length, map, arith}
+use Rattle.std.proofs.Common.{◌≡◌, ◌≢◌, ℕ, ◌<◌, Bool, true, false, not, cond, ◌&&◌, ◌||◌, ltb, List, [], ◌∷◌, refl, sym, ap, ◌∙◌, get_or, map, arith}
 use Rattle.std.specs.Ordering.{eq_by_cmp, is_eq}
 use Rattle.std.specs.List.{AllByRecursion, filter, list_all, list_any}
 use Rattle.std.specs.FinMap as finite
@@ -156,9 +156,3 @@ match_none m table peer addr e none =
       | true ↦ λ matched. absurd (none f.0 (held_is m table e f.0 ∙ held) matched)
       | false ↦ λ _. refl
     ] refl) table (entries_held table)))
-
--- what holds of all holds of each
-pub all_at : {X : Type 0} (P : X → Type 0) (xs : List X) (i : ℕ) (d : X) → i < length xs → AllByRecursion P xs → P (get_or xs i d)
-all_at P [] i d h all = absurd (omega (arith, h))
-all_at P (x ∷ xs) zero d h all = all.0
-all_at P (x ∷ xs) (suc i) d h all = all_at P xs i d (omega (arith, h)) all.1

@@ -6,7 +6,7 @@ use Rattle.rib_report.specs.declared.entries.Listed.{Listed}
 use Rattle.rib_report.specs.Rows.{RouteRow}
 use Rattle.rib_report.specs.Lines.{route_line}
 use Rattle.rib_report.specs.Listings.{reached_row, listed_rows, listed_lines}
-use Rattle.rib_report.proofs.RowLaws.{flat_map_twice}
+use Rattle.peer_tables.proofs.RowLaws.{flat_map_twice}
 
 lines_of_lists : (lists : List Listed) → flat_map listed_lines lists ≡ flat_map route_line (flat_map listed_rows lists)
 lines_of_lists [] = refl

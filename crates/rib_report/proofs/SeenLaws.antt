@@ -15,14 +15,14 @@ use Rattle.bgp_prefix.specs.declared.key.RouteKey.{RouteKey}
 use Rattle.bgp_prefix.proofs.KeyLaws.{prefix_cmp_total, prefix_cmp_exact, prefix_tied, same_prefix}
 use Rattle.bgp_update.specs.declared.route.Route.{Route}
 use Rattle.rib_report.specs.declared.row.SeenRow.{SeenRow}
-use Rattle.rib_report.specs.Tables.{Seat, TablesState}
+use Rattle.peer_tables.specs.Tables.{Seat, TablesState}
 use Rattle.rib_report.specs.Reports.{HasOrder, seat_prefixes, is_visible_at, table_prefixes, visibility_of, visibility_rows}
 use Rattle.rib_report.specs.Rows.{VisibilityRow, seen_row, seen_pair}
 use Rattle.rib_report.specs.Runs.{counted, new_after, without_repeats}
 use Rattle.rib_report.proofs.StableSort.{Ascends}
 use Rattle.rib_report.proofs.SortedRuns.{above_first, above_later}
 use Rattle.rib_report.proofs.RunLaws.{hit, map_same, all_of, set_same}
-use Rattle.rib_report.proofs.RowLaws.{map_twice}
+use Rattle.peer_tables.proofs.RowLaws.{map_twice}
 
 first_of : (a b : Bool) → T (a && b) → T a
 first_of true b p = tt

@@ -9,13 +9,13 @@ use Rattle.mrt_body.specs.declared.unit.PeerKey.{PeerKey}
 use Rattle.mrt_body.specs.declared.unit.Unit.{Unit as ReplayUnit}
 use Rattle.adj_rib.specs.Sessions.{session_of}
 use Rattle.adj_rib.specs.Churns.{churn_of, damaged_of}
-use Rattle.rib_report.specs.Peers.{peers_of, units_of_peer}
-use Rattle.rib_report.specs.Tables.{Seat, TablesState, tables_of}
-use Rattle.rib_report.specs.Standing.{StandFor}
+use Rattle.peer_tables.specs.Peers.{peers_of, units_of_peer}
+use Rattle.peer_tables.specs.Tables.{Seat, TablesState, tables_of}
+use Rattle.peer_tables.specs.Standing.{StandFor}
 use Rattle.rib_report.specs.Rows.{PeerChurn}
 use Rattle.rib_report.specs.Reports.{entry_row, is_longest, origin_pair, grouped_origins, has_several, in_place_order, rows_of_seat, matches_of_seat, seat_prefixes, is_visible_at, seat_origins, peer_churn}
 use Rattle.rib_report.specs.UnitReports.{table_at, prefixes_at, is_visible, HasReportsOf, HaveSameTexts}
-use Rattle.rib_report.proofs.StandingLaws.{peer_seat, seats_from, StandFor-only}
+use Rattle.peer_tables.proofs.StandingLaws.{peer_seat, seats_from, StandFor-only}
 
 module _ (units : List ReplayUnit) where
   -- what each peer's seat gives, peer after peer, whatever the numbers

@@ -1,10 +1,5 @@
 pub mod Texts
 pub mod Digits
-pub mod Peers
-pub mod Tables
-pub mod Standing
-pub mod Seats
-pub mod Gathers
 pub mod Runs
 pub mod Rows
 pub mod Reports

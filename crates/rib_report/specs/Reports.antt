@@ -14,7 +14,7 @@ use Rattle.bgp_update.specs.Paths.{origin_as_of}
 use Rattle.mrt_body.specs.declared.unit.PeerKey.{PeerKey}
 use Rattle.mrt_body.specs.declared.unit.Place.{Place}
 use Rattle.mrt_body.specs.declared.unit.Damage.{Damage}
-use Rattle.rib_report.specs.Tables.{Seat, TablesState, all_faults}
+use Rattle.peer_tables.specs.Tables.{Seat, TablesState, all_faults}
 use Rattle.rib_report.specs.Rows.{RouteRow, VisibilityRow, PrefixOrigins, PeerChurn}
 
 -- ---- entries

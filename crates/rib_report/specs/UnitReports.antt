@@ -11,8 +11,8 @@ use Rattle.mrt_body.specs.declared.unit.Unit.{Unit as ReplayUnit}
 use Rattle.adj_rib.specs.Steps.{steps_of}
 use Rattle.adj_rib.specs.Tables.{table_of}
 use Rattle.adj_rib.specs.Churns.{churn_of, damaged_of}
-use Rattle.rib_report.specs.Peers.{peers_of, units_of_peer}
-use Rattle.rib_report.specs.Tables.{TablesState}
+use Rattle.peer_tables.specs.Peers.{peers_of, units_of_peer}
+use Rattle.peer_tables.specs.Tables.{TablesState}
 use Rattle.rib_report.specs.Rows.{RouteRow, VisibilityRow, PrefixOrigins, PeerChurn}
 use Rattle.rib_report.specs.Reports.{entry_row, is_longest, origin_pair, grouped_origins, has_several, in_place_order, route_rows, match_rows, visibility_rows, origin_rows, churn_rows, fault_rows}
 use Rattle.rib_report.specs.Lines.{route_line, visibility_line, origin_line, churn_line, fault_line}

@@ -5,9 +5,9 @@ ghost use Rattle.rib_report.specs.Rows.{churn_row};
 ghost use Rattle.rib_report.specs.Reports.{churn_rows};
 
 use crate::row::ChurnRow;
-use crate::tables::Tables;
 use adj_rib::SharedRoute;
 use bgp_prefix::{Memory, PrefixMap};
+use peer_tables::Tables;
 use std::alloc::Global;
 
 /// The churn of each peer, by number.

@@ -5,7 +5,7 @@ ghost use Rattle.std.specs.Prelude.{◌≡◌, ◌≤◌, ◌↔◌, ℕ, IsTrue
 ghost use Rattle.std.specs.FinMap.{find, is_sorted};
 ghost use Rattle.std.specs.List.Sorted.{IsSortedByKey, IsStableByKey};
 ghost use Rattle.bgp_prefix.specs.Prefixes.{IpPrefix, prefix_cmp};
-ghost use Rattle.rib_report.specs.Tables.{TablesState, all_faults};
+ghost use Rattle.peer_tables.specs.Tables.{TablesState, all_faults};
 ghost use Rattle.rib_report.specs.Rows.{visibility_pair, origins_pair};
 ghost use Rattle.rib_report.specs.Reports.{place_cmp, visibility_of, visibility_rows, origins_of, origin_rows, fault_rows};
 

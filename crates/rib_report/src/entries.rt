@@ -6,7 +6,7 @@ ghost use Rattle.std.specs.Io.KnownBytes.{Appends};
 ghost use Rattle.mrt_frame.specs.Devices.{HasFailed};
 ghost use Rattle.mrt_frame.specs.Writes.{WritesFront};
 ghost use Rattle.mrt_frame.specs.declared.error.ReplayError.TheVariants as errors;
-ghost use Rattle.rib_report.specs.Seats.{seat_of};
+ghost use Rattle.peer_tables.specs.Seats.{seat_of};
 ghost use Rattle.rib_report.specs.Rows.{route_row};
 ghost use Rattle.rib_report.specs.Reports.{rows_of_seat, route_rows};
 ghost use Rattle.rib_report.specs.Listings.{reached_lines, listed_rows, listed_lines};
@@ -17,11 +17,11 @@ use crate::buffer::TextBuffer;
 use crate::fields::put_row;
 use crate::line::touch_route;
 use crate::row::TableRow;
-use crate::tables::{Seated, Tables};
 use adj_rib::SharedRoute;
 use bgp_prefix::{Memory, PrefixMap, RouteKey};
 use mrt_body::PeerKey;
 use mrt_frame::{Failed, ReplayError, Sink};
+use peer_tables::{Seated, Tables};
 use std::alloc::Global;
 
 /// Adds the entries of one peer's table.

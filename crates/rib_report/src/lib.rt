@@ -17,7 +17,6 @@ mod row;
 mod seen;
 mod short;
 mod standing;
-mod tables;
 mod write;
 
 pub use activity::churn;
@@ -26,11 +25,12 @@ pub use entries::{list_tables, table_rows};
 pub use listed::faults;
 pub use matching::matches;
 pub use origin::origins;
+pub use peer_tables::{
+    Gathered, Seated, Tables, collect, collected_stand_for_units, lanes_make_no_difference,
+    tables_are_of_units,
+};
 pub use request::Request;
 pub use row::{ChurnRow, OriginRow, SeenRow, TableRow};
 pub use seen::visibility;
-pub use standing::{
-    collected_stand_for_units, lanes_make_no_difference, reports_are_of_units, tables_are_of_units,
-};
-pub use tables::{Gathered, Seated, Tables, collect};
+pub use standing::reports_are_of_units;
 pub use write::{write_churn, write_faults, write_origins, write_rows, write_visibility};

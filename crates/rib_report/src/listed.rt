@@ -1,13 +1,13 @@
 //! The faults that are listed.
 
 ghost use Rattle.std.specs.Prelude.{◌≡◌, IfOk};
-ghost use Rattle.rib_report.specs.Tables.{all_faults};
+ghost use Rattle.peer_tables.specs.Tables.{all_faults};
 ghost use Rattle.rib_report.specs.Reports.{fault_rows};
 
-use crate::tables::Tables;
 use adj_rib::SharedRoute;
 use bgp_prefix::{Memory, PrefixMap};
 use mrt_body::Damage;
+use peer_tables::Tables;
 use std::alloc::Global;
 
 /// The refusals, and then each peer's faults.

@@ -4,12 +4,12 @@ ghost use Rattle.std.specs.Prelude.{◌≡◌, ◌++◌, IfOk, OnOk, map};
 ghost use Rattle.bgp_prefix.specs.Maps.{paths_of};
 ghost use Rattle.rib_report.specs.Rows.{route_row};
 ghost use Rattle.rib_report.specs.Reports.{path_row, matches_of_seat, match_rows};
-ghost use Rattle.rib_report.specs.Seats.{seat_of};
+ghost use Rattle.peer_tables.specs.Seats.{seat_of};
 
 use crate::row::TableRow;
-use crate::tables::{Seated, Tables};
 use adj_rib::SharedRoute;
 use bgp_prefix::{Memory, Prefix, PrefixMap, RouteKey};
+use peer_tables::{Seated, Tables};
 use std::alloc::Global;
 
 /// Adds the entries of a prefix in one peer's table.

@@ -6,13 +6,13 @@ ghost use Rattle.std.specs.List.Sorted.{IsStrictlySortedBy};
 ghost use Rattle.rib_report.specs.Rows.{origin_row};
 ghost use Rattle.rib_report.specs.Runs.{pair_cmp};
 ghost use Rattle.rib_report.specs.Reports.{route_origin, origin_pair, seat_origins, table_origins, has_several, grouped_origins, origin_rows};
-ghost use Rattle.rib_report.specs.Seats.{seat_of};
+ghost use Rattle.peer_tables.specs.Seats.{seat_of};
 
 use crate::row::OriginRow;
-use crate::tables::{Seated, Tables};
 use adj_rib::SharedRoute;
 use bgp_prefix::{Memory, Prefix, PrefixMap, RouteKey, Sequence};
 use bgp_update::Route;
+use peer_tables::{Seated, Tables};
 use std::alloc::Global;
 
 /// The origin AS of a route (RFC 6811, 2).

@@ -7,12 +7,12 @@ ghost use Rattle.bgp_prefix.specs.Prefixes.{prefix_cmp};
 ghost use Rattle.rib_report.specs.Rows.{seen_row, seen_pair};
 ghost use Rattle.rib_report.specs.Runs.{counted, is_last, without_repeats};
 ghost use Rattle.rib_report.specs.Reports.{HasOrder, seat_prefixes, visibility_rows};
-ghost use Rattle.rib_report.specs.Seats.{seat_of};
+ghost use Rattle.peer_tables.specs.Seats.{seat_of};
 
 use crate::row::SeenRow;
-use crate::tables::{Seated, Tables};
 use adj_rib::SharedRoute;
 use bgp_prefix::{Memory, Prefix, PrefixMap};
+use peer_tables::{Seated, Tables};
 use std::alloc::Global;
 
 /// Whether the prefix is the last one.

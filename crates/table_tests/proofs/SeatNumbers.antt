@@ -2,11 +2,11 @@
 use Rattle.std.proofs.Common.{◌≡◌, List, [], ◌∷◌, nat_eq, sym, subst, map}
 use Rattle.std.specs.List.{IsDistinct, flat_map}
 use Rattle.std.proofs.lemmas.Bool.{ne_eqb}
-use Rattle.rib_report.specs.declared.tables.Seated.{Seated}
-use Rattle.rib_report.specs.declared.tables.Gathered.{Gathered}
-use Rattle.rib_report.specs.Gathers.{gathered_seats}
-use Rattle.rib_report.specs.Seats.{seat_of}
-use Rattle.rib_report.specs.Tables.{Seat}
+use Rattle.peer_tables.specs.declared.tables.Seated.{Seated}
+use Rattle.peer_tables.specs.declared.tables.Gathered.{Gathered}
+use Rattle.peer_tables.specs.Gathers.{gathered_seats}
+use Rattle.peer_tables.specs.Seats.{seat_of}
+use Rattle.peer_tables.specs.Tables.{Seat}
 
 pub three_numbers : {M : Type 0} (gathered : Gathered M) (first second third : Seated M) → gathered.lanes ≡ (first ∷ []) ∷ (second ∷ third ∷ []) ∷ []
     → (first.number ≡ second.number → ⊥) → (first.number ≡ third.number → ⊥) → (second.number ≡ third.number → ⊥)

@@ -1,24 +1,25 @@
 //! Readers that give little at a time, that fail, and that never end.
 
-use super::lines::push_found;
+use super::lines::{next_of, push_found};
 use fixtures::{Dripping, Zeros, dump};
 use mrt_body::{Found, Units};
-use mrt_frame::{Counted, Failures, ReplayError};
+use mrt_frame::{Counted, Failures, ReplayError, Source};
+use std::alloc::Global;
 use std::io::ErrorKind;
 use std::process::Abort;
-use std::test::Fail;
 
 /// Five announcements of three peers, in 385 bytes.
 const THREE_PEERS: &str = "M MB M MC MB";
 
+fn bytes_of(rt: &impl Abort, alloc: Global, words: &str) -> Vec<u8> {
+    dump(alloc, words).expect(rt, "memory for records")
+}
+
 #[test]
-fn one_byte_a_read(rt: HostRuntime) -> Result<(), Fail> {
+fn one_byte_a_read(rt: HostRuntime) {
     let alloc = rt.alloc();
-    let bytes = dump(alloc, THREE_PEERS)?;
-    assert_eq!(rt; bytes.len(), 385);
-    let mut text = String::new(alloc);
-    let mut files = [Counted::new(Dripping::new(bytes.as_slice(), None))];
-    push_found(alloc, &mut text, &mut files, 1000, None)?;
+    let bytes = bytes_of(&rt, alloc, THREE_PEERS);
+    assert!(rt; bytes.len() == 385);
     let expected = "0|0|-|1000000|65000 C0000201|message 45 Four false
 0|77|-|1000000|65000 C0000202|message 45 Four false
 0|154|-|1000000|65000 C0000201|message 45 Four false
@@ -26,12 +27,32 @@ fn one_byte_a_read(rt: HostRuntime) -> Result<(), Fail> {
 0|308|-|1000000|65000 C0000202|message 45 Four false
 records 5 aside 0
 ";
-    assert!(rt; text.as_str() == expected, "{text}");
-    Ok(())
+    let mut files = [Counted::new(Dripping::new(bytes.as_slice(), None))];
+    expect_text(&rt, alloc, &mut files, 1000, expected);
 }
 
-fn expect_read(rt: &impl Abort, answer: Result<Option<Found>, ReplayError>, number: usize) {
-    match answer {
+/// Expects that these files give this text.
+fn expect_text<R: Source>(
+    rt: &impl Abort,
+    alloc: Global,
+    files: &mut [R],
+    most: u64,
+    expected: &str,
+) {
+    let mut text = String::new(alloc);
+    push_found(rt, alloc, &mut text, files, most, None);
+    assert!(rt; text.as_str() == expected, "{text}");
+}
+
+/// Expects a failed read of the file of this number.
+fn expect_read<R: Source>(
+    rt: &impl Abort,
+    alloc: Global,
+    units: &mut Units,
+    files: &mut [R],
+    number: usize,
+) {
+    match next_of(rt, alloc, units, files) {
         Err(ReplayError::Read { file }) => assert!(rt; file == number),
         _ => assert!(rt; false),
     }
@@ -40,58 +61,66 @@ fn expect_read(rt: &impl Abort, answer: Result<Option<Found>, ReplayError>, numb
 /// A reader that fails in place of each byte: the whole records before it are given, then the failed
 /// read, and then the same again with nothing read.
 #[test]
-fn every_read_fails(rt: HostRuntime) -> Result<(), Fail> {
-    let alloc = rt.alloc();
-    let bytes = dump(alloc, THREE_PEERS)?;
+fn every_read_fails(rt: HostRuntime) {
+    let bytes = bytes_of(&rt, rt.alloc(), THREE_PEERS);
     for k in 0..=bytes.len() {
-        let mut files = [Counted::new(Dripping::new(
-            &bytes.as_slice()[..k],
-            Some(ErrorKind::Interrupted),
-        ))];
-        let mut units = Units::new(1, 1000, None);
-        for record in 0..k / 77 {
-            assert!(rt; units.count() == 1);
-            match units.next(alloc, &mut files)? {
-                Some(Found::Unit(unit)) => assert!(rt; unit.place.offset == record as u64 * 77),
-                _ => assert!(rt; false, "{k} bytes"),
-            }
-        }
-        assert!(rt; units.count() == 1);
-        assert!(rt; files[0].failures() == 0);
-        expect_read(&rt, units.next(alloc, &mut files), 0);
-        let asked = files[0].device().asked;
-        for _ in 0..2u8 {
-            assert!(rt; units.count() == 1);
-            expect_read(&rt, units.next(alloc, &mut files), 0);
-        }
-        assert!(rt; files[0].failures() == 1 && files[0].device().asked == asked);
-        assert!(rt; units.records() == (k / 77) as u64);
+        expect_failure_behind(&rt, rt.alloc(), &bytes.as_slice()[..k]);
     }
-    Ok(())
+}
+
+/// Expects the whole records of 77 bytes that these bytes begin with, and then a failed read.
+fn expect_failure_behind(rt: &impl Abort, alloc: Global, bytes: &[u8]) {
+    let whole = bytes.len() as u64 / 77;
+    let mut files = [Counted::new(Dripping::new(bytes, Some(ErrorKind::Interrupted)))];
+    let mut units = Units::new(1, 1000, None);
+    for record in 0..whole {
+        expect_unit_at(rt, alloc, &mut units, &mut files, record * 77);
+    }
+    assert!(rt; files[0].failures() == 0);
+    expect_read(rt, alloc, &mut units, &mut files, 0);
+    let asked = files[0].device().asked;
+    for _ in 0..2u8 {
+        expect_read(rt, alloc, &mut units, &mut files, 0);
+    }
+    assert!(rt; files[0].failures() == 1 && files[0].device().asked == asked);
+    assert!(rt; units.records() == whole);
+}
+
+fn expect_unit_at<R: Source>(
+    rt: &impl Abort,
+    alloc: Global,
+    units: &mut Units,
+    files: &mut [R],
+    offset: u64,
+) {
+    match next_of(rt, alloc, units, files) {
+        Ok(Some(Found::Unit(unit))) => assert!(rt; unit.place.offset == offset),
+        _ => assert!(rt; false, "no unit at {offset}"),
+    }
 }
 
 #[test]
-fn the_second_file_fails_at_once(rt: HostRuntime) -> Result<(), Fail> {
+fn the_second_file_fails_at_once(rt: HostRuntime) {
     let alloc = rt.alloc();
-    let bytes = dump(alloc, "M")?;
+    let bytes = bytes_of(&rt, alloc, "M");
     let mut files = [
         Counted::new(Dripping::new(bytes.as_slice(), None)),
         Counted::new(Dripping::new(&[], Some(ErrorKind::Interrupted))),
     ];
     let mut units = Units::new(2, 1000, None);
-    assert!(rt; units.count() == 2);
-    assert!(rt; units.next(alloc, &mut files)?.is_some());
-    assert!(rt; units.count() == 2);
-    expect_read(&rt, units.next(alloc, &mut files), 1);
-    assert_eq!(rt; files[0].failures(), 0);
-    Ok(())
+    assert!(rt; matches!(next_of(&rt, alloc, &mut units, &mut files), Ok(Some(_))));
+    expect_read(&rt, alloc, &mut units, &mut files, 1);
+    assert!(rt; files[0].failures() == 0);
 }
 
 #[test]
-fn endless_zeros(rt: HostRuntime) -> Result<(), Fail> {
-    let alloc = rt.alloc();
-    let mut text = String::new(alloc);
-    push_found(alloc, &mut text, &mut [Counted::new(Zeros)], 5, None)?;
-    assert!(rt; text.as_str() == "Records\nrecords 5 aside 5\n", "{text}");
-    Ok(())
+fn endless_zeros(rt: HostRuntime) {
+    let mut files = [Counted::new(Zeros)];
+    expect_text(
+        &rt,
+        rt.alloc(),
+        &mut files,
+        5,
+        "Records\nrecords 5 aside 5\n",
+    );
 }

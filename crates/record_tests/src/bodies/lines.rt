@@ -1,110 +1,128 @@
 //! What files give, as text.
 
-use mrt_body::{Found, Payload, PeerAddr, Unit, Units};
-use mrt_frame::Source;
+use mrt_body::{Found, Payload, PeerAddr, Place, Unit, Units};
+use mrt_frame::{ReplayError, Source};
 use std::alloc::Global;
-use std::test::Fail;
+use std::process::Abort;
 
-fn unit_line(alloc: Global, unit: &Unit) -> Result<String, Fail> {
-    let place = unit.place;
-    let front = match place.entry {
-        None => format!(in alloc; "{}|{}|-|{}|", place.file, place.offset, unit.time)?,
-        Some(entry) => format!(in alloc;
-            "{}|{}|{}|{}|",
-            place.file, place.offset, entry, unit.time
-        )?,
-    };
-    let peer = match unit.peer.addr {
-        PeerAddr::V4(addr) => format!(in alloc; "{} {:08X}|", unit.peer.asn, addr)?,
-        PeerAddr::V6(addr) => format!(in alloc; "{} {:032X}|", unit.peer.asn, addr)?,
-    };
-    let payload = match &unit.payload {
-        Payload::State { from, to } => format!(in alloc; "state {from} {to}")?,
+/// Adds where and when a unit stands.
+fn push_place(rt: &impl Abort, text: &mut String, place: Place, time: u64) {
+    match place.entry {
+        None => write!(text, "{}|{}|-|{time}|", place.file, place.offset),
+        Some(entry) => write!(text, "{}|{}|{entry}|{time}|", place.file, place.offset),
+    }
+    .expect(rt, "memory for a place");
+}
+
+fn push_peer(rt: &impl Abort, text: &mut String, asn: u32, addr: PeerAddr) {
+    match addr {
+        PeerAddr::V4(addr) => write!(text, "{asn} {addr:08X}|"),
+        PeerAddr::V6(addr) => write!(text, "{asn} {addr:032X}|"),
+    }
+    .expect(rt, "memory for a peer");
+}
+
+fn push_payload(rt: &impl Abort, text: &mut String, payload: &Payload) {
+    match payload {
+        Payload::State { from, to } => writeln!(text, "state {from} {to}"),
         Payload::Message {
             bytes,
             width,
             add_path,
         } => {
             let count = bytes.as_slice().len();
-            format!(in alloc; "message {count} {width:?} {add_path}")?
+            writeln!(text, "message {count} {width:?} {add_path}")
         }
         Payload::Entry { key, attrs } => {
             let count = attrs.as_slice().len();
-            let prefix = key.prefix;
-            format!(in alloc;
-                "entry {:08X}/{}#{} {count}",
-                prefix.addr(),
-                prefix.len(),
-                key.id
-            )?
+            let addr = key.prefix.addr();
+            let len = key.prefix.len();
+            let id = key.id;
+            writeln!(text, "entry {addr:08X}/{len}#{id} {count}")
         }
-    };
-    Ok(format!(in alloc; "{front}{peer}{payload}")?)
+    }
+    .expect(rt, "memory for a payload");
+}
+
+fn push_unit(rt: &impl Abort, text: &mut String, unit: &Unit) {
+    push_place(rt, text, unit.place, unit.time);
+    push_peer(rt, text, unit.peer.asn, unit.peer.addr);
+    push_payload(rt, text, &unit.payload);
 }
 
 /// Adds the line of a unit, or of a record that gives none.
-pub fn push_line(alloc: Global, text: &mut String, found: &Found) -> Result<(), Fail> {
-    let line = match found {
-        Found::Unit(unit) => unit_line(alloc, unit)?,
+fn push_line(rt: &impl Abort, text: &mut String, found: &Found) {
+    match found {
+        Found::Unit(unit) => push_unit(rt, text, unit),
         Found::Refused(damage) => {
             let place = damage.place;
             let fault = damage.fault;
-            format!(in alloc; "{}|{}|{fault:?}", place.file, place.offset)?
+            writeln!(text, "{}|{}|{fault:?}", place.file, place.offset).expect(
+                rt,
+                "memory for a refusal",
+            );
         }
-    };
-    text.push_str(line.as_str())?;
-    text.push('\n')?;
-    Ok(())
+    }
 }
 
-/// Adds a line where something comes behind the end.
-fn push_more<R: Source>(
+/// What the units of files give next.
+pub fn next_of<R: Source>(
+    rt: &impl Abort,
+    alloc: Global,
+    units: &mut Units,
+    files: &mut [R],
+) -> Result<Option<Found>, ReplayError> {
+    assert!(rt; units.count() == files.len());
+    units.next(alloc, files)
+}
+
+/// Adds the line of what comes next, if anything does, and answers whether more can come. An error
+/// is a line too, and so is what comes behind the end.
+fn push_next<R: Source>(
+    rt: &impl Abort,
     alloc: Global,
     text: &mut String,
     units: &mut Units,
     files: &mut [R],
-) -> Result<(), Fail> {
-    if units.count() != files.len() {
-        return Ok(());
+) -> bool {
+    match next_of(rt, alloc, units, files) {
+        Ok(Some(found)) => {
+            push_line(rt, text, &found);
+            true
+        }
+        Ok(None) => {
+            if !matches!(next_of(rt, alloc, units, files), Ok(None)) {
+                text.push_str("more behind the end\n")
+                    .expect(rt, "memory for a line");
+            }
+            false
+        }
+        Err(error) => {
+            writeln!(text, "{error:?}").expect(rt, "memory for an error");
+            false
+        }
     }
-    match units.next(alloc, files) {
-        Ok(None) => {}
-        _ => text.push_str("more behind the end\n")?,
-    }
-    Ok(())
 }
 
 /// Adds what the units of files give up to the end or an error, a line each, and then a line of the
 /// counts.
 pub fn push_found<R: Source>(
+    rt: &impl Abort,
     alloc: Global,
     text: &mut String,
     files: &mut [R],
     most: u64,
     until: Option<u64>,
-) -> Result<(), Fail> {
-    if most == 0 || most > 1 << 47 {
-        return Ok(());
-    }
+) {
+    assert!(rt; 0 < most && most <= 1 << 47);
     let mut units = Units::new(files.len(), most, until);
     for _ in 0..1000u16 {
-        if units.count() != files.len() {
-            return Ok(());
-        }
-        match units.next(alloc, files) {
-            Ok(Some(found)) => push_line(alloc, text, &found)?,
-            Ok(None) => {
-                push_more(alloc, text, &mut units, files)?;
-                break;
-            }
-            Err(error) => {
-                let line = format!(in alloc; "{error:?}\n")?;
-                text.push_str(line.as_str())?;
-                break;
-            }
+        if !push_next(rt, alloc, text, &mut units, files) {
+            break;
         }
     }
-    let counts = format!(in alloc; "records {} aside {}\n", units.records(), units.aside())?;
-    text.push_str(counts.as_str())?;
-    Ok(())
+    writeln!(text, "records {} aside {}", units.records(), units.aside()).expect(
+        rt,
+        "memory for the counts",
+    );
 }

@@ -5,7 +5,6 @@ use fixtures::dump;
 use mrt_frame::Counted;
 use std::alloc::Global;
 use std::process::Abort;
-use std::test::Fail;
 
 /// A row as far as it was read.
 #[derive(Drop)]
@@ -28,55 +27,83 @@ impl<'a> Row<'a> {
         }
     }
 
-    fn check(&self, rt: &impl Abort, alloc: Global) -> Result<(), Fail> {
-        if self.files.is_empty() {
-            return Ok(());
+    /// Takes a line of the row.
+    fn take(&mut self, rt: &impl Abort, alloc: Global, line: &str) {
+        if let Some(words) = line.strip_prefix("file") {
+            push_file(rt, alloc, &mut self.files, words);
+        } else if let Some(text) = line.strip_prefix("> ") {
+            writeln!(self.expected, "{text}").expect(rt, "memory for a line");
+        } else if let Some(second) = line.strip_prefix("until ") {
+            self.until = Some(number(rt, second));
+        } else if let Some(count) = line.strip_prefix("most ") {
+            self.most = number(rt, count);
+        } else {
+            assert!(rt; line.is_empty(), "a line that says nothing: {line}");
         }
-        let mut readers = Vec::new(alloc);
-        for file in &self.files {
-            readers.push(Counted::new(file.as_slice()))?;
-        }
-        let mut text = String::new(alloc);
-        push_found(
-            alloc,
-            &mut text,
-            readers.as_mut_slice(),
-            self.most,
-            self.until,
-        )?;
-        let name = self.name;
-        let same = text.as_str() == self.expected.as_str();
-        assert!(rt; same, "{name} gave\n{text}");
-        Ok(())
     }
+
+    fn check(&self, rt: &impl Abort, alloc: Global) {
+        let text = text_of(rt, alloc, self.files.as_slice(), self.most, self.until);
+        let same = text.as_str() == self.expected.as_str();
+        let name = self.name;
+        assert!(rt; same, "{name} gave\n{text}");
+    }
+}
+
+fn push_file(rt: &impl Abort, alloc: Global, files: &mut Vec<Vec<u8>>, words: &str) {
+    let file = dump(alloc, words).expect(rt, "memory for a file");
+    files.push(file).expect(rt, "memory for a file");
+}
+
+fn number(rt: &impl Abort, text: &str) -> u64 {
+    text.parse::<u64>().expect(rt, "a number")
+}
+
+/// What these files give.
+fn text_of(
+    rt: &impl Abort,
+    alloc: Global,
+    files: &[Vec<u8>],
+    most: u64,
+    until: Option<u64>,
+) -> String {
+    let mut readers = readers_of(rt, alloc, files);
+    let mut text = String::new(alloc);
+    push_found(rt, alloc, &mut text, readers.as_mut_slice(), most, until);
+    text
+}
+
+fn readers_of<'a>(rt: &impl Abort, alloc: Global, files: &'a [Vec<u8>]) -> Vec<Counted<&'a [u8]>> {
+    let mut readers = Vec::new(alloc);
+    for file in files {
+        readers
+            .push(Counted::new(file.as_slice()))
+            .expect(rt, "memory for a reader");
+    }
+    readers
 }
 
 /// Runs the rows of a table. A line `row NAME` begins a row, `file RECORDS` adds a file, `> LINE` is
 /// a line of what it gives, `until N` leaves out what came later, and `most N` is the greatest
 /// number of records.
-fn run_rows(rt: &impl Abort, alloc: Global, table: &str) -> Result<usize, Fail> {
-    let mut row = Row::new(alloc, "");
+fn run_rows(rt: &impl Abort, alloc: Global, table: &str) -> usize {
+    let rows = table.strip_prefix("\nrow ").expect(rt, "a row");
     let mut checked = 0usize;
-    for line in table.lines() {
-        if let Some(name) = line.strip_prefix("row ") {
-            row.check(rt, alloc)?;
-            row = Row::new(alloc, name);
-            checked = checked.wrapping_add(1);
-        } else if let Some(words) = line.strip_prefix("file") {
-            row.files.push(dump(alloc, words)?)?;
-        } else if let Some(text) = line.strip_prefix("> ") {
-            row.expected.push_str(text)?;
-            row.expected.push('\n')?;
-        } else if let Some(second) = line.strip_prefix("until ") {
-            row.until = second.parse::<u64>().ok();
-        } else if let Some(count) = line.strip_prefix("most ") {
-            row.most = count.parse::<u64>().ok().unwrap_or(0);
-        } else {
-            assert!(rt; line.is_empty(), "a line that says nothing: {line}");
-        }
+    for text in rows.split("\nrow ") {
+        run_row(rt, alloc, text);
+        checked = checked.wrapping_add(1);
     }
-    row.check(rt, alloc)?;
-    Ok(checked)
+    checked
+}
+
+/// Runs a row. Its first line is its name.
+fn run_row(rt: &impl Abort, alloc: Global, text: &str) {
+    let mut lines = text.lines();
+    let mut row = Row::new(alloc, lines.next().expect(rt, "a name"));
+    for line in lines {
+        row.take(rt, alloc, line);
+    }
+    row.check(rt, alloc);
 }
 
 const FILES: &str = "
@@ -311,19 +338,16 @@ file P 00000003 000D 0008 00000011 00000000 080A 0001 0000 00000001 000000
 ";
 
 #[test]
-fn several_files(rt: HostRuntime) -> Result<(), Fail> {
-    assert_eq!(rt; run_rows(&rt, rt.alloc(), FILES)?, 15);
-    Ok(())
+fn several_files(rt: HostRuntime) {
+    assert!(rt; run_rows(&rt, rt.alloc(), FILES) == 15);
 }
 
 #[test]
-fn every_form(rt: HostRuntime) -> Result<(), Fail> {
-    assert_eq!(rt; run_rows(&rt, rt.alloc(), FORMS)?, 14);
-    Ok(())
+fn every_form(rt: HostRuntime) {
+    assert!(rt; run_rows(&rt, rt.alloc(), FORMS) == 14);
 }
 
 #[test]
-fn every_fault(rt: HostRuntime) -> Result<(), Fail> {
-    assert_eq!(rt; run_rows(&rt, rt.alloc(), FAULTS)?, 17);
-    Ok(())
+fn every_fault(rt: HostRuntime) {
+    assert!(rt; run_rows(&rt, rt.alloc(), FAULTS) == 17);
 }

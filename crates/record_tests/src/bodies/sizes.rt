@@ -1,12 +1,11 @@
 //! Cut bodies, and the greatest ones.
 
-use super::lines::push_found;
+use super::lines::{next_of, push_found};
 use fixtures::dump;
 use mrt_body::{Found, Payload, Units};
-use mrt_frame::Counted;
+use mrt_frame::{Counted, ReplayError, Source};
 use std::alloc::Global;
 use std::process::Abort;
-use std::test::Fail;
 
 /// Bodies in hexadecimal digits with the type and the subtype of their record, and how many of their
 /// first bytes are read. A front is refused: with fewer bytes as ShortRecord, but for a RIB record's
@@ -33,49 +32,59 @@ const BODIES: [(&str, &str, usize); 5] = [
 
 /// Each front of a body, and the body with a byte more, behind a table of two peers.
 #[test]
-fn every_front_of_a_body(rt: HostRuntime) -> Result<(), Fail> {
-    let alloc = rt.alloc();
+fn every_front_of_a_body(rt: HostRuntime) {
     for (kinds, body, whole) in BODIES {
-        let body = dump(alloc, body)?;
-        assert_eq!(rt; body.len(), whole);
-        for k in 0..whole {
-            let fault = match kinds {
-                "000D 0002" | "000D 0008" if k == 5 => "BadPrefix",
-                _ => "ShortRecord",
-            };
-            expect_fault(&rt, alloc, kinds, &body.as_slice()[..k], fault)?;
-        }
-        let mut more = body;
-        more.push(0)?;
-        expect_fault(&rt, alloc, kinds, more.as_slice(), "TrailingBytes")?;
+        expect_fronts_refused(&rt, rt.alloc(), kinds, body, whole);
     }
-    Ok(())
+}
+
+/// Expects the refusal of each front of a body, and of the body with a byte more.
+fn expect_fronts_refused(rt: &impl Abort, alloc: Global, kinds: &str, body: &str, whole: usize) {
+    let body = dump(alloc, body).expect(rt, "memory for a body");
+    assert!(rt; body.len() == whole);
+    for k in 0..whole {
+        let fault = match kinds {
+            "000D 0002" | "000D 0008" if k == 5 => "BadPrefix",
+            _ => "ShortRecord",
+        };
+        expect_fault(rt, alloc, kinds, &body.as_slice()[..k], fault);
+    }
+    let mut more = body;
+    more.push(0).expect(rt, "memory for a byte more");
+    expect_fault(rt, alloc, kinds, more.as_slice(), "TrailingBytes");
 }
 
 /// Expects that the only answer is the refusal of this body.
-fn expect_fault(
-    rt: &impl Abort,
-    alloc: Global,
-    kinds: &str,
-    body: &[u8],
-    fault: &str,
-) -> Result<(), Fail> {
-    let header = format!(in alloc; "P 00000003 {kinds} {:08X}", body.len())?;
-    let mut file = dump(alloc, header.as_str())?;
-    file.extend_from_slice(body)?;
+fn expect_fault(rt: &impl Abort, alloc: Global, kinds: &str, body: &[u8], fault: &str) {
+    let file = file_with(rt, alloc, kinds, body);
     let mut text = String::new(alloc);
-    let mut files = [Counted::new(file.as_slice())];
-    push_found(alloc, &mut text, &mut files, 1000, None)?;
-    let expected = format!(in alloc; "0|56|{fault}\nrecords 2 aside 0\n")?;
-    assert!(rt; text.as_str() == expected.as_str(), "{kinds}: {text}");
-    Ok(())
+    push_found(
+        rt,
+        alloc,
+        &mut text,
+        &mut [Counted::new(file.as_slice())],
+        1000,
+        None,
+    );
+    let refusal = text
+        .strip_suffix("\nrecords 2 aside 0\n")
+        .and_then(|line| line.strip_prefix("0|56|"));
+    assert!(rt; refusal == Some(fault), "{kinds}: {text}");
+}
+
+/// A table of two peers, and a record of this body.
+fn file_with(rt: &impl Abort, alloc: Global, kinds: &str, body: &[u8]) -> Vec<u8> {
+    let mut header = String::new(alloc);
+    write!(header, "P 00000003 {kinds} {:08X}", body.len()).expect(rt, "memory for a header");
+    let mut file = dump(alloc, header.as_str()).expect(rt, "memory for a file");
+    file.extend_from_slice(body).expect(rt, "memory for a body");
+    file
 }
 
 /// Each front of three records in one file.
 #[test]
-fn every_front_of_a_file(rt: HostRuntime) -> Result<(), Fail> {
-    let alloc = rt.alloc();
-    let bytes = dump(alloc, "P T M")?;
+fn every_front_of_a_file(rt: HostRuntime) {
+    let bytes = dump(rt.alloc(), "P T M").expect(&rt, "memory for a file");
     assert!(rt; bytes.len() == 193);
     for k in 0..=bytes.len() {
         let (begin, units) = match k {
@@ -84,69 +93,91 @@ fn every_front_of_a_file(rt: HostRuntime) -> Result<(), Fail> {
             116..=192 => (116, 2),
             _ => (193, 3),
         };
-        let mut found = 0u8;
-        let mut refused = 0u8;
-        let mut files = [Counted::new(&bytes.as_slice()[..k])];
-        let mut readings = Units::new(1, 1000, None);
-        for _ in 0..6u8 {
-            assert!(rt; readings.count() == 1);
-            match readings.next(alloc, &mut files)? {
-                Some(Found::Unit(_)) => found = u8::wrapping_add(found, 1),
-                Some(Found::Refused(damage)) => {
-                    refused = u8::wrapping_add(refused, 1);
-                    assert!(rt; damage.place.offset == begin);
-                }
-                None => break,
-            }
-        }
-        let broken = if k as u64 == begin { 0 } else { 1 };
-        assert!(rt; found == units && refused == broken, "{k} bytes");
+        let refused = if k as u64 == begin { 0 } else { 1 };
+        let counts = counts_of(&rt, rt.alloc(), &bytes.as_slice()[..k], begin);
+        assert!(rt; counts == (units, refused), "{k} bytes");
     }
-    Ok(())
+}
+
+/// How many of the first six answers of a file are units, and how many are refusals, which have to
+/// stand at this offset.
+fn counts_of(rt: &impl Abort, alloc: Global, file: &[u8], begin: u64) -> (u8, u8) {
+    let mut found = 0u8;
+    let mut refused = 0u8;
+    let mut files = [Counted::new(file)];
+    let mut units = Units::new(1, 1000, None);
+    for _ in 0..6u8 {
+        match next_of(rt, alloc, &mut units, &mut files).expect(rt, "no error") {
+            Some(Found::Unit(_)) => found = found.wrapping_add(1),
+            Some(Found::Refused(damage)) => {
+                refused = refused.wrapping_add(1);
+                assert!(rt; damage.place.offset == begin);
+            }
+            None => break,
+        }
+    }
+    (found, refused)
 }
 
 /// A record of 65,535 entries, without attributes.
 #[test]
-fn the_most_entries(rt: HostRuntime) -> Result<(), Fail> {
+fn the_most_entries(rt: HostRuntime) {
     let alloc = rt.alloc();
-    // The body has 8 bytes and then 8 of each entry.
-    let mut file = dump(alloc, "P 00000003 000D 0002 00080000 00000000 080A FFFF")?;
-    for _ in 0..65_535u16 {
-        file.extend_from_slice(&[0, 1, 0, 0, 0, 1, 0, 0])?;
-    }
+    let file = many_entries(&rt, alloc);
     let mut files = [Counted::new(file.as_slice())];
     let mut units = Units::new(1, 1000, None);
     for number in 1..=65_535u16 {
-        assert!(rt; units.count() == 1);
-        match units.next(alloc, &mut files)? {
-            Some(Found::Unit(unit)) => {
-                assert!(rt; unit.place.entry == Some(number) && unit.peer.asn == 70000);
-            }
-            _ => assert!(rt; false, "entry {number}"),
-        }
+        expect_number(&rt, alloc, &mut units, &mut files, number);
     }
-    assert!(rt; units.count() == 1);
-    assert!(rt; units.next(alloc, &mut files)?.is_none());
-    Ok(())
+    assert!(rt; matches!(next_of(&rt, alloc, &mut units, &mut files), Ok(None)));
+}
+
+/// Expects the entry of this number next.
+fn expect_number<R: Source>(
+    rt: &impl Abort,
+    alloc: Global,
+    units: &mut Units,
+    files: &mut [R],
+    number: u16,
+) {
+    match next_of(rt, alloc, units, files) {
+        Ok(Some(Found::Unit(unit))) => {
+            assert!(rt; unit.place.entry == Some(number) && unit.peer.asn == 70000);
+        }
+        _ => assert!(rt; false, "entry {number}"),
+    }
+}
+
+fn many_entries(rt: &impl Abort, alloc: Global) -> Vec<u8> {
+    // The body has 8 bytes and then 8 of each entry.
+    let header = "P 00000003 000D 0002 00080000 00000000 080A FFFF";
+    let mut file = dump(alloc, header).expect(rt, "memory for a header");
+    for _ in 0..65_535u16 {
+        file.extend_from_slice(&[0, 1, 0, 0, 0, 1, 0, 0])
+            .expect(rt, "memory for an entry");
+    }
+    file
 }
 
 /// A body of 16,777,216 bytes, all but the first 20 of them the message.
 #[test]
-fn the_longest_body(rt: HostRuntime) -> Result<(), Fail> {
+fn the_longest_body(rt: HostRuntime) {
     let alloc = rt.alloc();
-    let mut file = dump(alloc, "00000001 0010 0004 01000000 H4")?;
-    file.resize(12 + 16_777_216, 0xFF)?;
-    let mut files = [Counted::new(file.as_slice())];
+    let mut file = dump(alloc, "00000001 0010 0004 01000000 H4").expect(&rt, "memory for a header");
+    file.resize(12 + 16_777_216, 0xFF)
+        .expect(&rt, "memory for a body");
     let mut units = Units::new(1, 1000, None);
-    assert!(rt; units.count() == 1);
-    match units.next(alloc, &mut files)? {
-        Some(Found::Unit(unit)) => match &unit.payload {
-            Payload::Message { bytes, .. } => {
-                assert_eq!(rt; bytes.as_slice().len(), 16_777_196);
-            }
-            _ => assert!(rt; false),
+    let found = next_of(&rt, alloc, &mut units, &mut [Counted::new(file.as_slice())]);
+    assert!(rt; message_size(&found) == Some(16_777_196));
+}
+
+/// How many bytes the message has that was found, if one was.
+fn message_size(found: &Result<Option<Found>, ReplayError>) -> Option<usize> {
+    match found {
+        Ok(Some(Found::Unit(unit))) => match &unit.payload {
+            Payload::Message { bytes, .. } => Some(bytes.as_slice().len()),
+            _ => None,
         },
-        _ => assert!(rt; false),
+        _ => None,
     }
-    Ok(())
 }

@@ -10,7 +10,7 @@ use rib_report::{
     write_visibility,
 };
 use std::alloc::Global;
-use std::test::Fail;
+use std::process::Abort;
 
 /// 65000 192.0.2.1.
 const PEER: PeerKey = PeerKey {
@@ -24,9 +24,19 @@ const LAST_PEER: PeerKey = PeerKey {
     addr: PeerAddr::V6(u128::MAX),
 };
 
-fn key(addr: u32, len: u8, id: u32) -> Result<RouteKey, Fail> {
-    let prefix = Prefix::new(addr, len).ok_or("a length of at most 32")?;
-    Ok(RouteKey { prefix, id })
+/// A prefix, with its host bits. A length over 32 is taken for 32.
+fn prefix(addr: u32, len: u8) -> Prefix {
+    let Some(prefix) = Prefix::new(addr, len.min(32)) else {
+        unreachable!()
+    };
+    prefix
+}
+
+fn key(addr: u32, len: u8, id: u32) -> RouteKey {
+    RouteKey {
+        prefix: prefix(addr, len),
+        id,
+    }
 }
 
 /// A route without any attribute.
@@ -43,20 +53,51 @@ fn bare_route() -> Route {
 }
 
 /// A segment of each kind, one after the other.
+const SEGMENTS: [(SegmentKind, &[u32]); 4] = [
+    (SegmentKind::ConfedSequence, &[64_512, 1]),
+    (SegmentKind::ConfedSet, &[3, 2]),
+    (SegmentKind::AsSequence, &[u32::MAX, 0, 10]),
+    (SegmentKind::AsSet, &[70_001, 70_000]),
+];
+
 fn all_kinds(alloc: Global) -> Result<AsPath, Memory> {
     let mut path = AsPath::new(alloc);
-    path.push(Segment::new(alloc, SegmentKind::ConfedSequence, &[64_512, 1])?)?;
-    path.push(Segment::new(alloc, SegmentKind::ConfedSet, &[3, 2])?)?;
-    path.push(Segment::new(alloc, SegmentKind::AsSequence, &[u32::MAX, 0, 10])?)?;
-    path.push(Segment::new(alloc, SegmentKind::AsSet, &[70_001, 70_000])?)?;
+    for (kind, numbers) in SEGMENTS {
+        path.push(Segment::new(alloc, kind, numbers)?)?;
+    }
     Ok(path)
 }
 
-/// Every field at its greatest, and a path of every kind of segment.
-fn greatest_route(alloc: Global) -> Result<Route, Memory> {
-    Ok(Route {
+fn route_by_v6(path: AsPath) -> Route {
+    Route {
+        origin: Some(Origin::Egp),
+        path: Some(path),
+        next_hop: Some(NextHop::V6(0x2001_0DB8_0000_0000_0000_0000_0000_0001)),
+        med: Some(0),
+        local_pref: None,
+        atomic: false,
+        aggregator: None,
+    }
+}
+
+/// A route without a path, with zeros.
+fn short_route() -> Route {
+    Route {
+        origin: Some(Origin::Igp),
+        path: None,
+        next_hop: Some(NextHop::V4(0x0A00_0001)),
+        med: None,
+        local_pref: Some(0),
+        atomic: false,
+        aggregator: Some(Aggregator { asn: 0, addr: 0 }),
+    }
+}
+
+/// Every field but the path at its greatest.
+fn greatest_route(path: AsPath) -> Route {
+    Route {
         origin: Some(Origin::Incomplete),
-        path: Some(all_kinds(alloc)?),
+        path: Some(path),
         next_hop: Some(NextHop::V6Pair(u128::MAX, 0xFE80 << 112)),
         med: Some(u32::MAX),
         local_pref: Some(u32::MAX),
@@ -65,47 +106,35 @@ fn greatest_route(alloc: Global) -> Result<Route, Memory> {
             asn: u32::MAX,
             addr: u32::MAX,
         }),
-    })
+    }
 }
 
 #[test]
-fn routes(rt: HostRuntime) -> Result<(), Fail> {
+fn routes(rt: HostRuntime) {
     let alloc = rt.alloc();
     let bare = bare_route();
-    let greatest = greatest_route(alloc)?;
-    let empty_path = Route {
-        origin: Some(Origin::Egp),
-        path: Some(AsPath::new(alloc)),
-        next_hop: Some(NextHop::V6(0x2001_0DB8_0000_0000_0000_0000_0000_0001)),
-        med: Some(0),
-        ..bare_route()
-    };
-    let short = Route {
-        origin: Some(Origin::Igp),
-        next_hop: Some(NextHop::V4(0x0A00_0001)),
-        local_pref: Some(0),
-        aggregator: Some(Aggregator { asn: 0, addr: 0 }),
-        ..bare_route()
-    };
+    let empty_path = route_by_v6(AsPath::new(alloc));
+    let short = short_route();
+    let greatest = greatest_route(all_kinds(alloc).expect(&rt, "a path"));
     let rows = [
         TableRow {
             peer: PEER,
-            key: key(0, 0, 0)?,
+            key: key(0, 0, 0),
             route: &bare,
         },
         TableRow {
             peer: PEER,
-            key: key(0x0A00_0000, 8, 1)?,
+            key: key(0x0A00_0000, 8, 1),
             route: &empty_path,
         },
         TableRow {
             peer: PEER,
-            key: key(0x0A0F_FFFF, 12, 10)?,
+            key: key(0x0A0F_FFFF, 12, 10),
             route: &short,
         },
         TableRow {
             peer: LAST_PEER,
-            key: key(u32::MAX, 32, u32::MAX)?,
+            key: key(u32::MAX, 32, u32::MAX),
             route: &greatest,
         },
     ];
@@ -117,30 +146,33 @@ fn routes(rt: HostRuntime) -> Result<(), Fail> {
     let mut out = Counted::new(Vec::<u8>::new(alloc));
     assert!(rt; write_rows(&mut out, &rows).is_ok());
     assert!(rt; out.device().as_slice() == lines.as_bytes());
-    Ok(())
+}
+
+fn numbers(rt: &impl Abort, alloc: Global, numbers: &[u32]) -> Sequence<u32> {
+    Sequence::from_vec(Vec::from_slice(alloc, numbers).expect(rt, "numbers"))
 }
 
 #[test]
-fn prefixes(rt: HostRuntime) -> Result<(), Fail> {
+fn prefixes(rt: HostRuntime) {
     let alloc = rt.alloc();
     let visible = [
         SeenRow {
-            prefix: key(0, 0, 0)?.prefix,
+            prefix: prefix(0, 0),
             peers: 1,
         },
         SeenRow {
-            prefix: key(u32::MAX, 32, 0)?.prefix,
+            prefix: prefix(u32::MAX, 32),
             peers: usize::MAX,
         },
     ];
     let origins = [
         OriginRow {
-            prefix: key(0x0A0F_FFFF, 12, 0)?.prefix,
-            origins: Sequence::from_vec(vec![in alloc; 0, 65_000, u32::MAX]?),
+            prefix: prefix(0x0A0F_FFFF, 12),
+            origins: numbers(&rt, alloc, &[0, 65_000, u32::MAX]),
         },
         OriginRow {
-            prefix: key(u32::MAX, 31, 0)?.prefix,
-            origins: Sequence::from_vec(vec![in alloc; 23_456, 23_457]?),
+            prefix: prefix(u32::MAX, 31),
+            origins: numbers(&rt, alloc, &[23_456, 23_457]),
         },
     ];
     let lines = "0.0.0.0/0|1
@@ -152,7 +184,6 @@ fn prefixes(rt: HostRuntime) -> Result<(), Fail> {
     assert!(rt; write_visibility(&mut out, &visible).is_ok());
     assert!(rt; write_origins(&mut out, &origins).is_ok());
     assert!(rt; out.device().as_slice() == lines.as_bytes());
-    Ok(())
 }
 
 /// Counts 1 to 8 in the order of the line, and these times.
@@ -174,7 +205,7 @@ fn counts(first: Option<u64>, last: Option<u64>) -> Churn {
 /// A record's microseconds may be past a second, and are then carried over: second 1 and
 /// 4,294,967,295 microseconds are 4295.967295.
 #[test]
-fn churns(rt: HostRuntime) -> Result<(), Fail> {
+fn churns(rt: HostRuntime) {
     let alloc = rt.alloc();
     let most = u64::MAX;
     let greatest = Churn {
@@ -215,7 +246,6 @@ fn churns(rt: HostRuntime) -> Result<(), Fail> {
     let mut out = Counted::new(Vec::<u8>::new(alloc));
     assert!(rt; write_churn(&mut out, &rows).is_ok());
     assert!(rt; out.device().as_slice() == lines.as_bytes());
-    Ok(())
 }
 
 fn damage(file: usize, offset: u64, entry: Option<u16>, fault: Fault) -> Damage {
@@ -230,7 +260,7 @@ fn damage(file: usize, offset: u64, entry: Option<u16>, fault: Fault) -> Damage 
 }
 
 #[test]
-fn all_faults(rt: HostRuntime) -> Result<(), Fail> {
+fn all_faults(rt: HostRuntime) {
     let rows = [
         damage(0, 0, None, Fault::ShortHeader),
         damage(0, 0, None, Fault::ShortBody),
@@ -274,5 +304,4 @@ fn all_faults(rt: HostRuntime) -> Result<(), Fail> {
     let mut out = Counted::new(Vec::<u8>::new(rt.alloc()));
     assert!(rt; write_faults(&mut out, &rows).is_ok());
     assert!(rt; out.device().as_slice() == lines.as_bytes());
-    Ok(())
 }

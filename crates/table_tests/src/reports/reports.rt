@@ -11,7 +11,6 @@ use rib_report::{
 };
 use std::alloc::Global;
 use std::process::Abort;
-use std::test::Fail;
 
 #[derive(Clone, Copy)]
 pub enum Report {
@@ -283,33 +282,27 @@ fn expect_rows<M: PrefixMap<SharedRoute>>(
     alloc: Global,
     tables: &Tables<M>,
     text: &str,
-) -> Result<(), Fail> {
+) {
+    let rows = table_rows(alloc, tables).expect(rt, "rows");
     let mut all = Counted::new(Vec::<u8>::new(alloc));
-    assert!(rt; write_rows(&mut all, table_rows(alloc, tables)?.as_slice()).is_ok());
+    assert!(rt; write_rows(&mut all, rows.as_slice()).is_ok());
     assert!(rt; all.device().as_slice() == text.as_bytes());
-    Ok(())
 }
 
-fn expect_reports<M: PrefixMap<SharedRoute>>(
+fn expect_report<M: PrefixMap<SharedRoute>>(
     rt: &impl Abort,
     alloc: Global,
     tables: &Tables<M>,
     name: &str,
-    reports: &[(Report, &str)],
-) -> Result<(), Fail> {
-    for asked in reports {
-        let (report, text) = *asked;
-        let mut out = Counted::new(Vec::<u8>::new(alloc));
-        assert!(rt;
-            write_report(alloc, &mut out, tables, report).is_ok(),
-            "{name}"
-        );
-        assert!(rt; out.device().as_slice() == text.as_bytes(), "{name}");
-        if let Report::Tables = report {
-            expect_rows(rt, alloc, tables, text)?;
-        }
-    }
-    Ok(())
+    report: Report,
+    text: &str,
+) {
+    let mut out = Counted::new(Vec::<u8>::new(alloc));
+    assert!(rt;
+        write_report(alloc, &mut out, tables, report).is_ok(),
+        "{name}"
+    );
+    assert!(rt; out.device().as_slice() == text.as_bytes(), "{name}");
 }
 
 /// Runs a case by one map, with the seats in this order.
@@ -318,18 +311,24 @@ fn expect_order<M: PrefixMap<SharedRoute> + Drop>(
     alloc: Global,
     order: [usize; 3],
     case: &Case<'_>,
-) -> Result<(), Fail> {
+) {
     let name = case.name;
-    let tables = tables_of::<M>(alloc, order, &case.peers, case.refused)?;
+    let tables = tables_of::<M>(rt, alloc, order, &case.peers, case.refused);
     assert!(rt;
         tables.peers() == 3 && tables.damaged() == case.damaged,
         "{name}"
     );
-    expect_reports(rt, alloc, &tables, name, case.reports)
+    for asked in case.reports {
+        let (report, text) = *asked;
+        expect_report(rt, alloc, &tables, name, report, text);
+        if let Report::Tables = report {
+            expect_rows(rt, alloc, &tables, text);
+        }
+    }
 }
 
 /// Runs a case with the seats in every order, by each map.
-fn expect_case(rt: &impl Abort, alloc: Global, case: &Case<'_>) -> Result<(), Fail> {
+fn expect_case(rt: &impl Abort, alloc: Global, case: &Case<'_>) {
     let orders = [
         [0, 1, 2],
         [0, 2, 1],
@@ -339,14 +338,13 @@ fn expect_case(rt: &impl Abort, alloc: Global, case: &Case<'_>) -> Result<(), Fa
         [2, 1, 0],
     ];
     for order in orders {
-        expect_order::<Radix<SharedRoute>>(rt, alloc, order, case)?;
-        expect_order::<Flat<SharedRoute>>(rt, alloc, order, case)?;
+        expect_order::<Radix<SharedRoute>>(rt, alloc, order, case);
+        expect_order::<Flat<SharedRoute>>(rt, alloc, order, case);
     }
-    Ok(())
 }
 
 #[test]
-fn reports_on_three_peers(rt: HostRuntime) -> Result<(), Fail> {
+fn reports_on_three_peers(rt: HostRuntime) {
     let cases = [
         THREE_PEERS,
         LONGEST,
@@ -357,7 +355,6 @@ fn reports_on_three_peers(rt: HostRuntime) -> Result<(), Fail> {
         DAMAGED,
     ];
     for case in &cases {
-        expect_case(&rt, rt.alloc(), case)?;
+        expect_case(&rt, rt.alloc(), case);
     }
-    Ok(())
 }

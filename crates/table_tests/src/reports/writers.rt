@@ -6,13 +6,12 @@ use super::reports::{
     write_report,
 };
 use adj_rib::SharedRoute;
-use bgp_prefix::{Prefix, Radix};
+use bgp_prefix::{Memory, Prefix, Radix};
 use mrt_frame::{Counted, Failures, ReplayError};
 use rib_report::{SeenRow, Tables, write_visibility};
-use std::alloc::Global;
+use std::alloc::{AllocError, Global};
 use std::io::{self, ErrorKind, Write};
 use std::process::Abort;
-use std::test::Fail;
 
 /// Takes so many bytes a write, and so many in all: then it fails, or takes none. It can't be flushed.
 #[derive(Drop)]
@@ -70,93 +69,131 @@ const REPORTS: [Report; 6] = [
     Report::Faults,
 ];
 
-/// A writer that stops after each number of bytes holds so many of the report.
+/// A writer that stops after so many bytes holds so many of the report.
+fn expect_stop(
+    rt: &impl Abort,
+    alloc: Global,
+    tables: &Tables<Radix<SharedRoute>>,
+    report: Report,
+    mut out: Counted<Narrow>,
+    front: &[u8],
+) {
+    let answer = write_report(alloc, &mut out, tables, report);
+    let room = front.len();
+    assert!(rt;
+        answer == Err(ReplayError::Write) && out.failures() == 1,
+        "room for {room}"
+    );
+    assert!(rt; out.device().written.as_slice() == front, "room for {room}");
+}
+
+/// Room for each number of bytes below the report's.
 fn stop_everywhere(
     rt: &impl Abort,
     alloc: Global,
     tables: &Tables<Radix<SharedRoute>>,
     report: Report,
     whole: &[u8],
-) -> Result<(), Fail> {
+) {
     for k in 0..whole.len() {
         for fails in [true, false] {
-            let mut out = Narrow::new(alloc, 7, k, fails);
-            let answer = write_report(alloc, &mut out, tables, report);
-            assert!(rt; answer == Err(ReplayError::Write), "room for {k}");
-            assert!(rt; out.failures() == 1, "room for {k}");
-            assert!(rt;
-                out.device().written.as_slice() == &whole[..k],
-                "room for {k}"
-            );
+            let out = Narrow::new(alloc, 7, k, fails);
+            expect_stop(rt, alloc, tables, report, out, &whole[..k]);
         }
     }
-    Ok(())
+}
+
+/// A writer that takes one byte a write, and has room for all, takes the whole report. Nobody flushes.
+fn expect_by_bytes(
+    rt: &impl Abort,
+    alloc: Global,
+    tables: &Tables<Radix<SharedRoute>>,
+    report: Report,
+    whole: &[u8],
+) {
+    let mut out = Narrow::new(alloc, 1, whole.len(), true);
+    assert!(rt; write_report(alloc, &mut out, tables, report).is_ok());
+    assert!(rt; out.device().written.as_slice() == whole && out.failures() == 0);
 }
 
 #[test]
-fn every_write_of_each_report(rt: HostRuntime) -> Result<(), Fail> {
+fn every_write_of_each_report(rt: HostRuntime) {
     let alloc = rt.alloc();
-    let tables = tables_of::<Radix<SharedRoute>>(alloc, [2, 0, 1], &PEERS, &REFUSED)?;
+    let tables = tables_of::<Radix<SharedRoute>>(&rt, alloc, [2, 0, 1], &PEERS, &REFUSED);
     for report in REPORTS {
         let mut whole = Counted::new(Vec::<u8>::new(alloc));
         assert!(rt; write_report(alloc, &mut whole, &tables, report).is_ok());
         let text = whole.device().as_slice();
         assert!(rt; !text.is_empty());
-        // One byte a write, and room for all. Nobody flushes.
-        let mut out = Narrow::new(alloc, 1, text.len(), true);
-        assert!(rt; write_report(alloc, &mut out, &tables, report).is_ok());
-        assert!(rt; out.device().written.as_slice() == text);
-        assert!(rt; out.failures() == 0);
-        stop_everywhere(&rt, alloc, &tables, report, text)?;
+        expect_by_bytes(&rt, alloc, &tables, report, text);
+        stop_everywhere(&rt, alloc, &tables, report, text);
     }
-    Ok(())
 }
 
 const MANY: u32 = 6_000;
 
-/// Rows of prefixes of length 20, one after the other, and their text.
-fn many_rows(alloc: Global) -> Result<(Vec<SeenRow>, Vec<u8>), Fail> {
+fn row(i: u32) -> SeenRow {
+    let Some(prefix) = Prefix::new(i << 12, 20) else {
+        unreachable!()
+    };
+    SeenRow {
+        prefix,
+        peers: i as usize,
+    }
+}
+
+/// Rows of prefixes of length 20, one after the other.
+fn many_rows(alloc: Global) -> Result<Vec<SeenRow>, Memory> {
     let mut rows = Vec::new(alloc);
+    for i in 0..MANY {
+        rows.push(row(i))?;
+    }
+    Ok(rows)
+}
+
+fn line(alloc: Global, i: u32) -> Result<String, AllocError> {
+    format!(in alloc;
+        "{}.{}.{}.0/20|{}\n",
+        i >> 12,
+        (i >> 4) & 255,
+        (i & 15) * 16,
+        i
+    )
+}
+
+/// The text of these rows.
+fn many_lines(alloc: Global) -> Result<Vec<u8>, Memory> {
     let mut text = Vec::new(alloc);
     for i in 0..MANY {
-        let prefix = Prefix::new(i << 12, 20).ok_or("a length of at most 32")?;
-        rows.push(SeenRow {
-            prefix,
-            peers: i as usize,
-        })?;
-        let line = format!(in alloc;
-            "{}.{}.{}.0/20|{}\n",
-            i >> 12,
-            (i >> 4) & 255,
-            (i & 15) * 16,
-            i
-        )?;
-        text.extend_from_slice(line.as_bytes())?;
+        text.extend_from_slice(line(alloc, i)?.as_bytes())?;
     }
-    Ok((rows, text))
+    Ok(text)
+}
+
+/// A writer with room for a front of the text holds that front, and takes nothing more.
+fn expect_front(rt: &impl Abort, alloc: Global, rows: &[SeenRow], front: &[u8]) {
+    let mut out = Narrow::new(alloc, usize::MAX, front.len(), false);
+    let answer = write_visibility(&mut out, rows);
+    let room = front.len();
+    assert!(rt;
+        answer == Err(ReplayError::Write) && out.failures() == 1,
+        "room for {room}"
+    );
+    assert!(rt; out.device().written.as_slice() == front, "room for {room}");
 }
 
 /// A text that passes the buffer's 65,536 bytes once: it takes two writes.
 #[test]
-fn a_long_report(rt: HostRuntime) -> Result<(), Fail> {
+fn a_long_report(rt: HostRuntime) {
     let alloc = rt.alloc();
-    let (rows, text) = many_rows(alloc)?;
+    let rows = many_rows(alloc).expect(&rt, "rows");
+    let text = many_lines(alloc).expect(&rt, "lines");
     assert!(rt; text.len() > 65_537 && text.len() < 131_072);
     let mut out = Narrow::new(alloc, usize::MAX, usize::MAX, true);
     assert!(rt; write_visibility(&mut out, rows.as_slice()).is_ok());
     assert!(rt; out.device().written.as_slice() == text.as_slice());
     assert!(rt; out.device().writes == 2);
     for k in [0, 1, 65_535, 65_536, 65_537, text.len() - 1] {
-        let mut out = Narrow::new(alloc, usize::MAX, k, false);
-        let answer = write_visibility(&mut out, rows.as_slice());
-        assert!(rt;
-            answer == Err(ReplayError::Write) && out.failures() == 1,
-            "room for {k}"
-        );
-        assert!(rt;
-            out.device().written.as_slice() == &text.as_slice()[..k],
-            "room for {k}"
-        );
+        expect_front(&rt, alloc, rows.as_slice(), &text.as_slice()[..k]);
     }
-    Ok(())
 }

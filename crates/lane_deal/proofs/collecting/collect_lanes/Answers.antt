@@ -1,5 +1,5 @@
 use Rattle.std.proofs.Common.{◌≡◌, ◌++◌, take, drop, length, ap, ◌∙◌, arith}
-use Rattle.rib_report.specs.Seats.{seat_of}
+use Rattle.peer_tables.specs.Seats.{seat_of}
 use Rattle.lane_deal.proofs.HandingIn.{handed_in, given_back, items_now}
 use Rattle.lane_deal.proofs.collecting.collect_lanes.Goals as goal
 

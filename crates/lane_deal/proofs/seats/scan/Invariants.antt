@@ -1,6 +1,6 @@
 use Rattle.std.proofs.Common.{◌≡◌, false, take, map, eqb}
 use Rattle.std.specs.List.{list_any}
-use Rattle.rib_report.specs.Seats.{seat_of}
+use Rattle.peer_tables.specs.Seats.{seat_of}
 use Rattle.lane_deal.proofs.seats.scan.Given as goal
 
 abbrev pub invariant-loop-at : goal.invariant-loop-at

@@ -1,10 +1,7 @@
-use Rattle.std.proofs.Common.{◌≡◌, ◌≢◌, ◌≤◌, ◌+◌, Ok, length, map, refl, sym, ap, ◌∙◌, arith}
+use Rattle.std.proofs.Common.{◌≤◌, ◌+◌, Ok, map, refl, sym, ap, ◌∙◌, arith}
 use Rattle.std.proofs.lemmas.List.{length-map}
-use Rattle.lane_deal.specs.Answers.{state_of_step}
-use Rattle.lane_deal.specs.declared.step.Step.TheVariants.{End}
 use Rattle.lane_deal.specs.Playing.{shown}
-use Rattle.lane_deal.proofs.Asking.{stops_later}
-use Rattle.mrt_replay.proofs.RoundsTaken.{SoFar-none, SoFar-more, HasPlayed-from, falls, runs_on, stops_files}
+use Rattle.mrt_replay.proofs.RoundsTaken.{SoFar-none, SoFar-more, HasPlayed-from, falls, runs_on}
 use Rattle.mrt_replay.proofs.replayed.play.Goals as goal
 
 pub rounds-init : goal.rounds-init

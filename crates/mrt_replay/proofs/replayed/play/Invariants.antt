@@ -1,5 +1,4 @@
 use Rattle.std.proofs.Common.{◌≡◌, length, map}
-use Rattle.mrt_body.specs.declared.standing.Standing.TheVariants.{Going}
 use Rattle.lane_deal.specs.declared.state.State.TheVariants.{Running}
 use Rattle.lane_deal.specs.Playing.{shown}
 use Rattle.mrt_replay.proofs.RoundsTaken.{SoFar, left_over}

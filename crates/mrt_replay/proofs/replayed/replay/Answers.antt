@@ -1,10 +1,9 @@
-use Rattle.std.proofs.Common.{◌≡◌, ◌≢◌, ◌≤◌, ◌+◌, ℕ, [], List, Option, refl, sym, ap, ◌∙◌, subst, length, map, arith}
+use Rattle.std.proofs.Common.{◌≡◌, ◌≤◌, ◌+◌, [], Option, sym, ap, ◌∙◌, subst, length, map, arith}
 use Rattle.std.specs.Prelude.{option_to_list}
 use Rattle.std.specs.List.{filter_map}
 use Rattle.std.proofs.lemmas.List.{length-map}
 use Rattle.mrt_body.specs.declared.unit.Unit.{Unit as ReplayUnit}
 use Rattle.mrt_body.specs.Units.{units_of, refused_of, unit_of}
-use Rattle.lane_deal.specs.declared.state.State.TheVariants.{Spent}
 use Rattle.lane_deal.specs.Playing.{shown}
 use Rattle.lane_deal.specs.Replayers.{ReplayerStandsFor}
 use Rattle.mrt_replay.specs.Replays.{DealtAll}

@@ -1,7 +1,7 @@
 use Rattle.std.proofs.Common.{◌∙◌}
 use Rattle.rib_report.specs.Reports.{peer_churn}
-use Rattle.rib_report.specs.Seats.{seat_of}
-use Rattle.rib_report.proofs.RowLaws.{rows_of_all}
+use Rattle.peer_tables.specs.Seats.{seat_of}
+use Rattle.peer_tables.proofs.RowLaws.{rows_of_all}
 use Rattle.rib_report.proofs.activity.churn.Goals as goal
 
 pub returns : goal.returns

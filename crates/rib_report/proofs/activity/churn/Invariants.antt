@@ -2,7 +2,7 @@
 use Rattle.std.proofs.Common.{◌≡◌, map, take}
 use Rattle.rib_report.specs.Rows.{churn_row}
 use Rattle.rib_report.specs.Reports.{peer_churn}
-use Rattle.rib_report.specs.Seats.{seat_of}
+use Rattle.peer_tables.specs.Seats.{seat_of}
 use Rattle.rib_report.proofs.activity.churn.Given as goal
 
 abbrev pub invariant-loop-seat : goal.invariant-loop-seat

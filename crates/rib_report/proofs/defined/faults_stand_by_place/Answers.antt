@@ -1,4 +1,4 @@
-use Rattle.rib_report.specs.Tables.{all_faults}
+use Rattle.peer_tables.specs.Tables.{all_faults}
 use Rattle.rib_report.proofs.DefinedLaws.{faults_sorted, faults_stable}
 use Rattle.rib_report.proofs.defined.faults_stand_by_place.Goals as goal
 

@@ -1,7 +1,7 @@
 use Rattle.std.proofs.Common.{◌∙◌, ap, map, ◌++◌}
 use Rattle.rib_report.specs.Rows.{route_row}
 use Rattle.rib_report.specs.Reports.{entry_row}
-use Rattle.rib_report.proofs.RowLaws.{rows_of_all}
+use Rattle.peer_tables.proofs.RowLaws.{rows_of_all}
 use Rattle.rib_report.proofs.entries.add_entries.Goals as goal
 
 pub returns : goal.returns

@@ -3,8 +3,8 @@ use Rattle.std.specs.List.{flat_map}
 use Rattle.std.proofs.lemmas.List.{flat_map_more}
 use Rattle.rib_report.specs.Listings.{listed_rows}
 use Rattle.rib_report.specs.Reports.{rows_of_seat, entry_row}
-use Rattle.rib_report.specs.Seats.{seat_of}
-use Rattle.rib_report.proofs.RowLaws.{map_twice, pieces_more, pieces_of_all}
+use Rattle.peer_tables.specs.Seats.{seat_of}
+use Rattle.peer_tables.proofs.RowLaws.{map_twice, pieces_more, pieces_of_all}
 use Rattle.rib_report.proofs.entries.all_entries.Goals as goal
 
 pub loop-seat-preserved : goal.loop-seat-preserved

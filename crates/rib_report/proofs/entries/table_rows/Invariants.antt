@@ -3,7 +3,7 @@ use Rattle.std.proofs.Common.{◌≡◌, map, take}
 use Rattle.std.specs.List.{flat_map}
 use Rattle.rib_report.specs.Rows.{route_row}
 use Rattle.rib_report.specs.Reports.{rows_of_seat}
-use Rattle.rib_report.specs.Seats.{seat_of}
+use Rattle.peer_tables.specs.Seats.{seat_of}
 use Rattle.rib_report.proofs.entries.table_rows.Given as goal
 
 abbrev pub invariant-loop-seat : goal.invariant-loop-seat

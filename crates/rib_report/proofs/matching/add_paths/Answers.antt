@@ -2,7 +2,7 @@ use Rattle.std.proofs.Common.{◌∙◌, ap, map, ◌++◌}
 use Rattle.bgp_prefix.specs.Maps.{paths_of}
 use Rattle.rib_report.specs.Rows.{route_row}
 use Rattle.rib_report.specs.Reports.{path_row}
-use Rattle.rib_report.proofs.RowLaws.{rows_of_all}
+use Rattle.peer_tables.proofs.RowLaws.{rows_of_all}
 use Rattle.rib_report.proofs.matching.add_paths.Goals as goal
 
 pub returns : goal.returns

@@ -1,7 +1,7 @@
 use Rattle.std.proofs.Common.{◌∙◌}
 use Rattle.rib_report.specs.Reports.{matches_of_seat}
-use Rattle.rib_report.specs.Seats.{seat_of}
-use Rattle.rib_report.proofs.RowLaws.{pieces_of_all}
+use Rattle.peer_tables.specs.Seats.{seat_of}
+use Rattle.peer_tables.proofs.RowLaws.{pieces_of_all}
 use Rattle.rib_report.proofs.matching.matches.Goals as goal
 
 pub returns : goal.returns

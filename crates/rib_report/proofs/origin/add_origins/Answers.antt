@@ -5,7 +5,7 @@ use Rattle.std.specs.List.{cons_option, filter_map}
 use Rattle.bgp_prefix.specs.declared.key.RouteKey.{RouteKey}
 use Rattle.bgp_update.specs.declared.route.Route.{Route}
 use Rattle.rib_report.specs.Reports.{origin_pair}
-use Rattle.rib_report.proofs.RowLaws.{kept_of_all, kept_more}
+use Rattle.peer_tables.proofs.RowLaws.{kept_of_all, kept_more}
 use Rattle.rib_report.proofs.origin.add_origins.Goals as goal
 
 pub returns : goal.returns

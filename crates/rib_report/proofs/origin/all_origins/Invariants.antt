@@ -2,7 +2,7 @@
 use Rattle.std.proofs.Common.{◌≡◌, take}
 use Rattle.std.specs.List.{flat_map}
 use Rattle.rib_report.specs.Reports.{seat_origins}
-use Rattle.rib_report.specs.Seats.{seat_of}
+use Rattle.peer_tables.specs.Seats.{seat_of}
 use Rattle.rib_report.proofs.origin.all_origins.Given as goal
 
 abbrev pub invariant-loop-seat : goal.invariant-loop-seat

@@ -5,7 +5,7 @@ use Rattle.bgp_prefix.specs.Keys.{key_cmp}
 use Rattle.bgp_prefix.specs.declared.key.RouteKey.{RouteKey}
 use Rattle.bgp_update.specs.declared.route.Route.{Route}
 use Rattle.rib_report.specs.Runs.{new_after, without_repeats}
-use Rattle.rib_report.proofs.RowLaws.{map_twice}
+use Rattle.peer_tables.proofs.RowLaws.{map_twice}
 use Rattle.rib_report.proofs.SeenLaws.{true_of}
 use Rattle.rib_report.proofs.seen.add_prefixes.Goals as goal
 

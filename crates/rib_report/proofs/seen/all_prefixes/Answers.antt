@@ -4,8 +4,8 @@ use Rattle.std.proofs.lemmas.List.{get_or_read_under}
 use Rattle.std.proofs.lemmas.List.Elements.{AllWithin-more}
 use Rattle.rib_report.specs.Reports.{HasOrder, seat_prefixes}
 use Rattle.rib_report.specs.Runs.{without_repeats}
-use Rattle.rib_report.specs.Seats.{seat_of}
-use Rattle.rib_report.proofs.RowLaws.{pieces_more, pieces_of_all}
+use Rattle.peer_tables.specs.Seats.{seat_of}
+use Rattle.peer_tables.proofs.RowLaws.{pieces_more, pieces_of_all}
 use Rattle.rib_report.proofs.RunLaws.{all_mapped}
 use Rattle.rib_report.proofs.SortedRuns.{all_from_index}
 use Rattle.rib_report.proofs.seen.all_prefixes.Goals as goal

@@ -3,7 +3,7 @@ use Rattle.std.proofs.Common.{◌≡◌, take}
 use Rattle.std.specs.List.{AllWithin, flat_map}
 use Rattle.rib_report.specs.Runs.{without_repeats}
 use Rattle.rib_report.specs.Reports.{HasOrder, seat_prefixes}
-use Rattle.rib_report.specs.Seats.{seat_of}
+use Rattle.peer_tables.specs.Seats.{seat_of}
 use Rattle.rib_report.proofs.seen.all_prefixes.Given as goal
 
 abbrev pub invariant-loop-seat : goal.invariant-loop-seat

@@ -1,5 +1,5 @@
 use Rattle.std.proofs.Common.{map, sym, ap, ◌∙◌}
-use Rattle.rib_report.specs.Seats.{seat_of}
+use Rattle.peer_tables.specs.Seats.{seat_of}
 use Rattle.lane_deal.proofs.SeatLists.{HoldsUnits-none}
 use Rattle.lane_deal.proofs.seats.SeatsSessions.fresh.Goals as goal
 

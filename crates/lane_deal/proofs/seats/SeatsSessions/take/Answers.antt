@@ -1,6 +1,6 @@
 use Rattle.std.proofs.Common.{map, ap, arith}
 use Rattle.std.proofs.lemmas.List.{with_items_is}
-use Rattle.rib_report.specs.Seats.{seat_of}
+use Rattle.peer_tables.specs.Seats.{seat_of}
 use Rattle.lane_deal.proofs.SeatLists.{HoldsUnits-taken}
 use Rattle.lane_deal.proofs.seats.SeatsSessions.take.Goals as goal
 

@@ -3,4 +3,4 @@ use Rattle.table_tests.proofs.SeatNumbers.{three_numbers}
 use Rattle.table_tests.proofs.reports.peers.tables_of.Goals as goal
 
 pub collect-requires : goal.collect-requires
-collect-requires g c = three_numbers c.in_ok-gathered.gathered c.in_ok-first.first c.in_ok-second.second c.in_ok-third.third c.in_ok-gathered.ensures (λ e. omega arith) (λ e. omega arith) (λ e. omega arith)
+collect-requires g c = three_numbers c.two_lanes-gathered.result c.seat_of-first.result c.seat_of-second.result c.seat_of-third.result c.two_lanes-gathered.ensures (λ e. omega arith) (λ e. omega arith) (λ e. omega arith)

@@ -1,6 +1,0 @@
-use Rattle.std.proofs.Common.{arith}
-use Rattle.bgp_prefix.proofs.ChunkLaws.{sized}
-use Rattle.bgp_prefix.proofs.chunk.Chunk.len.Goals as goal
-
-pub returns : goal.returns
-returns g c = let a = c.self.inside in omega (arith, c.len.ensures, sized a.keys.items a.ids.items a.values.items c.args.self.now c.self.invariant c.self.view_is)

@@ -1,8 +1,0 @@
-use Rattle.bgp_prefix.proofs.JumpLaws.{IsLimit}
-use Rattle.bgp_prefix.proofs.shelf.ShelfPrefixMap.longest.Given as goal
-
-abbrev pub invariant-loop-prefix : goal.invariant-loop-prefix
-invariant-loop-prefix g l = IsLimit l.self l.addr l.limit
-
-abbrev pub decreases-loop-prefix : goal.decreases-loop-prefix
-decreases-loop-prefix g l = l.limit

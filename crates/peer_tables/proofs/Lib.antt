@@ -1,0 +1,4 @@
+pub mod RowLaws
+pub mod CollectLaws
+pub mod SeatOrder
+pub mod StandingLaws

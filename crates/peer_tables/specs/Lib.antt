@@ -1,0 +1,5 @@
+pub mod Peers
+pub mod Tables
+pub mod Standing
+pub mod Seats
+pub mod Gathers

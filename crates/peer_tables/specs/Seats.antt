@@ -1,0 +1,6 @@
+-- A seat, as definitions see it.
+use Rattle.peer_tables.specs.declared.tables.Seated.{Seated}
+use Rattle.peer_tables.specs.Tables.{Seat}
+
+abbrev pub seat_of : {M : Type 0} → Seated M → Seat
+seat_of s = record { number = s.number; key = s.key; session = s.session }

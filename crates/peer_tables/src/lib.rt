@@ -1,0 +1,8 @@
+//! The tables of all peers, and the units that they stand for: what replaying workers hand over to reports.
+#![tactic(auto)]
+
+mod standing;
+mod tables;
+
+pub use standing::{collected_stand_for_units, lanes_make_no_difference, tables_are_of_units};
+pub use tables::{Gathered, Seated, Tables, collect, count_routes};

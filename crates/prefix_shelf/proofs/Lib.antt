@@ -1,0 +1,2 @@
+pub mod ChunkLaws
+pub mod ShelfLaws

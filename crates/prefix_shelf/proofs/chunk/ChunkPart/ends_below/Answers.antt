@@ -1,0 +1,10 @@
+use Rattle.std.proofs.Common.{◌≡◌, ◌<◌, sym, arith, length}
+use Rattle.prefix_shelf.proofs.ShelfLaws.{ends_in}
+use Rattle.prefix_shelf.proofs.chunk.ChunkPart.ends_below.Goals as goal
+
+pub returns-in-Less : goal.returns-in-Less
+returns-in-Less g c =
+    let es = c.args.self.now in
+    let n : c.len-len.result ≡ length es = c.len-len.ensures in
+    let some : 0 < length es = omega (arith, n, c.if-len-lt-WHOLE.false) in
+    λ yes. ends_in es c.args.key.now c.key_at.result c.requires some (rw n at c.key_at.ensures) (sym c.in-Less.ensures)

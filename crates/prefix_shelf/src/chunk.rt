@@ -1,0 +1,360 @@
+ghost use Rattle.std.specs.Prelude.{◌≡◌, ◌<◌, ◌≤◌, ◌⊎◌, ℕ, List, [], ◌∷◌, ◌++◌, not, T, IfOk, IfErr, OnOk, OnErr, length, map, take, drop, vec_len, vec_capacity, slice_index_or, slice_set, is_ok, if◌then◌else◌, true, false};
+ghost use Rattle.std.specs.List.{insert, remove};
+ghost use Rattle.std.specs.List.Sorted.{IsPartitionPoint};
+ghost use Rattle.std.specs.Ordering.{eq_by_cmp, is_le};
+ghost use Rattle.std.specs.FinMap.{find, put};
+ghost use Rattle.std.specs.FinMap.Entries.{is_sorted, where_key};
+ghost use Rattle.bgp_prefix.specs.Prefixes.{prefix_cmp};
+ghost use Rattle.bgp_prefix.specs.Keys.{key_cmp, entries_now};
+ghost use Rattle.bgp_prefix.specs.Maps.{paths_of};
+ghost use Rattle.bgp_prefix.specs.Searches.{IsAt, IsGap};
+ghost use Rattle.prefix_shelf.specs.Shelves.{ids_put, ids_removed};
+
+use crate::part::{HALF, Part, STEP, WHOLE};
+use bgp_prefix::{Memory, Prefix, RouteKey};
+use std::alloc::Global;
+use std::cmp::Ordering;
+use std::marker::Model;
+use std::mem;
+
+/// A list of routes in three arrays. No identifiers are written while all are 0. That the routes are in
+/// order is not the chunk's own invariant: a call that needs it asks for it.
+#[derive(Drop)]
+pub(crate) struct Chunk<V> {
+    keys: Vec<Prefix>,
+    ids: Vec<u32>,
+    values: Vec<V>,
+}
+
+impl<V> Model for Chunk<V> {
+    ghost use Rattle.std.specs.Prelude.{List};
+    ghost use Rattle.bgp_prefix.specs.declared.key.RouteKey.{RouteKey};
+    ghost use Rattle.prefix_shelf.specs.Shelves.{routes_in, IsArrays};
+
+    ghost Value = { List (RouteKey × V) };
+
+    ghost view = { λ c. routes_in c.keys.items c.ids.items c.values.items };
+
+    ghost invariant = { λ c. IsArrays c.keys.items c.ids.items c.values.items };
+}
+
+impl<V: Drop> Chunk<V> {
+    // The number of routes.
+    fn len(&self) -> usize
+        ensures { result ≡ length self.now }
+    {
+        self.keys.len()
+    }
+
+    // The key of a route.
+    fn key_at(&self, at: usize) -> RouteKey
+        requires { at < length self.now }
+        ensures { (d : _) → result ≡ (slice_index_or self.now at d).0 }
+    {
+        RouteKey {
+            prefix: self.keys[at],
+            id: id_at(&self.ids, at),
+        }
+    }
+
+    // The value of a route.
+    fn value_at(&self, at: usize) -> &V
+        requires { at < length self.now }
+        ensures { (d : _) → result.now ≡ (slice_index_or self.now at d).1 }
+    {
+        &self.values[at]
+    }
+
+    // Where a key is, or would go. The end is tried first, since a RIB dump comes in order.
+    fn search(&self, key: &RouteKey) -> Result<usize, usize>
+        requires { T (is_sorted key_cmp self.now) }
+        ensures found { IfOk result (λ i. IsAt key_cmp self.now key.now i) }
+        ensures absent { IfErr result (λ i. IsGap key_cmp self.now key.now i) }
+    {
+        let len = self.len();
+        let mut low = 0;
+        let mut high = len;
+        while low < high {
+            let at = if high == len {
+                high - 1
+            } else {
+                low + (high - low) / 2
+            };
+            match self.key_at(at).cmp(key) {
+                Ordering::Less => low = at + 1,
+                Ordering::Equal => return Ok(at),
+                Ordering::Greater => high = at,
+            }
+        }
+        Err(low)
+    }
+
+    // Sets the value of a route, and gives the one before.
+    fn set(&mut self, at: usize, value: V) -> V
+        requires { at < length self.old }
+        ensures before { (d : _) → result ≡ (slice_index_or self.old at d).1 }
+        ensures set { (d : _) → self.new ≡ slice_set self.old at ((slice_index_or self.old at d).0, value) }
+    {
+        exchange(&mut self.values, at, value)
+    }
+
+    // Puts a route at a place. An `Err` changes nothing.
+    fn put_at(&mut self, alloc: Global, at: usize, key: &RouteKey, value: V) -> Result<(), Memory>
+        requires { at ≤ length self.old }
+        ensures { self.new ≡ (if is_ok result then insert self.old at (key.now, value) else self.old) }
+    {
+        make_room(&mut self.keys)?;
+        make_room(&mut self.values)?;
+        put_id(alloc, &mut self.ids, self.keys.len(), at, key.id)?;
+        put(&mut self.keys, at, key.prefix);
+        put(&mut self.values, at, value);
+        Ok(())
+    }
+
+    // Takes a route out, and gives its value.
+    fn take_at(&mut self, at: usize) -> V
+        requires { at < length self.old }
+        ensures before { (d : _) → result ≡ (slice_index_or self.old at d).1 }
+        ensures removed { self.new ≡ remove self.old at }
+    {
+        let _ = self.keys.remove(at);
+        remove_id(&mut self.ids, at);
+        self.values.remove(at)
+    }
+
+    // Keeps the first half, and gives the rest. An `Err` changes nothing.
+    fn cut(&mut self, alloc: Global) -> Result<Chunk<V>, Memory>
+        requires { 64 < length self.old }
+        ensures low { OnOk result (self.new ≡ take 64 self.old) }
+        ensures high { IfOk result (λ high. high ≡ drop 64 self.old) }
+        ensures err { OnErr result (self.new ≡ self.old) }
+    {
+        let keys = copied_from(alloc, &self.keys, HALF)?;
+        let ids = ids_from(alloc, &self.ids, HALF)?;
+        let values = self.values.split_off(HALF)?;
+        self.keys.truncate(HALF);
+        self.ids.truncate(HALF);
+        self.keys.shrink_to(HALF + STEP);
+        self.ids.shrink_to(HALF + STEP);
+        self.values.shrink_to(HALF + STEP);
+        Ok(Chunk { keys, ids, values })
+    }
+
+    // The number of routes whose prefixes are at most this one, in their order.
+    fn up_to(&self, last: &Prefix) -> usize
+        requires { T (is_sorted key_cmp self.now) }
+        ensures bound { result ≤ length self.now }
+        ensures end { IsPartitionPoint (λ e. is_le (prefix_cmp e.0.prefix last.now) ≡ true) (λ e. is_le (prefix_cmp e.0.prefix last.now) ≡ false) self.now result }
+    {
+        let mut low = 0;
+        let mut high = self.len();
+        while low < high {
+            let at = low + (high - low) / 2;
+            match self.key_at(at).prefix.cmp(last) {
+                Ordering::Greater => high = at,
+                _ => low = at + 1,
+            }
+        }
+        low
+    }
+}
+
+impl<V: Drop> Part for Chunk<V> {
+    type Value = V;
+
+    ghost routes = { λ c. c };
+
+    fn one(alloc: Global, key: &RouteKey, value: V) -> Result<Chunk<V>, Memory> {
+        let mut keys = Vec::with_capacity(alloc, 1)?;
+        let mut values = Vec::with_capacity(alloc, 1)?;
+        let mut ids = Vec::new(alloc);
+        put_id(alloc, &mut ids, 0, 0, key.id)?;
+        put(&mut keys, 0, key.prefix);
+        put(&mut values, 0, value);
+        Ok(Chunk { keys, ids, values })
+    }
+
+    fn is_empty(&self) -> bool {
+        self.len() == 0
+    }
+
+    fn first(&self) -> RouteKey {
+        self.key_at(0)
+    }
+
+    fn ends_below(&self, key: &RouteKey) -> bool {
+        let len = self.len();
+        if len < WHOLE {
+            return false;
+        }
+        match self.key_at(len - 1).cmp(key) {
+            Ordering::Less => true,
+            _ => false,
+        }
+    }
+
+    fn is_over(&self) -> bool {
+        self.len() > WHOLE
+    }
+
+    fn get(&self, key: &RouteKey) -> Option<&V> {
+        match self.search(key) {
+            Ok(at) => Some(self.value_at(at)),
+            Err(_) => None,
+        }
+    }
+
+    fn insert(&mut self, alloc: Global, key: &RouteKey, value: V) -> Result<Option<V>, Memory> {
+        match self.search(key) {
+            Ok(at) => Ok(Some(self.set(at, value))),
+            Err(at) => {
+                self.put_at(alloc, at, key, value)?;
+                Ok(None)
+            }
+        }
+    }
+
+    fn remove(&mut self, key: &RouteKey) -> Option<V> {
+        match self.search(key) {
+            Ok(at) => Some(self.take_at(at)),
+            Err(_) => None,
+        }
+    }
+
+    fn split(&mut self, alloc: Global) -> Option<Chunk<V>> {
+        if self.len() <= HALF {
+            return None;
+        }
+        match self.cut(alloc) {
+            Ok(high) => Some(high),
+            Err(_) => None,
+        }
+    }
+
+    fn list<'a>(&'a self, all: &mut Vec<(RouteKey, &'a V)>) -> Result<(), Memory> {
+        let mut at = 0;
+        while at < self.len() {
+            if all.push((self.key_at(at), self.value_at(at))).is_err() {
+                return Err(Memory);
+            }
+            at += 1;
+        }
+        Ok(())
+    }
+
+    fn paths<'a>(&'a self, prefix: &Prefix, all: &mut Vec<(u32, &'a V)>) -> Result<(), Memory> {
+        let mut at = 0;
+        while at < self.len() {
+            let key = self.key_at(at);
+            let value = self.value_at(at);
+            if *prefix == key.prefix {
+                if all.push((key.id, value)).is_err() {
+                    return Err(Memory);
+                }
+            }
+            at += 1;
+        }
+        Ok(())
+    }
+
+    fn last_up_to(&self, last: &Prefix) -> Option<Prefix> {
+        let at = self.up_to(last);
+        if at == 0 {
+            return None;
+        }
+        Some(self.key_at(at - 1).prefix)
+    }
+}
+
+// The identifier at a place: 0 where none is written.
+fn id_at(ids: &Vec<u32>, at: usize) -> u32
+    ensures { result ≡ slice_index_or ids.now.items at 0 }
+{
+    if at < ids.len() { ids[at] } else { 0 }
+}
+
+fn exchange<T>(items: &mut Vec<T>, at: usize, item: T) -> T
+    requires { at < vec_len items.old }
+    ensures before { result ≡ slice_index_or items.old.items at result }
+    ensures after { items.new.items ≡ slice_set items.old.items at item }
+{
+    mem::replace(&mut items[at], item)
+}
+
+/// The items from a place on.
+pub(crate) fn copied_from<T: Copy>(
+    alloc: Global,
+    items: &Vec<T>,
+    from: usize,
+) -> Result<Vec<T>, Memory>
+    requires { from ≤ vec_len items.now }
+    ensures { IfOk result (λ v. v.items ≡ drop from items.now.items) }
+{
+    Ok(Vec::from_slice(alloc, &items[from..])?)
+}
+
+fn ids_from(alloc: Global, ids: &Vec<u32>, from: usize) -> Result<Vec<u32>, Memory>
+    ensures { IfOk result (λ v. v.items ≡ drop from ids.now.items) }
+{
+    if ids.len() < from {
+        return Ok(Vec::new(alloc));
+    }
+    copied_from(alloc, ids, from)
+}
+
+// Takes an identifier out, where any is written.
+fn remove_id(ids: &mut Vec<u32>, at: usize)
+    requires { (ids.old.items ≡ []) ⊎ (at < length ids.old.items) }
+    ensures { ids.new.items ≡ ids_removed at ids.old.items }
+{
+    if at < ids.len() {
+        let _ = ids.remove(at);
+    }
+}
+
+/// Room for one more: a short list is doubled, a longer one grows by steps.
+pub(crate) fn make_room<T>(items: &mut Vec<T>) -> Result<(), Memory>
+    ensures items { items.new.items ≡ items.old.items }
+    ensures room { OnOk result (vec_len items.new < vec_capacity items.new) }
+{
+    if items.len() == items.capacity() {
+        items.reserve_exact(items.len().clamp(1, STEP))?;
+    }
+    Ok(())
+}
+
+/// Puts an item at a place, where there is room.
+pub(crate) fn put<T: Drop>(items: &mut Vec<T>, at: usize, item: T)
+    requires room { vec_len items.old < vec_capacity items.old }
+    requires within { at ≤ vec_len items.old }
+    ensures { items.new.items ≡ insert items.old.items at item }
+{
+    if items.insert(at, item).is_err() {
+        unreachable!()
+    }
+}
+
+// Puts an identifier at a place among those of `len` routes. An `Err` changes nothing.
+fn put_id(alloc: Global, ids: &mut Vec<u32>, len: usize, at: usize, id: u32) -> Result<(), Memory>
+    requires within { at ≤ len }
+    requires all { (ids.old.items ≡ []) ⊎ (length ids.old.items ≡ len) }
+    ensures ok { OnOk result (ids.new.items ≡ ids_put len at id ids.old.items) }
+    ensures err { OnErr result (ids.new.items ≡ ids.old.items) }
+{
+    if ids.is_empty() {
+        if id == 0 {
+            return Ok(());
+        }
+        let mut all = Vec::from_elem(alloc, 0, len)?;
+        if all.insert(at, id).is_err() {
+            return Err(Memory);
+        }
+        *ids = all;
+        return Ok(());
+    }
+    make_room(ids)?;
+    if ids.insert(at, id).is_err() {
+        return Err(Memory);
+    }
+    Ok(())
+}

@@ -1,0 +1,100 @@
+ghost use Rattle.std.specs.Prelude.{◌≡◌, List, [], ◌∷◌, ◌++◌, ◌<◌, not, T, IsTrue, IfOk, OnOk, OnErr, IfSome, IfNone, length, map};
+ghost use Rattle.std.specs.Option.{option_copied};
+ghost use Rattle.std.specs.Ordering.{eq_by_cmp};
+ghost use Rattle.std.specs.declared.cmp.Ordering.TheVariants.{Less};
+ghost use Rattle.std.specs.FinMap.{find, put};
+ghost use Rattle.std.specs.FinMap.Entries.{is_sorted, where_key};
+ghost use Rattle.bgp_prefix.specs.Prefixes.{IsIpPrefix};
+ghost use Rattle.bgp_prefix.specs.Keys.{key_cmp, is_nil, entries_now};
+ghost use Rattle.bgp_prefix.specs.Maps.{paths_of};
+ghost use Rattle.prefix_shelf.specs.Shelves.{first_key, EachKey, IsCut, IsLastUpTo};
+
+use bgp_prefix::{Memory, Prefix, RouteKey};
+use std::alloc::Global;
+
+/// The most routes of a chunk, and the most chunks of a row: one more is cut in two.
+pub(crate) const WHOLE: usize = 128;
+/// How many stay where one is cut in two.
+pub(crate) const HALF: usize = 64;
+/// By how many the room of an array grows at most: it is doubled up to then.
+pub(crate) const STEP: usize = 16;
+
+/// Routes in the order of their keys, which `Rows` keeps one part after another.
+pub(crate) trait Part: Drop {
+    ghost use Rattle.bgp_prefix.specs.declared.key.RouteKey.{RouteKey};
+    ghost use Rattle.std.specs.Prelude.{List};
+
+    type Value: Drop;
+
+    /// The routes, in their order.
+    ghost routes: { Self → List (RouteKey × Self.Value) };
+
+    /// A part of one route.
+    fn one(alloc: Global, key: &RouteKey, value: Self::Value) -> Result<Self, Memory>
+        requires { IsIpPrefix key.now.prefix }
+        ensures { IfOk result (λ one. routes one ≡ (key.now, value) ∷ []) };
+
+    /// Whether it has no routes.
+    fn is_empty(&self) -> bool
+        ensures { result ≡ is_nil (routes self.now) };
+
+    /// The first key.
+    fn first(&self) -> RouteKey
+        requires { 0 < length (routes self.now) }
+        ensures { result ≡ first_key (routes self.now) };
+
+    /// Whether it is full, and ends before a key.
+    fn ends_below(&self, key: &RouteKey) -> bool
+        requires { T (is_sorted key_cmp (routes self.now)) }
+        ensures { IsTrue result → EachKey (λ k. key_cmp k key.now ≡ Less) (routes self.now) };
+
+    /// Whether it has more than it is to keep.
+    fn is_over(&self) -> bool;
+
+    /// The value of a key.
+    fn get(&self, key: &RouteKey) -> Option<&Self::Value>
+        requires { T (is_sorted key_cmp (routes self.now)) }
+        ensures { option_copied result ≡ find key_cmp key.now (routes self.now) };
+
+    /// Sets the value of a key, and gives the one before. An `Err` changes nothing; the value is dropped.
+    fn insert(
+        &mut self,
+        alloc: Global,
+        key: &RouteKey,
+        value: Self::Value,
+    ) -> Result<Option<Self::Value>, Memory>
+        requires sorted { T (is_sorted key_cmp (routes self.old)) }
+        requires known { IsIpPrefix key.now.prefix }
+        ensures before { IfOk result (λ before. before ≡ find key_cmp key.now (routes self.old)) }
+        ensures ok { OnOk result (routes self.new ≡ put key_cmp key.now value (routes self.old)) }
+        ensures err { OnErr result (routes self.new ≡ routes self.old) };
+
+    /// Removes a key, and gives its value.
+    fn remove(&mut self, key: &RouteKey) -> Option<Self::Value>
+        requires { T (is_sorted key_cmp (routes self.old)) }
+        ensures before { result ≡ find key_cmp key.now (routes self.old) }
+        ensures removed { routes self.new ≡ where_key key_cmp (λ x. not (eq_by_cmp key_cmp key.now x)) (routes self.old) };
+
+    /// Keeps its first half, and gives the rest: nothing where it is short, or where memory is wanting.
+    fn split(&mut self, alloc: Global) -> Option<Self>
+        ensures cut { IfSome result (λ high. IsCut (routes self.old) (routes self.new) (routes high)) }
+        ensures same { IfNone result (routes self.new ≡ routes self.old) };
+
+    /// Adds the routes to a list, in their order.
+    fn list<'a>(&'a self, all: &mut Vec<(RouteKey, &'a Self::Value)>) -> Result<(), Memory>
+        ensures { OnOk result (entries_now all.new.items ≡ entries_now all.old.items ++ routes self.now) };
+
+    /// Adds the identifiers and values of the routes of a prefix to a list.
+    fn paths<'a>(
+        &'a self,
+        prefix: &Prefix,
+        all: &mut Vec<(u32, &'a Self::Value)>,
+    ) -> Result<(), Memory>
+        ensures { OnOk result (map (λ e. (e.0, e.1.now)) all.new.items
+            ≡ map (λ e. (e.0, e.1.now)) all.old.items ++ paths_of prefix.now (routes self.now)) };
+
+    /// The last prefix up to this one.
+    fn last_up_to(&self, last: &Prefix) -> Option<Prefix>
+        requires { T (is_sorted key_cmp (routes self.now)) }
+        ensures { IsLastUpTo (routes self.now) last.now result };
+}

@@ -1,0 +1,317 @@
+ghost use Rattle.std.specs.Prelude.{◌≡◌, ◌<◌, ◌≤◌, List, [], ◌∷◌, ◌++◌, not, T, IsTrue, IfOk, OnOk, OnErr, length, map, slice_index_or, slice_set};
+ghost use Rattle.std.specs.Option.{option_copied};
+ghost use Rattle.std.specs.Ordering.{eq_by_cmp};
+ghost use Rattle.std.specs.declared.cmp.Ordering.TheVariants.{Less};
+ghost use Rattle.std.specs.FinMap.{find, put};
+ghost use Rattle.std.specs.FinMap.Entries.{where_key};
+ghost use Rattle.bgp_prefix.specs.Prefixes.{IsIpPrefix};
+ghost use Rattle.bgp_prefix.specs.Keys.{key_cmp, is_nil, entries_now};
+ghost use Rattle.bgp_prefix.specs.Maps.{paths_of};
+ghost use Rattle.prefix_shelf.specs.Shelves.{routes_of, first_key, lesser_key, EachKey, IsRows, IsCut, IsPlaceIn, IsPlaceOf, IsLastUpTo};
+
+use crate::chunk::{copied_from, make_room, put};
+use crate::part::{HALF, Part, STEP, WHOLE};
+use bgp_prefix::{Memory, Prefix, RouteKey};
+use std::alloc::Global;
+use std::cmp::Ordering;
+
+/// Parts one after another in the order of their keys, none of them empty, and the first key of each. It
+/// stands twice in a shelf: its rows of chunks, and the chunks of a row.
+#[derive(Drop)]
+pub(crate) struct Rows<P> {
+    pub(crate) firsts: Vec<RouteKey>,
+    pub(crate) parts: Vec<P>,
+}
+
+impl<P: Part> Rows<P> {
+    /// One part of one route.
+    pub(crate) fn one(alloc: Global, key: &RouteKey, value: P::Value) -> Result<Rows<P>, Memory>
+        requires { IsIpPrefix key.now.prefix }
+        ensures routes { IfOk result (λ one. routes_of P.routes one.parts.items ≡ (key.now, value) ∷ []) }
+        ensures rows { IfOk result (λ one. IsRows one.firsts.items (map P.routes one.parts.items)) }
+    {
+        let mut firsts = Vec::with_capacity(alloc, 1)?;
+        let mut parts = Vec::with_capacity(alloc, 1)?;
+        let part = P::one(alloc, key, value)?;
+        put(&mut firsts, 0, *key);
+        put(&mut parts, 0, part);
+        Ok(Rows { firsts, parts })
+    }
+
+    /// The first key.
+    pub(crate) fn first(&self) -> RouteKey
+        requires rows { IsRows self.now.firsts.items (map P.routes self.now.parts.items) }
+        requires some { 0 < length (routes_of P.routes self.now.parts.items) }
+        ensures { result ≡ first_key (routes_of P.routes self.now.parts.items) }
+    {
+        self.firsts[0]
+    }
+
+    /// Whether it has no routes.
+    pub(crate) fn is_empty(&self) -> bool
+        requires { IsRows self.now.firsts.items (map P.routes self.now.parts.items) }
+        ensures { result ≡ is_nil (routes_of P.routes self.now.parts.items) }
+    {
+        self.parts.is_empty()
+    }
+
+    /// Whether all is full, and ends before a key.
+    pub(crate) fn ends_below(&self, key: &RouteKey) -> bool
+        requires { IsRows self.now.firsts.items (map P.routes self.now.parts.items) }
+        ensures { IsTrue result → EachKey (λ k. key_cmp k key.now ≡ Less) (routes_of P.routes self.now.parts.items) }
+    {
+        let len = self.parts.len();
+        len >= WHOLE && self.parts[len - 1].ends_below(key)
+    }
+
+    /// Whether it has more parts than it is to keep.
+    pub(crate) fn is_over(&self) -> bool {
+        self.parts.len() > WHOLE
+    }
+
+    // The part in which a key is, or would go. The end is tried first.
+    fn place(&self, key: &RouteKey) -> usize
+        requires rows { IsRows self.now.firsts.items (map P.routes self.now.parts.items) }
+        requires some { 0 < length self.now.parts.items }
+        ensures { IsPlaceIn (map P.routes self.now.parts.items) key.now result }
+    {
+        let len = self.firsts.len();
+        let mut low = 0;
+        let mut high = len;
+        while low < high {
+            let at = if high == len {
+                high - 1
+            } else {
+                low + (high - low) / 2
+            };
+            match self.firsts[at].cmp(key) {
+                Ordering::Greater => high = at,
+                _ => low = at + 1,
+            }
+        }
+        low.saturating_sub(1)
+    }
+
+    /// The value of a key.
+    pub(crate) fn get(&self, key: &RouteKey) -> Option<&P::Value>
+        requires { IsRows self.now.firsts.items (map P.routes self.now.parts.items) }
+        ensures { option_copied result ≡ find key_cmp key.now (routes_of P.routes self.now.parts.items) }
+    {
+        if self.parts.is_empty() {
+            return None;
+        }
+        self.parts[self.place(key)].get(key)
+    }
+
+    // Sets the value of a key in its part.
+    fn store(
+        &mut self,
+        alloc: Global,
+        place: usize,
+        key: &RouteKey,
+        value: P::Value,
+    ) -> Result<Option<P::Value>, Memory>
+        requires rows { IsRows self.old.firsts.items (map P.routes self.old.parts.items) }
+        requires known { IsIpPrefix key.now.prefix }
+        requires place { IsPlaceIn (map P.routes self.old.parts.items) key.now place }
+        ensures before { IfOk result (λ before. before ≡ find key_cmp key.now (routes_of P.routes self.old.parts.items)) }
+        ensures ok { OnOk result (routes_of P.routes self.new.parts.items ≡ put key_cmp key.now value (routes_of P.routes self.old.parts.items)) }
+        ensures err { OnErr result (routes_of P.routes self.new.parts.items ≡ routes_of P.routes self.old.parts.items) }
+        ensures rows { IsRows self.new.firsts.items (map P.routes self.new.parts.items) }
+        ensures kept { OnOk result (length self.new.parts.items ≡ length self.old.parts.items) }
+    {
+        let before = self.parts[place].insert(alloc, key, value)?;
+        lower(&mut self.firsts, place, key);
+        Ok(before)
+    }
+
+    // A new part of one route after the others.
+    fn push_one(&mut self, alloc: Global, key: &RouteKey, value: P::Value) -> Result<(), Memory>
+        requires rows { IsRows self.old.firsts.items (map P.routes self.old.parts.items) }
+        requires known { IsIpPrefix key.now.prefix }
+        requires last { EachKey (λ k. key_cmp k key.now ≡ Less) (routes_of P.routes self.old.parts.items) }
+        ensures ok { OnOk result (routes_of P.routes self.new.parts.items ≡ put key_cmp key.now value (routes_of P.routes self.old.parts.items)) }
+        ensures err { OnErr result (routes_of P.routes self.new.parts.items ≡ routes_of P.routes self.old.parts.items) }
+        ensures rows { IsRows self.new.firsts.items (map P.routes self.new.parts.items) }
+    {
+        make_room(&mut self.firsts)?;
+        make_room(&mut self.parts)?;
+        let part = P::one(alloc, key, value)?;
+        let len = self.firsts.len();
+        put(&mut self.firsts, len, *key);
+        let len = self.parts.len();
+        put(&mut self.parts, len, part);
+        Ok(())
+    }
+
+    // Two parts in place of one that has more than it is to keep, where there is the memory.
+    fn divide(&mut self, alloc: Global, place: usize)
+        requires rows { IsRows self.old.firsts.items (map P.routes self.old.parts.items) }
+        requires within { place < length self.old.parts.items }
+        ensures same { routes_of P.routes self.new.parts.items ≡ routes_of P.routes self.old.parts.items }
+        ensures rows { IsRows self.new.firsts.items (map P.routes self.new.parts.items) }
+    {
+        if !self.parts[place].is_over() {
+            return;
+        }
+        if make_room(&mut self.firsts).is_err() {
+            return;
+        }
+        if make_room(&mut self.parts).is_err() {
+            return;
+        }
+        let Some(high) = self.parts[place].split(alloc) else {
+            return;
+        };
+        let first = high.first();
+        put(&mut self.firsts, place + 1, first);
+        put(&mut self.parts, place + 1, high);
+    }
+
+    /// Sets the value of a key, and gives the one before.
+    pub(crate) fn insert(
+        &mut self,
+        alloc: Global,
+        key: &RouteKey,
+        value: P::Value,
+    ) -> Result<Option<P::Value>, Memory>
+        requires rows { IsRows self.old.firsts.items (map P.routes self.old.parts.items) }
+        requires known { IsIpPrefix key.now.prefix }
+        ensures before { IfOk result (λ before. before ≡ find key_cmp key.now (routes_of P.routes self.old.parts.items)) }
+        ensures ok { OnOk result (routes_of P.routes self.new.parts.items ≡ put key_cmp key.now value (routes_of P.routes self.old.parts.items)) }
+        ensures err { OnErr result (routes_of P.routes self.new.parts.items ≡ routes_of P.routes self.old.parts.items) }
+        ensures rows { IsRows self.new.firsts.items (map P.routes self.new.parts.items) }
+    {
+        if self.parts.is_empty() {
+            self.push_one(alloc, key, value)?;
+            return Ok(None);
+        }
+        let place = self.place(key);
+        if place + 1 == self.parts.len() && self.parts[place].ends_below(key) {
+            self.push_one(alloc, key, value)?;
+            return Ok(None);
+        }
+        let before = self.store(alloc, place, key, value)?;
+        self.divide(alloc, place);
+        Ok(before)
+    }
+
+    /// Removes a key, and gives its value.
+    pub(crate) fn remove(&mut self, key: &RouteKey) -> Option<P::Value>
+        requires { IsRows self.old.firsts.items (map P.routes self.old.parts.items) }
+        ensures before { result ≡ find key_cmp key.now (routes_of P.routes self.old.parts.items) }
+        ensures removed { routes_of P.routes self.new.parts.items
+            ≡ where_key key_cmp (λ x. not (eq_by_cmp key_cmp key.now x)) (routes_of P.routes self.old.parts.items) }
+        ensures rows { IsRows self.new.firsts.items (map P.routes self.new.parts.items) }
+    {
+        if self.parts.is_empty() {
+            return None;
+        }
+        let place = self.place(key);
+        let before = self.parts[place].remove(key);
+        if self.parts[place].is_empty() {
+            let _ = self.parts.remove(place);
+            let _ = self.firsts.remove(place);
+        } else {
+            let first = self.parts[place].first();
+            self.firsts[place] = first;
+        }
+        before
+    }
+
+    /// Keeps the first half of its parts, and gives the rest.
+    pub(crate) fn cut(&mut self, alloc: Global) -> Result<Rows<P>, Memory>
+        requires rows { IsRows self.old.firsts.items (map P.routes self.old.parts.items) }
+        requires long { 64 < length self.old.parts.items }
+        ensures cut { IfOk result (λ high. IsCut (routes_of P.routes self.old.parts.items) (routes_of P.routes self.new.parts.items) (routes_of P.routes high.parts.items)) }
+        ensures low { IsRows self.new.firsts.items (map P.routes self.new.parts.items) }
+        ensures high { IfOk result (λ high. IsRows high.firsts.items (map P.routes high.parts.items)) }
+        ensures err { OnErr result (routes_of P.routes self.new.parts.items ≡ routes_of P.routes self.old.parts.items) }
+    {
+        let firsts = copied_from(alloc, &self.firsts, HALF)?;
+        let parts = self.parts.split_off(HALF)?;
+        self.firsts.truncate(HALF);
+        self.firsts.shrink_to(HALF + STEP);
+        self.parts.shrink_to(HALF + STEP);
+        Ok(Rows { firsts, parts })
+    }
+
+    /// Adds the routes to a list, in their order.
+    pub(crate) fn list<'a>(&'a self, all: &mut Vec<(RouteKey, &'a P::Value)>) -> Result<(), Memory>
+        ensures { OnOk result (entries_now all.new.items ≡ entries_now all.old.items ++ routes_of P.routes self.now.parts.items) }
+    {
+        let mut at = 0;
+        while at < self.parts.len() {
+            self.parts[at].list(all)?;
+            at += 1;
+        }
+        Ok(())
+    }
+
+    /// Adds the identifiers and values of the routes of a prefix to a list.
+    pub(crate) fn paths<'a>(
+        &'a self,
+        prefix: &Prefix,
+        all: &mut Vec<(u32, &'a P::Value)>,
+    ) -> Result<(), Memory>
+        requires { IsRows self.now.firsts.items (map P.routes self.now.parts.items) }
+        ensures { OnOk result (map (λ e. (e.0, e.1.now)) all.new.items
+            ≡ map (λ e. (e.0, e.1.now)) all.old.items ++ paths_of prefix.now (routes_of P.routes self.now.parts.items)) }
+    {
+        if self.parts.is_empty() {
+            return Ok(());
+        }
+        let first = RouteKey {
+            prefix: *prefix,
+            id: 0,
+        };
+        let mut at = self.place(&first);
+        while at < self.parts.len() {
+            match self.firsts[at].prefix.cmp(prefix) {
+                Ordering::Greater => return Ok(()),
+                _ => self.parts[at].paths(prefix, all)?,
+            }
+            at += 1;
+        }
+        Ok(())
+    }
+
+    // The part that has the last prefix up to this one, if any has.
+    fn place_of(&self, last: &Prefix) -> usize
+        requires rows { IsRows self.now.firsts.items (map P.routes self.now.parts.items) }
+        requires some { 0 < length self.now.parts.items }
+        ensures { IsPlaceOf (map P.routes self.now.parts.items) last.now result }
+    {
+        let mut low = 0;
+        let mut high = self.firsts.len();
+        while low < high {
+            let at = low + (high - low) / 2;
+            match self.firsts[at].prefix.cmp(last) {
+                Ordering::Greater => high = at,
+                _ => low = at + 1,
+            }
+        }
+        low.saturating_sub(1)
+    }
+
+    /// The last prefix up to this one.
+    pub(crate) fn last_up_to(&self, last: &Prefix) -> Option<Prefix>
+        requires { IsRows self.now.firsts.items (map P.routes self.now.parts.items) }
+        ensures { IsLastUpTo (routes_of P.routes self.now.parts.items) last.now result }
+    {
+        if self.parts.is_empty() {
+            return None;
+        }
+        self.parts[self.place_of(last)].last_up_to(last)
+    }
+}
+
+// A key in place of a greater one.
+fn lower(firsts: &mut Vec<RouteKey>, at: usize, key: &RouteKey)
+    requires { at < length firsts.old.items }
+    ensures { (d : _) → firsts.new.items ≡ slice_set firsts.old.items at (lesser_key key.now (slice_index_or firsts.old.items at d)) }
+{
+    if *key < firsts[at] {
+        firsts[at] = *key;
+    }
+}

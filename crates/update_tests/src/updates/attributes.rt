@@ -1,0 +1,95 @@
+//! The attributes of RIB entries.
+
+use super::bytes::*;
+use bgp_update::*;
+use mrt_frame::Fault;
+use std::alloc::Global;
+use std::process::Abort;
+
+/// The route that attributes give, with four-byte AS numbers.
+fn route_of(rt: &impl Abort, alloc: Global, text: &str) -> Route {
+    let bytes = bytes_of(rt, alloc, text);
+    read_attrs(alloc, bytes.as_slice(), Width::Four).expect(rt, "a route")
+}
+
+/// What is wrong with attributes.
+fn fault_of(rt: &impl Abort, alloc: Global, bytes: &[u8]) -> Option<Fault> {
+    match read_attrs(alloc, bytes, Width::Four).err() {
+        None => None,
+        Some(AttrError::Bad(fault)) => Some(fault),
+        Some(AttrError::Memory) => panic!(rt; "memory"),
+    }
+}
+
+#[test]
+fn every_attribute(rt: HostRuntime) {
+    let alloc = rt.alloc();
+    let text =
+        "40010102 400200 400304C0000201 8004040000000A 40050400000064 400600 C00706FDE8C0000209";
+    let route = route_of(&rt, alloc, text);
+    assert!(rt; route.origin == Some(Origin::Incomplete));
+    expect_path(&rt, &route.path, &[]);
+    assert!(rt; route.next_hop == Some(NextHop::V4(0xC0000201)));
+    assert!(rt; route.med == Some(10) && route.local_pref == Some(100) && route.atomic);
+    let aggregator = Aggregator {
+        asn: 65000,
+        addr: 0xC0000209,
+    };
+    assert!(rt; route.aggregator == Some(aggregator));
+}
+
+#[test]
+fn attribute_shapes(rt: HostRuntime) {
+    let alloc = rt.alloc();
+    for (text, want) in [
+        ("4001", Fault::ShortAttribute),
+        ("500100", Fault::ShortAttribute),
+        ("400100", Fault::BadAttribute(1)),
+        ("40020102", Fault::BadPath),
+    ] {
+        let bytes = bytes_of(&rt, alloc, text);
+        let fault = fault_of(&rt, alloc, bytes.as_slice());
+        assert!(rt; fault == Some(want), "at {text}");
+    }
+}
+
+/// The route has ORIGIN IGP and no other attribute.
+fn expect_origin_alone(rt: &impl Abort, route: &Route) {
+    assert!(rt; route.origin == Some(Origin::Igp));
+    assert!(rt; route.path.is_none() && route.next_hop.is_none());
+    assert!(rt; route.med.is_none() && route.local_pref.is_none());
+    assert!(rt; !route.atomic && route.aggregator.is_none());
+}
+
+#[test]
+fn origin_alone(rt: HostRuntime) {
+    let alloc = rt.alloc();
+    // A length of two bytes; a second ORIGIN, which isn't checked; attributes 14 and 15, which are skipped.
+    for text in [
+        "5001000100",
+        "40010100 4001020000",
+        "800E00 800F01FF 40010100 800E00",
+    ] {
+        let route = route_of(&rt, alloc, text);
+        expect_origin_alone(&rt, &route);
+        let copy = route.try_copy(alloc).expect(&rt, "memory");
+        assert!(rt; copy.is_same(&route), "at {text}");
+    }
+}
+
+/// Each front of an attribute field is whole where an attribute ends, and else ends inside one.
+#[test]
+fn fronts_of_attributes(rt: HostRuntime) {
+    let alloc = rt.alloc();
+    let bytes = bytes_of(&rt, alloc, "40010100 4002060201 0000FDE8 400304 C0000201");
+    for n in 0..=bytes.len() {
+        let want = match n {
+            0 | 4 | 13 | 20 => None,
+            _ => Some(Fault::ShortAttribute),
+        };
+        assert!(rt;
+            fault_of(&rt, alloc, &bytes.as_slice()[..n]) == want,
+            "at {n}"
+        );
+    }
+}

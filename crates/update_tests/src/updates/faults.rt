@@ -1,0 +1,112 @@
+//! Damaged messages: which fault is named.
+
+use super::bytes::*;
+use bgp_update::*;
+use mrt_frame::Fault;
+use std::alloc::Global;
+use std::process::Abort;
+
+/// The announcement with this byte at this place has this fault.
+fn expect_fault_by_byte(rt: &impl Abort, alloc: Global, at: usize, byte: u8, want: Fault) {
+    let mut body = bytes_of(rt, alloc, ANNOUNCE);
+    if at < body.len() {
+        body[at] = byte;
+    }
+    let fault = fault_in(rt, alloc, body.as_slice(), Width::Four, false);
+    assert!(rt; fault == Some(want), "at {at}");
+}
+
+#[test]
+fn one_byte_changed(rt: HostRuntime) {
+    for (at, byte, want) in [
+        // The length of the NLRI's prefix.
+        (24usize, 0x21u8, Fault::BadPrefix),
+        (24, 9, Fault::BadPrefix),
+        // The withdrawn length, and NEXT_HOP's.
+        (1, 0xFF, Fault::BadUpdate),
+        (19, 5, Fault::ShortAttribute),
+        // ORIGIN's value.
+        (7, 3, Fault::BadAttribute(1)),
+        // The segment's kind and its count.
+        (11, 5, Fault::BadPath),
+        (12, 0, Fault::BadPath),
+        (12, 2, Fault::BadPath),
+        (12, 0xFF, Fault::BadPath),
+    ] {
+        expect_fault_by_byte(&rt, rt.alloc(), at, byte, want);
+    }
+}
+
+/// Fields are checked from left to right: withdrawn, attributes one by one, NLRI.
+#[test]
+fn first_fault_wins(rt: HostRuntime) {
+    for (text, want) in [
+        ("0003 2100 FF 4001", Fault::BadUpdate),
+        ("0002 210A 0003 400101 210A", Fault::BadPrefix),
+        ("0000 0003 400101 210A", Fault::ShortAttribute),
+        ("0000 0008 40010103 40020102 210A", Fault::BadAttribute(1)),
+        ("0000 0008 40020102 40010103 210A", Fault::BadPath),
+        ("0000 0007 40010103 400401", Fault::BadAttribute(1)),
+        ("0000 0007 400302 0000 4001", Fault::BadAttribute(3)),
+    ] {
+        expect_fault(&rt, rt.alloc(), text, Some(want));
+    }
+}
+
+/// The fault of a message's front of n bytes, where the message has its attributes up to one place and keys up to others.
+fn fault_of_front(n: usize, attributes_end: usize, key_ends: &[usize]) -> Option<Fault> {
+    if n < 4 {
+        Some(Fault::BadLength)
+    } else if n < attributes_end {
+        Some(Fault::BadUpdate)
+    } else if n == attributes_end || key_ends.contains(&n) {
+        None
+    } else {
+        Some(Fault::BadPrefix)
+    }
+}
+
+/// Each front of the message has the fault that `fault_of_front` tells.
+fn expect_fronts(
+    rt: &impl Abort,
+    alloc: Global,
+    text: &str,
+    width: Width,
+    add_path: bool,
+    attributes_end: usize,
+    key_ends: &[usize],
+) {
+    let body = bytes_of(rt, alloc, text);
+    for n in 0..=body.len() {
+        let fault = fault_in(rt, alloc, &body.as_slice()[..n], width, add_path);
+        let want = fault_of_front(n, attributes_end, key_ends);
+        assert!(rt; fault == want, "at {n} of {text}");
+    }
+}
+
+#[test]
+fn fronts_of_messages(rt: HostRuntime) {
+    for (text, width, add_path, attributes_end, key_ends) in [
+        (REPLACE, Width::Four, false, 26, [28].as_slice()),
+        (
+            THREE_LENGTHS,
+            Width::Four,
+            false,
+            24,
+            [25, 27, 30].as_slice(),
+        ),
+        (TWO_OCTETS, Width::Two, false, 39, [41].as_slice()),
+        (WITH_IDENTIFIER, Width::Four, true, 24, [30].as_slice()),
+        (REACH, Width::Four, false, 31, [].as_slice()),
+    ] {
+        expect_fronts(
+            &rt,
+            rt.alloc(),
+            text,
+            width,
+            add_path,
+            attributes_end,
+            key_ends,
+        );
+    }
+}

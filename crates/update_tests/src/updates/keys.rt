@@ -1,0 +1,80 @@
+//! Prefixes and path identifiers.
+
+use super::bytes::*;
+use bgp_prefix::Prefix;
+use bgp_update::*;
+use mrt_frame::Fault;
+use std::process::Abort;
+
+/// The key 10.0.0.0/8.
+const TEN: (u32, u8, u32) = (0x0A000000, 8, 0);
+
+/// The UPDATE withdraws and announces these keys, and reaches none by attribute 14.
+fn expect_plain_keys(
+    rt: &impl Abort,
+    update: &Update,
+    withdrawn: &[(u32, u8, u32)],
+    announced: &[(u32, u8, u32)],
+) {
+    expect_keys(rt, update.withdrawn.as_slice(), withdrawn);
+    expect_keys(rt, update.announced.as_slice(), announced);
+    assert!(rt; update.reached.as_slice().is_empty() && update.reached_hop.is_none());
+}
+
+#[test]
+fn keys_of_messages(rt: HostRuntime) {
+    for (text, add_path, withdrawn, announced) in [
+        (ANNOUNCE, false, [].as_slice(), [TEN].as_slice()),
+        (REPLACE, false, [TEN].as_slice(), [TEN].as_slice()),
+        (
+            THREE_LENGTHS,
+            false,
+            [].as_slice(),
+            [(0, 0, 0), TEN, (0x0A010000, 16, 0)].as_slice(),
+        ),
+        // Bits past the length are put to 0.
+        (
+            "0000 0014 40010100 4002060201 0000FDE8 400304 C0000201 0C0AFF",
+            false,
+            [].as_slice(),
+            [(0x0AF00000, 12, 0)].as_slice(),
+        ),
+        (
+            WITH_IDENTIFIER,
+            true,
+            [].as_slice(),
+            [(0x0A000000, 8, 7)].as_slice(),
+        ),
+        (
+            "0006 00000007 080A 0000",
+            true,
+            [(0x0A000000, 8, 7)].as_slice(),
+            [].as_slice(),
+        ),
+        ("0002 080A 0000", false, [TEN].as_slice(), [].as_slice()),
+    ] {
+        let update = update_of(&rt, rt.alloc(), text, Width::Four, add_path);
+        expect_plain_keys(&rt, &update, withdrawn, announced);
+    }
+}
+
+#[test]
+fn identifier_past_its_field(rt: HostRuntime) {
+    let text = "0000 0014 40010100 4002060201 0000FDE8 400304 C0000201 000007";
+    let body = bytes_of(&rt, rt.alloc(), text);
+    let fault = fault_in(&rt, rt.alloc(), body.as_slice(), Width::Four, true);
+    assert!(rt; fault == Some(Fault::BadPrefix));
+}
+
+#[test]
+fn prefixes(rt: HostRuntime) {
+    match prefix_at(12, &[0x0A, 0xFF, 1]) {
+        Ok((prefix, rest)) => {
+            assert!(rt; Some(prefix) == Prefix::new(0x0AF00000, 12));
+            assert!(rt; rest.len() == 1);
+        }
+        Err(_) => assert!(rt; false),
+    }
+    assert!(rt; prefix_at(33, &[0; 5]).is_err());
+    assert!(rt; prefix_at(9, &[0x0A]).is_err());
+}

@@ -1,0 +1,163 @@
+//! Paths, and AS_PATH with AS4_PATH.
+
+use super::bytes::*;
+use bgp_prefix::Memory;
+use bgp_update::*;
+use std::alloc::Global;
+use std::process::Abort;
+use std::test::Fail;
+
+/// The path is AS_PATH, or AS_PATH joined with AS4_PATH. The route has this aggregator and this origin.
+fn expect_two_octet_route(
+    rt: &impl Abort,
+    route: &Route,
+    is_joined: bool,
+    aggregator: Option<Aggregator>,
+    origin: u32,
+) {
+    if is_joined {
+        expect_path(
+            rt,
+            &route.path,
+            &[
+                (SegmentKind::AsSequence, &[100]),
+                (SegmentKind::AsSequence, &[70000, 70001]),
+            ],
+        );
+    } else {
+        expect_path(
+            rt,
+            &route.path,
+            &[(SegmentKind::AsSequence, &[100, 23456, 23456])],
+        );
+    }
+    expect_measures(rt, &route.path, 3, Some(origin));
+    assert!(rt; route.next_hop == Some(NextHop::V4(0xC0000201)));
+    assert!(rt; route.aggregator == aggregator);
+}
+
+/// The path is there, and has this length and this origin.
+fn expect_measures(rt: &impl Abort, path: &Option<AsPath>, length: u64, origin: Option<u32>) {
+    match path {
+        Some(path) => assert!(rt; path.length() == length && path.origin_as() == origin),
+        None => assert!(rt; false),
+    }
+}
+
+#[test]
+fn two_octet_paths(rt: HostRuntime) {
+    let of_100 = Aggregator {
+        asn: 100,
+        addr: 0xC0000209,
+    };
+    let of_70000 = Aggregator {
+        asn: 70000,
+        addr: 0xC0000209,
+    };
+    for (text, is_joined, aggregator, origin) in [
+        (TWO_OCTETS, true, None, 70001),
+        // AS4_PATH is longer than AS_PATH.
+        (
+            "0000 002B 40010100 4002080203 0064 5BA0 5BA0 400304 C0000201 C011120204 00011170 00011171 00011172 00011173 080A",
+            false,
+            None,
+            23456,
+        ),
+        // AGGREGATOR has an AS number of its own.
+        (
+            "0000 0037 40010100 4002080203 0064 5BA0 5BA0 400304 C0000201 C0110A0202 00011170 00011171 C00706 0064 C0000209 C01208 00011170 C0000209 080A",
+            false,
+            Some(of_100),
+            23456,
+        ),
+        // AGGREGATOR has AS_TRANS.
+        (
+            "0000 0037 40010100 4002080203 0064 5BA0 5BA0 400304 C0000201 C0110A0202 00011170 00011171 C00706 5BA0 C0000209 C01208 00011170 C0000209 080A",
+            true,
+            Some(of_70000),
+            70001,
+        ),
+    ] {
+        let update = update_of(&rt, rt.alloc(), text, Width::Two, false);
+        expect_two_octet_route(&rt, &update.route, is_joined, aggregator, origin);
+        expect_keys(&rt, update.announced.as_slice(), &[(0x0A000000, 8, 0)]);
+    }
+}
+
+#[test]
+fn set_path(rt: HostRuntime) {
+    let text = "0000 0014 40010100 4002060101 0000FDE9 400304 C0000201 080A";
+    let update = update_of(&rt, rt.alloc(), text, Width::Four, false);
+    expect_path(&rt, &update.route.path, &[(SegmentKind::AsSet, &[65001])]);
+    expect_measures(&rt, &update.route.path, 1, None);
+}
+
+/// The path of these segments.
+fn path_of(rt: &impl Abort, alloc: Global, segments: &[(SegmentKind, &[u32])]) -> AsPath {
+    let mut path = AsPath::new(alloc);
+    for (kind, numbers) in segments {
+        let segment = Segment::new(alloc, *kind, numbers).expect(rt, "memory");
+        path.push(segment).expect(rt, "memory");
+    }
+    path
+}
+
+#[test]
+fn merge_keeps_a_confederation(rt: HostRuntime) {
+    let alloc = rt.alloc();
+    let path = path_of(
+        &rt,
+        alloc,
+        &[
+            (SegmentKind::ConfedSequence, &[65001]),
+            (SegmentKind::AsSequence, &[100, 23456]),
+        ],
+    );
+    let as4_path = path_of(&rt, alloc, &[(SegmentKind::AsSequence, &[70000, 70001])]);
+    let merged = AsPath::merge(alloc, &path, &as4_path).expect(&rt, "memory");
+    expect_segments(
+        &rt,
+        &merged,
+        &[
+            (SegmentKind::ConfedSequence, &[65001]),
+            (SegmentKind::AsSequence, &[70000, 70001]),
+        ],
+    );
+}
+
+/// Adds the segment of this number to a path of as many segments. A refused push leaves the path as it was, and is tried again.
+fn push_number(
+    rt: &impl Abort,
+    alloc: Global,
+    path: &mut AsPath,
+    number: u32,
+) -> Result<(), Memory> {
+    let segment = Segment::new(alloc, SegmentKind::AsSet, &[number])?;
+    if path.push(segment).is_err() {
+        assert!(rt; path.segments().len() == number as usize);
+        path.push(Segment::new(alloc, SegmentKind::AsSet, &[number])?)?;
+    }
+    assert!(rt; path.segments().len() == number as usize + 1);
+    Ok(())
+}
+
+/// Each segment has its place as its number.
+fn expect_places(rt: &impl Abort, path: &AsPath) {
+    let mut place = 0u32;
+    for segment in path.segments() {
+        assert!(rt; segment.numbers() == [place].as_slice(), "segment {place}");
+        place = place.wrapping_add(1);
+    }
+}
+
+/// A refused push leaves the path as it was (`make growths` refuses them).
+#[test]
+fn growths_of_a_path(rt: HostRuntime) -> Result<(), Fail> {
+    let alloc = rt.alloc();
+    let mut path = AsPath::new(alloc);
+    for number in 0..20u32 {
+        push_number(&rt, alloc, &mut path, number)?;
+    }
+    expect_places(&rt, &path);
+    Ok(())
+}
