@@ -165,7 +165,7 @@ static const struct { const char *name; void (*make)(u32); u32 count; const char
   { "repeats", repeated, 2, "16 MB of attributes in a record: 16,380 ORIGINs an entry" },
   { "indexes", index_tables, 5000, "index tables of 200 peers, a RIB record behind each" },
   { "large-indexes", unused_indexes, 20, "index tables of 65,535 peers, and nothing else" },
-  { "peers", peers, 300000, "one message a peer" },
+  { "peers", peers, 500000, "one message a peer" },
   { "far-peers", far_peers, 300000, "one message a peer, peers and prefixes scattered" },
   { "origins", origins, 300000, "each route another origin AS, 1,000 a prefix" },
   { "ids-up", identifiers_up, 1000000, "identifiers under one prefix, ascending" },

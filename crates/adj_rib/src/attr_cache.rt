@@ -1,5 +1,5 @@
 //! The routes of attributes that were read before. A peer announces many prefixes with the same
-//! attributes, so that their bytes are seldom read twice, and their keys share one route.
+//! attributes, so their bytes are seldom read twice, and their keys share one route.
 
 ghost use Rattle.std.specs.Prelude.{◌≡◌, ◌<◌, Ok, IfErr, IfOk, IsTrue, vec_len};
 ghost use Rattle.bgp_update.specs.Answers.{Fails};
@@ -14,7 +14,7 @@ use std::alloc::Global;
 use std::marker::Model;
 use std::mem;
 
-/// The attributes of a RIB entry, and the route that they spell.
+/// The attributes of a RIB entry, and the route that they encode.
 #[derive(Drop)]
 struct Reading {
     attrs: Vec<u8>,
@@ -46,7 +46,7 @@ impl Reading {
         Ok(Reading { attrs, route })
     }
 
-    /// Whether these bytes are the ones that were read.
+    /// Whether these bytes are those that were read.
     fn is_of(&self, attrs: &[u8]) -> bool
         ensures { IsTrue result → self.now.0 ≡ attrs.now }
     {
@@ -60,7 +60,7 @@ impl Reading {
         &self.route
     }
 
-    /// Reads a little of each part, where it lies in memory.
+    /// Reads a little of each part, wherever it is in memory.
     fn touch(&self) -> usize {
         let first = match self.attrs.first() {
             Some(byte) => *byte as usize,
@@ -74,12 +74,12 @@ impl Reading {
     }
 }
 
-/// One more word of a hash.
+/// Adds one more word to a hash.
 fn hashed(hash: u64, word: u64) -> u64 {
     (hash.rotate_left(5) ^ word).wrapping_mul(0x9e37_79b9_7f4a_7c15)
 }
 
-/// A hash of the bytes.
+/// Returns a hash of the bytes.
 fn hash_of(bytes: &[u8]) -> u32 {
     let (words, rest) = bytes.as_chunks::<8>();
     let mut hash = bytes.len() as u64;
@@ -97,7 +97,7 @@ fn hash_of(bytes: &[u8]) -> u32 {
     ((hash ^ (hash >> 32)) & 0xFFFF_FFFF) as u32
 }
 
-/// Tells a session where to look for the attributes of a RIB entry. No answer depends on it, but only how
+/// Tells a session where to look for the attributes of a RIB entry. No result depends on it, only how
 /// soon it is found.
 #[derive(Clone, Copy, Debug, PartialEq, Eq)]
 pub struct AttrHash {
@@ -132,20 +132,20 @@ impl Slot {
     }
 }
 
-/// How many places there are at first. There are always a power of two.
+/// How many buckets there are at first. Their number is always a power of two.
 const FIRST_PLACES: usize = 16;
 
-/// In how many slots a reading may be: that of its place, and those behind it.
+/// In how many slots a reading may be: that of its bucket, and those after it.
 const NEAR_SLOTS: usize = 8;
 
 /// How many more readings than routes are kept at most.
 const SPARE_READINGS: usize = 4_096;
 
-/// A peer's readings by the hash of their attributes (open addressing). At most three in four places have
-/// one; where all slots of a place are taken, a later reading stands in for the first.
+/// A peer's readings by the hash of their attributes (open addressing). At most three in four buckets have
+/// one; if all slots of a bucket are taken, a later reading evicts the first.
 #[derive(Drop)]
 pub(crate) struct AttrCache {
-    /// One for each place, and those behind the last place.
+    /// One for each bucket, and those after the last bucket.
     slots: Vec<Slot>,
     readings: usize,
 }
@@ -154,7 +154,7 @@ impl AttrCache {
     ghost use Rattle.std.specs.Prelude.{IfSome, OnOk, slice_get};
     ghost use Rattle.adj_rib.specs.Readings.{Keeps};
 
-    /// Without a place. It takes no memory.
+    /// Returns a cache without buckets. Allocates nothing.
     pub(crate) fn new(alloc: Global) -> AttrCache {
         AttrCache {
             slots: Vec::new(alloc),
@@ -162,19 +162,19 @@ impl AttrCache {
         }
     }
 
-    /// How many places there are.
+    /// How many buckets there are.
     fn places(&self) -> usize {
         self.slots.len().saturating_sub(NEAR_SLOTS)
     }
 
-    /// The place of a hash.
+    /// The bucket of a hash.
     fn place_of(&self, hash: u32) -> usize
         ensures { 0 < vec_len self.now.slots → result < vec_len self.now.slots }
     {
         hash as usize & self.slots.len().saturating_sub(NEAR_SLOTS + 1)
     }
 
-    /// The slot that keeps the reading of these attributes, if any does.
+    /// Returns the slot that keeps the reading of these attributes, if any does.
     fn position(&self, hash: u32, attrs: &[u8]) -> Option<usize>
         ensures { IfSome result (λ at. Keeps attrs.now (slice_get self.now.slots.items at)) }
     {
@@ -197,7 +197,7 @@ impl AttrCache {
         None
     }
 
-    /// The slot for one more reading: the first empty one, or that of its place where there is none.
+    /// Returns the slot for one more reading: the first empty one, or that of its bucket if there is none.
     fn vacancy(&self, hash: u32) -> usize
         requires { 0 < vec_len self.now.slots }
         ensures { result < vec_len self.now.slots }
@@ -211,7 +211,7 @@ impl AttrCache {
         place
     }
 
-    /// Keeps a reading, and answers in which slot.
+    /// Keeps a reading, and returns its slot.
     fn keep(&mut self, hash: u32, reading: Reading) -> usize
         requires { 0 < vec_len self.old.slots }
         ensures kept { Keeps reading.0 (slice_get self.new.slots.items result) }
@@ -225,7 +225,7 @@ impl AttrCache {
         at
     }
 
-    /// Reads attributes that aren't kept, and answers in which slot they are now.
+    /// Reads attributes that aren't kept, and returns the slot that they are now in.
     fn learn(&mut self, alloc: Global, hash: u32, attrs: &[u8]) -> Result<usize, AttrError>
         ensures ok { IfOk result (λ at. Keeps attrs.now (slice_get self.new.slots.items at)) }
         ensures err { IfErr result (λ e. Fails e (route_in Four attrs.now)) }
@@ -235,7 +235,7 @@ impl AttrCache {
         Ok(self.keep(hash, reading))
     }
 
-    /// The slot that keeps the reading of the attributes of a RIB entry, which are read where it isn't kept.
+    /// Returns the slot that keeps the reading of the attributes of a RIB entry, which are read if it isn't kept.
     pub(crate) fn slot_of(
         &mut self,
         alloc: Global,
@@ -251,7 +251,7 @@ impl AttrCache {
         }
     }
 
-    /// The route of the attributes whose reading a slot keeps.
+    /// Returns the route of the attributes whose reading a slot keeps.
     pub(crate) fn route_at(&self, at: usize, attrs: &[u8]) -> &SharedRoute
         requires { Keeps attrs.now (slice_get self.now.slots.items at) }
         ensures { route_in Four attrs.now ≡ Ok result.now }
@@ -262,7 +262,7 @@ impl AttrCache {
         }
     }
 
-    /// Reads a little of the slot where the reading of attributes of this hash would be. The number means
+    /// Prefetches the slot where the reading of attributes of this hash would be. The number means
     /// nothing.
     pub(crate) fn prefetch_slot(&self, hash: AttrHash) -> usize {
         match self.slots.as_slice().get(self.place_of(hash.value)) {
@@ -271,7 +271,7 @@ impl AttrCache {
         }
     }
 
-    /// Reads a little of the reading of attributes of this hash, if it is kept. The number means nothing.
+    /// Prefetches the reading of attributes of this hash, if it is kept. The number means nothing.
     pub(crate) fn prefetch_reading(&self, hash: AttrHash) -> usize {
         let place = self.place_of(hash.value);
         for at in place..place.saturating_add(NEAR_SLOTS) {
@@ -292,14 +292,14 @@ impl AttrCache {
         0
     }
 
-    /// Forgets all readings where there are far more than a table has routes.
+    /// Forgets all readings if there are far more than a table has routes.
     pub(crate) fn forget_old(&mut self, alloc: Global, routes: usize) {
         if self.readings > routes.saturating_add(SPARE_READINGS) {
             *self = AttrCache::new(alloc);
         }
     }
 
-    /// Makes places for one more reading.
+    /// Makes buckets for one more reading.
     fn fit(&mut self, alloc: Global) -> Result<(), Memory>
         ensures { OnOk result (0 < vec_len self.new.slots) }
     {
@@ -310,7 +310,7 @@ impl AttrCache {
         self.widen(alloc, places.saturating_mul(2).max(FIRST_PLACES))
     }
 
-    /// Moves what is kept to so many places.
+    /// Moves what is kept to this many buckets.
     fn widen(&mut self, alloc: Global, places: usize) -> Result<(), Memory>
         ensures { OnOk result (0 < vec_len self.new.slots) }
     {
@@ -325,7 +325,7 @@ impl AttrCache {
     }
 }
 
-/// Slots for so many places.
+/// Returns slots for this many buckets.
 fn empty_slots(alloc: Global, places: usize) -> Result<Vec<Slot>, Memory>
     ensures { IfOk result (λ slots. 0 < vec_len slots) }
 {

@@ -12,7 +12,7 @@ use std::alloc::Global;
 /// The state Established (RFC 4271, 8.2.2).
 const ESTABLISHED_STATE: u16 = 6;
 
-/// A peer's Adj-RIB-In, with what is counted and listed of the peer.
+/// A peer's Adj-RIB-In, along with what is counted and listed for the peer.
 #[derive(Drop)]
 pub(crate) struct RibIn<M: PrefixMap<SharedRoute>> {
     pub(crate) up: bool,
@@ -30,7 +30,7 @@ impl<M: PrefixMap<SharedRoute>> RibIn<M> {
     ghost use Rattle.adj_rib.specs.Applied.{START, counted_if, followed, refused, IsNoEntry, read_as, taken};
     ghost use Rattle.adj_rib.specs.Keeping.{kept_in};
 
-    /// Of a peer without units, which is up.
+    /// Returns that of a peer without units, which is up.
     pub(crate) fn new(alloc: Global) -> RibIn<M>
         ensures { kept_in M.contents result ≡ START }
     {
@@ -130,12 +130,12 @@ impl<M: PrefixMap<SharedRoute>> RibIn<M> {
         }
     }
 
-    /// Reads a little of the slot that `take` will look at for attributes of this hash.
+    /// Prefetches the slot that `take` will look at for attributes of this hash.
     pub(crate) fn prefetch_slot(&self, hash: AttrHash) -> usize {
         self.cache.prefetch_slot(hash)
     }
 
-    /// Reads a little of what `take` will find for attributes of this hash.
+    /// Prefetches what `take` will find for attributes of this hash.
     pub(crate) fn prefetch_reading(&self, hash: AttrHash) -> usize {
         self.cache.prefetch_reading(hash)
     }

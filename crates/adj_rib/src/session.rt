@@ -12,7 +12,7 @@ use mrt_body::{Damage, Unit};
 use std::alloc::Global;
 use std::marker::Model;
 
-/// A peer's session with the collector, as far as its units were taken.
+/// A peer's session with the collector, as far as its units have been taken.
 #[derive(Drop)]
 pub struct Session<M: PrefixMap<SharedRoute>> {
     rib: RibIn<M>,
@@ -29,7 +29,7 @@ impl<M: PrefixMap<SharedRoute>> Model for Session<M> {
 }
 
 impl<M: PrefixMap<SharedRoute>> Session<M> {
-    /// Of a peer without units, which is up and has no route. It takes no memory.
+    /// Returns the session of a peer without units, which is up and has no routes. Allocates nothing.
     pub fn new(alloc: Global) -> Session<M>
         ensures { StandsFor result [] }
     {
@@ -40,8 +40,8 @@ impl<M: PrefixMap<SharedRoute>> Session<M> {
     }
 
     /// Takes the next unit: its event changes the table (RFC 4271, 4.3 and 8), or it is damaged and is
-    /// listed. After an `Err` the session is spent: each further `take` answers `Err`, and what the other
-    /// calls but `is_spent` show means nothing more.
+    /// listed. After an `Err` the session is spent: each further `take` returns `Err`, and the results of the other
+    /// calls, except `is_spent`, no longer mean anything.
     pub fn take(&mut self, alloc: Global, unit: &Unit) -> Result<(), Memory>
         ensures stands { (before : List ReplayUnit) → StandsFor self.old before → OnOk result (StandsFor self.new (before ++ unit.now ∷ [])) }
         ensures spent { self.new.spent ≡ is_err result }
@@ -50,8 +50,8 @@ impl<M: PrefixMap<SharedRoute>> Session<M> {
         self.take_hashed(alloc, unit, AttrHash::of(unit))
     }
 
-    /// Takes the next unit as `take` does, whatever the hash is. By that of the unit's attributes it finds
-    /// again what they spell.
+    /// Takes the next unit as `take` does, whatever the hash is. With the hash of the unit's attributes it finds
+    /// what they encode again.
     pub fn take_hashed(&mut self, alloc: Global, unit: &Unit, hash: AttrHash) -> Result<(), Memory>
         ensures stands { (before : List ReplayUnit) → StandsFor self.old before → OnOk result (StandsFor self.new (before ++ unit.now ∷ [])) }
         ensures spent { self.new.spent ≡ is_err result }
@@ -69,14 +69,14 @@ impl<M: PrefixMap<SharedRoute>> Session<M> {
         }
     }
 
-    /// Reads a little of the slot that `take_hashed` will look at for attributes of this hash. Slots, and
-    /// what they hold, lie far apart in memory: a caller that does this for several units first, and then
+    /// Prefetches the slot that `take_hashed` will look at for attributes of this hash. Slots, and
+    /// what they hold, are far apart in memory: a caller that does this for several units first, and then
     /// `prefetch_reading` for all of them, lets these cache misses overlap. The number means nothing.
     pub fn prefetch_slot(&self, hash: AttrHash) -> usize {
         self.rib.prefetch_slot(hash)
     }
 
-    /// Reads a little of what `take_hashed` will find for attributes of this hash. The number means
+    /// Prefetches what `take_hashed` will find for attributes of this hash. The number means
     /// nothing.
     pub fn prefetch_reading(&self, hash: AttrHash) -> usize {
         self.rib.prefetch_reading(hash)
@@ -110,7 +110,7 @@ impl<M: PrefixMap<SharedRoute>> Session<M> {
         self.rib.faults.as_slice()
     }
 
-    /// Whether a `take` answered `Err`.
+    /// Whether a `take` returned `Err`.
     pub fn is_spent(&self) -> bool
         ensures { result ≡ self.now.spent }
     {

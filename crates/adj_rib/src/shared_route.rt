@@ -8,7 +8,7 @@ use std::alloc::Global;
 use std::marker::Model;
 use std::sync::Arc;
 
-/// A route that is kept once for all the keys that have it, and that contracts see as the route.
+/// A route that is stored once for all the keys that have it, and that contracts see as the route.
 #[derive(Drop)]
 pub struct SharedRoute {
     route: Arc<Route>,
@@ -24,7 +24,7 @@ impl Model for SharedRoute {
 }
 
 impl SharedRoute {
-    /// With one owner.
+    /// Returns the route with one owner.
     pub fn new(alloc: Global, route: Route) -> Result<SharedRoute, Memory>
         ensures { IfOk result (λ shared. shared ≡ route) }
     {
@@ -32,7 +32,7 @@ impl SharedRoute {
         Ok(SharedRoute { route })
     }
 
-    /// One more owner of the same route, which takes no memory; of an equal one where no further owner
+    /// Returns one more owner of the same route, which allocates nothing; of an equal one if no further owner
     /// can be counted.
     pub fn share(&self, alloc: Global) -> Result<SharedRoute, Memory>
         ensures { IfOk result (λ shared. shared ≡ self.now) }
@@ -43,7 +43,7 @@ impl SharedRoute {
         }
     }
 
-    /// An equal route with one owner. It is seldom wanted, and its locals are no part of `share`.
+    /// Returns an equal route with one owner. It is seldom needed, and its locals are no part of `share`.
     #[inline(never)]
     fn copy(&self, alloc: Global) -> Result<SharedRoute, Memory>
         ensures { IfOk result (λ copy. copy ≡ self.now) }
@@ -51,7 +51,7 @@ impl SharedRoute {
         SharedRoute::new(alloc, self.route().try_copy(alloc)?)
     }
 
-    /// Reads how many owners it has, where a further one will be counted. The number means nothing.
+    /// Prefetches the count of owners, where a further one will be counted. The number means nothing.
     pub(crate) fn touch(&self) -> usize {
         Arc::strong_count(&self.route)
     }

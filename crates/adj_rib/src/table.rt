@@ -10,7 +10,7 @@ use crate::shared_route::SharedRoute;
 use bgp_prefix::{Memory, PrefixMap, RouteKey};
 use std::alloc::Global;
 
-/// What the announcement of a route does where the other, if any, stood.
+/// What the announcement of a route does, given the other route, if any, that was there.
 fn outcome_over(old: Option<SharedRoute>, route: &SharedRoute) -> Outcome
     ensures { result ≡ announced_over old route.now }
 {
@@ -21,7 +21,7 @@ fn outcome_over(old: Option<SharedRoute>, route: &SharedRoute) -> Outcome
     }
 }
 
-/// Puts the route into the table, and counts what that did.
+/// Puts the route into the table, and counts the effect.
 pub(crate) fn announce_route<M: PrefixMap<SharedRoute>>(
     alloc: Global,
     table: &mut M,
@@ -36,7 +36,7 @@ pub(crate) fn announce_route<M: PrefixMap<SharedRoute>>(
     Ok(())
 }
 
-/// Takes a key out of the table, and counts what that did.
+/// Removes a key from the table, and counts the effect.
 pub(crate) fn withdraw_key<M: PrefixMap<SharedRoute>>(
     table: &mut M,
     churn: &mut Churn,

@@ -61,7 +61,7 @@ fn announce_keys<M: PrefixMap<SharedRoute>>(
     announce_all(alloc, table, churn, keys, &route)
 }
 
-/// Withdraws what an UPDATE withdraws and neither announces nor reaches.
+/// Withdraws what an UPDATE withdraws but neither announces nor reaches.
 fn withdraw_update<M: PrefixMap<SharedRoute>>(
     alloc: Global,
     table: &mut M,
@@ -79,7 +79,7 @@ fn withdraw_update<M: PrefixMap<SharedRoute>>(
     Ok(())
 }
 
-/// Announces what an UPDATE announces, and then what it reaches by its attribute 14.
+/// Announces what an UPDATE announces, and then what it reaches with its attribute 14.
 fn announce_update<M: PrefixMap<SharedRoute>>(
     alloc: Global,
     table: &mut M,

@@ -25,7 +25,7 @@ use std::mem;
 /// The most keys of a list that is searched from the front.
 const SHORT: usize = 32;
 
-/// A finite map from keys to values, as a list in their order.
+/// A finite map from keys to values, as a list in key order.
 #[derive(Drop)]
 pub struct Flat<V> {
     items: Vec<(RouteKey, V)>,
@@ -46,7 +46,7 @@ impl<V> Model for Flat<V> {
     ghost invariant = { λ p. record { sorted : T (is_sorted key_cmp p.items.items); known : All (λ e. IsIpPrefix e.0.prefix) p.items.items } };
 }
 
-/// A list of routes around a prefix: those of the prefix itself, and those of the longer ones by
+/// The routes around a prefix: those of the prefix itself, and those of longer prefixes, split by
 /// their next bit.
 #[derive(Drop)]
 pub(crate) struct Parts<V> {
@@ -57,7 +57,7 @@ pub(crate) struct Parts<V> {
 }
 
 impl<V: Drop> Flat<V> {
-    /// An empty map. It takes no memory.
+    /// Returns an empty map. Allocates nothing.
     pub fn new(alloc: Global) -> Flat<V>
         ensures { result ≡ [] }
     {
@@ -66,7 +66,7 @@ impl<V: Drop> Flat<V> {
         }
     }
 
-    /// A map of one key, in a list that has no more room. An `Err` drops the value.
+    /// Returns a map of one key, in a list with no spare room. An `Err` drops the value.
     pub(crate) fn one(alloc: Global, key: RouteKey, value: V) -> Result<Flat<V>, Memory>
         ensures { IfOk result (λ one. one ≡ (key, value) ∷ []) }
     {
@@ -77,7 +77,7 @@ impl<V: Drop> Flat<V> {
         Ok(Flat { items })
     }
 
-    /// The value of a key.
+    /// Returns the value of a key.
     pub fn get(&self, key: &RouteKey) -> Option<&V>
         ensures { option_copied result ≡ find key_cmp key.now self.now }
     {
@@ -101,7 +101,7 @@ impl<V: Drop> Flat<V> {
         }
     }
 
-    // As `search`, one key after the other.
+    // Like `search`, but compares the keys one by one.
     fn scan(&self, key: &RouteKey) -> Result<usize, usize>
         ensures found { IfOk result (λ i. IsAt key_cmp self.now key.now i) }
         ensures absent { IfErr result (λ i. IsGap key_cmp self.now key.now i) }
@@ -118,7 +118,7 @@ impl<V: Drop> Flat<V> {
         Err(at)
     }
 
-    /// Sets the value of a key, and gives the one before. An `Err` changes nothing.
+    /// Sets the value of a key, and returns the previous one. An `Err` changes nothing.
     pub fn insert(&mut self, key: RouteKey, value: V) -> Result<Option<V>, Memory>
         ensures before { IfOk result (λ before. before ≡ find key_cmp key self.old) }
         ensures ok { OnOk result (self.new ≡ put key_cmp key value self.old) }
@@ -137,7 +137,7 @@ impl<V: Drop> Flat<V> {
         }
     }
 
-    /// Removes a key, and gives its value. It takes no memory.
+    /// Removes a key, and returns its value. Allocates nothing.
     pub fn remove(&mut self, key: &RouteKey) -> Option<V>
         ensures before { result ≡ find key_cmp key.now self.old }
         ensures removed { self.new ≡ where_key key_cmp (λ x. not (eq_by_cmp key_cmp key.now x)) self.old }
@@ -164,14 +164,14 @@ impl<V: Drop> Flat<V> {
         self.items.len()
     }
 
-    /// Whether there is no key.
+    /// Whether there are no keys.
     pub fn is_empty(&self) -> bool
         ensures { result ≡ is_nil self.now }
     {
         self.items.is_empty()
     }
 
-    /// Adds the entries to a list, in the order of their keys.
+    /// Appends the entries to a list, in key order.
     pub(crate) fn list<'a>(&'a self, all: &mut Vec<(RouteKey, &'a V)>) -> Result<(), Memory>
         ensures { OnOk result (entries_now all.new.items ≡ entries_now all.old.items ++ self.now) }
     {
@@ -183,7 +183,7 @@ impl<V: Drop> Flat<V> {
         Ok(())
     }
 
-    /// The whole map, in the order of its keys. An `Err` is want of memory.
+    /// Returns the whole map, in key order. An `Err` means that an allocation failed.
     pub fn entries(&self, alloc: Global) -> Result<Vec<(RouteKey, &V)>, Memory>
         ensures entries { IfOk result (λ all. map (λ e. (e.0, e.1.now)) all.items ≡ self.now) }
         ensures sorted { T (is_sorted key_cmp self.now) }
@@ -209,8 +209,8 @@ impl<V: Drop> Flat<V> {
         }
     }
 
-    /// The longest prefix of a key that contains the address (RFC 1812, 5.2.4.3). It takes no
-    /// memory, and at most 33 searches.
+    /// Returns the longest prefix of a key that contains the address (RFC 1812, 5.2.4.3). Allocates
+    /// nothing, and searches at most 33 times.
     pub fn longest(&self, addr: u32) -> Option<Prefix>
         ensures found { IfSome result (IsLongestMatch (finite.from_entries self.now) addr) }
         ensures none { IfNone result (HasNoMatch (finite.from_entries self.now) addr) }
@@ -251,8 +251,8 @@ impl<V: Drop> Flat<V> {
             .partition_point(move |item| item.0.prefix.addr() <= addr)
     }
 
-    /// The longest prefix of a key that contains the address, as `longest`. For short lists: it looks
-    /// at one after the other, from the end.
+    /// Returns the longest prefix of a key that contains the address, like `longest`. For short lists: it
+    /// compares the prefixes one by one, from the end.
     pub(crate) fn last_match(&self, addr: u32) -> Option<Prefix>
         ensures last { result ≡ last_match self.now addr }
     {
@@ -267,8 +267,8 @@ impl<V: Drop> Flat<V> {
         None
     }
 
-    /// As `longest`, and how many prefixes were compared with the address. Their lengths differ.
-    /// For short lists: it walks back through all whose addresses are at most this one.
+    /// Like `longest`, and also returns how many prefixes were compared with the address. Their lengths differ.
+    /// For short lists: it walks back through all prefixes whose addresses are at most this one.
     pub fn longest_steps(&self, addr: u32) -> (Option<Prefix>, u32)
         ensures found { IfSome result.0 (IsLongestMatch (finite.from_entries self.now) addr) }
         ensures none { IfNone result.0 (HasNoMatch (finite.from_entries self.now) addr) }
@@ -299,7 +299,7 @@ impl<V: Drop> Flat<V> {
         (longest, steps)
     }
 
-    // The longest prefix that covers those of all keys, where these are not one and the same.
+    // The longest prefix that covers those of all keys, if these are not all the same.
     fn cover(&self) -> Option<Prefix>
         ensures cover { IfSome result (IsCover self.now) }
         ensures one { IfNone result (IsOfOnePrefix self.now) }
@@ -314,7 +314,7 @@ impl<V: Drop> Flat<V> {
         Some(first.shortened(shared_len(&first, &last)))
     }
 
-    // Where the keys of the prefix that covers all end.
+    // Where the keys of the prefix that covers all of them end.
     fn own_end(&self, at: &Prefix) -> usize
         requires { IsCover self.now at.now }
         ensures bound { result ≤ length self.now }
@@ -324,7 +324,7 @@ impl<V: Drop> Flat<V> {
         self.items.partition_point(move |item| item.0.prefix == at)
     }
 
-    // Where the keys whose next bit after the prefix that covers all is 0 end.
+    // Where the keys end whose next bit after the prefix that covers all of them is 0.
     fn low_end(&self, at: &Prefix) -> usize
         requires { IsCover self.now at.now }
         ensures bound { result ≤ length self.now }
@@ -335,8 +335,8 @@ impl<V: Drop> Flat<V> {
             .partition_point(move |item| (item.0.prefix.addr() as u64) < half)
     }
 
-    /// Parts the list by the longest prefix that covers those of all keys. None where these are
-    /// one and the same. The list is empty once it is parted, and unchanged else.
+    /// Splits the list by the longest prefix that covers those of all keys. None if these are all the
+    /// same. The list is empty after a split, and otherwise unchanged.
     pub(crate) fn split(&mut self, alloc: Global) -> Result<Option<Parts<V>>, Memory>
         ensures parts { IfOk result (λ o. IfSome o (λ p. IsSplit self.old p.at p.here p.low p.high)) }
         ensures left { IfOk result (λ o. OnSome o (self.new ≡ [])) }
@@ -360,8 +360,8 @@ impl<V: Drop> Flat<V> {
         }))
     }
 
-    /// The identifiers and values of the keys of a prefix, ascending by identifier. An `Err` is
-    /// want of memory.
+    /// Returns the identifiers and values of the keys of a prefix, ascending by identifier. An `Err`
+    /// means that an allocation failed.
     pub fn paths(&self, alloc: Global, prefix: &Prefix) -> Result<Vec<(u32, &V)>, Memory>
         ensures paths { IfOk result (λ all. map (λ e. (e.0, e.1.now)) all.items ≡ paths_of prefix.now self.now) }
         ensures sorted { T (is_sorted key_cmp self.now) }
@@ -379,7 +379,7 @@ impl<V: Drop> Flat<V> {
     }
 }
 
-/// Cuts a list at two places, and leaves it the first part. An `Err` changes nothing.
+/// Cuts a list at two positions, and leaves the first part in it. An `Err` changes nothing.
 fn cut<T: Drop>(items: &mut Vec<T>, first: usize, second: usize) -> Result<(Vec<T>, Vec<T>), Memory>
     requires order { first ≤ second }
     requires within { second ≤ vec_len items.old }

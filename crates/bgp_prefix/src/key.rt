@@ -1,7 +1,7 @@
 use crate::prefix::Prefix;
 
-/// What a route is held under: a prefix, and the path identifier beside it (RFC 7911, 3), 0 where
-/// there is none. Ordered by prefix, and then by identifier.
+/// The key of a route: a prefix along with the path identifier (RFC 7911, 3), which is 0 if there is
+/// none. Ordered by prefix, then by identifier.
 #[derive(Clone, Copy, Debug, PartialEq, Eq, PartialOrd, Ord)]
 pub struct RouteKey {
     pub prefix: Prefix,

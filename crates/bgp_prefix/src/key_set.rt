@@ -7,7 +7,7 @@ use crate::memory::Memory;
 use std::alloc::Global;
 use std::marker::Model;
 
-/// The keys of a list, in order, for looking them up.
+/// The keys of a list, in order, for lookups.
 #[derive(Debug, Drop)]
 pub struct KeySet {
     sorted: Vec<RouteKey>,
@@ -27,7 +27,7 @@ impl Model for KeySet {
 }
 
 impl KeySet {
-    /// The set of these keys.
+    /// Returns the set of these keys.
     pub fn from_slice(alloc: Global, keys: &[RouteKey]) -> Result<KeySet, Memory>
         ensures { IfOk result (λ set. (k : KeyValue) → among set k ≡ among keys.now k) }
     {

@@ -1,4 +1,4 @@
-//! IPv4 prefixes, the keys of routes, and finite maps from keys with the longest match.
+//! IPv4 prefixes, the keys of routes, and finite maps from keys with longest-prefix match.
 #![tactic(auto)]
 
 mod flat;

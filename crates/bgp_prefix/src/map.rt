@@ -9,36 +9,36 @@ use crate::memory::Memory;
 use crate::prefix::Prefix;
 use std::alloc::Global;
 
-/// A finite map from keys to values with the longest match, however it is kept.
+/// A finite map from keys to values with longest-prefix match, however it is stored.
 pub trait PrefixMap<V: Drop> {
     /// What it contains.
     ghost contents: { Self → finite.FinMap key_cmp V };
 
-    /// An empty map. It takes no memory.
+    /// Returns an empty map. Allocates nothing.
     fn new(alloc: Global) -> Self
         ensures { contents result ≡ finite.empty };
 
-    /// Sets the value of a key, and gives the one before. An `Err` changes nothing; the value is dropped.
+    /// Sets the value of a key, and returns the previous one. An `Err` changes nothing; the value is dropped.
     fn insert(&mut self, alloc: Global, key: RouteKey, value: V) -> Result<Option<V>, Memory>
         ensures before { IfOk result (λ before. before ≡ finite.get (contents self.old) key) }
         ensures ok { OnOk result (contents self.new ≡ finite.insert (contents self.old) key value) }
         ensures err { OnErr result (contents self.new ≡ contents self.old) };
 
-    /// Removes a key, and gives its value. It takes no memory.
+    /// Removes a key, and returns its value. Allocates nothing.
     fn remove(&mut self, key: &RouteKey) -> Option<V>
         ensures before { result ≡ finite.get (contents self.old) key.now }
         ensures removed { contents self.new ≡ finite.remove (contents self.old) key.now };
 
-    /// The value of a key.
+    /// Returns the value of a key.
     fn get(&self, key: &RouteKey) -> Option<&V>
         ensures { option_copied result ≡ finite.get (contents self.now) key.now };
 
-    /// The longest prefix of a key that contains the address (RFC 1812, 5.2.4.3).
+    /// Returns the longest prefix of a key that contains the address (RFC 1812, 5.2.4.3).
     fn longest(&self, addr: u32) -> Option<Prefix>
         ensures found { IfSome result (IsLongestMatch (contents self.now) addr) }
         ensures none { IfNone result (HasNoMatch (contents self.now) addr) };
 
-    /// The identifiers and values of the keys of a prefix, ascending by identifier.
+    /// Returns the identifiers and values of the keys of a prefix, ascending by identifier.
     fn paths(&self, alloc: Global, prefix: &Prefix) -> Result<Vec<(u32, &V)>, Memory>
         ensures { IfOk result (λ v. map (λ e. (e.0, e.1.now)) v.items ≡ paths_of prefix.now (finite.entries (contents self.now))) };
 
@@ -50,7 +50,7 @@ pub trait PrefixMap<V: Drop> {
     fn len(&self) -> usize
         ensures { result ≡ finite.len (contents self.now) };
 
-    /// The whole map, in the order of its keys.
+    /// Returns the whole map, in key order.
     fn entries(&self, alloc: Global) -> Result<Vec<(RouteKey, &V)>, Memory>
         ensures { IfOk result (λ v. map (λ e. (e.0, e.1.now)) v.items ≡ finite.entries (contents self.now)) };
 }

@@ -21,7 +21,7 @@ impl Model for Prefix {
 }
 
 impl Prefix {
-    /// The prefix of this length that contains the address. None exactly for a length over 32.
+    /// Returns the prefix of this length that contains the address. None exactly for a length over 32.
     pub fn new(addr: u32, len: u8) -> Option<Prefix>
         ensures some { IsSome result ↔ (len ≤ 32) }
         ensures prefix { IfSome result (λ p. p ≡ record { addr = network_of addr len; len = len }) }
@@ -49,7 +49,7 @@ impl Prefix {
         self.len
     }
 
-    /// The prefix of this length that covers this one.
+    /// Returns the prefix of this length that covers this one.
     pub fn shortened(&self, len: u8) -> Prefix
         requires { len ≤ self.now.len }
         ensures prefix { result ≡ record { addr = network_of self.now.addr len; len = len } }
@@ -70,7 +70,7 @@ impl Prefix {
         addr as u64 >> shift == self.addr as u64 >> shift
     }
 
-    /// Whether `other` is not shorter and lies within.
+    /// Whether `other` is no shorter and lies within this prefix.
     pub fn covers(&self, other: &Prefix) -> bool
         ensures { result ≡ covers self.now other.now }
     {

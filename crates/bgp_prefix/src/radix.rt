@@ -20,12 +20,12 @@ use std::alloc::Global;
 use std::marker::Model;
 use std::mem;
 
-/// A leaf with more routes becomes a fork, where they have several prefixes.
+/// A leaf with more routes becomes a fork, if they have several prefixes.
 const LEAF_ROUTES: usize = 32;
 
 /// A part of the trie: nothing, a leaf with the routes of any prefixes in order, never empty, or a
-/// fork with two branches. Each prefix that is held is a node: a leaf's block has several nodes
-/// side by side. Lengths of forks rise strictly on the way down, so there are at most 33 levels,
+/// fork with two branches. Each prefix with routes is a node: a leaf's block has several nodes
+/// side by side. Forks' lengths increase strictly on the way down, so there are at most 33 levels,
 /// and the derived recursive drop is shallow.
 #[cycle(branch)]
 #[derive(Drop)]
@@ -71,8 +71,8 @@ fn place_of(at: &Prefix, prefix: &Prefix) -> Place
     }
 }
 
-/// Where a search for a prefix goes on at a fork. The bits that a branch's prefixes share are not
-/// compared on the way, since the search ends at a prefix that is compared whole.
+/// Where the search for a prefix continues at a fork. The bits that a branch's prefixes share are not
+/// compared on the way down, since the search ends at a prefix that is compared whole.
 fn way_to(at: &Prefix, prefix: &Prefix) -> Place
     ensures { IsWay at.now prefix.now result }
 {
@@ -115,11 +115,11 @@ impl<V: Drop> Branch<V> {
         }
     }
 
-    /// Sets the value of a key to that of a slot, which is left with the one before. An `Err`
+    /// Sets the value of a key to that of a slot, and leaves the previous one in the slot. An `Err`
     /// changes nothing but the slot.
     ///
     /// A value is wide, and a function clears the room of its locals at entry: so neither this
-    /// recursion nor what is inlined into it has a value among its locals.
+    /// recursion nor anything inlined into it has a value among its locals.
     fn insert(&mut self, alloc: Global, key: &RouteKey, slot: &mut Option<V>) -> Result<(), Memory>
         requires trie { IsTrie self.old }
         requires known { IsIpPrefix key.now.prefix }
@@ -162,7 +162,7 @@ impl<V: Drop> Branch<V> {
         Ok(())
     }
 
-    /// Sets a value in this leaf, which becomes a fork where it has too many routes then.
+    /// Sets a value in this leaf, which becomes a fork if it then has too many routes.
     #[inline(never)]
     fn insert_in_leaf(
         &mut self,
@@ -198,7 +198,7 @@ impl<V: Drop> Branch<V> {
         }
     }
 
-    /// Adds a route whose prefix the root's prefix `at` doesn't cover, by a fork above both.
+    /// Adds a route whose prefix is not covered by the root's prefix `at`, with a fork above both.
     #[inline(never)]
     fn insert_apart(
         &mut self,
@@ -234,8 +234,8 @@ impl<V: Drop> Branch<V> {
         Ok(())
     }
 
-    /// Removes a key, and leaves its value in a slot, which is empty before: as for `insert`, no
-    /// value is among the locals of this recursion. Whether nothing is left.
+    /// Removes a key, and leaves its value in a slot, which is empty beforehand: as in `insert`, no
+    /// value is among the locals of this recursion. Returns whether nothing is left.
     fn remove(&mut self, key: &RouteKey, slot: &mut Option<V>) -> bool
         requires trie { IsTrie self.old }
         requires empty { slot.old ≡ None }
@@ -255,7 +255,7 @@ impl<V: Drop> Branch<V> {
         }
     }
 
-    /// Drops the root where it neither holds routes nor forks. Whether nothing is left.
+    /// Drops the root if it neither holds routes nor forks. Returns whether nothing is left.
     #[inline(never)]
     fn prune(&mut self) -> bool
         requires { IsUnpruned self.old }
@@ -301,7 +301,7 @@ impl<V: Drop> Branch<V> {
         }
     }
 
-    /// The branch, where there is anything in it.
+    /// The branch, if there is anything in it.
     fn anything(&self) -> Option<&Branch<V>>
         ensures branch { IfSome result (λ b. b.now ≡ self.now) }
         ensures nothing { IfNone result (self.now ≡ Nothing) }
@@ -321,8 +321,8 @@ impl<V: Drop> Branch<V> {
         }
     }
 
-    /// The longest prefix that contains the address. Mostly a leaf has it, and then no fork on the way needs
-    /// to be looked at but for its bit.
+    /// Returns the longest prefix that contains the address. Usually a leaf has it, and then each fork on the way
+    /// only needs to be looked at for its bit.
     fn longest(&self, addr: u32) -> Option<Prefix>
         requires { IsTrie self.now }
         ensures { result ≡ last_match (routes self.now) addr }
@@ -333,7 +333,7 @@ impl<V: Drop> Branch<V> {
         }
     }
 
-    /// The longest prefix that contains the address, where it stands in a leaf.
+    /// Returns the longest prefix that contains the address, if it is in a leaf.
     fn longest_in_leaf(&self, addr: u32) -> Option<Prefix>
         requires { IsTrie self.now }
         ensures { IfSome result (λ prefix. last_match (routes self.now) addr ≡ Some prefix) }
@@ -353,7 +353,7 @@ impl<V: Drop> Branch<V> {
         }
     }
 
-    /// The longest prefix that contains the address, wherever it stands.
+    /// Returns the longest prefix that contains the address, wherever it is.
     #[inline(never)]
     fn longest_on_way(&self, addr: u32) -> Option<Prefix>
         requires { IsTrie self.now }
@@ -381,7 +381,7 @@ impl<V: Drop> Branch<V> {
         }
     }
 
-    /// The longest prefix that contains the address, and how many nodes were looked at.
+    /// Returns the longest prefix that contains the address, and how many nodes were looked at.
     fn longest_steps(&self, addr: u32) -> (Option<Prefix>, u32)
         requires { IsTrie self.now }
         ensures prefix { result.0 ≡ last_match (routes self.now) addr }
@@ -415,7 +415,7 @@ impl<V: Drop> Branch<V> {
         }
     }
 
-    /// Adds the routes to a list, in the order of their keys.
+    /// Appends the routes to a list, in key order.
     fn list<'a>(&'a self, all: &mut Vec<(RouteKey, &'a V)>) -> Result<(), Memory>
         ensures { OnOk result (entries_now all.new.items ≡ entries_now all.old.items ++ routes self.now) }
     {
@@ -430,7 +430,7 @@ impl<V: Drop> Branch<V> {
         }
     }
 
-    /// The identifiers and values of one prefix, ascending by identifier.
+    /// Returns the identifiers and values of one prefix, ascending by identifier.
     fn paths(&self, alloc: Global, prefix: &Prefix) -> Result<Vec<(u32, &V)>, Memory>
         requires { IsTrie self.now }
         ensures { IfOk result (λ v. map (λ e. (e.0, e.1.now)) v.items ≡ paths_of prefix.now (routes self.now)) }
@@ -447,7 +447,7 @@ impl<V: Drop> Branch<V> {
         }
     }
 
-    /// A branch of these routes, with no fork.
+    /// Returns a branch of these routes, with no fork.
     fn of(held: Flat<V>) -> Branch<V>
         ensures { result ≡ branch_of held }
     {
@@ -466,7 +466,7 @@ impl<V: Drop> Branch<V> {
 }
 
 impl<V: Drop> Fork<V> {
-    /// A fork without branches.
+    /// Returns a fork without branches.
     fn new(alloc: Global, prefix: Prefix, here: Flat<V>) -> Result<Box<Fork<V>>, Memory>
         ensures { IfOk result (λ fork. fork.value ≡ record { prefix = prefix; low = Nothing; high = Nothing; here = here }) }
     {
@@ -479,8 +479,8 @@ impl<V: Drop> Fork<V> {
         Ok(Box::new(alloc, fork)?)
     }
 
-    /// The fork of a list's routes, where they have several prefixes. Its memory is taken before
-    /// the list is parted, with any prefix in it, so an `Err` changes nothing.
+    /// Returns the fork of a list's routes, if they have several prefixes. Its memory is allocated before
+    /// the list is split, with any prefix in it, so an `Err` changes nothing.
     #[inline(never)]
     fn of(alloc: Global, any: &Prefix, held: &mut Flat<V>) -> Result<Option<Box<Fork<V>>>, Memory>
         ensures fork { IfOk result (λ o. IfSome o (λ fork. IsForkOf held.old fork.value)) }
@@ -506,8 +506,8 @@ impl<V: Drop> Fork<V> {
         };
     }
 
-    /// The branch of one half, where there is anything in it. Each half is tested by itself, so
-    /// that the way down is a jump, which processors predict, and waits for no node before it.
+    /// Returns the branch of one half, if there is anything in it. Each half is tested separately, so
+    /// the way down is a jump, which processors predict, and waits for no node before it.
     fn branch(&self, is_high: bool) -> Option<&Branch<V>>
         ensures branch { IfSome result (λ b. b.now ≡ (if is_high then self.now.high else self.now.low)) }
         ensures nothing { IfNone result ((if is_high then self.now.high else self.now.low) ≡ Nothing) }
@@ -530,10 +530,10 @@ impl<V: Drop> Fork<V> {
     }
 }
 
-// The routes of a leaf, or of a fork's prefix. A value is taken from a slot and left in one: so no
+// The routes of a leaf, or of a fork's prefix. A value is taken from a slot and left in one, so no
 // function with more to do has a value among its locals.
 
-/// A list of one route, whose value is taken from a slot.
+/// Returns a list of one route, whose value is taken from a slot.
 #[inline(never)]
 fn one<V: Drop>(alloc: Global, key: &RouteKey, slot: &mut Option<V>) -> Result<Flat<V>, Memory>
     requires { IsSome slot.old }
@@ -546,7 +546,7 @@ fn one<V: Drop>(alloc: Global, key: &RouteKey, slot: &mut Option<V>) -> Result<F
     Flat::one(alloc, *key, value)
 }
 
-/// Sets the value of a key to that of a slot, which is left with the one before. An `Err` changes
+/// Sets the value of a key to that of a slot, and leaves the previous one in the slot. An `Err` changes
 /// nothing but the slot.
 #[inline(never)]
 fn exchange<V: Drop>(held: &mut Flat<V>, key: &RouteKey, slot: &mut Option<V>) -> Result<(), Memory>
@@ -562,7 +562,7 @@ fn exchange<V: Drop>(held: &mut Flat<V>, key: &RouteKey, slot: &mut Option<V>) -
     Ok(())
 }
 
-/// Removes a key, and leaves a slot with its value. Whether none is left.
+/// Removes a key, and leaves its value in a slot. Returns whether none is left.
 #[inline(never)]
 fn take<V: Drop>(held: &mut Flat<V>, key: &RouteKey, slot: &mut Option<V>) -> bool
     ensures before { slot.new ≡ find key_cmp key.now held.old }
@@ -593,8 +593,8 @@ impl<V> Model for Radix<V> {
 }
 
 impl<V: Drop> Radix<V> {
-    /// The longest prefix of a key that contains the address, and how many nodes were looked at:
-    /// at most 33, and at least one for each held prefix that contains the address.
+    /// Returns the longest prefix of a key that contains the address, and how many nodes were looked at:
+    /// at most 33, and at least one for each prefix held that contains the address.
     pub fn longest_steps(&self, addr: u32) -> (Option<Prefix>, u32)
         ensures found { IfSome result.0 (IsLongestMatch (finite.from_entries self.now) addr) }
         ensures none { IfNone result.0 (HasNoMatch (finite.from_entries self.now) addr) }

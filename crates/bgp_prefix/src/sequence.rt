@@ -3,7 +3,7 @@ ghost use Rattle.std.specs.Prelude.{◌≡◌, List};
 use std::marker::Model;
 
 /// A list on the heap, which contracts see as the list of its items. It is made from a `Vec` and
-/// gives it back without taking memory.
+/// converts back to one without allocating.
 #[derive(Debug, Drop)]
 pub struct Sequence<T> {
     items: Vec<T>,

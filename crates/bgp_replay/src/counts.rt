@@ -1,4 +1,4 @@
-//! What the replay tells of each dump, for `--summary`.
+//! What the replay reports for each dump, for `--summary`.
 
 use bgp_prefix::Memory;
 use std::alloc::Global;
@@ -12,7 +12,7 @@ pub struct FileCounts {
     damaged: AtomicU64,
 }
 
-/// What was counted of each dump, and which one is read.
+/// What was counted for each dump, and which one is being read.
 #[derive(Drop)]
 pub struct Counts {
     files: Vec<FileCounts>,
@@ -43,7 +43,7 @@ impl FileCounts {
 }
 
 impl Counts {
-    /// The counts of so many dumps.
+    /// Makes the counts of this many dumps.
     pub fn new(alloc: Global, files: usize) -> Result<Counts, Memory> {
         let mut counts = Vec::new(alloc);
         for _ in 0..files {
@@ -59,24 +59,24 @@ impl Counts {
         })
     }
 
-    /// What was counted of a dump, by its place from 0.
+    /// What was counted for a dump, by its index from 0.
     pub fn of(&self, file: usize) -> Option<&FileCounts> {
         self.files.get(file)
     }
 
-    /// The dump at this place is read from now on.
+    /// Records that the dump at this index is read from now on.
     pub fn begin(&self, file: usize) {
         self.reading.store(file, Ordering::Relaxed);
     }
 
-    /// Counts a unit of the dump that is read: units are dealt before more is read.
+    /// Counts a unit of the dump being read: units are dealt before more is read.
     pub fn add_unit(&self) {
         if let Some(counts) = self.of(self.reading.load(Ordering::Relaxed)) {
             count(&counts.units);
         }
     }
 
-    /// Counts a fault of the dump at this place.
+    /// Counts a fault of the dump at this index.
     pub fn add_fault(&self, file: usize, is_refused: bool) {
         if let Some(counts) = self.of(file) {
             count(if is_refused {

@@ -14,8 +14,8 @@ use std::mem;
 /// How many bytes are read at once.
 const BLOCK: usize = 65_536;
 
-/// How many files are kept open at most from the start until their turn comes. Pipes and the like,
-/// which can't be opened twice, are kept open whatever their number.
+/// The maximum number of files kept open from the start until their turn comes. Pipes and the like,
+/// which can't be opened twice, are kept open regardless of their number.
 const KEPT_OPEN: usize = 200;
 
 /// A file that was opened, or standard input.
@@ -34,15 +34,15 @@ impl Read for Device {
     }
 }
 
-/// How far the reading of a dump is.
+/// How far a dump has been read.
 #[derive(Drop)]
 enum State {
-    /// Opened at the start and closed again; it is opened once more when its turn comes.
+    /// Opened at the start and closed again; it is reopened when its turn comes.
     Closed,
-    /// Open, and nothing was read.
+    /// Open, with nothing read yet.
     Open(Device),
     Reading(BufReader<Device>),
-    /// Read to its end, or as far as a failure.
+    /// Read to its end, or up to a failure.
     Ended,
 }
 
@@ -51,7 +51,7 @@ enum State {
 struct Watch<'a> {
     records: Records,
     board: Option<&'a Board>,
-    /// How many bytes the board doesn't know yet.
+    /// How many bytes have not been reported to the board yet.
     bytes: u64,
 }
 
@@ -64,7 +64,7 @@ impl<'a> Watch<'a> {
         }
     }
 
-    /// Takes the next bytes, and says whether the board should know of them.
+    /// Takes the next bytes, and returns whether they should be reported to the board.
     fn take(&mut self, bytes: &[u8]) -> bool {
         self.records.take(bytes);
         if self.board.is_none() {
@@ -74,7 +74,7 @@ impl<'a> Watch<'a> {
         self.bytes >= LOOK || bytes.is_empty()
     }
 
-    /// Tells the board what it doesn't know yet, and how far the dump is read.
+    /// Reports to the board what it doesn't know yet, and how far the dump is read.
     fn tell(&mut self, dump: ReadSoFar<'_>) {
         if let Some(board) = self.board {
             board.add(dump, self.bytes);
@@ -98,7 +98,7 @@ impl Watched<'_> {
     }
 }
 
-/// A dump that is read in blocks of 64 KiB. Its block of memory is there only while it is read, and
+/// A dump that is read in blocks of 64 KiB. Its block of memory exists only while it is being read, and
 /// it is closed at its end.
 #[derive(Drop)]
 pub struct Dump<'a> {
@@ -106,11 +106,11 @@ pub struct Dump<'a> {
     name: &'a str,
     /// From 1.
     number: usize,
-    /// How many bytes it has, where that is known.
+    /// Its size in bytes, if known.
     size: Option<u64>,
     state: State,
     bytes: u64,
-    /// Whether its end was read.
+    /// Whether its end has been read.
     is_at_end: bool,
     first: FirstBytes,
     error: Option<io::Error>,
@@ -150,17 +150,17 @@ impl<'a> Dump<'a> {
         }
     }
 
-    /// Its name in the words; `-` is standard input.
+    /// Its name in the arguments; `-` is standard input.
     pub fn name(&self) -> &'a str {
         self.name
     }
 
-    /// How many bytes were read so far.
+    /// The number of bytes read so far.
     pub fn bytes(&self) -> u64 {
         self.bytes
     }
 
-    /// Its records, where they are counted.
+    /// Its records, if they are counted.
     pub fn records(&self) -> Option<&Records> {
         match &self.watch {
             Some(watch) => Some(&watch.records),
@@ -168,7 +168,7 @@ impl<'a> Dump<'a> {
         }
     }
 
-    /// How many of its bytes are in no whole record, where its size is known or its end was read.
+    /// The number of its bytes that are in no whole record, if its size is known or its end was read.
     pub fn unread(&self) -> Option<u64> {
         let whole = self.records()?.whole_bytes();
         match self.size {
@@ -273,7 +273,7 @@ struct Opened {
     size: Option<u64>,
 }
 
-/// How many bytes a file has, where it is one that may be closed and opened again.
+/// Returns the size of a file in bytes, if it may be closed and reopened.
 fn size_of(file: &File) -> Option<u64> {
     match file.metadata() {
         Ok(metadata) if metadata.is_file() => Some(metadata.len()),
@@ -281,7 +281,7 @@ fn size_of(file: &File) -> Option<u64> {
     }
 }
 
-/// Opens a dump, before which so many are kept open.
+/// Opens a dump, with this many earlier ones kept open.
 fn open(rt: &HostRuntime, name: &str, earlier: usize, is_watched: bool) -> io::Result<Opened> {
     if name == "-" {
         let state = State::Open(Device::Standard(rt.stdin()));
@@ -302,7 +302,7 @@ fn open(rt: &HostRuntime, name: &str, earlier: usize, is_watched: bool) -> io::R
     Ok(Opened { state, size })
 }
 
-/// Opens all dumps, in order, before any is read. `-` is standard input; a second one finds nothing
+/// Opens all dumps, in order, before any is read. `-` is standard input; a second `-` finds nothing
 /// left.
 pub fn open_all<'a>(
     rt: &HostRuntime,

@@ -28,29 +28,29 @@ use std::thread::{Threads, available_parallelism};
 use std::time::{Duration, Instant};
 use telling::{tell, tell_memory, tell_open, tell_summary, tell_write};
 
-/// How many units are dealt in a round at most.
+/// The maximum number of units dealt in a round.
 const BATCH: u64 = 65_536;
 
 /// Empty looks at its ring after which a worker ends its round. They take some 30 ms, longer than the dealer loses its
 /// core to another thread: a worker that left sooner would end the round for all.
 const LOOKS: u32 = 100_000;
 
-/// Whole records that are cut at most.
+/// The maximum number of whole records cut.
 const MAX_RECORDS: u64 = 1 << 47;
 
-/// The status of bad arguments.
+/// The exit status for bad arguments.
 const REFUSED: u8 = 2;
 
-/// The status where a file, the writer or memory failed.
+/// The exit status if a file, the writer or memory failed.
 const FAILED: u8 = 3;
 
-/// How many words are looked through for one that isn't text.
+/// How many arguments are searched for one that isn't text.
 const MOST_WORDS: usize = 100_000;
 
-/// How many workers there are at most.
+/// The maximum number of workers.
 const MOST_WORKERS: usize = 64;
 
-/// As many workers as the words ask for, else one for each processor; where the system doesn't tell how
+/// Returns as many workers as the arguments ask for, otherwise one per processor; if the system doesn't report how
 /// many there are, as many as the job has.
 fn workers_of(threads: &impl Threads, job: &Job) -> usize
     ensures least { 1 ≤ result }
@@ -80,13 +80,13 @@ fn plan_of(job: &Job, workers: usize) -> Plan
     }
 }
 
-/// Says that memory ran out, and gives the status.
+/// Reports that memory ran out, and returns the status.
 fn without_memory(rt: &HostRuntime, during: &str) -> u8 {
     tell_memory(rt, during);
     FAILED
 }
 
-/// Prints what the words came to in place of a job, and gives the status.
+/// Prints what the arguments led to instead of a job, and returns the status.
 fn explain(rt: &HostRuntime, usage: &Usage) -> u8 {
     match usage {
         Usage::Help(text) => {
@@ -108,7 +108,7 @@ fn explain(rt: &HostRuntime, usage: &Usage) -> u8 {
     }
 }
 
-/// Says which words aren't text, and gives the status.
+/// Reports which arguments aren't text, and returns the status.
 fn explain_bytes(rt: &HostRuntime) -> u8 {
     let _ = eprintln!(rt; "error: an argument is not UTF-8 text");
     let mut buf = [0; 4096];
@@ -122,7 +122,7 @@ fn explain_bytes(rt: &HostRuntime) -> u8 {
     REFUSED
 }
 
-/// Says of a word that isn't text how such a file can be given.
+/// Reports how a file whose name isn't text can be given.
 fn explain_word(rt: &HostRuntime, number: usize, word: &[u8]) {
     if str::from_utf8(word).is_err() {
         let shown = word.escape_ascii();
@@ -132,7 +132,7 @@ fn explain_word(rt: &HostRuntime, number: usize, word: &[u8]) {
     }
 }
 
-/// The words after the program's name, or the status to end with.
+/// Returns the arguments after the program's name, or the status to exit with.
 fn given_words(rt: &HostRuntime) -> Result<Vec<String>, u8> {
     match std::env::args(rt) {
         Ok(args) => match args.skip(1).collect::<Vec<String>>(rt.alloc()) {
@@ -144,7 +144,7 @@ fn given_words(rt: &HostRuntime) -> Result<Vec<String>, u8> {
     }
 }
 
-/// The job that the command line asks for, or the status to end with.
+/// Returns the job that the command line asks for, or the status to exit with.
 fn given_job(rt: &HostRuntime) -> Result<Job, u8> {
     let words = given_words(rt)?;
     match read_words(rt.alloc(), words.as_slice()) {
@@ -153,7 +153,7 @@ fn given_job(rt: &HostRuntime) -> Result<Job, u8> {
     }
 }
 
-/// The dumps, opened, or the status to end with.
+/// Returns the dumps, opened, or the status to exit with.
 fn opened<'a>(
     rt: &HostRuntime,
     names: &'a [String],
@@ -170,12 +170,12 @@ fn opened<'a>(
     }
 }
 
-/// How long ago a moment was, where the clock tells.
+/// Returns how long ago a moment was, if the clock reports it.
 fn since(rt: &HostRuntime, start: Option<Instant>) -> Option<Duration> {
     start?.elapsed(rt).ok()
 }
 
-/// The board that shows the progress, where that is asked for and the clock tells.
+/// Returns the board that shows the progress, if that is asked for and the clock reports the time.
 fn board_of(rt: &HostRuntime, job: &Job, start: Option<Instant>) -> Option<Board> {
     match start {
         Some(start) if job.progress => Some(Board::new(rt, job.files.len(), start)),
@@ -183,7 +183,7 @@ fn board_of(rt: &HostRuntime, job: &Job, start: Option<Instant>) -> Option<Board
     }
 }
 
-/// The counts of the dumps, where the summary is asked for, or the status to end with.
+/// Returns the counts of the dumps, if the summary is asked for, or the status to exit with.
 fn counts_of(rt: &HostRuntime, job: &Job) -> Result<Option<Counts>, u8> {
     if !job.summary {
         return Ok(None);
@@ -194,7 +194,7 @@ fn counts_of(rt: &HostRuntime, job: &Job) -> Result<Option<Counts>, u8> {
     }
 }
 
-/// Replays the dumps of a job by threads, and gives the status.
+/// Replays the dumps of a job with threads, and returns the status.
 fn replay_job(rt: &HostRuntime, threads: &(impl Threads + Sync), job: &Job) -> u8 {
     let start = Instant::now(rt).ok();
     let board = board_of(rt, job, start);

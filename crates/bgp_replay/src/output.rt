@@ -8,7 +8,7 @@ use std::io::{self, Stdout, Write};
 static ROUTE_COLUMNS: &str =
     "peer|prefix|as_path|next_hop|origin|med|local_pref|atomic|aggregator\n";
 
-/// The names of a report's columns, as a line.
+/// Returns the names of a report's columns, as a line.
 pub fn columns(request: &Request) -> &'static str {
     match request {
         Request::Tables | Request::Match(_) => ROUTE_COLUMNS,
@@ -19,8 +19,8 @@ pub fn columns(request: &Request) -> &'static str {
     }
 }
 
-/// Standard output, with a header that comes before the first byte of the report. A report without a
-/// byte gets it when it is flushed. What is shown of the progress goes away before it.
+/// Standard output, with a header that precedes the first byte of the report. An empty report
+/// gets it when it is flushed. Any progress shown is cleared before it.
 #[derive(Drop)]
 pub struct Report<'a> {
     out: Stdout,

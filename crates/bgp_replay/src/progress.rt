@@ -1,4 +1,4 @@
-//! How far the reading is, on a line of standard error that is rewritten.
+//! The reading progress, on a line of standard error that is rewritten.
 
 use crate::counts::Counts;
 use command_line::FileName;
@@ -8,7 +8,7 @@ use std::alloc::{AllocError, Global};
 use std::sync::atomic::{AtomicU64, Ordering};
 use std::time::Instant;
 
-/// How much time lies between two lines at least.
+/// The minimum time between two lines.
 const PAUSE_MILLIS: u64 = 250;
 
 /// How many bytes are read between two looks at the clock.
@@ -17,36 +17,36 @@ pub const LOOK: u64 = 1 << 20;
 /// How many characters of a name are shown: the last ones.
 const NAME_SHOWN: usize = 30;
 
-/// What all dumps of a run have in common: how much was read, and what the line shows.
+/// What all dumps of a run share: how much was read, and what the line shows.
 #[derive(Drop)]
 pub struct Board {
     rt: HostRuntime,
     start: Instant,
     files: usize,
     bytes: AtomicU64,
-    /// How many routes there were when they were last counted, and at how many milliseconds that was.
+    /// How many routes there were when they were last counted, and at what time in milliseconds.
     routes: AtomicU64,
     counted: AtomicU64,
     /// Milliseconds from the start to the last line.
     told: AtomicU64,
-    /// How many characters stand on the line.
+    /// How many characters are on the line.
     width: AtomicU64,
 }
 
-/// How far a dump is read.
+/// How far a dump has been read.
 #[derive(Clone, Copy)]
 pub struct ReadSoFar<'a> {
     pub name: &'a str,
     /// From 1.
     pub number: usize,
-    /// How many of its bytes were read.
+    /// How many of its bytes have been read.
     pub bytes: u64,
-    /// How many bytes it has, where that is known.
+    /// Its size in bytes, if known.
     pub size: Option<u64>,
 }
 
 impl Board {
-    /// The board of so many dumps.
+    /// Makes the board of this many dumps.
     pub fn new(rt: &HostRuntime, files: usize, start: Instant) -> Board {
         Board {
             rt: *rt,
@@ -60,7 +60,7 @@ impl Board {
         }
     }
 
-    /// Adds what was read, and writes the line where the last one is old enough.
+    /// Adds what was read, and writes the line if the last one is old enough.
     pub fn add(&self, dump: ReadSoFar<'_>, bytes: u64) {
         self.bytes.fetch_add(bytes, Ordering::Relaxed);
         let Some(now) = self.millis() else {
@@ -73,7 +73,7 @@ impl Board {
         }
     }
 
-    /// Milliseconds from the start, where the clock tells.
+    /// Returns the milliseconds since the start, if the clock reports them.
     fn millis(&self) -> Option<u64> {
         let elapsed = self.start.elapsed(&self.rt).ok()?;
         let seconds = elapsed.as_secs().saturating_mul(1000);
@@ -92,7 +92,7 @@ impl Board {
         }
     }
 
-    /// Empties the line.
+    /// Clears the line.
     pub fn clear(&self) {
         let before = self.width.swap(0, Ordering::Relaxed);
         let mut line = String::new(self.rt.alloc());
@@ -108,7 +108,7 @@ impl Board {
         let files = self.files;
         let share = share_of(alloc, dump)?;
         let routes = self.routes.load(Ordering::Relaxed);
-        // Bytes in a microsecond are megabytes in a second.
+        // Bytes per microsecond are megabytes per second.
         let micros = millis.saturating_mul(1000).max(1);
         let speed = self.bytes.load(Ordering::Relaxed) / micros;
         format!(in alloc;
@@ -117,8 +117,8 @@ impl Board {
     }
 }
 
-/// The gate of the program. A board, if there is one, hears how many routes there are, as often as it shows them, and
-/// counts, if there are any, hear of units and faults.
+/// The gate of the program. A board, if there is one, is notified of the number of routes, as often as it shows it, and
+/// counts, if there are any, are notified of units and faults.
 #[derive(Clone, Copy)]
 pub struct Counter<'a> {
     pub board: Option<&'a Board>,
@@ -167,7 +167,7 @@ fn push_blanks(line: &mut String, count: u64) -> Result<(), AllocError> {
     Ok(())
 }
 
-/// The end of a name, as messages print it.
+/// Returns the end of a name, as messages print it.
 fn shown_name(alloc: Global, name: &str) -> Option<String> {
     let name = FileName(name);
     let whole = format!(in alloc; "{name}").ok()?;
@@ -183,7 +183,7 @@ fn shown_name(alloc: Global, name: &str) -> Option<String> {
     Some(shown)
 }
 
-/// How much of a dump is read: in percent where its size is known, else in megabytes.
+/// Returns how much of a dump has been read: in percent if its size is known, otherwise in megabytes.
 fn share_of(alloc: Global, dump: ReadSoFar<'_>) -> Option<String> {
     match dump.size {
         Some(size) if size > 0 => {

@@ -1,5 +1,5 @@
-//! What the program says on standard error. A line behind the first is indented by two spaces, and
-//! says which file and why. No failure to say it changes the status.
+//! What the program reports on standard error. Lines after the first are indented by two spaces, and
+//! say which file and why. A failure to write them doesn't change the status.
 
 use crate::counts::{Counts, FileCounts};
 use crate::input::{Dump, Input};
@@ -15,24 +15,24 @@ use std::time::Duration;
 /// Says why what has this name couldn't be used, in the system's words.
 fn tell_cause<N: Display + Drop>(rt: &HostRuntime, name: N, error: &io::Error) {
     if let Ok(text) = format!(in rt.alloc(); "{error}") {
-        // The number behind the system's words says nothing more.
+        // The number after the system's words adds nothing.
         let words = text.as_str().split(" (os error ").next().unwrap_or("");
         let _ = eprintln!(rt; "  {name}: {words}");
     }
 }
 
-/// Says that memory ran out, and while what.
+/// Reports that memory ran out, and during what.
 pub fn tell_memory(rt: &HostRuntime, during: &str) {
     let _ = eprintln!(rt; "no memory\n  the system refused memory while {during}");
 }
 
-/// Says that a file couldn't be opened.
+/// Reports that a file couldn't be opened.
 pub fn tell_open(rt: &HostRuntime, number: usize, name: &str, error: &io::Error) {
     let _ = eprintln!(rt; "open failed: file {number}");
     tell_cause(rt, FileName(name), error);
 }
 
-/// Says that standard output couldn't be written, but where its reader is gone, as `head` is after
+/// Reports that standard output couldn't be written, unless its reader is gone, as `head` is after
 /// some lines.
 pub fn tell_write(rt: &HostRuntime, error: Option<io::Error>) {
     match error {
@@ -47,8 +47,8 @@ pub fn tell_write(rt: &HostRuntime, error: Option<io::Error>) {
     }
 }
 
-/// Says that a file couldn't be read; where that is for want of memory for its block, that memory ran
-/// out.
+/// Reports that a file couldn't be read, or that memory ran out if the allocation of its block
+/// failed.
 fn tell_read(rt: &HostRuntime, file: usize, inputs: &[Input<'_>]) {
     let number = file.saturating_add(1);
     let dump = inputs.get(file).map(|input| input.device());
@@ -67,7 +67,7 @@ fn tell_read(rt: &HostRuntime, file: usize, inputs: &[Input<'_>]) {
     }
 }
 
-/// The command of a request.
+/// Returns the command of a request.
 fn command_of(request: &Request) -> &'static str {
     match request {
         Request::Tables => "tables",
@@ -79,7 +79,7 @@ fn command_of(request: &Request) -> &'static str {
     }
 }
 
-/// Says how a packed file is unpacked for a command.
+/// Reports how to unpack a packed file for a command.
 fn tell_unpacking(rt: &HostRuntime, command: &str, unpacker: &str, kind: Kind, name: &str) {
     let data = kind.name();
     let shown = FileName(name);
@@ -92,7 +92,7 @@ fn tell_unpacking(rt: &HostRuntime, command: &str, unpacker: &str, kind: Kind, n
     };
 }
 
-/// Says of each file that looks like no dump what it looks like.
+/// Reports, for each file that doesn't look like a dump, what it looks like.
 fn tell_kinds(rt: &HostRuntime, request: &Request, inputs: &[Input<'_>]) {
     for input in inputs {
         let dump = input.device();
@@ -111,7 +111,7 @@ fn tell_kinds(rt: &HostRuntime, request: &Request, inputs: &[Input<'_>]) {
     }
 }
 
-/// Says why the status isn't 0.
+/// Reports why the status isn't 0.
 pub fn tell(
     rt: &HostRuntime,
     outcome: &Result<Summary, ReplayError>,
@@ -140,7 +140,7 @@ pub fn tell(
     }
 }
 
-/// How many bytes were read of all files.
+/// Returns how many bytes were read from all files.
 fn all_bytes(inputs: &[Input<'_>]) -> u64 {
     inputs.iter().fold(
         0u64,
@@ -148,7 +148,7 @@ fn all_bytes(inputs: &[Input<'_>]) -> u64 {
     )
 }
 
-/// A number, or `-` where there is none.
+/// Reports a number, or `-` if there is none.
 fn tell_or_none(rt: &HostRuntime, number: usize, key: &str, value: Option<u64>) {
     let _ = match value {
         Some(value) => eprintln!(rt; "file {number} {key}: {value}"),
@@ -156,7 +156,7 @@ fn tell_or_none(rt: &HostRuntime, number: usize, key: &str, value: Option<u64>) 
     };
 }
 
-/// The records of a file, and those of them that aren't interpreted by type and subtype.
+/// Reports the records of a file, and those that aren't interpreted, by type and subtype.
 fn tell_records(rt: &HostRuntime, number: usize, records: &Records) {
     let count = records.count();
     let aside = records.aside();
@@ -175,7 +175,7 @@ fn tell_records(rt: &HostRuntime, number: usize, records: &Records) {
     tell_or_none(rt, number, "last", records.last().map(u64::from));
 }
 
-/// What was read of a file.
+/// Reports what was read from a file.
 fn tell_file(rt: &HostRuntime, number: usize, dump: &Dump<'_>) {
     let name = FileName(dump.name());
     let bytes = dump.bytes();
@@ -186,7 +186,7 @@ fn tell_file(rt: &HostRuntime, number: usize, dump: &Dump<'_>) {
     }
 }
 
-/// What the replay counted. A line `damaged: N` stands there already where there is damage.
+/// Reports what the replay counted. A line `damaged: N` is already there if there is damage.
 fn tell_counts(rt: &HostRuntime, summary: &Summary) {
     let Summary {
         records,
@@ -204,8 +204,8 @@ fn tell_counts(rt: &HostRuntime, summary: &Summary) {
     let _ = eprintln!(rt; "peers: {peers}\nroutes: {routes}\nrounds: {rounds}");
 }
 
-/// The most memory that the process had at once, in kibibytes, where the system has a file that tells
-/// it, as Linux does.
+/// Returns the process's peak memory, in kibibytes, if the system has a file that reports it, as Linux
+/// does.
 fn peak_memory(rt: &HostRuntime) -> Option<u64> {
     let text = std::fs::read_to_string(rt, "/proc/self/status").ok()?;
     for line in text.as_str().lines() {
@@ -217,7 +217,7 @@ fn peak_memory(rt: &HostRuntime) -> Option<u64> {
     None
 }
 
-/// Units and faults of a file. They are known after a whole run.
+/// Reports the units and faults of a file. They are known after a complete run.
 fn tell_units(rt: &HostRuntime, number: usize, counts: &FileCounts) {
     let units = counts.units();
     let refused = counts.refused();
@@ -227,8 +227,8 @@ fn tell_units(rt: &HostRuntime, number: usize, counts: &FileCounts) {
     );
 }
 
-/// Says what was read, in lines of a key and a value. What is said of a file has its number in the
-/// key.
+/// Reports what was read, in lines of a key and a value. The key of a line about a file contains the file's
+/// number.
 pub fn tell_summary(
     rt: &HostRuntime,
     outcome: &Result<Summary, ReplayError>,

@@ -8,8 +8,8 @@ ghost use Rattle.bgp_update.specs.Attributes.{ReadsAsRoute, route_in};
 ghost use Rattle.bgp_update.specs.Paths.{PathSegment, IsMerged, merged};
 ghost use Rattle.bgp_update.specs.Updates.{ReadsAsUpdate, update_in};
 
-/// Bytes read as an UPDATE exactly where they are its fields, one after the other, and it is what
-/// those say; as a route exactly where they are attributes that say it. They read in no other way.
+/// Bytes read as an UPDATE exactly if they are its fields in turn, and it is what those fields
+/// say; as a route exactly if they are attributes that say it. They read in no other way.
 pub fn updates_agree_with_their_forms()
     ensures updates { (width : Width) (add_path : Bool) (body : List ℕ) (update : Update) → AreBytes body →
         (update_in width add_path body ≡ Ok update) ↔ ReadsAsUpdate width add_path body update }
@@ -21,7 +21,7 @@ pub fn updates_agree_with_their_forms()
         ReadsAsRoute width bytes route → ReadsAsRoute width bytes other → route ≡ other }
 {}
 
-/// Two paths have one merged path, and that is what `merged` gives (RFC 6793, 4.2.3).
+/// Two paths have one merged path, and that is what `merged` yields (RFC 6793, 4.2.3).
 pub fn merging_is_unique()
     ensures merged { (path as4 result : List PathSegment) → (result ≡ merged path as4) ↔ IsMerged path as4 result }
     ensures only { (path as4 result other : List PathSegment) →

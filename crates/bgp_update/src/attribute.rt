@@ -1,4 +1,4 @@
-//! Path attributes, one after the other.
+//! Path attributes, one by one.
 
 ghost use Rattle.std.specs.Prelude.{◌≡◌, ℕ, ◌≤◌, ◌<◌, Bool, true, IsTrue, List, Ok, Err, IfOk, IfErr, length};
 ghost use Rattle.mrt_frame.specs.declared.fault.Fault.TheVariants.{ShortAttribute};
@@ -18,7 +18,7 @@ use crate::width::{Carrier, Width};
 use byteorder::{BigEndian, ByteOrder};
 use mrt_frame::{Fault, byte_at, bytes_at, u16_at};
 
-/// An attribute as it stands in a field.
+/// A path attribute as it appears in a field.
 #[derive(Drop)]
 pub struct Attribute<'a> {
     pub flags: u8,
@@ -26,7 +26,7 @@ pub struct Attribute<'a> {
     pub value: &'a [u8],
 }
 
-/// The length of a value, in two bytes where the flag Extended Length is set.
+/// Reads the length of a value, in two bytes if the flag Extended Length is set.
 fn value_len_at(flags: u8, bytes: &[u8]) -> Result<(usize, &[u8]), Fault>
     ensures { Reads (λ x. (x.0, x.1.now)) result (fields.number_at ShortAttribute (length_len flags) bytes.now) }
 {
@@ -38,7 +38,7 @@ fn value_len_at(flags: u8, bytes: &[u8]) -> Result<(usize, &[u8]), Fault>
     Ok((len as usize, rest))
 }
 
-/// An attribute, and the bytes after it.
+/// Reads an attribute, and returns it with the bytes after it.
 #[tactic(auto, unfolding(crate::specs::Attributes::attribute_at))]
 pub fn attribute_at(bytes: &[u8]) -> Result<(Attribute<'_>, &[u8]), Fault>
     ensures { Reads (λ x. (record { flags = x.0.flags; code = x.0.code; value = x.0.value.now }, x.1.now)) result (attributes.attribute_at bytes.now) }
@@ -64,7 +64,7 @@ pub fn origin_of(value: &[u8]) -> Option<Origin>
     }
 }
 
-/// AGGREGATOR, read by its length.
+/// Reads AGGREGATOR, according to its length.
 pub fn aggregator_of(value: &[u8]) -> Option<Aggregator>
     ensures { result ≡ merging.aggregator_of value.now }
 {
@@ -77,7 +77,7 @@ pub fn aggregator_of(value: &[u8]) -> Option<Aggregator>
     }
 }
 
-/// AS4_AGGREGATOR. One of another length is discarded.
+/// Reads AS4_AGGREGATOR. One of any other length is discarded.
 pub fn as4_aggregator_of(value: &[u8]) -> Option<Aggregator>
     ensures { result ≡ merging.as4_aggregator_of value.now }
 {
@@ -95,7 +95,7 @@ fn fault_unless(is_formed: bool, fault: Fault) -> Option<Fault>
     if is_formed { None } else { Some(fault) }
 }
 
-/// The fault of a field of keys.
+/// Returns the fault of a field of keys.
 #[tactic(auto, using(crate::proofs::Counts::counted_fault), unfolding(crate::specs::Keys::key_count_in))]
 fn keys_fault(bytes: &[u8], add_path: bool) -> Option<Fault>
     ensures { result ≡ fault_of (keys_in add_path bytes.now) }
@@ -103,7 +103,7 @@ fn keys_fault(bytes: &[u8], add_path: bool) -> Option<Fault>
     key_count(bytes, add_path).err()
 }
 
-/// The fault of AS_PATH.
+/// Returns the fault of AS_PATH.
 #[tactic(auto, using(crate::proofs::Counts::counted_fault), unfolding(crate::specs::Segments::segment_count_in))]
 fn path_fault(value: &[u8], width: Width) -> Option<Fault>
     ensures { result ≡ fault_of (path_in (number_len width) value.now) }
@@ -111,7 +111,7 @@ fn path_fault(value: &[u8], width: Width) -> Option<Fault>
     segment_count(value, width).err()
 }
 
-/// The fault of attribute 14.
+/// Returns the fault of attribute 14.
 #[tactic(auto, using(crate::proofs::Counts::fault_of_mapped))]
 fn reached_fault(carrier: Carrier, value: &[u8]) -> Option<Fault>
     ensures { result ≡ attributes.reached_fault carrier value.now }
@@ -126,7 +126,7 @@ fn reached_fault(carrier: Carrier, value: &[u8]) -> Option<Fault>
     }
 }
 
-/// The fault of attribute 15.
+/// Returns the fault of attribute 15.
 fn unreached_fault(carrier: Carrier, value: &[u8]) -> Option<Fault>
     ensures { result ≡ attributes.unreached_fault carrier value.now }
 {
@@ -140,7 +140,7 @@ fn unreached_fault(carrier: Carrier, value: &[u8]) -> Option<Fault>
     }
 }
 
-/// What is wrong with the value of an attribute of this type.
+/// Returns what is wrong with the value of an attribute of this type.
 #[tactic(auto, unfolding(crate::specs::Attributes::value_fault))]
 pub fn value_fault(carrier: Carrier, width: Width, code: u8, value: &[u8]) -> Option<Fault>
     ensures { result ≡ attributes.value_fault carrier width code value.now }

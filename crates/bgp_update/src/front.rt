@@ -1,9 +1,9 @@
-//! Bytes in front of a number.
+//! The leading bytes of a number.
 
 ghost use Rattle.std.specs.Prelude.{◌≡◌, ℕ, ◌≤◌, length};
 ghost use Rattle.byteorder.specs.Endian.{big_number};
 
-/// The number that up to four bytes begin.
+/// Returns the number whose leading bytes these are, at most four.
 #[inline]
 pub fn front_number(octets: &[u8]) -> u32
     requires { length octets.now ≤ 4 }

@@ -1,4 +1,4 @@
-//! Keys in messages: prefixes, each with a path identifier before it where ADD-PATH is in force.
+//! Keys in messages: prefixes, each preceded by a path identifier if ADD-PATH is in force.
 
 ghost use Rattle.std.specs.Prelude.{◌≡◌, ℕ, ◌≤◌, length, Ok, Some, OnOk, IfErr};
 ghost use Rattle.std.specs.Int.{div_ceil};
@@ -24,7 +24,7 @@ fn octets_at(len: u8, bytes: &[u8]) -> Result<(&[u8], &[u8]), Fault>
     bytes_at(bytes, len.div_ceil(8) as usize, Fault::BadPrefix)
 }
 
-/// The prefix of this length, at most 32, whose first bytes these are.
+/// Returns the prefix of this length, at most 32, whose first bytes these are.
 #[inline]
 fn prefix_of(len: u8, octets: &[u8]) -> Option<Prefix>
     requires { length octets.now ≤ 4 }
@@ -33,9 +33,9 @@ fn prefix_of(len: u8, octets: &[u8]) -> Option<Prefix>
     Prefix::new(front_number(octets), len)
 }
 
-/// The prefix of this length in bits that the bytes begin with, and the bytes after it (RFC 4271,
-/// 4.3). Bits past the length may be anything, and are put to 0. `BadPrefix` where the length is over
-/// 32, or fewer bytes are left than hold so many bits.
+/// Reads the prefix of this length in bits at the start of the bytes, and returns it with the bytes after it (RFC 4271,
+/// 4.3). Bits past the length may be anything, and are set to 0. `BadPrefix` if the length is over
+/// 32, or if fewer bytes are left than hold that many bits.
 #[inline]
 pub fn prefix_at(len: u8, bytes: &[u8]) -> Result<(Prefix, &[u8]), Fault>
     ensures { Reads (λ x. (x.0, x.1.now)) result (keys_spec.prefix_at len bytes.now) }
@@ -45,7 +45,7 @@ pub fn prefix_at(len: u8, bytes: &[u8]) -> Result<(Prefix, &[u8]), Fault>
     Ok((prefix, rest))
 }
 
-/// A key, and the bytes after it.
+/// Reads a key, and returns it with the bytes after it.
 #[tactic(auto, using(crate::proofs::KeyParts::key_parts))]
 #[inline]
 pub fn key_at(bytes: &[u8], add_path: bool) -> Result<(RouteKey, &[u8]), Fault>
@@ -81,7 +81,7 @@ pub fn key_count(bytes: &[u8], add_path: bool) -> Result<usize, Fault>
     Ok(count)
 }
 
-/// These keys, and then those of a field.
+/// Returns these keys, followed by those of a field.
 pub fn with_keys(
     keys: Vec<RouteKey>,
     bytes: &[u8],
@@ -103,7 +103,7 @@ pub fn with_keys(
     Ok(keys)
 }
 
-/// The keys of a field.
+/// Reads the keys of a field.
 pub fn read_keys(alloc: Global, bytes: &[u8], add_path: bool) -> Result<Vec<RouteKey>, AttrError>
     ensures { Gives (λ v. v.items) result (route_keys_in add_path bytes.now) }
 {

@@ -1,4 +1,4 @@
-//! MP_REACH_NLRI and MP_UNREACH_NLRI, read for IPv4 unicast alone.
+//! MP_REACH_NLRI and MP_UNREACH_NLRI, read for IPv4 unicast only.
 
 ghost use Rattle.std.specs.Prelude.{◌≡◌, ℕ, ◌≤◌, ◌++◌, List, Option, Some, Ok, IsTrue, IfOk, length, option_map};
 ghost use Rattle.mrt_frame.specs.Fields.{Reads};
@@ -23,7 +23,7 @@ fn is_ipv4_unicast(value: &[u8]) -> bool
     BigEndian::read_u16(value) == 1 && value[2] == 1
 }
 
-/// The next hop of these bytes.
+/// Returns the next hop that these bytes encode.
 #[tactic(auto, unfolding(crate::specs::Multiprotocol::next_hop_of))]
 fn next_hop_of(hop: &[u8]) -> NextHop
     requires { IsTrue (is_hop_len (length hop.now)) }
@@ -38,7 +38,7 @@ fn next_hop_of(hop: &[u8]) -> NextHop
     }
 }
 
-/// A next hop behind its length, and behind a reserved byte the field of the keys.
+/// Reads a next hop after its length and, after a reserved byte, the field of the keys.
 #[tactic(auto, unfolding(crate::specs::Multiprotocol::reach_at))]
 fn reach_at(bytes: &[u8]) -> Result<(NextHop, &[u8]), Fault>
     ensures { Reads (λ x. (x.0, x.1.now)) result (multiprotocol.reach_at bytes.now) }
@@ -52,7 +52,7 @@ fn reach_at(bytes: &[u8]) -> Result<(NextHop, &[u8]), Fault>
     Ok((next_hop_of(hop), keys))
 }
 
-/// The next hop and the field of keys of an attribute 14; none for another family.
+/// Returns the next hop and the field of keys of an attribute 14; none for another family.
 #[tactic(auto, unfolding(crate::specs::Multiprotocol::reach_in))]
 pub fn reach_in(value: &[u8]) -> Result<Option<(NextHop, &[u8])>, Fault>
     ensures { Reads (λ o. option_map (λ r. (r.0, r.1.now)) o) result (multiprotocol.reach_in value.now) }
@@ -67,7 +67,7 @@ pub fn reach_in(value: &[u8]) -> Result<Option<(NextHop, &[u8])>, Fault>
     Ok(Some(reach))
 }
 
-/// The field of keys of an attribute 15; none for another family.
+/// Returns the field of keys of an attribute 15; none for another family.
 #[tactic(auto, unfolding(crate::specs::Multiprotocol::unreach_in))]
 pub fn unreach_in(value: &[u8]) -> Result<Option<&[u8]>, Fault>
     ensures { Reads (λ o. option_map (λ r. r.now) o) result (multiprotocol.unreach_in value.now) }
@@ -96,7 +96,7 @@ fn whole_reach(
     }
 }
 
-/// The next hop and the keys that a value of attribute 14 spells.
+/// Returns the next hop and the keys that a value of attribute 14 encodes.
 fn read_reach(
     alloc: Global,
     value: &[u8],
@@ -109,7 +109,7 @@ fn read_reach(
     whole_reach(alloc, value, add_path)
 }
 
-/// The next hop and the keys that attribute 14 says, where it is there.
+/// Returns the next hop and the keys in attribute 14, if it is present.
 #[tactic(auto, unfolding(crate::specs::Multiprotocol::reached_keys))]
 pub fn reached(
     alloc: Global,
@@ -139,7 +139,7 @@ fn with_whole_unreach(
     }
 }
 
-/// These keys, and then those that a value of attribute 15 spells.
+/// Returns these keys, followed by those that a value of attribute 15 encodes.
 fn with_unreach(
     keys: Vec<RouteKey>,
     value: &[u8],
@@ -152,7 +152,7 @@ fn with_unreach(
     with_whole_unreach(keys, value, add_path)
 }
 
-/// These keys, and then those that attribute 15 says, where it is there.
+/// Returns these keys, followed by those in attribute 15, if it is present.
 #[tactic(auto, unfolding(crate::specs::Multiprotocol::unreached_keys))]
 pub fn with_unreached(
     keys: Vec<RouteKey>,

@@ -4,7 +4,7 @@ ghost use Rattle.bgp_update.specs.PathEquality.{list_eq, segment_eq};
 
 use crate::path::AsPath;
 
-/// Whether both paths are absent, or both are there and equal.
+/// Whether both paths are absent, or both are present and equal.
 pub(crate) fn is_same_path(one: &Option<AsPath>, other: &Option<AsPath>) -> bool
     ensures { result ≡ option_eq (list_eq segment_eq) one.now other.now }
 {

@@ -1,4 +1,4 @@
-//! Segments of a path as bytes.
+//! AS path segments as bytes.
 
 ghost use Rattle.std.specs.Prelude.{◌≡◌, ℕ, ◌≤◌, ◌*◌, List, length, drop, Ok, IfOk};
 ghost use Rattle.byteorder.specs.Endian.{big_number};
@@ -16,7 +16,7 @@ use mrt_frame::{Fault, byte_at, bytes_at};
 use smallvec::SmallVec;
 use std::alloc::Global;
 
-/// A segment whose numbers are still bytes.
+/// An AS path segment whose numbers are still bytes.
 #[derive(Drop)]
 struct SegmentField<'a> {
     kind: SegmentKind,
@@ -64,7 +64,7 @@ fn segment_field_at(bytes: &[u8], width: Width) -> Result<(SegmentField<'_>, &[u
     Ok((field, rest))
 }
 
-/// An AS number, and the bytes after it.
+/// Reads an AS number, and returns it with the bytes after it.
 #[inline]
 fn number_at(bytes: &[u8], width: Width) -> (u32, &[u8])
     requires { number_len width ≤ length bytes.now }
@@ -77,7 +77,7 @@ fn number_at(bytes: &[u8], width: Width) -> (u32, &[u8])
     }
 }
 
-/// So many AS numbers.
+/// Reads this many AS numbers.
 fn numbers_of(
     alloc: Global,
     count: u8,
@@ -97,7 +97,7 @@ fn numbers_of(
     Ok(numbers)
 }
 
-/// A segment, and the bytes after it.
+/// Reads an AS path segment, and returns it with the bytes after it.
 #[tactic(auto, unfolding(crate::specs::Segments::segment_at))]
 fn segment_at(alloc: Global, bytes: &[u8], width: Width) -> Result<(Segment, &[u8]), AttrError>
     ensures { Gives (λ x. (x.0, x.1.now)) result (segments_spec.segment_at (number_len width) bytes.now) }
@@ -111,7 +111,7 @@ fn segment_at(alloc: Global, bytes: &[u8], width: Width) -> Result<(Segment, &[u
     }
 }
 
-/// How many segments the bytes spell.
+/// How many segments the bytes encode.
 pub fn segment_count(bytes: &[u8], width: Width) -> Result<usize, Fault>
     ensures { Reads (λ n. n) result (segment_count_in (number_len width) bytes.now) }
 {
@@ -142,7 +142,7 @@ fn whole_path(alloc: Global, bytes: &[u8], width: Width) -> Result<AsPath, AttrE
     Ok(AsPath::of_segments(segments))
 }
 
-/// The path that the bytes spell.
+/// Returns the path that the bytes encode.
 pub fn read_path(alloc: Global, bytes: &[u8], width: Width) -> Result<AsPath, AttrError>
     ensures found { IfOk result (λ path. IsPath (number_len width) path × (bytes.now ≡ path_bytes (number_len width) path)) }
     ensures only { (path : List PathSegment) → IsPath (number_len width) path → bytes.now ≡ path_bytes (number_len width) path → Gives (λ p. p) result (Ok path) }

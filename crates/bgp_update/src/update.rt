@@ -44,7 +44,7 @@ fn fields_in(body: &[u8]) -> Result<UpdateFields<'_>, Fault>
     })
 }
 
-/// The update of these keys and of what the attributes say.
+/// Returns the update of these keys and of what the attributes say.
 #[tactic(auto, unfolding(crate::specs::Updates::said_update))]
 fn update_from(
     alloc: Global,
@@ -93,12 +93,12 @@ fn whole_route(alloc: Global, bytes: &[u8], width: Width) -> Result<Route, AttrE
     Ok(route)
 }
 
-/// The route that the attributes of a RIB entry spell (RFC 6396, 4.3.4). MP_REACH_NLRI and
+/// Reads the route that the attributes of a RIB entry encode (RFC 6396, 4.3.4). MP_REACH_NLRI and
 /// MP_UNREACH_NLRI are skipped. `Bad` has the first fault from left to right.
 pub fn read_attrs(alloc: Global, bytes: &[u8], width: Width) -> Result<Route, AttrError>
-    // What is read is spelled so.
+    // What is read is encoded in this way.
     ensures found { IfOk result (ReadsAsRoute width bytes.now) }
-    // What is spelled so is read, unless memory runs out.
+    // What is encoded in this way is read, unless memory runs out.
     ensures only { (route : Route) → ReadsAsRoute width bytes.now route → Gives (λ r. r) result (Ok route) }
     // Which fault it is.
     ensures exact { Gives (λ r. r) result (route_in width bytes.now) }
@@ -106,8 +106,8 @@ pub fn read_attrs(alloc: Global, bytes: &[u8], width: Width) -> Result<Route, At
     whole_route(alloc, bytes, width)
 }
 
-/// The UPDATE that the bytes after a message header spell (RFC 4271, 4.3), with a path identifier
-/// before each prefix where `add_path` is set (RFC 7911, 3). `Bad` has the first fault from left to
+/// Reads the UPDATE that the bytes after a message header encode (RFC 4271, 4.3), with a path identifier
+/// before each prefix if `add_path` is set (RFC 7911, 3). `Bad` has the first fault from left to
 /// right, and the message is then no UPDATE at all: none of it may be used.
 pub fn read_update(
     alloc: Global,

@@ -1,9 +1,9 @@
-//! IPv4 addresses in words.
+//! IPv4 addresses as text.
 
 ghost use Rattle.std.specs.Prelude.{◌≡◌, ◌+◌, ◌<◌, ◌≤◌, ◌∷◌, [], ℕ, List, IfSome, IfNone, position, ◌==◌};
 ghost use Rattle.command_line.specs.Addresses.{IsOctet, IsNoOctet, StartsWithOctet, IsAddress, IsNoAddress};
 
-/// The number of a digit that is not below another one.
+/// Returns the value of a digit that is at least `least`.
 fn digit(byte: u8, least: u8) -> Option<u8>
     requires { 48 ≤ least }
     ensures some { IfSome result (λ n. (byte ≡ 48 + n) × (least ≤ byte) × (n < 10)) }
@@ -47,7 +47,7 @@ fn three_digits(hundreds: u8, tens: u8, ones: u8) -> Option<u8>
     }
 }
 
-/// The number of an octet in decimal: 0 to 255, without a sign and, but for 0 itself, without a
+/// Returns the value of a decimal octet: 0 to 255, without a sign and, except for 0 itself, without a
 /// leading zero.
 fn octet(text: &[u8]) -> Option<u8>
     ensures some { IfSome result (IsOctet text.now) }
@@ -61,14 +61,14 @@ fn octet(text: &[u8]) -> Option<u8>
     }
 }
 
-/// Where the first point stands.
+/// Returns the position of the first point.
 fn first_point(text: &[u8]) -> Option<usize>
     ensures { result ≡ position (λ byte. byte == 46) text.now }
 {
     text.iter().position(|byte| *byte == b'.')
 }
 
-/// The octet before the first point, and the text after it.
+/// Returns the octet before the first point, and the text after it.
 fn octet_and_rest(text: &[u8]) -> Option<(u8, &[u8])>
     ensures some { IfSome result (λ r. StartsWithOctet text.now r.0 r.1.now) }
     ensures rest { IfSome result (λ r. (n : ℕ) (rest : List ℕ) → StartsWithOctet text.now n rest → rest ≡ r.1.now) }
@@ -79,8 +79,8 @@ fn octet_and_rest(text: &[u8]) -> Option<(u8, &[u8])>
     Some((number, &text[point + 1..]))
 }
 
-/// The number of an IPv4 address: four decimal numbers of 0 to 255 joined by points, without a sign
-/// and, but for 0 itself, without a leading zero. `None` for every other text.
+/// Returns the value of an IPv4 address: four decimal numbers of 0 to 255 joined by points, without a sign
+/// and, except for 0 itself, without a leading zero. Returns `None` for any other text.
 pub fn read_address(text: &str) -> Option<u32>
     ensures some { IfSome result (IsAddress text.now) }
     ensures none { IfNone result (IsNoAddress text.now) }

@@ -174,7 +174,7 @@ fn address_option<'a>(alloc: Global) -> Arg<'a> {
         .help("An IPv4 address, such as 192.0.2.1")
 }
 
-/// What may stand behind a command.
+/// What may follow a command.
 #[derive(Clone, Copy, PartialEq, Eq)]
 enum Argument {
     Workers,
@@ -187,7 +187,7 @@ enum Argument {
     Address,
 }
 
-/// All of them, in the order of the help.
+/// All of them, in the order in which the help lists them.
 const ARGUMENTS: [Argument; 8] = [
     Argument::Workers,
     Argument::Ring,
@@ -212,7 +212,7 @@ fn described<'a>(alloc: Global, argument: Argument) -> Arg<'a> {
     }
 }
 
-/// The reports: the command, what it prints, and what its help says behind the options.
+/// The reports: the command, what it prints, and what its help says after the options.
 const REPORTS: [(&str, &str, &str); 6] = [
     ("tables", "Print every route of every peer", TABLES_AFTER),
     (
@@ -272,7 +272,7 @@ fn program<'a>(alloc: Global) -> Result<Command<'a>, AllocError> {
         .bin_name("bgp_replay")
 }
 
-/// The command line of the program.
+/// Returns the command line of the program.
 pub fn command<'a>(alloc: Global) -> Result<Command<'a>, AllocError> {
     let mut whole = program(alloc)?;
     for (name, about, after) in REPORTS {

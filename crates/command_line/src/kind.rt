@@ -1,11 +1,11 @@
-//! What a file is that is no MRT dump, by its first bytes.
+//! What a file that is not an MRT dump is, judged by its first bytes.
 
 ghost use Rattle.std.specs.Prelude.{◌≤◌};
 
-/// How many first bytes are looked at.
+/// How many of the first bytes are examined.
 const LOOKED_AT: usize = 8;
 
-/// A kind of data that is taken for a dump by mistake.
+/// A kind of data that is mistaken for a dump.
 #[derive(Clone, Copy, Debug, PartialEq, Eq)]
 pub enum Kind {
     Gzip,
@@ -29,7 +29,7 @@ impl Kind {
         }
     }
 
-    /// The command that unpacks it, where it is a packed file.
+    /// The command that unpacks it, if it is a packed file.
     pub fn unpacker(self) -> Option<&'static str> {
         match self {
             Kind::Gzip => Some("zcat"),
@@ -41,7 +41,7 @@ impl Kind {
     }
 }
 
-/// The first bytes of a file, as far as they were read.
+/// The first bytes of a file, as far as they have been read.
 #[derive(Clone, Copy)]
 pub struct FirstBytes {
     bytes: [u8; LOOKED_AT],
@@ -68,7 +68,7 @@ impl FirstBytes {
         }
     }
 
-    /// What they look like, where that is no MRT dump: of a dump, the first four bytes are a second of
+    /// Returns what they look like, if that is not an MRT dump: in a dump, the first four bytes are a second of
     /// its time, and the fifth is 0.
     pub fn kind(&self) -> Option<Kind> {
         match &self.bytes[..self.len] {

@@ -1,4 +1,4 @@
-//! What the command line asks for, and the names by which the program tells of files and records.
+//! What the command line asks for, and the names that the program uses for files and records in messages.
 #![tactic(auto)]
 
 mod address;

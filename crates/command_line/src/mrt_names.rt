@@ -20,7 +20,7 @@ pub struct RecordKind {
 }
 
 impl RecordKind {
-    /// The type and the subtype that a header names.
+    /// Returns the type and the subtype that a header names.
     pub fn of(header: Header) -> RecordKind {
         RecordKind {
             kind: header.kind,
@@ -33,7 +33,7 @@ impl RecordKind {
         content_of(self.kind, self.subtype) == Content::Aside
     }
 
-    /// The name of the type, where it has one.
+    /// The name of the type, if it has one.
     fn type_name(self) -> Option<&'static str> {
         let name = match self.kind {
             0 => "NULL",
@@ -61,7 +61,7 @@ impl RecordKind {
         Some(name)
     }
 
-    /// The name of the subtype, where it has one.
+    /// The name of the subtype, if it has one.
     fn subtype_name(self) -> Option<&'static str> {
         match self.kind {
             TABLE_DUMP => afi_name(self.subtype),
@@ -122,7 +122,7 @@ fn message_name(subtype: u16) -> Option<&'static str> {
 }
 
 impl fmt::Display for RecordKind {
-    /// The names of the type and of the subtype, split by a blank; a number where there is no name.
+    /// Writes the names of the type and the subtype, separated by a blank; a number where there is no name.
     fn fmt<W: fmt::Write>(&self, f: &mut fmt::Formatter<W>) -> fmt::Result {
         let kind = self.kind;
         let subtype = self.subtype;

@@ -2,7 +2,7 @@
 
 use std::fmt;
 
-/// A file's name in a message: as it stands where it is printable ASCII without blanks and quotes, else
+/// A file's name in a message: unchanged if it is printable ASCII without blanks and quotes, otherwise
 /// in quotes, with what can't be printed escaped. `-` is standard input.
 #[derive(Clone, Copy)]
 pub struct FileName<'a>(pub &'a str);

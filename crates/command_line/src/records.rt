@@ -1,5 +1,5 @@
-//! The records of a dump, counted by their headers while its bytes pass by. The replay doesn't depend
-//! on it, nor it on the replay.
+//! The records of a dump, counted by their headers as its bytes pass by. The replay doesn't depend
+//! on this count, and this count doesn't depend on the replay.
 
 ghost use Rattle.std.specs.Prelude.{◌<◌, ◌≤◌};
 
@@ -10,10 +10,10 @@ use std::alloc::Global;
 /// How many bytes a header has.
 const HEADER_SIZE: usize = mrt_frame::HEADER_SIZE as usize;
 
-/// How many kinds of records are told apart, of those that are aside.
+/// How many kinds of records that are set aside are counted separately.
 const MOST_KINDS: usize = 64;
 
-/// How many records of a kind are aside.
+/// How many records of a kind are set aside.
 #[derive(Clone, Copy, Debug, PartialEq, Eq)]
 pub struct Aside {
     pub kind: RecordKind,
@@ -23,7 +23,7 @@ pub struct Aside {
 /// What was counted of a dump.
 #[derive(Drop)]
 pub struct Records {
-    /// The first bytes of a header, and how many came.
+    /// The first bytes of a header, and how many have arrived.
     header: [u8; HEADER_SIZE],
     filled: usize,
     /// The last whole one.
@@ -63,7 +63,7 @@ impl Records {
         }
     }
 
-    /// How many whole records there were.
+    /// The number of whole records.
     pub fn count(&self) -> u64 {
         self.count
     }
@@ -73,12 +73,12 @@ impl Records {
         self.aside
     }
 
-    /// These by type and subtype, in the order in which they came first: at most 64 kinds.
+    /// These by type and subtype, in the order they first appear: at most 64 kinds.
     pub fn kinds(&self) -> &[Aside] {
         self.kinds.as_slice()
     }
 
-    /// How many bytes the whole records have.
+    /// The number of bytes in the whole records.
     pub fn whole_bytes(&self) -> u64 {
         self.whole_bytes
     }
@@ -103,7 +103,7 @@ impl Records {
 
     /// Takes the next bytes of the dump.
     pub fn take(&mut self, bytes: &[u8]) {
-        // Mostly they are a whole body or a whole header, since these are read one after the other.
+        // Usually they are a whole body or a whole header, since these are read in turn.
         if self.left > 0 {
             if bytes.len() == self.left as usize {
                 self.left = 0;
@@ -121,7 +121,7 @@ impl Records {
 
     fn take_parts(&mut self, bytes: &[u8]) {
         let mut rest = bytes;
-        // Each step takes a byte at least.
+        // Each step takes at least one byte.
         for _ in 0..bytes.len() {
             if rest.is_empty() || self.is_cut_off {
                 return;
@@ -134,7 +134,7 @@ impl Records {
         }
     }
 
-    /// Takes what belongs to the body, and gives what stands behind it.
+    /// Takes what belongs to the body, and returns what follows it.
     fn take_body<'b>(&mut self, bytes: &'b [u8]) -> &'b [u8] {
         let count = bytes.len().min(self.left as usize);
         self.left -= count as u32;
@@ -144,7 +144,7 @@ impl Records {
         &bytes[count..]
     }
 
-    /// Takes what belongs to the header, and gives what stands behind it.
+    /// Takes what belongs to the header, and returns what follows it.
     fn take_header<'b>(&mut self, bytes: &'b [u8]) -> &'b [u8] {
         let count = bytes.len().min(HEADER_SIZE - self.filled);
         let end = self.filled + count;
@@ -158,7 +158,7 @@ impl Records {
         &bytes[count..]
     }
 
-    /// Takes the header, which is whole.
+    /// Processes the header, which is whole.
     fn begin(&mut self) {
         let header = Header::parse(&self.header);
         self.last_header = header;
@@ -171,7 +171,7 @@ impl Records {
         }
     }
 
-    /// Counts a record whose body came to its end.
+    /// Counts a record whose body is complete.
     fn end(&mut self) {
         let header = self.last_header;
         let bytes = HEADER_SIZE as u64 + u64::from(header.length);

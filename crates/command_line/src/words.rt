@@ -1,4 +1,4 @@
-//! The words of the command line.
+//! The command-line arguments.
 
 ghost use Rattle.std.specs.Prelude.{◌≡◌, ◌<◌, ◌≤◌, IfErr, IfOk, vec_len};
 ghost use Rattle.command_line.specs.Addresses.{IsAddress};
@@ -17,13 +17,13 @@ static WORKERS_DEFAULT: usize = 4;
 
 static RING_DEFAULT: usize = 1024;
 
-/// What the words ask for.
+/// What the arguments ask for.
 #[derive(Drop)]
 pub struct Job {
     pub request: Request,
-    /// 1 to 64; 4 where the words leave it open.
+    /// 1 to 64; 4 if the arguments don't say.
     pub workers: usize,
-    /// Whether the words say how many workers.
+    /// Whether the arguments give the number of workers.
     pub has_workers: bool,
     /// 1 to 65,536.
     pub ring: usize,
@@ -31,9 +31,9 @@ pub struct Job {
     pub until: Option<u64>,
     /// Whether the columns' names come first.
     pub header: bool,
-    /// Whether standard error says what was read.
+    /// Whether a summary of what was read goes to standard error.
     pub summary: bool,
-    /// Whether standard error shows how far the reading is.
+    /// Whether standard error shows the reading progress.
     pub progress: bool,
     /// At least one; `-` is standard input.
     pub files: Vec<String>,
@@ -49,7 +49,7 @@ pub enum Usage {
     Help(String),
     /// Bad arguments: why, for standard error.
     Words(String),
-    /// The word for an address is none.
+    /// The argument given as an address is not one.
     Address(String),
     /// An allocation failed.
     Memory,
@@ -71,7 +71,7 @@ impl<T: Drop> From<AllocFailed<T>> for Usage {
     }
 }
 
-/// The number of the address that the words name.
+/// Returns the value of the address that the arguments name.
 fn address_of(alloc: Global, text: &str) -> Result<u32, Usage>
     ensures number { IfOk result (IsAddress text.now) }
     ensures refusal { IfErr result IsRefusal }
@@ -82,7 +82,7 @@ fn address_of(alloc: Global, text: &str) -> Result<u32, Usage>
     }
 }
 
-/// The report of a command's name.
+/// Returns the report that a command's name asks for.
 fn request_of(alloc: Global, name: &str, matches: &ArgMatches<'_>) -> Result<Request, Usage>
     ensures { IfErr result IsRefusal }
 {
@@ -99,14 +99,14 @@ fn request_of(alloc: Global, name: &str, matches: &ArgMatches<'_>) -> Result<Req
     }
 }
 
-/// Words that the parser lets through and no job has.
+/// Refuses arguments that the parser accepts but that no job has.
 fn refused(alloc: Global, text: &str) -> Result<Job, Usage>
     ensures { IfErr result IsRefusal }
 {
     Err(Usage::Words(String::from_str(alloc, text)?))
 }
 
-/// The second that `--until` names, where it is given.
+/// Returns the second that `--until` names, if it is given.
 fn until_of(alloc: Global, matches: &ArgMatches<'_>) -> Result<Option<u64>, Usage>
     ensures { IfErr result IsRefusal }
 {
@@ -164,7 +164,7 @@ fn job_of(alloc: Global, name: &str, matches: &ArgMatches<'_>) -> Result<Job, Us
     })
 }
 
-/// What a refused parse, or one that asks for help, is to the caller.
+/// Converts a refused parse, or one that asks for help, for the caller.
 fn usage_of(alloc: Global, error: &Error) -> Usage
     ensures { IsRefusal result }
 {
@@ -178,8 +178,8 @@ fn usage_of(alloc: Global, error: &Error) -> Usage
     }
 }
 
-/// The job that the words after the program's name ask for. A parse that is refused is told before
-/// the address is looked at.
+/// Returns the job that the arguments after the program's name ask for. A refused parse is reported before
+/// the address is examined.
 pub fn read_words(alloc: Global, words: &[String]) -> Result<Job, Usage>
     ensures { IfErr result IsRefusal }
 {

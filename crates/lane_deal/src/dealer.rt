@@ -21,7 +21,7 @@ use mrt_frame::{ReplayError, Source};
 use std::alloc::Global;
 use std::sync::atomic::AtomicBool;
 
-/// Deals what files give.
+/// Deals what the files yield.
 #[derive(Drop)]
 pub struct Dealer<D> {
     pub dealing: D,
@@ -29,12 +29,12 @@ pub struct Dealer<D> {
     /// The unit that came back from a full ring. It is the next to be dealt.
     pub kept: Option<Unit>,
     pub refused: Vec<Damage>,
-    /// How many units were dealt. It stops at `u64::MAX`.
+    /// The number of units dealt. Saturates at `u64::MAX`.
     pub dealt: u64,
     ghost small: { ForSome kept IsSmallUnit },
 }
 
-/// Pushes the unit to its lane, or hands it back where that lane's ring is full, and stays so for this many
+/// Pushes the unit to its lane, or returns it if that lane's ring is full and stays full for this many
 /// further tries.
 fn deal_one<G: Gate>(
     gate: &G,
@@ -52,7 +52,7 @@ fn deal_one<G: Gate>(
     feeds[lane].push(gate, lane, looks, over, item)
 }
 
-/// Lists what the files refuse, until they give a unit or end.
+/// Lists what the files refuse, until they yield a unit or end.
 fn ask<R: Source>(
     alloc: Global,
     units: &mut Units,
@@ -102,7 +102,7 @@ impl<D: Dealing> Dealer<D> {
         ensures { (number : ℕ) → D.lane_of self.now.dealing number workers < workers }
     {}
 
-    /// The unit that came back, if there is one, and else the next of the files.
+    /// Returns the unit that came back, if there is one, and otherwise the next one from the files.
     fn next_unit<R: Source>(
         &mut self,
         alloc: Global,
@@ -125,7 +125,7 @@ impl<D: Dealing> Dealer<D> {
         ask(alloc, units, files, &mut self.refused)
     }
 
-    /// Deals until a ring is full, and stays so for this many further tries, a batch is dealt or the files end.
+    /// Deals until a ring is full and stays full for this many further tries, a batch is dealt or the files end.
     pub fn deal<R: Source, G: Gate>(
         &mut self,
         alloc: Global,

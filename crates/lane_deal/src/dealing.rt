@@ -1,10 +1,10 @@
 ghost use Rattle.std.specs.Prelude.{◌≡◌, ℕ, ◌<◌, ◌≤◌, ◌%◌, ◌/◌, slice_index};
 ghost use Rattle.std.proofs.lemmas.Nat.{mod_below};
 
-/// Which lane a peer's units go to. The answer depends on the arguments and the value alone, so a
+/// Decides which lane a peer's units go to. The result depends only on the arguments and the value, so a
 /// peer keeps its lane in every file.
 pub trait Dealing {
-    /// The lane of a peer's number, of so many lanes.
+    /// The lane of a peer's number, for this number of lanes.
     ghost lane_of: { Self → ℕ → ℕ → ℕ };
 
     /// The lane of a peer's number, below `workers`.
@@ -16,7 +16,7 @@ pub trait Dealing {
     ghost is_below: { (d : Self) (peer workers : ℕ) → 0 < workers → lane_of d peer workers < workers };
 }
 
-/// A dealing that is lent.
+/// A borrowed dealing.
 impl<D: Dealing> Dealing for &D {
     ghost lane_of = { λ d peer workers. D.lane_of d.now peer workers };
 
@@ -41,7 +41,7 @@ impl Dealing for ByTurns {
     ghost is_below = { λ d peer workers h. mod_below peer workers h };
 }
 
-/// So many peers in a row go to each lane in turn: `(peer / size) % workers`.
+/// This many peers in a row go to each lane in turn: `(peer / size) % workers`.
 #[derive(Clone, Copy, Debug)]
 pub struct ByBlocks {
     size: usize,
@@ -72,7 +72,7 @@ impl Dealing for ByBlocks {
     ghost is_below = { λ d peer workers h. mod_below (peer / block_size d) workers h };
 }
 
-/// A list says each peer's lane: `list[peer] % workers`, or 0 past its end.
+/// A list gives each peer's lane: `list[peer] % workers`, or 0 past its end.
 #[derive(Debug, Drop)]
 pub struct ByList {
     lanes: Vec<usize>,

@@ -9,7 +9,7 @@ use std::alloc::Global;
 use std::sync::atomic::{AtomicBool, Ordering};
 use std::thread::yield_now;
 
-/// How many times the dealer tries a push again at most: a round's end costs no more than these.
+/// The maximum number of times the dealer retries a push: a round's end costs no more than these.
 const MOST_TRIES: u32 = 1_000;
 
 /// The dealing half of a lane.
@@ -22,7 +22,7 @@ pub struct Feed {
 impl Feed {
     ghost use Rattle.lane_deal.specs.Feeds.{Pushed};
 
-    /// Pushes the item, or hands it back where the ring is full.
+    /// Pushes the item, or returns it if the ring is full.
     fn push_once<G: Gate>(&mut self, gate: &G, lane: usize, item: Numbered) -> Result<(), Numbered>
         requires { IsSmallUnit item.unit }
         ensures pushed { OnOk result (Pushed self.old self.new (item ∷ [])) }
@@ -38,8 +38,8 @@ impl Feed {
         }
     }
 
-    /// Tries so many times to push an item that came back, and lets other threads run before each try. Where the round
-    /// is over, since a worker failed, it doesn't try on.
+    /// Retries this many times to push an item that came back, and lets other threads run before each try. If the round
+    /// is over because a worker failed, it stops trying.
     fn push_again<G: Gate>(
         &mut self,
         gate: &G,
@@ -66,7 +66,7 @@ impl Feed {
         Err(item)
     }
 
-    /// Pushes the item, or hands it back where the ring is full and stays so for this many further tries, or for
+    /// Pushes the item, or returns it if the ring is full and stays full for this many further tries, or for
     /// `MOST_TRIES` of them.
     pub fn push<G: Gate>(
         &mut self,

@@ -1,9 +1,9 @@
-//! Gates, which are told how a replay goes on.
+//! Gates, which are notified of a replay's progress.
 
 use mrt_body::Damage;
 use std::marker::Sync;
 
-/// Is told when units are dealt and taken, and returns. Numbers count from 0 in each lane.
+/// Is notified when units are dealt and taken, and returns. Numbers count from 0 in each lane.
 pub trait Gate: Sync {
     /// Called by a worker just before it takes the unit with this number of its lane.
     fn before(&self, worker: usize, number: u64);
@@ -11,15 +11,15 @@ pub trait Gate: Sync {
     /// Called by the dealer just after its push of the unit with this number to a lane.
     fn dealt(&self, lane: usize, number: u64);
 
-    /// Whether it is to be told how many routes there are now. Asked after each round of a replay.
+    /// Whether it wants to be notified of the current number of routes. Asked after each round of a replay.
     fn is_counting(&self) -> bool {
         false
     }
 
-    /// Called after a round, where `is_counting` says so, with the number of routes in the tables of all lanes.
+    /// Called after a round, if `is_counting` says so, with the number of routes in the tables of all lanes.
     fn counted(&self, _routes: u64) {}
 
-    /// Called after a run that is whole, once for each listed fault: of a record that was refused, or of a damaged unit.
+    /// Called after a complete run, once for each listed fault: of a record that was refused, or of a damaged unit.
     fn listed(&self, _damage: &Damage, _is_refused: bool) {}
 }
 

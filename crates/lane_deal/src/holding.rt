@@ -9,7 +9,7 @@ use peer_tables::Seated;
 use std::alloc::Global;
 use std::mem;
 
-/// What holds a lane's sessions, which can be handed in and given back.
+/// What holds a lane's sessions, which can be swapped in and out.
 pub trait HoldsSeats<M: PrefixMap<SharedRoute>> {
     ghost use Rattle.std.specs.Prelude.{List};
     ghost use Rattle.peer_tables.specs.declared.tables.Seated.{Seated};
@@ -25,7 +25,7 @@ pub trait HoldsSeats<M: PrefixMap<SharedRoute>> {
     /// The same with these sessions.
     ghost with_held: { State → List (Seated M) → State };
 
-    /// Exchanges its sessions for those of the list.
+    /// Swaps its sessions for those of the list.
     fn exchange(&mut self, alloc: Global, list: &mut Sequence<Seated<M>>)
         ensures given { list.new ≡ held (state self.old) }
         ensures got { state self.new ≡ with_held (state self.old) list.old };
@@ -34,7 +34,7 @@ pub trait HoldsSeats<M: PrefixMap<SharedRoute>> {
     ghost is_back: { (s : State) (list : List (Seated M)) → with_held (with_held s list) (held s) ≡ s };
 }
 
-/// Exchanges the sessions for those of the list.
+/// Swaps the sessions for those of the list.
 pub fn exchange_seats<M: PrefixMap<SharedRoute> + Drop>(
     alloc: Global,
     seats: &mut Seats<M>,

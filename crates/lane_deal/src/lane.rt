@@ -10,7 +10,7 @@ use bgp_prefix::Memory;
 use rtrb::{Consumer, Producer, RingBuffer};
 use std::alloc::Global;
 
-/// Compares both ends of the lane's ring, and moves what waits there to a ring made anew.
+/// Compares both ends of the lane's ring, and moves the pending items to a new ring.
 pub fn renew<S>(
     alloc: Global,
     capacity: usize,
@@ -30,7 +30,7 @@ pub fn renew<S>(
     Ok(())
 }
 
-// Moves all items that are known to wait.
+// Moves all items that are known to be pending.
 fn move_waiting(
     from: &mut Consumer<Numbered, Global, Small>,
     to: &mut Producer<Numbered, Global, Small>,
@@ -60,7 +60,7 @@ pub fn renew_all<S>(
     Ok(())
 }
 
-/// Lanes to which nothing was dealt.
+/// Makes lanes to which nothing has been dealt.
 pub fn make_lanes<S: Sessions + Drop>(
     alloc: Global,
     capacity: usize,

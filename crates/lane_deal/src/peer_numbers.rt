@@ -13,7 +13,7 @@ use mrt_body::{PeerAddr, PeerKey};
 use std::alloc::Global;
 use std::collections::HashMap;
 
-/// How many slots hold the number of a peer that was met before: as many as ten bits tell.
+/// How many slots hold the number of a peer seen before: as many as ten bits can index.
 const RECENT: usize = 1_024;
 
 /// The peers so far, by number.
@@ -22,7 +22,7 @@ pub struct Peers {
     keys: Vec<PeerKey>,
     /// The number of each peer.
     numbers: HashMap<PeerKey, usize>,
-    /// The number of the last peer at each slot: mostly the one that is looked for.
+    /// The number of the last peer at each slot: usually the one that is looked up.
     recent: Vec<usize>,
     ghost apart: { AreApart keys.items },
     ghost listed: { AreListed (hash.get key_impl.eq-value.it numbers) keys.items },
@@ -38,7 +38,7 @@ fn recent_slot(peer: &PeerKey) -> usize {
     (mixed >> 54) as usize
 }
 
-/// Whether they are one peer.
+/// Whether they are the same peer.
 fn is_same_peer(peer: &PeerKey, other: &PeerKey) -> bool
     ensures { result ≡ peer_eq peer.now other.now }
 {
@@ -83,7 +83,7 @@ impl Peers {
         })
     }
 
-    /// The number of a peer that was met before.
+    /// Returns the number of a peer seen before.
     fn find(&self, peer: &PeerKey) -> Option<usize>
         ensures { MatchOption result (list_any (peer_eq peer.now) self.now.keys.items ≡ false) (λ number. slice_get self.now.keys.items number ≡ Some peer.now) }
     {
@@ -98,7 +98,7 @@ impl Peers {
         }
     }
 
-    /// A new peer gets the next number.
+    /// Gives a new peer the next number.
     fn add(&mut self, peer: &PeerKey) -> Result<usize, Memory>
         requires { list_any (peer_eq peer.now) self.old.keys.items ≡ false }
         ensures { IfOk result (NumbersPeer self.old.keys.items self.new.keys.items peer.now) }
@@ -119,7 +119,7 @@ impl Peers {
         self.add(peer)
     }
 
-    /// The number of a peer. A peer is numbered when it first comes.
+    /// Returns the number of a peer. A peer is numbered when it first appears.
     pub fn number_of(&mut self, peer: &PeerKey) -> Result<usize, Memory>
         ensures { IfOk result (NumbersPeer self.old.keys.items self.new.keys.items peer.now) }
     {

@@ -8,11 +8,11 @@ pub struct Plan {
     pub workers: usize,
     /// Units that may wait for each worker, 1 to 65,536.
     pub ring: usize,
-    /// Units that are dealt in a round at most, 1 to 1,048,576.
+    /// Maximum number of units dealt in a round, 1 to 1,048,576.
     pub batch: u64,
     /// Empty looks at its ring after which a worker ends its round.
     pub looks: u32,
-    /// Whole records that a run cuts at most, 1 to 2^47.
+    /// Maximum number of whole records that a run cuts, 1 to 2^47.
     pub max_records: u64,
     /// The last second since 1970 UTC whose units count, or all.
     pub until: Option<u64>,

@@ -27,7 +27,7 @@ use peer_tables::{Tables, count_routes};
 use std::alloc::Global;
 use std::thread::Threads;
 
-/// Deals what files give to lanes, round by round.
+/// Deals what the files yield to lanes, round by round.
 #[derive(Drop)]
 pub struct Replayer<M: PrefixMap<SharedRoute>, D: Dealing> {
     plan: Plan,
@@ -62,7 +62,7 @@ impl<M: PrefixMap<SharedRoute> + Send + Drop, D: Dealing + Send> Replayer<M, D> 
     ghost use Rattle.lane_deal.specs.Replayers.{ReplayerStandsFor};
     ghost use Rattle.lane_deal.specs.Rounds.{Settles, IsSettled};
 
-    /// A replayer with empty lanes.
+    /// Makes a replayer with empty lanes.
     pub fn new(alloc: Global, plan: Plan, dealing: D) -> Result<Replayer<M, D>, Memory>
     where
         D: Drop,
@@ -93,7 +93,7 @@ impl<M: PrefixMap<SharedRoute> + Send + Drop, D: Dealing + Send> Replayer<M, D> 
         }
     }
 
-    /// One round: deals on while the workers take.
+    /// Runs one round: deals while the workers take.
     pub fn round<T: Threads + Sync, R: Source + Send, G: Gate>(
         &mut self,
         rt: &T,
@@ -138,7 +138,7 @@ impl<M: PrefixMap<SharedRoute> + Send + Drop, D: Dealing + Send> Replayer<M, D> 
         answer
     }
 
-    /// One round without dealing, after which all rings are empty.
+    /// Runs one round without dealing, after which all rings are empty.
     pub fn settle<T: Threads + Sync, G: Gate>(
         &mut self,
         rt: &T,
@@ -185,7 +185,7 @@ impl<M: PrefixMap<SharedRoute> + Drop, D: Dealing + Drop> Replayer<M, D> {
     ghost use Rattle.lane_deal.specs.Replayers.{ReplayerStandsFor};
     ghost use Rattle.lane_deal.specs.Rounds.{IsSettled};
 
-    /// The tables of all dealt units. Where memory is refused the replayer comes back as it was.
+    /// Returns the tables of all dealt units. If an allocation fails, the replayer comes back as it was.
     pub fn into_tables(self, alloc: Global) -> Result<Tables<M>, (Replayer<M, D>, ReplayError)>
         requires { self.state ≢ Spent → IsSettled (shown self) }
         ensures tables { (units : List ReplayUnit) (refused : List Damage) → ReplayerStandsFor (D.lane_of self.dealer.dealing) self.plan.ring units refused (shown self) → IfOk result (λ tables. tables ≡ tables_of units refused) }
@@ -253,14 +253,14 @@ impl<M: PrefixMap<SharedRoute>, D: Dealing> Replayer<M, D> {
         self.dealer.lanes_are_below(lanes);
     }
 
-    /// How many calls of `round` and `settle` forked. It stops at `u64::MAX`.
+    /// The number of calls of `round` and `settle` that forked. Saturates at `u64::MAX`.
     pub fn rounds(&self) -> u64
         ensures { result ≡ self.now.rounds }
     {
         self.rounds
     }
 
-    /// How many routes the tables of all lanes have. It stops at `u64::MAX`. It goes over all sessions.
+    /// Returns the number of routes in the tables of all lanes. Saturates at `u64::MAX`. It visits all sessions.
     pub fn routes(&self) -> u64
         ensures { self.now.state ≢ Spent → result ≡ min (length (held_routes (shown self.now))) (2 ^ 64 - 1) }
     {
@@ -281,7 +281,7 @@ impl<M: PrefixMap<SharedRoute>, D: Dealing> Replayer<M, D> {
         }
     }
 
-    /// How many units wait in a lane's ring, and 0 past the last lane.
+    /// The number of units that wait in a lane's ring, or 0 past the last lane.
     pub fn waiting(&self, lane: usize) -> usize
         ensures past { self.now.state ≢ Spent → length (shown self.now).lanes ≤ lane → result ≡ 0 }
         ensures waiting { self.now.state ≢ Spent → (state : LaneState) → slice_get (shown self.now).lanes lane ≡ Some state → result ≡ length state.ring.sent }
@@ -306,14 +306,14 @@ impl<M: PrefixMap<SharedRoute>, D: Dealing> Replayer<M, D> {
         true
     }
 
-    /// How many units were dealt. It stops at `u64::MAX`.
+    /// The number of units dealt. Saturates at `u64::MAX`.
     pub fn dealt(&self) -> u64
         ensures { result ≡ (shown self.now).dealt }
     {
         self.dealer.dealt
     }
 
-    /// How many units a lane took, and 0 past the last lane. It stops at `u64::MAX`.
+    /// The number of units that a lane took, or 0 past the last lane. Saturates at `u64::MAX`.
     pub fn took(&self, lane: usize) -> u64
         ensures took { self.now.state ≢ Spent → (state : LaneState) → slice_get (shown self.now).lanes lane ≡ Some state → result ≡ state.took }
         ensures past { self.now.state ≢ Spent → length (shown self.now).lanes ≤ lane → result ≡ 0 }

@@ -63,12 +63,12 @@ fn deal_and_work<
         requires { IsSync T.row × IsSync G.row × IsSend S.row }
         ensures { OnOk result (AllZip (Worked S.stands_for) workers.entry.now workers.exit.now) }
     { run_all(rt, alloc, gate, over, patience, workers) };
-    // Where no thread can be started, the workers come last, when the round is over.
+    // If no thread can be started, the workers run last, when the round is over.
     let (worked, step) = join_mut(rt, &mut work, &mut deal);
     (step, worked)
 }
 
-/// One round over all lanes, whose rings are made anew at its end.
+/// Runs one round over all lanes, whose rings are made anew at its end.
 pub fn run_round<
     T: Threads + Sync,
     D: Dealing + Send,
@@ -115,7 +115,7 @@ pub fn run_round<
     }
 }
 
-/// One round without dealing: what waits is taken.
+/// Runs one round without dealing: pending units are taken.
 pub fn settle_lanes<T: Threads + Sync, S: Sessions + Send, G: Gate>(
     rt: &T,
     alloc: Global,

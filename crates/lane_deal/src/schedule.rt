@@ -64,7 +64,7 @@ fn number_all(alloc: Global, units: Vec<Unit>) -> Result<VecDeque<Numbered>, Mem
     Ok(all)
 }
 
-/// Lanes to which nothing was dealt.
+/// Makes lanes to which nothing has been dealt.
 fn empty_lanes<M: PrefixMap<SharedRoute> + Drop>(
     alloc: Global,
     count: usize,
@@ -82,7 +82,7 @@ fn empty_lanes<M: PrefixMap<SharedRoute> + Drop>(
     Ok(lanes)
 }
 
-/// Moves the first unit that is not dealt to the end of its lane's ring.
+/// Moves the first undealt unit to the end of its lane's ring.
 fn deal<M: PrefixMap<SharedRoute> + Drop, D: Dealing>(
     undealt: &mut VecDeque<Numbered>,
     lanes: &mut [OneLane<M>],
@@ -99,7 +99,7 @@ fn deal<M: PrefixMap<SharedRoute> + Drop, D: Dealing>(
     Ok(())
 }
 
-/// Gives the first unit in a ring to its session.
+/// Passes the first unit in a ring to its session.
 fn take_one<M: PrefixMap<SharedRoute> + Drop>(
     alloc: Global,
     lane: &mut OneLane<M>,
@@ -115,7 +115,7 @@ fn take_one<M: PrefixMap<SharedRoute> + Drop>(
     Ok(())
 }
 
-/// Gives the first unit in a lane's ring to its session.
+/// Passes the first unit in a lane's ring to its session.
 fn take_from<M: PrefixMap<SharedRoute> + Drop>(
     alloc: Global,
     lanes: &mut [OneLane<M>],

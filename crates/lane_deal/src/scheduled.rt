@@ -1,4 +1,4 @@
-//! The lanes after a list of events.
+//! The lanes after a list of events has been applied.
 
 ghost use Rattle.std.specs.Prelude.{map, nat_eq};
 ghost use Rattle.std.specs.List.{IsDistinct};
@@ -14,7 +14,7 @@ use peer_tables::Tables;
 use std::alloc::Global;
 use std::collections::VecDeque;
 
-/// Lanes on one thread. No peer's number stands twice among their sessions.
+/// Lanes on one thread. No peer's number appears twice among their sessions.
 #[derive(Drop)]
 pub struct Lanes<M: PrefixMap<SharedRoute>> {
     pub(crate) undealt: VecDeque<Numbered>,
@@ -30,14 +30,14 @@ impl<M: PrefixMap<SharedRoute> + Drop> Lanes<M> {
     ghost use Rattle.lane_deal.specs.ShownLanes.{Shows, ShowsSame};
     ghost use Rattle.lane_deal.specs.TakenTables.{tables_taken};
 
-    /// How many units are not dealt.
+    /// The number of units not yet dealt.
     pub fn undealt(&self) -> usize
         ensures { (all : List ReplayUnit) (s : LanesState) → Shows all self.now s → result ≡ length s.undealt }
     {
         self.undealt.len()
     }
 
-    /// How many units wait for a lane's worker.
+    /// The number of units that wait for a lane's worker.
     pub fn waiting(&self, lane: usize) -> usize
         ensures { (all : List ReplayUnit) (s : LanesState) → Shows all self.now s → result ≡ length (s.ring lane) }
     {
@@ -47,7 +47,7 @@ impl<M: PrefixMap<SharedRoute> + Drop> Lanes<M> {
         }
     }
 
-    /// How many units a lane took.
+    /// The number of units that a lane took.
     pub fn took(&self, lane: usize) -> usize
         ensures { (all : List ReplayUnit) (s : LanesState) → Shows all self.now s → result ≡ min (length (s.taken lane)) (2 ^ 64 - 1) }
     {
@@ -57,7 +57,7 @@ impl<M: PrefixMap<SharedRoute> + Drop> Lanes<M> {
         }
     }
 
-    /// The tables of what the lanes took. Where memory is refused the lanes come back as they were.
+    /// Returns the tables of what the lanes took. If an allocation fails, the lanes come back as they were.
     pub fn into_tables(self, alloc: Global) -> Result<Tables<M>, (Lanes<M>, Memory)>
         ensures tables { (all : List ReplayUnit) (s : LanesState) → Shows all self s →
             IfOk result (λ tables. tables ≡ tables_taken all s (length self.lanes.items)) }

@@ -15,20 +15,20 @@ use peer_tables::Seated;
 use std::alloc::Global;
 use std::mem;
 
-/// The sessions of one lane, in the order in which their peers first came.
+/// The sessions of one lane, in the order in which their peers first appeared.
 #[derive(Drop)]
 pub struct Seats<M: PrefixMap<SharedRoute>> {
     pub seats: Vec<Seated<M>>,
-    /// By peer's number, where its session stands.
+    /// The position of each session, by its peer's number.
     positions: Vec<Option<usize>>,
     /// Whether every session is found by its position: not those that were handed back.
     is_indexed: bool,
-    /// What prefetching read last. It means nothing.
+    /// The last value that prefetching read. It has no meaning.
     prefetched: usize,
     ghost indexed: { IsTrue is_indexed → AreIndexed positions.items (map (λ seat. seat.number) seats.items) },
 }
 
-/// Where the session of this number stands, found by going over all.
+/// Returns the position of this number's session, found by a linear scan.
 fn scan<M: PrefixMap<SharedRoute>>(seats: &[Seated<M>], number: usize) -> Option<usize>
     ensures { MatchOption result (list_any (λ s. s.number == number) (map seat_of seats.now) ≡ false) (λ at. (at < length seats.now) × ((d : _) → (slice_index_or (map seat_of seats.now) at d).number ≡ number)) }
 {
@@ -40,7 +40,7 @@ fn scan<M: PrefixMap<SharedRoute>>(seats: &[Seated<M>], number: usize) -> Option
     None
 }
 
-/// Whether the session of this number stands there.
+/// Whether this number's session is at that position.
 fn stands_at<M: PrefixMap<SharedRoute>>(seats: &[Seated<M>], at: usize, number: usize) -> bool
     ensures here { result ≡ true → (at < length seats.now) × ((d : _) → (slice_index_or (map seat_of seats.now) at d).number ≡ number) }
     ensures elsewhere { slice_get (map (λ seat. seat.number) seats.now) at ≡ Some number → result ≡ true }
@@ -48,7 +48,7 @@ fn stands_at<M: PrefixMap<SharedRoute>>(seats: &[Seated<M>], at: usize, number: 
     at < seats.len() && seats[at].number == number
 }
 
-/// Remembers where the session of this number will stand.
+/// Records the position that this number's session will have.
 fn remember(positions: &mut Vec<Option<usize>>, number: usize, at: usize) -> Result<(), Memory>
     ensures others { (other x : ℕ) → (other ≡ number → ⊥) → slice_get positions.old.items other ≡ Some (Some x) → slice_get positions.new.items other ≡ Some (Some x) }
     ensures own { OnOk result (slice_get positions.new.items number ≡ Some (Some at)) }
@@ -64,7 +64,7 @@ fn remember(positions: &mut Vec<Option<usize>>, number: usize, at: usize) -> Res
     Ok(())
 }
 
-/// The session there takes the unit.
+/// Passes the unit to the session at that position.
 fn take_at<M: PrefixMap<SharedRoute>>(
     alloc: Global,
     seats: &mut [Seated<M>],
@@ -80,7 +80,7 @@ fn take_at<M: PrefixMap<SharedRoute>>(
 }
 
 impl<M: PrefixMap<SharedRoute> + Drop> Seats<M> {
-    /// The position that is remembered for this number.
+    /// Returns the position recorded for this number.
     fn position_of(&self, number: usize) -> Option<usize>
         ensures { (at : ℕ) → slice_get self.now.positions.items number ≡ Some (Some at) → result ≡ Some at }
     {
@@ -90,7 +90,7 @@ impl<M: PrefixMap<SharedRoute> + Drop> Seats<M> {
         }
     }
 
-    /// Where the session of this number is remembered to stand, if it does.
+    /// Returns the recorded position of this number's session, if the session is there.
     fn remembered(&self, number: usize) -> Option<usize>
         ensures here { IfSome result (λ at. (at < length self.now.seats.items) × ((d : _) → (slice_index_or (map seat_of self.now.seats.items) at d).number ≡ number)) }
         ensures all { (at : ℕ) → slice_get self.now.positions.items number ≡ Some (Some at) → slice_get (map (λ seat. seat.number) self.now.seats.items) at ≡ Some number → result ≡ Some at }
@@ -103,7 +103,7 @@ impl<M: PrefixMap<SharedRoute> + Drop> Seats<M> {
         }
     }
 
-    /// Where the session of this number stands.
+    /// Returns the position of this number's session.
     fn find(&self, number: usize) -> Option<usize>
         ensures { MatchOption result (list_any (λ s. s.number == number) (map seat_of self.now.seats.items) ≡ false) (λ at. (at < length self.now.seats.items) × ((d : _) → (slice_index_or (map seat_of self.now.seats.items) at d).number ≡ number)) }
     {
@@ -116,7 +116,7 @@ impl<M: PrefixMap<SharedRoute> + Drop> Seats<M> {
         scan(&self.seats, number)
     }
 
-    /// Makes a session for this number, behind the others.
+    /// Makes a session for this number, after the others.
     fn add(&mut self, alloc: Global, number: usize, key: &PeerKey) -> Result<usize, Memory>
         requires { list_any (λ s. s.number == number) (map seat_of self.old.seats.items) ≡ false }
         ensures within { IfOk result (λ at. at < length self.new.seats.items) }
@@ -133,7 +133,7 @@ impl<M: PrefixMap<SharedRoute> + Drop> Seats<M> {
         Ok(at)
     }
 
-    /// Where the session of this number stands, which is made where there is none.
+    /// Returns the position of this number's session, which is made if there is none.
     fn position_for(&mut self, alloc: Global, number: usize, key: &PeerKey) -> Result<usize, Memory>
         ensures within { IfOk result (λ at. at < length self.new.seats.items) }
         ensures seat { IfOk result (SeatFor (map seat_of self.old.seats.items) (map seat_of self.new.seats.items) number key.now) }
@@ -153,14 +153,14 @@ impl<M: PrefixMap<SharedRoute> + Drop> Seats<M> {
         mem::replace(&mut self.seats, given)
     }
 
-    /// The session that probably takes a popped unit.
+    /// Returns the session that probably takes a popped unit.
     fn session_near(&self, near: &Popped) -> Option<&Session<M>> {
         let at = self.position_of(near.item.number)?;
         let seat = self.seats.get(at)?;
         Some(&seat.session)
     }
 
-    /// Reads a little of the slots of all first, and then of what these hold. The number means nothing.
+    /// Prefetches the slots of all popped units, and then what these slots hold. The returned number has no meaning.
     fn touch(&self, popped: &[Popped]) -> usize {
         let mut touched = 0usize;
         for near in popped {

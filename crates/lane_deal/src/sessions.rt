@@ -15,7 +15,7 @@ pub trait Sessions {
     fn fresh(alloc: Global) -> Self
         ensures { stands_for result [] };
 
-    /// Reads a little of what the sessions will need to take these, so that the cache misses overlap.
+    /// Prefetches a little of what the sessions will need to take these, so that the cache misses overlap.
     fn prefetch(&mut self, popped: &[Popped])
         ensures { (taken : List Numbered) → stands_for self.old taken → stands_for self.new taken };
 

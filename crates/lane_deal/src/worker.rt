@@ -23,17 +23,17 @@ pub struct Worker<S> {
     pub taken: u64,
 }
 
-/// How long a worker goes on looking in one round.
+/// How long a worker keeps looking in one round.
 #[derive(Clone, Copy)]
 pub struct Patience {
     pub looks: u32,
     pub batch: u64,
 }
 
-/// How many units a worker pops at most before it takes them: what it will read of them is prefetched.
+/// The maximum number of units a worker pops before it takes them: what it will read of them is prefetched.
 const NEAR_UNITS: usize = 32;
 
-/// Pops the first of what is known to wait.
+/// Pops the first items of those known to be pending.
 fn pop_near(
     consumer: &mut Consumer<Numbered, Global, Small>,
     popped: &mut Vec<Popped>,
@@ -109,7 +109,7 @@ impl<S: Sessions> Worker<S> {
         Ok(())
     }
 
-    /// Looks at the ring again, and takes the first of what it finds. The answer is whether it found any.
+    /// Looks at the ring again, and takes the first items of what it finds. Returns whether it found any.
     fn take_found<G: Gate>(
         &mut self,
         alloc: Global,
@@ -126,7 +126,7 @@ impl<S: Sessions> Worker<S> {
         Ok(true)
     }
 
-    /// Takes the first of what it knows to be in its ring.
+    /// Takes the first items of what it knows to be in its ring.
     fn take_near<G: Gate>(
         &mut self,
         alloc: Global,
@@ -161,7 +161,7 @@ impl<S: Sessions> Worker<S> {
     }
 }
 
-/// Runs each worker in a thread of its own where one can be made.
+/// Runs each worker in its own thread if one can be started.
 #[cycle(halves)]
 pub fn run_all<R: Threads + Sync, S: Sessions + Send, G: Gate>(
     rt: &R,
@@ -223,7 +223,7 @@ fn run_at_most_one<S: Sessions, G: Gate>(
     }
     let ran = workers[0].run(alloc, gate, over, patience);
     if ran.is_err() {
-        // So that the dealer doesn't try for long to push into this lane.
+        // This keeps the dealer from retrying for long to push into this lane.
         over.store(true, Ordering::SeqCst);
     }
     ran

@@ -14,8 +14,8 @@ ghost use Rattle.mrt_body.specs.Units.{payload_bytes, units_in};
 ghost use Rattle.mrt_body.specs.Agreement.{IsIndexBody, Agrees};
 ghost use Rattle.mrt_body.specs.Refusals.{IsRefused};
 
-/// A record gives units exactly where its body agrees with its form (RFC 6396, 4.3 and 4.4; RFC 8050),
-/// and these units alone: the bytes can be read in no other way. Another record is refused for the
+/// A record yields units exactly if its body agrees with its form (RFC 6396, 4.3 and 4.4; RFC 8050),
+/// and only these units: the bytes can be read in no other way. Any other record is refused for the
 /// first of its fields that is broken.
 pub fn bodies_agree_with_their_forms()
     ensures peers { (body : List ℕ) (peers : List PeerKey) → AreBytes body →
@@ -32,7 +32,7 @@ pub fn bodies_agree_with_their_forms()
         (units_in at extended index content body ≡ Err fault) ↔ IsRefused at extended index content body fault }
 {}
 
-/// A payload has an event exactly where the reading of it gives one, and no more than this one
+/// A payload has an event exactly if reading it yields one, and no event but this one
 /// (RFC 4271, 4.1 to 4.3).
 pub fn events_agree_with_their_payloads()
     ensures events { (payload : Payload) (e : Event) → AreBytes (payload_bytes payload) →

@@ -3,7 +3,7 @@ ghost use Rattle.mrt_body.specs.Units.{place_of, time_of};
 
 use crate::unit::Place;
 
-/// Where a record stands, and its time in seconds since 1970 UTC.
+/// The place of a record, and its time in seconds since 1970 UTC.
 #[derive(Clone, Copy, Debug, PartialEq, Eq)]
 pub(crate) struct RecordAt {
     pub(crate) file: usize,
@@ -12,7 +12,7 @@ pub(crate) struct RecordAt {
 }
 
 impl RecordAt {
-    /// The place of the record, or of the entry of this number in it.
+    /// Returns the place of the record, or of the entry of this number in it.
     pub(crate) fn place(&self, entry: Option<u16>) -> Place
         ensures { result ≡ place_of self.now entry }
     {

@@ -16,7 +16,7 @@ pub enum Content {
     Message { width: Width, add_path: bool },
     /// A state change.
     States { width: Width },
-    /// What is counted and not read.
+    /// Something that is counted and not read.
     Aside,
 }
 
@@ -73,7 +73,7 @@ fn session_content(subtype: u16) -> Content
     }
 }
 
-/// What a record of this type and subtype holds.
+/// Returns what a record of this type and subtype holds.
 #[tactic(auto, unfolding(crate::specs::Units::content_of))]
 pub fn content_of(kind: u16, subtype: u16) -> Content
     ensures { result ≡ units_spec.content_of kind subtype }

@@ -1,4 +1,4 @@
-//! The entries of a RIB record that are still to be given out.
+//! The entries of a RIB record that are still to be returned.
 
 ghost use Rattle.std.specs.Prelude.{◌≡◌, ◌≤◌, ◌++◌, ◌+◌, ◌/◌, [], length, take, drop, max, vec_capacity, Some, None, Ok, IfOk, IfSome, option_to_list};
 ghost use Rattle.bgp_update.specs.Answers.{Gives};
@@ -13,17 +13,17 @@ use bgp_prefix::{Memory, Prefix, RouteKey, Sequence};
 use bgp_update::AttrError;
 use std::alloc::Global;
 
-/// A RIB record whose entries are listed beside it and given out one after the other.
+/// A RIB record along with the list of its entries, which are returned one by one.
 #[derive(Drop)]
 pub(crate) struct RibRecord {
     pub(crate) at: RecordAt,
     pub(crate) prefix: Prefix,
     pub(crate) body: Sequence<u8>,
-    /// How many entries were given out.
+    /// How many entries have been returned.
     pub(crate) given: u16,
 }
 
-/// The unit of an entry.
+/// Returns the unit of an entry.
 fn entry_unit(
     alloc: Global,
     at: RecordAt,
@@ -43,7 +43,7 @@ fn entry_unit(
     })
 }
 
-/// So many bytes from a place on.
+/// Returns this many bytes from a position on.
 fn bytes_from(bytes: &[u8], start: usize, len: usize) -> &[u8]
     requires { start + len ≤ length bytes.now }
     ensures { result.now ≡ take len (drop start bytes.now) }
@@ -52,8 +52,8 @@ fn bytes_from(bytes: &[u8], start: usize, len: usize) -> &[u8]
 }
 
 impl RibRecord {
-    /// A record beside an index of these peers, whose entries it lists. The list's memory is used
-    /// again.
+    /// Reads a record against an index of these peers, and lists its entries. The list's memory is
+    /// reused.
     pub(crate) fn read(
         at: RecordAt,
         body: Sequence<u8>,
@@ -85,7 +85,7 @@ impl RibRecord {
         }
     }
 
-    /// The next entry as a unit of its peer, or `None` at the end.
+    /// Returns the next entry as a unit of its peer, or `None` at the end.
     pub(crate) fn next(
         &mut self,
         alloc: Global,

@@ -14,12 +14,12 @@ use bgp_update::AttrError;
 use std::alloc::Global;
 use std::marker::Model;
 
-/// The peers of an index table, and the entries of the last RIB record beside it that are still to
-/// be given out.
+/// The peers of an index table, and the entries of the last RIB record read against it that are still to
+/// be returned.
 #[derive(Drop)]
 pub(crate) struct Index {
     peers: Vec<PeerKey>,
-    /// The entries of the last record. The list is kept from one record to the next, for its memory.
+    /// The entries of the last record. The list is kept from one record to the next, to reuse its memory.
     list: Vec<ListedEntry>,
     last: Option<RibRecord>,
 }
@@ -45,7 +45,7 @@ impl Index {
         }
     }
 
-    /// Reads a RIB record beside this index. Its entries are then to be given out.
+    /// Reads a RIB record against this index. Its entries are then to be returned.
     pub(crate) fn read(
         &mut self,
         at: RecordAt,
@@ -64,18 +64,18 @@ impl Index {
         Ok(())
     }
 
-    /// Leaves out what is still to be given out.
+    /// Skips what is still to be returned.
     pub(crate) fn leave_out(&mut self)
         ensures { self.new ≡ without_pending self.old }
     {
         self.last = None;
     }
 
-    /// The unit of the next entry, or `None` at the end.
+    /// Returns the unit of the next entry, or `None` at the end.
     pub(crate) fn next(&mut self, alloc: Global) -> Result<Option<Unit>, Memory>
         ensures gives { IfOk result (λ unit. self.old.pending ≡ option_to_list unit ++ self.new.pending) }
         ensures ended { IfOk result (λ unit. unit ≡ None → self.old.pending ≡ []) }
-        // At the end no memory is wanted.
+        // At the end no memory is needed.
         ensures none { self.old.pending ≡ [] → result ≡ Ok None }
         ensures peers { self.new.peers ≡ self.old.peers }
         ensures small { IfOk result (λ unit. IfSome unit IsSmallUnit) }
@@ -85,7 +85,7 @@ impl Index {
         };
         let unit = record.next(alloc, self.peers.as_slice(), self.list.as_slice())?;
         if unit.is_none() {
-            // The record's body is let go before the next one is read.
+            // The record's body is freed before the next one is read.
             self.last = None;
         }
         Ok(unit)

@@ -11,7 +11,7 @@ use bgp_update::{AttrError, Width};
 use mrt_frame::{Fault, byte_at, bytes_at, u16_at, u32_at, u128_at};
 use std::alloc::Global;
 
-/// An address of sixteen bytes or of four.
+/// Reads an address of sixteen or four bytes.
 pub(crate) fn addr_at(bytes: &[u8], is_ipv6: bool) -> Result<(PeerAddr, &[u8]), Fault>
     ensures { Reads (λ x. (x.0, x.1.now)) result (indexes.addr_at is_ipv6 bytes.now) }
 {
@@ -24,7 +24,7 @@ pub(crate) fn addr_at(bytes: &[u8], is_ipv6: bool) -> Result<(PeerAddr, &[u8]), 
     }
 }
 
-/// An AS number of two bytes or of four.
+/// Reads an AS number of two or four bytes.
 pub(crate) fn asn_at(bytes: &[u8], width: Width) -> Result<(u32, &[u8]), Fault>
     ensures { Reads (λ x. (x.0, x.1.now)) result (indexes.asn_at width bytes.now) }
 {
@@ -37,14 +37,14 @@ pub(crate) fn asn_at(bytes: &[u8], width: Width) -> Result<(u32, &[u8]), Fault>
     }
 }
 
-/// Whether bit 0x01 of a peer type is set: the address is an IPv6 one.
+/// Whether bit 0x01 of a peer type is set: the address is an IPv6 address.
 fn has_ipv6(flags: u8) -> bool
     ensures { result ≡ indexes.has_ipv6 flags }
 {
     flags & 0x01 == 0x01
 }
 
-/// How many bytes the AS number has: four where bit 0x02 of the peer type is set.
+/// The size of the AS number in bytes: four if bit 0x02 of the peer type is set.
 fn asn_width(flags: u8) -> Width
     ensures { result ≡ indexes.asn_width flags }
 {
@@ -55,7 +55,7 @@ fn asn_width(flags: u8) -> Width
     }
 }
 
-/// A peer of the table, and the bytes after it.
+/// Reads a peer of the table, and returns it with the bytes after it.
 #[tactic(auto, unfolding(crate::specs::Indexes::peer_at, crate::specs::Indexes::written_peer_at))]
 fn peer_at(bytes: &[u8]) -> Result<(PeerKey, &[u8]), Fault>
     ensures { Reads (λ x. (x.0, x.1.now)) result (indexes.peer_at bytes.now) }
@@ -67,7 +67,7 @@ fn peer_at(bytes: &[u8]) -> Result<(PeerKey, &[u8]), Fault>
     Ok((PeerKey { asn, addr }, rest))
 }
 
-/// So many peers, and nothing more.
+/// Reads this many peers, and nothing more.
 fn peers_of(alloc: Global, count: u16, bytes: &[u8]) -> Result<Vec<PeerKey>, AttrError>
     ensures { Gives (λ v. v.items) result (many indexes.peer_at count bytes.now) }
 {
@@ -88,7 +88,7 @@ fn peers_of(alloc: Global, count: u16, bytes: &[u8]) -> Result<Vec<PeerKey>, Att
     Ok(peers)
 }
 
-/// How many peers the table of a body has, and the bytes after their count.
+/// Returns how many peers the table in a body has, and the bytes after their count.
 #[tactic(auto, unfolding(crate::specs::Indexes::peer_count_at, crate::specs::Indexes::index_head_at))]
 fn peer_count_at(body: &[u8]) -> Result<(u16, &[u8]), Fault>
     ensures { Reads (λ x. (x.0, x.1.now)) result (indexes.peer_count_at body.now) }
@@ -99,7 +99,7 @@ fn peer_count_at(body: &[u8]) -> Result<(u16, &[u8]), Fault>
     u16_at(rest, Fault::ShortRecord)
 }
 
-/// The peers of the table that a body spells.
+/// Returns the peers of the table that a body encodes.
 pub(crate) fn peers_in(alloc: Global, body: &[u8]) -> Result<Vec<PeerKey>, AttrError>
     ensures { Gives (λ v. v.items) result (indexes.peers_in body.now) }
 {

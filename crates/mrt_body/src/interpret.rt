@@ -13,7 +13,7 @@ use std::alloc::Global;
 /// The type of an UPDATE message.
 const UPDATE: u8 = 2;
 
-/// The event of a message.
+/// Returns the event of a message.
 #[tactic(auto, unfolding(crate::specs::Events::message_event_in))]
 fn message_event(
     alloc: Global,
@@ -38,13 +38,13 @@ fn message_event(
     }
 }
 
-/// The one event of a payload, or its first fault in the order of checks. A fault means that the
+/// Returns the one event of a payload, or its first fault in the order of checks. A fault means that the
 /// unit is damaged and changes no route.
 #[tactic(auto, unfolding(crate::specs::Events::event_in))]
 pub fn event(alloc: Global, payload: &Payload) -> Result<Event, AttrError>
-    // What is answered is what the payload means.
+    // What is returned is what the payload means.
     ensures found { IfOk result (IsEvent payload.now) }
-    // What it means is answered, unless memory runs out.
+    // What it means is returned, unless memory runs out.
     ensures only { (e : Event) → IsEvent payload.now e → Gives (λ e. e) result (Ok e) }
     // Which fault it is.
     ensures exact { Gives (λ e. e) result (event_in payload.now) }

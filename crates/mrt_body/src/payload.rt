@@ -13,7 +13,7 @@ use bgp_prefix::Sequence;
 use bgp_update::Width;
 use mrt_frame::Fault;
 
-/// The unit of a message, whose bytes are the end of the body.
+/// Returns the unit of a message, whose bytes are the end of the body.
 #[tactic(auto, unfolding(crate::specs::Units::message_unit))]
 pub(crate) fn message_unit(
     at: RecordAt,
@@ -42,7 +42,7 @@ pub(crate) fn message_unit(
     })
 }
 
-/// The unit of a state change.
+/// Returns the unit of a state change.
 #[tactic(auto, unfolding(crate::specs::Units::states_unit))]
 pub(crate) fn states_unit(
     at: RecordAt,

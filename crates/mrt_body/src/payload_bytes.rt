@@ -7,11 +7,11 @@ use smallvec::SmallVec;
 use std::alloc::Global;
 use std::marker::Model;
 
-/// How many bytes a payload keeps in place: most messages and nearly all attributes of RIB entries have no more.
+/// How many bytes a payload stores inline: most messages and nearly all attributes of RIB entries have no more.
 const IN_PLACE: usize = 112;
 
-/// The bytes of a message, or of the attributes of a RIB entry, which contracts see as their list. Up to 112 of them lie
-/// in the value itself, so that few units that go from one thread to another carry an allocation that another thread frees.
+/// The bytes of a message, or of the attributes of a RIB entry, which contracts see as their list. Up to 112 of them are
+/// stored in the value itself, so few units that pass between threads carry an allocation that another thread frees.
 #[derive(Debug, Drop)]
 pub struct PayloadBytes {
     bytes: SmallVec<u8, IN_PLACE>,
@@ -26,7 +26,7 @@ impl Model for PayloadBytes {
 }
 
 impl PayloadBytes {
-    /// A copy of these bytes. Up to 112 of them take no memory.
+    /// Returns a copy of these bytes. Up to 112 of them allocate nothing.
     pub fn from_slice(alloc: Global, bytes: &[u8]) -> Result<PayloadBytes, Memory>
         ensures copies { IfOk result (λ copy. copy ≡ bytes.now) }
         ensures short { length bytes.now ≤ 112 → IsOk result }
@@ -36,14 +36,14 @@ impl PayloadBytes {
         })
     }
 
-    /// These bytes. More than 112 keep their memory.
+    /// Takes these bytes. More than 112 keep their memory.
     pub fn from_vec(bytes: Vec<u8>) -> PayloadBytes
         ensures { result ≡ bytes.items }
     {
         PayloadBytes::from_end(bytes, 0)
     }
 
-    /// The bytes behind the first n. More than 112 keep their memory.
+    /// Returns the bytes after the first n. More than 112 keep their memory.
     pub(crate) fn from_end(bytes: Vec<u8>, n: usize) -> PayloadBytes
         requires { n ≤ vec_len bytes }
         ensures { result ≡ drop n bytes.items }
@@ -67,7 +67,7 @@ impl PayloadBytes {
     }
 }
 
-/// The bytes behind the first n, in the same memory.
+/// Returns the bytes after the first n, in the same memory.
 fn without_front(bytes: Vec<u8>, n: usize) -> Vec<u8>
     requires { n ≤ vec_len bytes }
     ensures { result.items ≡ drop n bytes.items }

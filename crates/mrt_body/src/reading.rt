@@ -5,10 +5,10 @@ ghost use Rattle.mrt_body.specs.declared.unit.Found.{Found};
 ghost use Rattle.mrt_body.specs.ToCome.{UnitsState, FailsBehind, GivesAllBefore, HasEnded, TakesFound, fresh_units};
 ghost use Rattle.mrt_body.specs.Units.{aside_of, found_in, records_of};
 
-/// What calls of `Units::next` gave joins, in order. What was given from `Units::new` on is a front
-/// of what the files hold, also where a call then answers an error, as no later call gives more.
-/// From `Units::new` to `None` it is all, and all records were counted. Up to `Read` it is all that
-/// stands before the record whose read failed.
+/// What calls of `Units::next` returned joins, in order. What was returned from `Units::new` on is a front
+/// of what the files hold, even if a call then returns an error, as no later call returns more.
+/// From `Units::new` to `None` it is everything, and all records were counted. Up to `Read` it is everything
+/// before the record whose read failed.
 pub fn readings_give_all_found()
     ensures joined { (first second third : UnitsState) (old mid new : List (Option (List ℕ))) (given more : List Found) →
         TakesFound first old second mid given → TakesFound second mid third new more → TakesFound first old third new (given ++ more) }

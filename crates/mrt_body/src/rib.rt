@@ -13,7 +13,7 @@ use bgp_prefix::Prefix;
 use bgp_update::{AttrError, prefix_at};
 use mrt_frame::{Fault, byte_at, bytes_at, u16_at, u32_at};
 
-/// What stands before the entries of a record.
+/// What precedes the entries of a record.
 #[derive(Clone, Copy)]
 pub(crate) struct RibHead {
     pub(crate) prefix: Prefix,
@@ -28,7 +28,7 @@ pub(crate) struct RibEntry<'a> {
     pub(crate) attributes: &'a [u8],
 }
 
-/// The fields before the entries, and the bytes after them.
+/// Reads the fields before the entries, and returns them with the bytes after them.
 #[tactic(auto, using(crate::proofs::HeadParts::head_parts))]
 pub(crate) fn rib_head_at(bytes: &[u8]) -> Result<(RibHead, &[u8]), Fault>
     ensures reads { Reads (λ x. (record { prefix = x.0.prefix; count = x.0.count }, x.1.now)) result (ribs.read_head_at bytes.now) }
@@ -45,7 +45,7 @@ pub(crate) fn rib_head_at(bytes: &[u8]) -> Result<(RibHead, &[u8]), Fault>
     }
 }
 
-/// The number of one of so many peers.
+/// Reads the number of one of this many peers.
 fn peer_index_at(bytes: &[u8], peers: usize) -> Result<(u16, &[u8]), Fault>
     ensures { Reads (λ x. (x.0, x.1.now)) result (ribs.peer_index_at peers bytes.now) }
 {
@@ -56,7 +56,7 @@ fn peer_index_at(bytes: &[u8], peers: usize) -> Result<(u16, &[u8]), Fault>
     Ok((index, rest))
 }
 
-/// A path identifier, 0 in a record without them.
+/// Reads a path identifier, 0 in a record without them.
 fn identifier_at(bytes: &[u8], add_path: bool) -> Result<(u32, &[u8]), Fault>
     ensures { Reads (λ x. (x.0, x.1.now)) result (ribs.identifier_at add_path bytes.now) }
 {
@@ -67,7 +67,7 @@ fn identifier_at(bytes: &[u8], add_path: bool) -> Result<(u32, &[u8]), Fault>
     }
 }
 
-/// An entry beside an index of so many peers, and the bytes after it.
+/// Reads an entry against an index of this many peers, and returns it with the bytes after it.
 #[tactic(auto, unfolding(crate::specs::RibRecords::read_entry_at, crate::specs::RibRecords::entry_at))]
 pub(crate) fn entry_at(
     bytes: &[u8],
@@ -90,7 +90,7 @@ pub(crate) fn entry_at(
     Ok((entry, rest))
 }
 
-/// What an entry says, and where its attributes stand in the body of its record.
+/// What an entry says, and where its attributes are in the body of its record.
 #[derive(Clone, Copy)]
 pub(crate) struct ListedEntry {
     /// Where its attributes begin in the body.
@@ -104,7 +104,7 @@ pub(crate) struct ListedEntry {
 /// The fewest bytes that an entry has.
 const SHORTEST_ENTRY: usize = 8;
 
-/// An entry as it is listed. Its attributes stand where so many bytes of a body are left behind them.
+/// Returns an entry as it is listed. Its attributes are where this many bytes of a body are left after them.
 fn listed_entry(
     peer: u16,
     identifier: u32,
@@ -126,7 +126,7 @@ fn listed_entry(
     }
 }
 
-/// The bytes behind the first n.
+/// Returns the bytes after the first n.
 fn behind(bytes: &[u8], n: usize) -> &[u8]
     requires { n ≤ length bytes.now }
     ensures { result.now ≡ drop n bytes.now }
@@ -134,7 +134,7 @@ fn behind(bytes: &[u8], n: usize) -> &[u8]
     &bytes[n..]
 }
 
-/// Lists the entries that stand behind the first `start` bytes of a body: so many, and nothing more.
+/// Lists the entries after the first `start` bytes of a body: this many, and nothing more.
 pub(crate) fn list_entries(
     body: &[u8],
     start: usize,
@@ -147,7 +147,7 @@ pub(crate) fn list_entries(
     requires small { length body.now ≤ 16777216 }
     ensures listed { Gives (λ _. map (read_listed body.now) list.new.items) result (many (ribs.read_entry_at add_path peers) count (drop start body.now)) }
     ensures within { All (IsListed peers (length body.now)) list.new.items }
-    // A count that isn't true takes no memory.
+    // A false count allocates nothing.
     ensures room { vec_capacity list.new ≤ max (vec_capacity list.old) (length body.now / 8) }
 {
     let mut rest = behind(body, start);

@@ -21,7 +21,7 @@ fn family_at(bytes: &[u8]) -> Result<(bool, &[u8]), Fault>
     }
 }
 
-/// The microseconds of an extended timestamp, 0 for another, and the bytes after them.
+/// Returns the microseconds of an extended timestamp, 0 for any other, and the bytes after them.
 pub(crate) fn microseconds_at(body: &[u8], is_extended: bool) -> Result<(u32, &[u8]), Fault>
     ensures { Reads (λ x. (x.0, x.1.now)) result (bgp4mp.microseconds_at is_extended body.now) }
 {
@@ -32,7 +32,7 @@ pub(crate) fn microseconds_at(body: &[u8], is_extended: bool) -> Result<(u32, &[
     }
 }
 
-/// The peer of a session, and the bytes after the session's fields.
+/// Returns the peer of a session, and the bytes after the session's fields.
 #[tactic(auto, unfolding(crate::specs::Bgp4mp::session_peer_at, crate::specs::Bgp4mp::session_at))]
 pub(crate) fn session_peer_at(bytes: &[u8], width: Width) -> Result<(PeerKey, &[u8]), Fault>
     ensures { Reads (λ x. (x.0, x.1.now)) result (bgp4mp.session_peer_at width bytes.now) }
@@ -46,7 +46,7 @@ pub(crate) fn session_peer_at(bytes: &[u8], width: Width) -> Result<(PeerKey, &[
     Ok((PeerKey { asn, addr }, rest))
 }
 
-/// The old and the new state that the bytes spell.
+/// Returns the old and the new state that the bytes encode.
 #[tactic(auto, unfolding(crate::specs::Bgp4mp::states_in))]
 pub(crate) fn states_in(bytes: &[u8]) -> Result<(u16, u16), Fault>
     ensures { Reads (λ s. s) result (bgp4mp.states_in bytes.now) }

@@ -1,10 +1,10 @@
-/// How a reading of files stands.
+/// The state of a reading of files.
 #[derive(Clone, Copy, Debug, PartialEq, Eq)]
 pub(crate) enum Standing {
     /// It goes on.
     Going,
     /// The reader of the current file failed.
     Failed,
-    /// A growth was refused, or the greatest number of records was cut.
+    /// An allocation failed, or the greatest number of records was cut.
     Spent,
 }

@@ -17,8 +17,8 @@ pub struct PeerKey {
     pub addr: PeerAddr,
 }
 
-/// Where a unit or a fault stands: the number of the file from 0, the offset of the record in it in
-/// bytes, and for an entry of a RIB record its number from 1. Ordered in this order.
+/// The place of a unit or a fault: the number of the file from 0, the offset of the record in it in
+/// bytes, and for an entry of a RIB record its number from 1. Compared in this order.
 #[derive(Clone, Copy, Debug, PartialEq, Eq, PartialOrd, Ord)]
 pub struct Place {
     pub file: usize,
@@ -26,14 +26,14 @@ pub struct Place {
     pub entry: Option<u16>,
 }
 
-/// A fault, and where it stands.
+/// A fault, and its place.
 #[derive(Clone, Copy, Debug, PartialEq, Eq)]
 pub struct Damage {
     pub place: Place,
     pub fault: Fault,
 }
 
-/// What a unit says, as it stands in the record: its bytes are not yet interpreted.
+/// What a unit says, as it appears in the record: its bytes are not yet interpreted.
 #[derive(Debug, Drop)]
 pub enum Payload {
     /// A state change (RFC 6396, 4.4.1): the old and the new state, any numbers.
@@ -63,7 +63,7 @@ pub struct Unit {
     pub payload: Payload,
 }
 
-/// What stands next in the files: a unit, or a record that gives none.
+/// What comes next in the files: a unit, or a record that yields none.
 #[derive(Debug, Drop)]
 pub enum Found {
     Unit(Unit),

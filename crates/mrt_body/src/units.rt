@@ -20,7 +20,7 @@ use mrt_frame::{Cut, Fault, FrameReader, ReplayError, Source};
 use std::alloc::Global;
 use std::marker::Model;
 
-/// The units and refusals of files, one after the other.
+/// The units and refusals of files, one by one.
 #[derive(Drop)]
 pub struct Units {
     count: usize,
@@ -45,8 +45,8 @@ impl Model for Units {
 }
 
 impl Units {
-    /// The units of so many files, at most `max_records` whole records of which are cut. A unit
-    /// whose whole second is past `until` is left out.
+    /// Returns the units of these files, of which at most `max_records` whole records are cut. A unit
+    /// whose whole second is past `until` is skipped.
     pub fn new(count: usize, max_records: u64, until: Option<u64>) -> Units
         requires { (0 < max_records) × (max_records ≤ 2 ^ 47) }
         ensures fresh { result ≡ fresh_units count max_records until }
@@ -88,8 +88,8 @@ impl Units {
         self.aside
     }
 
-    /// What comes next: a unit, a record that is refused, or `None` at the end of the last file.
-    /// After `Read` each call answers the same `Read`, after `Memory` or `Records` each answers
+    /// Returns what comes next: a unit, a record that is refused, or `None` at the end of the last file.
+    /// After `Read` each call returns the same `Read`; after `Memory` or `Records` each returns
     /// `Spent`.
     pub fn next<R: Source>(
         &mut self,
@@ -97,35 +97,35 @@ impl Units {
         files: &mut [R],
     ) -> Result<Option<Found>, ReplayError>
         requires { length files.old ≡ self.old.count }
-        // It is the first of what is still to come, and leaves the others.
+        // It is the first of what is still to come, and leaves the rest.
         ensures found { IfOk result (λ found. TakesFound self.old (map R.remaining files.old) self.new (map R.remaining files.new) (option_to_list found)) }
-        // None is answered only where nothing is to come.
+        // None is returned only if nothing is to come.
         ensures ended { IfOk result (λ found. found ≡ None → NothingToCome self.old (map R.remaining files.old)) }
-        // It is answered at the end of the last file.
+        // It is returned at the end of the last file.
         ensures at_end { IfOk result (λ found. found ≡ None → self.new.file ≡ self.new.count) }
-        // After None each call answers None, changes nothing and reads nothing.
+        // After None each call returns None, changes nothing and reads nothing.
         ensures ends { IfOk result (λ found. found ≡ None → HasEnded self.new) }
         ensures stays_ended { HasEnded self.old → (result ≡ Ok None) × (self.new ≡ self.old) × (files.new ≡ files.old) }
-        // Each answer lowers the number of those that can still come, whatever the readers give.
+        // Each result lowers the number of those that can still come, whatever the readers return.
         ensures fewer { IfOk result (λ found. answers_left self.new + length (option_to_list found) ≤ answers_left self.old) }
         // Each unit lowers the number of units that can still come.
         ensures units { IfOk result (λ found. units_left self.new + unit_count found ≤ units_left self.old) }
-        // An answer that is no error leaves the reading going.
+        // A result that is no error lets the reading go on.
         ensures going { IfOk result (λ _. self.new.standing ≡ standings.Going) }
-        // An error has its cause, which stays.
+        // An error has its cause, which persists.
         ensures cause { IfErr result (Stops self.old (map R.remaining files.old) self.new (map R.failure_count files.old) (map R.failure_count files.new)) }
         ensures spent { self.old.standing ≡ standings.Spent → (result ≡ Err ReplayError.Spent) × (self.new ≡ self.old) }
-        // After Read each call answers the same Read, and reads nothing.
+        // After Read each call returns the same Read, and reads nothing.
         ensures again { self.old.standing ≡ standings.Failed → (result ≡ Err (ReplayError.Read self.old.file)) × (self.new ≡ self.old) × (files.new ≡ files.old) }
         ensures sound { OnOk result (map R.failure_count files.new ≡ map R.failure_count files.old) }
-        // Before Read nothing is left out that stands before the record at which the read failed.
+        // Before Read nothing is skipped that comes before the record at which the read failed.
         ensures before { self.old.standing ≡ standings.Going → IfErr result (GivesAllBefore self.old (map R.remaining files.old) self.new (map R.remaining files.new)) }
-        // An error that is no Read comes with no failure of a reader.
+        // An error other than Read comes without a failure of a reader.
         ensures unfailed { IfErr result (KeepsUnlessRead (map R.failure_count files.old) (map R.failure_count files.new)) }
-        // No file behind the current one is read.
+        // No file after the current one is read.
         ensures later { drop (self.new.file + 1) files.new ≡ drop (self.new.file + 1) files.old }
         ensures plan { KeepsPlan self.old self.new }
-        // A unit's bytes number at most 16,777,216.
+        // A unit has at most 16,777,216 bytes.
         ensures small { IfOk result (λ found. IfSome found IsSmall) }
     {
         match self.standing {
@@ -135,7 +135,7 @@ impl Units {
         }
     }
 
-    /// The first of what is still to come.
+    /// Returns the first of what is still to come.
     fn find<R: Source>(
         &mut self,
         alloc: Global,
@@ -174,7 +174,7 @@ impl Units {
         }
     }
 
-    /// The unit of the next entry of the RIB record that was cut last.
+    /// Returns the unit of the next entry of the RIB record that was cut last.
     fn next_entry(&mut self, alloc: Global) -> Result<Option<Unit>, ReplayError>
         ensures gives { IfOk result (λ unit. GivesPending self.old self.new (option_to_list unit)) }
         ensures ended { IfOk result (λ unit. unit ≡ None → self.old.pending ≡ []) }
@@ -196,7 +196,7 @@ impl Units {
         }
     }
 
-    /// Cuts the current file once. At its end the next file is the current one.
+    /// Cuts the current file once. At its end the next file becomes the current one.
     fn cut<R: Source>(&mut self, alloc: Global, reader: &mut R) -> Result<Option<Cut>, ReplayError>
         requires going { self.old.standing ≡ standings.Going }
         requires within { self.old.file < self.old.count }
@@ -249,7 +249,7 @@ impl Units {
         }
     }
 
-    /// Cuts the current file once, and gives what comes of it first, if anything does but entries.
+    /// Cuts the current file once, and returns what comes of it first, if anything but entries does.
     #[tactic(auto, using(crate::proofs::FilesLaws::few_units))]
     fn step<R: Source>(
         &mut self,
@@ -308,7 +308,7 @@ impl Units {
         }
     }
 
-    /// What comes of a whole record. Entries are still to be given out afterwards.
+    /// Returns what comes of a whole record. Entries are still to be returned afterwards.
     fn take(
         &mut self,
         alloc: Global,
@@ -345,7 +345,7 @@ impl Units {
         }
     }
 
-    /// A unit that isn't left out, or the refusal of its record.
+    /// Returns a unit that isn't skipped, or the refusal of its record.
     fn found(&self, at: RecordAt, unit: Result<Unit, Fault>) -> Option<Found>
         ensures found { option_to_list result ≡ found_units self.now.until at (alone unit) }
         ensures small { IfOk unit IsSmallUnit → IfSome result IsSmall }
@@ -362,7 +362,7 @@ impl Units {
         }
     }
 
-    /// Whether a unit of this time is left out.
+    /// Whether a unit of this time is skipped.
     fn is_past(&self, time: u64) -> bool
         ensures { result ≡ is_past self.now.until time }
     {
@@ -372,7 +372,7 @@ impl Units {
         }
     }
 
-    /// Puts an index in force; none, where it is damaged.
+    /// Puts an index in force, or none if it is damaged.
     fn take_index(
         &mut self,
         alloc: Global,
@@ -401,7 +401,7 @@ impl Units {
         }
     }
 
-    /// Reads a RIB record beside the index in force.
+    /// Reads a RIB record against the index in force.
     fn take_rib(
         &mut self,
         at: RecordAt,
@@ -436,7 +436,7 @@ impl Units {
     }
 }
 
-/// How a reading stands after this error.
+/// Returns the state of a reading after this error.
 fn standing_after(error: ReplayError) -> Standing
     ensures { result ≡ standing_after error }
 {
@@ -446,7 +446,7 @@ fn standing_after(error: ReplayError) -> Standing
     }
 }
 
-/// The refusal of a record.
+/// Returns the refusal of a record.
 fn refused(at: RecordAt, fault: Fault) -> Found
     ensures { result ≡ refused_at at fault }
 {

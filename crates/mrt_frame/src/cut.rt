@@ -3,7 +3,7 @@
 use crate::fault::Fault;
 use bgp_prefix::Sequence;
 
-/// A record, or what stands at a file's end in place of one.
+/// A record, or what is at the end of a file instead of one.
 #[derive(Debug, Drop)]
 pub enum Cut {
     Whole {

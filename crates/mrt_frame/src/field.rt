@@ -1,5 +1,5 @@
-//! Fields, each read from the front of the bytes that are left. Where the bytes run out the answer
-//! is the fault that the caller hands in. Numbers are big-endian.
+//! Fields, each read from the front of the remaining bytes. If the bytes run out, the result
+//! is the fault that the caller passes. Numbers are big-endian.
 
 ghost use Rattle.std.specs.Prelude.{◌≡◌, ℕ};
 ghost use Rattle.mrt_frame.specs.Fields as fields;
@@ -8,7 +8,7 @@ ghost use Rattle.mrt_frame.specs.Fields.{Reads};
 use crate::fault::Fault;
 use byteorder::{BigEndian, ByteOrder};
 
-/// The next byte.
+/// Reads the next byte.
 #[inline]
 pub fn byte_at(bytes: &[u8], fault: Fault) -> Result<(u8, &[u8]), Fault>
     ensures { Reads (λ x. (x.0, x.1.now)) result (fields.byte_at fault bytes.now) }
@@ -19,7 +19,7 @@ pub fn byte_at(bytes: &[u8], fault: Fault) -> Result<(u8, &[u8]), Fault>
     Ok((bytes[0], &bytes[1..]))
 }
 
-/// The next n bytes.
+/// Reads the next n bytes.
 #[inline]
 pub fn bytes_at(bytes: &[u8], n: usize, fault: Fault) -> Result<(&[u8], &[u8]), Fault>
     ensures { Reads (λ x. (x.0.now, x.1.now)) result (fields.bytes_at fault n bytes.now) }
@@ -30,7 +30,7 @@ pub fn bytes_at(bytes: &[u8], n: usize, fault: Fault) -> Result<(&[u8], &[u8]), 
     Ok(bytes.split_at(n))
 }
 
-/// The next two bytes as a number.
+/// Reads the next two bytes as a number.
 #[inline]
 pub fn u16_at(bytes: &[u8], fault: Fault) -> Result<(u16, &[u8]), Fault>
     ensures { Reads (λ x. (x.0, x.1.now)) result (fields.number_at fault 2 bytes.now) }
@@ -41,7 +41,7 @@ pub fn u16_at(bytes: &[u8], fault: Fault) -> Result<(u16, &[u8]), Fault>
     Ok((BigEndian::read_u16(bytes), &bytes[2..]))
 }
 
-/// The next four bytes as a number.
+/// Reads the next four bytes as a number.
 #[inline]
 pub fn u32_at(bytes: &[u8], fault: Fault) -> Result<(u32, &[u8]), Fault>
     ensures { Reads (λ x. (x.0, x.1.now)) result (fields.number_at fault 4 bytes.now) }
@@ -52,7 +52,7 @@ pub fn u32_at(bytes: &[u8], fault: Fault) -> Result<(u32, &[u8]), Fault>
     Ok((BigEndian::read_u32(bytes), &bytes[4..]))
 }
 
-/// The next sixteen bytes as a number.
+/// Reads the next sixteen bytes as a number.
 #[inline]
 pub fn u128_at(bytes: &[u8], fault: Fault) -> Result<(u128, &[u8]), Fault>
     ensures { Reads (λ x. (x.0, x.1.now)) result (fields.number_at fault 16 bytes.now) }

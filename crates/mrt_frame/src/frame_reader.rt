@@ -1,4 +1,4 @@
-// Records, one at a time, from a reader.
+// Records, one by one, from a reader.
 ghost use Rattle.std.specs.Prelude.{◌≡◌, ◌<◌, ◌≤◌, ◌≢◌, ◌+◌, ◌^◌, ℕ, List, Option, Some, None, IfOk, IfErr, IfSome, OnOk, OnErr, Ok, Err, option_to_list, length, vec_len};
 ghost use Rattle.std.specs.Io.KnownBytes.{Consumes, IsAtEnd};
 ghost use Rattle.mrt_frame.specs.Frames.{Position, IsFirstCut, TakesCuts, ReadsFewer, ReadsNoMoreThan, ReadsPart, StandsAt, IsReadCause, HasCause, KeepsUnlessRead, Repeats, phase_after, start_of};
@@ -14,7 +14,7 @@ use bgp_prefix::Sequence;
 use std::alloc::Global;
 use std::marker::Model;
 
-/// Cuts what a reader gives into records, and holds one at a time.
+/// Cuts what a reader returns into records, and holds one at a time.
 #[derive(Debug, Drop)]
 pub struct FrameReader {
     file: usize,
@@ -34,7 +34,7 @@ impl Model for FrameReader {
 }
 
 impl FrameReader {
-    /// At the start of the file of this number.
+    /// Starts at the beginning of the file of this number.
     pub fn new(file: usize) -> FrameReader
         ensures { result ≡ start_of file }
     {
@@ -45,7 +45,7 @@ impl FrameReader {
         }
     }
 
-    /// The next cut, or `None` at the end and after a broken one.
+    /// Returns the next cut, or `None` at the end and after a broken one.
     pub fn next<R: Source>(
         &mut self,
         alloc: Global,
@@ -56,9 +56,9 @@ impl FrameReader {
         ensures place { IfOk result (λ cut. IfSome cut (StandsAt self.old.offset)) }
         ensures cause { IfErr result (HasCause self.old self.new (R.failure_count reader.old) (R.failure_count reader.new)) }
         ensures counted { OnOk result (R.failure_count reader.new ≡ R.failure_count reader.old) }
-        // A read that failed took no whole record, and the record's offset stays.
+        // A failed read took no whole record, and the record's offset stays.
         ensures part { self.old.phase ≡ Phase.Reading → IfErr result (λ e. (self.new.offset ≡ self.old.offset) × ReadsPart self.old.offset (R.remaining reader.old) (R.remaining reader.new) e) }
-        // An error that is no Read comes with no failure of the device.
+        // An error other than Read comes without a failure of the device.
         ensures unfailed { IfErr result (KeepsUnlessRead (R.failure_count reader.old) (R.failure_count reader.new)) }
         ensures reads { ReadsNoMoreThan (12 + 16777216) (R.remaining reader.old) (R.remaining reader.new) }
         ensures repeats { self.old.phase ≢ Phase.Reading → (self.new ≡ self.old) × (reader.new ≡ reader.old) × Repeats self.old result }
@@ -101,7 +101,7 @@ impl FrameReader {
     }
 }
 
-/// The first cut of what the reader still gives, which stands at this offset of the file.
+/// Returns the first cut of what the reader will still return, which is at this offset of the file.
 fn read_cut<R: Source>(
     alloc: Global,
     file: usize,
@@ -151,7 +151,7 @@ fn read_cut<R: Source>(
     }))
 }
 
-/// The next bytes of the reader: so many, or all where it ends before.
+/// Reads the next bytes of the reader: this many, or all of them if it ends earlier.
 fn read_body<R: Source>(
     alloc: Global,
     file: usize,

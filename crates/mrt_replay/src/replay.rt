@@ -26,9 +26,9 @@ use std::thread::Threads;
 
 /// Replays the files in order and writes the report on them, and then flushes the writer once.
 ///
-/// Nothing is written before the last record was read and the report's rows are made, so `Read`,
-/// `Memory` and `Records` leave nothing written; `Write` leaves a front of the report. Workers, ring,
-/// batch and dealing have no part in what is written.
+/// Nothing is written before the last record has been read and the report's rows have been made, so `Read`,
+/// `Memory` and `Records` leave nothing written; `Write` leaves a leading part of the report. Workers, ring,
+/// batch and dealing don't affect what is written.
 pub fn run<M, T, R, W, D, G>(
     rt: &T,
     alloc: Global,
@@ -48,8 +48,8 @@ where
     G: Gate,
     requires { IsPlan plan.now }
     // A run that completes wrote the report on the files' bytes, byte for byte, and counted them. An error has
-    // its cause, and leaves nothing written, or a front of the report. With sound devices and records within
-    // the limit it completes, unless it wants memory.
+    // its cause, and leaves nothing written, or a leading part of the report. With sound devices and records within
+    // the limit it completes, unless it runs out of memory.
     ensures promised { IsPromised (record {
       request = request.now;
       plan = plan.now;
@@ -62,7 +62,7 @@ where
       writer_after = W.failure_count out.new;
       result = result;
     }) }
-    // Any error but that of the writer leaves it untouched.
+    // Any error except the writer's leaves it untouched.
     ensures untouched { IfErr result (λ e. (e ≡ errors.Write → ⊥) → out.new ≡ out.old) }
 {
     let replayed = match replay::<M, T, R, D, G>(rt, alloc, files, plan, dealing, gate) {
@@ -90,7 +90,7 @@ where
     Ok(summary)
 }
 
-/// Tells the gate each listed fault.
+/// Reports each listed fault to the gate.
 fn tell_faults<M: PrefixMap<SharedRoute>, G: Gate>(gate: &G, tables: &Tables<M>) {
     for damage in tables.refused() {
         gate.listed(damage, true);

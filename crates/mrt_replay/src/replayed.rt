@@ -18,7 +18,7 @@ use std::alloc::Global;
 use std::marker::Sync;
 use std::thread::Threads;
 
-/// What a replay of files gives: the tables of all peers, and what was counted.
+/// The result of replaying files: the tables of all peers, and what was counted.
 #[derive(Drop)]
 pub struct Replayed<M: PrefixMap<SharedRoute>> {
     pub tables: Tables<M>,
@@ -38,7 +38,7 @@ fn is_end(step: Step) -> bool
     }
 }
 
-/// Plays rounds until the files end.
+/// Runs rounds until the files end.
 fn play<M, T, R, D, G>(
     rt: &T,
     alloc: Global,
@@ -76,7 +76,7 @@ where
     }
 }
 
-/// Replays the files in order into one table for each peer.
+/// Replays the files in order into one table per peer.
 pub fn replay<M, T, R, D, G>(
     rt: &T,
     alloc: Global,
@@ -92,7 +92,7 @@ where
     D: Dealing + Sync,
     G: Gate,
     requires { IsPlan plan.now }
-    // Where the readers tell their bytes, the tables stand for the units and refusals of these.
+    // If the readers state their bytes, the tables stand for the units and refusals of these.
     ensures replayed { (contents : List (List ℕ)) → map R.remaining files.old ≡ map (λ bytes. Some bytes) contents → IfOk result (IsReplayOf plan.now contents) }
     // An error has its cause.
     ensures cause { IfErr result (StopsReplay plan.now.max_records (map R.remaining files.old) (map R.failure_count files.old) (map R.failure_count files.new)) }

@@ -10,7 +10,7 @@ pub struct Summary {
     pub records: u64,
     /// Messages, state changes and RIB entries that were replayed, damaged ones among them.
     pub units: u64,
-    /// Records of types and subtypes that are not read.
+    /// Records whose types and subtypes are not read.
     pub aside: u64,
     /// Faults that `faults` lists.
     pub damaged: u64,
@@ -22,8 +22,8 @@ pub struct Summary {
     pub routes: u64,
 }
 
-/// The program's status after a run: 0 where the dumps are whole, 1 where damaged records were left
-/// out, 3 where the run failed.
+/// Returns the program's exit status after a run: 0 if the dumps are whole, 1 if damaged records were
+/// skipped, 3 if the run failed.
 pub fn status(outcome: &Result<Summary, ReplayError>) -> u8
     ensures { result ≡ status_of outcome.now }
 {

@@ -1,4 +1,4 @@
-//! The tables of all peers, and the units that they stand for: what replaying workers hand over to reports.
+//! The tables of all peers, and the units that they represent: what replay workers pass to reports.
 #![tactic(auto)]
 
 mod standing;

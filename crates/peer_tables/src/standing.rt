@@ -19,15 +19,15 @@ pub fn tables_are_of_units()
         StandFor (tables_of units refused) units refused }
 {}
 
-/// What `collect` gives of the sessions of all peers stands for their units: for a caller that hands in,
+/// What `collect` returns for the sessions of all peers stands for their units, provided that the caller passes,
 /// under each peer's number, one session that took that peer's units.
 pub fn collected_stand_for_units()
     ensures { (seats : List Seat) (refused : List ListedFault) (tables : TablesState) (units : List ReplayUnit) →
         IsCollected seats refused tables → AreSeatsOf units seats → StandFor tables units refused }
 {}
 
-/// What `collect` gives doesn't depend on how the sessions were spread over the lanes, nor on their order
-/// there: where the lanes hold the same sessions, and the refusals are the same, the tables are the same.
+/// What `collect` returns doesn't depend on how the sessions were spread over the lanes, nor on their order
+/// there: if the lanes hold the same sessions and the refusals are the same, the tables are the same.
 pub fn lanes_make_no_difference<M: PrefixMap<SharedRoute>>()
     ensures { (gathered others : LanesIn M) (tables other : TablesState) →
         IsPermutation (gathered_seats gathered) (gathered_seats others) → gathered.refused ≡ others.refused →

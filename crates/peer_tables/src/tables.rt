@@ -22,7 +22,7 @@ pub struct Seated<M: PrefixMap<SharedRoute>> {
     pub session: Session<M>,
 }
 
-/// What the lanes hand in.
+/// What the lanes pass to `collect`.
 #[derive(Drop)]
 pub struct Gathered<M: PrefixMap<SharedRoute>> {
     pub lanes: Sequence<Sequence<Seated<M>>>,
@@ -68,7 +68,7 @@ impl<M: PrefixMap<SharedRoute>> Tables<M> {
         self.seats.len()
     }
 
-    /// The number of listed faults: the refusals and all damaged units. It stops at `u64::MAX`.
+    /// The number of listed faults: the refusals and all damaged units. Saturates at `u64::MAX`.
     pub fn damaged(&self) -> u64
         ensures { result ≡ min (length (all_faults self.now)) (2 ^ 64 - 1) }
     {
@@ -79,7 +79,7 @@ impl<M: PrefixMap<SharedRoute>> Tables<M> {
         count
     }
 
-    /// The number of routes in all tables. It stops at `u64::MAX`.
+    /// The number of routes in all tables. Saturates at `u64::MAX`.
     pub fn routes(&self) -> u64
         ensures { result ≡ min (length (all_routes self.now)) (2 ^ 64 - 1) }
     {
@@ -87,7 +87,7 @@ impl<M: PrefixMap<SharedRoute>> Tables<M> {
     }
 }
 
-/// The number of routes in the tables of these sessions. It stops at `u64::MAX`.
+/// Returns the number of routes in the tables of these sessions. Saturates at `u64::MAX`.
 pub fn count_routes<M: PrefixMap<SharedRoute>>(seats: &[Seated<M>]) -> u64
     ensures { result ≡ min (length (seat_routes (map seat_of seats.now))) (2 ^ 64 - 1) }
 {
@@ -98,7 +98,7 @@ pub fn count_routes<M: PrefixMap<SharedRoute>>(seats: &[Seated<M>]) -> u64
     count
 }
 
-/// How many items the lanes have together, where a number can tell it.
+/// Returns the total number of items in the lanes, if it fits in a `usize`.
 fn count_of<T>(lanes: &[Sequence<T>]) -> Option<usize>
     ensures { IfSome result (λ count. count ≡ length (flat_map (λ lane. lane) lanes.now)) }
 {
@@ -122,8 +122,8 @@ fn move_all<T: Drop>(mut lanes: Vec<Sequence<T>>, all: &mut Vec<T>)
     }
 }
 
-/// Each session handed in, once, by its peer's number, and the refusals. An `Err` gives back what was
-/// handed in, unchanged.
+/// Collects each session passed in, once, by its peer's number, and the refusals. An `Err` returns what was
+/// passed in, unchanged.
 pub fn collect<M: PrefixMap<SharedRoute> + Drop>(
     alloc: Global,
     gathered: Gathered<M>,

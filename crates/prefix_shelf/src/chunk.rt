@@ -17,8 +17,8 @@ use std::cmp::Ordering;
 use std::marker::Model;
 use std::mem;
 
-/// A list of routes in three arrays. No identifiers are written while all are 0. That the routes are in
-/// order is not the chunk's own invariant: a call that needs it asks for it.
+/// A list of routes in three arrays. No identifiers are stored while all are 0. That the routes are in
+/// order is not an invariant of the chunk itself: a call that needs it requires it.
 #[derive(Drop)]
 pub(crate) struct Chunk<V> {
     keys: Vec<Prefix>,
@@ -89,7 +89,7 @@ impl<V: Drop> Chunk<V> {
         Err(low)
     }
 
-    // Sets the value of a route, and gives the one before.
+    // Sets the value of a route, and returns the previous one.
     fn set(&mut self, at: usize, value: V) -> V
         requires { at < length self.old }
         ensures before { (d : _) → result ≡ (slice_index_or self.old at d).1 }
@@ -98,7 +98,7 @@ impl<V: Drop> Chunk<V> {
         exchange(&mut self.values, at, value)
     }
 
-    // Puts a route at a place. An `Err` changes nothing.
+    // Inserts a route at a position. An `Err` changes nothing.
     fn put_at(&mut self, alloc: Global, at: usize, key: &RouteKey, value: V) -> Result<(), Memory>
         requires { at ≤ length self.old }
         ensures { self.new ≡ (if is_ok result then insert self.old at (key.now, value) else self.old) }
@@ -111,7 +111,7 @@ impl<V: Drop> Chunk<V> {
         Ok(())
     }
 
-    // Takes a route out, and gives its value.
+    // Removes a route, and returns its value.
     fn take_at(&mut self, at: usize) -> V
         requires { at < length self.old }
         ensures before { (d : _) → result ≡ (slice_index_or self.old at d).1 }
@@ -122,7 +122,7 @@ impl<V: Drop> Chunk<V> {
         self.values.remove(at)
     }
 
-    // Keeps the first half, and gives the rest. An `Err` changes nothing.
+    // Keeps the first half, and returns the rest. An `Err` changes nothing.
     fn cut(&mut self, alloc: Global) -> Result<Chunk<V>, Memory>
         requires { 64 < length self.old }
         ensures low { OnOk result (self.new ≡ take 64 self.old) }
@@ -266,7 +266,7 @@ impl<V: Drop> Part for Chunk<V> {
     }
 }
 
-// The identifier at a place: 0 where none is written.
+// The identifier at a position: 0 if none is stored.
 fn id_at(ids: &Vec<u32>, at: usize) -> u32
     ensures { result ≡ slice_index_or ids.now.items at 0 }
 {
@@ -281,7 +281,7 @@ fn exchange<T>(items: &mut Vec<T>, at: usize, item: T) -> T
     mem::replace(&mut items[at], item)
 }
 
-/// The items from a place on.
+/// Returns the items from a position on.
 pub(crate) fn copied_from<T: Copy>(
     alloc: Global,
     items: &Vec<T>,
@@ -302,7 +302,7 @@ fn ids_from(alloc: Global, ids: &Vec<u32>, from: usize) -> Result<Vec<u32>, Memo
     copied_from(alloc, ids, from)
 }
 
-// Takes an identifier out, where any is written.
+// Removes an identifier, if any are stored.
 fn remove_id(ids: &mut Vec<u32>, at: usize)
     requires { (ids.old.items ≡ []) ⊎ (at < length ids.old.items) }
     ensures { ids.new.items ≡ ids_removed at ids.old.items }
@@ -312,7 +312,7 @@ fn remove_id(ids: &mut Vec<u32>, at: usize)
     }
 }
 
-/// Room for one more: a short list is doubled, a longer one grows by steps.
+/// Makes room for one more: a short list is doubled, a longer one grows in steps.
 pub(crate) fn make_room<T>(items: &mut Vec<T>) -> Result<(), Memory>
     ensures items { items.new.items ≡ items.old.items }
     ensures room { OnOk result (vec_len items.new < vec_capacity items.new) }
@@ -323,7 +323,7 @@ pub(crate) fn make_room<T>(items: &mut Vec<T>) -> Result<(), Memory>
     Ok(())
 }
 
-/// Puts an item at a place, where there is room.
+/// Inserts an item at a position, if there is room.
 pub(crate) fn put<T: Drop>(items: &mut Vec<T>, at: usize, item: T)
     requires room { vec_len items.old < vec_capacity items.old }
     requires within { at ≤ vec_len items.old }
@@ -334,7 +334,7 @@ pub(crate) fn put<T: Drop>(items: &mut Vec<T>, at: usize, item: T)
     }
 }
 
-// Puts an identifier at a place among those of `len` routes. An `Err` changes nothing.
+// Inserts an identifier at a position among those of `len` routes. An `Err` changes nothing.
 fn put_id(alloc: Global, ids: &mut Vec<u32>, len: usize, at: usize, id: u32) -> Result<(), Memory>
     requires within { at ≤ len }
     requires all { (ids.old.items ≡ []) ⊎ (length ids.old.items ≡ len) }

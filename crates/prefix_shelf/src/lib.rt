@@ -1,4 +1,4 @@
-//! A finite map from keys of routes to values, as a sorted list kept in chunks: for tables of many routes.
+//! A finite map from route keys to values, as a sorted list kept in chunks: for tables with many routes.
 #![tactic(auto)]
 
 mod chunk;

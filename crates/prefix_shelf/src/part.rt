@@ -12,24 +12,24 @@ ghost use Rattle.prefix_shelf.specs.Shelves.{first_key, EachKey, IsCut, IsLastUp
 use bgp_prefix::{Memory, Prefix, RouteKey};
 use std::alloc::Global;
 
-/// The most routes of a chunk, and the most chunks of a row: one more is cut in two.
+/// The most routes in a chunk, and the most chunks in a row: one with more is cut in two.
 pub(crate) const WHOLE: usize = 128;
-/// How many stay where one is cut in two.
+/// How many stay when one is cut in two.
 pub(crate) const HALF: usize = 64;
-/// By how many the room of an array grows at most: it is doubled up to then.
+/// How much the room of an array grows at most: up to then it is doubled.
 pub(crate) const STEP: usize = 16;
 
-/// Routes in the order of their keys, which `Rows` keeps one part after another.
+/// Routes in key order, which `Rows` keeps as consecutive parts.
 pub(crate) trait Part: Drop {
     ghost use Rattle.bgp_prefix.specs.declared.key.RouteKey.{RouteKey};
     ghost use Rattle.std.specs.Prelude.{List};
 
     type Value: Drop;
 
-    /// The routes, in their order.
+    /// The routes, in order.
     ghost routes: { Self → List (RouteKey × Self.Value) };
 
-    /// A part of one route.
+    /// Returns a part of one route.
     fn one(alloc: Global, key: &RouteKey, value: Self::Value) -> Result<Self, Memory>
         requires { IsIpPrefix key.now.prefix }
         ensures { IfOk result (λ one. routes one ≡ (key.now, value) ∷ []) };
@@ -48,15 +48,15 @@ pub(crate) trait Part: Drop {
         requires { T (is_sorted key_cmp (routes self.now)) }
         ensures { IsTrue result → EachKey (λ k. key_cmp k key.now ≡ Less) (routes self.now) };
 
-    /// Whether it has more than it is to keep.
+    /// Whether it has more than it should keep.
     fn is_over(&self) -> bool;
 
-    /// The value of a key.
+    /// Returns the value of a key.
     fn get(&self, key: &RouteKey) -> Option<&Self::Value>
         requires { T (is_sorted key_cmp (routes self.now)) }
         ensures { option_copied result ≡ find key_cmp key.now (routes self.now) };
 
-    /// Sets the value of a key, and gives the one before. An `Err` changes nothing; the value is dropped.
+    /// Sets the value of a key, and returns the previous one. An `Err` changes nothing; the value is dropped.
     fn insert(
         &mut self,
         alloc: Global,
@@ -69,22 +69,22 @@ pub(crate) trait Part: Drop {
         ensures ok { OnOk result (routes self.new ≡ put key_cmp key.now value (routes self.old)) }
         ensures err { OnErr result (routes self.new ≡ routes self.old) };
 
-    /// Removes a key, and gives its value.
+    /// Removes a key, and returns its value.
     fn remove(&mut self, key: &RouteKey) -> Option<Self::Value>
         requires { T (is_sorted key_cmp (routes self.old)) }
         ensures before { result ≡ find key_cmp key.now (routes self.old) }
         ensures removed { routes self.new ≡ where_key key_cmp (λ x. not (eq_by_cmp key_cmp key.now x)) (routes self.old) };
 
-    /// Keeps its first half, and gives the rest: nothing where it is short, or where memory is wanting.
+    /// Keeps its first half, and returns the rest: nothing if it is short, or if an allocation fails.
     fn split(&mut self, alloc: Global) -> Option<Self>
         ensures cut { IfSome result (λ high. IsCut (routes self.old) (routes self.new) (routes high)) }
         ensures same { IfNone result (routes self.new ≡ routes self.old) };
 
-    /// Adds the routes to a list, in their order.
+    /// Appends the routes to a list, in order.
     fn list<'a>(&'a self, all: &mut Vec<(RouteKey, &'a Self::Value)>) -> Result<(), Memory>
         ensures { OnOk result (entries_now all.new.items ≡ entries_now all.old.items ++ routes self.now) };
 
-    /// Adds the identifiers and values of the routes of a prefix to a list.
+    /// Appends the identifiers and values of the routes of a prefix to a list.
     fn paths<'a>(
         &'a self,
         prefix: &Prefix,
@@ -93,7 +93,7 @@ pub(crate) trait Part: Drop {
         ensures { OnOk result (map (λ e. (e.0, e.1.now)) all.new.items
             ≡ map (λ e. (e.0, e.1.now)) all.old.items ++ paths_of prefix.now (routes self.now)) };
 
-    /// The last prefix up to this one.
+    /// Returns the last prefix up to this one.
     fn last_up_to(&self, last: &Prefix) -> Option<Prefix>
         requires { T (is_sorted key_cmp (routes self.now)) }
         ensures { IsLastUpTo (routes self.now) last.now result };

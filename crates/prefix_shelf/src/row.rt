@@ -5,7 +5,7 @@ use bgp_prefix::{Memory, Prefix, RouteKey};
 use std::alloc::Global;
 use std::marker::Model;
 
-/// Chunks of routes one after another, as one part of a shelf.
+/// Consecutive chunks of routes, as one part of a shelf.
 #[derive(Drop)]
 pub(crate) struct Row<V> {
     rows: Rows<Chunk<V>>,

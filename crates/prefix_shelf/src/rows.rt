@@ -15,8 +15,8 @@ use bgp_prefix::{Memory, Prefix, RouteKey};
 use std::alloc::Global;
 use std::cmp::Ordering;
 
-/// Parts one after another in the order of their keys, none of them empty, and the first key of each. It
-/// stands twice in a shelf: its rows of chunks, and the chunks of a row.
+/// Consecutive parts in key order, none of them empty, and the first key of each. A shelf uses it
+/// at two levels: its rows of chunks, and the chunks of a row.
 #[derive(Drop)]
 pub(crate) struct Rows<P> {
     pub(crate) firsts: Vec<RouteKey>,
@@ -24,7 +24,7 @@ pub(crate) struct Rows<P> {
 }
 
 impl<P: Part> Rows<P> {
-    /// One part of one route.
+    /// Returns one part of one route.
     pub(crate) fn one(alloc: Global, key: &RouteKey, value: P::Value) -> Result<Rows<P>, Memory>
         requires { IsIpPrefix key.now.prefix }
         ensures routes { IfOk result (λ one. routes_of P.routes one.parts.items ≡ (key.now, value) ∷ []) }
@@ -55,7 +55,7 @@ impl<P: Part> Rows<P> {
         self.parts.is_empty()
     }
 
-    /// Whether all is full, and ends before a key.
+    /// Whether everything is full, and ends before a key.
     pub(crate) fn ends_below(&self, key: &RouteKey) -> bool
         requires { IsRows self.now.firsts.items (map P.routes self.now.parts.items) }
         ensures { IsTrue result → EachKey (λ k. key_cmp k key.now ≡ Less) (routes_of P.routes self.now.parts.items) }
@@ -64,7 +64,7 @@ impl<P: Part> Rows<P> {
         len >= WHOLE && self.parts[len - 1].ends_below(key)
     }
 
-    /// Whether it has more parts than it is to keep.
+    /// Whether it has more parts than it should keep.
     pub(crate) fn is_over(&self) -> bool {
         self.parts.len() > WHOLE
     }
@@ -92,7 +92,7 @@ impl<P: Part> Rows<P> {
         low.saturating_sub(1)
     }
 
-    /// The value of a key.
+    /// Returns the value of a key.
     pub(crate) fn get(&self, key: &RouteKey) -> Option<&P::Value>
         requires { IsRows self.now.firsts.items (map P.routes self.now.parts.items) }
         ensures { option_copied result ≡ find key_cmp key.now (routes_of P.routes self.now.parts.items) }
@@ -125,7 +125,7 @@ impl<P: Part> Rows<P> {
         Ok(before)
     }
 
-    // A new part of one route after the others.
+    // Adds a new part of one route after the others.
     fn push_one(&mut self, alloc: Global, key: &RouteKey, value: P::Value) -> Result<(), Memory>
         requires rows { IsRows self.old.firsts.items (map P.routes self.old.parts.items) }
         requires known { IsIpPrefix key.now.prefix }
@@ -144,7 +144,7 @@ impl<P: Part> Rows<P> {
         Ok(())
     }
 
-    // Two parts in place of one that has more than it is to keep, where there is the memory.
+    // Replaces a part that has more than it should keep by two, if there is memory for it.
     fn divide(&mut self, alloc: Global, place: usize)
         requires rows { IsRows self.old.firsts.items (map P.routes self.old.parts.items) }
         requires within { place < length self.old.parts.items }
@@ -168,7 +168,7 @@ impl<P: Part> Rows<P> {
         put(&mut self.parts, place + 1, high);
     }
 
-    /// Sets the value of a key, and gives the one before.
+    /// Sets the value of a key, and returns the previous one.
     pub(crate) fn insert(
         &mut self,
         alloc: Global,
@@ -196,7 +196,7 @@ impl<P: Part> Rows<P> {
         Ok(before)
     }
 
-    /// Removes a key, and gives its value.
+    /// Removes a key, and returns its value.
     pub(crate) fn remove(&mut self, key: &RouteKey) -> Option<P::Value>
         requires { IsRows self.old.firsts.items (map P.routes self.old.parts.items) }
         ensures before { result ≡ find key_cmp key.now (routes_of P.routes self.old.parts.items) }
@@ -219,7 +219,7 @@ impl<P: Part> Rows<P> {
         before
     }
 
-    /// Keeps the first half of its parts, and gives the rest.
+    /// Keeps the first half of its parts, and returns the rest.
     pub(crate) fn cut(&mut self, alloc: Global) -> Result<Rows<P>, Memory>
         requires rows { IsRows self.old.firsts.items (map P.routes self.old.parts.items) }
         requires long { 64 < length self.old.parts.items }
@@ -236,7 +236,7 @@ impl<P: Part> Rows<P> {
         Ok(Rows { firsts, parts })
     }
 
-    /// Adds the routes to a list, in their order.
+    /// Appends the routes to a list, in order.
     pub(crate) fn list<'a>(&'a self, all: &mut Vec<(RouteKey, &'a P::Value)>) -> Result<(), Memory>
         ensures { OnOk result (entries_now all.new.items ≡ entries_now all.old.items ++ routes_of P.routes self.now.parts.items) }
     {
@@ -248,7 +248,7 @@ impl<P: Part> Rows<P> {
         Ok(())
     }
 
-    /// Adds the identifiers and values of the routes of a prefix to a list.
+    /// Appends the identifiers and values of the routes of a prefix to a list.
     pub(crate) fn paths<'a>(
         &'a self,
         prefix: &Prefix,
@@ -294,7 +294,7 @@ impl<P: Part> Rows<P> {
         low.saturating_sub(1)
     }
 
-    /// The last prefix up to this one.
+    /// Returns the last prefix up to this one.
     pub(crate) fn last_up_to(&self, last: &Prefix) -> Option<Prefix>
         requires { IsRows self.now.firsts.items (map P.routes self.now.parts.items) }
         ensures { IsLastUpTo (routes_of P.routes self.now.parts.items) last.now result }
@@ -306,7 +306,7 @@ impl<P: Part> Rows<P> {
     }
 }
 
-// A key in place of a greater one.
+// Replaces a greater key by this one.
 fn lower(firsts: &mut Vec<RouteKey>, at: usize, key: &RouteKey)
     requires { at < length firsts.old.items }
     ensures { (d : _) → firsts.new.items ≡ slice_set firsts.old.items at (lesser_key key.now (slice_index_or firsts.old.items at d)) }

@@ -6,20 +6,20 @@ use bgp_prefix::{Memory, Prefix, PrefixMap, RouteKey, shared_len};
 use std::alloc::Global;
 use std::marker::Model;
 
-/// A finite map from keys to values, as a sorted list that is kept in chunks: at most 128 routes in a
-/// chunk and 128 chunks in a row, or more where there was no memory to cut one in two. The first keys
-/// of the rows, and of the chunks of a row, stand in lists of their own.
+/// A finite map from keys to values, as a sorted list that is kept in chunks: at most 128 routes per
+/// chunk and 128 chunks per row, or more if there was no memory to cut one in two. The first keys
+/// of the rows, and of the chunks of a row, are kept in separate lists.
 ///
-/// A call searches the first keys of the rows, those of a row, and then a chunk, each by halves, with the
-/// end tried first: a key after all others, as each of a RIB dump is, is placed by three comparisons,
+/// A call searches the first keys of the rows, those of a row, and then a chunk, each by binary search with the
+/// end tried first: a key after all others, like each key of a RIB dump, is placed with three comparisons,
 /// and keys in order leave full chunks. An insertion or a removal moves no more than a part of a chunk,
 /// of a row's list of chunks and of the list of rows. `longest` searches at most 33 times.
 ///
-/// An entry takes the 8 bytes of its prefix, its value, and a share of the room that is free, which
-/// grows by 16 routes. Identifiers are written only in a chunk with one that isn't 0, 4 bytes each.
+/// An entry takes the 8 bytes of its prefix, its value, and a share of the free room, which
+/// grows by 16 routes. Identifiers are stored only in a chunk with one that isn't 0, at 4 bytes each.
 ///
-/// It suits many keys that come in order, or that are to take little memory. Chunks that removals have
-/// made short are not joined. `Radix` counts its steps; `Flat` serves a few keys.
+/// It suits many keys that come in order, or that should take little memory. Chunks that removals have
+/// shortened are not merged. `Radix` counts its steps; `Flat` serves a few keys.
 #[derive(Drop)]
 pub struct Shelf<V> {
     rows: Rows<Row<V>>,

@@ -10,7 +10,7 @@ use bgp_prefix::{Memory, PrefixMap};
 use peer_tables::Tables;
 use std::alloc::Global;
 
-/// The churn of each peer, by number.
+/// Returns the churn of each peer, by number.
 pub fn churn<M: PrefixMap<SharedRoute>>(
     alloc: Global,
     tables: &Tables<M>,

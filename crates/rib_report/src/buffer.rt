@@ -14,10 +14,10 @@ use mrt_body::PeerKey;
 use mrt_frame::{Failed, Sink, write_full};
 use std::marker::Model;
 
-/// How many bytes wait at most: the size of the writes.
+/// The maximum number of pending bytes: the size of the writes.
 const CAPACITY: usize = 65536;
 
-/// Text that waits for a writer. After a failed write the rest is dropped.
+/// Text pending for a writer. After a failed write the rest is dropped.
 #[derive(Drop)]
 pub(crate) struct TextBuffer {
     bytes: [u8; CAPACITY],
@@ -39,7 +39,7 @@ impl Model for TextBuffer {
 }
 
 impl TextBuffer {
-    /// An empty buffer, before any write.
+    /// Makes an empty buffer, before any write.
     pub(crate) fn new() -> TextBuffer
         ensures { result ≡ empty_buffer }
     {
@@ -51,7 +51,7 @@ impl TextBuffer {
         }
     }
 
-    /// Copies the bytes behind those that wait.
+    /// Copies the bytes after the pending ones.
     #[inline]
     pub(crate) fn append(&mut self, bytes: &[u8])
         requires { length self.old.waiting + length bytes.now ≤ 65536 }
@@ -62,7 +62,7 @@ impl TextBuffer {
         self.len = end;
     }
 
-    /// Puts a byte behind those that wait.
+    /// Appends a byte to the pending ones.
     #[inline]
     pub(crate) fn append_byte(&mut self, byte: u8)
         requires { length self.old.waiting < 65536 }
@@ -72,7 +72,7 @@ impl TextBuffer {
         self.len += 1;
     }
 
-    /// Puts a number in decimal behind the bytes that wait.
+    /// Appends a number in decimal to the pending bytes.
     pub(crate) fn append_number(&mut self, number: u32)
         requires { length self.old.waiting + 13 ≤ 65536 }
         ensures { Grows self.old self.new 12 (decimal number) }
@@ -80,7 +80,7 @@ impl TextBuffer {
         self.len = place_number(&mut self.bytes, self.len, &self.shorts, number);
     }
 
-    /// Puts a byte and a number in decimal behind the bytes that wait.
+    /// Appends a byte and a number in decimal to the pending bytes.
     pub(crate) fn append_behind(&mut self, separator: u8, number: u32)
         requires { length self.old.waiting + 14 ≤ 65536 }
         ensures { Grows self.old self.new 13 (separator ∷ decimal number) }
@@ -88,7 +88,7 @@ impl TextBuffer {
         self.len = place_behind(&mut self.bytes, self.len, &self.shorts, separator, number);
     }
 
-    /// Puts a peer behind the bytes that wait.
+    /// Appends a peer to the pending bytes.
     pub(crate) fn append_peer(&mut self, peer: &PeerKey)
         requires { length self.old.waiting + 52 ≤ 65536 }
         ensures { Grows self.old self.new 52 (peer_text peer.now) }
@@ -96,7 +96,7 @@ impl TextBuffer {
         self.len = place_peer(&mut self.bytes, self.len, &self.shorts, peer);
     }
 
-    /// Puts a prefix behind the bytes that wait.
+    /// Appends a prefix to the pending bytes.
     pub(crate) fn append_prefix(&mut self, prefix: &Prefix)
         requires { length self.old.waiting + 20 ≤ 65536 }
         ensures { Grows self.old self.new 19 (prefix_text prefix.now) }
@@ -104,7 +104,7 @@ impl TextBuffer {
         self.len = place_prefix(&mut self.bytes, self.len, &self.shorts, prefix);
     }
 
-    /// Puts a key behind the bytes that wait.
+    /// Appends a key to the pending bytes.
     pub(crate) fn append_key(&mut self, key: &RouteKey)
         requires { length self.old.waiting + 33 ≤ 65536 }
         ensures { Grows self.old self.new 32 (key_text key.now) }
@@ -112,7 +112,7 @@ impl TextBuffer {
         self.len = place_key(&mut self.bytes, self.len, &self.shorts, key);
     }
 
-    /// Puts the fields of a route behind its path, and the end of the line, behind the bytes that wait.
+    /// Appends the fields of a route that follow its path, and the end of the line, to the pending bytes.
     pub(crate) fn append_attributes(&mut self, route: &Route)
         requires { length self.old.waiting + 153 ≤ 65536 }
         ensures { Grows self.old self.new 153 (attributes_text route.now) }
@@ -120,7 +120,7 @@ impl TextBuffer {
         self.len = place_attributes(&mut self.bytes, self.len, &self.shorts, route);
     }
 
-    /// How many bytes may still wait.
+    /// The number of bytes that may still be appended.
     #[inline]
     fn room(&self) -> usize
         ensures { result + length self.now.waiting ≡ 65536 }
@@ -136,7 +136,7 @@ impl TextBuffer {
         self.failed
     }
 
-    /// Hands on all that waits.
+    /// Passes on all pending bytes.
     #[tactic(auto, using(crate::proofs::TextLaws::Adds_dropped, crate::proofs::TextLaws::Adds_handed, crate::proofs::TextLaws::Adds_lost))]
     fn hand_on<W: Sink>(&mut self, out: &mut W)
         ensures writes { Writes W.contents W.failure_count out.old self.old out.new self.new [] }
@@ -184,7 +184,7 @@ impl TextBuffer {
         self.append_byte(byte);
     }
 
-    /// Hands on all that waits, and tells whether a write failed.
+    /// Passes on all pending bytes, and reports whether a write failed.
     pub(crate) fn finish<W: Sink>(&mut self, out: &mut W) -> Result<(), Failed>
         ensures ok { (contents : Option (List ℕ)) (failures : ℕ) (text : List ℕ) → IsText contents failures (text_state W.contents W.failure_count out.old self.old) text → OnOk result (IsWritten contents failures (W.contents out.new) (W.failure_count out.new) text) }
         ensures err { (contents : Option (List ℕ)) (failures : ℕ) (text : List ℕ) → IsText contents failures (text_state W.contents W.failure_count out.old self.old) text → OnErr result (IsCutOff contents failures (W.contents out.new) (W.failure_count out.new) text) }

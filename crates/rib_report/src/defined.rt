@@ -1,4 +1,4 @@
-//! What the rows of reports say, in words without an order of work. These are laws about definitions:
+//! What the rows of reports say, stated without an order of work. These are laws about definitions:
 //! nothing is computed.
 
 ghost use Rattle.std.specs.Prelude.{◌≡◌, ◌≤◌, ◌↔◌, ℕ, IsTrue, List, Some, length, map};
@@ -29,7 +29,7 @@ pub fn origins_are_of_all_routes()
         IsTrue (is_sorted prefix_cmp (map origins_pair (origin_rows tables))) }
 {}
 
-/// The listed faults stand by place. Those of one place are the same, in the same order, as among all
+/// The listed faults are ordered by place. Those of one place are the same, in the same order, as among all
 /// faults: the refusals come first, then the peers' by number.
 pub fn faults_stand_by_place()
     ensures sorted { (tables : TablesState) → IsSortedByKey (λ d. d.place) place_cmp (fault_rows tables) }

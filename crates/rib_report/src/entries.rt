@@ -45,7 +45,7 @@ fn add_entries<'a, M: PrefixMap<SharedRoute>>(
     Ok(())
 }
 
-/// Every entry of every table: peers by number, keys in order.
+/// Returns every entry of every table: peers by number, keys in order.
 pub fn table_rows<M: PrefixMap<SharedRoute>>(
     alloc: Global,
     tables: &Tables<M>,
@@ -59,10 +59,10 @@ pub fn table_rows<M: PrefixMap<SharedRoute>>(
     Ok(rows)
 }
 
-/// How many entries are touched together before their lines are put.
+/// How many entries are prefetched together before their lines are added.
 const NEAR_ENTRIES: usize = 64;
 
-/// The same where entries stand over much.
+/// The same for entries that refer to a lot of data.
 const NEAR_LONG_ENTRIES: usize = 16;
 
 /// The entries of one peer's table, keys in order.
@@ -72,7 +72,7 @@ struct Listed<'a> {
     entries: Vec<(RouteKey, &'a SharedRoute)>,
 }
 
-/// The entries of every table, by the place of its peer.
+/// Returns the entries of every table, by the index of its peer.
 fn all_entries<M: PrefixMap<SharedRoute>>(
     alloc: Global,
     tables: &Tables<M>,
@@ -90,9 +90,9 @@ fn all_entries<M: PrefixMap<SharedRoute>>(
     Ok(lists)
 }
 
-/// Reads a little of what each entry stands over, and answers how many entries to touch next. Routes lie
-/// far apart in memory, and reads that don't wait for one another overlap, so that the lines are then
-/// put from the processor's cache.
+/// Prefetches a little of what each entry refers to, and returns how many entries to prefetch next. Routes lie
+/// far apart in memory. Reads that don't wait for one another overlap, so the lines are then
+/// added from the processor's cache.
 fn touch_entries(entries: &[(RouteKey, &SharedRoute)]) -> usize
     ensures { 0 < result }
 {
@@ -121,7 +121,7 @@ fn put_block<W: Sink>(
     }
 }
 
-/// Adds the lines of the entries of one peer. After a failed write no line is made any more.
+/// Adds the lines of the entries of one peer. After a failed write, no more lines are made.
 fn put_entries<W: Sink>(
     text: &mut TextBuffer,
     out: &mut W,
@@ -153,9 +153,9 @@ fn put_lists<W: Sink>(text: &mut TextBuffer, out: &mut W, lists: &[Listed<'_>])
     }
 }
 
-/// Writes what `write_rows` writes of `table_rows`, without a list of all rows. All memory is taken
-/// before anything is written: where it answers `Memory`, nothing is. Where it answers `Write`, a
-/// front of the text is written.
+/// Writes what `write_rows` writes of `table_rows`, without a list of all rows. All memory is allocated
+/// before anything is written: if it returns `Memory`, nothing has been written. If it returns `Write`, a
+/// leading part of the text has been written.
 pub fn list_tables<M: PrefixMap<SharedRoute>, W: Sink>(
     alloc: Global,
     out: &mut W,

@@ -88,7 +88,7 @@ fn put_path<W: Sink>(text: &mut TextBuffer, out: &mut W, path: &Option<AsPath>)
     }
 }
 
-/// A route behind its peer, and the end of the line.
+/// Adds a route, which follows its peer, and the end of the line.
 fn put_route<W: Sink>(text: &mut TextBuffer, out: &mut W, key: &RouteKey, route: &Route)
     ensures { Writes W.contents W.failure_count out.old text.old out.new text.new (route_text key.now route.now) }
 {
@@ -109,7 +109,7 @@ pub(crate) fn put_optional_time<W: Sink>(text: &mut TextBuffer, out: &mut W, tim
     }
 }
 
-/// The line of a route.
+/// Adds the line of a route.
 pub(crate) fn put_row<W: Sink>(
     text: &mut TextBuffer,
     out: &mut W,
@@ -124,7 +124,7 @@ pub(crate) fn put_row<W: Sink>(
     put_route(text, out, key, route);
 }
 
-/// The number of a file, counted from 1.
+/// Adds the number of a file, counted from 1.
 pub(crate) fn put_file<W: Sink>(text: &mut TextBuffer, out: &mut W, file: usize)
     ensures { Writes W.contents W.failure_count out.old text.old out.new text.new (decimal (file + 1)) }
 {
@@ -132,7 +132,7 @@ pub(crate) fn put_file<W: Sink>(text: &mut TextBuffer, out: &mut W, file: usize)
     text.put(out, digits.format(file as u128 + 1).as_bytes());
 }
 
-/// The number of an entry, where there is one.
+/// Adds the number of an entry, if there is one.
 pub(crate) fn put_entry<W: Sink>(text: &mut TextBuffer, out: &mut W, entry: Option<u16>)
     ensures { Writes W.contents W.failure_count out.old text.old out.new text.new (field decimal entry) }
 {
@@ -142,7 +142,7 @@ pub(crate) fn put_entry<W: Sink>(text: &mut TextBuffer, out: &mut W, entry: Opti
     }
 }
 
-/// A fault that concerns an attribute of a type.
+/// Adds a fault that concerns an attribute of a given type.
 fn put_attribute_fault<W: Sink>(text: &mut TextBuffer, out: &mut W, code: u8)
     ensures { Writes W.contents W.failure_count out.old text.old out.new text.new (codes "BadAttribute(" ++ decimal code ++ codes ")") }
 {
@@ -151,7 +151,7 @@ fn put_attribute_fault<W: Sink>(text: &mut TextBuffer, out: &mut W, code: u8)
     text.put_byte(out, b')');
 }
 
-/// The number of a fault.
+/// Returns the number of a fault.
 fn number_of(fault: Fault) -> u64
     ensures { result ≡ fault_number fault }
 {
@@ -174,14 +174,14 @@ fn number_of(fault: Fault) -> u64
     }
 }
 
-/// The number of a fault.
+/// Adds the number of a fault.
 pub(crate) fn put_fault_number<W: Sink>(text: &mut TextBuffer, out: &mut W, fault: Fault)
     ensures { Writes W.contents W.failure_count out.old text.old out.new text.new (decimal (fault_number fault)) }
 {
     text.put_number(out, number_of(fault));
 }
 
-/// The name of a fault.
+/// Adds the name of a fault.
 pub(crate) fn put_fault<W: Sink>(text: &mut TextBuffer, out: &mut W, fault: Fault)
     ensures { Writes W.contents W.failure_count out.old text.old out.new text.new (fault_name fault) }
 {

@@ -15,7 +15,7 @@ use bgp_update::Route;
 use mrt_body::Damage;
 use mrt_frame::Sink;
 
-/// Reads a little of a route and of its path.
+/// Prefetches a route and its path by reading a little of each.
 pub(crate) fn touch_route(route: &Route) -> usize {
     let ends = route.next_hop.is_some() as usize + route.atomic as usize;
     match &route.path {
@@ -27,12 +27,12 @@ pub(crate) fn touch_route(route: &Route) -> usize {
     }
 }
 
-/// What one line of a report tells.
+/// The content of one report line.
 pub(crate) trait Line {
-    /// The line, its end with it.
+    /// The line, including its end.
     ghost line: { Self → List ℕ };
 
-    /// Reads a little of what the row stands over, where it lies elsewhere in memory.
+    /// Prefetches what the row refers to, if it lies elsewhere in memory, by reading a little of it.
     fn touch(&self) -> usize;
 
     /// Adds the line.

@@ -24,7 +24,7 @@ fn gather_faults<M: PrefixMap<SharedRoute>>(
     Ok(rows)
 }
 
-/// All faults in place order; where places are equal, the refusals first, then the peers' by number.
+/// Returns all faults in place order; where places are equal, the refusals come first, then the peers' by number.
 pub fn faults<M: PrefixMap<SharedRoute>>(
     alloc: Global,
     tables: &Tables<M>,

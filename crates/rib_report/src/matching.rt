@@ -1,4 +1,4 @@
-//! The longest match of an address at each peer.
+//! The longest-prefix match of an address at each peer.
 
 ghost use Rattle.std.specs.Prelude.{◌≡◌, ◌++◌, IfOk, OnOk, map};
 ghost use Rattle.bgp_prefix.specs.Maps.{paths_of};
@@ -34,7 +34,7 @@ fn add_paths<'a, M: PrefixMap<SharedRoute>>(
     Ok(())
 }
 
-/// Adds the entries of the longest match in one peer's table, where there is one.
+/// Adds the entries of the longest-prefix match in one peer's table, if there is one.
 fn add_matches<'a, M: PrefixMap<SharedRoute>>(
     alloc: Global,
     rows: &mut Vec<TableRow<'a>>,
@@ -49,7 +49,7 @@ fn add_matches<'a, M: PrefixMap<SharedRoute>>(
     }
 }
 
-/// For each peer, by number, all entries of the longest prefix that contains the address, by identifier
+/// Returns, for each peer by number, all entries of the longest prefix that contains the address, by identifier
 /// (RFC 1812, 5.2.4.3). A peer with no such prefix has none.
 pub fn matches<M: PrefixMap<SharedRoute>>(
     alloc: Global,

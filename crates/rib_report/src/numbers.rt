@@ -29,7 +29,7 @@ impl TextBuffer {
         self.put(out, digits.format(number).as_bytes());
     }
 
-    /// Adds seconds, a point and six digits of microseconds.
+    /// Adds seconds, a decimal point and six digits of microseconds.
     pub(crate) fn put_time<W: Sink>(&mut self, out: &mut W, time: u64)
         ensures { Writes W.contents W.failure_count out.old self.old out.new self.new (time_text time) }
     {
@@ -37,7 +37,7 @@ impl TextBuffer {
         self.put_microseconds(out, time % 1_000_000);
     }
 
-    /// A point and six digits.
+    /// Adds a decimal point and six digits.
     fn put_microseconds<W: Sink>(&mut self, out: &mut W, count: u64)
         ensures { Writes W.contents W.failure_count out.old self.old out.new self.new (46 ∷ digits_in decimal_glyph 10 6 count) }
     {
@@ -62,7 +62,7 @@ impl TextBuffer {
         self.append_behind(separator, number);
     }
 
-    /// Adds numbers in decimal, with a byte between each two.
+    /// Adds numbers in decimal, separated by a byte.
     pub(crate) fn put_numbers<W: Sink>(&mut self, out: &mut W, separator: u8, numbers: &[u32])
         ensures { Writes W.contents W.failure_count out.old self.old out.new self.new (numbers_text separator numbers.now) }
     {

@@ -1,4 +1,4 @@
-//! The prefixes with several origin ASes.
+//! Prefixes with more than one origin AS.
 
 ghost use Rattle.std.specs.Prelude.{◌≡◌, ◌≢◌, ◌<◌, ◌≤◌, ◌++◌, [], ◌∷◌, IfOk, OnOk, map, length};
 ghost use Rattle.std.specs.List.{AllWithin, HoldsAt, filter, filter_map};
@@ -15,7 +15,7 @@ use bgp_update::Route;
 use peer_tables::{Seated, Tables};
 use std::alloc::Global;
 
-/// The origin AS of a route (RFC 6811, 2).
+/// Returns the origin AS of a route (RFC 6811, 2).
 fn origin_of(route: &Route) -> Option<u32>
     ensures { result ≡ route_origin route.now }
 {
@@ -25,7 +25,7 @@ fn origin_of(route: &Route) -> Option<u32>
     }
 }
 
-/// Adds the prefix and the origin AS of a route that has one.
+/// Adds the prefix and the origin AS of a route, if it has one.
 fn add_origin(pairs: &mut Vec<(Prefix, u32)>, key: RouteKey, route: &Route) -> Result<(), Memory>
     ensures { OnOk result (pairs.new.items ≡ pairs.old.items ++ filter_map origin_pair ((key, route.now) ∷ [])) }
 {
@@ -35,7 +35,7 @@ fn add_origin(pairs: &mut Vec<(Prefix, u32)>, key: RouteKey, route: &Route) -> R
     Ok(())
 }
 
-/// Adds the prefix and the origin AS of each route of one peer that has one.
+/// Adds the prefix and the origin AS of each route of one peer that has an origin AS.
 fn add_origins<M: PrefixMap<SharedRoute>>(
     alloc: Global,
     pairs: &mut Vec<(Prefix, u32)>,
@@ -51,7 +51,7 @@ fn add_origins<M: PrefixMap<SharedRoute>>(
     Ok(())
 }
 
-/// The prefix and the origin AS of each route that has one.
+/// Returns the prefix and the origin AS of each route that has an origin AS.
 fn all_origins<M: PrefixMap<SharedRoute>>(
     alloc: Global,
     tables: &Tables<M>,
@@ -65,7 +65,7 @@ fn all_origins<M: PrefixMap<SharedRoute>>(
     Ok(pairs)
 }
 
-/// How many pairs at the front have this prefix.
+/// Returns how many pairs at the front have this prefix.
 fn run_length(pairs: &[(Prefix, u32)], first: Prefix) -> usize
     ensures within { result ≤ length pairs.now }
     ensures same { AllWithin (λ e. e.0 ≡ first) pairs.now 0 result }
@@ -79,7 +79,7 @@ fn run_length(pairs: &[(Prefix, u32)], first: Prefix) -> usize
     pairs.len()
 }
 
-/// The row of a prefix, from the pairs of its origins.
+/// Makes the row of a prefix from its pairs of prefix and origin AS.
 fn row_of_run(alloc: Global, prefix: Prefix, run: &[(Prefix, u32)]) -> Result<OriginRow, Memory>
     ensures { IfOk result (λ row. origin_row row ≡ record { prefix = prefix; origins = map (λ e. e.1) run.now }) }
 {
@@ -93,7 +93,7 @@ fn row_of_run(alloc: Global, prefix: Prefix, run: &[(Prefix, u32)]) -> Result<Or
     })
 }
 
-/// A row for each run of pairs of one prefix that has at least two.
+/// Makes a row for each run of at least two pairs with the same prefix.
 fn group_runs(alloc: Global, pairs: &[(Prefix, u32)]) -> Result<Vec<OriginRow>, Memory>
     requires { IsStrictlySortedBy pair_cmp pairs.now }
     ensures { IfOk result (λ rows. map origin_row rows.items ≡ filter has_several (grouped_origins pairs.now)) }
@@ -110,8 +110,8 @@ fn group_runs(alloc: Global, pairs: &[(Prefix, u32)]) -> Result<Vec<OriginRow>, 
     Ok(rows)
 }
 
-/// The prefixes whose routes have at least two different origin ASes, by prefix, each with its origin
-/// ASes, ascending.
+/// Returns the prefixes whose routes have at least two different origin ASes, by prefix, each with its origin
+/// ASes in ascending order.
 pub fn origins<M: PrefixMap<SharedRoute>>(
     alloc: Global,
     tables: &Tables<M>,

@@ -1,5 +1,5 @@
-//! Texts that are placed in a block of bytes: each call gives the place behind what it wrote. The place
-//! is a value of its own, so that it stays in a register.
+//! Texts that are written into a block of bytes: each call returns the position after what it wrote. The position
+//! is a separate value, so it stays in a register.
 
 ghost use Rattle.std.specs.Prelude.{◌≡◌, ℕ, ◌+◌, ◌<◌, ◌≤◌, ◌++◌, [], ◌∷◌, List, codes, decimal, length, take};
 ghost use Rattle.rib_report.specs.Texts.{Places};
@@ -32,8 +32,8 @@ fn place_text(bytes: &mut [u8], at: usize, text: &[u8]) -> usize
     end
 }
 
-/// The first bytes of a block, where the whole block has room. A block of a known length is quicker to
-/// copy than its front.
+/// Writes the first bytes of a block, where the whole block fits. Copying a block of known length is faster
+/// than copying its leading part.
 #[inline]
 fn place_front(bytes: &mut [u8], at: usize, block: &[u8], count: usize) -> usize
     requires { (count ≤ length block.now) × (at + length block.now ≤ length bytes.old) }
@@ -317,7 +317,7 @@ fn place_aggregator(
     }
 }
 
-/// The fields of a route behind its path, and the end of the line.
+/// Writes the fields of a route that follow its path, and the end of the line.
 pub(crate) fn place_attributes(
     bytes: &mut [u8],
     at: usize,

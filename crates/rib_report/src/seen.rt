@@ -1,4 +1,4 @@
-//! At how many peers each prefix is visible.
+//! The number of peers at which each prefix is visible.
 
 ghost use Rattle.std.specs.Prelude.{◌≡◌, ◌≢◌, ◌<◌, ◌≤◌, ◌++◌, IfOk, OnOk, map, length};
 ghost use Rattle.std.specs.List.{AllWithin, AllByRecursion, HoldsAt, flat_map};
@@ -25,7 +25,7 @@ fn is_repeat(last: Option<Prefix>, prefix: Prefix) -> bool
     }
 }
 
-/// Adds the prefixes of one peer's table, each once, whatever its identifiers.
+/// Adds the prefixes of one peer's table, each once, whatever its path identifiers.
 fn add_prefixes<M: PrefixMap<SharedRoute>>(
     alloc: Global,
     prefixes: &mut Vec<Prefix>,
@@ -46,7 +46,7 @@ fn add_prefixes<M: PrefixMap<SharedRoute>>(
     Ok(())
 }
 
-/// The prefixes of all tables, one table after another.
+/// Returns the prefixes of all tables, table by table.
 fn all_prefixes<M: PrefixMap<SharedRoute>>(
     alloc: Global,
     tables: &Tables<M>,
@@ -61,7 +61,7 @@ fn all_prefixes<M: PrefixMap<SharedRoute>>(
     Ok(prefixes)
 }
 
-/// How many prefixes at the front are this one.
+/// Returns how many prefixes at the front equal this one.
 fn run_length(prefixes: &[Prefix], first: Prefix) -> usize
     ensures within { result ≤ length prefixes.now }
     ensures same { AllWithin (λ p. p ≡ first) prefixes.now 0 result }
@@ -75,7 +75,7 @@ fn run_length(prefixes: &[Prefix], first: Prefix) -> usize
     prefixes.len()
 }
 
-/// A row for each run of equal prefixes.
+/// Makes a row for each run of equal prefixes.
 fn count_runs(alloc: Global, prefixes: &[Prefix]) -> Result<Vec<SeenRow>, Memory>
     requires { IsSorted prefix_cmp prefixes.now }
     ensures { IfOk result (λ rows. map seen_pair rows.items ≡ counted prefix_cmp prefixes.now) }
@@ -94,8 +94,8 @@ fn count_runs(alloc: Global, prefixes: &[Prefix]) -> Result<Vec<SeenRow>, Memory
     Ok(rows)
 }
 
-/// At how many peers each prefix is visible that is visible at any, by prefix. A peer counts once for a
-/// prefix, whatever the identifiers of its routes.
+/// Returns, for each prefix visible at any peer, the number of peers at which it is visible, by prefix. A peer
+/// counts once per prefix, whatever the identifiers of its routes.
 pub fn visibility<M: PrefixMap<SharedRoute>>(
     alloc: Global,
     tables: &Tables<M>,

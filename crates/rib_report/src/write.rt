@@ -15,14 +15,14 @@ use crate::row::{ChurnRow, OriginRow, SeenRow, TableRow};
 use mrt_body::Damage;
 use mrt_frame::{Failed, ReplayError, Sink};
 
-/// How many rows are touched together before their lines are written.
+/// How many rows are prefetched together before their lines are written.
 const NEAR_ROWS: usize = 64;
 
-/// The same where rows stand over much.
+/// The same for rows that refer to a lot of data.
 const NEAR_LONG_ROWS: usize = 16;
 
-/// Reads a little of what each row stands over, and answers how many rows to touch next. Routes lie
-/// far apart in memory, and reads that don't wait for one another overlap, so that the lines are then
+/// Prefetches a little of what each row refers to, and returns how many rows to prefetch next. Routes lie
+/// far apart in memory. Reads that don't wait for one another overlap, so the lines are then
 /// written from the processor's cache.
 fn touch_all<R: Line>(rows: &[R]) -> usize {
     let mut touched = 0usize;
@@ -64,7 +64,7 @@ fn write_lines<W: Sink, R: Line>(out: &mut W, rows: &[R]) -> Result<(), ReplayEr
     }
 }
 
-/// Writes the rows of `table_rows` or `matches`. Where it answers `Write`, a front of the text is
+/// Writes the rows of `table_rows` or `matches`. If it returns `Write`, a leading part of the text has been
 /// written.
 pub fn write_rows<W: Sink>(out: &mut W, rows: &[TableRow<'_>]) -> Result<(), ReplayError>
     ensures ok { OnOk result (Appends (W.contents out.old) (W.contents out.new) (flat_map (λ row. route_line (route_row row)) rows.now)) }
@@ -76,7 +76,7 @@ pub fn write_rows<W: Sink>(out: &mut W, rows: &[TableRow<'_>]) -> Result<(), Rep
     write_lines(out, rows)
 }
 
-/// Writes the rows of `visibility`. Where it answers `Write`, a front of the text is written.
+/// Writes the rows of `visibility`. If it returns `Write`, a leading part of the text has been written.
 pub fn write_visibility<W: Sink>(out: &mut W, rows: &[SeenRow]) -> Result<(), ReplayError>
     ensures ok { OnOk result (Appends (W.contents out.old) (W.contents out.new) (flat_map (λ row. visibility_line (seen_row row)) rows.now)) }
     ensures front { OnErr result (WritesFront (W.contents out.old) (W.contents out.new) (flat_map (λ row. visibility_line (seen_row row)) rows.now)) }
@@ -87,7 +87,7 @@ pub fn write_visibility<W: Sink>(out: &mut W, rows: &[SeenRow]) -> Result<(), Re
     write_lines(out, rows)
 }
 
-/// Writes the rows of `origins`. Where it answers `Write`, a front of the text is written.
+/// Writes the rows of `origins`. If it returns `Write`, a leading part of the text has been written.
 pub fn write_origins<W: Sink>(out: &mut W, rows: &[OriginRow]) -> Result<(), ReplayError>
     ensures ok { OnOk result (Appends (W.contents out.old) (W.contents out.new) (flat_map (λ row. origin_line (origin_row row)) rows.now)) }
     ensures front { OnErr result (WritesFront (W.contents out.old) (W.contents out.new) (flat_map (λ row. origin_line (origin_row row)) rows.now)) }
@@ -98,7 +98,7 @@ pub fn write_origins<W: Sink>(out: &mut W, rows: &[OriginRow]) -> Result<(), Rep
     write_lines(out, rows)
 }
 
-/// Writes the rows of `churn`. Where it answers `Write`, a front of the text is written.
+/// Writes the rows of `churn`. If it returns `Write`, a leading part of the text has been written.
 pub fn write_churn<W: Sink>(out: &mut W, rows: &[ChurnRow]) -> Result<(), ReplayError>
     ensures ok { OnOk result (Appends (W.contents out.old) (W.contents out.new) (flat_map (λ row. churn_line (churn_row row)) rows.now)) }
     ensures front { OnErr result (WritesFront (W.contents out.old) (W.contents out.new) (flat_map (λ row. churn_line (churn_row row)) rows.now)) }
@@ -109,7 +109,7 @@ pub fn write_churn<W: Sink>(out: &mut W, rows: &[ChurnRow]) -> Result<(), Replay
     write_lines(out, rows)
 }
 
-/// Writes the rows of `faults`. Where it answers `Write`, a front of the text is written.
+/// Writes the rows of `faults`. If it returns `Write`, a leading part of the text has been written.
 pub fn write_faults<W: Sink>(out: &mut W, rows: &[Damage]) -> Result<(), ReplayError>
     ensures ok { OnOk result (Appends (W.contents out.old) (W.contents out.new) (flat_map fault_line rows.now)) }
     ensures front { OnErr result (WritesFront (W.contents out.old) (W.contents out.new) (flat_map fault_line rows.now)) }
