@@ -22,13 +22,13 @@ $(PROGRAM): $(shell find crates -path '*/out' -prune -o -type f -print) crates.t
 	cp $(BUILT) $(PROGRAM)
 
 help:
-	@echo 'make            builds bin/bgp_replay (a first build proves every crate: half an hour on 4 cores)'
+	@echo 'make            builds bin/bgp_replay (a first build proves every crate below: twenty to thirty minutes on 4 cores)'
 	@echo 'make run        replays the sample by `tables`'
 	@echo 'make check      the gate: every proof, must-fail edit, test and run from nothing, and make scripts'
 	@echo 'make verdict    each crate from nothing, with its tests'
 	@echo 'make scripts    tries lines and statuses, the packages, and the recipes of README.md'
 	@echo 'make refusals   fails each allocation, read, write and thread start in turn'
-	@echo 'make growths    fails each allocation of the test programs, which say what is left then'
+	@echo 'make growths    fails each allocation of the test programs that state what is left then'
 	@echo 'make same       every number of workers and ring gives the same bytes'
 	@echo 'make fuzz       replays damaged dumps (FILES=800 of them; SAMPLES=DIRECTORY adds dumps to damage)'
 	@echo 'make edits      tries further wrong bodies of each crate: the check must refuse them'
