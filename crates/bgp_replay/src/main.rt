@@ -1,7 +1,7 @@
 //! `bgp_replay`: the replay of MRT route-collector dumps into one table per peer, and reports on it.
 #![tactic(auto)]
 
-ghost use Rattle.std.specs.Prelude.{◌≤◌};
+ghost use Rattle.std.specs.Prelude.{◌≡◌, ◌≤◌, IsTrue};
 ghost use Rattle.lane_deal.specs.Plans.{IsPlan};
 
 mod counts;
@@ -55,6 +55,7 @@ const MOST_WORKERS: usize = 64;
 fn workers_of(threads: &impl Threads, job: &Job) -> usize
     ensures least { 1 ≤ result }
     ensures most { result ≤ 64 }
+    ensures asked { IsTrue job.now.has_workers → result ≡ job.now.workers }
 {
     if job.has_workers {
         return job.workers;
@@ -68,7 +69,10 @@ fn workers_of(threads: &impl Threads, job: &Job) -> usize
 fn plan_of(job: &Job, workers: usize) -> Plan
     requires least { 1 ≤ workers }
     requires most { workers ≤ 64 }
-    ensures { IsPlan result }
+    ensures plan { IsPlan result }
+    ensures workers { result.workers ≡ workers }
+    ensures ring { result.ring ≡ job.now.ring }
+    ensures until { result.until ≡ job.now.until }
 {
     Plan {
         workers,
