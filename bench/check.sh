@@ -10,7 +10,7 @@ cp -a "$top/crates" "$top/crates.txt" "$top/HANDLES" "$work" && cd "$work/crates
 for below in $(sed -n "s/^$crate[^:]*: //p" ../../crates.txt); do [ ! -d "../$below" ] || (cd "../$below" && rt check > /dev/null); done
 rm -rf out; kind=check; ! grep -rq '#\[test\]' src || kind=test
 rt "$kind" --jobs 1 > log 2>&1 || { cat log; exit 1; }
-find out/incremental -name '*.oantt' -printf '%T@ %f\n' | sort -n | awk -v lines="$lines" '
+find out/incremental -maxdepth 2 -name '*.oantt' -printf '%T@ %f\n' | sort -n | awk -v lines="$lines" '
   NR == 1 { first = $1 }
   NR > 1 {
     name = $2; sub(/\.oantt$/, "", name); took = $1 - last

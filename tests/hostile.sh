@@ -15,7 +15,7 @@ program=$(realpath "$1"); shift; here=$(dirname "$(realpath "$0")"); work=$(mkte
 ratio=${RATIO:-2.3}; wide=${SCATTERED:-3.0}; per_byte=${PER_BYTE:-40}; rounds=${ROUNDS:-2}; seconds=${SECONDS_A_RUN:-60}
 for tool in gen_hostile measure; do cc -O2 -o "$work/$tool" "$here/$tool.c" || exit 2; done
 passed=0; failed=0
-scattered='nested far-peers'
+scattered='ids-mixed nested far-peers'
 is_over() {
   local most=$ratio; case " $scattered " in *" $name "*) most=$wide;; esac
   awk "BEGIN { exit !($took >= 0.1 && $before * $most < $took) }"
