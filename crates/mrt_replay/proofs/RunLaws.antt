@@ -1,5 +1,5 @@
 -- A run: its report, what it counts, and how it stops.
-use Rattle.std.proofs.Common.{◌≡◌, ◌⊎◌, inl, inr, ℕ, ◌+◌, ◌-◌, ◌^◌, true, false, cond, min, List, [], ◌∷◌, Option, Result, Ok, Err, refl, sym, ap, ◌∙◌, subst, arith, length, is_err}
+use Rattle.std.proofs.Common.{◌≡◌, ◌⊎◌, inl, inr, ℕ, ◌+◌, ◌-◌, ◌^◌, true, false, cond, min, List, [], ◌∷◌, Option, Result, Ok, Err, refl, sym, ap, ◌∙◌, subst, arith, length, is_err, OnOk}
 use Rattle.std.specs.List.{enumerate_from}
 use Rattle.std.specs.Io.KnownBytes.{Appends, Keeps}
 use Rattle.std.specs.Ordering.{is_lt}
@@ -62,6 +62,11 @@ risen a b e = elim (cases_lt a (2 ^ 64 - 1)) [ inl h ↦ inl (omega (arith, e, h
 pub flush_failed : {T E : Type 0} (result : Result T E) (start before after : ℕ) → before ≡ start → is_err result ≡ true → CountsFailure before after result → HasFailed start after
 flush_failed (Ok x) start before after same failed counted = let clash : false ≡ true = failed in absurd cc
 flush_failed (Err e) start before after same failed counted = subst (λ n. HasFailed n after) same (risen before after counted)
+
+-- a flush that doesn't fail leaves the writer flushed
+pub flush_succeeded : {T E P : Type 0} (result : Result T E) → is_err result ≡ false → OnOk result P → P
+flush_succeeded (Ok x) succeeded h = h
+flush_succeeded (Err e) succeeded h = let clash : true ≡ false = succeeded in absurd cc
 
 -- all of a text is a front of it
 pub front_whole : (old new : Option (List ℕ)) (bytes : List ℕ) → Appends old new bytes → WritesFront old new bytes

@@ -1,5 +1,5 @@
 -- The headline: what a run that completes has done, and why one doesn't. The contract of `run` names these.
-use Rattle.std.specs.Prelude.{◌≡◌, ℕ, ◌<◌, List, Option, Result, IfOk, IfErr, length, slice_index}
+use Rattle.std.specs.Prelude.{◌≡◌, ℕ, ◌<◌, Bool, true, List, Option, Result, IfOk, IfErr, OnOk, length, slice_index}
 use Rattle.std.specs.Io.KnownBytes.{Appends, Keeps}
 use Rattle.mrt_frame.specs.Devices.{HasFailed}
 use Rattle.mrt_frame.specs.Writes.{WritesFront}
@@ -11,7 +11,8 @@ use Rattle.mrt_replay.specs.declared.summary.Summary.{Summary}
 use Rattle.mrt_replay.specs.Reports.{report, IsSummary}
 use Rattle.mrt_replay.specs.Premises.{AreSound, AreWithin, AreHonest}
 
--- What a run is given, and what it leaves: the bytes that the readers tell, those that the writer holds, and how often each failed.
+-- What a run is given, and what it leaves: the bytes that the readers tell, those that the writer holds, how often each failed, and
+-- whether the writer is flushed.
 pub record RunState : Type 0 where
   pub request : Request
   pub plan : Plan
@@ -22,6 +23,7 @@ pub record RunState : Type 0 where
   pub readers_after : List ℕ
   pub writer : ℕ
   pub writer_after : ℕ
+  pub flushed_after : Bool
   pub result : Result Summary ReplayError
 
 -- ---- a run that completes
@@ -34,6 +36,10 @@ pub record IsReplayed (run : RunState) (files : List (List ℕ)) (summary : Summ
 -- For every list of files, every plan and every dealing, a run that completes has replayed them.
 abbrev pub Headline : RunState → Type 0
 Headline run = (files : List (List ℕ)) → AreHonest run.told files → IfOk run.result (IsReplayed run files)
+
+-- A run that completes leaves nothing written that isn't flushed, whatever the devices tell.
+abbrev pub Flushes : RunState → Type 0
+Flushes run = OnOk run.result (run.flushed_after ≡ true)
 
 -- ---- a run that doesn't
 
@@ -61,5 +67,6 @@ Completes run =
 -- What is promised of every run, whatever came of it.
 pub record IsPromised (run : RunState) : Type 0 where
   pub headline : Headline run
+  pub flushed : Flushes run
   pub cause : StopsWithCause run
   pub completes : Completes run

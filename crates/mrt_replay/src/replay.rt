@@ -47,8 +47,8 @@ where
     D: Dealing + Sync,
     G: Gate,
     requires { IsPlan plan.now }
-    // A run that completes wrote the report on the files' bytes, byte for byte, and counted them. An error has
-    // its cause, and leaves nothing written, or a leading part of the report. With sound devices and records within
+    // A run that completes wrote the report on the files' bytes, byte for byte, counted them, and flushed the
+    // writer after that. An error has its cause, and leaves nothing written, or a leading part of the report. With sound devices and records within
     // the limit it completes, unless it runs out of memory.
     ensures promised { IsPromised (record {
       request = request.now;
@@ -60,6 +60,7 @@ where
       readers_after = map R.failure_count files.new;
       writer = W.failure_count out.old;
       writer_after = W.failure_count out.new;
+      flushed_after = W.is_flushed out.new;
       result = result;
     }) }
     // Any error except the writer's leaves it untouched.

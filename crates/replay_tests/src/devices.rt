@@ -5,7 +5,7 @@ use adj_rib::SharedRoute;
 use bgp_prefix::Radix;
 use fixtures::{Dripping, dump};
 use lane_deal::{ByTurns, NoGate, Plan};
-use mrt_frame::{Counted, ReplayError};
+use mrt_frame::{Counted, ReplayError, Sink};
 use mrt_replay::{Summary, run, status};
 use rib_report::Request;
 use std::alloc::Global;
@@ -123,7 +123,7 @@ fn every_read_interrupted_by_four_workers(rt: HostRuntime) -> Result<(), Fail> {
 
 /// What a run over one file in memory answers, to a writer.
 fn run_into(
-    rt: &(impl Threads + Sync),
+    rt: &(impl Threads + Abort + Sync),
     alloc: Global,
     bytes: &[u8],
     writer: Full,
@@ -140,6 +140,7 @@ fn run_into(
         &NoGate,
         &mut out,
     );
+    assert!(rt; out.is_flushed() == result.is_ok(), "the flush");
     let written = Vec::from_slice(alloc, out.device().written.as_slice())?;
     Ok((result, written))
 }
@@ -175,18 +176,18 @@ fn every_write_failed(rt: HostRuntime) -> Result<(), Fail> {
             );
         }
     }
-    let writer = Full {
-        room: 1000,
-        fails: true,
-        flushes: false,
-        written: Vec::new(alloc),
-    };
-    let (result, written) = run_into(&rt, alloc, bytes.as_slice(), writer)?;
-    assert!(rt;
-        is_write_error(&result) && written.as_slice() == text,
-        "a flush that fails"
-    );
-    assert_eq!(rt; status(&result), 3);
+    for flushes in [false, true] {
+        let writer = Full {
+            room: 1000,
+            fails: true,
+            flushes,
+            written: Vec::new(alloc),
+        };
+        let (result, written) = run_into(&rt, alloc, bytes.as_slice(), writer)?;
+        assert!(rt; written.as_slice() == text, "all is written");
+        assert!(rt; is_write_error(&result) != flushes, "a flush that fails");
+        assert!(rt; result.is_ok() == flushes, "a flush that succeeds");
+    }
     Ok(())
 }
 

@@ -7,7 +7,7 @@ use Rattle.mrt_frame.specs.declared.error.ReplayError.TheVariants as errors
 use Rattle.mrt_replay.specs.Headline.{RunState}
 use Rattle.mrt_replay.proofs.HeadlineLaws.{stopped}
 use Rattle.mrt_replay.specs.Reports.{lines_of}
-use Rattle.mrt_replay.proofs.RunLaws.{lines_are_report, damaged_counted, peers_counted, routes_counted, flush_failed, front_whole, stops_writing, stops_reading}
+use Rattle.mrt_replay.proofs.RunLaws.{lines_are_report, damaged_counted, peers_counted, routes_counted, flush_failed, flush_succeeded, front_whole, stops_writing, stops_reading}
 use Rattle.mrt_replay.proofs.replay.run.Goals as goal
 
 pub returns-in-Err-clause-promised : goal.returns-in-Err-clause-promised
@@ -22,6 +22,7 @@ returns-in-Err-clause-promised g c =
       readers_after = map g.R.Failures.failure_count c.replay.new.files;
       writer = g.W.Failures.failure_count c.args.out.now;
       writer_after = g.W.Failures.failure_count c.args.out.now;
+      flushed_after = g.W.Sink.is_flushed c.args.out.now;
       result = Err c.in-Err.error;
     } in
     stopped run c.in-Err.error refl (stops_reading run c.in-Err.error refl c.in-Err.ensures.cause)
@@ -42,6 +43,7 @@ returns-in-Err-write_report-clause-promised g c =
       readers_after = map g.R.Failures.failure_count c.replay.new.files;
       writer = g.W.Failures.failure_count c.args.out.now;
       writer_after = g.W.Failures.failure_count c.write_report.new.out;
+      flushed_after = g.W.Sink.is_flushed c.write_report.new.out;
       result = Err error;
     } in
     stopped run error refl (stops_writing run error h.errors
@@ -62,6 +64,7 @@ returns-then-is_err-clause-promised g c =
       readers_after = map g.R.Failures.failure_count c.replay.new.files;
       writer = g.W.Failures.failure_count c.args.out.now;
       writer_after = g.W.Failures.failure_count c.flush_all.new.self;
+      flushed_after = g.W.Sink.is_flushed c.flush_all.new.self;
       result = Err errors.Write;
     } in
     stopped run errors.Write refl (
@@ -88,6 +91,7 @@ returns-clause-promised g c = record {
           rounds = p.few_rounds;
         };
       };
+  flushed = flush_succeeded c.flush_all.result (sym c.is_err.ensures.value ∙ c.if-is_err.false) c.flush_all.ensures.flushed;
   cause = tt;
   completes = λ files honest sound within. tt;
 }
