@@ -1,20 +1,21 @@
 //! The session of one peer: its table (Adj-RIB-In, RFC 4271, 3.2), its churn and its damaged units.
 #![tactic(auto)]
 
-mod attr_cache;
 mod churn;
 mod holding;
 mod outcome;
+mod read_ahead;
 mod rib_in;
+mod route_set;
 mod session;
 mod shared_route;
 mod source;
 mod table;
 mod update;
 
-pub use attr_cache::AttrHash;
 pub use churn::Churn;
 pub use holding::table_has_what_holds;
+pub use read_ahead::ReadAhead;
 pub use session::Session;
 pub use shared_route::SharedRoute;
 pub use source::routes_come_while_up;

@@ -1,6 +1,7 @@
-use crate::attr_cache::{AttrCache, AttrHash};
 use crate::churn::Churn;
 use crate::outcome::Outcome;
+use crate::read_ahead::ReadAhead;
+use crate::route_set::{HashedRoute, RouteSet};
 use crate::shared_route::SharedRoute;
 use crate::table::announce_route;
 use crate::update::apply_update;
@@ -19,7 +20,7 @@ pub(crate) struct RibIn<M: PrefixMap<SharedRoute>> {
     pub(crate) table: M,
     pub(crate) churn: Churn,
     pub(crate) faults: Vec<Damage>,
-    cache: AttrCache,
+    routes: RouteSet,
 }
 
 impl<M: PrefixMap<SharedRoute>> RibIn<M> {
@@ -29,6 +30,11 @@ impl<M: PrefixMap<SharedRoute>> RibIn<M> {
     ghost use Rattle.mrt_body.specs.declared.unit.Payload.TheVariants as payloads;
     ghost use Rattle.adj_rib.specs.Applied.{START, counted_if, followed, refused, IsNoEntry, read_as, taken};
     ghost use Rattle.adj_rib.specs.Keeping.{kept_in};
+    ghost use Rattle.std.specs.Option.{ForSome};
+    ghost use Rattle.adj_rib.specs.RouteSets.{IsAheadOf};
+    ghost use Rattle.bgp_update.specs.Attributes.{route_in};
+    ghost use Rattle.bgp_update.specs.Packing.{IsWritable};
+    ghost use Rattle.bgp_update.specs.declared.width.Width.TheVariants.{Four};
 
     /// Returns that of a peer without units, which is up.
     pub(crate) fn new(alloc: Global) -> RibIn<M>
@@ -39,7 +45,7 @@ impl<M: PrefixMap<SharedRoute>> RibIn<M> {
             table: M::new(alloc),
             churn: Churn::new(),
             faults: Vec::new(alloc),
-            cache: AttrCache::new(alloc),
+            routes: RouteSet::new(alloc),
         }
     }
 
@@ -65,13 +71,20 @@ impl<M: PrefixMap<SharedRoute>> RibIn<M> {
     /// Takes the steps of an UPDATE.
     #[tactic(auto, unfolding(crate::specs::Applied::followed, crate::specs::Applied::noted))]
     fn change(&mut self, alloc: Global, update: Update) -> Result<(), Memory>
+        requires { IsWritable update.route.path }
         ensures { OnOk result (kept_in M.contents self.new ≡ followed (kept_in M.contents self.old) (Ok (events.Change update))) }
     {
         if !self.up {
             self.count_idle();
             return Ok(());
         }
-        apply_update(alloc, &mut self.table, &mut self.churn, update)
+        apply_update(
+            alloc,
+            &mut self.routes,
+            &mut self.table,
+            &mut self.churn,
+            update,
+        )
     }
 
     /// Lists a damaged unit.
@@ -84,28 +97,39 @@ impl<M: PrefixMap<SharedRoute>> RibIn<M> {
         Ok(())
     }
 
+    /// Takes the steps of a RIB entry.
+    #[tactic(auto, unfolding(crate::specs::Applied::followed, crate::specs::Applied::noted))]
+    fn hold(&mut self, alloc: Global, key: RouteKey, hashed: &HashedRoute) -> Result<(), Memory>
+        ensures { OnOk result (kept_in M.contents self.new ≡ followed (kept_in M.contents self.old) (Ok (events.Rib key hashed.now.route))) }
+    {
+        if self.up {
+            let slot = self.routes.slot_of(alloc, hashed)?;
+            let route = self.routes.route_at(slot);
+            return announce_route(alloc, &mut self.table, &mut self.churn, key, route);
+        }
+        self.count_idle();
+        Ok(())
+    }
+
     /// Takes a RIB entry.
-    #[tactic(auto, unfolding(crate::specs::Applied::followed, crate::specs::Applied::noted, mrt_body::specs::Events::event_in))]
+    #[tactic(auto, unfolding(mrt_body::specs::Events::event_in))]
     fn enter(
         &mut self,
         alloc: Global,
         place: Place,
         key: RouteKey,
         attrs: &[u8],
-        hash: AttrHash,
+        ahead: &ReadAhead,
     ) -> Result<(), Memory>
+        requires { ForSome ahead.now.read (λ hashed. route_in Four attrs.now ≡ Ok hashed.route) }
         ensures { OnOk result (kept_in M.contents self.new ≡ read_as (kept_in M.contents self.old) place (event_in (payloads.Entry key attrs.now))) }
     {
-        self.cache.forget_old(alloc, self.table.len());
-        match self.cache.slot_of(alloc, hash, attrs) {
-            Ok(slot) => {
-                let route = self.cache.route_at(slot, attrs);
-                if self.up {
-                    return announce_route(alloc, &mut self.table, &mut self.churn, key, route);
-                }
-                self.count_idle();
-                Ok(())
-            }
+        if let Some(hashed) = &ahead.read {
+            return self.hold(alloc, key, hashed);
+        }
+        let mut buffer = Vec::new(alloc);
+        match HashedRoute::read(alloc, &mut buffer, attrs) {
+            Ok(hashed) => self.hold(alloc, key, &hashed),
             Err(AttrError::Bad(fault)) => self.refuse(Damage { place, fault }),
             Err(AttrError::Memory) => Err(Memory),
         }
@@ -130,24 +154,36 @@ impl<M: PrefixMap<SharedRoute>> RibIn<M> {
         }
     }
 
-    /// Prefetches the slot that `take` will look at for attributes of this hash.
-    pub(crate) fn prefetch_slot(&self, hash: AttrHash) -> usize {
-        self.cache.prefetch_slot(hash)
+    /// Prefetches the slot where `take` will look.
+    pub(crate) fn prefetch_slot(&self, ahead: &ReadAhead) -> usize {
+        match &ahead.read {
+            Some(hashed) => self.routes.prefetch_slot(hashed),
+            None => 0,
+        }
     }
 
-    /// Prefetches what `take` will find for attributes of this hash.
-    pub(crate) fn prefetch_reading(&self, hash: AttrHash) -> usize {
-        self.cache.prefetch_reading(hash)
+    /// Prefetches the route that `take` will find.
+    pub(crate) fn prefetch_route(&self, ahead: &ReadAhead) -> usize {
+        match &ahead.read {
+            Some(hashed) => self.routes.prefetch_route(hashed),
+            None => 0,
+        }
     }
 
     /// Takes the next unit.
-    pub(crate) fn take(&mut self, alloc: Global, unit: &Unit, hash: AttrHash) -> Result<(), Memory>
+    pub(crate) fn take(
+        &mut self,
+        alloc: Global,
+        unit: &Unit,
+        ahead: &ReadAhead,
+    ) -> Result<(), Memory>
+        requires { IsAheadOf unit.now.payload ahead.now }
         ensures { OnOk result (kept_in M.contents self.new ≡ taken (kept_in M.contents self.old) unit.now) }
     {
         self.churn.note_time(unit.time);
         match &unit.payload {
             Payload::Entry { key, attrs } => {
-                self.enter(alloc, unit.place, *key, attrs.as_slice(), hash)
+                self.enter(alloc, unit.place, *key, attrs.as_slice(), ahead)
             }
             payload => self.follow(alloc, unit.place, payload),
         }

@@ -1,10 +1,11 @@
 ghost use Rattle.std.specs.Prelude.{◌≡◌, [], ◌∷◌, ◌++◌, List, OnOk, is_err, IsErr, IsTrue};
 ghost use Rattle.std.specs.FinMap as finite;
+ghost use Rattle.adj_rib.specs.RouteSets.{IsAheadOf};
 ghost use Rattle.adj_rib.specs.Sessions.{StandsFor};
 ghost use Rattle.mrt_body.specs.declared.unit.Unit.{Unit as ReplayUnit};
 
-use crate::attr_cache::AttrHash;
 use crate::churn::Churn;
+use crate::read_ahead::ReadAhead;
 use crate::rib_in::RibIn;
 use crate::shared_route::SharedRoute;
 use bgp_prefix::{Memory, PrefixMap};
@@ -47,12 +48,17 @@ impl<M: PrefixMap<SharedRoute>> Session<M> {
         ensures spent { self.new.spent ≡ is_err result }
         ensures stays_spent { IsTrue self.old.spent → IsErr result }
     {
-        self.take_hashed(alloc, unit, AttrHash::of(unit))
+        self.take_ahead(alloc, unit, &ReadAhead::nothing())
     }
 
-    /// Takes the next unit as `take` does, whatever the hash is. With the hash of the unit's attributes it finds
-    /// what they encode again.
-    pub fn take_hashed(&mut self, alloc: Global, unit: &Unit, hash: AttrHash) -> Result<(), Memory>
+    /// Takes the next unit as `take` does, with what was read ahead of it.
+    pub fn take_ahead(
+        &mut self,
+        alloc: Global,
+        unit: &Unit,
+        ahead: &ReadAhead,
+    ) -> Result<(), Memory>
+        requires { IsAheadOf unit.now.payload ahead.now }
         ensures stands { (before : List ReplayUnit) → StandsFor self.old before → OnOk result (StandsFor self.new (before ++ unit.now ∷ [])) }
         ensures spent { self.new.spent ≡ is_err result }
         ensures stays_spent { IsTrue self.old.spent → IsErr result }
@@ -60,7 +66,7 @@ impl<M: PrefixMap<SharedRoute>> Session<M> {
         if self.spent {
             return Err(Memory);
         }
-        match self.rib.take(alloc, unit, hash) {
+        match self.rib.take(alloc, unit, ahead) {
             Ok(()) => Ok(()),
             Err(memory) => {
                 self.spent = true;
@@ -69,17 +75,16 @@ impl<M: PrefixMap<SharedRoute>> Session<M> {
         }
     }
 
-    /// Prefetches the slot that `take_hashed` will look at for attributes of this hash. Slots, and
-    /// what they hold, are far apart in memory: a caller that does this for several units first, and then
-    /// `prefetch_reading` for all of them, lets these cache misses overlap. The number means nothing.
-    pub fn prefetch_slot(&self, hash: AttrHash) -> usize {
-        self.rib.prefetch_slot(hash)
+    /// Prefetches the slot of the peer's routes where `take_ahead` will look. Slots and routes are far apart in memory:
+    /// a caller that does this for several units first, and then `prefetch_route` for all of them, lets these cache
+    /// misses overlap. The number means nothing.
+    pub fn prefetch_slot(&self, ahead: &ReadAhead) -> usize {
+        self.rib.prefetch_slot(ahead)
     }
 
-    /// Prefetches what `take_hashed` will find for attributes of this hash. The number means
-    /// nothing.
-    pub fn prefetch_reading(&self, hash: AttrHash) -> usize {
-        self.rib.prefetch_reading(hash)
+    /// Prefetches the route that `take_ahead` will find. The number means nothing.
+    pub fn prefetch_route(&self, ahead: &ReadAhead) -> usize {
+        self.rib.prefetch_route(ahead)
     }
 
     /// Whether the last state change led to Established, or there was none.

@@ -3,7 +3,7 @@
 ghost use Rattle.std.specs.Prelude.{◌≡◌, IfOk};
 
 use bgp_prefix::Memory;
-use bgp_update::Route;
+use bgp_update::PackedRoute;
 use std::alloc::Global;
 use std::marker::Model;
 use std::sync::Arc;
@@ -11,7 +11,7 @@ use std::sync::Arc;
 /// A route that is stored once for all the keys that have it, and that contracts see as the route.
 #[derive(Drop)]
 pub struct SharedRoute {
-    route: Arc<Route>,
+    route: Arc<PackedRoute>,
 }
 
 impl Model for SharedRoute {
@@ -25,7 +25,7 @@ impl Model for SharedRoute {
 
 impl SharedRoute {
     /// Returns the route with one owner.
-    pub fn new(alloc: Global, route: Route) -> Result<SharedRoute, Memory>
+    pub fn new(alloc: Global, route: PackedRoute) -> Result<SharedRoute, Memory>
         ensures { IfOk result (λ shared. shared ≡ route) }
     {
         let route = Arc::new(alloc, route)?;
@@ -51,13 +51,23 @@ impl SharedRoute {
         SharedRoute::new(alloc, self.route().try_copy(alloc)?)
     }
 
-    /// Prefetches the count of owners, where a further one will be counted. The number means nothing.
+    /// Prefetches the count of owners, where a further one will be counted, and the route's last byte: they may be in
+    /// different cache lines. The number means nothing.
     pub(crate) fn touch(&self) -> usize {
-        Arc::strong_count(&self.route)
+        let last = match self.route.as_bytes().last() {
+            Some(byte) => *byte as usize,
+            None => 0,
+        };
+        Arc::strong_count(&self.route).saturating_add(last)
+    }
+
+    /// Whether it has another owner.
+    pub(crate) fn is_shared(&self) -> bool {
+        Arc::strong_count(&self.route) > 1
     }
 
     /// The route itself.
-    pub fn route(&self) -> &Route
+    pub fn route(&self) -> &PackedRoute
         ensures { result.now ≡ self.now }
     {
         &self.route

@@ -1,10 +1,12 @@
 ghost use Rattle.std.specs.Prelude.{◌≡◌, ◌||◌, ◌++◌, map, not, OnOk};
 ghost use Rattle.std.specs.List.{fold, filter};
 ghost use Rattle.bgp_prefix.specs.Keys.{among};
+ghost use Rattle.bgp_update.specs.Packing.{IsWritable};
 ghost use Rattle.adj_rib.specs.Steps.{announce, withdraw, withdrawals, announcements, reachings, update_steps};
 ghost use Rattle.adj_rib.specs.Applied.{applied};
 
 use crate::churn::Churn;
+use crate::route_set::{HashedRoute, RouteSet};
 use crate::shared_route::SharedRoute;
 use crate::table::{announce_route, withdraw_key};
 use bgp_prefix::{KeySet, Memory, PrefixMap, RouteKey};
@@ -47,18 +49,20 @@ fn announce_all<M: PrefixMap<SharedRoute>>(
 /// Announces each key, if any, with the one route that they share.
 fn announce_keys<M: PrefixMap<SharedRoute>>(
     alloc: Global,
+    routes: &mut RouteSet,
     table: &mut M,
     churn: &mut Churn,
     keys: &[RouteKey],
-    route: Route,
+    route: &Route,
 ) -> Result<(), Memory>
-    ensures { OnOk result ((M.contents table.new, churn.new) ≡ fold applied (M.contents table.old, churn.old) (map (λ key. announce key route) keys.now)) }
+    requires { IsWritable route.now.path }
+    ensures { OnOk result ((M.contents table.new, churn.new) ≡ fold applied (M.contents table.old, churn.old) (map (λ key. announce key route.now) keys.now)) }
 {
     if keys.is_empty() {
         return Ok(());
     }
-    let route = SharedRoute::new(alloc, route)?;
-    announce_all(alloc, table, churn, keys, &route)
+    let slot = routes.slot_of(alloc, &HashedRoute::pack(alloc, route)?)?;
+    announce_all(alloc, table, churn, keys, routes.route_at(slot))
 }
 
 /// Withdraws what an UPDATE withdraws but neither announces nor reaches.
@@ -82,10 +86,12 @@ fn withdraw_update<M: PrefixMap<SharedRoute>>(
 /// Announces what an UPDATE announces, and then what it reaches with its attribute 14.
 fn announce_update<M: PrefixMap<SharedRoute>>(
     alloc: Global,
+    routes: &mut RouteSet,
     table: &mut M,
     churn: &mut Churn,
     update: Update,
 ) -> Result<(), Memory>
+    requires { IsWritable update.route.path }
     ensures { OnOk result ((M.contents table.new, churn.new) ≡ fold applied (M.contents table.old, churn.old) (announcements update ++ reachings update)) }
 {
     let Update {
@@ -96,25 +102,22 @@ fn announce_update<M: PrefixMap<SharedRoute>>(
         reached_hop,
     } = update;
     let (announced, reached) = (announced.as_slice(), reached.as_slice());
-    if reached.is_empty() {
-        return announce_keys(alloc, table, churn, announced, route);
-    }
-    if !announced.is_empty() {
-        announce_keys(alloc, table, churn, announced, route.try_copy(alloc)?)?;
-    }
+    announce_keys(alloc, routes, table, churn, announced, &route)?;
     let route = route.with_next_hop(reached_hop);
-    announce_keys(alloc, table, churn, reached, route)
+    announce_keys(alloc, routes, table, churn, reached, &route)
 }
 
 /// Takes the steps of an UPDATE.
 pub(crate) fn apply_update<M: PrefixMap<SharedRoute>>(
     alloc: Global,
+    routes: &mut RouteSet,
     table: &mut M,
     churn: &mut Churn,
     update: Update,
 ) -> Result<(), Memory>
+    requires { IsWritable update.route.path }
     ensures { OnOk result ((M.contents table.new, churn.new) ≡ fold applied (M.contents table.old, churn.old) (update_steps update)) }
 {
     withdraw_update(alloc, table, churn, &update)?;
-    announce_update(alloc, table, churn, update)
+    announce_update(alloc, routes, table, churn, update)
 }

@@ -1,4 +1,4 @@
-ghost use Rattle.std.specs.Prelude.{◌≡◌, ◌≢◌, ◌<◌, ◌≤◌, ◌+◌, ℕ, List, [], ◌∷◌, ◌++◌, not, T, IfOk, IfErr, OnOk, OnErr, IfSome, IfNone, OnSome, length, map, take, drop, vec_len, nat_lt, true, false};
+ghost use Rattle.std.specs.Prelude.{◌≡◌, ◌≢◌, ◌<◌, ◌≤◌, ◌+◌, ℕ, List, [], ◌∷◌, ◌++◌, not, T, IfOk, IfErr, OnOk, OnErr, IfSome, IfNone, OnSome, length, map, take, drop, vec_len, vec_capacity, nat_lt, true, false};
 ghost use Rattle.std.specs.List.{All, list_any};
 ghost use Rattle.std.specs.List.Sorted.{IsPartitionPoint};
 ghost use Rattle.std.specs.declared.cmp.Ordering.TheVariants.{Less};
@@ -171,16 +171,16 @@ impl<V: Drop> Flat<V> {
         self.items.is_empty()
     }
 
-    /// Appends the entries to a list, in key order.
-    pub(crate) fn list<'a>(&'a self, all: &mut Vec<(RouteKey, &'a V)>) -> Result<(), Memory>
-        ensures { OnOk result (entries_now all.new.items ≡ entries_now all.old.items ++ self.now) }
+    /// Appends the entries to a list that has room for them, in key order. Allocates nothing.
+    pub(crate) fn append_to<'a>(&'a self, all: &mut Vec<(RouteKey, &'a V)>)
+        requires { vec_len all.old + length self.now ≤ vec_capacity all.old }
+        ensures entries { entries_now all.new.items ≡ entries_now all.old.items ++ self.now }
+        ensures len { vec_len all.new ≡ vec_len all.old + length self.now }
+        ensures capacity { vec_capacity all.new ≡ vec_capacity all.old }
     {
         for item in &self.items {
-            if all.push((item.0, &item.1)).is_err() {
-                return Err(Memory);
-            }
+            all.push_reserved((item.0, &item.1));
         }
-        Ok(())
     }
 
     /// Returns the whole map, in key order. An `Err` means that an allocation failed.
@@ -189,7 +189,7 @@ impl<V: Drop> Flat<V> {
         ensures sorted { T (is_sorted key_cmp self.now) }
     {
         let mut all = Vec::with_capacity(alloc, self.items.len())?;
-        self.list(&mut all)?;
+        self.append_to(&mut all);
         Ok(all)
     }
 
@@ -434,7 +434,9 @@ impl<V: Drop> PrefixMap<V> for Flat<V> {
         Flat::len(self)
     }
 
-    fn entries(&self, alloc: Global) -> Result<Vec<(RouteKey, &V)>, Memory> {
-        Flat::entries(self, alloc)
+    fn list<'a>(&'a self, all: &mut Vec<(RouteKey, &'a V)>) {
+        // That the items are in order is known once they are read.
+        let _ = &self.items;
+        self.append_to(all);
     }
 }

@@ -1,7 +1,7 @@
-ghost use Rattle.std.specs.Prelude.{◌≡◌, ℕ, OnOk, OnErr, IfOk, IfSome, IfNone, map};
+ghost use Rattle.std.specs.Prelude.{◌≡◌, ◌+◌, ◌≤◌, ◌++◌, ℕ, OnOk, OnErr, IfOk, IfSome, IfNone, map, vec_len, vec_capacity};
 ghost use Rattle.std.specs.Option.{option_copied};
 ghost use Rattle.std.specs.FinMap as finite;
-ghost use Rattle.bgp_prefix.specs.Keys.{key_cmp};
+ghost use Rattle.bgp_prefix.specs.Keys.{key_cmp, entries_now};
 ghost use Rattle.bgp_prefix.specs.Maps.{IsLongestMatch, HasNoMatch, paths_of};
 
 use crate::key::RouteKey;
@@ -50,7 +50,19 @@ pub trait PrefixMap<V: Drop> {
     fn len(&self) -> usize
         ensures { result ≡ finite.len (contents self.now) };
 
+    /// Appends the whole map to a list that has room for it, in key order. Allocates nothing.
+    fn list<'a>(&'a self, all: &mut Vec<(RouteKey, &'a V)>)
+        requires { vec_len all.old + finite.len (contents self.now) ≤ vec_capacity all.old }
+        ensures entries { entries_now all.new.items ≡ entries_now all.old.items ++ finite.entries (contents self.now) }
+        ensures len { vec_len all.new ≡ vec_len all.old + finite.len (contents self.now) }
+        ensures capacity { vec_capacity all.new ≡ vec_capacity all.old };
+
     /// Returns the whole map, in key order.
     fn entries(&self, alloc: Global) -> Result<Vec<(RouteKey, &V)>, Memory>
-        ensures { IfOk result (λ v. map (λ e. (e.0, e.1.now)) v.items ≡ finite.entries (contents self.now)) };
+        ensures { IfOk result (λ v. map (λ e. (e.0, e.1.now)) v.items ≡ finite.entries (contents self.now)) }
+    {
+        let mut all = Vec::with_capacity(alloc, self.len())?;
+        self.list(&mut all);
+        Ok(all)
+    }
 }

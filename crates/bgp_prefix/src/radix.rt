@@ -1,4 +1,4 @@
-ghost use Rattle.std.specs.Prelude.{◌≡◌, ◌≢◌, ℕ, ◌+◌, ◌-◌, ◌*◌, ◌<◌, ◌≤◌, IsTrue, Option, Some, None, IsSome, [], ◌∷◌, ◌++◌, map, not, true, OnOk, OnErr, IfOk, IfSome, IfNone, if◌then◌else◌};
+ghost use Rattle.std.specs.Prelude.{◌≡◌, ◌≢◌, ℕ, ◌+◌, ◌-◌, ◌*◌, ◌<◌, ◌≤◌, IsTrue, Option, Some, None, IsSome, [], ◌∷◌, ◌++◌, length, map, not, true, vec_len, vec_capacity, OnOk, OnErr, IfOk, IfSome, IfNone, if◌then◌else◌};
 ghost use Rattle.std.specs.Option.{option_copied, option_or};
 ghost use Rattle.std.specs.Ordering.{eq_by_cmp};
 ghost use Rattle.std.specs.FinMap as finite;
@@ -415,17 +415,20 @@ impl<V: Drop> Branch<V> {
         }
     }
 
-    /// Appends the routes to a list, in key order.
-    fn list<'a>(&'a self, all: &mut Vec<(RouteKey, &'a V)>) -> Result<(), Memory>
-        ensures { OnOk result (entries_now all.new.items ≡ entries_now all.old.items ++ routes self.now) }
+    /// Appends the routes to a list that has room for them, in key order. Allocates nothing.
+    fn list<'a>(&'a self, all: &mut Vec<(RouteKey, &'a V)>)
+        requires { vec_len all.old + length (routes self.now) ≤ vec_capacity all.old }
+        ensures entries { entries_now all.new.items ≡ entries_now all.old.items ++ routes self.now }
+        ensures len { vec_len all.new ≡ vec_len all.old + length (routes self.now) }
+        ensures capacity { vec_capacity all.new ≡ vec_capacity all.old }
     {
         match self {
-            Branch::Nothing => Ok(()),
-            Branch::Leaf(leaf) => leaf.list(all),
+            Branch::Nothing => {}
+            Branch::Leaf(leaf) => leaf.append_to(all),
             Branch::Fork(fork) => {
-                fork.here.list(all)?;
-                fork.low.list(all)?;
-                fork.high.list(all)
+                fork.here.append_to(all);
+                fork.low.list(all);
+                fork.high.list(all);
             }
         }
     }
@@ -659,9 +662,7 @@ impl<V: Drop> PrefixMap<V> for Radix<V> {
         self.len
     }
 
-    fn entries(&self, alloc: Global) -> Result<Vec<(RouteKey, &V)>, Memory> {
-        let mut all = Vec::with_capacity(alloc, self.len)?;
-        self.root.list(&mut all)?;
-        Ok(all)
+    fn list<'a>(&'a self, all: &mut Vec<(RouteKey, &'a V)>) {
+        self.root.list(all);
     }
 }

@@ -153,3 +153,11 @@ route_itself a =
 
 pub same_as_route : (a b : Route) → a ≡ b → route_eq a b ≡ true
 same_as_route a b h = ap (route_eq a) (sym h) ∙ route_itself a
+
+-- a test that tells equal routes is the test of all fields
+pub tells_same : (b : Bool) (x y : Route) → (b ≡ true → x ≡ y) → (x ≡ y → b ≡ true) → b ≡ route_eq x y
+tells_same true x y f g = sym (same_as_route x y (f refl))
+tells_same false x y f g = elim (route_eq x y) as (λ t. route_eq x y ≡ t → false ≡ t) [
+  | true ↦ λ e. g (same_route x y e)
+  | false ↦ λ e. refl
+] refl

@@ -18,10 +18,10 @@ use std::alloc::Global;
 
 /// An AS path segment whose numbers are still bytes.
 #[derive(Drop)]
-struct SegmentField<'a> {
-    kind: SegmentKind,
-    count: u8,
-    octets: &'a [u8],
+pub(crate) struct SegmentField<'a> {
+    pub(crate) kind: SegmentKind,
+    pub(crate) count: u8,
+    pub(crate) octets: &'a [u8],
 }
 
 fn kind_of(number: u8) -> Option<SegmentKind>
@@ -46,7 +46,10 @@ fn number_len_of(width: Width) -> usize
 }
 
 #[tactic(auto, unfolding(crate::specs::Segments::segment_field_at))]
-fn segment_field_at(bytes: &[u8], width: Width) -> Result<(SegmentField<'_>, &[u8]), Fault>
+pub(crate) fn segment_field_at(
+    bytes: &[u8],
+    width: Width,
+) -> Result<(SegmentField<'_>, &[u8]), Fault>
     ensures { Reads (λ x. (record { kind = x.0.kind; count = x.0.count; octets = x.0.octets.now }, x.1.now)) result (segments_spec.segment_field_at (number_len width) bytes.now) }
 {
     let (number, rest) = byte_at(bytes, Fault::BadPath)?;

@@ -6,13 +6,14 @@ ghost use Rattle.bgp_update.specs.Answers.{Gives};
 ghost use Rattle.bgp_update.specs.Attributes.{ReadsAsRoute, route_in};
 ghost use Rattle.bgp_update.specs.Updates as updates;
 ghost use Rattle.bgp_update.specs.Updates.{ReadsAsUpdate, said_update, update_in};
+ghost use Rattle.bgp_update.specs.Packing.{IsWritable};
 ghost use Rattle.bgp_update.specs.Values.{kept_value};
 
 use crate::key::read_keys;
 use crate::multiprotocol::{reached, with_unreached};
 use crate::route::{Route, Update};
 use crate::saying::route_from;
-use crate::values::{FirstValues, first_values};
+use crate::values::{FirstValues, keep_values};
 use crate::width::{AttrError, Carrier, Width};
 use bgp_prefix::{RouteKey, Sequence};
 use mrt_frame::{Fault, bytes_at, u16_at};
@@ -79,7 +80,13 @@ fn whole_update(
 {
     let fields = fields_in(body)?;
     let withdrawn = read_keys(alloc, fields.withdrawn, add_path)?;
-    let first = first_values(fields.attributes, Carrier::Message { add_path }, width)?;
+    let mut first = FirstValues::new();
+    keep_values(
+        &mut first,
+        fields.attributes,
+        Carrier::Message { add_path },
+        width,
+    )?;
     let announced = read_keys(alloc, fields.announced, add_path)?;
     update_from(alloc, withdrawn, &first, announced, width, add_path)
 }
@@ -88,7 +95,8 @@ fn whole_update(
 fn whole_route(alloc: Global, bytes: &[u8], width: Width) -> Result<Route, AttrError>
     ensures { Gives (λ route. route) result (route_in width bytes.now) }
 {
-    let first = first_values(bytes, Carrier::RibEntry, width)?;
+    let mut first = FirstValues::new();
+    keep_values(&mut first, bytes, Carrier::RibEntry, width)?;
     let route = route_from(alloc, &first, width)?;
     Ok(route)
 }
@@ -102,6 +110,8 @@ pub fn read_attrs(alloc: Global, bytes: &[u8], width: Width) -> Result<Route, At
     ensures only { (route : Route) → ReadsAsRoute width bytes.now route → Gives (λ r. r) result (Ok route) }
     // Which fault it is.
     ensures exact { Gives (λ r. r) result (route_in width bytes.now) }
+    // It can be packed.
+    ensures writable { IfOk result (λ route. IsWritable route.path) }
 {
     whole_route(alloc, bytes, width)
 }
@@ -118,6 +128,7 @@ pub fn read_update(
     ensures found { IfOk result (ReadsAsUpdate width add_path body.now) }
     ensures only { (update : Update) → ReadsAsUpdate width add_path body.now update → Gives (λ u. u) result (Ok update) }
     ensures exact { Gives (λ u. u) result (update_in width add_path body.now) }
+    ensures writable { IfOk result (λ update. IsWritable update.route.path) }
 {
     whole_update(alloc, body, width, add_path)
 }

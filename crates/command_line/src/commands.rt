@@ -174,44 +174,6 @@ fn address_option<'a>(alloc: Global) -> Arg<'a> {
         .help("An IPv4 address, such as 192.0.2.1")
 }
 
-/// What may follow a command.
-#[derive(Clone, Copy, PartialEq, Eq)]
-enum Argument {
-    Workers,
-    Ring,
-    Until,
-    Header,
-    Summary,
-    Progress,
-    Files,
-    Address,
-}
-
-/// All of them, in the order in which the help lists them.
-const ARGUMENTS: [Argument; 8] = [
-    Argument::Workers,
-    Argument::Ring,
-    Argument::Until,
-    Argument::Header,
-    Argument::Summary,
-    Argument::Progress,
-    Argument::Files,
-    Argument::Address,
-];
-
-fn described<'a>(alloc: Global, argument: Argument) -> Arg<'a> {
-    match argument {
-        Argument::Workers => workers_option(alloc),
-        Argument::Ring => ring_option(alloc),
-        Argument::Until => until_option(alloc),
-        Argument::Header => header_flag(alloc),
-        Argument::Summary => summary_flag(alloc),
-        Argument::Progress => progress_flag(alloc),
-        Argument::Files => file_words(alloc),
-        Argument::Address => address_option(alloc),
-    }
-}
-
 /// The reports: the command, what it prints, and what its help says after the options.
 const REPORTS: [(&str, &str, &str); 6] = [
     ("tables", "Print every route of every peer", TABLES_AFTER),
@@ -248,33 +210,34 @@ fn report_command<'a>(
     about: &'a str,
     after: &'a str,
 ) -> Result<Command<'a>, AllocError> {
-    let mut report = Command::new(alloc, name)
+    let report = Command::new(alloc, name)
         .about(about)
         .after_help(after)
-        .args_override_self(true);
-    for argument in ARGUMENTS {
-        if argument != Argument::Address || name == "match" {
-            report = report.arg(described(alloc, argument))?;
-        }
+        .args_override_self(true)
+        .arg(workers_option(alloc))?
+        .arg(ring_option(alloc))?
+        .arg(until_option(alloc))?
+        .arg(header_flag(alloc))?
+        .arg(summary_flag(alloc))?
+        .arg(progress_flag(alloc))?
+        .arg(file_words(alloc))?;
+    if name == "match" {
+        return report.arg(address_option(alloc));
     }
     Ok(report)
 }
 
-fn program<'a>(alloc: Global) -> Result<Command<'a>, AllocError> {
-    Command::new(alloc, "bgp_replay")
+/// Returns the command line of the program.
+pub fn command<'a>(alloc: Global) -> Result<Command<'a>, AllocError> {
+    let mut whole = Command::new(alloc, "bgp_replay")
+        .bin_name("bgp_replay")?
         .version(VERSION)
         .about(ABOUT)
         .after_help(AFTER)
         .no_binary_name(true)
         .propagate_version(true)
         .subcommand_required(true)
-        .arg_required_else_help(true)
-        .bin_name("bgp_replay")
-}
-
-/// Returns the command line of the program.
-pub fn command<'a>(alloc: Global) -> Result<Command<'a>, AllocError> {
-    let mut whole = program(alloc)?;
+        .arg_required_else_help(true);
     for (name, about, after) in REPORTS {
         whole = whole.subcommand(report_command(alloc, name, about, after)?)?;
     }

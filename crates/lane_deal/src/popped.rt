@@ -1,20 +1,25 @@
-use crate::numbered::Numbered;
-use adj_rib::AttrHash;
+ghost use Rattle.adj_rib.specs.RouteSets.{IsAheadOf};
 
-/// An item that was popped from a ring, and where its session will look for its route.
+use crate::numbered::Numbered;
+use adj_rib::ReadAhead;
+use std::alloc::Global;
+
+/// An item that was popped from a ring, and what was read ahead of it.
 #[derive(Drop)]
 pub struct Popped {
     pub item: Numbered,
-    pub hash: AttrHash,
+    pub ahead: ReadAhead,
+    ghost ahead_of_item: { IsAheadOf item.unit.payload ahead },
 }
 
 impl Popped {
     ghost use Rattle.std.specs.Prelude.{◌≡◌};
 
-    pub fn new(item: Numbered) -> Popped
+    /// Reads ahead of an item by way of a buffer, whose contents are replaced.
+    pub fn new(alloc: Global, buffer: &mut Vec<u8>, item: Numbered) -> Popped
         ensures { result.item ≡ item }
     {
-        let hash = AttrHash::of(&item.unit);
-        Popped { item, hash }
+        let ahead = ReadAhead::of(alloc, buffer, &item.unit);
+        Popped { item, ahead }
     }
 }

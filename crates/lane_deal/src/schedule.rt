@@ -16,7 +16,7 @@ use crate::scheduled::Lanes;
 use crate::seats::Seats;
 use crate::sessions::Sessions;
 use crate::turn::Turn;
-use adj_rib::{AttrHash, SharedRoute};
+use adj_rib::{ReadAhead, SharedRoute};
 use bgp_prefix::{Memory, PrefixMap, Sequence};
 use mrt_body::Unit;
 use peer_tables::Seated;
@@ -109,8 +109,7 @@ fn take_one<M: PrefixMap<SharedRoute> + Drop>(
     let Some(item) = lane.ring.pop_front() else {
         return Ok(());
     };
-    let hash = AttrHash::of(&item.unit);
-    lane.seats.take(alloc, &item, hash)?;
+    lane.seats.take(alloc, &item, &ReadAhead::nothing())?;
     lane.took = lane.took.saturating_add(1);
     Ok(())
 }

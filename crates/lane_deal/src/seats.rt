@@ -2,13 +2,14 @@
 
 ghost use Rattle.std.specs.Prelude.{◌≡◌, ◌<◌, ℕ, Some, false, length, map, slice_get, slice_index_or, IfOk, IfSome, OnOk, IsTrue, MatchOption, true, ◌==◌};
 ghost use Rattle.std.specs.List.{list_any};
+ghost use Rattle.adj_rib.specs.RouteSets.{IsAheadOf};
 ghost use Rattle.peer_tables.specs.Seats.{seat_of};
 ghost use Rattle.lane_deal.specs.Seating.{AreIndexed, SeatFor, TakenAt};
 
 use crate::numbered::Numbered;
 use crate::popped::Popped;
 use crate::sessions::Sessions;
-use adj_rib::{AttrHash, Session, SharedRoute};
+use adj_rib::{ReadAhead, Session, SharedRoute};
 use bgp_prefix::{Memory, PrefixMap};
 use mrt_body::{PeerKey, Unit};
 use peer_tables::Seated;
@@ -70,13 +71,14 @@ fn take_at<M: PrefixMap<SharedRoute>>(
     seats: &mut [Seated<M>],
     at: usize,
     unit: &Unit,
-    hash: AttrHash,
+    ahead: &ReadAhead,
 ) -> Result<(), Memory>
-    requires { at < length seats.old }
+    requires within { at < length seats.old }
+    requires ahead { IsAheadOf unit.now.payload ahead.now }
     ensures taken { OnOk result (TakenAt (map seat_of seats.old) (map seat_of seats.new) at unit.now) }
     ensures numbers { map (λ seat. seat.number) seats.new ≡ map (λ seat. seat.number) seats.old }
 {
-    seats[at].session.take_hashed(alloc, unit, hash)
+    seats[at].session.take_ahead(alloc, unit, ahead)
 }
 
 impl<M: PrefixMap<SharedRoute> + Drop> Seats<M> {
@@ -160,17 +162,17 @@ impl<M: PrefixMap<SharedRoute> + Drop> Seats<M> {
         Some(&seat.session)
     }
 
-    /// Prefetches the slots of all popped units, and then what these slots hold. The returned number has no meaning.
+    /// Prefetches the slots where the routes of all popped units would be, and then these routes. The returned number has no meaning.
     fn touch(&self, popped: &[Popped]) -> usize {
         let mut touched = 0usize;
         for near in popped {
             if let Some(session) = self.session_near(near) {
-                touched = touched.saturating_add(session.prefetch_slot(near.hash));
+                touched = touched.saturating_add(session.prefetch_slot(&near.ahead));
             }
         }
         for near in popped {
             if let Some(session) = self.session_near(near) {
-                touched = touched.saturating_add(session.prefetch_reading(near.hash));
+                touched = touched.saturating_add(session.prefetch_route(&near.ahead));
             }
         }
         touched
@@ -197,8 +199,8 @@ impl<M: PrefixMap<SharedRoute> + Drop> Sessions for Seats<M> {
         self.prefetched = self.touch(popped);
     }
 
-    fn take(&mut self, alloc: Global, item: &Numbered, hash: AttrHash) -> Result<(), Memory> {
+    fn take(&mut self, alloc: Global, item: &Numbered, ahead: &ReadAhead) -> Result<(), Memory> {
         let at = self.position_for(alloc, item.number, &item.unit.peer)?;
-        take_at(alloc, &mut self.seats, at, &item.unit, hash)
+        take_at(alloc, &mut self.seats, at, &item.unit, ahead)
     }
 }

@@ -1,12 +1,13 @@
 use crate::numbered::Numbered;
 use crate::popped::Popped;
-use adj_rib::AttrHash;
+use adj_rib::ReadAhead;
 use bgp_prefix::Memory;
 use std::alloc::Global;
 
 /// The sessions of one lane.
 pub trait Sessions {
     ghost use Rattle.std.specs.Prelude.{List, [], ◌∷◌, ◌++◌, OnOk};
+    ghost use Rattle.adj_rib.specs.RouteSets.{IsAheadOf};
     ghost use Rattle.lane_deal.specs.declared.numbered.Numbered.{Numbered};
 
     /// The sessions are in the state that these units lead to.
@@ -19,7 +20,8 @@ pub trait Sessions {
     fn prefetch(&mut self, popped: &[Popped])
         ensures { (taken : List Numbered) → stands_for self.old taken → stands_for self.new taken };
 
-    /// Takes the next unit, whatever the hash is.
-    fn take(&mut self, alloc: Global, item: &Numbered, hash: AttrHash) -> Result<(), Memory>
+    /// Takes the next unit, with what was read ahead of it.
+    fn take(&mut self, alloc: Global, item: &Numbered, ahead: &ReadAhead) -> Result<(), Memory>
+        requires { IsAheadOf item.now.unit.payload ahead.now }
         ensures { OnOk result ((taken : List Numbered) → stands_for self.old taken → stands_for self.new (taken ++ item.now ∷ [])) };
 }

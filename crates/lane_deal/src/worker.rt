@@ -35,7 +35,9 @@ const NEAR_UNITS: usize = 32;
 
 /// Pops the first items of those known to be pending.
 fn pop_near(
+    alloc: Global,
     consumer: &mut Consumer<Numbered, Global, Small>,
+    buffer: &mut Vec<u8>,
     popped: &mut Vec<Popped>,
 ) -> Result<(), Memory>
     requires known { 0 < length (known_items consumer.old) }
@@ -45,7 +47,7 @@ fn pop_near(
 {
     for taken in 0..consumer.cached_slots().min(NEAR_UNITS) {
         let item = consumer.pop_known();
-        popped.push(Popped::new(item))?;
+        popped.push(Popped::new(alloc, buffer, item))?;
     }
     Ok(())
 }
@@ -64,21 +66,23 @@ impl<S: Sessions> Worker<S> {
         ensures { OnOk result (Worked S.stands_for self.old self.new) }
     {
         let mut popped = Vec::with_capacity(alloc, NEAR_UNITS)?;
-        self.take_all_known(alloc, gate, &mut popped)?;
-        self.look_again(alloc, gate, over, patience, &mut popped)
+        let mut buffer = Vec::new(alloc);
+        self.take_all_known(alloc, gate, &mut buffer, &mut popped)?;
+        self.look_again(alloc, gate, over, patience, &mut buffer, &mut popped)
     }
 
     fn take_all_known<G: Gate>(
         &mut self,
         alloc: Global,
         gate: &G,
+        buffer: &mut Vec<u8>,
         popped: &mut Vec<Popped>,
     ) -> Result<(), Memory>
         ensures { OnOk result (Took S.stands_for self.old self.new (known_items self.old.consumer)) }
     {
         let _taken = self.taken;
         while self.consumer.cached_slots() > 0 {
-            self.take_near(alloc, gate, popped)?;
+            self.take_near(alloc, gate, buffer, popped)?;
         }
         Ok(())
     }
@@ -89,6 +93,7 @@ impl<S: Sessions> Worker<S> {
         gate: &G,
         over: &AtomicBool,
         patience: Patience,
+        buffer: &mut Vec<u8>,
         popped: &mut Vec<Popped>,
     ) -> Result<(), Memory>
         ensures { OnOk result (TookSome S.stands_for self.old self.new) }
@@ -97,7 +102,7 @@ impl<S: Sessions> Worker<S> {
         let mut further = 0u64;
         while empty < patience.looks && further < patience.batch {
             let last = over.load(Ordering::SeqCst);
-            if self.take_found(alloc, gate, popped)? {
+            if self.take_found(alloc, gate, buffer, popped)? {
                 further = further.saturating_add(popped.len() as u64).max(further + 1);
             } else if last {
                 break;
@@ -114,6 +119,7 @@ impl<S: Sessions> Worker<S> {
         &mut self,
         alloc: Global,
         gate: &G,
+        buffer: &mut Vec<u8>,
         popped: &mut Vec<Popped>,
     ) -> Result<bool, Memory>
         ensures { OnOk result (TookSome S.stands_for self.old self.new) }
@@ -122,7 +128,7 @@ impl<S: Sessions> Worker<S> {
         if self.consumer.is_empty() {
             return Ok(false);
         }
-        self.take_near(alloc, gate, popped)?;
+        self.take_near(alloc, gate, buffer, popped)?;
         Ok(true)
     }
 
@@ -131,13 +137,14 @@ impl<S: Sessions> Worker<S> {
         &mut self,
         alloc: Global,
         gate: &G,
+        buffer: &mut Vec<u8>,
         popped: &mut Vec<Popped>,
     ) -> Result<(), Memory>
         requires { 0 < length (known_items self.old.consumer) }
         ensures { OnOk result (TookFront S.stands_for self.old self.new) }
     {
         popped.clear();
-        pop_near(&mut self.consumer, popped)?;
+        pop_near(alloc, &mut self.consumer, buffer, popped)?;
         self.take_popped(alloc, gate, popped)?;
         Ok(())
     }
@@ -154,7 +161,7 @@ impl<S: Sessions> Worker<S> {
         self.sessions.prefetch(popped);
         for near in popped {
             gate.before(self.lane, self.taken);
-            self.sessions.take(alloc, &near.item, near.hash)?;
+            self.sessions.take(alloc, &near.item, &near.ahead)?;
             self.taken = self.taken.saturating_add(1);
         }
         Ok(())

@@ -1,5 +1,5 @@
 -- What payloads mean (RFC 4271, 4.1 to 4.3).
-use Rattle.std.specs.Prelude.{◌≡◌, ◌≢◌, ℕ, ◌+◌, ◌^◌, ◌<◌, Bool, slice_index, List, ◌∷◌, ◌++◌, length, take, drop, replicate, Result, Ok, Err, nat_lt, ◌==◌, if◌then◌else◌}
+use Rattle.std.specs.Prelude.{⊤, ◌≡◌, ◌≢◌, ℕ, ◌+◌, ◌^◌, ◌<◌, Bool, slice_index, List, ◌∷◌, ◌++◌, length, take, drop, replicate, Result, Ok, Err, nat_lt, ◌==◌, if◌then◌else◌}
 use Rattle.std.specs.List.{list_all}
 use Rattle.byteorder.specs.Endian.{big_number, big_bytes}
 use Rattle.bgp_prefix.specs.declared.key.RouteKey.{RouteKey}
@@ -10,6 +10,7 @@ use Rattle.bgp_update.specs.declared.width.Width.{Width}
 use Rattle.bgp_update.specs.declared.width.Width.TheVariants.{Four}
 use Rattle.bgp_update.specs.Attributes.{ReadsAsRoute, route_in}
 use Rattle.bgp_update.specs.Updates.{ReadsAsUpdate, update_in}
+use Rattle.bgp_update.specs.Packing.{IsWritable}
 use Rattle.mrt_body.specs.declared.unit.Payload.{Payload}
 use Rattle.mrt_body.specs.declared.unit.Payload.TheVariants.{State, Message, Entry}
 use Rattle.mrt_body.specs.declared.meaning.Event.{Event}
@@ -49,6 +50,13 @@ abbrev pub IsEvent : Payload → Event → Type 0
 IsEvent (State from to) e = e ≡ event.State from to
 IsEvent (Message bytes width add_path) e = IsMessageEvent width add_path bytes e
 IsEvent (Entry key attrs) e = IsEntryEvent key attrs e
+
+-- the path of the event's route, if it has one, can be written with four-octet AS numbers
+abbrev pub IsWritableEvent : Event → Type 0
+IsWritableEvent (event.Change update) = IsWritable update.route.path
+IsWritableEvent (event.Rib key route) = IsWritable route.path
+IsWritableEvent (event.State old new) = ⊤
+IsWritableEvent event.Other = ⊤
 
 -- ---- reading, with the first fault
 

@@ -2,7 +2,7 @@
 
 ghost use Rattle.std.specs.Prelude.{◌≡◌, IfOk, Ok};
 ghost use Rattle.bgp_update.specs.Answers.{Gives};
-ghost use Rattle.mrt_body.specs.Events.{IsEvent, IsMessageEvent, event_in, message_event_in};
+ghost use Rattle.mrt_body.specs.Events.{IsEvent, IsMessageEvent, IsWritableEvent, event_in, message_event_in};
 
 use crate::meaning::Event;
 use crate::message::message_in;
@@ -24,6 +24,7 @@ fn message_event(
     ensures found { IfOk result (IsMessageEvent width add_path bytes.now) }
     ensures only { (e : Event) → IsMessageEvent width add_path bytes.now e → Gives (λ e. e) result (Ok e) }
     ensures exact { Gives (λ e. e) result (message_event_in width add_path bytes.now) }
+    ensures writable { IfOk result IsWritableEvent }
 {
     let (kind, body) = match message_in(bytes) {
         Ok(message) => message,
@@ -48,6 +49,8 @@ pub fn event(alloc: Global, payload: &Payload) -> Result<Event, AttrError>
     ensures only { (e : Event) → IsEvent payload.now e → Gives (λ e. e) result (Ok e) }
     // Which fault it is.
     ensures exact { Gives (λ e. e) result (event_in payload.now) }
+    // Its route can be packed.
+    ensures writable { IfOk result IsWritableEvent }
 {
     match payload {
         Payload::State { from, to } => Ok(Event::State(*from, *to)),

@@ -478,6 +478,13 @@ module _ {V : Type 0} where
   pub chunks_more : (cs : List (List (RouteKey × V))) (i : ℕ) (c : List (RouteKey × V)) → i < length cs → c ≡ get_or cs i c → in_chunks (take (i + 1) cs) ≡ in_chunks (take i cs) ++ c
   chunks_more cs i c lt read = ap in_chunks (take_more cs i c lt) ∙ chunks_append (take i cs) (get_or cs i c ∷ []) ∙ ap (λ t. in_chunks (take i cs) ++ t) (append-nil (get_or cs i c) ∙ sym read)
 
+  -- a chunk and those before it are no longer than all of them
+  pub chunk_within : (cs : List (List (RouteKey × V))) (i : ℕ) (c : List (RouteKey × V)) → i < length cs → c ≡ get_or cs i c → length (in_chunks (take i cs)) + length c ≤ length (in_chunks cs)
+  chunk_within cs i c lt read =
+      let rest = in_chunks (drop (suc i) cs) in
+      let whole : length (in_chunks cs) ≡ length (in_chunks (take i cs)) + (length c + length rest) = ap length (around cs i c lt ∙ ap (λ t. in_chunks (take i cs) ++ (t ++ rest)) (sym read)) ∙ length-append (in_chunks (take i cs)) (c ++ rest) ∙ ap (λ n. length (in_chunks (take i cs)) + n) (length-append c rest) in
+      omega (arith, whole)
+
   each_from : (k : RouteKey) (es : List (RouteKey × V)) → ((j : ℕ) (d : RouteKey × V) → j < length es → key_cmp (get_or es j d).0 k ≡ Less) → EachBelow k es
   each_from k [] h = tt
   each_from k (e ∷ es) h = (h 0 e (omega arith), each_from k es (λ j d lt. h (suc j) d (omega (arith, lt))))

@@ -231,15 +231,12 @@ impl<V: Drop> Part for Chunk<V> {
         }
     }
 
-    fn list<'a>(&'a self, all: &mut Vec<(RouteKey, &'a V)>) -> Result<(), Memory> {
+    fn list<'a>(&'a self, all: &mut Vec<(RouteKey, &'a V)>) {
         let mut at = 0;
         while at < self.len() {
-            if all.push((self.key_at(at), self.value_at(at))).is_err() {
-                return Err(Memory);
-            }
+            all.push_reserved((self.key_at(at), self.value_at(at)));
             at += 1;
         }
-        Ok(())
     }
 
     fn paths<'a>(&'a self, prefix: &Prefix, all: &mut Vec<(u32, &'a V)>) -> Result<(), Memory> {

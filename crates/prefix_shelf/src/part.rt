@@ -1,4 +1,4 @@
-ghost use Rattle.std.specs.Prelude.{◌≡◌, List, [], ◌∷◌, ◌++◌, ◌<◌, not, T, IsTrue, IfOk, OnOk, OnErr, IfSome, IfNone, length, map};
+ghost use Rattle.std.specs.Prelude.{◌≡◌, List, [], ◌∷◌, ◌++◌, ◌+◌, ◌<◌, ◌≤◌, not, T, IsTrue, IfOk, OnOk, OnErr, IfSome, IfNone, length, map, vec_len, vec_capacity};
 ghost use Rattle.std.specs.Option.{option_copied};
 ghost use Rattle.std.specs.Ordering.{eq_by_cmp};
 ghost use Rattle.std.specs.declared.cmp.Ordering.TheVariants.{Less};
@@ -80,9 +80,12 @@ pub(crate) trait Part: Drop {
         ensures cut { IfSome result (λ high. IsCut (routes self.old) (routes self.new) (routes high)) }
         ensures same { IfNone result (routes self.new ≡ routes self.old) };
 
-    /// Appends the routes to a list, in order.
-    fn list<'a>(&'a self, all: &mut Vec<(RouteKey, &'a Self::Value)>) -> Result<(), Memory>
-        ensures { OnOk result (entries_now all.new.items ≡ entries_now all.old.items ++ routes self.now) };
+    /// Appends the routes to a list that has room for them, in order. Allocates nothing.
+    fn list<'a>(&'a self, all: &mut Vec<(RouteKey, &'a Self::Value)>)
+        requires { vec_len all.old + length (routes self.now) ≤ vec_capacity all.old }
+        ensures entries { entries_now all.new.items ≡ entries_now all.old.items ++ routes self.now }
+        ensures len { vec_len all.new ≡ vec_len all.old + length (routes self.now) }
+        ensures capacity { vec_capacity all.new ≡ vec_capacity all.old };
 
     /// Appends the identifiers and values of the routes of a prefix to a list.
     fn paths<'a>(

@@ -71,8 +71,8 @@ impl<V: Drop> Part for Row<V> {
         }
     }
 
-    fn list<'a>(&'a self, all: &mut Vec<(RouteKey, &'a V)>) -> Result<(), Memory> {
-        self.rows.list(all)
+    fn list<'a>(&'a self, all: &mut Vec<(RouteKey, &'a V)>) {
+        self.rows.list(all);
     }
 
     fn paths<'a>(&'a self, prefix: &Prefix, all: &mut Vec<(u32, &'a V)>) -> Result<(), Memory> {

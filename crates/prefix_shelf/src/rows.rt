@@ -1,4 +1,4 @@
-ghost use Rattle.std.specs.Prelude.{◌≡◌, ◌<◌, ◌≤◌, List, [], ◌∷◌, ◌++◌, not, T, IsTrue, IfOk, OnOk, OnErr, length, map, slice_index_or, slice_set};
+ghost use Rattle.std.specs.Prelude.{◌≡◌, ◌+◌, ◌<◌, ◌≤◌, List, [], ◌∷◌, ◌++◌, not, T, IsTrue, IfOk, OnOk, OnErr, length, map, slice_index_or, slice_set, vec_len, vec_capacity};
 ghost use Rattle.std.specs.Option.{option_copied};
 ghost use Rattle.std.specs.Ordering.{eq_by_cmp};
 ghost use Rattle.std.specs.declared.cmp.Ordering.TheVariants.{Less};
@@ -236,16 +236,18 @@ impl<P: Part> Rows<P> {
         Ok(Rows { firsts, parts })
     }
 
-    /// Appends the routes to a list, in order.
-    pub(crate) fn list<'a>(&'a self, all: &mut Vec<(RouteKey, &'a P::Value)>) -> Result<(), Memory>
-        ensures { OnOk result (entries_now all.new.items ≡ entries_now all.old.items ++ routes_of P.routes self.now.parts.items) }
+    /// Appends the routes to a list that has room for them, in order. Allocates nothing.
+    pub(crate) fn list<'a>(&'a self, all: &mut Vec<(RouteKey, &'a P::Value)>)
+        requires { vec_len all.old + length (routes_of P.routes self.now.parts.items) ≤ vec_capacity all.old }
+        ensures entries { entries_now all.new.items ≡ entries_now all.old.items ++ routes_of P.routes self.now.parts.items }
+        ensures len { vec_len all.new ≡ vec_len all.old + length (routes_of P.routes self.now.parts.items) }
+        ensures capacity { vec_capacity all.new ≡ vec_capacity all.old }
     {
         let mut at = 0;
         while at < self.parts.len() {
-            self.parts[at].list(all)?;
+            self.parts[at].list(all);
             at += 1;
         }
-        Ok(())
     }
 
     /// Appends the identifiers and values of the routes of a prefix to a list.

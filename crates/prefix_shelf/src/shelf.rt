@@ -108,9 +108,7 @@ impl<V: Drop> PrefixMap<V> for Shelf<V> {
         self.len
     }
 
-    fn entries(&self, alloc: Global) -> Result<Vec<(RouteKey, &V)>, Memory> {
-        let mut all = Vec::with_capacity(alloc, self.len)?;
-        self.rows.list(&mut all)?;
-        Ok(all)
+    fn list<'a>(&'a self, all: &mut Vec<(RouteKey, &'a V)>) {
+        self.rows.list(all);
     }
 }

@@ -1,19 +1,43 @@
 -- The lines of entries.
-use Rattle.std.proofs.Common.{◌≡◌, List, [], ◌∷◌, ◌++◌, refl, sym, ap, ◌∙◌}
+use Rattle.std.proofs.Common.{◌≡◌, ℕ, ◌+◌, ◌<◌, ◌≤◌, List, [], ◌∷◌, ◌++◌, refl, sym, ap, ◌∙◌, subst, map, length, get_or, take, max}
 use Rattle.std.specs.List.{flat_map}
+use Rattle.std.specs.Borrow.{Bor}
+use Rattle.std.proofs.lemmas.List.{take_more}
 use Rattle.std.proofs.lemmas.List.Concat.{flat_map-append}
-use Rattle.rib_report.specs.declared.entries.Listed.{Listed}
-use Rattle.rib_report.specs.Rows.{RouteRow}
+use Rattle.std.proofs.lemmas.List.Recursion.{max_push, max_bounds}
+use Rattle.bgp_prefix.specs.Keys.{entries_now}
+use Rattle.bgp_prefix.specs.declared.key.RouteKey.{RouteKey}
+use Rattle.bgp_prefix.proofs.ListedLaws.{entries_now-map}
+use Rattle.bgp_update.specs.declared.route.Route.{Route}
+use Rattle.peer_tables.specs.declared.tables.Seated.{Seated}
+use Rattle.peer_tables.specs.Tables.{Seat}
+use Rattle.peer_tables.specs.Seats.{seat_of}
+use Rattle.peer_tables.proofs.RowLaws.{map_twice, flat_map_twice}
+use Rattle.rib_report.specs.Reports.{entry_row, rows_of_seat}
 use Rattle.rib_report.specs.Lines.{route_line}
-use Rattle.rib_report.specs.Listings.{reached_row, listed_rows, listed_lines}
-use Rattle.peer_tables.proofs.RowLaws.{flat_map_twice}
+use Rattle.rib_report.specs.Listings.{reached_row, reached_lines, seat_lines, most_entries}
 
-lines_of_lists : (lists : List Listed) → flat_map listed_lines lists ≡ flat_map route_line (flat_map listed_rows lists)
-lines_of_lists [] = refl
-lines_of_lists (l ∷ lists) =
-    ap (λ x. x ++ flat_map listed_lines lists) (flat_map_twice (reached_row l.peer) route_line l.entries.items) ∙ ap (λ x. flat_map route_line (listed_rows l) ++ x) (lines_of_lists lists)
-    ∙ sym (flat_map-append route_line (listed_rows l) (flat_map listed_rows lists))
+-- a list of all entries of a peer's table
+pub lines_of_seat : (seat : Seat) (entries : List (RouteKey × Bor Route)) → entries_now entries ≡ seat.session.table → reached_lines seat.key entries ≡ seat_lines seat
+lines_of_seat seat entries whole =
+    let listed = map_twice (λ e. (e.0, e.1.now)) (entry_row seat.key) entries ∙ ap (map (entry_row seat.key)) (sym (entries_now-map entries) ∙ whole) in
+    flat_map_twice (reached_row seat.key) route_line entries ∙ ap (flat_map route_line) listed
 
 -- the rows of every table
-pub lines_of_tables : (lists listed : List Listed) (rows : List RouteRow) → lists ≡ listed → flat_map listed_rows listed ≡ rows → flat_map listed_lines lists ≡ flat_map route_line rows
-lines_of_tables lists listed rows same whole = ap (flat_map listed_lines) same ∙ lines_of_lists listed ∙ ap (flat_map route_line) whole
+pub lines_of_seats : (seats : List Seat) → flat_map seat_lines seats ≡ flat_map route_line (flat_map rows_of_seat seats)
+lines_of_seats [] = refl
+lines_of_seats (seat ∷ seats) = ap (λ l. seat_lines seat ++ l) (lines_of_seats seats) ∙ sym (flat_map-append route_line (rows_of_seat seat) (flat_map rows_of_seat seats))
+
+-- a loop's step: the greatest number of one table more
+pub most_more : {M : Type 0} (seats : List (Seated M)) (i : ℕ) (seat : Seated M) → i < length seats → seat ≡ get_or seats i seat
+    → most_entries (map seat_of (take (i + 1) seats)) ≡ max (most_entries (map seat_of (take i seats))) (length (seat_of seat).session.table)
+most_more {M = M} seats i seat below at =
+    ap (λ l. most_entries (map seat_of l)) (take_more seats i seat below ∙ ap (λ s. take i seats ++ s ∷ []) (sym at))
+    ∙ max_push (λ (l : List (Seated M)). most_entries (map seat_of l)) (λ s. length (seat_of s).session.table) refl (λ s l. refl) (take i seats) seat
+
+-- no table has more
+pub most_at : {M : Type 0} (seats : List (Seated M)) (i : ℕ) (seat : Seated M) → i < length seats → seat ≡ get_or seats i seat
+    → length (seat_of seat).session.table ≤ most_entries (map seat_of seats)
+most_at {M = M} seats i seat below at =
+    subst (λ (s : Seated M). length (seat_of s).session.table ≤ most_entries (map seat_of seats)) (sym at)
+    (max_bounds (λ (l : List (Seated M)). most_entries (map seat_of l)) (λ s. length (seat_of s).session.table) refl (λ s l. refl) seats i seat below)

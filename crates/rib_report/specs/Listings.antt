@@ -1,13 +1,13 @@
 -- Entries that are reached through a table, as rows and lines.
-use Rattle.std.specs.Prelude.{ℕ, List, map}
+use Rattle.std.specs.Prelude.{ℕ, List, [], ◌∷◌, length, max}
 use Rattle.std.specs.List.{flat_map}
 use Rattle.std.specs.Borrow.{Bor}
 use Rattle.bgp_prefix.specs.declared.key.RouteKey.{RouteKey}
 use Rattle.bgp_update.specs.declared.route.Route.{Route}
 use Rattle.mrt_body.specs.declared.unit.PeerKey.{PeerKey}
-use Rattle.rib_report.specs.declared.entries.Listed.{Listed}
+use Rattle.peer_tables.specs.Tables.{Seat}
 use Rattle.rib_report.specs.Rows.{RouteRow}
-use Rattle.rib_report.specs.Reports.{entry_row}
+use Rattle.rib_report.specs.Reports.{entry_row, rows_of_seat}
 use Rattle.rib_report.specs.Lines.{route_line}
 
 -- the row of an entry
@@ -18,8 +18,11 @@ reached_row peer e = entry_row peer (e.0, e.1.now)
 abbrev pub reached_lines : PeerKey → List (RouteKey × Bor Route) → List ℕ
 reached_lines peer entries = flat_map (λ e. route_line (reached_row peer e)) entries
 
-abbrev pub listed_rows : Listed → List RouteRow
-listed_rows listed = map (reached_row listed.peer) listed.entries.items
+-- the lines of a peer's table
+abbrev pub seat_lines : Seat → List ℕ
+seat_lines seat = flat_map route_line (rows_of_seat seat)
 
-abbrev pub listed_lines : Listed → List ℕ
-listed_lines listed = reached_lines listed.peer listed.entries.items
+-- the greatest number of entries in the table of any of these peers
+abbrev pub most_entries : List Seat → ℕ
+most_entries [] = 0
+most_entries (seat ∷ seats) = max (length seat.session.table) (most_entries seats)

@@ -9,7 +9,7 @@ use crate::place::{
 };
 use crate::short::ShortTexts;
 use bgp_prefix::{Prefix, RouteKey};
-use bgp_update::Route;
+use bgp_update::PackedRoute;
 use mrt_body::PeerKey;
 use mrt_frame::{Failed, Sink, write_full};
 use std::marker::Model;
@@ -113,7 +113,7 @@ impl TextBuffer {
     }
 
     /// Appends the fields of a route that follow its path, and the end of the line, to the pending bytes.
-    pub(crate) fn append_attributes(&mut self, route: &Route)
+    pub(crate) fn append_attributes(&mut self, route: &PackedRoute)
         requires { length self.old.waiting + 153 ≤ 65536 }
         ensures { Grows self.old self.new 153 (attributes_text route.now) }
     {

@@ -1,6 +1,6 @@
 //! Every entry of every table.
 
-ghost use Rattle.std.specs.Prelude.{◌≡◌, ◌<◌, ◌⊎◌, ◌++◌, IfOk, IfErr, OnOk, OnErr, IsErr, Err, length, map};
+ghost use Rattle.std.specs.Prelude.{◌≡◌, ◌<◌, ◌≤◌, ◌⊎◌, ◌++◌, IfOk, IfErr, OnOk, OnErr, IsErr, Err, length, map, vec_capacity};
 ghost use Rattle.std.specs.List.{flat_map};
 ghost use Rattle.std.specs.Io.KnownBytes.{Appends};
 ghost use Rattle.mrt_frame.specs.Devices.{HasFailed};
@@ -9,7 +9,7 @@ ghost use Rattle.mrt_frame.specs.declared.error.ReplayError.TheVariants as error
 ghost use Rattle.peer_tables.specs.Seats.{seat_of};
 ghost use Rattle.rib_report.specs.Rows.{route_row};
 ghost use Rattle.rib_report.specs.Reports.{rows_of_seat, route_rows};
-ghost use Rattle.rib_report.specs.Listings.{reached_lines, listed_rows, listed_lines};
+ghost use Rattle.rib_report.specs.Listings.{reached_lines, seat_lines, most_entries};
 ghost use Rattle.rib_report.specs.Lines.{route_line};
 ghost use Rattle.rib_report.specs.Texts.{Writes};
 
@@ -65,29 +65,15 @@ const NEAR_ENTRIES: usize = 64;
 /// The same for entries that refer to a lot of data.
 const NEAR_LONG_ENTRIES: usize = 16;
 
-/// The entries of one peer's table, keys in order.
-#[derive(Drop)]
-struct Listed<'a> {
-    peer: PeerKey,
-    entries: Vec<(RouteKey, &'a SharedRoute)>,
-}
-
-/// Returns the entries of every table, by the index of its peer.
-fn all_entries<M: PrefixMap<SharedRoute>>(
-    alloc: Global,
-    tables: &Tables<M>,
-) -> Result<Vec<Listed<'_>>, Memory>
-    ensures { IfOk result (λ lists. flat_map listed_rows lists.items ≡ route_rows tables.now) }
+/// Returns the greatest number of entries in the table of any of these peers.
+fn max_entries<M: PrefixMap<SharedRoute>>(seats: &[Seated<M>]) -> usize
+    ensures { result ≡ most_entries (map seat_of seats.now) }
 {
-    let mut lists = Vec::with_capacity(alloc, tables.peers())?;
-    for seat in tables.seats() {
-        let peer = seat.key;
-        let entries = seat.session.table().entries(alloc)?;
-        let Ok(()) = lists.push(Listed { peer, entries }) else {
-            return Err(Memory);
-        };
+    let mut most = 0usize;
+    for seat in seats {
+        most = most.max(seat.session.table().len());
     }
-    Ok(lists)
+    most
 }
 
 /// Prefetches a little of what each entry refers to, and returns how many entries to prefetch next. Routes lie
@@ -100,7 +86,7 @@ fn touch_entries(entries: &[(RouteKey, &SharedRoute)]) -> usize
     for entry in entries {
         touched = touched.saturating_add(touch_route(entry.1.route()));
     }
-    if touched > 32 * NEAR_ENTRIES {
+    if touched > 128 * NEAR_ENTRIES {
         NEAR_LONG_ENTRIES
     } else {
         NEAR_ENTRIES
@@ -144,12 +130,34 @@ fn put_entries<W: Sink>(
     }
 }
 
-/// Adds the lines of all lists, in order.
-fn put_lists<W: Sink>(text: &mut TextBuffer, out: &mut W, lists: &[Listed<'_>])
-    ensures { Writes W.contents W.failure_count out.old text.old out.new text.new (flat_map listed_lines lists.now) }
+/// Adds the lines of one peer's table. Its entries replace the contents of a list that has room for them.
+fn put_table<'a, M: PrefixMap<SharedRoute>, W: Sink>(
+    text: &mut TextBuffer,
+    out: &mut W,
+    all: &mut Vec<(RouteKey, &'a SharedRoute)>,
+    seat: &'a Seated<M>,
+)
+    requires { length (seat_of seat.now).session.table ≤ vec_capacity all.old }
+    ensures lines { Writes W.contents W.failure_count out.old text.old out.new text.new (seat_lines (seat_of seat.now)) }
+    ensures capacity { vec_capacity all.new ≡ vec_capacity all.old }
 {
-    for listed in lists {
-        put_entries(text, out, listed.peer, listed.entries.as_slice());
+    all.clear();
+    seat.session.table().list(all);
+    put_entries(text, out, seat.key, all.as_slice());
+}
+
+/// Adds the lines of every table, in order, by way of one list that has room for the entries of any of them.
+fn put_tables<'a, M: PrefixMap<SharedRoute>, W: Sink>(
+    text: &mut TextBuffer,
+    out: &mut W,
+    mut all: Vec<(RouteKey, &'a SharedRoute)>,
+    seats: &'a [Seated<M>],
+)
+    requires { most_entries (map seat_of seats.now) ≤ vec_capacity all }
+    ensures { Writes W.contents W.failure_count out.old text.old out.new text.new (flat_map seat_lines (map seat_of seats.now)) }
+{
+    for seat in seats {
+        put_table(text, out, &mut all, seat);
     }
 }
 
@@ -168,9 +176,10 @@ pub fn list_tables<M: PrefixMap<SharedRoute>, W: Sink>(
     ensures sound { OnOk result (W.failure_count out.new ≡ W.failure_count out.old) }
     ensures risen { result ≡ Err errors.Write → HasFailed (W.failure_count out.old) (W.failure_count out.new) }
 {
-    let lists = all_entries(alloc, tables)?;
+    let seats = tables.seats();
+    let all = Vec::with_capacity(alloc, max_entries(seats))?;
     let mut text = TextBuffer::new();
-    put_lists(&mut text, out, lists.as_slice());
+    put_tables(&mut text, out, all, seats);
     match text.finish(out) {
         Ok(()) => Ok(()),
         Err(Failed) => Err(ReplayError::Write),

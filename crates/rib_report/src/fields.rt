@@ -7,7 +7,9 @@ ghost use Rattle.rib_report.specs.Lines.{addr_text, peer_text, prefix_text, iden
 
 use crate::buffer::TextBuffer;
 use bgp_prefix::{Prefix, RouteKey};
-use bgp_update::{Aggregator, AsPath, NextHop, Origin, Route, Segment, SegmentKind};
+use bgp_update::{
+    Aggregator, NextHop, Origin, PackedRoute, PackedSegment, PackedSegments, SegmentKind,
+};
 use itoa::Buffer;
 use mrt_body::{PeerAddr, PeerKey};
 use mrt_frame::{Fault, Sink};
@@ -38,38 +40,38 @@ fn put_enclosed<W: Sink>(
     out: &mut W,
     opening: u8,
     separator: u8,
-    numbers: &[u32],
+    segment: &PackedSegment<'_>,
     closing: u8,
 )
-    ensures { Writes W.contents W.failure_count out.old text.old out.new text.new (opening ∷ numbers_text separator numbers.now ++ closing ∷ []) }
+    ensures { Writes W.contents W.failure_count out.old text.old out.new text.new (opening ∷ numbers_text separator segment.now.numbers ++ closing ∷ []) }
 {
     text.put_byte(out, opening);
-    text.put_numbers(out, separator, numbers);
+    text.put_segment_numbers(out, separator, segment);
     text.put_byte(out, closing);
 }
 
-fn put_segment<W: Sink>(text: &mut TextBuffer, out: &mut W, segment: &Segment)
+fn put_segment<W: Sink>(text: &mut TextBuffer, out: &mut W, segment: &PackedSegment<'_>)
     ensures { Writes W.contents W.failure_count out.old text.old out.new text.new (kind_text segment.now.kind segment.now.numbers) }
 {
-    let numbers = segment.numbers();
     match segment.kind() {
-        SegmentKind::AsSequence => text.put_numbers(out, b' ', numbers),
-        SegmentKind::AsSet => put_enclosed(text, out, b'{', b',', numbers, b'}'),
-        SegmentKind::ConfedSequence => put_enclosed(text, out, b'(', b' ', numbers, b')'),
-        SegmentKind::ConfedSet => put_enclosed(text, out, b'[', b',', numbers, b']'),
+        SegmentKind::AsSequence => text.put_segment_numbers(out, b' ', segment),
+        SegmentKind::AsSet => put_enclosed(text, out, b'{', b',', segment, b'}'),
+        SegmentKind::ConfedSequence => put_enclosed(text, out, b'(', b' ', segment, b')'),
+        SegmentKind::ConfedSet => put_enclosed(text, out, b'[', b',', segment, b']'),
     }
 }
 
-fn put_segments<W: Sink>(text: &mut TextBuffer, out: &mut W, path: &AsPath)
-    ensures { Writes W.contents W.failure_count out.old text.old out.new text.new (path_text path.now) }
+fn put_segments<W: Sink>(text: &mut TextBuffer, out: &mut W, path: PackedSegments<'_>)
+    ensures { Writes W.contents W.failure_count out.old text.old out.new text.new (path_text path.entry) }
 {
-    let [first, rest @ ..] = path.segments() else {
+    let mut rest = path;
+    let Some(first) = rest.next() else {
         return;
     };
-    put_segment(text, out, first);
-    for segment in rest {
+    put_segment(text, out, &first);
+    while let Some(segment) = rest.next() {
         text.put_byte(out, b' ');
-        put_segment(text, out, segment);
+        put_segment(text, out, &segment);
     }
 }
 
@@ -79,8 +81,8 @@ fn put_absent<W: Sink>(text: &mut TextBuffer, out: &mut W)
     text.put_byte(out, b'-');
 }
 
-fn put_path<W: Sink>(text: &mut TextBuffer, out: &mut W, path: &Option<AsPath>)
-    ensures { Writes W.contents W.failure_count out.old text.old out.new text.new (field path_text path.now) }
+fn put_path<W: Sink>(text: &mut TextBuffer, out: &mut W, path: Option<PackedSegments<'_>>)
+    ensures { Writes W.contents W.failure_count out.old text.old out.new text.new (field path_text path.entry) }
 {
     match path {
         Some(path) => put_segments(text, out, path),
@@ -89,12 +91,12 @@ fn put_path<W: Sink>(text: &mut TextBuffer, out: &mut W, path: &Option<AsPath>)
 }
 
 /// Adds a route, which follows its peer, and the end of the line.
-fn put_route<W: Sink>(text: &mut TextBuffer, out: &mut W, key: &RouteKey, route: &Route)
+fn put_route<W: Sink>(text: &mut TextBuffer, out: &mut W, key: &RouteKey, route: &PackedRoute)
     ensures { Writes W.contents W.failure_count out.old text.old out.new text.new (route_text key.now route.now) }
 {
     put_key(text, out, key);
     text.put_byte(out, b'|');
-    put_path(text, out, &route.path);
+    put_path(text, out, route.path());
     text.put_byte(out, b'|');
     text.make_room(out, 153);
     text.append_attributes(route);
@@ -115,7 +117,7 @@ pub(crate) fn put_row<W: Sink>(
     out: &mut W,
     peer: &PeerKey,
     key: &RouteKey,
-    route: &Route,
+    route: &PackedRoute,
 )
     ensures { Writes W.contents W.failure_count out.old text.old out.new text.new (route_line (record { peer = peer.now; key = key.now; route = route.now })) }
 {

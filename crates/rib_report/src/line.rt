@@ -11,20 +11,20 @@ use crate::fields::{
     put_row,
 };
 use crate::row::{ChurnRow, OriginRow, SeenRow, TableRow};
-use bgp_update::Route;
+use bgp_update::PackedRoute;
 use mrt_body::Damage;
 use mrt_frame::Sink;
 
-/// Prefetches a route and its path by reading a little of each.
-pub(crate) fn touch_route(route: &Route) -> usize {
-    let ends = route.next_hop.is_some() as usize + route.atomic as usize;
-    match &route.path {
-        Some(path) => match path.segments().first() {
-            Some(segment) => ends.saturating_add(segment.numbers().len()),
-            None => ends,
-        },
-        None => ends,
-    }
+/// Prefetches a route by reading its first and its last byte, and returns about how many bytes it has.
+pub(crate) fn touch_route(route: &PackedRoute) -> usize {
+    let bytes = route.as_bytes();
+    let last = match bytes.last() {
+        Some(byte) => *byte >= 128,
+        None => false,
+    };
+    bytes
+        .len()
+        .saturating_add((route.atomic() != last) as usize)
 }
 
 /// The content of one report line.

@@ -5,6 +5,7 @@ ghost use Rattle.rib_report.specs.Texts.{Writes};
 ghost use Rattle.rib_report.specs.Digits.{decimal_glyph, digits_in, time_text, numbers_text};
 
 use crate::buffer::TextBuffer;
+use bgp_update::PackedSegment;
 use itoa::Buffer;
 use mrt_frame::Sink;
 
@@ -73,6 +74,26 @@ impl TextBuffer {
         self.append_number(*first);
         for number in rest {
             self.put_behind(out, separator, *number);
+        }
+    }
+
+    /// Adds the numbers of a segment in decimal, separated by a byte.
+    pub(crate) fn put_segment_numbers<W: Sink>(
+        &mut self,
+        out: &mut W,
+        separator: u8,
+        segment: &PackedSegment<'_>,
+    )
+        ensures { Writes W.contents W.failure_count out.old self.old out.new self.new (numbers_text separator segment.now.numbers) }
+    {
+        let count = segment.len();
+        if count == 0 {
+            return;
+        }
+        self.make_room(out, 13);
+        self.append_number(segment.number(0));
+        for i in 1..count {
+            self.put_behind(out, separator, segment.number(i));
         }
     }
 }

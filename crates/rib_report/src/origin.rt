@@ -11,22 +11,23 @@ ghost use Rattle.peer_tables.specs.Seats.{seat_of};
 use crate::row::OriginRow;
 use adj_rib::SharedRoute;
 use bgp_prefix::{Memory, Prefix, PrefixMap, RouteKey, Sequence};
-use bgp_update::Route;
+use bgp_update::PackedRoute;
 use peer_tables::{Seated, Tables};
 use std::alloc::Global;
 
 /// Returns the origin AS of a route (RFC 6811, 2).
-fn origin_of(route: &Route) -> Option<u32>
+fn origin_of(route: &PackedRoute) -> Option<u32>
     ensures { result ≡ route_origin route.now }
 {
-    match &route.path {
-        Some(path) => path.origin_as(),
-        None => None,
-    }
+    route.origin_as()
 }
 
 /// Adds the prefix and the origin AS of a route, if it has one.
-fn add_origin(pairs: &mut Vec<(Prefix, u32)>, key: RouteKey, route: &Route) -> Result<(), Memory>
+fn add_origin(
+    pairs: &mut Vec<(Prefix, u32)>,
+    key: RouteKey,
+    route: &PackedRoute,
+) -> Result<(), Memory>
     ensures { OnOk result (pairs.new.items ≡ pairs.old.items ++ filter_map origin_pair ((key, route.now) ∷ [])) }
 {
     if let Some(origin) = origin_of(route) {

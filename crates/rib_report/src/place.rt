@@ -8,7 +8,7 @@ ghost use Rattle.rib_report.specs.Lines.{addr_text, peer_text, prefix_text, iden
 
 use crate::short::ShortTexts;
 use bgp_prefix::{Prefix, RouteKey};
-use bgp_update::{Aggregator, NextHop, Origin, Route};
+use bgp_update::{Aggregator, NextHop, Origin, PackedRoute};
 use mrt_body::{PeerAddr, PeerKey};
 
 /// A byte.
@@ -322,22 +322,22 @@ pub(crate) fn place_attributes(
     bytes: &mut [u8],
     at: usize,
     shorts: &ShortTexts,
-    route: &Route,
+    route: &PackedRoute,
 ) -> usize
     requires { at + 153 ≤ length bytes.old }
     ensures { Places bytes.old at bytes.new result 153 (attributes_text route.now) }
 {
-    let at = place_next_hop(bytes, at, shorts, route.next_hop);
+    let at = place_next_hop(bytes, at, shorts, route.next_hop());
     let at = place_byte(bytes, at, b'|');
-    let at = place_origin(bytes, at, route.origin);
+    let at = place_origin(bytes, at, route.origin());
     let at = place_byte(bytes, at, b'|');
-    let at = place_optional_number(bytes, at, shorts, route.med);
+    let at = place_optional_number(bytes, at, shorts, route.med());
     let at = place_byte(bytes, at, b'|');
-    let at = place_optional_number(bytes, at, shorts, route.local_pref);
+    let at = place_optional_number(bytes, at, shorts, route.local_pref());
     let at = place_byte(bytes, at, b'|');
-    let at = place_atomic(bytes, at, route.atomic);
+    let at = place_atomic(bytes, at, route.atomic());
     let at = place_byte(bytes, at, b'|');
-    let at = place_aggregator(bytes, at, shorts, route.aggregator);
+    let at = place_aggregator(bytes, at, shorts, route.aggregator());
     place_byte(bytes, at, b'\n')
 }
 

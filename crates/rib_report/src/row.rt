@@ -2,7 +2,7 @@
 
 use adj_rib::Churn;
 use bgp_prefix::{Prefix, RouteKey, Sequence};
-use bgp_update::Route;
+use bgp_update::PackedRoute;
 use mrt_body::PeerKey;
 
 /// An entry of a peer's table.
@@ -10,7 +10,7 @@ use mrt_body::PeerKey;
 pub struct TableRow<'a> {
     pub peer: PeerKey,
     pub key: RouteKey,
-    pub route: &'a Route,
+    pub route: &'a PackedRoute,
 }
 
 /// In how many tables a prefix is.

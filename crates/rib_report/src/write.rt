@@ -29,7 +29,7 @@ fn touch_all<R: Line>(rows: &[R]) -> usize {
     for row in rows {
         touched = touched.saturating_add(row.touch());
     }
-    if touched > 32 * NEAR_ROWS {
+    if touched > 128 * NEAR_ROWS {
         NEAR_LONG_ROWS
     } else {
         NEAR_ROWS

@@ -270,7 +270,7 @@ fn expect_table<M: PrefixMap<SharedRoute>>(
             "{names}"
         );
         assert!(rt;
-            shared.route().next_hop == Some(NextHop::V4(path.1)),
+            shared.route().next_hop() == Some(NextHop::V4(path.1)),
             "{names}"
         );
     }
@@ -456,14 +456,14 @@ fn expect_hops_by_number(rt: &impl Abort, alloc: Global, session: &Session<Radix
     for entry in &entries {
         let (key, shared) = *entry;
         let hop = NextHop::V4(0xC000_0200 | (key.id % 40));
-        assert!(rt; shared.route().next_hop == Some(hop), "at {}", key.id);
+        assert!(rt; shared.route().next_hop() == Some(hop), "at {}", key.id);
     }
 }
 
-/// Many entries with 40 different attributes, each three times, so that readings are kept, found and
+/// Many entries with 40 different attributes, each three times, so that routes are kept, found and
 /// moved. The next hop tells which attributes a route has.
 #[test]
-fn entries_share_their_readings(rt: HostRuntime) {
+fn entries_share_their_routes(rt: HostRuntime) {
     let alloc = rt.alloc();
     let mut session = Session::<Radix<SharedRoute>>::new(alloc);
     for id in 0..120u32 {

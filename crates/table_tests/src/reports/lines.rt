@@ -1,8 +1,9 @@
 //! The lines of rows, each beside its text.
 
 use adj_rib::Churn;
-use bgp_prefix::{Memory, Prefix, RouteKey, Sequence};
-use bgp_update::{Aggregator, AsPath, NextHop, Origin, Route, Segment, SegmentKind};
+use bgp_prefix::{Prefix, RouteKey, Sequence};
+use bgp_update::{NextHop, PackedRoute, Width, read_attrs};
+use fixtures::push_digits;
 use mrt_body::{Damage, PeerAddr, PeerKey, Place};
 use mrt_frame::{Counted, Fault};
 use rib_report::{
@@ -39,83 +40,47 @@ fn key(addr: u32, len: u8, id: u32) -> RouteKey {
     }
 }
 
-/// A route without any attribute.
-fn bare_route() -> Route {
-    Route {
-        origin: None,
-        path: None,
-        next_hop: None,
-        med: None,
-        local_pref: None,
-        atomic: false,
-        aggregator: None,
-    }
+/// The route that these attributes encode in hexadecimal, but with this next hop.
+fn route_by(
+    rt: &impl Abort,
+    alloc: Global,
+    attributes: &str,
+    next_hop: Option<NextHop>,
+) -> PackedRoute {
+    let mut bytes = Vec::new(alloc);
+    push_digits(&mut bytes, attributes).expect(rt, attributes);
+    let route = read_attrs(alloc, bytes.as_slice(), Width::Four).expect(rt, attributes);
+    PackedRoute::pack(alloc, &route.with_next_hop(next_hop)).expect(rt, attributes)
 }
 
-/// A segment of each kind, one after the other.
-const SEGMENTS: [(SegmentKind, &[u32]); 4] = [
-    (SegmentKind::ConfedSequence, &[64_512, 1]),
-    (SegmentKind::ConfedSet, &[3, 2]),
-    (SegmentKind::AsSequence, &[u32::MAX, 0, 10]),
-    (SegmentKind::AsSet, &[70_001, 70_000]),
-];
+/// An empty AS_PATH, and a MED of zero.
+static EMPTY_PATH: &str = "40010101 400200 80040400000000";
 
-fn all_kinds(alloc: Global) -> Result<AsPath, Memory> {
-    let mut path = AsPath::new(alloc);
-    for (kind, numbers) in SEGMENTS {
-        path.push(Segment::new(alloc, kind, numbers)?)?;
-    }
-    Ok(path)
-}
+/// No AS_PATH, and zeros.
+static SHORT: &str = "40010100 40050400000000 C0070800000000 00000000";
 
-fn route_by_v6(path: AsPath) -> Route {
-    Route {
-        origin: Some(Origin::Egp),
-        path: Some(path),
-        next_hop: Some(NextHop::V6(0x2001_0DB8_0000_0000_0000_0000_0000_0001)),
-        med: Some(0),
-        local_pref: None,
-        atomic: false,
-        aggregator: None,
-    }
-}
-
-/// A route without a path, with zeros.
-fn short_route() -> Route {
-    Route {
-        origin: Some(Origin::Igp),
-        path: None,
-        next_hop: Some(NextHop::V4(0x0A00_0001)),
-        med: None,
-        local_pref: Some(0),
-        atomic: false,
-        aggregator: Some(Aggregator { asn: 0, addr: 0 }),
-    }
-}
-
-/// Every field but the path at its greatest.
-fn greatest_route(path: AsPath) -> Route {
-    Route {
-        origin: Some(Origin::Incomplete),
-        path: Some(path),
-        next_hop: Some(NextHop::V6Pair(u128::MAX, 0xFE80 << 112)),
-        med: Some(u32::MAX),
-        local_pref: Some(u32::MAX),
-        atomic: true,
-        aggregator: Some(Aggregator {
-            asn: u32::MAX,
-            addr: u32::MAX,
-        }),
-    }
-}
+/// Every number at its greatest, and an AS_PATH with a segment of each kind.
+static GREATEST: &str = "40010102
+40022C 0302 0000FC00 00000001 0402 00000003 00000002 0203 FFFFFFFF 00000000 0000000A 0102 00011171 00011170
+800404FFFFFFFF 400504FFFFFFFF 400600 C00708FFFFFFFF FFFFFFFF";
 
 #[test]
 fn routes(rt: HostRuntime) {
     let alloc = rt.alloc();
-    let bare = bare_route();
-    let empty_path = route_by_v6(AsPath::new(alloc));
-    let short = short_route();
-    let greatest = greatest_route(all_kinds(alloc).expect(&rt, "a path"));
+    let bare = route_by(&rt, alloc, "", None);
+    let empty_path = route_by(
+        &rt,
+        alloc,
+        EMPTY_PATH,
+        Some(NextHop::V6(0x2001_0DB8_0000_0000_0000_0000_0000_0001)),
+    );
+    let short = route_by(&rt, alloc, SHORT, Some(NextHop::V4(0x0A00_0001)));
+    let greatest = route_by(
+        &rt,
+        alloc,
+        GREATEST,
+        Some(NextHop::V6Pair(u128::MAX, 0xFE80 << 112)),
+    );
     let rows = [
         TableRow {
             peer: PEER,

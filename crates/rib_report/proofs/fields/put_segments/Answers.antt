@@ -1,6 +1,7 @@
-use Rattle.std.proofs.Common.{arith, ap, List, ℕ, ◌∙◌}
-use Rattle.rib_report.proofs.TextLaws.{Adds_trans, Adds_as}
-use Rattle.rib_report.proofs.JoinLaws.{join_first_rest}
+use Rattle.std.proofs.Common.{◌∷◌, append-nil, refl, sym, ap, List, ℕ, ◌∙◌}
+use Rattle.std.specs.List.{flat_map}
+use Rattle.rib_report.proofs.TextLaws.{Adds_trans, Adds_as, Adds_grown}
+use Rattle.rib_report.proofs.JoinLaws.{join-cons}
 use Rattle.bgp_update.specs.Paths.{PathSegment}
 use Rattle.rib_report.specs.Lines.{kind_text, path_text}
 use Rattle.rib_report.proofs.fields.put_segments.Goals as goal
@@ -8,9 +9,15 @@ use Rattle.rib_report.proofs.fields.put_segments.Goals as goal
 abbrev text : PathSegment → List ℕ
 text s = kind_text s.kind s.numbers
 
+abbrev behind : PathSegment → List ℕ
+behind s = 32 ∷ text s
+
+pub loop-segment-preserved : goal.loop-segment-preserved
+loop-segment-preserved g c = λ end later.
+    c.loop-segment.invariant end (Adds_as (ap (flat_map behind) (sym c.in-Some-next.ensures)) (Adds_trans c.put_byte.ensures (Adds_trans c.put_segment-in-Some-next.ensures later)))
+
 pub returns : goal.returns
 returns g c =
-    let first = c.first-item.result in
-    let whole = join_first_rest 32 text c.segments.result.now first c.loop-segment.segment-index (omega arith) c.loop-segment-test.false in
-    let written = Adds_trans (Adds_as (ap text c.first-item.is) c.put_segment.ensures) c.loop-segment.invariant in
-    Adds_as (whole ∙ ap path_text c.segments.ensures) written
+    let none = Adds_as (ap (flat_map behind) (sym c.in_default-next.ensures)) (Adds_grown refl refl (sym (append-nil c.loop-segment.text.waiting)) refl) in
+    let whole = sym (join-cons 32 text c.in-Some.first c.next.new.self) ∙ ap path_text (sym c.in-Some.ensures) in
+    Adds_as whole (Adds_trans c.put_segment.ensures (c.loop-segment.invariant _ none))

@@ -1,0 +1,71 @@
+-- Attributes are packed as they stand, where their numbers have four bytes.
+use Rattle.std.proofs.Common.{◌≡◌, ℕ, Bool, List, ◌++◌, Option, Some, None, Ok, refl, sym, ap, subst, ◌∙◌, lit<, append_assoc}
+use Rattle.std.specs.Prelude.{IfSome, is_some}
+use Rattle.std.specs.Option.{option_and_then}
+use Rattle.mrt_frame.proofs.FieldLaws.{IsBytes}
+use Rattle.bgp_update.specs.declared.width.Width.{Width}
+use Rattle.bgp_update.specs.declared.width.Width.TheVariants.{Four}
+use Rattle.bgp_update.specs.declared.width.Carrier.TheVariants.{RibEntry}
+use Rattle.bgp_update.specs.declared.values.FirstValues.{FirstValues}
+use Rattle.bgp_update.specs.declared.route.Route.{Route}
+use Rattle.bgp_update.specs.Paths.{PathSegment}
+use Rattle.bgp_update.specs.Segments.{path_of_value, well_formed}
+use Rattle.bgp_update.specs.Attributes.{value_of, IsFormed, route_from, route_in}
+use Rattle.bgp_update.specs.Values.{kept_value, KeepsFirst}
+use Rattle.bgp_update.specs.Packing.{IsSpelled, spelled_path, IsWritable, HaveWidths, CanPack, without_path, fields_bytes, path_part, bytes_or_none, route_bytes, unpacked, ArePacked}
+use Rattle.bgp_update.proofs.SegmentLaws.{path_in-bytes}
+use Rattle.bgp_update.proofs.AttributeLaws.{attributes_in-is}
+use Rattle.bgp_update.proofs.Sayings.{route_is_said}
+use Rattle.bgp_update.proofs.Packings.{route_bytes-fields, packed-bytes, unpacked-bytes}
+use Rattle.bgp_update.proofs.PackedPaths.{spelled-bytes}
+use Rattle.bgp_update.proofs.Packable.{route_writable}
+
+spelled_if : (o : Option (List ℕ)) → IfSome o (IsFormed RibEntry Four 2) → IfSome o IsSpelled
+spelled_if None h = tt
+spelled_if (Some value) h = let p = h.path refl in subst IsSpelled (sym p.2) (spelled-bytes p.0 p.1)
+
+pub keeps_spelled : (bytes : List ℕ) (first : FirstValues) → IsBytes bytes → KeepsFirst RibEntry Four bytes first → IfSome (kept_value first 2) IsSpelled
+keeps_spelled bytes first fine keeps =
+    let law = attributes_in-is RibEntry Four bytes keeps.0 fine keeps.1 in
+    subst (λ (o : Option (List ℕ)). IfSome o IsSpelled) (sym (keeps.2 2 (lit< tt))) (spelled_if (value_of 2 keeps.0) (law.1.formed 2))
+
+spelled_is : (value : List ℕ) → IsSpelled value → path_of_value 4 value ≡ Some (spelled_path value)
+spelled_is value h = ap (λ (v : List ℕ). path_of_value 4 v) h.written ∙ ap well_formed (path_in-bytes Four (spelled_path value) h.fits)
+
+-- the path of an AS_PATH, and its bytes
+abbrev four : Option (List ℕ) → Option (List PathSegment)
+four o = option_and_then (path_of_value 4) o
+
+four_there : (o : Option (List ℕ)) → IfSome o IsSpelled → is_some o ≡ is_some (four o)
+four_there None h = refl
+four_there (Some value) h = ap is_some (sym (spelled_is value h))
+
+four_bytes : (o : Option (List ℕ)) → IfSome o IsSpelled → bytes_or_none o ≡ path_part (four o)
+four_bytes None h = refl
+four_bytes (Some value) h = h.written ∙ ap path_part (sym (spelled_is value h))
+
+-- the fields are those of the route, and then its path comes
+pub four_route : (value_at : ℕ → Option (List ℕ)) (fields : Route) (o : Option (List ℕ)) (b : Bool) (old mid new : List ℕ) → IfSome (value_at 2) IsSpelled
+    → fields ≡ without_path (route_from Four value_at) → o ≡ value_at 2 → b ≡ is_some o → mid ≡ old ++ fields_bytes fields b → new ≡ mid ++ bytes_or_none o → new ≡ old ++ route_bytes (route_from Four value_at)
+unfolding route_from fields_bytes
+four_route value_at fields o b old mid new h fields_are o-is b-is first second =
+    let r : Route = route_from Four value_at in
+    let there : b ≡ is_some r.path = b-is ∙ ap is_some o-is ∙ four_there (value_at 2) h in
+    let path : bytes_or_none o ≡ path_part r.path = ap bytes_or_none o-is ∙ four_bytes (value_at 2) h in
+    let front : fields_bytes fields b ≡ fields_bytes r (is_some r.path) = ap (λ (f : Route). fields_bytes f b) fields_are ∙ ap (fields_bytes r) there in
+    second ∙ ap (λ (xs : List ℕ). xs ++ bytes_or_none o) first ∙ append_assoc old (fields_bytes fields b) (bytes_or_none o)
+    ∙ ap (λ (xs : List ℕ). old ++ (xs ++ bytes_or_none o)) front ∙ ap (λ (xs : List ℕ). old ++ (fields_bytes r (is_some r.path) ++ xs)) path ∙ ap (λ (xs : List ℕ). old ++ xs) (route_bytes-fields r)
+
+pub widths_without : (fields r : Route) → fields ≡ without_path r → HaveWidths fields → HaveWidths r
+widths_without fields r e h = let w = subst HaveWidths e h in record { next_hop = w.next_hop; med = w.med; local_pref = w.local_pref; aggregator = w.aggregator }
+
+-- what was written is what was read
+pub reading_is_packed : (width : Width) (bytes new : List ℕ) (first : FirstValues) → IsBytes bytes → KeepsFirst RibEntry width bytes first → HaveWidths (route_from width (kept_value first)) → new ≡ route_bytes (route_from width (kept_value first)) → ArePacked (route_in width bytes) new
+reading_is_packed width bytes new first fine keeps widths e =
+    let r : Route = route_from width (kept_value first) in
+    let said : route_in width bytes ≡ Ok r = route_is_said width bytes first r keeps refl in
+    let packs : CanPack r = record { fields = widths; path = route_writable width bytes r fine said } in
+    record { packed = packed-bytes r new packs e; read_so = said ∙ ap (λ (x : Route). Ok x) (sym (ap unpacked e ∙ unpacked-bytes r packs)) }
+
+pub said_path_writable : (width : Width) (bytes : List ℕ) (first : FirstValues) → IsBytes bytes → KeepsFirst RibEntry width bytes first → IsWritable (route_from width (kept_value first)).path
+said_path_writable width bytes first fine keeps = route_writable width bytes (route_from width (kept_value first)) fine (route_is_said width bytes first (route_from width (kept_value first)) keeps refl)

@@ -1,0 +1,173 @@
+-- A route as one list of bytes: a byte of flags, a byte that says whether there is a path, and then the fields that are
+-- there, in a fixed order; the path as segments with numbers of four bytes (RFC 6793, section 3).
+use Rattle.std.specs.Prelude.{◌≡◌, ℕ, ◌+◌, ◌*◌, ◌/◌, ◌%◌, ◌^◌, ◌<◌, Bool, true, false, List, [], ◌∷◌, ◌++◌, drop, slice_index, Option, Some, None, Result, Ok, Err, IfSome, is_some, ◌==◌, if◌then◌else◌}
+use Rattle.byteorder.specs.Endian.{big_number, big_bytes}
+use Rattle.mrt_frame.specs.declared.fault.Fault.{Fault}
+use Rattle.bgp_update.specs.declared.next_hop.NextHop.{NextHop}
+use Rattle.bgp_update.specs.declared.next_hop.NextHop.TheVariants.{V4, V6, V6Pair}
+use Rattle.bgp_update.specs.declared.route.Origin.{Origin}
+use Rattle.bgp_update.specs.declared.route.Origin.TheVariants.{Igp, Egp, Incomplete}
+use Rattle.bgp_update.specs.declared.route.Aggregator.{Aggregator}
+use Rattle.bgp_update.specs.declared.route.Route.{Route}
+use Rattle.bgp_update.specs.Paths.{PathSegment}
+use Rattle.bgp_update.specs.Segments.{path_bytes, IsPath, path_in}
+use Rattle.bgp_update.specs.Equality.{origin_number}
+
+-- ---- which routes have such bytes: those whose numbers have their widths, and whose path can be written
+
+abbrev pub FitsHop : NextHop → Type 0
+FitsHop (V4 a) = a < 256 ^ 4
+FitsHop (V6 a) = a < 256 ^ 16
+FitsHop (V6Pair a link) = (a < 256 ^ 16) × (link < 256 ^ 16)
+
+pub record FitsAggregator (a : Aggregator) : Type 0 where
+  pub asn : a.asn < 256 ^ 4
+  pub addr : a.addr < 256 ^ 4
+
+pub record HaveWidths (r : Route) : Type 0 where
+  pub next_hop : IfSome r.next_hop FitsHop
+  pub med : IfSome r.med (λ n. n < 256 ^ 4)
+  pub local_pref : IfSome r.local_pref (λ n. n < 256 ^ 4)
+  pub aggregator : IfSome r.aggregator FitsAggregator
+
+-- the path can be written with numbers of four bytes
+abbrev pub IsWritable : Option (List PathSegment) → Type 0
+IsWritable path = IfSome path (IsPath 4)
+
+pub record CanPack (r : Route) : Type 0 where
+  pub fields : HaveWidths r
+  pub path : IsWritable r.path
+
+-- ---- the bytes of a route
+
+abbrev pub flag : Bool → ℕ
+flag true = 1
+flag false = 0
+
+abbrev pub origin_code : Option Origin → ℕ
+origin_code None = 3
+origin_code (Some origin) = origin_number origin
+
+abbrev pub hop_code : Option NextHop → ℕ
+hop_code None = 0
+hop_code (Some (V4 a)) = 1
+hop_code (Some (V6 a)) = 2
+hop_code (Some (V6Pair a link)) = 3
+
+abbrev pub field_flags : Route → ℕ
+field_flags r =
+    origin_code r.origin + 4 * flag r.atomic + 8 * hop_code r.next_hop + 32 * flag (is_some r.med) + 64 * flag (is_some r.local_pref)
+    + 128 * flag (is_some r.aggregator)
+
+abbrev pub hop_bytes : Option NextHop → List ℕ
+hop_bytes None = []
+hop_bytes (Some (V4 a)) = big_bytes 4 a
+hop_bytes (Some (V6 a)) = big_bytes 16 a
+hop_bytes (Some (V6Pair a link)) = big_bytes 16 a ++ big_bytes 16 link
+
+abbrev pub number_bytes : Option ℕ → List ℕ
+number_bytes None = []
+number_bytes (Some n) = big_bytes 4 n
+
+abbrev pub aggregator_bytes : Option Aggregator → List ℕ
+aggregator_bytes None = []
+aggregator_bytes (Some a) = big_bytes 4 a.asn ++ big_bytes 4 a.addr
+
+abbrev pub path_part : Option (List PathSegment) → List ℕ
+path_part None = []
+path_part (Some path) = path_bytes 4 path
+
+unfoldable pub route_bytes : Route → List ℕ
+route_bytes r =
+    (field_flags r ∷ flag (is_some r.path) ∷ []) ++ (hop_bytes r.next_hop ++ (number_bytes r.med ++ (number_bytes r.local_pref ++ (aggregator_bytes r.aggregator ++ path_part r.path))))
+
+-- ---- the route of bytes
+
+abbrev pub origin_bits : List ℕ → ℕ
+origin_bits bytes = slice_index bytes 0 % 4
+
+abbrev pub hop_bits : List ℕ → ℕ
+hop_bits bytes = slice_index bytes 0 / 8 % 4
+
+-- 1 where a flag is set; its place is 4 for ATOMIC_AGGREGATE, 32 for MED, 64 for LOCAL_PREF, and 128 for AGGREGATOR
+abbrev pub flag_bit : ℕ → List ℕ → ℕ
+flag_bit place bytes = slice_index bytes 0 / place % 2
+
+abbrev pub hop_len : ℕ → ℕ
+hop_len code = if code == 0 then 0 else (if code == 1 then 4 else (if code == 2 then 16 else 32))
+
+-- where the fields begin
+unfoldable pub med_at : List ℕ → ℕ
+med_at bytes = 2 + hop_len (hop_bits bytes)
+
+unfoldable pub local_pref_at : List ℕ → ℕ
+local_pref_at bytes = med_at bytes + 4 * flag_bit 32 bytes
+
+unfoldable pub aggregator_at : List ℕ → ℕ
+aggregator_at bytes = local_pref_at bytes + 4 * flag_bit 64 bytes
+
+unfoldable pub path_at : List ℕ → ℕ
+path_at bytes = aggregator_at bytes + 8 * flag_bit 128 bytes
+
+abbrev pub origin_by : ℕ → Option Origin
+origin_by code = if code == 0 then Some Igp else (if code == 1 then Some Egp else (if code == 2 then Some Incomplete else None))
+
+abbrev pub hop_by : ℕ → List ℕ → Option NextHop
+hop_by code bytes =
+    if code == 0 then None else (if code == 1 then Some (V4 (big_number 4 bytes)) else (if code == 2 then Some (V6 (big_number 16 bytes)) else Some (V6Pair (big_number 16 bytes) (big_number 16 (drop 16 bytes)))))
+
+abbrev pub number_by : ℕ → List ℕ → Option ℕ
+number_by bit bytes = if bit == 1 then Some (big_number 4 bytes) else None
+
+abbrev pub aggregator_by : ℕ → List ℕ → Option Aggregator
+aggregator_by bit bytes = if bit == 1 then Some (record { asn = big_number 4 bytes; addr = big_number 4 (drop 4 bytes) }) else None
+
+abbrev pub segments_of : Result (List PathSegment) Fault → List PathSegment
+segments_of (Ok path) = path
+segments_of (Err fault) = []
+
+-- the segments that bytes spell; none where they spell no path
+unfoldable pub spelled_path : List ℕ → List PathSegment
+spelled_path bytes = segments_of (path_in 4 bytes)
+
+abbrev pub path_by : ℕ → List ℕ → Option (List PathSegment)
+path_by bit bytes = if bit == 1 then Some (spelled_path bytes) else None
+
+unfoldable pub unpacked : List ℕ → Route
+unpacked bytes = record {
+  next_hop = hop_by (hop_bits bytes) (drop 2 bytes);
+  path = path_by (slice_index bytes 1) (drop (path_at bytes) bytes);
+  med = number_by (flag_bit 32 bytes) (drop (med_at bytes) bytes);
+  local_pref = number_by (flag_bit 64 bytes) (drop (local_pref_at bytes) bytes);
+  aggregator = aggregator_by (flag_bit 128 bytes) (drop (aggregator_at bytes) bytes);
+  origin = origin_by (origin_bits bytes);
+  atomic = flag_bit 4 bytes == 1;
+}
+
+-- the bytes of the route that they spell
+pub record IsPacked (bytes : List ℕ) : Type 0 where
+  pub fits : CanPack (unpacked bytes)
+  pub written : bytes ≡ route_bytes (unpacked bytes)
+
+-- the bytes of the path that they spell
+pub record IsSpelled (bytes : List ℕ) : Type 0 where
+  pub fits : IsPath 4 (spelled_path bytes)
+  pub written : bytes ≡ path_bytes 4 (spelled_path bytes)
+
+-- the bytes in front of the path
+unfoldable pub fields_bytes : Route → Bool → List ℕ
+fields_bytes r has_path =
+    (((((field_flags r ∷ flag has_path ∷ []) ++ hop_bytes r.next_hop) ++ number_bytes r.med) ++ number_bytes r.local_pref) ++ aggregator_bytes r.aggregator)
+
+-- a route but for its path
+abbrev pub without_path : Route → Route
+without_path r = record r { path = None }
+
+abbrev pub bytes_or_none : Option (List ℕ) → List ℕ
+bytes_or_none None = []
+bytes_or_none (Some bytes) = bytes
+
+-- these bytes are those of the route that was read
+pub record ArePacked (read : Result Route Fault) (bytes : List ℕ) : Type 0 where
+  pub packed : IsPacked bytes
+  pub read_so : read ≡ Ok (unpacked bytes)

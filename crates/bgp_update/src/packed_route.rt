@@ -1,0 +1,411 @@
+//! A route as one block of bytes: two bytes of flags, the fields that are there in a fixed order, and the path as
+//! segments with four-octet AS numbers (RFC 6793, 3).
+
+ghost use Rattle.std.specs.Prelude.{◌≡◌, ◌↔◌, ◌+◌, ◌<◌, ◌≤◌, ◌^◌, length, drop, ◌++◌, ◌∷◌, [], List, IfOk, IfSome, IsTrue, OnOk};
+ghost use Rattle.bgp_update.specs.Packing as packing;
+ghost use Rattle.bgp_update.specs.Packing.{FitsHop, FitsAggregator, IsPacked, IsWritable, HaveWidths, CanPack, fields_bytes, unpacked, hop_by, hop_bits, aggregator_by, flag_bit, hop_bytes, number_bytes, aggregator_bytes, path_part, route_bytes};
+ghost use Rattle.bgp_update.specs.Segments as segments;
+ghost use Rattle.bgp_update.specs.Paths.{origin_as_of};
+ghost use Rattle.bgp_update.specs.Equality.{route_eq};
+ghost use Rattle.std.specs.Option.{option_and_then};
+ghost use Rattle.bgp_update.specs.Segments.{IsPath, IsSegment, path_bytes, segment_bytes};
+
+use crate::next_hop::NextHop;
+use crate::packed_path::PackedSegments;
+use crate::path::{AsPath, Segment, SegmentKind};
+use crate::route::{Aggregator, Origin, Route};
+use crate::short_bytes::ShortBytes;
+use bgp_prefix::Memory;
+use byteorder::{BigEndian, ByteOrder};
+use std::alloc::Global;
+use std::marker::Model;
+
+/// The number by which an origin is written.
+fn origin_code(origin: Option<Origin>) -> u8
+    ensures code { result ≡ packing.origin_code origin }
+    ensures few { result < 4 }
+{
+    match origin {
+        None => 3,
+        Some(Origin::Igp) => 0,
+        Some(Origin::Egp) => 1,
+        Some(Origin::Incomplete) => 2,
+    }
+}
+
+/// The number by which the kind of a next hop is written.
+fn hop_code(hop: Option<NextHop>) -> u8
+    ensures code { result ≡ packing.hop_code hop }
+    ensures few { result < 4 }
+{
+    match hop {
+        None => 0,
+        Some(NextHop::V4(_)) => 1,
+        Some(NextHop::V6(_)) => 2,
+        Some(NextHop::V6Pair(_, _)) => 3,
+    }
+}
+
+/// 1 if it is set.
+fn flag(is_set: bool) -> u8
+    ensures bit { result ≡ packing.flag is_set }
+    ensures few { result < 2 }
+{
+    is_set as u8
+}
+
+/// The first byte: the origin, and which fields are there.
+fn field_flags(route: &Route) -> u8
+    ensures { result ≡ packing.field_flags route.now }
+{
+    origin_code(route.origin)
+        + 4 * flag(route.atomic)
+        + 8 * hop_code(route.next_hop)
+        + 32 * flag(route.med.is_some())
+        + 64 * flag(route.local_pref.is_some())
+        + 128 * flag(route.aggregator.is_some())
+}
+
+fn push_hop(out: &mut Vec<u8>, hop: Option<NextHop>) -> Result<(), Memory>
+    ensures bytes { OnOk result (out.new.items ≡ out.old.items ++ hop_bytes hop) }
+    ensures fits { IfSome hop FitsHop }
+{
+    match hop {
+        None => {}
+        Some(NextHop::V4(a)) => out.extend_from_slice(&a.to_be_bytes())?,
+        Some(NextHop::V6(a)) => out.extend_from_slice(&a.to_be_bytes())?,
+        Some(NextHop::V6Pair(a, link)) => {
+            out.extend_from_slice(&a.to_be_bytes())?;
+            out.extend_from_slice(&link.to_be_bytes())?;
+        }
+    }
+    Ok(())
+}
+
+fn push_number(out: &mut Vec<u8>, number: Option<u32>) -> Result<(), Memory>
+    ensures bytes { OnOk result (out.new.items ≡ out.old.items ++ number_bytes number) }
+    ensures fits { IfSome number (λ n. n < 256 ^ 4) }
+{
+    match number {
+        None => {}
+        Some(n) => out.extend_from_slice(&n.to_be_bytes())?,
+    }
+    Ok(())
+}
+
+fn push_aggregator(out: &mut Vec<u8>, aggregator: Option<Aggregator>) -> Result<(), Memory>
+    ensures bytes { OnOk result (out.new.items ≡ out.old.items ++ aggregator_bytes aggregator) }
+    ensures fits { IfSome aggregator FitsAggregator }
+{
+    match aggregator {
+        None => {}
+        Some(a) => {
+            out.extend_from_slice(&a.asn.to_be_bytes())?;
+            out.extend_from_slice(&a.addr.to_be_bytes())?;
+        }
+    }
+    Ok(())
+}
+
+fn kind_number(kind: SegmentKind) -> u8
+    ensures { result ≡ segments.kind_number kind }
+{
+    match kind {
+        SegmentKind::AsSet => 1,
+        SegmentKind::AsSequence => 2,
+        SegmentKind::ConfedSequence => 3,
+        SegmentKind::ConfedSet => 4,
+    }
+}
+
+fn push_segment(out: &mut Vec<u8>, segment: &Segment) -> Result<(), Memory>
+    requires { IsSegment 4 segment.now }
+    ensures { OnOk result (out.new.items ≡ out.old.items ++ segment_bytes 4 segment.now) }
+{
+    let numbers = segment.numbers();
+    out.push(kind_number(segment.kind()))?;
+    out.push(numbers.len() as u8)?;
+    for n in numbers {
+        out.extend_from_slice(&n.to_be_bytes())?;
+    }
+    Ok(())
+}
+
+fn push_path(out: &mut Vec<u8>, path: &AsPath) -> Result<(), Memory>
+    requires { IsPath 4 path.now }
+    ensures { OnOk result (out.new.items ≡ out.old.items ++ path_bytes 4 path.now) }
+{
+    for segment in path.segments() {
+        push_segment(out, segment)?;
+    }
+    Ok(())
+}
+
+/// Writes the fields of a route except its path, and whether it has one.
+#[tactic(auto, unfolding(crate::specs::Packing::fields_bytes))]
+pub(crate) fn push_fields(out: &mut Vec<u8>, route: &Route, has_path: bool) -> Result<(), Memory>
+    ensures bytes { OnOk result (out.new.items ≡ out.old.items ++ fields_bytes route.now has_path) }
+    ensures widths { OnOk result (HaveWidths route.now) }
+{
+    out.push(field_flags(route))?;
+    out.push(flag(has_path))?;
+    push_hop(out, route.next_hop)?;
+    push_number(out, route.med)?;
+    push_number(out, route.local_pref)?;
+    push_aggregator(out, route.aggregator)
+}
+
+/// Writes a route.
+pub(crate) fn push_route(out: &mut Vec<u8>, route: &Route) -> Result<(), Memory>
+    requires { IsWritable route.now.path }
+    ensures bytes { OnOk result (out.new.items ≡ out.old.items ++ route_bytes route.now) }
+    ensures packs { OnOk result (CanPack route.now) }
+{
+    push_fields(out, route, route.path.is_some())?;
+    match &route.path {
+        Some(path) => {
+            push_path(out, path)?;
+            Ok(())
+        }
+        None => Ok(()),
+    }
+}
+
+/// Reads the number at a position, if its flag is set.
+fn number_by(bytes: &[u8], bit: u8, at: usize) -> Option<u32>
+    requires { bit ≡ 1 → at + 4 ≤ length bytes.now }
+    ensures { result ≡ packing.number_by bit (drop at bytes.now) }
+{
+    if bit == 1 {
+        Some(BigEndian::read_u32(&bytes[at..]))
+    } else {
+        None
+    }
+}
+
+/// How many bytes a next hop takes.
+fn hop_len(code: u8) -> usize
+    ensures { result ≡ packing.hop_len code }
+{
+    match code {
+        0 => 0,
+        1 => 4,
+        2 => 16,
+        _ => 32,
+    }
+}
+
+/// The position of MULTI_EXIT_DISC, after the next hop.
+#[tactic(auto, unfolding(crate::specs::Packing::med_at))]
+fn med_at(bytes: &[u8]) -> usize
+    requires { 2 ≤ length bytes.now }
+    ensures { result ≡ packing.med_at bytes.now }
+{
+    2 + hop_len(bytes[0] / 8 % 4)
+}
+
+/// The position of LOCAL_PREF.
+#[tactic(auto, unfolding(crate::specs::Packing::med_at, crate::specs::Packing::local_pref_at))]
+fn local_pref_at(bytes: &[u8]) -> usize
+    requires { 2 ≤ length bytes.now }
+    ensures { result ≡ packing.local_pref_at bytes.now }
+{
+    med_at(bytes) + 4 * (bytes[0] / 32 % 2) as usize
+}
+
+/// The position of AGGREGATOR.
+#[tactic(auto, unfolding(crate::specs::Packing::med_at, crate::specs::Packing::local_pref_at, crate::specs::Packing::aggregator_at))]
+fn aggregator_at(bytes: &[u8]) -> usize
+    requires { 2 ≤ length bytes.now }
+    ensures { result ≡ packing.aggregator_at bytes.now }
+{
+    local_pref_at(bytes) + 4 * (bytes[0] / 64 % 2) as usize
+}
+
+/// The position of the path.
+#[tactic(auto, unfolding(crate::specs::Packing::med_at, crate::specs::Packing::local_pref_at, crate::specs::Packing::aggregator_at, crate::specs::Packing::path_at))]
+fn path_at(bytes: &[u8]) -> usize
+    requires { 2 ≤ length bytes.now }
+    ensures { result ≡ packing.path_at bytes.now }
+{
+    aggregator_at(bytes) + 8 * (bytes[0] / 128) as usize
+}
+
+#[tactic(auto, unfolding(crate::specs::Packing::med_at, crate::specs::Packing::local_pref_at, crate::specs::Packing::aggregator_at, crate::specs::Packing::path_at))]
+fn next_hop_in(bytes: &[u8]) -> Option<NextHop>
+    requires { packing.path_at bytes.now ≤ length bytes.now }
+    ensures { result ≡ hop_by (hop_bits bytes.now) (drop 2 bytes.now) }
+{
+    match bytes[0] / 8 % 4 {
+        0 => None,
+        1 => Some(NextHop::V4(BigEndian::read_u32(&bytes[2..]))),
+        2 => Some(NextHop::V6(BigEndian::read_u128(&bytes[2..]))),
+        _ => Some(NextHop::V6Pair(
+            BigEndian::read_u128(&bytes[2..]),
+            BigEndian::read_u128(&bytes[18..]),
+        )),
+    }
+}
+
+#[tactic(auto, unfolding(crate::specs::Packing::med_at, crate::specs::Packing::local_pref_at, crate::specs::Packing::aggregator_at, crate::specs::Packing::path_at))]
+fn aggregator_in(bytes: &[u8]) -> Option<Aggregator>
+    requires { packing.path_at bytes.now ≤ length bytes.now }
+    ensures { result ≡ aggregator_by (flag_bit 128 bytes.now) (drop (packing.aggregator_at bytes.now) bytes.now) }
+{
+    if bytes[0] / 128 == 1 {
+        let at = aggregator_at(bytes);
+        let asn = BigEndian::read_u32(&bytes[at..]);
+        let addr = BigEndian::read_u32(&bytes[at + 4..]);
+        Some(Aggregator { asn, addr })
+    } else {
+        None
+    }
+}
+
+/// A route as one block of bytes, which contracts see as the `Route`. Equal routes have equal bytes. Up to 46 bytes are
+/// stored in place: those of an IPv4 next hop, MULTI_EXIT_DISC and a path of eight numbers in one segment, for example.
+#[derive(Drop)]
+pub struct PackedRoute {
+    bytes: ShortBytes,
+}
+
+impl Model for PackedRoute {
+    ghost use Rattle.bgp_update.specs.declared.route.Route.{Route};
+    ghost use Rattle.bgp_update.specs.Packing.{unpacked, IsPacked};
+
+    ghost Value = { Route };
+
+    ghost view = { λ p. unpacked p.bytes };
+
+    ghost invariant = { λ p. IsPacked p.bytes };
+}
+
+impl PackedRoute {
+    /// Returns the route of these bytes.
+    pub(crate) fn of_bytes(alloc: Global, bytes: &[u8]) -> Result<PackedRoute, Memory>
+        requires { IsPacked bytes.now }
+        ensures { IfOk result (λ packed. packed ≡ unpacked bytes.now) }
+    {
+        let bytes = ShortBytes::from_slice(alloc, bytes)?;
+        Ok(PackedRoute { bytes })
+    }
+
+    /// Packs a route whose path can be written with four-octet AS numbers: no segment is empty or has more than 255.
+    #[tactic(auto, using(crate::proofs::Packings::packs_again))]
+    pub fn pack(alloc: Global, route: &Route) -> Result<PackedRoute, Memory>
+        requires { IsWritable route.now.path }
+        ensures { IfOk result (λ packed. packed ≡ route.now) }
+    {
+        let mut bytes = Vec::with_capacity(alloc, 64)?;
+        push_route(&mut bytes, route)?;
+        PackedRoute::of_bytes(alloc, bytes.as_slice())
+    }
+
+    /// The bytes.
+    pub fn as_bytes(&self) -> &[u8]
+        ensures { self.now ≡ unpacked result.now }
+    {
+        self.bytes.as_slice()
+    }
+
+    /// Whether the routes are equal.
+    #[tactic(auto, using(crate::proofs::Packings::same_packed))]
+    fn has_same_bytes(&self, other: &PackedRoute) -> bool
+        ensures { IsTrue result ↔ (self.now ≡ other.now) }
+    {
+        self.bytes.as_slice() == other.bytes.as_slice()
+    }
+
+    /// Whether the routes are equal.
+    pub fn is_same(&self, other: &PackedRoute) -> bool
+        ensures test { result ≡ route_eq self.now other.now }
+        ensures same { IsTrue result ↔ (self.now ≡ other.now) }
+    {
+        self.has_same_bytes(other)
+    }
+
+    /// Returns an equal route.
+    pub fn try_copy(&self, alloc: Global) -> Result<PackedRoute, Memory>
+        ensures { IfOk result (λ copy. copy ≡ self.now) }
+    {
+        PackedRoute::of_bytes(alloc, self.bytes.as_slice())
+    }
+
+    /// The next hop: NEXT_HOP, or that of MP_REACH_NLRI (RFC 4271, 5.1.3; RFC 4760, 3).
+    #[tactic(auto, using(crate::proofs::Packings::packed_room), unfolding(crate::specs::Packing::unpacked, crate::specs::Packing::med_at, crate::specs::Packing::local_pref_at, crate::specs::Packing::aggregator_at, crate::specs::Packing::path_at))]
+    pub fn next_hop(&self) -> Option<NextHop>
+        ensures { result ≡ self.now.next_hop }
+    {
+        next_hop_in(self.bytes.as_slice())
+    }
+
+    /// MULTI_EXIT_DISC (RFC 4271, 5.1.4).
+    #[tactic(auto, using(crate::proofs::Packings::packed_room), unfolding(crate::specs::Packing::unpacked, crate::specs::Packing::med_at, crate::specs::Packing::local_pref_at, crate::specs::Packing::aggregator_at, crate::specs::Packing::path_at))]
+    pub fn med(&self) -> Option<u32>
+        ensures { result ≡ self.now.med }
+    {
+        let bytes = self.bytes.as_slice();
+        number_by(bytes, bytes[0] / 32 % 2, med_at(bytes))
+    }
+
+    /// LOCAL_PREF (RFC 4271, 5.1.5).
+    #[tactic(auto, using(crate::proofs::Packings::packed_room), unfolding(crate::specs::Packing::unpacked, crate::specs::Packing::med_at, crate::specs::Packing::local_pref_at, crate::specs::Packing::aggregator_at, crate::specs::Packing::path_at))]
+    pub fn local_pref(&self) -> Option<u32>
+        ensures { result ≡ self.now.local_pref }
+    {
+        let bytes = self.bytes.as_slice();
+        number_by(bytes, bytes[0] / 64 % 2, local_pref_at(bytes))
+    }
+
+    /// AGGREGATOR (RFC 4271, 5.1.7).
+    #[tactic(auto, using(crate::proofs::Packings::packed_room), unfolding(crate::specs::Packing::unpacked, crate::specs::Packing::med_at, crate::specs::Packing::local_pref_at, crate::specs::Packing::aggregator_at, crate::specs::Packing::path_at))]
+    pub fn aggregator(&self) -> Option<Aggregator>
+        ensures { result ≡ self.now.aggregator }
+    {
+        aggregator_in(self.bytes.as_slice())
+    }
+
+    /// ORIGIN (RFC 4271, 5.1.1).
+    #[tactic(auto, using(crate::proofs::Packings::packed_room), unfolding(crate::specs::Packing::unpacked, crate::specs::Packing::med_at, crate::specs::Packing::local_pref_at, crate::specs::Packing::aggregator_at, crate::specs::Packing::path_at))]
+    pub fn origin(&self) -> Option<Origin>
+        ensures { result ≡ self.now.origin }
+    {
+        match self.bytes.as_slice()[0] % 4 {
+            0 => Some(Origin::Igp),
+            1 => Some(Origin::Egp),
+            2 => Some(Origin::Incomplete),
+            _ => None,
+        }
+    }
+
+    /// Whether ATOMIC_AGGREGATE is present (RFC 4271, 5.1.6).
+    #[tactic(auto, using(crate::proofs::Packings::packed_room), unfolding(crate::specs::Packing::unpacked, crate::specs::Packing::med_at, crate::specs::Packing::local_pref_at, crate::specs::Packing::aggregator_at, crate::specs::Packing::path_at))]
+    pub fn atomic(&self) -> bool
+        ensures { result ≡ self.now.atomic }
+    {
+        self.bytes.as_slice()[0] / 4 % 2 == 1
+    }
+
+    /// The segments of AS_PATH (RFC 4271, 5.1.2).
+    #[tactic(auto, using(crate::proofs::Packings::packed_room, crate::proofs::Packings::packed_path), unfolding(crate::specs::Packing::unpacked, crate::specs::Packing::med_at, crate::specs::Packing::local_pref_at, crate::specs::Packing::aggregator_at, crate::specs::Packing::path_at))]
+    pub fn path(&self) -> Option<PackedSegments<'_>>
+        ensures { result ≡ self.now.path }
+    {
+        let bytes = self.bytes.as_slice();
+        if bytes[1] == 1 {
+            Some(PackedSegments::of_bytes(&bytes[path_at(bytes)..]))
+        } else {
+            None
+        }
+    }
+
+    /// The origin AS (RFC 6811, 2).
+    pub fn origin_as(&self) -> Option<u32>
+        ensures { result ≡ option_and_then origin_as_of self.now.path }
+    {
+        match self.path() {
+            Some(segments) => segments.origin_as(),
+            None => None,
+        }
+    }
+}

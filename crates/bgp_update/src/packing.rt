@@ -1,0 +1,110 @@
+//! Attributes, packed as they are read.
+
+ghost use Rattle.std.specs.Prelude.{◌≡◌, ◌++◌, IfErr, IfSome, OnOk};
+ghost use Rattle.bgp_update.specs.Answers.{Fails, Gives};
+ghost use Rattle.bgp_update.specs.Attributes as attributes;
+ghost use Rattle.bgp_update.specs.Attributes.{route_in};
+ghost use Rattle.bgp_update.specs.Packing.{IsSpelled, IsWritable, HaveWidths, ArePacked, without_path, route_bytes};
+ghost use Rattle.bgp_update.specs.Values.{kept_value};
+ghost use Rattle.bgp_update.specs.declared.width.Width.TheVariants.{Four};
+
+use crate::packed_route::{PackedRoute, push_fields, push_route};
+use crate::route::Route;
+use crate::saying::{aggregator_from, next_hop_value, number_value, origin_value, route_from};
+use crate::values::{FirstValues, keep_values};
+use crate::width::{AttrError, Carrier, Width};
+use bgp_prefix::Memory;
+use std::alloc::Global;
+
+/// Returns the route of these values except its path. Allocates nothing.
+#[tactic(auto, unfolding(crate::specs::Attributes::route_from))]
+fn fields_from(first: &FirstValues<'_>, width: Width) -> Route
+    ensures { result ≡ without_path (attributes.route_from width (kept_value first.now)) }
+{
+    Route {
+        origin: origin_value(first.value(1)),
+        path: None,
+        next_hop: next_hop_value(first.value(3)),
+        med: number_value(first.value(4)),
+        local_pref: number_value(first.value(5)),
+        atomic: first.value(6).is_some(),
+        aggregator: aggregator_from(first, width),
+    }
+}
+
+/// Writes the route of values with four-octet AS numbers: the bytes of AS_PATH are copied.
+fn push_four(out: &mut Vec<u8>, first: &FirstValues<'_>) -> Result<(), Memory>
+    requires { IfSome (kept_value first.now 2) IsSpelled }
+    ensures bytes { OnOk result (out.new.items ≡ out.old.items ++ route_bytes (attributes.route_from Four (kept_value first.now))) }
+    ensures widths { OnOk result (HaveWidths (attributes.route_from Four (kept_value first.now))) }
+{
+    let fields = fields_from(first, Width::Four);
+    match first.value(2) {
+        Some(path) => {
+            push_fields(out, &fields, true)?;
+            out.extend_from_slice(path)?;
+            Ok(())
+        }
+        None => {
+            push_fields(out, &fields, false)?;
+            Ok(())
+        }
+    }
+}
+
+/// Writes the route of these values.
+fn push_attrs(
+    alloc: Global,
+    out: &mut Vec<u8>,
+    first: &FirstValues<'_>,
+    width: Width,
+) -> Result<(), Memory>
+    requires four { width ≡ Four → IfSome (kept_value first.now 2) IsSpelled }
+    requires writable { IsWritable (attributes.route_from width (kept_value first.now)).path }
+    ensures bytes { OnOk result (out.new.items ≡ out.old.items ++ route_bytes (attributes.route_from width (kept_value first.now))) }
+    ensures widths { OnOk result (HaveWidths (attributes.route_from width (kept_value first.now))) }
+{
+    match width {
+        Width::Four => push_four(out, first),
+        Width::Two => {
+            let route = route_from(alloc, first, width)?;
+            push_route(out, &route)?;
+            Ok(())
+        }
+    }
+}
+
+/// Replaces the contents of a buffer by the route that the attributes of a RIB entry encode. With four-octet AS numbers it
+/// allocates nothing except to enlarge the buffer.
+#[tactic(auto, unfolding(crate::specs::Attributes::route_in))]
+fn pack_attrs(
+    alloc: Global,
+    buffer: &mut Vec<u8>,
+    bytes: &[u8],
+    width: Width,
+) -> Result<(), AttrError>
+    ensures ok { OnOk result (ArePacked (route_in width bytes.now) buffer.new.items) }
+    ensures err { IfErr result (λ e. Fails e (route_in width bytes.now)) }
+{
+    buffer.clear();
+    let mut first = FirstValues::new();
+    keep_values(&mut first, bytes, Carrier::RibEntry, width)?;
+    push_attrs(alloc, buffer, &first, width)?;
+    Ok(())
+}
+
+impl PackedRoute {
+    /// Reads the route that the attributes of a RIB entry encode (RFC 6396, 4.3.4), like `read_attrs`, by way of a
+    /// buffer, whose contents are replaced. `Bad` has the first fault from left to right.
+    pub fn read(
+        alloc: Global,
+        buffer: &mut Vec<u8>,
+        bytes: &[u8],
+        width: Width,
+    ) -> Result<PackedRoute, AttrError>
+        ensures { Gives (λ route. route) result (route_in width bytes.now) }
+    {
+        pack_attrs(alloc, buffer, bytes, width)?;
+        Ok(PackedRoute::of_bytes(alloc, buffer.as_slice())?)
+    }
+}
