@@ -22,7 +22,7 @@ $(PROGRAM): $(shell find crates -path '*/out' -prune -o -type f -print) crates.t
 	cp $(BUILT) $(PROGRAM)
 
 help:
-	@echo 'make            builds bin/bgp_replay (a first build proves every crate below: twenty to thirty minutes on 4 cores)'
+	@echo 'make            builds bin/bgp_replay (a first build proves every crate below: fifteen to thirty minutes on 4 cores)'
 	@echo 'make run        replays the sample by `tables`'
 	@echo 'make check      the gate: every proof, must-fail edit, test and run from nothing, and make scripts'
 	@echo 'make verdict    each crate from nothing, with its tests'
