@@ -4,7 +4,7 @@ ghost use Rattle.mrt_body.specs.Units.{IsSmallUnit};
 
 use crate::gate::Gate;
 use crate::numbered::{Numbered, Small};
-use rtrb::{Producer, PushError};
+use rtrb::Producer;
 use std::alloc::Global;
 use std::sync::atomic::{AtomicBool, Ordering};
 use std::thread::yield_now;
@@ -28,14 +28,13 @@ impl Feed {
         ensures pushed { OnOk result (Pushed self.old self.new (item ∷ [])) }
         ensures full { IfErr result (λ back. (back ≡ item) × Pushed self.old self.new [] × (known_free self.old.producer ≡ 0)) }
     {
-        match self.producer.push(item) {
-            Ok(()) => {
-                gate.dealt(lane, self.dealt);
-                self.dealt = self.dealt.saturating_add(1);
-                Ok(())
-            }
-            Err(PushError::Full(back)) => Err(back),
+        if self.producer.is_full() {
+            return Err(item);
         }
+        self.producer.push_reserved(item);
+        gate.dealt(lane, self.dealt);
+        self.dealt = self.dealt.saturating_add(1);
+        Ok(())
     }
 
     /// Retries this many times to push an item that came back, and lets other threads run before each try. If the round

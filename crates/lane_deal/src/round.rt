@@ -17,7 +17,7 @@ use crate::gate::Gate;
 use crate::lane::renew_all;
 use crate::sessions::Sessions;
 use crate::step::Step;
-use crate::worker::{Patience, Worker, run_all};
+use crate::worker::{Patience, Worker, run_all, run_at_most_one};
 use bgp_prefix::Memory;
 use mrt_body::Units;
 use mrt_frame::{ReplayError, Source};
@@ -68,6 +68,65 @@ fn deal_and_work<
     (step, worked)
 }
 
+/// Deals first and lets the worker take afterwards, both in the calling thread.
+fn deal_then_work<D: Dealing, R: Source, S: Sessions, G: Gate>(
+    alloc: Global,
+    gate: &G,
+    patience: Patience,
+    dealer: &mut Dealer<D>,
+    units: &mut Units,
+    files: &mut [R],
+    feeds: &mut [Feed],
+    workers: &mut [Worker<S>],
+) -> (Result<Step, ReplayError>, Result<(), Memory>)
+    requires lanes { 0 < length feeds.old }
+    requires files { length files.old ≡ units.old.count }
+    requires few { length workers.old < 2 }
+    ensures deals { DealsOn (λ number. D.lane_of dealer.old.dealing number (length feeds.old)) patience.batch feeds.old feeds.new dealer.old dealer.new units.old (map R.remaining files.old) (map R.failure_count files.old) units.new (map R.remaining files.new) (map R.failure_count files.new) result.0 }
+    ensures worked { OnOk result.1 (AllZip (Worked S.stands_for) workers.old workers.new) }
+{
+    let over = AtomicBool::new(false);
+    // Nobody empties a full ring meanwhile, so no push is retried.
+    let step = dealer.deal(alloc, gate, patience.batch, 0, &over, units, files, feeds);
+    over.store(true, Ordering::SeqCst);
+    let worked = run_at_most_one(alloc, gate, &over, patience, workers);
+    (step, worked)
+}
+
+/// Deals, and lets the workers take: side by side, or one after the other for a single worker that looks at most once
+/// at an empty ring and so would gain little from a thread of its own.
+fn deal_and_take<
+    T: Threads + Sync,
+    D: Dealing + Send,
+    R: Source + Send,
+    S: Sessions + Send,
+    G: Gate,
+>(
+    rt: &T,
+    alloc: Global,
+    gate: &G,
+    patience: Patience,
+    dealer: &mut Dealer<D>,
+    units: &mut Units,
+    files: &mut [R],
+    feeds: &mut [Feed],
+    workers: &mut [Worker<S>],
+) -> (Result<Step, ReplayError>, Result<(), Memory>)
+    requires lanes { 0 < length feeds.old }
+    requires files { length files.old ≡ units.old.count }
+    ensures deals { DealsOn (λ number. D.lane_of dealer.old.dealing number (length feeds.old)) patience.batch feeds.old feeds.new dealer.old dealer.new units.old (map R.remaining files.old) (map R.failure_count files.old) units.new (map R.remaining files.new) (map R.failure_count files.new) result.0 }
+    ensures worked { OnOk result.1 (AllZip (Worked S.stands_for) workers.old workers.new) }
+{
+    if workers.len() < 2 && patience.looks < 2 {
+        return deal_then_work(
+            alloc, gate, patience, dealer, units, files, feeds, workers,
+        );
+    }
+    deal_and_work(
+        rt, alloc, gate, patience, dealer, units, files, feeds, workers,
+    )
+}
+
 /// Runs one round over all lanes, whose rings are made anew at its end.
 pub fn run_round<
     T: Threads + Sync,
@@ -94,7 +153,7 @@ pub fn run_round<
     ensures reads { ReadsOn units.old (map R.remaining files.old) (map R.failure_count files.old) units.new (map R.failure_count files.new) result }
     ensures plays { IfAnswered result (PlaysLanes S.stands_for (λ number. D.lane_of dealer.old.dealing number (length feeds.old)) capacity patience.batch feeds.old workers.old feeds.new workers.new dealer.old dealer.new units.old (map R.remaining files.old) units.new (map R.remaining files.new) result) }
 {
-    let (step, worked) = deal_and_work(
+    let (step, worked) = deal_and_take(
         rt, alloc, gate, patience, dealer, units, files, feeds, workers,
     );
     let Ok(()) = worked else {

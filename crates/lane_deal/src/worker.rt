@@ -215,7 +215,8 @@ fn run_both<R: Threads + Sync, S: Sessions + Send, G: Gate>(
     second
 }
 
-fn run_at_most_one<S: Sessions, G: Gate>(
+/// Runs the worker, if there is one, in the calling thread.
+pub fn run_at_most_one<S: Sessions, G: Gate>(
     alloc: Global,
     gate: &G,
     over: &AtomicBool,
