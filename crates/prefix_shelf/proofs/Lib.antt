@@ -1,2 +1,4 @@
 pub mod ChunkLaws
+pub mod KeyedLists
 pub mod ShelfLaws
+pub mod LastPrefixes

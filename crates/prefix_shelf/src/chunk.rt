@@ -5,8 +5,7 @@ ghost use Rattle.std.specs.Ordering.{eq_by_cmp, is_le};
 ghost use Rattle.std.specs.FinMap.{find, put};
 ghost use Rattle.std.specs.FinMap.Entries.{is_sorted, where_key};
 ghost use Rattle.bgp_prefix.specs.Prefixes.{prefix_cmp};
-ghost use Rattle.bgp_prefix.specs.Keys.{key_cmp, entries_now};
-ghost use Rattle.bgp_prefix.specs.Maps.{paths_of};
+ghost use Rattle.bgp_prefix.specs.Keys.{key_cmp};
 ghost use Rattle.bgp_prefix.specs.Searches.{IsAt, IsGap};
 ghost use Rattle.prefix_shelf.specs.Shelves.{ids_put, ids_removed};
 

@@ -1,5 +1,5 @@
 use Rattle.std.proofs.Common.{◌≡◌, ◌<◌, sym, arith, length}
-use Rattle.prefix_shelf.proofs.ShelfLaws.{ends_in}
+use Rattle.prefix_shelf.proofs.LastPrefixes.{ends_in}
 use Rattle.prefix_shelf.proofs.chunk.ChunkPart.ends_below.Goals as goal
 
 pub returns-in-Less : goal.returns-in-Less

@@ -1,6 +1,7 @@
 use Rattle.std.proofs.Common.{◌<◌, map, arith, length}
 use Rattle.std.proofs.lemmas.List.{length-map, take-map}
-use Rattle.prefix_shelf.proofs.ShelfLaws.{rows_cut, drop_map}
+use Rattle.prefix_shelf.proofs.KeyedLists.{drop_map}
+use Rattle.prefix_shelf.proofs.ShelfLaws.{rows_cut}
 use Rattle.prefix_shelf.proofs.rows.Rows.cut.Goals as goal
 
 pub returns-clause-cut : goal.returns-clause-cut

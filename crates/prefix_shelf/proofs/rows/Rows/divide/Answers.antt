@@ -3,7 +3,8 @@ use Rattle.std.proofs.lemmas.List.{length-map, map-set}
 use Rattle.std.proofs.Math.Seq.{map-set_same}
 use Rattle.prefix_shelf.specs.Shelves.{in_chunks, IsCut}
 use Rattle.bgp_prefix.specs.declared.key.RouteKey.{RouteKey}
-use Rattle.prefix_shelf.proofs.ShelfLaws.{rows_split, part_read, map_insert}
+use Rattle.prefix_shelf.proofs.KeyedLists.{part_read, map_insert}
+use Rattle.prefix_shelf.proofs.ShelfLaws.{rows_split}
 use Rattle.prefix_shelf.proofs.rows.Rows.divide.Goals as goal
 
 pub first-first-requires : goal.first-first-requires

@@ -4,7 +4,9 @@ use Rattle.std.specs.declared.cmp.Ordering.TheVariants.{Less}
 use Rattle.bgp_prefix.specs.Keys.{key_cmp}
 use Rattle.prefix_shelf.specs.Shelves.{EachKey}
 use Rattle.bgp_prefix.specs.declared.key.RouteKey.{RouteKey}
-use Rattle.prefix_shelf.proofs.ShelfLaws.{last_of, part_read, chunk_sorted}
+use Rattle.prefix_shelf.proofs.KeyedLists.{part_read}
+use Rattle.prefix_shelf.proofs.ShelfLaws.{chunk_sorted}
+use Rattle.prefix_shelf.proofs.LastPrefixes.{last_of}
 use Rattle.prefix_shelf.proofs.rows.Rows.ends_below.Goals as goal
 
 pub ends_below-requires : goal.ends_below-requires

@@ -2,7 +2,8 @@ use Rattle.std.proofs.Common.{◌≡◌, ◌∙◌, ◌<◌, ap, sym, get_or, ma
 use Rattle.std.specs.FinMap.{find}
 use Rattle.std.proofs.lemmas.List.{length-map}
 use Rattle.bgp_prefix.specs.Keys.{key_cmp}
-use Rattle.prefix_shelf.proofs.ShelfLaws.{part_read, chunk_sorted, find_in}
+use Rattle.prefix_shelf.proofs.KeyedLists.{part_read}
+use Rattle.prefix_shelf.proofs.ShelfLaws.{chunk_sorted, find_in}
 use Rattle.prefix_shelf.proofs.rows.Rows.get.Goals as goal
 
 pub get-requires : goal.get-requires

@@ -1,5 +1,6 @@
 use Rattle.std.proofs.Common.{◌∙◌, map, arith}
-use Rattle.prefix_shelf.proofs.ShelfLaws.{empty_in, empty_parts}
+use Rattle.prefix_shelf.proofs.KeyedLists.{empty_parts}
+use Rattle.prefix_shelf.proofs.ShelfLaws.{empty_in}
 use Rattle.prefix_shelf.proofs.rows.Rows.is_empty.Goals as goal
 
 pub returns : goal.returns

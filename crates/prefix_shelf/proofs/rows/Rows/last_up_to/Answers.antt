@@ -1,6 +1,8 @@
 use Rattle.std.proofs.Common.{◌≡◌, ◌<◌, get_or, map, arith, length}
 use Rattle.std.proofs.lemmas.List.{length-map}
-use Rattle.prefix_shelf.proofs.ShelfLaws.{part_read, chunk_sorted, last_in}
+use Rattle.prefix_shelf.proofs.KeyedLists.{part_read}
+use Rattle.prefix_shelf.proofs.ShelfLaws.{chunk_sorted}
+use Rattle.prefix_shelf.proofs.LastPrefixes.{last_in}
 use Rattle.prefix_shelf.proofs.rows.Rows.last_up_to.Goals as goal
 
 pub last_up_to-requires : goal.last_up_to-requires

@@ -4,7 +4,8 @@ use Rattle.bgp_prefix.specs.Prefixes.{prefix_cmp}
 use Rattle.bgp_prefix.specs.Maps.{paths_of}
 use Rattle.prefix_shelf.specs.Shelves.{in_chunks}
 use Rattle.bgp_prefix.specs.declared.key.RouteKey.{RouteKey}
-use Rattle.prefix_shelf.proofs.ShelfLaws.{paths_below, paths_until, paths_on, part_read}
+use Rattle.prefix_shelf.proofs.KeyedLists.{part_read}
+use Rattle.prefix_shelf.proofs.LastPrefixes.{paths_below, paths_until, paths_on}
 use Rattle.prefix_shelf.proofs.rows.Rows.paths.Goals as goal
 
 pub loop-at-init : goal.loop-at-init

@@ -3,7 +3,8 @@ use Rattle.std.specs.FinMap.{find}
 use Rattle.std.proofs.lemmas.List.{get_or-set_same, length-map, map-set}
 use Rattle.bgp_prefix.specs.Keys.{key_cmp, is_nil}
 use Rattle.prefix_shelf.specs.Shelves.{first_key}
-use Rattle.prefix_shelf.proofs.ShelfLaws.{part_read, chunk_sorted, find_in, without, without_in, rows_gone, rows_without, map_remove, length_nil, length_held}
+use Rattle.prefix_shelf.proofs.KeyedLists.{part_read, without, map_remove}
+use Rattle.prefix_shelf.proofs.ShelfLaws.{chunk_sorted, find_in, without_in, rows_gone, rows_without, length_nil, length_held}
 use Rattle.prefix_shelf.proofs.rows.Rows.remove.Goals as goal
 
 pub remove-before-requires : goal.remove-before-requires

@@ -4,7 +4,8 @@ use Rattle.std.proofs.lemmas.List.{length-map, map-set}
 use Rattle.std.proofs.Math.Seq.{map-set_same}
 use Rattle.bgp_prefix.specs.Keys.{key_cmp}
 use Rattle.prefix_shelf.specs.Shelves.{in_chunks}
-use Rattle.prefix_shelf.proofs.ShelfLaws.{part_read, chunk_sorted, find_in, put_in, rows_put, lesser_at, on_err}
+use Rattle.prefix_shelf.proofs.KeyedLists.{part_read, on_err}
+use Rattle.prefix_shelf.proofs.ShelfLaws.{chunk_sorted, find_in, put_in, rows_put, lesser_at}
 use Rattle.prefix_shelf.proofs.rows.Rows.store.Goals as goal
 
 pub insert-requires-clause-sorted : goal.insert-requires-clause-sorted

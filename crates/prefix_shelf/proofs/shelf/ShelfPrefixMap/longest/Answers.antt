@@ -1,7 +1,7 @@
 use Rattle.std.proofs.Common.{◌∙◌, ap, sym, arith}
 use Rattle.bgp_prefix.proofs.NetworkLaws.{network}
 use Rattle.bgp_prefix.proofs.WalkLaws.{network_whole}
-use Rattle.prefix_shelf.proofs.ShelfLaws.{none_last, found_last, falls_last, miss_last}
+use Rattle.prefix_shelf.proofs.LastPrefixes.{none_last, found_last, falls_last, miss_last}
 use Rattle.prefix_shelf.proofs.shelf.ShelfPrefixMap.longest.Goals as goal
 
 pub returns-in_default-last_up_to-clause-none : goal.returns-in_default-last_up_to-clause-none
