@@ -35,6 +35,9 @@ const BATCH: u64 = 65_536;
 /// core to another thread: a worker that left sooner would end the round for all.
 const LOOKS: u32 = 100_000;
 
+/// A single worker runs in the calling thread: it looks once more at its ring when the round's dealing is over.
+const LOOKS_ALONE: u32 = 1;
+
 /// The maximum number of whole records cut.
 const MAX_RECORDS: u64 = 1 << 47;
 
@@ -66,6 +69,11 @@ fn workers_of(threads: &impl Threads, job: &Job) -> usize
     }
 }
 
+/// Returns the empty looks after which each of this many workers ends its round.
+fn looks_of(workers: usize) -> u32 {
+    if workers < 2 { LOOKS_ALONE } else { LOOKS }
+}
+
 fn plan_of(job: &Job, workers: usize) -> Plan
     requires least { 1 ≤ workers }
     requires most { workers ≤ 64 }
@@ -78,7 +86,7 @@ fn plan_of(job: &Job, workers: usize) -> Plan
         workers,
         ring: job.ring,
         batch: BATCH,
-        looks: LOOKS,
+        looks: looks_of(workers),
         max_records: MAX_RECORDS,
         until: job.until,
     }
