@@ -13,9 +13,9 @@ use Rattle.bgp_prefix.specs.Prefixes.{IpPrefix, IsIpPrefix, network_of, leading_
 use Rattle.bgp_prefix.specs.Keys.{key_cmp, Changes, is_nil}
 use Rattle.bgp_prefix.specs.Tries.{routes, IsTrie, IsUnder, IsRoot, IsRoutes, IsRoutesOf, IsForkOf, IsInserted, branch_of, is_nothing}
 use Rattle.bgp_prefix.specs.declared.key.RouteKey.{RouteKey}
-use Rattle.bgp_prefix.specs.declared.radix.Branch.{Branch}
-use Rattle.bgp_prefix.specs.declared.radix.Branch.TheVariants.{Nothing, Leaf, Fork, Fork'}
-use Rattle.bgp_prefix.specs.declared.radix.Fork.{Fork as ForkOf}
+use Rattle.bgp_prefix.specs.declared.radix.node.Branch.{Branch}
+use Rattle.bgp_prefix.specs.declared.radix.node.Branch.TheVariants.{Nothing, Leaf, Fork, Fork'}
+use Rattle.bgp_prefix.specs.declared.radix.node.Fork.{Fork as ForkOf}
 use Rattle.bgp_prefix.proofs.Bits.{fewer_bits, share_fewer, network_bits, IsIpPrefix-network}
 use Rattle.bgp_prefix.proofs.KeyLaws.{key_cmp_total}
 use Rattle.bgp_prefix.proofs.MapLaws.{Changes-put}

@@ -8,8 +8,8 @@ use Rattle.bgp_prefix.specs.Keys.{entries_now}
 use Rattle.bgp_prefix.specs.Maps.{paths_of}
 use Rattle.bgp_prefix.specs.Tries.{routes, IsTrie, IsUnder, IsRoutesOf}
 use Rattle.bgp_prefix.specs.declared.key.RouteKey.{RouteKey}
-use Rattle.bgp_prefix.specs.declared.radix.Branch.{Branch}
-use Rattle.bgp_prefix.specs.declared.radix.Fork.{Fork}
+use Rattle.bgp_prefix.specs.declared.radix.node.Branch.{Branch}
+use Rattle.bgp_prefix.specs.declared.radix.node.Fork.{Fork}
 use Rattle.bgp_prefix.proofs.KeyLaws.{same_prefix}
 use Rattle.bgp_prefix.proofs.TrieLaws.{IsFork, fork_routes}
 use Rattle.bgp_prefix.proofs.OrderLaws.{AllKeys, AllKeys-weaker, own_keys, keys_start}

@@ -11,9 +11,9 @@ use Rattle.bgp_prefix.specs.Prefixes.{IpPrefix, IsIpPrefix, leading_bits, contai
 use Rattle.bgp_prefix.specs.Keys.{is_nil, last_match, matching_prefixes, begins_with}
 use Rattle.bgp_prefix.specs.Tries.{routes, IsTrie, IsUnder}
 use Rattle.bgp_prefix.specs.declared.key.RouteKey.{RouteKey}
-use Rattle.bgp_prefix.specs.declared.radix.Branch.{Branch}
-use Rattle.bgp_prefix.specs.declared.radix.Branch.TheVariants.{Nothing, Leaf, Fork'}
-use Rattle.bgp_prefix.specs.declared.radix.Fork.{Fork}
+use Rattle.bgp_prefix.specs.declared.radix.node.Branch.{Branch}
+use Rattle.bgp_prefix.specs.declared.radix.node.Branch.TheVariants.{Nothing, Leaf, Fork'}
+use Rattle.bgp_prefix.specs.declared.radix.node.Fork.{Fork}
 use Rattle.bgp_prefix.proofs.Bits.{share_fewer}
 use Rattle.bgp_prefix.proofs.KeyLaws.{or_none}
 use Rattle.bgp_prefix.proofs.OrderLaws.{AllKeys, AllKeys-both, own_keys, keys_known, keys_start}

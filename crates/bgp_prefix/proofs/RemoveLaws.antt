@@ -11,9 +11,9 @@ use Rattle.bgp_prefix.specs.Prefixes.{IpPrefix, IsIpPrefix, leading_bits, Starts
 use Rattle.bgp_prefix.specs.Keys.{key_cmp, Changes, is_nil}
 use Rattle.bgp_prefix.specs.Tries.{routes, IsTrie, IsUnder, IsRoutes, IsRoutesOf, IsUnpruned, IsRemoved, is_nothing, is_idle, heir}
 use Rattle.bgp_prefix.specs.declared.key.RouteKey.{RouteKey}
-use Rattle.bgp_prefix.specs.declared.radix.Branch.{Branch}
-use Rattle.bgp_prefix.specs.declared.radix.Branch.TheVariants.{Nothing, Leaf, Fork, Fork'}
-use Rattle.bgp_prefix.specs.declared.radix.Fork.{Fork as ForkOf}
+use Rattle.bgp_prefix.specs.declared.radix.node.Branch.{Branch}
+use Rattle.bgp_prefix.specs.declared.radix.node.Branch.TheVariants.{Nothing, Leaf, Fork, Fork'}
+use Rattle.bgp_prefix.specs.declared.radix.node.Fork.{Fork as ForkOf}
 use Rattle.bgp_prefix.proofs.KeyLaws.{key_cmp_total, key_cmp_exact, tied_same}
 use Rattle.bgp_prefix.proofs.MapLaws.{Changes-put, Changes-without}
 use Rattle.bgp_prefix.proofs.TrieLaws.{IsFork, fork_routes, no_branch, starts_as_parent, Changes_here, Changes_low_half, Changes_high_half}

@@ -7,9 +7,9 @@ use Rattle.bgp_prefix.specs.Prefixes.{IpPrefix, IsIpPrefix, leading_bits, Starts
 use Rattle.bgp_prefix.specs.Keys.{key_cmp, Changes, is_nil}
 use Rattle.bgp_prefix.specs.Tries.{routes, IsTrie, IsUnder, IsRoutesOf, is_nothing}
 use Rattle.bgp_prefix.specs.declared.key.RouteKey.{RouteKey}
-use Rattle.bgp_prefix.specs.declared.radix.Branch.{Branch}
-use Rattle.bgp_prefix.specs.declared.radix.Branch.TheVariants.{Nothing, Leaf, Fork'}
-use Rattle.bgp_prefix.specs.declared.radix.Fork.{Fork}
+use Rattle.bgp_prefix.specs.declared.radix.node.Branch.{Branch}
+use Rattle.bgp_prefix.specs.declared.radix.node.Branch.TheVariants.{Nothing, Leaf, Fork'}
+use Rattle.bgp_prefix.specs.declared.radix.node.Fork.{Fork}
 use Rattle.bgp_prefix.proofs.Bits.{fewer_bits, share_fewer}
 use Rattle.bgp_prefix.proofs.KeyLaws.{find-parts, Changes-front, Changes-back, or_none}
 use Rattle.bgp_prefix.proofs.SortedMaps.{of_found}

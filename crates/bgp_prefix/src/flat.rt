@@ -1,22 +1,26 @@
-ghost use Rattle.std.specs.Prelude.{◌≡◌, ◌≢◌, ◌<◌, ◌≤◌, ◌+◌, ℕ, List, [], ◌∷◌, ◌++◌, not, T, IfOk, IfErr, OnOk, OnErr, IfSome, IfNone, OnSome, length, map, take, drop, vec_len, vec_capacity, nat_lt, true, false};
-ghost use Rattle.std.specs.List.{All, list_any};
+//! A prefix map as a sorted list.
+
+mod longest_match;
+mod split;
+
+ghost use Rattle.std.specs.Prelude.{◌≡◌, ◌≢◌, ◌≤◌, ◌+◌, [], ◌∷◌, ◌++◌, not, T, IfOk, IfErr, OnOk, OnErr, length, map, vec_len, vec_capacity};
 ghost use Rattle.std.specs.List.Sorted.{IsPartitionPoint};
 ghost use Rattle.std.specs.declared.cmp.Ordering.TheVariants.{Less};
 ghost use Rattle.std.specs.Option.{option_copied};
-ghost use Rattle.std.specs.Ordering.{eq_by_cmp, is_le};
-ghost use Rattle.bgp_prefix.specs.Prefixes.{IsIpPrefix, prefix_cmp, prefix_eq};
-ghost use Rattle.bgp_prefix.specs.Keys.{key_cmp, is_nil, entries_now, matching_prefixes, last_match};
-ghost use Rattle.bgp_prefix.specs.Maps.{IsLongestMatch, HasNoMatch, paths_of};
+ghost use Rattle.std.specs.Ordering.{eq_by_cmp};
+ghost use Rattle.bgp_prefix.specs.Prefixes.{prefix_cmp};
+ghost use Rattle.bgp_prefix.specs.Keys.{key_cmp, is_nil, entries_now};
+ghost use Rattle.bgp_prefix.specs.Maps.{paths_of};
 ghost use Rattle.std.specs.FinMap as finite;
 ghost use Rattle.std.specs.FinMap.{find, put};
 ghost use Rattle.std.specs.FinMap.Entries.{is_sorted, where_key};
 ghost use Rattle.bgp_prefix.specs.Searches.{IsAt, IsGap};
-ghost use Rattle.bgp_prefix.specs.Splits.{upper_half, IsCover, IsSplit, IsOfOnePrefix};
 
 use crate::key::RouteKey;
 use crate::map::PrefixMap;
 use crate::memory::Memory;
-use crate::prefix::{Prefix, shared_len};
+use crate::prefix::Prefix;
+pub(crate) use split::Parts;
 use std::alloc::Global;
 use std::cmp::Ordering;
 use std::marker::Model;
@@ -44,16 +48,6 @@ impl<V> Model for Flat<V> {
     ghost view = { λ p. p.items.items };
 
     ghost invariant = { λ p. record { sorted : T (is_sorted key_cmp p.items.items); known : All (λ e. IsIpPrefix e.0.prefix) p.items.items } };
-}
-
-/// The routes around a prefix: those of the prefix itself, and those of longer prefixes, split by
-/// their next bit.
-#[derive(Drop)]
-pub(crate) struct Parts<V> {
-    pub(crate) at: Prefix,
-    pub(crate) here: Flat<V>,
-    pub(crate) low: Flat<V>,
-    pub(crate) high: Flat<V>,
 }
 
 impl<V: Drop> Flat<V> {
@@ -209,157 +203,6 @@ impl<V: Drop> Flat<V> {
         }
     }
 
-    /// Returns the longest prefix of a key that contains the address (RFC 1812, 5.2.4.3). Allocates
-    /// nothing, and searches at most 33 times.
-    pub fn longest(&self, addr: u32) -> Option<Prefix>
-        ensures found { IfSome result (IsLongestMatch (finite.from_entries self.now) addr) }
-        ensures none { IfNone result (HasNoMatch (finite.from_entries self.now) addr) }
-    {
-        let Some(host) = Prefix::new(addr, 32) else {
-            unreachable!()
-        };
-        let mut limit = 32;
-        loop {
-            let at = self.up_to(&host.shortened(limit));
-            if at == 0 {
-                return None;
-            }
-            let prefix = self.items[at - 1].0.prefix;
-            if prefix.contains(addr) {
-                return Some(prefix);
-            }
-            limit = shared_len(&prefix, &host);
-        }
-    }
-
-    // The number of keys whose prefixes are at most this one, in their order.
-    fn up_to(&self, last: &Prefix) -> usize
-        ensures bound { result ≤ length self.now }
-        ensures end { IsPartitionPoint (λ e. is_le (prefix_cmp e.0.prefix last.now) ≡ true) (λ e. is_le (prefix_cmp e.0.prefix last.now) ≡ false) self.now result }
-    {
-        let last = *last;
-        self.items
-            .partition_point(move |item| item.0.prefix <= last)
-    }
-
-    // The number of keys whose addresses are at most this one.
-    fn no_higher(&self, addr: u32) -> usize
-        ensures bound { result ≤ length self.now }
-        ensures end { IsPartitionPoint (λ e. e.0.prefix.addr ≤ addr) (λ e. addr < e.0.prefix.addr) self.now result }
-    {
-        self.items
-            .partition_point(move |item| item.0.prefix.addr() <= addr)
-    }
-
-    /// Returns the longest prefix of a key that contains the address, like `longest`. For short lists: it
-    /// compares the prefixes one by one, from the end.
-    pub(crate) fn last_match(&self, addr: u32) -> Option<Prefix>
-        ensures last { result ≡ last_match self.now addr }
-    {
-        let mut at = self.items.len();
-        while at > 0 {
-            at -= 1;
-            let last = self.items[at].0.prefix;
-            if last.addr() <= addr && last.contains(addr) {
-                return Some(last);
-            }
-        }
-        None
-    }
-
-    /// Like `longest`, and also returns how many prefixes were compared with the address. Their lengths differ.
-    /// For short lists: it walks back through all prefixes whose addresses are at most this one.
-    pub fn longest_steps(&self, addr: u32) -> (Option<Prefix>, u32)
-        ensures found { IfSome result.0 (IsLongestMatch (finite.from_entries self.now) addr) }
-        ensures none { IfNone result.0 (HasNoMatch (finite.from_entries self.now) addr) }
-        ensures enough { matching_prefixes self.now addr ≤ result.1 }
-        ensures bound { (len : ℕ) → len ≤ 33 → All (λ e. len ≤ e.0.prefix.len) self.now → len + result.1 ≤ 33 }
-    {
-        let Some(host) = Prefix::new(addr, 32) else {
-            unreachable!()
-        };
-        let mut longest = None;
-        let mut steps = 0;
-        let mut limit = 33;
-        let mut at = self.no_higher(addr);
-        while at > 0 {
-            at -= 1;
-            let prefix = self.items[at].0.prefix;
-            if prefix.len() >= limit {
-                continue;
-            }
-            steps += 1;
-            if prefix.contains(addr) {
-                longest = longest.or(Some(prefix));
-                limit = prefix.len();
-            } else {
-                limit = shared_len(&prefix, &host) + 1;
-            }
-        }
-        (longest, steps)
-    }
-
-    // The longest prefix that covers those of all keys, if these are not all the same.
-    fn cover(&self) -> Option<Prefix>
-        ensures cover { IfSome result (IsCover self.now) }
-        ensures one { IfNone result (IsOfOnePrefix self.now) }
-        ensures sorted { T (is_sorted key_cmp self.now) }
-        ensures known { All (λ e. IsIpPrefix e.0.prefix) self.now }
-    {
-        let first = self.items.first()?.0.prefix;
-        let last = self.items.last()?.0.prefix;
-        if first == last {
-            return None;
-        }
-        Some(first.shortened(shared_len(&first, &last)))
-    }
-
-    // Where the keys of the prefix that covers all of them end.
-    fn own_end(&self, at: &Prefix) -> usize
-        requires { IsCover self.now at.now }
-        ensures bound { result ≤ length self.now }
-        ensures end { IsPartitionPoint (λ e. prefix_eq e.0.prefix at.now ≡ true) (λ e. prefix_eq e.0.prefix at.now ≡ false) self.now result }
-    {
-        let at = *at;
-        self.items.partition_point(move |item| item.0.prefix == at)
-    }
-
-    // Where the keys end whose next bit after the prefix that covers all of them is 0.
-    fn low_end(&self, at: &Prefix) -> usize
-        requires { IsCover self.now at.now }
-        ensures bound { result ≤ length self.now }
-        ensures end { IsPartitionPoint (λ e. nat_lt e.0.prefix.addr (upper_half at.now) ≡ true) (λ e. nat_lt e.0.prefix.addr (upper_half at.now) ≡ false) self.now result }
-    {
-        let half = at.addr() as u64 + (1u64 << (31 - at.len() as u32));
-        self.items
-            .partition_point(move |item| (item.0.prefix.addr() as u64) < half)
-    }
-
-    /// Splits the list by the longest prefix that covers those of all keys. None if these are all the
-    /// same. The list is empty after a split, and otherwise unchanged.
-    pub(crate) fn split(&mut self, alloc: Global) -> Result<Option<Parts<V>>, Memory>
-        ensures parts { IfOk result (λ o. IfSome o (λ p. IsSplit self.old p.at p.here p.low p.high)) }
-        ensures left { IfOk result (λ o. OnSome o (self.new ≡ [])) }
-        ensures whole { IfOk result (λ o. IfNone o (self.new ≡ self.old)) }
-        ensures one { IfOk result (λ o. IfNone o (IsOfOnePrefix self.old)) }
-        ensures err { OnErr result (self.new ≡ self.old) }
-    {
-        let Some(at) = self.cover() else {
-            return Ok(None);
-        };
-        let own = self.own_end(&at);
-        let lower = self.low_end(&at);
-        let (low, high) = cut(&mut self.items, own, lower)?;
-        let mut here = mem::replace(&mut self.items, Vec::new(alloc));
-        here.shrink_to_fit();
-        Ok(Some(Parts {
-            at,
-            here: Flat { items: here },
-            low: Flat { items: low },
-            high: Flat { items: high },
-        }))
-    }
-
     /// Returns the identifiers and values of the keys of a prefix, ascending by identifier. An `Err`
     /// means that an allocation failed.
     pub fn paths(&self, alloc: Global, prefix: &Prefix) -> Result<Vec<(u32, &V)>, Memory>
@@ -376,26 +219,6 @@ impl<V: Drop> Flat<V> {
             }
         }
         Ok(all)
-    }
-}
-
-/// Cuts a list at two positions, and leaves the first part in it. An `Err` changes nothing.
-fn cut<T: Drop>(items: &mut Vec<T>, first: usize, second: usize) -> Result<(Vec<T>, Vec<T>), Memory>
-    requires order { first ≤ second }
-    requires within { second ≤ vec_len items.old }
-    ensures left { OnOk result (items.new.items ≡ take first items.old.items) }
-    ensures parts { IfOk result (λ p. (p.0.items ≡ drop first (take second items.old.items)) × (p.1.items ≡ drop second items.old.items)) }
-    ensures err { OnErr result (items.new.items ≡ items.old.items) }
-{
-    let mut last = items.split_off(second)?;
-    match items.split_off(first) {
-        Ok(middle) => Ok((middle, last)),
-        Err(_) => {
-            if items.append(&mut last).is_err() {
-                unreachable!()
-            }
-            Err(Memory)
-        }
     }
 }
 

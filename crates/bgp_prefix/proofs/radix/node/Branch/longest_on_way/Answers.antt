@@ -1,0 +1,55 @@
+use Rattle.std.proofs.Common.{◌≡◌, cond, Some, None, sym, ◌∙◌, subst, inl, inr, ◌⊎◌, true}
+use Rattle.std.specs.Option.{option_or}
+use Rattle.bgp_prefix.specs.Prefixes.{leading_bits, contains}
+use Rattle.bgp_prefix.specs.Keys.{is_nil, last_match}
+use Rattle.bgp_prefix.specs.Tries.{routes, IsTrie, IsUnder}
+use Rattle.bgp_prefix.specs.declared.radix.node.Branch.{Branch}
+use Rattle.bgp_prefix.specs.declared.radix.node.Branch.TheVariants.{Fork}
+use Rattle.bgp_prefix.proofs.TrieLaws.{starts_itself}
+use Rattle.bgp_prefix.proofs.MatchLaws.{no_match, match_way, match_kept, own_kept, own_none, missed}
+use Rattle.bgp_prefix.proofs.radix.node.Branch.longest_on_way.Goals as goal
+use Rattle.bgp_prefix.proofs.radix.node.Branch.longest_on_way.Goals.{then-not-is_empty+else-not-contains, else-not-is_empty}
+
+pub returns-then-not-contains : goal.returns-then-not-contains
+returns-then-not-contains g c =
+    let f = c.in-Fork.fork.value in
+    let trie = subst IsTrie c.in-Fork.is c.loop-at.invariant.0 in
+    let out = rw c.deref-then-not-is_empty.ensures at (sym c.contains.ensures ∙ c.if-not-contains.true) in
+    let under : IsUnder f.prefix.len (leading_bits f.prefix.len f.prefix.addr) (Fork c.in-Fork.fork) = starts_itself f.prefix in
+    let none = no_match c.args.addr (Fork c.in-Fork.fork) trie _ _ under (missed c.args.addr f.prefix out) in
+    rw none.0 at (rw c.in-Fork.is at c.loop-at.invariant.1)
+
+pub returns-in_default-branch-in-Fork : goal.returns-in_default-branch-in-Fork
+returns-in_default-branch-in-Fork g c =
+    let f = c.in-Fork.fork.value in
+    let trie = subst IsTrie c.in-Fork.is c.loop-at.invariant.0 in
+    let bit = rw (c.len.ensures.len, c.deref-in-Fork-2.ensures) at c.bit_after.ensures in
+    let either : (is_nil f.here ≡ true) ⊎ (contains f.prefix c.args.addr ≡ true) = elim c.if-not-is_empty.branch [
+      | then-not-is_empty+else-not-contains w ↦ inr (rw w.deref-then-not-is_empty.ensures at (sym w.contains.ensures ∙ w.if-not-contains.false))
+      | else-not-is_empty w ↦ inl (rw c.deref.ensures at (sym c.is_empty.ensures ∙ w.if-not-is_empty.false))
+    ] in
+    let own : option_or (cond (is_nil f.here) None (Some f.prefix)) c.loop-at.found ≡ c.if-not-is_empty.found = elim c.if-not-is_empty.branch [
+      | then-not-is_empty+else-not-contains w ↦ own_kept f.prefix f.here _ _ (rw c.deref.ensures at (sym c.is_empty.ensures ∙ w.if-not-is_empty.true)) (rw w.deref-then-not-is_empty-2.ensures at w.found-is)
+      | else-not-is_empty w ↦ own_none f.prefix f.here _ _ (rw c.deref.ensures at (sym c.is_empty.ensures ∙ w.if-not-is_empty.false)) w.found-is
+    ] in
+    let way = match_way c.args.addr f trie c.bit_after.result bit either in
+    let whole = rw (c.in-Fork.is, way.0) at c.loop-at.invariant.1 in
+    let nothing = rw c.deref-in-Fork.ensures at c.in_default-branch-in-Fork.ensures.nothing in
+    subst (λ (b : Branch _). option_or (last_match (routes b) c.args.addr) c.if-not-is_empty.found ≡ last_match (routes c.args.self.now) c.args.addr) nothing (match_kept _ _ _ _ _ whole own)
+
+pub loop-at-preserved : goal.loop-at-preserved
+loop-at-preserved g c =
+    let f = c.in-Fork.fork.value in
+    let trie = subst IsTrie c.in-Fork.is c.loop-at.invariant.0 in
+    let bit = rw (c.len.ensures.len, c.deref-in-Fork-2.ensures) at c.bit_after.ensures in
+    let either : (is_nil f.here ≡ true) ⊎ (contains f.prefix c.args.addr ≡ true) = elim c.if-not-is_empty.branch [
+      | then-not-is_empty+else-not-contains w ↦ inr (rw w.deref-then-not-is_empty.ensures at (sym w.contains.ensures ∙ w.if-not-contains.false))
+      | else-not-is_empty w ↦ inl (rw c.deref.ensures at (sym c.is_empty.ensures ∙ w.if-not-is_empty.false))
+    ] in
+    let own : option_or (cond (is_nil f.here) None (Some f.prefix)) c.loop-at.found ≡ c.if-not-is_empty.found = elim c.if-not-is_empty.branch [
+      | then-not-is_empty+else-not-contains w ↦ own_kept f.prefix f.here _ _ (rw c.deref.ensures at (sym c.is_empty.ensures ∙ w.if-not-is_empty.true)) (rw w.deref-then-not-is_empty-2.ensures at w.found-is)
+      | else-not-is_empty w ↦ own_none f.prefix f.here _ _ (rw c.deref.ensures at (sym c.is_empty.ensures ∙ w.if-not-is_empty.false)) w.found-is
+    ] in
+    let way = match_way c.args.addr f trie c.bit_after.result bit either in
+    let whole = rw (c.in-Fork.is, way.0) at c.loop-at.invariant.1 in
+    rw (rw c.deref-in-Fork.ensures at c.in_Some-branch-in-Fork.ensures.branch) (way.1, match_kept _ _ _ _ _ whole own)

@@ -1,0 +1,93 @@
+use Rattle.std.proofs.Common.{◌≡◌, ◌+◌, cond, Some, None, sym, ap, ◌∙◌, subst, arith}
+use Rattle.std.specs.Option.{option_or}
+use Rattle.bgp_prefix.specs.Prefixes.{leading_bits}
+use Rattle.bgp_prefix.specs.Keys.{is_nil, last_match, matching_prefixes}
+use Rattle.bgp_prefix.specs.Tries.{routes, IsTrie, IsUnder}
+use Rattle.bgp_prefix.specs.declared.radix.node.Branch.{Branch}
+use Rattle.bgp_prefix.specs.declared.radix.node.Branch.TheVariants.{Leaf, Fork}
+use Rattle.bgp_prefix.proofs.KeyLaws.{or_none}
+use Rattle.bgp_prefix.proofs.OrderLaws.{keys_known}
+use Rattle.bgp_prefix.proofs.LongestLaws.{last_is}
+use Rattle.bgp_prefix.proofs.MatchLaws.{no_match, match_child, match_kept, own_kept, own_none, missed, longer, under_none}
+use Rattle.bgp_prefix.proofs.TrieLaws.{starts_itself}
+use Rattle.bgp_prefix.proofs.radix.node.Branch.longest_steps.Goals as goal
+use Rattle.bgp_prefix.proofs.radix.node.Branch.longest_steps.Goals.{then-not-is_empty, else-not-is_empty}
+
+pub loop-at-init : goal.loop-at-init
+loop-at-init g c =
+    (c.requires, or_none _, omega arith, (0, 0, omega arith, omega arith, under_none c.args.self.now c.requires))
+
+pub returns-in-Leaf-clause-prefix : goal.returns-in-Leaf-clause-prefix
+returns-in-Leaf-clause-prefix g c =
+    let l = c.in-Leaf.leaf in
+    let trie = subst IsTrie c.in-Leaf.is c.loop-at.invariant.0 in
+    let call = c.longest_steps-longer in
+    let is : call.result.0 ≡ last_match l c.args.addr = last_is c.args.addr l trie.0.sorted (keys_known (Leaf l) trie) call.result.0 call.ensures.found call.ensures.none in
+    c.or.ensures ∙ ap (λ o. option_or o c.loop-at.longest) is ∙ rw c.in-Leaf.is at c.loop-at.invariant.1
+
+pub returns-in-Leaf-clause-bound : goal.returns-in-Leaf-clause-bound
+returns-in-Leaf-clause-bound g c =
+    let way = c.loop-at.invariant.3 in
+    let under = rw c.in-Leaf.is at way.4 in
+    omega (arith, way.2, c.longest_steps-longer.ensures.bound way.0 (omega (arith, way.3)) (longer way.0 way.1 c.in-Leaf.leaf under))
+
+pub returns-then-not-contains-clause-prefix : goal.returns-then-not-contains-clause-prefix
+returns-then-not-contains-clause-prefix g c =
+    let f = c.in-Fork.fork.value in
+    let trie = subst IsTrie c.in-Fork.is c.loop-at.invariant.0 in
+    let out = rw c.deref.ensures at (sym c.contains.ensures ∙ c.if-not-contains.true) in
+    let under : IsUnder f.prefix.len (leading_bits f.prefix.len f.prefix.addr) (Fork c.in-Fork.fork) = starts_itself f.prefix in
+    let none = no_match c.args.addr (Fork c.in-Fork.fork) trie _ _ under (missed c.args.addr f.prefix out) in
+    rw none.0 at (rw c.in-Fork.is at c.loop-at.invariant.1)
+
+pub returns-then-not-contains-clause-enough : goal.returns-then-not-contains-clause-enough
+returns-then-not-contains-clause-enough g c =
+    let f = c.in-Fork.fork.value in
+    let trie = subst IsTrie c.in-Fork.is c.loop-at.invariant.0 in
+    let out = rw c.deref.ensures at (sym c.contains.ensures ∙ c.if-not-contains.true) in
+    let under : IsUnder f.prefix.len (leading_bits f.prefix.len f.prefix.addr) (Fork c.in-Fork.fork) = starts_itself f.prefix in
+    let none = no_match c.args.addr (Fork c.in-Fork.fork) trie _ _ under (missed c.args.addr f.prefix out) in
+    let few = rw c.in-Fork.is at c.loop-at.invariant.2 in
+    omega (arith, few, none.1)
+
+pub loop-at-preserved : goal.loop-at-preserved
+loop-at-preserved g c =
+    let f = c.in-Fork.fork.value in
+    let trie = subst IsTrie c.in-Fork.is c.loop-at.invariant.0 in
+    let in_f = rw c.deref.ensures at (sym c.contains.ensures ∙ c.if-not-contains.false) in
+    let bit = rw (c.len.ensures.len, c.deref-in-Fork-3.ensures) at c.bit_after.ensures in
+    let child = match_child c.args.addr f trie in_f c.bit_after.result bit in
+    let whole = rw (c.in-Fork.is, child.0) at c.loop-at.invariant.1 in
+    let few = rw c.in-Fork.is at c.loop-at.invariant.2 in
+    let passed = (rw c.in-Fork.is at c.loop-at.invariant.3.4).long in
+    let own : option_or (cond (is_nil f.here) None (Some f.prefix)) c.loop-at.longest ≡ c.if-not-is_empty.longest = elim c.if-not-is_empty.branch [
+      | then-not-is_empty w ↦ own_kept f.prefix f.here _ _ (rw c.deref-in-Fork.ensures at (sym c.is_empty.ensures ∙ w.if-not-is_empty.true)) (rw w.deref-then-not-is_empty.ensures at w.longest-is)
+      | else-not-is_empty w ↦ own_none f.prefix f.here _ _ (rw c.deref-in-Fork.ensures at (sym c.is_empty.ensures ∙ w.if-not-is_empty.false)) w.longest-is
+    ] in
+    rw (rw c.deref-in-Fork-2.ensures at c.in_Some-branch-in-Fork.ensures.branch) (child.2, match_kept _ _ _ _ _ whole own, omega (arith, few, child.1), (f.prefix.len + 1, child.3.0, omega (arith, passed, c.loop-at.invariant.3.2), omega (arith, trie.1), child.3.1))
+
+pub returns-in_default-branch-in-Fork-clause-prefix : goal.returns-in_default-branch-in-Fork-clause-prefix
+returns-in_default-branch-in-Fork-clause-prefix g c =
+    let f = c.in-Fork.fork.value in
+    let trie = subst IsTrie c.in-Fork.is c.loop-at.invariant.0 in
+    let in_f = rw c.deref.ensures at (sym c.contains.ensures ∙ c.if-not-contains.false) in
+    let bit = rw (c.len.ensures.len, c.deref-in-Fork-3.ensures) at c.bit_after.ensures in
+    let child = match_child c.args.addr f trie in_f c.bit_after.result bit in
+    let whole = rw (c.in-Fork.is, child.0) at c.loop-at.invariant.1 in
+    let own : option_or (cond (is_nil f.here) None (Some f.prefix)) c.loop-at.longest ≡ c.if-not-is_empty.longest = elim c.if-not-is_empty.branch [
+      | then-not-is_empty w ↦ own_kept f.prefix f.here _ _ (rw c.deref-in-Fork.ensures at (sym c.is_empty.ensures ∙ w.if-not-is_empty.true)) (rw w.deref-then-not-is_empty.ensures at w.longest-is)
+      | else-not-is_empty w ↦ own_none f.prefix f.here _ _ (rw c.deref-in-Fork.ensures at (sym c.is_empty.ensures ∙ w.if-not-is_empty.false)) w.longest-is
+    ] in
+    let nothing = rw c.deref-in-Fork-2.ensures at c.in_default-branch-in-Fork.ensures.nothing in
+    subst (λ (b : Branch _). option_or (last_match (routes b) c.args.addr) c.if-not-is_empty.longest ≡ last_match (routes c.args.self.now) c.args.addr) nothing (match_kept _ _ _ _ _ whole own)
+
+pub returns-in_default-branch-in-Fork-clause-enough : goal.returns-in_default-branch-in-Fork-clause-enough
+returns-in_default-branch-in-Fork-clause-enough g c =
+    let f = c.in-Fork.fork.value in
+    let trie = subst IsTrie c.in-Fork.is c.loop-at.invariant.0 in
+    let in_f = rw c.deref.ensures at (sym c.contains.ensures ∙ c.if-not-contains.false) in
+    let bit = rw (c.len.ensures.len, c.deref-in-Fork-3.ensures) at c.bit_after.ensures in
+    let child = match_child c.args.addr f trie in_f c.bit_after.result bit in
+    let few = rw c.in-Fork.is at c.loop-at.invariant.2 in
+    let nothing = rw c.deref-in-Fork-2.ensures at c.in_default-branch-in-Fork.ensures.nothing in
+    omega (arith, few, child.1, ap (λ (b : Branch _). matching_prefixes (routes b) c.args.addr) nothing)

@@ -1,0 +1,105 @@
+//! The longest match of an address in a sorted list, also with a count of the prefixes compared.
+
+ghost use Rattle.std.specs.Prelude.{◌≡◌, ◌<◌, ◌≤◌, ◌+◌, ℕ, IfSome, IfNone, length, true, false};
+ghost use Rattle.std.specs.List.{All};
+ghost use Rattle.std.specs.List.Sorted.{IsPartitionPoint};
+ghost use Rattle.std.specs.Ordering.{is_le};
+ghost use Rattle.bgp_prefix.specs.Prefixes.{prefix_cmp};
+ghost use Rattle.bgp_prefix.specs.Keys.{matching_prefixes, last_match};
+ghost use Rattle.bgp_prefix.specs.Maps.{IsLongestMatch, HasNoMatch};
+ghost use Rattle.std.specs.FinMap as finite;
+
+use super::Flat;
+use crate::prefix::{Prefix, shared_len};
+
+impl<V: Drop> Flat<V> {
+    /// Returns the longest prefix of a key that contains the address (RFC 1812, 5.2.4.3). Allocates
+    /// nothing, and searches at most 33 times.
+    pub fn longest(&self, addr: u32) -> Option<Prefix>
+        ensures found { IfSome result (IsLongestMatch (finite.from_entries self.now) addr) }
+        ensures none { IfNone result (HasNoMatch (finite.from_entries self.now) addr) }
+    {
+        let Some(host) = Prefix::new(addr, 32) else {
+            unreachable!()
+        };
+        let mut limit = 32;
+        loop {
+            let at = self.up_to(&host.shortened(limit));
+            if at == 0 {
+                return None;
+            }
+            let prefix = self.items[at - 1].0.prefix;
+            if prefix.contains(addr) {
+                return Some(prefix);
+            }
+            limit = shared_len(&prefix, &host);
+        }
+    }
+
+    // The number of keys whose prefixes are at most this one, in their order.
+    fn up_to(&self, last: &Prefix) -> usize
+        ensures bound { result ≤ length self.now }
+        ensures end { IsPartitionPoint (λ e. is_le (prefix_cmp e.0.prefix last.now) ≡ true) (λ e. is_le (prefix_cmp e.0.prefix last.now) ≡ false) self.now result }
+    {
+        let last = *last;
+        self.items
+            .partition_point(move |item| item.0.prefix <= last)
+    }
+
+    // The number of keys whose addresses are at most this one.
+    fn no_higher(&self, addr: u32) -> usize
+        ensures bound { result ≤ length self.now }
+        ensures end { IsPartitionPoint (λ e. e.0.prefix.addr ≤ addr) (λ e. addr < e.0.prefix.addr) self.now result }
+    {
+        self.items
+            .partition_point(move |item| item.0.prefix.addr() <= addr)
+    }
+
+    /// Returns the longest prefix of a key that contains the address, like `longest`. For short lists: it
+    /// compares the prefixes one by one, from the end.
+    pub(crate) fn last_match(&self, addr: u32) -> Option<Prefix>
+        ensures last { result ≡ last_match self.now addr }
+    {
+        let mut at = self.items.len();
+        while at > 0 {
+            at -= 1;
+            let last = self.items[at].0.prefix;
+            if last.addr() <= addr && last.contains(addr) {
+                return Some(last);
+            }
+        }
+        None
+    }
+
+    /// Like `longest`, and also returns how many prefixes were compared with the address. Their lengths differ.
+    /// For short lists: it walks back through all prefixes whose addresses are at most this one.
+    pub fn longest_steps(&self, addr: u32) -> (Option<Prefix>, u32)
+        ensures found { IfSome result.0 (IsLongestMatch (finite.from_entries self.now) addr) }
+        ensures none { IfNone result.0 (HasNoMatch (finite.from_entries self.now) addr) }
+        ensures enough { matching_prefixes self.now addr ≤ result.1 }
+        ensures bound { (len : ℕ) → len ≤ 33 → All (λ e. len ≤ e.0.prefix.len) self.now → len + result.1 ≤ 33 }
+    {
+        let Some(host) = Prefix::new(addr, 32) else {
+            unreachable!()
+        };
+        let mut longest = None;
+        let mut steps = 0;
+        let mut limit = 33;
+        let mut at = self.no_higher(addr);
+        while at > 0 {
+            at -= 1;
+            let prefix = self.items[at].0.prefix;
+            if prefix.len() >= limit {
+                continue;
+            }
+            steps += 1;
+            if prefix.contains(addr) {
+                longest = longest.or(Some(prefix));
+                limit = prefix.len();
+            } else {
+                limit = shared_len(&prefix, &host) + 1;
+            }
+        }
+        (longest, steps)
+    }
+}

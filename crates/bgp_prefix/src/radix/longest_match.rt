@@ -1,0 +1,104 @@
+//! The longest match of an address in the trie, also with a count of the nodes looked at.
+
+ghost use Rattle.std.specs.Prelude.{◌≡◌, ◌≤◌, Some, IfSome};
+ghost use Rattle.bgp_prefix.specs.Keys.{last_match, matching_prefixes};
+ghost use Rattle.bgp_prefix.specs.Tries.{routes, IsTrie};
+
+use super::node::Branch;
+use crate::prefix::{Prefix, bit_after};
+
+impl<V: Drop> Branch<V> {
+    /// Returns the longest prefix that contains the address. Usually a leaf has it, and then each fork on the way
+    /// only needs to be looked at for its bit.
+    pub(super) fn longest(&self, addr: u32) -> Option<Prefix>
+        requires { IsTrie self.now }
+        ensures { result ≡ last_match (routes self.now) addr }
+    {
+        match self.longest_in_leaf(addr) {
+            Some(prefix) => Some(prefix),
+            None => self.longest_on_way(addr),
+        }
+    }
+
+    /// Returns the longest prefix that contains the address, if it is in a leaf.
+    fn longest_in_leaf(&self, addr: u32) -> Option<Prefix>
+        requires { IsTrie self.now }
+        ensures { IfSome result (λ prefix. last_match (routes self.now) addr ≡ Some prefix) }
+    {
+        let mut at = self;
+        loop {
+            match at {
+                Branch::Nothing => return None,
+                Branch::Leaf(leaf) => return leaf.last_match(addr),
+                Branch::Fork(fork) => {
+                    let Some(branch) = fork.branch(bit_after(addr, fork.prefix.len())) else {
+                        return None;
+                    };
+                    at = branch;
+                }
+            }
+        }
+    }
+
+    /// Returns the longest prefix that contains the address, wherever it is.
+    #[inline(never)]
+    fn longest_on_way(&self, addr: u32) -> Option<Prefix>
+        requires { IsTrie self.now }
+        ensures { result ≡ last_match (routes self.now) addr }
+    {
+        let mut at = self;
+        let mut found = None;
+        loop {
+            match at {
+                Branch::Nothing => return found,
+                Branch::Leaf(leaf) => return leaf.last_match(addr).or(found),
+                Branch::Fork(fork) => {
+                    if !fork.here.is_empty() {
+                        if !fork.prefix.contains(addr) {
+                            return found;
+                        }
+                        found = Some(fork.prefix);
+                    }
+                    let Some(branch) = fork.branch(bit_after(addr, fork.prefix.len())) else {
+                        return found;
+                    };
+                    at = branch;
+                }
+            }
+        }
+    }
+
+    /// Returns the longest prefix that contains the address, and how many nodes were looked at.
+    pub(super) fn longest_steps(&self, addr: u32) -> (Option<Prefix>, u32)
+        requires { IsTrie self.now }
+        ensures prefix { result.0 ≡ last_match (routes self.now) addr }
+        ensures enough { matching_prefixes (routes self.now) addr ≤ result.1 }
+        ensures bound { result.1 ≤ 33 }
+    {
+        let mut at = self;
+        let mut longest = None;
+        let mut steps = 0;
+        loop {
+            match at {
+                Branch::Nothing => return (longest, steps),
+                Branch::Leaf(leaf) => {
+                    let (longer, more) = leaf.longest_steps(addr);
+                    return (longer.or(longest), steps + more);
+                }
+                Branch::Fork(fork) => {
+                    steps += 1;
+                    if !fork.prefix.contains(addr) {
+                        return (longest, steps);
+                    }
+                    if !fork.here.is_empty() {
+                        longest = Some(fork.prefix);
+                    }
+                    let Some(branch) = fork.branch(bit_after(addr, fork.prefix.len())) else {
+                        return (longest, steps);
+                    };
+                    at = branch;
+                }
+            }
+        }
+    }
+}

@@ -1,0 +1,140 @@
+//! The branches of the trie: leaves, which are short sorted lists, and forks.
+
+ghost use Rattle.std.specs.Prelude.{◌≡◌, OnErr, IfOk, IfSome, IfNone, if◌then◌else◌};
+ghost use Rattle.bgp_prefix.specs.declared.radix.node.Branch.TheVariants.{Nothing};
+ghost use Rattle.bgp_prefix.specs.Tries.{IsForkOf, branch_of, is_nothing};
+
+use crate::flat::{Flat, Parts};
+use crate::memory::Memory;
+use crate::prefix::Prefix;
+use std::alloc::Global;
+
+/// A part of the trie: nothing, a leaf with the routes of any prefixes in order, never empty, or a
+/// fork with two branches. Each prefix with routes is a node: a leaf's block has several nodes
+/// side by side. Forks' lengths increase strictly on the way down, so there are at most 33 levels,
+/// and the derived recursive drop is shallow.
+#[cycle(branch)]
+#[derive(Drop)]
+pub(super) enum Branch<V> {
+    Nothing,
+    Leaf(Flat<V>),
+    Fork(Box<Fork<V>>),
+}
+
+/// A prefix with its routes, if it has any, and the longer prefixes within it by their next bit.
+#[cycle(branch)]
+#[derive(Drop)]
+pub(super) struct Fork<V> {
+    pub(super) prefix: Prefix,
+    pub(super) low: Branch<V>,
+    pub(super) high: Branch<V>,
+    pub(super) here: Flat<V>,
+}
+
+impl<V: Drop> Branch<V> {
+    /// The branch, if there is anything in it.
+    pub(super) fn anything(&self) -> Option<&Branch<V>>
+        ensures branch { IfSome result (λ b. b.now ≡ self.now) }
+        ensures nothing { IfNone result (self.now ≡ Nothing) }
+    {
+        match self {
+            Branch::Nothing => None,
+            branch => Some(branch),
+        }
+    }
+
+    pub(super) fn is_nothing(&self) -> bool
+        ensures { result ≡ is_nothing self.now }
+    {
+        match self {
+            Branch::Nothing => true,
+            _ => false,
+        }
+    }
+
+    /// Returns a branch of these routes, with no fork.
+    fn of(held: Flat<V>) -> Branch<V>
+        ensures { result ≡ branch_of held }
+    {
+        if held.is_empty() {
+            Branch::Nothing
+        } else {
+            Branch::Leaf(held)
+        }
+    }
+
+    pub(super) fn set(&mut self, branch: Branch<V>)
+        ensures { self.new ≡ branch }
+    {
+        *self = branch;
+    }
+}
+
+impl<V: Drop> Fork<V> {
+    /// Returns a fork without branches.
+    pub(super) fn new(alloc: Global, prefix: Prefix, here: Flat<V>) -> Result<Box<Fork<V>>, Memory>
+        ensures { IfOk result (λ fork. fork.value ≡ record { prefix = prefix; low = Nothing; high = Nothing; here = here }) }
+    {
+        let fork = Fork {
+            prefix,
+            low: Branch::Nothing,
+            high: Branch::Nothing,
+            here,
+        };
+        Ok(Box::new(alloc, fork)?)
+    }
+
+    /// Returns the fork of a list's routes, if they have several prefixes. Its memory is allocated before
+    /// the list is split, with any prefix in it, so an `Err` changes nothing.
+    #[inline(never)]
+    pub(super) fn of(
+        alloc: Global,
+        any: &Prefix,
+        held: &mut Flat<V>,
+    ) -> Result<Option<Box<Fork<V>>>, Memory>
+        ensures fork { IfOk result (λ o. IfSome o (λ fork. IsForkOf held.old fork.value)) }
+        ensures whole { IfOk result (λ o. IfNone o (held.new ≡ held.old)) }
+        ensures err { OnErr result (held.new ≡ held.old) }
+    {
+        let mut fork = Fork::new(alloc, *any, Flat::new(alloc))?;
+        let Some(parts) = held.split(alloc)? else {
+            return Ok(None);
+        };
+        fork.fill(parts);
+        Ok(Some(fork))
+    }
+
+    fn fill(&mut self, parts: Parts<V>)
+        ensures { self.new ≡ record { prefix = parts.at; low = branch_of parts.low; high = branch_of parts.high; here = parts.here } }
+    {
+        *self = Fork {
+            prefix: parts.at,
+            low: Branch::of(parts.low),
+            high: Branch::of(parts.high),
+            here: parts.here,
+        };
+    }
+
+    /// Returns the branch of one half, if there is anything in it. Each half is tested separately, so
+    /// the way down is a jump, which processors predict, and waits for no node before it.
+    pub(super) fn branch(&self, is_high: bool) -> Option<&Branch<V>>
+        ensures branch { IfSome result (λ b. b.now ≡ (if is_high then self.now.high else self.now.low)) }
+        ensures nothing { IfNone result ((if is_high then self.now.high else self.now.low) ≡ Nothing) }
+    {
+        if is_high {
+            self.high.anything()
+        } else {
+            self.low.anything()
+        }
+    }
+
+    pub(super) fn set_child(&mut self, is_high: bool, branch: Branch<V>)
+        ensures { self.new ≡ (if is_high then record self.old { high = branch } else record self.old { low = branch }) }
+    {
+        if is_high {
+            self.high.set(branch);
+        } else {
+            self.low.set(branch);
+        }
+    }
+}
