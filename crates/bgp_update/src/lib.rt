@@ -13,6 +13,7 @@ mod packed_route;
 mod packing;
 mod path;
 mod route;
+mod route_writing;
 mod same;
 mod saying;
 mod segment;

@@ -8,8 +8,9 @@ ghost use Rattle.bgp_update.specs.Packing.{IsSpelled, IsWritable, HaveWidths, Ar
 ghost use Rattle.bgp_update.specs.Values.{kept_value};
 ghost use Rattle.bgp_update.specs.declared.width.Width.TheVariants.{Four};
 
-use crate::packed_route::{PackedRoute, push_fields, push_route};
+use crate::packed_route::PackedRoute;
 use crate::route::Route;
+use crate::route_writing::{push_fields, push_route};
 use crate::saying::{aggregator_from, next_hop_value, number_value, origin_value, route_from};
 use crate::values::{FirstValues, keep_values};
 use crate::width::{AttrError, Carrier, Width};

@@ -3,7 +3,7 @@ use Rattle.byteorder.specs.Endian.{big_bytes}
 use Rattle.bgp_update.specs.declared.next_hop.NextHop.{NextHop}
 use Rattle.bgp_update.specs.declared.next_hop.NextHop.TheVariants.{V6Pair}
 use Rattle.bgp_update.specs.Packing.{hop_bytes}
-use Rattle.bgp_update.proofs.packed_route.push_hop.Goals as goal
+use Rattle.bgp_update.proofs.route_writing.push_hop.Goals as goal
 
 two_parts : (hop : Option NextHop) (a link : ℕ) (x y old mid new : List ℕ) → hop ≡ Some (V6Pair a link) → x ≡ big_bytes 16 a → y ≡ big_bytes 16 link
     → mid ≡ old ++ x → new ≡ mid ++ y → new ≡ old ++ hop_bytes hop

@@ -1,7 +1,7 @@
 use Rattle.std.proofs.Common.{sym, None, Some}
 use Rattle.std.proofs.lemmas.List.{append-nil}
 use Rattle.bgp_update.proofs.Packings.{route_with_path}
-use Rattle.bgp_update.proofs.packed_route.push_route.Goals as goal
+use Rattle.bgp_update.proofs.route_writing.push_route.Goals as goal
 
 pub returns-in_ok-push_path-in-Some-clause-bytes : goal.returns-in_ok-push_path-in-Some-clause-bytes
 returns-in_ok-push_path-in-Some-clause-bytes c =
