@@ -1,10 +1,11 @@
 -- A value has no fault where it has the form of its type, and the other way round.
-use Rattle.std.proofs.Common.{◌≡◌, ℕ, Bool, true, false, ◌||◌, cond, eqb, List, [], ◌∷◌, length, Option, Some, None, Result, Ok, Err, refl, ap, subst, ◌∙◌, arith, inl, inr, ◌⊎◌}
+use Rattle.std.proofs.Common.{◌≡◌, ℕ, Bool, true, false, ◌||◌, cond, eqb, List, [], ◌∷◌, length, Some, None, Result, Ok, Err, refl, ap, ◌∙◌, arith, inl, inr, ◌⊎◌}
 use Rattle.std.specs.Prelude.{is_some}
 use Rattle.std.proofs.lemmas.Bool.{eqb-true, ne_eqb}
 use Rattle.mrt_frame.specs.declared.fault.Fault.{Fault}
-use Rattle.mrt_frame.specs.declared.fault.Fault.TheVariants.{BadAttribute}
 use Rattle.mrt_frame.proofs.FieldLaws.{IsBytes}
+use Rattle.bgp_update.specs.declared.attribute_type.AttributeType.{AttributeType}
+use Rattle.bgp_update.specs.declared.attribute_type.AttributeType.TheVariants as types
 use Rattle.bgp_update.specs.declared.width.Width.{Width}
 use Rattle.bgp_update.specs.declared.width.Carrier.{Carrier}
 use Rattle.bgp_update.specs.declared.width.Carrier.TheVariants.{RibEntry, Message}
@@ -14,6 +15,7 @@ use Rattle.bgp_update.specs.Paths.{PathSegment}
 use Rattle.bgp_update.specs.Segments.{number_len, path_bytes, IsPath, path_in}
 use Rattle.bgp_update.specs.Equality.{origin_number}
 use Rattle.bgp_update.specs.Multiprotocol.{reached_in, unreached_in}
+use Rattle.bgp_update.specs.AttributeTypes.{bad_attribute}
 use Rattle.bgp_update.specs.Attributes.{IsFormed, HoldsReach, HoldsUnreach, origin_of, fault_unless, fault_of, reached_fault, unreached_fault, value_fault}
 use Rattle.bgp_update.proofs.SegmentLaws.{path_in-bytes, path_in-is}
 use Rattle.bgp_update.proofs.MultiprotocolLaws.{reached_in-is, reached_in-bytes, unreached_in-is, unreached_in-bytes}
@@ -83,7 +85,7 @@ either_passes : (value : List ℕ) (fault : Fault) → (length value ≡ 6) ⊎ 
 either_passes value fault (inl e) = ap (λ (m : ℕ). fault_unless (eqb m 6 || eqb m 8) fault) e
 either_passes value fault (inr e) = ap (λ (m : ℕ). fault_unless (eqb m 6 || eqb m 8) fault) e
 
--- ---- attributes 14 and 15
+-- ---- MP_REACH_NLRI and MP_UNREACH_NLRI
 
 holds_reach : (carrier : Carrier) (value : List ℕ) → IsBytes value → reached_fault carrier value ≡ None → HoldsReach carrier value
 holds_reach RibEntry value fine e = tt
@@ -116,45 +118,30 @@ path_is width value fine e =
 path_passes : (width : Width) (value : List ℕ) (path : List PathSegment) → IsPath (number_len width) path → value ≡ path_bytes (number_len width) path → fault_of (path_in (number_len width) value) ≡ None
 path_passes width value path h e = ap (λ (v : List ℕ). fault_of (path_in (number_len width) v)) e ∙ rw (path_in-bytes width path h) refl
 
-pub value_is_formed : (carrier : Carrier) (width : Width) (code : ℕ) (value : List ℕ) → IsBytes value → value_fault carrier width code value ≡ None → IsFormed carrier width code value
+pub value_is_formed : (carrier : Carrier) (width : Width) (t : AttributeType) (value : List ℕ) → IsBytes value → value_fault carrier width t value ≡ None → IsFormed carrier width t value
 unfolding value_fault
-value_is_formed carrier width code value fine e =
-    record {
-      origin = λ h. is_origin value (no_fault (is_some (origin_of value)) (BadAttribute 1) (at 1 h));
-      path = λ h. path_is width value fine (at 2 h);
-      next_hop = λ h. has_length value 4 (BadAttribute 3) (at 3 h);
-      med = λ h. has_length value 4 (BadAttribute 4) (at 4 h);
-      local_pref = λ h. has_length value 4 (BadAttribute 5) (at 5 h);
-      atomic = λ h. has_length value 0 (BadAttribute 6) (at 6 h);
-      aggregator = λ h. either_length value (BadAttribute 7) (at 7 h);
-      reach = λ h. holds_reach carrier value fine (at 14 h);
-      unreach = λ h. holds_unreach carrier value fine (at 15 h);
-    }
-  where
-    at : (n : ℕ) → code ≡ n → value_fault carrier width n value ≡ None
-    at n h = subst (λ (c : ℕ). value_fault carrier width c value ≡ None) h e
+value_is_formed carrier width types.Origin value fine e = is_origin value (no_fault (is_some (origin_of value)) (bad_attribute types.Origin) e)
+value_is_formed carrier width types.AsPath value fine e = path_is width value fine e
+value_is_formed carrier width types.NextHop value fine e = has_length value 4 (bad_attribute types.NextHop) e
+value_is_formed carrier width types.MultiExitDisc value fine e = has_length value 4 (bad_attribute types.MultiExitDisc) e
+value_is_formed carrier width types.LocalPref value fine e = has_length value 4 (bad_attribute types.LocalPref) e
+value_is_formed carrier width types.AtomicAggregate value fine e = has_length value 0 (bad_attribute types.AtomicAggregate) e
+value_is_formed carrier width types.Aggregator value fine e = either_length value (bad_attribute types.Aggregator) e
+value_is_formed carrier width types.MpReachNlri value fine e = holds_reach carrier value fine e
+value_is_formed carrier width types.MpUnreachNlri value fine e = holds_unreach carrier value fine e
+value_is_formed carrier width types.As4Path value fine e = tt
+value_is_formed carrier width types.As4Aggregator value fine e = tt
 
--- the fault of one type, or that of the others
-passes : (n code : ℕ) (own others : Option Fault) → (code ≡ n → own ≡ None) → others ≡ None → cond (eqb code n) own others ≡ None
-passes n code own others h none = by_test (eqb code n) refl
-  where
-    by_test : (b : Bool) → eqb code n ≡ b → cond b own others ≡ None
-    by_test true e = h (eqb-true code n e)
-    by_test false e = none
-
-passes_any : (a b c : Bool) (own others : Option Fault) → (a ≡ true → own ≡ None) → (b ≡ true → own ≡ None) → (c ≡ true → own ≡ None) → others ≡ None → cond (a || b || c) own others ≡ None
-passes_any true b c own others x y z none = x refl
-passes_any false true c own others x y z none = y refl
-passes_any false false true own others x y z none = z refl
-passes_any false false false own others x y z none = none
-
-pub formed_passes : (carrier : Carrier) (width : Width) (code : ℕ) (value : List ℕ) → IsFormed carrier width code value → value_fault carrier width code value ≡ None
+pub formed_passes : (carrier : Carrier) (width : Width) (t : AttributeType) (value : List ℕ) → IsFormed carrier width t value → value_fault carrier width t value ≡ None
 unfolding value_fault
-formed_passes carrier width code value f =
-    passes 1 code _ _ (λ e. let o = f.origin e in origin_passes value o.0 (BadAttribute 1) o.1)
-    (passes 2 code _ _ (λ e. let p = f.path e in path_passes width value p.0 p.1 p.2)
-    (passes_any (eqb code 3) (eqb code 4) (eqb code 5) _ _ (λ e. length_passes value 4 (BadAttribute code) (f.next_hop (eqb-true code 3 e))) (λ e. length_passes value 4 (BadAttribute code) (f.med (eqb-true code 4 e))) (λ e. length_passes value 4 (BadAttribute code) (f.local_pref (eqb-true code 5 e)))
-    (passes 6 code _ _ (λ e. length_passes value 0 (BadAttribute 6) (f.atomic e))
-    (passes 7 code _ _ (λ e. either_passes value (BadAttribute 7) (f.aggregator e))
-    (passes 14 code _ _ (λ e. reach_passes carrier value (f.reach e))
-    (passes 15 code _ _ (λ e. unreach_passes carrier value (f.unreach e)) refl))))))
+formed_passes carrier width types.Origin value h = origin_passes value h.0 (bad_attribute types.Origin) h.1
+formed_passes carrier width types.AsPath value h = path_passes width value h.0 h.1 h.2
+formed_passes carrier width types.NextHop value h = length_passes value 4 (bad_attribute types.NextHop) h
+formed_passes carrier width types.MultiExitDisc value h = length_passes value 4 (bad_attribute types.MultiExitDisc) h
+formed_passes carrier width types.LocalPref value h = length_passes value 4 (bad_attribute types.LocalPref) h
+formed_passes carrier width types.AtomicAggregate value h = length_passes value 0 (bad_attribute types.AtomicAggregate) h
+formed_passes carrier width types.Aggregator value h = either_passes value (bad_attribute types.Aggregator) h
+formed_passes carrier width types.MpReachNlri value h = reach_passes carrier value h
+formed_passes carrier width types.MpUnreachNlri value h = unreach_passes carrier value h
+formed_passes carrier width types.As4Path value h = refl
+formed_passes carrier width types.As4Aggregator value h = refl

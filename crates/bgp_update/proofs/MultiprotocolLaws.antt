@@ -1,4 +1,4 @@
--- Attributes 14 and 15 are read as they are written, and what is read was written so.
+-- MP_REACH_NLRI and MP_UNREACH_NLRI are read as they are written, and what is read was written so.
 use Rattle.std.proofs.Common.{◌≡◌, ℕ, ◌^◌, ◌<◌, ◌≤◌, Bool, true, false, ◌&&◌, ◌||◌, cond, eqb, ltb, List, [], ◌∷◌, ◌++◌, length, slice_index, take, drop, Option, Some, None, Result, Ok, Err, refl, sym, ap, subst, ◌∙◌, append-nil, arith, inl, inr}
 use Rattle.std.specs.Prelude.{IfOk}
 use Rattle.std.proofs.lemmas.Bool.{eqb-true, ltb-false, le-ltb}
@@ -6,15 +6,16 @@ use Rattle.std.proofs.lemmas.List.{take_all, drop_at, take-append-drop, length-d
 use Rattle.byteorder.specs.Endian.{big_number, big_bytes}
 use Rattle.byteorder.specs.Numbers.{big_number-reads_back, length-bytes_high_first, big_from-lt}
 use Rattle.mrt_frame.specs.declared.fault.Fault.{Fault}
-use Rattle.mrt_frame.specs.declared.fault.Fault.TheVariants.{BadAttribute}
 use Rattle.mrt_frame.specs.Fields.{◌>>=◌, byte_at, bytes_at}
 use Rattle.mrt_frame.proofs.Items.{bind_ok, ok_is}
 use Rattle.mrt_frame.proofs.FieldLaws.{IsBytes, IsBytes-front, IsBytes-drop, big_bytes-number, bytes_at-takes, byte_at-takes, bytes_at-again, byte_at-again}
 use Rattle.bgp_prefix.specs.declared.key.RouteKey.{RouteKey}
+use Rattle.bgp_update.specs.declared.attribute_type.AttributeType.TheVariants.{MpReachNlri, MpUnreachNlri}
 use Rattle.bgp_update.specs.declared.width.AttrError.{AttrError}
 use Rattle.bgp_update.specs.declared.next_hop.NextHop.{NextHop}
 use Rattle.bgp_update.specs.declared.next_hop.NextHop.TheVariants.{V4, V6, V6Pair}
 use Rattle.bgp_update.specs.Answers.{Gives}
+use Rattle.bgp_update.specs.AttributeTypes.{bad_attribute}
 use Rattle.bgp_update.specs.Keys.{WrittenKey, keys_bytes, keys_of, with_keys}
 use Rattle.bgp_update.specs.Multiprotocol.{family_bytes, hop_bytes, FitsHop, IsOfAnotherFamily, IsReach, IsUnreach, SaysReach, SaysUnreach, is_ipv4_unicast, is_hop_len, next_hop_of, reach_at, reach_in, unreach_in, keys_beside, field_of, hop_of, reached_in, unreached_in, reached_keys, unreached_keys}
 use Rattle.bgp_update.proofs.KeyLaws.{keys_in-bytes, keys_in-is}
@@ -116,7 +117,7 @@ another_again value h =
         let tests = both (eqb (big_number 2 (family_bytes h.afi h.safi ++ h.others)) 1) (eqb h.safi 1) e in
         absurd (h.other (sym afi_is ∙ eqb-true _ 1 tests.0, eqb-true h.safi 1 tests.1))
 
--- ---- attribute 14
+-- ---- MP_REACH_NLRI
 
 pub record TakesReach (bytes : List ℕ) (hop : NextHop) (rest : List ℕ) : Type 0 where
   pub reserved : ℕ
@@ -127,7 +128,7 @@ pub record TakesReach (bytes : List ℕ) (hop : NextHop) (rest : List ℕ) : Typ
 reach_takes : (bytes : List ℕ) (x : NextHop × List ℕ) → IsBytes bytes → reach_at bytes ≡ Ok x → TakesReach bytes x.0 x.1
 unfolding reach_at
 reach_takes bytes x fine e =
-    let fault : Fault = BadAttribute 14 in
+    let fault : Fault = bad_attribute MpReachNlri in
     let a = bind_ok (byte_at fault bytes) (λ len. cond (is_hop_len len.0) (bytes_at fault len.0 len.1) (Err fault) >>= λ hop. byte_at fault hop.1 >>= λ reserved. Ok (next_hop_of hop.0, reserved.1)) x e in
     let b = bind_ok (cond (is_hop_len a.0.0) (bytes_at fault a.0.0 a.0.1) (Err fault)) (λ hop. byte_at fault hop.1 >>= λ reserved. Ok (next_hop_of hop.0, reserved.1)) x a.2 in
     let c = bind_ok (byte_at fault b.0.1) (λ reserved. Ok (next_hop_of b.0.0, reserved.1)) x b.2 in
@@ -145,11 +146,11 @@ reach_takes bytes x fine e =
 reach_again : (hop : NextHop) (reserved : ℕ) (rest : List ℕ) → FitsHop hop → reach_at (length (hop_bytes hop) ∷ hop_bytes hop ++ (reserved ∷ rest)) ≡ Ok (hop, rest)
 unfolding reach_at
 reach_again hop reserved rest fits =
-    let fault : Fault = BadAttribute 14 in
+    let fault : Fault = bad_attribute MpReachNlri in
     let known = hop_again hop fits in
     rw (byte_at-again fault (length (hop_bytes hop)) (hop_bytes hop ++ (reserved ∷ rest)), known.0, bytes_at-again fault (length (hop_bytes hop)) (hop_bytes hop) (reserved ∷ rest) refl, byte_at-again fault reserved rest, known.1) refl
 
--- what is read of an attribute 14 before its keys
+-- what is read of an MP_REACH_NLRI before its keys
 abbrev ReachParts : List ℕ → Option (NextHop × List ℕ) → Type 0
 ReachParts value None = IsOfAnotherFamily value
 ReachParts value (Some reach) = TakesReach (drop 3 value) reach.0 reach.1 × (value ≡ family_bytes 1 1 ++ drop 3 value)
@@ -159,7 +160,7 @@ unfolding reach_in
 reach_parts value o fine e = by_tests (ltb (length value) 3) (is_ipv4_unicast value) refl refl e
   where
     by_tests : (short unicast : Bool) → ltb (length value) 3 ≡ short → is_ipv4_unicast value ≡ unicast
-        → cond short (Err (BadAttribute 14)) (cond unicast (◌>>=◌ {B = Option (NextHop × List ℕ)} (reach_at (drop 3 value)) (λ reach. Ok (Some reach))) (Ok None)) ≡ Ok o → ReachParts value o
+        → cond short (Err (bad_attribute MpReachNlri)) (cond unicast (◌>>=◌ {B = Option (NextHop × List ℕ)} (reach_at (drop 3 value)) (λ reach. Ok (Some reach))) (Ok None)) ≡ Ok o → ReachParts value o
     by_tests true unicast s u h = absurd cc
     by_tests false false s u h = subst (ReachParts value) (ok_is None o h) (is_another value (ltb-false _ _ s) fine u)
     by_tests false true s u h =
@@ -193,7 +194,7 @@ reached_in-bytes add_path value (Some hop) keys h =
     let long : ltb (length (family_bytes 1 1 ++ tail)) 3 ≡ false = le-ltb _ _ (omega arith) in
     ap (reached_in add_path) h.spelled ∙ rw (long, reach_again hop h.reserved (keys_bytes keys) h.fits, keys_in-bytes add_path keys h.formed) refl
 
--- ---- attribute 15
+-- ---- MP_UNREACH_NLRI
 
 abbrev UnreachParts : List ℕ → Option (List ℕ) → Type 0
 UnreachParts value None = IsOfAnotherFamily value
@@ -203,7 +204,7 @@ unreach_parts : (value : List ℕ) (o : Option (List ℕ)) → IsBytes value →
 unfolding unreach_in
 unreach_parts value o fine e = by_tests (ltb (length value) 3) (is_ipv4_unicast value) refl refl e
   where
-    by_tests : (short unicast : Bool) → ltb (length value) 3 ≡ short → is_ipv4_unicast value ≡ unicast → cond short (Err (BadAttribute 15)) (cond unicast (Ok (Some (drop 3 value))) (Ok None)) ≡ Ok o → UnreachParts value o
+    by_tests : (short unicast : Bool) → ltb (length value) 3 ≡ short → is_ipv4_unicast value ≡ unicast → cond short (Err (bad_attribute MpUnreachNlri)) (cond unicast (Ok (Some (drop 3 value))) (Ok None)) ≡ Ok o → UnreachParts value o
     by_tests true unicast s u h = absurd cc
     by_tests false false s u h = subst (UnreachParts value) (ok_is None o h) (is_another value (ltb-false _ _ s) fine u)
     by_tests false true s u h = subst (UnreachParts value) (ok_is (Some (drop 3 value)) o h) (IsBytes-drop 3 value fine, is_unicast value (ltb-false _ _ s) fine u)

@@ -9,6 +9,8 @@ use Rattle.std.proofs.lemmas.List.Concat.{flat_map-cons}
 use Rattle.byteorder.specs.Endian.{big_bytes}
 use Rattle.mrt_frame.specs.declared.fault.Fault.{Fault}
 use Rattle.mrt_frame.proofs.FieldLaws.{IsBytes, IsBytes-drop, IsBytes-front}
+use Rattle.bgp_update.specs.declared.attribute_type.AttributeType.{AttributeType}
+use Rattle.bgp_update.specs.declared.attribute_type.AttributeType.TheVariants as types
 use Rattle.bgp_update.specs.declared.width.Width.{Width}
 use Rattle.bgp_update.specs.declared.width.Width.TheVariants.{Two, Four}
 use Rattle.bgp_update.specs.declared.width.AttrError.{AttrError}
@@ -17,7 +19,7 @@ use Rattle.bgp_update.specs.Answers.{Gives}
 use Rattle.bgp_update.specs.Paths.{PathSegment, is_sequence, has_numbers, is_plain, part_of, part_front, longest_front, segment_length, path_length, merged}
 use Rattle.bgp_update.specs.Segments.{number_len, path_in, well_formed, path_of_value, IsSegment, IsPath}
 use Rattle.bgp_update.specs.Merging.{aggregator_of, as4_aggregator_of, as4_path_of, joined_path, is_stale}
-use Rattle.bgp_update.specs.Attributes.{WrittenAttribute, length_len, has_code, value_of, attributes_bytes, attribute_bytes, path_from, route_from, route_in}
+use Rattle.bgp_update.specs.Attributes.{WrittenAttribute, length_len, has_type, value_of, attributes_bytes, attribute_bytes, path_from, route_from, route_in}
 use Rattle.bgp_update.specs.Packing.{IsWritable}
 use Rattle.bgp_update.proofs.SegmentLaws.{path_in-is}
 use Rattle.bgp_update.proofs.UpdateLaws.{route_takes, update_takes}
@@ -116,8 +118,8 @@ writable_joined stale (Some path) None h k = h
 writable_joined true (Some path) (Some as4) h k = h
 writable_joined false (Some path) (Some as4) h k = merged_path path as4 h k
 
-abbrev AreBytes : (ℕ → Option (List ℕ)) → Type 0
-AreBytes value_at = (code : ℕ) → IfSome (value_at code) IsBytes
+abbrev AreBytes : (AttributeType → Option (List ℕ)) → Type 0
+AreBytes value_at = (t : AttributeType) → IfSome (value_at t) IsBytes
 
 read_path : (width : Width) (value : List ℕ) (r : Result Path Fault) → path_in (number_len width) value ≡ r → IsBytes value → IsWritable (well_formed r)
 read_path width value (Ok path) e fine = wide_path width path (path_in-is width value path fine e).1
@@ -135,13 +137,13 @@ as4_path (Some value) fine = by_test (eqb (length value) 0) (read_path Four valu
     by_test true h = tt
     by_test false h = h
 
-path_said : (width : Width) (value_at : ℕ → Option (List ℕ)) → AreBytes value_at → IsWritable (path_from width value_at)
-path_said Four value_at fine = path_of Four (value_at 2) (fine 2)
+path_said : (width : Width) (value_at : AttributeType → Option (List ℕ)) → AreBytes value_at → IsWritable (path_from width value_at)
+path_said Four value_at fine = path_of Four (value_at types.AsPath) (fine types.AsPath)
 path_said Two value_at fine =
-    writable_joined (is_stale (option_and_then aggregator_of (value_at 7)) (option_and_then as4_aggregator_of (value_at 18)))
-    (option_and_then (path_of_value 2) (value_at 2)) (option_and_then as4_path_of (value_at 17)) (path_of Two (value_at 2) (fine 2)) (as4_path (value_at 17) (fine 17))
+    writable_joined (is_stale (option_and_then aggregator_of (value_at types.Aggregator)) (option_and_then as4_aggregator_of (value_at types.As4Aggregator)))
+    (option_and_then (path_of_value 2) (value_at types.AsPath)) (option_and_then as4_path_of (value_at types.As4Path)) (path_of Two (value_at types.AsPath) (fine types.AsPath)) (as4_path (value_at types.As4Path) (fine types.As4Path))
 
-pub said_writable : (width : Width) (value_at : ℕ → Option (List ℕ)) → AreBytes value_at → IsWritable (route_from width value_at).path
+pub said_writable : (width : Width) (value_at : AttributeType → Option (List ℕ)) → AreBytes value_at → IsWritable (route_from width value_at).path
 unfolding route_from
 said_writable width value_at fine = path_said width value_at fine
 
@@ -156,16 +158,16 @@ one_of_two : (b : Bool) (x : List ℕ) (o : Option (List ℕ)) → IsBytes x →
 one_of_two true x o h k = h
 one_of_two false x o h k = k
 
-values_fine : (code : ℕ) (attributes : List WrittenAttribute) → IsBytes (attributes_bytes attributes) → IfSome (value_of code attributes) IsBytes
-values_fine code [] fine = tt
-values_fine code (a ∷ attributes) fine =
+values_fine : (t : AttributeType) (attributes : List WrittenAttribute) → IsBytes (attributes_bytes attributes) → IfSome (value_of t attributes) IsBytes
+values_fine t [] fine = tt
+values_fine t (a ∷ attributes) fine =
     let both : IsBytes (attribute_bytes a ++ attributes_bytes attributes) = subst IsBytes (flat_map-cons attribute_bytes a attributes) fine in
-    one_of_two (has_code code a) a.value (value_of code attributes) (value_fine a (IsBytes-front (attribute_bytes a) (attributes_bytes attributes) both)) (values_fine code attributes (bytes_behind (attribute_bytes a) (attributes_bytes attributes) both))
+    one_of_two (has_type t a) a.value (value_of t attributes) (value_fine a (IsBytes-front (attribute_bytes a) (attributes_bytes attributes) both)) (values_fine t attributes (bytes_behind (attribute_bytes a) (attributes_bytes attributes) both))
 
 pub route_writable : (width : Width) (bytes : List ℕ) (route : Route) → IsBytes bytes → route_in width bytes ≡ Ok route → IsWritable route.path
 route_writable width bytes route fine e =
     let t = route_takes width bytes route fine e in
-    subst (λ (r : Route). IsWritable r.path) (sym t.said) (said_writable width (λ code. value_of code t.attributes) (λ code. values_fine code t.attributes (subst IsBytes t.spelled fine)))
+    subst (λ (r : Route). IsWritable r.path) (sym t.said) (said_writable width (λ x. value_of x t.attributes) (λ x. values_fine x t.attributes (subst IsBytes t.spelled fine)))
 
 pub route_is_writable : (width : Width) (bytes : List ℕ) (r : Result Route AttrError) → IsBytes bytes → Gives (λ route. route) r (route_in width bytes) → IfOk r (λ route. IsWritable route.path)
 route_is_writable width bytes (Ok route) fine e = route_writable width bytes route fine e
@@ -183,7 +185,7 @@ attributes_fine form h =
 pub update_writable : (width : Width) (add_path : Bool) (body : List ℕ) (update : Update) → IsBytes body → update_in width add_path body ≡ Ok update → IsWritable update.route.path
 update_writable width add_path body update fine e =
     let t = update_takes width add_path body update fine e in
-    subst (λ (r : Route). IsWritable r.path) (sym t.said.route) (said_writable width (λ code. value_of code t.form.attributes) (λ code. values_fine code t.form.attributes (attributes_fine t.form (subst IsBytes t.spelled fine))))
+    subst (λ (r : Route). IsWritable r.path) (sym t.said.route) (said_writable width (λ x. value_of x t.form.attributes) (λ x. values_fine x t.form.attributes (attributes_fine t.form (subst IsBytes t.spelled fine))))
 
 pub update_is_writable : (width : Width) (add_path : Bool) (body : List ℕ) (r : Result Update AttrError) → IsBytes body → Gives (λ u. u) r (update_in width add_path body) → IfOk r (λ update. IsWritable update.route.path)
 update_is_writable width add_path body (Ok update) fine e = update_writable width add_path body update fine e

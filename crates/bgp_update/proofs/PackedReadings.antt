@@ -1,8 +1,10 @@
 -- Attributes are packed as they stand, where their numbers have four bytes.
-use Rattle.std.proofs.Common.{◌≡◌, ℕ, Bool, List, ◌++◌, Option, Some, None, Ok, refl, sym, ap, subst, ◌∙◌, lit<, append_assoc}
+use Rattle.std.proofs.Common.{◌≡◌, ℕ, Bool, List, ◌++◌, Option, Some, None, Ok, refl, sym, ap, subst, ◌∙◌, append_assoc}
 use Rattle.std.specs.Prelude.{IfSome, is_some}
 use Rattle.std.specs.Option.{option_and_then}
 use Rattle.mrt_frame.proofs.FieldLaws.{IsBytes}
+use Rattle.bgp_update.specs.declared.attribute_type.AttributeType.{AttributeType}
+use Rattle.bgp_update.specs.declared.attribute_type.AttributeType.TheVariants.{AsPath}
 use Rattle.bgp_update.specs.declared.width.Width.{Width}
 use Rattle.bgp_update.specs.declared.width.Width.TheVariants.{Four}
 use Rattle.bgp_update.specs.declared.width.Carrier.TheVariants.{RibEntry}
@@ -20,14 +22,14 @@ use Rattle.bgp_update.proofs.Packings.{route_bytes-fields, packed-bytes, unpacke
 use Rattle.bgp_update.proofs.PackedPaths.{spelled-bytes}
 use Rattle.bgp_update.proofs.Packable.{route_writable}
 
-spelled_if : (o : Option (List ℕ)) → IfSome o (IsFormed RibEntry Four 2) → IfSome o IsSpelled
+spelled_if : (o : Option (List ℕ)) → IfSome o (IsFormed RibEntry Four AsPath) → IfSome o IsSpelled
 spelled_if None h = tt
-spelled_if (Some value) h = let p = h.path refl in subst IsSpelled (sym p.2) (spelled-bytes p.0 p.1)
+spelled_if (Some value) h = subst IsSpelled (sym h.2) (spelled-bytes h.0 h.1)
 
-pub keeps_spelled : (bytes : List ℕ) (first : FirstValues) → IsBytes bytes → KeepsFirst RibEntry Four bytes first → IfSome (kept_value first 2) IsSpelled
+pub keeps_spelled : (bytes : List ℕ) (first : FirstValues) → IsBytes bytes → KeepsFirst RibEntry Four bytes first → IfSome (kept_value first AsPath) IsSpelled
 keeps_spelled bytes first fine keeps =
     let law = attributes_in-is RibEntry Four bytes keeps.0 fine keeps.1 in
-    subst (λ (o : Option (List ℕ)). IfSome o IsSpelled) (sym (keeps.2 2 (lit< tt))) (spelled_if (value_of 2 keeps.0) (law.1.formed 2))
+    subst (λ (o : Option (List ℕ)). IfSome o IsSpelled) (sym (keeps.2 AsPath)) (spelled_if (value_of AsPath keeps.0) (law.1.formed AsPath))
 
 spelled_is : (value : List ℕ) → IsSpelled value → path_of_value 4 value ≡ Some (spelled_path value)
 spelled_is value h = ap (λ (v : List ℕ). path_of_value 4 v) h.written ∙ ap well_formed (path_in-bytes Four (spelled_path value) h.fits)
@@ -45,13 +47,13 @@ four_bytes None h = refl
 four_bytes (Some value) h = h.written ∙ ap path_part (sym (spelled_is value h))
 
 -- the fields are those of the route, and then its path comes
-pub four_route : (value_at : ℕ → Option (List ℕ)) (fields : Route) (o : Option (List ℕ)) (b : Bool) (old mid new : List ℕ) → IfSome (value_at 2) IsSpelled
-    → fields ≡ without_path (route_from Four value_at) → o ≡ value_at 2 → b ≡ is_some o → mid ≡ old ++ fields_bytes fields b → new ≡ mid ++ bytes_or_none o → new ≡ old ++ route_bytes (route_from Four value_at)
+pub four_route : (value_at : AttributeType → Option (List ℕ)) (fields : Route) (o : Option (List ℕ)) (b : Bool) (old mid new : List ℕ) → IfSome (value_at AsPath) IsSpelled
+    → fields ≡ without_path (route_from Four value_at) → o ≡ value_at AsPath → b ≡ is_some o → mid ≡ old ++ fields_bytes fields b → new ≡ mid ++ bytes_or_none o → new ≡ old ++ route_bytes (route_from Four value_at)
 unfolding route_from fields_bytes
 four_route value_at fields o b old mid new h fields_are o-is b-is first second =
     let r : Route = route_from Four value_at in
-    let there : b ≡ is_some r.path = b-is ∙ ap is_some o-is ∙ four_there (value_at 2) h in
-    let path : bytes_or_none o ≡ path_part r.path = ap bytes_or_none o-is ∙ four_bytes (value_at 2) h in
+    let there : b ≡ is_some r.path = b-is ∙ ap is_some o-is ∙ four_there (value_at AsPath) h in
+    let path : bytes_or_none o ≡ path_part r.path = ap bytes_or_none o-is ∙ four_bytes (value_at AsPath) h in
     let front : fields_bytes fields b ≡ fields_bytes r (is_some r.path) = ap (λ (f : Route). fields_bytes f b) fields_are ∙ ap (fields_bytes r) there in
     second ∙ ap (λ (xs : List ℕ). xs ++ bytes_or_none o) first ∙ append_assoc old (fields_bytes fields b) (bytes_or_none o)
     ∙ ap (λ (xs : List ℕ). old ++ (xs ++ bytes_or_none o)) front ∙ ap (λ (xs : List ℕ). old ++ (fields_bytes r (is_some r.path) ++ xs)) path ∙ ap (λ (xs : List ℕ). old ++ xs) (route_bytes-fields r)

@@ -10,6 +10,7 @@ ghost use Rattle.bgp_update.specs.Merging as merging;
 ghost use Rattle.bgp_update.specs.Attributes as attributes;
 ghost use Rattle.bgp_update.specs.Attributes.{length_len, fault_of};
 
+use crate::attribute_type::AttributeType;
 use crate::key::key_count;
 use crate::multiprotocol::{reach_in, unreach_in};
 use crate::route::{Aggregator, Origin};
@@ -111,7 +112,7 @@ fn path_fault(value: &[u8], width: Width) -> Option<Fault>
     segment_count(value, width).err()
 }
 
-/// Returns the fault of attribute 14.
+/// Returns the fault of MP_REACH_NLRI.
 #[tactic(auto, using(crate::proofs::Counts::fault_of_mapped))]
 fn reached_fault(carrier: Carrier, value: &[u8]) -> Option<Fault>
     ensures { result ≡ attributes.reached_fault carrier value.now }
@@ -126,7 +127,7 @@ fn reached_fault(carrier: Carrier, value: &[u8]) -> Option<Fault>
     }
 }
 
-/// Returns the fault of attribute 15.
+/// Returns the fault of MP_UNREACH_NLRI.
 fn unreached_fault(carrier: Carrier, value: &[u8]) -> Option<Fault>
     ensures { result ≡ attributes.unreached_fault carrier value.now }
 {
@@ -142,27 +143,37 @@ fn unreached_fault(carrier: Carrier, value: &[u8]) -> Option<Fault>
 
 /// Returns what is wrong with the value of an attribute of this type.
 #[tactic(auto, unfolding(crate::specs::Attributes::value_fault))]
-pub fn value_fault(carrier: Carrier, width: Width, code: u8, value: &[u8]) -> Option<Fault>
-    ensures { result ≡ attributes.value_fault carrier width code value.now }
+pub fn value_fault(
+    carrier: Carrier,
+    width: Width,
+    attribute_type: AttributeType,
+    value: &[u8],
+) -> Option<Fault>
+    ensures { result ≡ attributes.value_fault carrier width attribute_type value.now }
 {
-    match code {
-        1 => fault_unless(origin_of(value).is_some(), Fault::BadAttribute(1)),
-        2 => path_fault(value, width),
-        3..=5 => fault_unless(value.len() == 4, Fault::BadAttribute(code)),
-        6 => fault_unless(value.is_empty(), Fault::BadAttribute(6)),
-        7 => fault_unless(value.len() == 6 || value.len() == 8, Fault::BadAttribute(7)),
-        14 => reached_fault(carrier, value),
-        15 => unreached_fault(carrier, value),
-        _ => None,
+    let bad = attribute_type.fault();
+    match attribute_type {
+        AttributeType::Origin => fault_unless(origin_of(value).is_some(), bad),
+        AttributeType::AsPath => path_fault(value, width),
+        AttributeType::NextHop | AttributeType::MultiExitDisc | AttributeType::LocalPref =>
+            fault_unless(value.len() == 4, bad),
+        AttributeType::AtomicAggregate => fault_unless(value.is_empty(), bad),
+        AttributeType::Aggregator => fault_unless(value.len() == 6 || value.len() == 8, bad),
+        AttributeType::MpReachNlri => reached_fault(carrier, value),
+        AttributeType::MpUnreachNlri => unreached_fault(carrier, value),
+        AttributeType::As4Path | AttributeType::As4Aggregator => None,
     }
 }
 
 /// Whether a second attribute of a type is a fault.
-pub fn refuses_repeat(carrier: Carrier, code: u8) -> bool
-    ensures { result ≡ attributes.refuses_repeat carrier code }
+pub fn refuses_repeat(carrier: Carrier, attribute_type: AttributeType) -> bool
+    ensures { result ≡ attributes.refuses_repeat carrier attribute_type }
 {
     match carrier {
         Carrier::RibEntry => false,
-        Carrier::Message { .. } => code == 14 || code == 15,
+        Carrier::Message { .. } => match attribute_type {
+            AttributeType::MpReachNlri | AttributeType::MpUnreachNlri => true,
+            _ => false,
+        },
     }
 }

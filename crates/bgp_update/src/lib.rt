@@ -3,6 +3,7 @@
 
 mod agreement;
 mod attribute;
+mod attribute_type;
 mod front;
 mod key;
 mod merge;

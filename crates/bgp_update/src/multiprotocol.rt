@@ -7,6 +7,7 @@ ghost use Rattle.bgp_update.specs.Keys as keys_spec;
 ghost use Rattle.bgp_update.specs.Multiprotocol as multiprotocol;
 ghost use Rattle.bgp_update.specs.Multiprotocol.{is_hop_len, SaysReach, SaysUnreach, reached_keys, unreached_keys};
 
+use crate::attribute_type::AttributeType;
 use crate::key::{read_keys, with_keys};
 use crate::next_hop::NextHop;
 use crate::width::AttrError;
@@ -43,22 +44,23 @@ fn next_hop_of(hop: &[u8]) -> NextHop
 fn reach_at(bytes: &[u8]) -> Result<(NextHop, &[u8]), Fault>
     ensures { Reads (λ x. (x.0, x.1.now)) result (multiprotocol.reach_at bytes.now) }
 {
-    let (len, rest) = byte_at(bytes, Fault::BadAttribute(14))?;
+    let bad = AttributeType::MpReachNlri.fault();
+    let (len, rest) = byte_at(bytes, bad)?;
     if len != 4 && len != 16 && len != 32 {
-        return Err(Fault::BadAttribute(14));
+        return Err(bad);
     }
-    let (hop, rest) = bytes_at(rest, len as usize, Fault::BadAttribute(14))?;
-    let (_, keys) = byte_at(rest, Fault::BadAttribute(14))?;
+    let (hop, rest) = bytes_at(rest, len as usize, bad)?;
+    let (_, keys) = byte_at(rest, bad)?;
     Ok((next_hop_of(hop), keys))
 }
 
-/// Returns the next hop and the field of keys of an attribute 14; none for another family.
+/// Returns the next hop and the field of keys of an MP_REACH_NLRI; none for another family.
 #[tactic(auto, unfolding(crate::specs::Multiprotocol::reach_in))]
 pub fn reach_in(value: &[u8]) -> Result<Option<(NextHop, &[u8])>, Fault>
     ensures { Reads (λ o. option_map (λ r. (r.0, r.1.now)) o) result (multiprotocol.reach_in value.now) }
 {
     if value.len() < 3 {
-        return Err(Fault::BadAttribute(14));
+        return Err(AttributeType::MpReachNlri.fault());
     }
     if !is_ipv4_unicast(value) {
         return Ok(None);
@@ -67,13 +69,13 @@ pub fn reach_in(value: &[u8]) -> Result<Option<(NextHop, &[u8])>, Fault>
     Ok(Some(reach))
 }
 
-/// Returns the field of keys of an attribute 15; none for another family.
+/// Returns the field of keys of an MP_UNREACH_NLRI; none for another family.
 #[tactic(auto, unfolding(crate::specs::Multiprotocol::unreach_in))]
 pub fn unreach_in(value: &[u8]) -> Result<Option<&[u8]>, Fault>
     ensures { Reads (λ o. option_map (λ r. r.now) o) result (multiprotocol.unreach_in value.now) }
 {
     if value.len() < 3 {
-        return Err(Fault::BadAttribute(15));
+        return Err(AttributeType::MpUnreachNlri.fault());
     }
     if !is_ipv4_unicast(value) {
         return Ok(None);
@@ -96,7 +98,7 @@ fn whole_reach(
     }
 }
 
-/// Returns the next hop and the keys that a value of attribute 14 encodes.
+/// Returns the next hop and the keys that a value of MP_REACH_NLRI encodes.
 fn read_reach(
     alloc: Global,
     value: &[u8],
@@ -109,7 +111,7 @@ fn read_reach(
     whole_reach(alloc, value, add_path)
 }
 
-/// Returns the next hop and the keys in attribute 14, if it is present.
+/// Returns the next hop and the keys in MP_REACH_NLRI, if it is present.
 #[tactic(auto, unfolding(crate::specs::Multiprotocol::reached_keys))]
 pub fn reached(
     alloc: Global,
@@ -139,7 +141,7 @@ fn with_whole_unreach(
     }
 }
 
-/// Returns these keys, followed by those that a value of attribute 15 encodes.
+/// Returns these keys, followed by those that a value of MP_UNREACH_NLRI encodes.
 fn with_unreach(
     keys: Vec<RouteKey>,
     value: &[u8],
@@ -152,7 +154,7 @@ fn with_unreach(
     with_whole_unreach(keys, value, add_path)
 }
 
-/// Returns these keys, followed by those in attribute 15, if it is present.
+/// Returns these keys, followed by those in MP_UNREACH_NLRI, if it is present.
 #[tactic(auto, unfolding(crate::specs::Multiprotocol::unreached_keys))]
 pub fn with_unreached(
     keys: Vec<RouteKey>,

@@ -6,8 +6,10 @@ ghost use Rattle.bgp_update.specs.Attributes as attributes;
 ghost use Rattle.bgp_update.specs.Attributes.{route_in};
 ghost use Rattle.bgp_update.specs.Packing.{IsSpelled, IsWritable, HaveWidths, ArePacked, without_path, route_bytes};
 ghost use Rattle.bgp_update.specs.Values.{kept_value};
+ghost use Rattle.bgp_update.specs.declared.attribute_type.AttributeType.TheVariants.{AsPath};
 ghost use Rattle.bgp_update.specs.declared.width.Width.TheVariants.{Four};
 
+use crate::attribute_type::AttributeType;
 use crate::packed_route::PackedRoute;
 use crate::route::Route;
 use crate::route_writing::{push_fields, push_route};
@@ -23,24 +25,24 @@ fn fields_from(first: &FirstValues<'_>, width: Width) -> Route
     ensures { result ≡ without_path (attributes.route_from width (kept_value first.now)) }
 {
     Route {
-        origin: origin_value(first.value(1)),
+        origin: origin_value(first.value(AttributeType::Origin)),
         path: None,
-        next_hop: next_hop_value(first.value(3)),
-        med: number_value(first.value(4)),
-        local_pref: number_value(first.value(5)),
-        atomic: first.value(6).is_some(),
+        next_hop: next_hop_value(first.value(AttributeType::NextHop)),
+        med: number_value(first.value(AttributeType::MultiExitDisc)),
+        local_pref: number_value(first.value(AttributeType::LocalPref)),
+        atomic: first.value(AttributeType::AtomicAggregate).is_some(),
         aggregator: aggregator_from(first, width),
     }
 }
 
 /// Writes the route of values with four-octet AS numbers: the bytes of AS_PATH are copied.
 fn push_four(out: &mut Vec<u8>, first: &FirstValues<'_>) -> Result<(), Memory>
-    requires { IfSome (kept_value first.now 2) IsSpelled }
+    requires { IfSome (kept_value first.now AsPath) IsSpelled }
     ensures bytes { OnOk result (out.new.items ≡ out.old.items ++ route_bytes (attributes.route_from Four (kept_value first.now))) }
     ensures widths { OnOk result (HaveWidths (attributes.route_from Four (kept_value first.now))) }
 {
     let fields = fields_from(first, Width::Four);
-    match first.value(2) {
+    match first.value(AttributeType::AsPath) {
         Some(path) => {
             push_fields(out, &fields, true)?;
             out.extend_from_slice(path)?;
@@ -60,7 +62,7 @@ fn push_attrs(
     first: &FirstValues<'_>,
     width: Width,
 ) -> Result<(), Memory>
-    requires four { width ≡ Four → IfSome (kept_value first.now 2) IsSpelled }
+    requires four { width ≡ Four → IfSome (kept_value first.now AsPath) IsSpelled }
     requires writable { IsWritable (attributes.route_from width (kept_value first.now)).path }
     ensures bytes { OnOk result (out.new.items ≡ out.old.items ++ route_bytes (attributes.route_from width (kept_value first.now))) }
     ensures widths { OnOk result (HaveWidths (attributes.route_from width (kept_value first.now))) }

@@ -9,6 +9,7 @@ ghost use Rattle.bgp_update.specs.Updates.{ReadsAsUpdate, said_update, update_in
 ghost use Rattle.bgp_update.specs.Packing.{IsWritable};
 ghost use Rattle.bgp_update.specs.Values.{kept_value};
 
+use crate::attribute_type::AttributeType;
 use crate::key::read_keys;
 use crate::multiprotocol::{reached, with_unreached};
 use crate::route::{Route, Update};
@@ -57,8 +58,9 @@ fn update_from(
 ) -> Result<Update, AttrError>
     ensures { Gives (λ update. update) result (said_update width add_path withdrawn.items (kept_value first.now) announced.items) }
 {
-    let withdrawn = with_unreached(withdrawn, first.value(15), add_path)?;
-    let (reached_hop, reached) = reached(alloc, first.value(14), add_path)?;
+    let unreached = first.value(AttributeType::MpUnreachNlri);
+    let withdrawn = with_unreached(withdrawn, unreached, add_path)?;
+    let (reached_hop, reached) = reached(alloc, first.value(AttributeType::MpReachNlri), add_path)?;
     let route = route_from(alloc, first, width)?;
     Ok(Update {
         withdrawn: Sequence::from_vec(withdrawn),

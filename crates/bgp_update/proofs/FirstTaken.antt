@@ -1,0 +1,56 @@
+-- An attribute is taken: it has no fault beside what is kept, and its value is kept if it is the first of its type.
+use Rattle.std.proofs.Common.{◌≡◌, ℕ, Bool, true, false, cond, eqb, List, Option, Some, None, refl, sym, ap, ◌∙◌}
+use Rattle.bgp_update.specs.declared.attribute_type.AttributeType.{AttributeType}
+use Rattle.bgp_update.specs.declared.width.Width.{Width}
+use Rattle.bgp_update.specs.declared.width.Carrier.{Carrier}
+use Rattle.bgp_update.specs.declared.values.FirstValues.{FirstValues}
+use Rattle.bgp_update.specs.AttributeTypes.{type_of, bad_attribute}
+use Rattle.bgp_update.specs.Attributes.{WrittenAttribute, value_fault, refuses_repeat, fault_unless, fault_of_type, fault_beside}
+use Rattle.bgp_update.specs.Values.{kept_value, place, or_value, Takes}
+use Rattle.bgp_update.proofs.TypeLaws.{place_tells, no_type, equal_places}
+
+abbrev Values : Type 0
+Values = AttributeType → Option (List ℕ)
+
+-- the fault of an attribute of a type
+beside : (carrier : Carrier) (width : Width) (value_at : Values) (a : WrittenAttribute) (t : AttributeType) (o : Option (List ℕ)) → type_of a.code ≡ Some t → value_at t ≡ o → fault_beside carrier width value_at a ≡ fault_of_type carrier width t o a.value
+beside carrier width value_at a t o e h = rw e (ap (λ (x : Option (List ℕ)). fault_of_type carrier width t x a.value) h)
+
+or_none : (o : Option (List ℕ)) → o ≡ or_value o None
+or_none None = refl
+or_none (Some value) = refl
+
+-- of a type that isn't looked at
+pub takes_other : (carrier : Carrier) (width : Width) (first : FirstValues) (a : WrittenAttribute) → type_of a.code ≡ None → Takes carrier width first a first
+takes_other carrier width first a e =
+    record {
+      passes = rw e refl;
+      kept = λ t. or_none (kept_value first t) ∙ ap (λ (b : Bool). or_value (kept_value first t) (cond b (Some a.value) None)) (sym (no_type a.code t e));
+    }
+
+-- the first of its type
+pub takes_first : (carrier : Carrier) (width : Width) (first later : FirstValues) (a : WrittenAttribute) (t : AttributeType) → type_of a.code ≡ Some t → kept_value first t ≡ None → value_fault carrier width t a.value ≡ None
+    → ((u : AttributeType) → kept_value later u ≡ cond (eqb (place u) (place t)) (Some a.value) (kept_value first u)) → Takes carrier width first a later
+takes_first carrier width first later a t e none fine kept =
+    record {
+      passes = beside carrier width (kept_value first) a t None e none ∙ fine;
+      kept = λ u. kept u ∙ by_test u (eqb (place u) (place t)) refl ∙ ap (λ (b : Bool). or_value (kept_value first u) (cond b (Some a.value) None)) (sym (place_tells a.code t u e));
+    }
+  where
+    by_test : (u : AttributeType) (b : Bool) → eqb (place u) (place t) ≡ b → cond b (Some a.value) (kept_value first u) ≡ or_value (kept_value first u) (cond b (Some a.value) None)
+    by_test u false h = or_none (kept_value first u)
+    by_test u true h = ap (λ (o : Option (List ℕ)). or_value o (Some a.value)) (sym (ap (kept_value first) (equal_places u t h) ∙ none))
+
+-- a repeat
+pub takes_again : (carrier : Carrier) (width : Width) (first : FirstValues) (a : WrittenAttribute) (t : AttributeType) (value : List ℕ) → type_of a.code ≡ Some t → Some value ≡ kept_value first t → refuses_repeat carrier t ≡ false → Takes carrier width first a first
+takes_again carrier width first a t value e some allowed =
+    record {
+      passes = beside carrier width (kept_value first) a t (Some value) e (sym some) ∙ ap (λ (b : Bool). fault_unless (cond b false true) (bad_attribute t)) allowed;
+      kept = λ u. by_test u (eqb (place u) (place t)) refl ∙ ap (λ (b : Bool). or_value (kept_value first u) (cond b (Some a.value) None)) (sym (place_tells a.code t u e));
+    }
+  where
+    by_test : (u : AttributeType) (b : Bool) → eqb (place u) (place t) ≡ b → kept_value first u ≡ or_value (kept_value first u) (cond b (Some a.value) None)
+    by_test u false h = or_none (kept_value first u)
+    by_test u true h =
+        let held : Some value ≡ kept_value first u = some ∙ ap (kept_value first) (sym (equal_places u t h)) in
+        sym held ∙ ap (λ (o : Option (List ℕ)). or_value o (Some a.value)) held

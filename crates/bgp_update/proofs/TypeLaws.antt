@@ -1,0 +1,101 @@
+-- Each type has a code and a place of its own.
+use Rattle.std.proofs.Common.{◌≡◌, ℕ, Bool, true, false, cond, eqb, Option, Some, None, refl, sym, ap, ◌∙◌, arith}
+use Rattle.std.proofs.lemmas.Bool.{eqb-true}
+use Rattle.bgp_update.specs.declared.attribute_type.AttributeType.{AttributeType}
+use Rattle.bgp_update.specs.declared.attribute_type.AttributeType.TheVariants as types
+use Rattle.bgp_update.specs.AttributeTypes.{type_code, type_of}
+use Rattle.bgp_update.specs.Values.{place}
+
+pub type_again : (t : AttributeType) → type_of (type_code t) ≡ Some t
+type_again types.Origin = refl
+type_again t = refl
+
+-- ---- a code of a type that is looked at
+
+abbrev type_or : AttributeType → Option AttributeType → AttributeType
+type_or t None = t
+type_or t (Some other) = other
+
+some_is : (t u : AttributeType) → Some t ≡ Some u → t ≡ u
+some_is t u e = ap (type_or t) e
+
+some_not : (t : AttributeType) → None ≡ Some t → ⊥
+some_not t e = cc
+
+no_and_yes : (b : Bool) → b ≡ false → b ≡ true → ⊥
+no_and_yes true f y = absurd cc
+no_and_yes false f y = absurd cc
+
+found : (code : ℕ) (t own : AttributeType) (others : Option AttributeType) → (others ≡ Some t → code ≡ type_code t) → cond (eqb code (type_code own)) (Some own) others ≡ Some t → code ≡ type_code t
+found code t own others more = by_test (eqb code (type_code own)) refl
+  where
+    by_test : (b : Bool) → eqb code (type_code own) ≡ b → cond b (Some own) others ≡ Some t → code ≡ type_code t
+    by_test true h e = eqb-true code (type_code own) h ∙ ap type_code (some_is own t e)
+    by_test false h e = more e
+
+pub type_is : (code : ℕ) (t : AttributeType) → type_of code ≡ Some t → code ≡ type_code t
+type_is code t =
+    found code t types.Origin _
+    (found code t types.AsPath _
+    (found code t types.NextHop _
+    (found code t types.MultiExitDisc _
+    (found code t types.LocalPref _
+    (found code t types.AtomicAggregate _
+    (found code t types.Aggregator _
+    (found code t types.MpReachNlri _
+    (found code t types.MpUnreachNlri _
+    (found code t types.As4Path _
+    (found code t types.As4Aggregator None (λ e. absurd (some_not t e))))))))))))
+
+-- ---- places
+
+abbrev type_at : ℕ → AttributeType
+type_at n =
+    cond (eqb n 0) types.Origin
+    (cond (eqb n 1) types.AsPath
+    (cond (eqb n 2) types.NextHop
+    (cond (eqb n 3) types.MultiExitDisc
+    (cond (eqb n 4) types.LocalPref
+    (cond (eqb n 5) types.AtomicAggregate
+    (cond (eqb n 6) types.Aggregator
+    (cond (eqb n 7) types.MpReachNlri
+    (cond (eqb n 8) types.MpUnreachNlri
+    (cond (eqb n 9) types.As4Path types.As4Aggregator)))))))))
+
+place_again : (t : AttributeType) → type_at (place t) ≡ t
+place_again types.Origin = refl
+place_again t = refl
+
+same_place : (t u : AttributeType) → place t ≡ place u → t ≡ u
+same_place t u e = sym (place_again t) ∙ ap type_at e ∙ place_again u
+
+same_test : (n : ℕ) → eqb n n ≡ true
+same_test n = grind arith
+
+-- the codes of a type and of another are equal where their places are
+pub place_tells : (code : ℕ) (t u : AttributeType) → type_of code ≡ Some t → eqb code (type_code u) ≡ eqb (place u) (place t)
+place_tells code t u e = by_test (eqb (place u) (place t)) refl
+  where
+    same : u ≡ t → eqb code (type_code u) ≡ true
+    same h = ap (λ (c : ℕ). eqb c (type_code u)) (type_is code t e ∙ ap type_code (sym h)) ∙ same_test (type_code u)
+
+    is_other : eqb (place u) (place t) ≡ false → (b : Bool) → eqb code (type_code u) ≡ b → b ≡ false
+    is_other h false k = refl
+    is_other h true k =
+        let same_types : t ≡ u = some_is t u (sym e ∙ ap type_of (eqb-true code (type_code u) k) ∙ type_again u) in
+        absurd (no_and_yes (eqb (place u) (place t)) h (ap (λ (x : AttributeType). eqb (place u) (place x)) same_types ∙ same_test (place u)))
+
+    by_test : (b : Bool) → eqb (place u) (place t) ≡ b → eqb code (type_code u) ≡ b
+    by_test true h = same (same_place u t (eqb-true (place u) (place t) h))
+    by_test false h = is_other h (eqb code (type_code u)) refl
+
+-- a code of no type that is looked at is that of none
+pub no_type : (code : ℕ) (t : AttributeType) → type_of code ≡ None → eqb code (type_code t) ≡ false
+no_type code t e = by_test (eqb code (type_code t)) refl
+  where
+    by_test : (b : Bool) → eqb code (type_code t) ≡ b → b ≡ false
+    by_test false h = refl
+    by_test true h = absurd (some_not t (sym e ∙ ap type_of (eqb-true code (type_code t) h) ∙ type_again t))
+
+pub equal_places : (t u : AttributeType) → eqb (place t) (place u) ≡ true → t ≡ u
+equal_places t u h = same_place t u (eqb-true (place t) (place u) h)
