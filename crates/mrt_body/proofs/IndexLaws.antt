@@ -20,7 +20,7 @@ with_body true body o = refl
 with_body false body o = refl
 
 index_of_cut : (cut : Cut) (o : Option (List ℕ)) → option_and_then index_of_body (last_or o (cons_option (index_body cut) [])) ≡ index_after (option_and_then index_of_body o) cut
-index_of_cut (Whole offset seconds kind subtype body) o = with_body (is_index_content (content_of kind subtype)) body o
+index_of_cut (Whole r) o = with_body (is_index_content (content_of r.kind r.subtype)) r.body o
 index_of_cut (Broken offset fault) o = refl
 
 pub index_before-push : (earlier : List Cut) (cut : Cut) → index_before (earlier ++ cut ∷ []) ≡ index_after (index_before earlier) cut

@@ -4,6 +4,7 @@ use Rattle.std.specs.Prelude.{option_to_list}
 use Rattle.std.specs.List.{count_by}
 use Rattle.mrt_frame.specs.declared.fault.Fault.{Fault}
 use Rattle.mrt_frame.specs.declared.cut.Cut.{Cut}
+use Rattle.mrt_frame.specs.declared.cut.Record.{Record}
 use Rattle.mrt_frame.specs.declared.cut.Cut.TheVariants.{Whole, Broken}
 use Rattle.mrt_frame.specs.Frames.{Position, to_come, TakesCuts}
 use Rattle.std.proofs.lemmas.List.Sums.{sum_by-cons}
@@ -49,21 +50,21 @@ takes_known a b None left taken bytes is h = absurd cc
 takes_known a b (Some known) None taken bytes is h = absurd h
 takes_known a b (Some known) (Some rest) taken bytes is h = let same : known ≡ bytes = cc in (rest, refl, ap (to_come a) (sym same) ∙ h)
 
-module _ (old : UnitsState) (file offset seconds kind subtype : ℕ) (body : List ℕ) where
+module _ (old : UnitsState) (file : ℕ) (r : Record) where
   abbrev whole : Cut
-  whole = Whole offset seconds kind subtype body
+  whole = Whole r
 
   abbrev held : Content
-  held = content_of kind subtype
+  held = content_of r.kind r.subtype
 
   abbrev mid_of : Position → UnitsState
   mid_of frames = record old { frames = frames; records = old.records + 1 }
 
   abbrev new_of : Position → List ReplayUnit → UnitsState
-  new_of frames pending = record (mid_of frames) { index = index_with old.index held body; pending = pending; aside = old.aside + aside_count held }
+  new_of frames pending = record (mid_of frames) { index = index_with old.index held r.body; pending = pending; aside = old.aside + aside_count held }
 
   stays : (frames : Position) (pending : List ReplayUnit) (given : Option Found) (bytes rest : List ℕ) → file ≡ old.file → to_come old.frames bytes ≡ whole ∷ to_come frames rest
-      → option_to_list given ++ as_found pending ≡ found_units old.until (at_record file offset seconds) (units_in (at_record file offset seconds) (is_extended kind) old.index held body)
+      → option_to_list given ++ as_found pending ≡ found_units old.until (at_record file r.offset r.seconds) (units_in (at_record file r.offset r.seconds) (is_extended r.kind) old.index held r.body)
       → StaysInFile old bytes (new_of frames pending) rest (option_to_list given)
   unfolding found_at
   stays frames pending given bytes rest file_is cuts_are found_is =
@@ -71,9 +72,9 @@ module _ (old : UnitsState) (file offset seconds kind subtype : ℕ) (body : Lis
       record {
         state = refl;
         found = ap (found_from old.file old.until old.index) cuts_are
-            ∙ ap (λ (f : ℕ). found_units old.until (at_record f offset seconds) (units_in (at_record f offset seconds) (is_extended kind) old.index held body) ++ found_from old.file old.until (index_with old.index held body) others) (sym file_is)
-            ∙ ap (λ (l : List Found). l ++ found_from old.file old.until (index_with old.index held body) others) (sym found_is)
-            ∙ append_assoc (option_to_list given) (as_found pending) (found_from old.file old.until (index_with old.index held body) others);
+            ∙ ap (λ (f : ℕ). found_units old.until (at_record f r.offset r.seconds) (units_in (at_record f r.offset r.seconds) (is_extended r.kind) old.index held r.body) ++ found_from old.file old.until (index_with old.index held r.body) others) (sym file_is)
+            ∙ ap (λ (l : List Found). l ++ found_from old.file old.until (index_with old.index held r.body) others) (sym found_is)
+            ∙ append_assoc (option_to_list given) (as_found pending) (found_from old.file old.until (index_with old.index held r.body) others);
         records = ap (λ (cs : List Cut). old.records + count_by is_whole cs) cuts_are ∙ ap (λ (n : ℕ). old.records + n) (sum_by-cons (λ (c : Cut). cond (is_whole c) 1 0) whole others) ∙ one_more old.records 1 (count_by is_whole others);
         aside = ap (λ (cs : List Cut). old.aside + count_by is_aside cs) cuts_are ∙ ap (λ (n : ℕ). old.aside + n) (sum_by-cons (λ (c : Cut). cond (is_aside c) 1 0) whole others) ∙ one_more old.aside (aside_count held) (count_by is_aside others);
       }
@@ -81,14 +82,14 @@ module _ (old : UnitsState) (file offset seconds kind subtype : ℕ) (body : Lis
       one_more : (a b c : ℕ) → a + (b + c) ≡ (a + b) + c
       one_more a b c = omega arith
 
-  new_is : (mid new : UnitsState) → mid ≡ mid_of mid.frames → new ≡ record mid { index = index_with mid.index held body; pending = new.pending; aside = mid.aside + aside_count held } → new ≡ new_of mid.frames new.pending
-  new_is mid new m n = n ∙ ap (λ (u : UnitsState). record u { frames = mid.frames; index = index_with u.index held body; pending = new.pending; aside = u.aside + aside_count held }) m
+  new_is : (mid new : UnitsState) → mid ≡ mid_of mid.frames → new ≡ record mid { index = index_with mid.index held r.body; pending = new.pending; aside = mid.aside + aside_count held } → new ≡ new_of mid.frames new.pending
+  new_is mid new m n = n ∙ ap (λ (u : UnitsState). record u { frames = mid.frames; index = index_with u.index held r.body; pending = new.pending; aside = u.aside + aside_count held }) m
 
-  found_as : (mid : UnitsState) (l : List Found) → mid ≡ mid_of mid.frames → l ≡ found_units mid.until (at_record file offset seconds) (units_in (at_record file offset seconds) (is_extended kind) mid.index held body)
-      → l ≡ found_units old.until (at_record file offset seconds) (units_in (at_record file offset seconds) (is_extended kind) old.index held body)
-  found_as mid l m h = h ∙ ap (λ (u : UnitsState). found_units u.until (at_record file offset seconds) (units_in (at_record file offset seconds) (is_extended kind) u.index held body)) m
+  found_as : (mid : UnitsState) (l : List Found) → mid ≡ mid_of mid.frames → l ≡ found_units mid.until (at_record file r.offset r.seconds) (units_in (at_record file r.offset r.seconds) (is_extended r.kind) mid.index held r.body)
+      → l ≡ found_units old.until (at_record file r.offset r.seconds) (units_in (at_record file r.offset r.seconds) (is_extended r.kind) old.index held r.body)
+  found_as mid l m h = h ∙ ap (λ (u : UnitsState). found_units u.until (at_record file r.offset r.seconds) (units_in (at_record file r.offset r.seconds) (is_extended r.kind) u.index held r.body)) m
 
-  pub step_record : (mid new : UnitsState) (known left : Option (List ℕ)) (given : Option Found) → file ≡ old.file → CutsOne old known mid left (Some whole) → TakesRecord mid (at_record file offset seconds) (is_extended kind) held body new given → Steps old known new left (option_to_list given)
+  pub step_record : (mid new : UnitsState) (known left : Option (List ℕ)) (given : Option Found) → file ≡ old.file → CutsOne old known mid left (Some whole) → TakesRecord mid (at_record file r.offset r.seconds) (is_extended r.kind) held r.body new given → Steps old known new left (option_to_list given)
   step_record mid new known left given file_is cut t bytes is =
       let k = takes_known old.frames mid.frames known left (whole ∷ []) bytes is cut.2 in (
         k.0,
@@ -97,6 +98,6 @@ module _ (old : UnitsState) (file offset seconds kind subtype : ℕ) (body : Lis
             (stays mid.frames new.pending given bytes k.0 file_is k.2 (found_as mid (option_to_list given ++ as_found new.pending) cut.0 t.found))),
       )
 
-  pub step_records : {E : Type 0} (mid new : UnitsState) (known left : Option (List ℕ)) (r : Result (Option Found) E) (cut : Option Cut) → file ≡ old.file → cut ≡ Some whole → CutsOne old known mid left cut → IfOk r (TakesRecord mid (at_record file offset seconds) (is_extended kind) held body new) → IfOk r (λ given. Steps old known new left (option_to_list given))
+  pub step_records : {E : Type 0} (mid new : UnitsState) (known left : Option (List ℕ)) (answer : Result (Option Found) E) (cut : Option Cut) → file ≡ old.file → cut ≡ Some whole → CutsOne old known mid left cut → IfOk answer (TakesRecord mid (at_record file r.offset r.seconds) (is_extended r.kind) held r.body new) → IfOk answer (λ given. Steps old known new left (option_to_list given))
   step_records mid new known left (Ok given) cut file_is cut_is of_cut t = step_record mid new known left given file_is (subst (λ (c : Option Cut). CutsOne old known mid left c) cut_is of_cut) t
   step_records mid new known left (Err e) cut file_is cut_is of_cut t = tt

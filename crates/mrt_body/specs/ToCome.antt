@@ -144,8 +144,8 @@ EndsFile old known new left cuts = (new ≡ in_next_file old) × ((bytes : List 
 abbrev pub CutsOne : UnitsState → Option (List ℕ) → UnitsState → Option (List ℕ) → Option Cut → Type 0
 CutsOne old known new left None = EndsFile old known new left []
 CutsOne old known new left (Some (Broken offset fault)) = (offset ≡ old.frames.offset) × EndsFile old known new left (Broken offset fault ∷ [])
-CutsOne old known new left (Some (Whole offset seconds kind subtype body)) =
-    (new ≡ record old { frames = new.frames; records = old.records + 1 }) × (new.frames.phase ≡ Reading) × TakesCuts old.frames known new.frames left (Whole offset seconds kind subtype body ∷ [])
+CutsOne old known new left (Some (Whole r)) =
+    (new ≡ record old { frames = new.frames; records = old.records + 1 }) × (new.frames.phase ≡ Reading) × TakesCuts old.frames known new.frames left (Whole r ∷ [])
 
 -- what comes of a whole record: what was given, and what pends
 pub record TakesRecord (old : UnitsState) (at : RecordAt) (extended : Bool) (content : Content) (body : List ℕ) (new : UnitsState) (given : Option Found) : Type 0 where

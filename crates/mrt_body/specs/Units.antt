@@ -131,7 +131,7 @@ at_record file offset seconds = record { file = file; offset = offset; seconds =
 
 -- what a cut gives beside the index in force
 unfoldable pub found_at : ℕ → Option ℕ → Option (List PeerKey) → Cut → List Found
-found_at file until index (Whole offset seconds kind subtype body) = let at = at_record file offset seconds in found_units until at (units_in at (is_extended kind) index (content_of kind subtype) body)
+found_at file until index (Whole r) = let at = at_record file r.offset r.seconds in found_units until at (units_in at (is_extended r.kind) index (content_of r.kind r.subtype) r.body)
 found_at file until index (Broken offset fault) = refused_at (at_record file offset 0) fault ∷ []
 
 -- ---- the index in force
@@ -153,7 +153,7 @@ index_of_body body = if_read (peers_in body)
 
 -- the bodies of index tables
 abbrev pub index_body : Cut → Option (List ℕ)
-index_body (Whole offset seconds kind subtype body) = if is_index_content (content_of kind subtype) then Some body else None
+index_body (Whole r) = if is_index_content (content_of r.kind r.subtype) then Some r.body else None
 index_body (Broken offset fault) = None
 
 -- ---- what files give
@@ -182,7 +182,7 @@ index_with index content body = if is_index_content content then index_of_body b
 
 -- the index in force after a cut
 abbrev pub index_after : Option (List PeerKey) → Cut → Option (List PeerKey)
-index_after index (Whole offset seconds kind subtype body) = index_with index (content_of kind subtype) body
+index_after index (Whole r) = index_with index (content_of r.kind r.subtype) r.body
 index_after index (Broken offset fault) = index
 
 -- what the cuts give, where this index is in force before the first
@@ -223,7 +223,7 @@ IsSmall (found.Refused damage) = ⊤
 -- ---- counts of cut records, whatever their time
 
 abbrev pub is_whole : Cut → Bool
-is_whole (Whole offset seconds kind subtype body) = true
+is_whole (Whole r) = true
 is_whole (Broken offset fault) = false
 
 abbrev pub is_aside_content : Content → Bool
@@ -238,7 +238,7 @@ abbrev pub aside_count : Content → ℕ
 aside_count content = if is_aside_content content then 1 else 0
 
 abbrev pub is_aside : Cut → Bool
-is_aside (Whole offset seconds kind subtype body) = is_aside_content (content_of kind subtype)
+is_aside (Whole r) = is_aside_content (content_of r.kind r.subtype)
 is_aside (Broken offset fault) = false
 
 abbrev pub all_cuts : List (List ℕ) → List Cut

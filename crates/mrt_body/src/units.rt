@@ -212,29 +212,13 @@ impl Units {
         ensures place { IfOk result (λ cut. IfSome cut (StandsAt self.old.frames.offset)) }
     {
         match self.frames.next(alloc, reader) {
-            Ok(
-                Some(
-                    Cut::Whole {
-                        offset,
-                        seconds,
-                        kind,
-                        subtype,
-                        body,
-                    },
-                ),
-            ) => {
+            Ok(Some(Cut::Whole(record))) => {
                 if self.records == self.max_records {
                     self.standing = Standing::Spent;
                     return Err(ReplayError::Records);
                 }
                 self.records += 1;
-                Ok(Some(Cut::Whole {
-                    offset,
-                    seconds,
-                    kind,
-                    subtype,
-                    body,
-                }))
+                Ok(Some(Cut::Whole(record)))
             }
             Ok(end) => {
                 self.file += 1;
@@ -283,27 +267,14 @@ impl Units {
                 };
                 Ok(Some(refused(at, fault)))
             }
-            Some(
-                Cut::Whole {
-                    offset,
-                    seconds,
-                    kind,
-                    subtype,
-                    body,
-                },
-            ) => {
+            Some(Cut::Whole(record)) => {
                 let at = RecordAt {
                     file,
-                    offset,
-                    seconds,
+                    offset: record.offset,
+                    seconds: record.seconds,
                 };
-                self.take(
-                    alloc,
-                    at,
-                    is_extended(kind),
-                    content_of(kind, subtype),
-                    body,
-                )
+                let content = content_of(record.kind, record.subtype);
+                self.take(alloc, at, is_extended(record.kind), content, record.body)
             }
         }
     }

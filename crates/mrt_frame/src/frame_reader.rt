@@ -3,7 +3,7 @@ ghost use Rattle.std.specs.Prelude.{◌≡◌, ◌<◌, ◌≤◌, ◌≢◌, �
 ghost use Rattle.std.specs.Io.KnownBytes.{Consumes, IsAtEnd};
 ghost use Rattle.mrt_frame.specs.Frames.{Position, IsFirstCut, TakesCuts, ReadsFewer, ReadsNoMoreThan, ReadsPart, StandsAt, IsReadCause, HasCause, KeepsUnlessRead, Repeats, phase_after, start_of};
 
-use crate::cut::Cut;
+use crate::cut::{Cut, Record};
 use crate::device::Source;
 use crate::error::ReplayError;
 use crate::fault::Fault;
@@ -90,8 +90,8 @@ impl FrameReader {
     {
         let result = read_cut(alloc, self.file, self.offset, reader);
         match &result {
-            Ok(Some(Cut::Whole { body, .. })) => {
-                self.offset += u64::from(HEADER_SIZE) + body.as_slice().len() as u64;
+            Ok(Some(Cut::Whole(record))) => {
+                self.offset += u64::from(HEADER_SIZE) + record.body.as_slice().len() as u64;
             }
             Ok(_) => self.phase = Phase::Ended,
             Err(ReplayError::Read { .. }) => self.phase = Phase::Failed,
@@ -142,13 +142,13 @@ fn read_cut<R: Source>(
             fault: Fault::ShortBody,
         }));
     }
-    Ok(Some(Cut::Whole {
+    Ok(Some(Cut::Whole(Record {
         offset,
         seconds: header.seconds,
         kind: header.kind,
         subtype: header.subtype,
         body: Sequence::from_vec(bytes),
-    }))
+    })))
 }
 
 /// Reads the next bytes of the reader: this many, or all of them if it ends earlier.

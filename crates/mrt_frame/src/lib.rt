@@ -13,7 +13,7 @@ mod header;
 mod phase;
 mod writing;
 
-pub use cut::Cut;
+pub use cut::{Cut, Record};
 pub use cutting::{cutting_is_unique, readings_give_all_cuts};
 pub use device::{Counted, Failed, Failures, Sink, Source};
 pub use error::ReplayError;

@@ -13,8 +13,8 @@ returns-in-Some-Broken-clause-steps g c =
 
 pub returns-in-Some-Whole-clause-steps : goal.returns-in-Some-Whole-clause-steps
 returns-in-Some-Whole-clause-steps g c =
-    step_records c.args.self.now c.self.inside.file c.in-Some-Whole.offset c.in-Some-Whole.seconds c.in-Some-Whole.kind c.in-Some-Whole.subtype c.in-Some-Whole.body c.cut.new.self c.take.new.self (g.R.Source.remaining c.args.reader.now) (g.R.Source.remaining c.cut.new.reader) c.take.result c.in_ok-cut.field-0
+    step_records c.args.self.now c.self.inside.file c.in-Some-Whole.record c.cut.new.self c.take.new.self (g.R.Source.remaining c.args.reader.now) (g.R.Source.remaining c.cut.new.reader) c.take.result c.in_ok-cut.field-0
     (ap (λ (u : UnitsState). u.file) c.self.view_is)
     (c.in-Some-Whole.is ∙ ap (λ (x : Cut). Some x) c.in-Some-Whole.field-0-is)
     c.in_ok-cut.ensures.cuts
-    (rw (c.is_extended.ensures, c.content_of.ensures) at c.take.ensures.takes)
+    (rw (c.is_extended.ensures, c.content_of-content.ensures) at c.take.ensures.takes)
