@@ -59,17 +59,10 @@ fn next_cut(
 
 fn expect_update(rt: &impl Abort, cut: &Option<Cut>, at: u64) {
     match cut {
-        Some(
-            Cut::Whole {
-                offset,
-                seconds,
-                kind,
-                subtype,
-                body,
-            },
-        ) => {
-            assert!(rt; *offset == at && *seconds == 1 && *kind == 16 && *subtype == 4);
-            assert!(rt; body.as_slice() == &UPDATE[12..]);
+        Some(Cut::Whole(record)) => {
+            assert!(rt; record.offset == at && record.seconds == 1);
+            assert!(rt; record.kind == 16 && record.subtype == 4);
+            assert!(rt; record.body.as_slice() == &UPDATE[12..]);
         }
         _ => assert!(rt; false),
     }
