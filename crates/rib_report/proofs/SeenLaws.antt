@@ -14,7 +14,7 @@ use Rattle.bgp_prefix.specs.Ordered.{in_order}
 use Rattle.bgp_prefix.specs.declared.key.RouteKey.{RouteKey}
 use Rattle.bgp_prefix.proofs.KeyLaws.{prefix_cmp_total, prefix_cmp_exact, prefix_tied, same_prefix}
 use Rattle.bgp_update.specs.declared.route.Route.{Route}
-use Rattle.rib_report.specs.declared.row.SeenRow.{SeenRow}
+use Rattle.rib_report.specs.declared.reports.visibility.SeenRow.{SeenRow}
 use Rattle.peer_tables.specs.Tables.{Seat, TablesState}
 use Rattle.rib_report.specs.Reports.{HasOrder, seat_prefixes, is_visible_at, table_prefixes, visibility_of, visibility_rows}
 use Rattle.rib_report.specs.Rows.{VisibilityRow, seen_row, seen_pair}

@@ -5,10 +5,10 @@ use Rattle.bgp_prefix.specs.declared.key.RouteKey.{RouteKey}
 use Rattle.bgp_update.specs.declared.route.Route.{Route}
 use Rattle.mrt_body.specs.declared.unit.PeerKey.{PeerKey}
 use Rattle.adj_rib.specs.declared.churn.Churn.{Churn}
-use Rattle.rib_report.specs.declared.row.TableRow.{TableRow}
-use Rattle.rib_report.specs.declared.row.SeenRow.{SeenRow}
-use Rattle.rib_report.specs.declared.row.OriginRow.{OriginRow}
-use Rattle.rib_report.specs.declared.row.ChurnRow.{ChurnRow}
+use Rattle.rib_report.specs.declared.reports.tables.TableRow.{TableRow}
+use Rattle.rib_report.specs.declared.reports.visibility.SeenRow.{SeenRow}
+use Rattle.rib_report.specs.declared.reports.origins.OriginRow.{OriginRow}
+use Rattle.rib_report.specs.declared.reports.churn.ChurnRow.{ChurnRow}
 
 -- an entry of a peer's table
 pub record RouteRow : Type 0 where

@@ -1,4 +1,4 @@
-//! Reports written to a sink.
+//! The lines of rows written to a sink.
 
 ghost use Rattle.std.specs.Prelude.{◌≡◌, ℕ, List, OnOk, OnErr, IsErr, Err};
 ghost use Rattle.std.specs.List.{flat_map};
@@ -6,13 +6,9 @@ ghost use Rattle.std.specs.Io.KnownBytes.{Appends};
 ghost use Rattle.mrt_frame.specs.Devices.{HasFailed};
 ghost use Rattle.mrt_frame.specs.Writes.{WritesFront};
 ghost use Rattle.mrt_frame.specs.declared.error.ReplayError.TheVariants as errors;
-ghost use Rattle.rib_report.specs.Rows.{route_row, seen_row, origin_row, churn_row};
-ghost use Rattle.rib_report.specs.Lines.{route_line, visibility_line, origin_line, churn_line, fault_line};
 
 use crate::buffer::TextBuffer;
 use crate::line::Line;
-use crate::row::{ChurnRow, OriginRow, SeenRow, TableRow};
-use mrt_body::Damage;
 use mrt_frame::{Failed, ReplayError, Sink};
 
 /// How many rows are prefetched together before their lines are written.
@@ -37,7 +33,7 @@ fn touch_all<R: Line>(rows: &[R]) -> usize {
 }
 
 /// Writes a line for each row.
-fn write_lines<W: Sink, R: Line>(out: &mut W, rows: &[R]) -> Result<(), ReplayError>
+pub(crate) fn write_lines<W: Sink, R: Line>(out: &mut W, rows: &[R]) -> Result<(), ReplayError>
     ensures ok { OnOk result (Appends (W.contents out.old) (W.contents out.new) (flat_map R.line rows.now)) }
     ensures front { OnErr result (WritesFront (W.contents out.old) (W.contents out.new) (flat_map R.line rows.now)) }
     ensures write { IsErr result → result ≡ Err errors.Write }
@@ -62,60 +58,4 @@ fn write_lines<W: Sink, R: Line>(out: &mut W, rows: &[R]) -> Result<(), ReplayEr
         Ok(()) => Ok(()),
         Err(Failed) => Err(ReplayError::Write),
     }
-}
-
-/// Writes the rows of `table_rows` or `matches`. If it returns `Write`, a leading part of the text has been
-/// written.
-pub fn write_rows<W: Sink>(out: &mut W, rows: &[TableRow<'_>]) -> Result<(), ReplayError>
-    ensures ok { OnOk result (Appends (W.contents out.old) (W.contents out.new) (flat_map (λ row. route_line (route_row row)) rows.now)) }
-    ensures front { OnErr result (WritesFront (W.contents out.old) (W.contents out.new) (flat_map (λ row. route_line (route_row row)) rows.now)) }
-    ensures write { IsErr result → result ≡ Err errors.Write }
-    ensures sound { OnOk result (W.failure_count out.new ≡ W.failure_count out.old) }
-    ensures risen { OnErr result (HasFailed (W.failure_count out.old) (W.failure_count out.new)) }
-{
-    write_lines(out, rows)
-}
-
-/// Writes the rows of `visibility`. If it returns `Write`, a leading part of the text has been written.
-pub fn write_visibility<W: Sink>(out: &mut W, rows: &[SeenRow]) -> Result<(), ReplayError>
-    ensures ok { OnOk result (Appends (W.contents out.old) (W.contents out.new) (flat_map (λ row. visibility_line (seen_row row)) rows.now)) }
-    ensures front { OnErr result (WritesFront (W.contents out.old) (W.contents out.new) (flat_map (λ row. visibility_line (seen_row row)) rows.now)) }
-    ensures write { IsErr result → result ≡ Err errors.Write }
-    ensures sound { OnOk result (W.failure_count out.new ≡ W.failure_count out.old) }
-    ensures risen { OnErr result (HasFailed (W.failure_count out.old) (W.failure_count out.new)) }
-{
-    write_lines(out, rows)
-}
-
-/// Writes the rows of `origins`. If it returns `Write`, a leading part of the text has been written.
-pub fn write_origins<W: Sink>(out: &mut W, rows: &[OriginRow]) -> Result<(), ReplayError>
-    ensures ok { OnOk result (Appends (W.contents out.old) (W.contents out.new) (flat_map (λ row. origin_line (origin_row row)) rows.now)) }
-    ensures front { OnErr result (WritesFront (W.contents out.old) (W.contents out.new) (flat_map (λ row. origin_line (origin_row row)) rows.now)) }
-    ensures write { IsErr result → result ≡ Err errors.Write }
-    ensures sound { OnOk result (W.failure_count out.new ≡ W.failure_count out.old) }
-    ensures risen { OnErr result (HasFailed (W.failure_count out.old) (W.failure_count out.new)) }
-{
-    write_lines(out, rows)
-}
-
-/// Writes the rows of `churn`. If it returns `Write`, a leading part of the text has been written.
-pub fn write_churn<W: Sink>(out: &mut W, rows: &[ChurnRow]) -> Result<(), ReplayError>
-    ensures ok { OnOk result (Appends (W.contents out.old) (W.contents out.new) (flat_map (λ row. churn_line (churn_row row)) rows.now)) }
-    ensures front { OnErr result (WritesFront (W.contents out.old) (W.contents out.new) (flat_map (λ row. churn_line (churn_row row)) rows.now)) }
-    ensures write { IsErr result → result ≡ Err errors.Write }
-    ensures sound { OnOk result (W.failure_count out.new ≡ W.failure_count out.old) }
-    ensures risen { OnErr result (HasFailed (W.failure_count out.old) (W.failure_count out.new)) }
-{
-    write_lines(out, rows)
-}
-
-/// Writes the rows of `faults`. If it returns `Write`, a leading part of the text has been written.
-pub fn write_faults<W: Sink>(out: &mut W, rows: &[Damage]) -> Result<(), ReplayError>
-    ensures ok { OnOk result (Appends (W.contents out.old) (W.contents out.new) (flat_map fault_line rows.now)) }
-    ensures front { OnErr result (WritesFront (W.contents out.old) (W.contents out.new) (flat_map fault_line rows.now)) }
-    ensures write { IsErr result → result ≡ Err errors.Write }
-    ensures sound { OnOk result (W.failure_count out.new ≡ W.failure_count out.old) }
-    ensures risen { OnErr result (HasFailed (W.failure_count out.old) (W.failure_count out.new)) }
-{
-    write_lines(out, rows)
 }

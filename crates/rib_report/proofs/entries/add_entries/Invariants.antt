@@ -1,8 +1,0 @@
--- the rows of the entries so far
-use Rattle.std.proofs.Common.{◌≡◌, ◌++◌, map, take}
-use Rattle.rib_report.specs.Rows.{route_row}
-use Rattle.rib_report.specs.Reports.{entry_row}
-use Rattle.rib_report.proofs.entries.add_entries.Given as goal
-
-abbrev pub invariant-loop-entry : goal.invariant-loop-entry
-invariant-loop-entry g l = map route_row l.rows.items ≡ map route_row l.fn.rows.items ++ map (λ e. entry_row l.peer (e.0, e.1.now)) (take l.entry-index l.entry-items)

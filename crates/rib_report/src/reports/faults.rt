@@ -1,0 +1,164 @@
+//! The report `faults`: the records and units that are damaged. A line holds the place of one, by file, offset and
+//! entry, and the number and name of its fault.
+
+ghost use Rattle.std.specs.Prelude.{◌≡◌, ◌+◌, ◌++◌, IfOk, OnOk, OnErr, IsErr, Err, codes, decimal};
+ghost use Rattle.std.specs.List.{flat_map};
+ghost use Rattle.std.specs.Io.KnownBytes.{Appends};
+ghost use Rattle.mrt_frame.specs.Devices.{HasFailed};
+ghost use Rattle.mrt_frame.specs.Writes.{WritesFront};
+ghost use Rattle.mrt_frame.specs.declared.error.ReplayError.TheVariants as errors;
+ghost use Rattle.peer_tables.specs.Tables.{all_faults};
+ghost use Rattle.rib_report.specs.Reports.{fault_rows};
+ghost use Rattle.rib_report.specs.Digits.{field};
+ghost use Rattle.rib_report.specs.Lines.{fault_number, fault_name, fault_line};
+ghost use Rattle.rib_report.specs.Texts.{Writes};
+
+use crate::buffer::TextBuffer;
+use crate::fields::put_absent;
+use crate::line::Line;
+use crate::write::write_lines;
+use adj_rib::SharedRoute;
+use bgp_prefix::{Memory, PrefixMap};
+use itoa::Buffer;
+use mrt_body::Damage;
+use mrt_frame::{Fault, ReplayError, Sink};
+use peer_tables::Tables;
+use std::alloc::Global;
+
+/// The refusals, and then each peer's faults.
+fn gather_faults<M: PrefixMap<SharedRoute>>(
+    alloc: Global,
+    tables: &Tables<M>,
+) -> Result<Vec<Damage>, Memory>
+    ensures { IfOk result (λ rows. rows.items ≡ all_faults tables.now) }
+{
+    let mut rows = Vec::from_slice(alloc, tables.refused())?;
+    for seat in tables.seats() {
+        rows.extend_from_slice(seat.session.faults())?;
+    }
+    Ok(rows)
+}
+
+/// Returns all faults in place order; where places are equal, the refusals come first, then the peers' by number.
+pub fn faults<M: PrefixMap<SharedRoute>>(
+    alloc: Global,
+    tables: &Tables<M>,
+) -> Result<Vec<Damage>, Memory>
+    ensures { IfOk result (λ rows. rows.items ≡ fault_rows tables.now) }
+{
+    let mut rows = gather_faults(alloc, tables)?;
+    rows.sort_by_key(|damage| damage.place)?;
+    Ok(rows)
+}
+
+/// Adds the number of a file, counted from 1.
+fn put_file<W: Sink>(text: &mut TextBuffer, out: &mut W, file: usize)
+    ensures { Writes W.contents W.failure_count out.old text.old out.new text.new (decimal (file + 1)) }
+{
+    let mut digits = Buffer::new();
+    text.put(out, digits.format(file as u128 + 1).as_bytes());
+}
+
+/// Adds the number of an entry, if there is one.
+fn put_entry<W: Sink>(text: &mut TextBuffer, out: &mut W, entry: Option<u16>)
+    ensures { Writes W.contents W.failure_count out.old text.old out.new text.new (field decimal entry) }
+{
+    match entry {
+        Some(number) => text.put_number(out, number as u64),
+        None => put_absent(text, out),
+    }
+}
+
+/// Adds a fault that concerns an attribute of a given type.
+fn put_attribute_fault<W: Sink>(text: &mut TextBuffer, out: &mut W, code: u8)
+    ensures { Writes W.contents W.failure_count out.old text.old out.new text.new (codes "BadAttribute(" ++ decimal code ++ codes ")") }
+{
+    text.put(out, b"BadAttribute(");
+    text.put_number(out, code as u64);
+    text.put_byte(out, b')');
+}
+
+/// Returns the number of a fault.
+fn number_of(fault: Fault) -> u64
+    ensures { result ≡ fault_number fault }
+{
+    match fault {
+        Fault::ShortHeader => 1,
+        Fault::ShortBody => 2,
+        Fault::BodyTooLong => 3,
+        Fault::ShortRecord => 4,
+        Fault::TrailingBytes => 5,
+        Fault::BadFamily => 6,
+        Fault::NoPeerIndex => 7,
+        Fault::BadPeerIndex => 8,
+        Fault::BadPrefix => 9,
+        Fault::BadMarker => 10,
+        Fault::BadLength => 11,
+        Fault::BadUpdate => 12,
+        Fault::ShortAttribute => 13,
+        Fault::BadAttribute(_) => 14,
+        Fault::BadPath => 15,
+    }
+}
+
+/// Adds the number of a fault.
+fn put_fault_number<W: Sink>(text: &mut TextBuffer, out: &mut W, fault: Fault)
+    ensures { Writes W.contents W.failure_count out.old text.old out.new text.new (decimal (fault_number fault)) }
+{
+    text.put_number(out, number_of(fault));
+}
+
+/// Adds the name of a fault.
+fn put_fault<W: Sink>(text: &mut TextBuffer, out: &mut W, fault: Fault)
+    ensures { Writes W.contents W.failure_count out.old text.old out.new text.new (fault_name fault) }
+{
+    match fault {
+        Fault::ShortHeader => text.put(out, b"ShortHeader"),
+        Fault::ShortBody => text.put(out, b"ShortBody"),
+        Fault::BodyTooLong => text.put(out, b"BodyTooLong"),
+        Fault::ShortRecord => text.put(out, b"ShortRecord"),
+        Fault::TrailingBytes => text.put(out, b"TrailingBytes"),
+        Fault::BadFamily => text.put(out, b"BadFamily"),
+        Fault::NoPeerIndex => text.put(out, b"NoPeerIndex"),
+        Fault::BadPeerIndex => text.put(out, b"BadPeerIndex"),
+        Fault::BadPrefix => text.put(out, b"BadPrefix"),
+        Fault::BadMarker => text.put(out, b"BadMarker"),
+        Fault::BadLength => text.put(out, b"BadLength"),
+        Fault::BadUpdate => text.put(out, b"BadUpdate"),
+        Fault::ShortAttribute => text.put(out, b"ShortAttribute"),
+        Fault::BadAttribute(code) => put_attribute_fault(text, out, code),
+        Fault::BadPath => text.put(out, b"BadPath"),
+    }
+}
+
+impl Line for Damage {
+    ghost line = { fault_line };
+
+    fn touch(&self) -> usize {
+        0
+    }
+
+    fn put<W: Sink>(&self, text: &mut TextBuffer, out: &mut W) {
+        put_file(text, out, self.place.file);
+        text.put_byte(out, b'|');
+        text.put_number(out, self.place.offset);
+        text.put_byte(out, b'|');
+        put_entry(text, out, self.place.entry);
+        text.put_byte(out, b'|');
+        put_fault_number(text, out, self.fault);
+        text.put_byte(out, b'|');
+        put_fault(text, out, self.fault);
+        text.put_byte(out, b'\n');
+    }
+}
+
+/// Writes the rows of `faults`. If it returns `Write`, a leading part of the text has been written.
+pub fn write_faults<W: Sink>(out: &mut W, rows: &[Damage]) -> Result<(), ReplayError>
+    ensures ok { OnOk result (Appends (W.contents out.old) (W.contents out.new) (flat_map fault_line rows.now)) }
+    ensures front { OnErr result (WritesFront (W.contents out.old) (W.contents out.new) (flat_map fault_line rows.now)) }
+    ensures write { IsErr result → result ≡ Err errors.Write }
+    ensures sound { OnOk result (W.failure_count out.new ≡ W.failure_count out.old) }
+    ensures risen { OnErr result (HasFailed (W.failure_count out.old) (W.failure_count out.new)) }
+{
+    write_lines(out, rows)
+}

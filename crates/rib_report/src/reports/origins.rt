@@ -1,0 +1,169 @@
+//! The report `origins`: the prefixes whose routes have two or more origin ASes. A line holds a prefix and these ASes.
+
+ghost use Rattle.std.specs.Prelude.{◌≡◌, ◌≢◌, ◌<◌, ◌≤◌, ◌++◌, [], ◌∷◌, IfOk, OnOk, OnErr, IsErr, Err, map, length};
+ghost use Rattle.std.specs.List.{AllWithin, HoldsAt, filter, filter_map, flat_map};
+ghost use Rattle.std.specs.List.Sorted.{IsStrictlySortedBy};
+ghost use Rattle.std.specs.Io.KnownBytes.{Appends};
+ghost use Rattle.mrt_frame.specs.Devices.{HasFailed};
+ghost use Rattle.mrt_frame.specs.Writes.{WritesFront};
+ghost use Rattle.mrt_frame.specs.declared.error.ReplayError.TheVariants as errors;
+ghost use Rattle.rib_report.specs.Rows.{origin_row};
+ghost use Rattle.rib_report.specs.Runs.{pair_cmp};
+ghost use Rattle.rib_report.specs.Reports.{route_origin, origin_pair, seat_origins, table_origins, has_several, grouped_origins, origin_rows};
+ghost use Rattle.rib_report.specs.Lines.{origin_line};
+ghost use Rattle.rib_report.specs.Texts.{Writes};
+ghost use Rattle.peer_tables.specs.Seats.{seat_of};
+
+use crate::buffer::TextBuffer;
+use crate::fields::put_prefix;
+use crate::line::Line;
+use crate::write::write_lines;
+use adj_rib::SharedRoute;
+use bgp_prefix::{Memory, Prefix, PrefixMap, RouteKey, Sequence};
+use bgp_update::PackedRoute;
+use mrt_frame::{ReplayError, Sink};
+use peer_tables::{Seated, Tables};
+use std::alloc::Global;
+
+/// The origin ASes of a prefix, ascending (RFC 6811, 2).
+#[derive(Drop)]
+pub struct OriginRow {
+    pub prefix: Prefix,
+    pub origins: Sequence<u32>,
+}
+
+/// Returns the origin AS of a route (RFC 6811, 2).
+fn origin_of(route: &PackedRoute) -> Option<u32>
+    ensures { result ≡ route_origin route.now }
+{
+    route.origin_as()
+}
+
+/// Adds the prefix and the origin AS of a route, if it has one.
+fn add_origin(
+    pairs: &mut Vec<(Prefix, u32)>,
+    key: RouteKey,
+    route: &PackedRoute,
+) -> Result<(), Memory>
+    ensures { OnOk result (pairs.new.items ≡ pairs.old.items ++ filter_map origin_pair ((key, route.now) ∷ [])) }
+{
+    if let Some(origin) = origin_of(route) {
+        pairs.push((key.prefix, origin))?;
+    }
+    Ok(())
+}
+
+/// Adds the prefix and the origin AS of each route of one peer that has an origin AS.
+fn add_origins<M: PrefixMap<SharedRoute>>(
+    alloc: Global,
+    pairs: &mut Vec<(Prefix, u32)>,
+    seat: &Seated<M>,
+) -> Result<(), Memory>
+    ensures { OnOk result (pairs.new.items ≡ pairs.old.items ++ seat_origins (seat_of seat.now)) }
+{
+    let entries = seat.session.table().entries(alloc)?;
+    for entry in entries.as_slice() {
+        let (key, shared) = *entry;
+        add_origin(pairs, key, shared.route())?;
+    }
+    Ok(())
+}
+
+/// Returns the prefix and the origin AS of each route that has an origin AS.
+fn all_origins<M: PrefixMap<SharedRoute>>(
+    alloc: Global,
+    tables: &Tables<M>,
+) -> Result<Vec<(Prefix, u32)>, Memory>
+    ensures { IfOk result (λ pairs. pairs.items ≡ table_origins tables.now) }
+{
+    let mut pairs = Vec::new(alloc);
+    for seat in tables.seats() {
+        add_origins(alloc, &mut pairs, seat)?;
+    }
+    Ok(pairs)
+}
+
+/// Returns how many pairs at the front have this prefix.
+fn run_length(pairs: &[(Prefix, u32)], first: Prefix) -> usize
+    ensures within { result ≤ length pairs.now }
+    ensures same { AllWithin (λ e. e.0 ≡ first) pairs.now 0 result }
+    ensures other { result < length pairs.now → HoldsAt (λ e. e.0 ≢ first) pairs.now result }
+{
+    for i in 0..pairs.len() {
+        if pairs[i].0 != first {
+            return i;
+        }
+    }
+    pairs.len()
+}
+
+/// Makes the row of a prefix from its pairs of prefix and origin AS.
+fn row_of_run(alloc: Global, prefix: Prefix, run: &[(Prefix, u32)]) -> Result<OriginRow, Memory>
+    ensures { IfOk result (λ row. origin_row row ≡ record { prefix = prefix; origins = map (λ e. e.1) run.now }) }
+{
+    let mut origins = Vec::with_capacity(alloc, run.len())?;
+    for pair in run {
+        origins.push(pair.1)?;
+    }
+    Ok(OriginRow {
+        prefix,
+        origins: Sequence::from_vec(origins),
+    })
+}
+
+/// Makes a row for each run of at least two pairs with the same prefix.
+fn group_runs(alloc: Global, pairs: &[(Prefix, u32)]) -> Result<Vec<OriginRow>, Memory>
+    requires { IsStrictlySortedBy pair_cmp pairs.now }
+    ensures { IfOk result (λ rows. map origin_row rows.items ≡ filter has_several (grouped_origins pairs.now)) }
+{
+    let mut rows = Vec::new(alloc);
+    let mut rest = pairs;
+    while let [first, ..] = rest {
+        let (run, later) = rest.split_at(run_length(rest, first.0));
+        if run.len() >= 2 {
+            rows.push(row_of_run(alloc, first.0, run)?)?;
+        }
+        rest = later;
+    }
+    Ok(rows)
+}
+
+/// Returns the prefixes whose routes have at least two different origin ASes, by prefix, each with its origin
+/// ASes in ascending order.
+pub fn origins<M: PrefixMap<SharedRoute>>(
+    alloc: Global,
+    tables: &Tables<M>,
+) -> Result<Vec<OriginRow>, Memory>
+    ensures { IfOk result (λ rows. map origin_row rows.items ≡ origin_rows tables.now) }
+{
+    let mut pairs = all_origins(alloc, tables)?;
+    pairs.sort()?;
+    pairs.dedup();
+    group_runs(alloc, pairs.as_slice())
+}
+
+impl Line for OriginRow {
+    ghost line = { λ row. origin_line (origin_row row) };
+
+    fn touch(&self) -> usize {
+        0
+    }
+
+    fn put<W: Sink>(&self, text: &mut TextBuffer, out: &mut W) {
+        put_prefix(text, out, &self.prefix);
+        text.put_byte(out, b'|');
+        text.put_numbers(out, b' ', self.origins.as_slice());
+        text.put_byte(out, b'\n');
+    }
+}
+
+/// Writes the rows of `origins`. If it returns `Write`, a leading part of the text has been written.
+pub fn write_origins<W: Sink>(out: &mut W, rows: &[OriginRow]) -> Result<(), ReplayError>
+    ensures ok { OnOk result (Appends (W.contents out.old) (W.contents out.new) (flat_map (λ row. origin_line (origin_row row)) rows.now)) }
+    ensures front { OnErr result (WritesFront (W.contents out.old) (W.contents out.new) (flat_map (λ row. origin_line (origin_row row)) rows.now)) }
+    ensures write { IsErr result → result ≡ Err errors.Write }
+    ensures sound { OnOk result (W.failure_count out.new ≡ W.failure_count out.old) }
+    ensures risen { OnErr result (HasFailed (W.failure_count out.old) (W.failure_count out.new)) }
+{
+    write_lines(out, rows)
+}

@@ -1,0 +1,233 @@
+//! The report `tables`: every entry of every peer's table. A line holds a peer, a key and its route: path, next hop,
+//! origin, MED, LOCAL_PREF, whether it is an atomic aggregate, and its aggregator.
+
+ghost use Rattle.std.specs.Prelude.{◌≡◌, ◌<◌, ◌≤◌, ◌⊎◌, ◌++◌, IfOk, IfErr, OnOk, OnErr, IsErr, Err, length, map, vec_capacity};
+ghost use Rattle.std.specs.List.{flat_map};
+ghost use Rattle.std.specs.Io.KnownBytes.{Appends};
+ghost use Rattle.mrt_frame.specs.Devices.{HasFailed};
+ghost use Rattle.mrt_frame.specs.Writes.{WritesFront};
+ghost use Rattle.mrt_frame.specs.declared.error.ReplayError.TheVariants as errors;
+ghost use Rattle.peer_tables.specs.Seats.{seat_of};
+ghost use Rattle.rib_report.specs.Rows.{route_row};
+ghost use Rattle.rib_report.specs.Reports.{rows_of_seat, route_rows};
+ghost use Rattle.rib_report.specs.Listings.{reached_lines, seat_lines, most_entries};
+ghost use Rattle.rib_report.specs.Lines.{route_line};
+ghost use Rattle.rib_report.specs.Texts.{Writes};
+
+use crate::buffer::TextBuffer;
+use crate::fields::put_row;
+use crate::line::Line;
+use crate::write::write_lines;
+use adj_rib::SharedRoute;
+use bgp_prefix::{Memory, PrefixMap, RouteKey};
+use bgp_update::PackedRoute;
+use mrt_body::PeerKey;
+use mrt_frame::{Failed, ReplayError, Sink};
+use peer_tables::{Seated, Tables};
+use std::alloc::Global;
+
+/// An entry of a peer's table.
+#[derive(Drop)]
+pub struct TableRow<'a> {
+    pub peer: PeerKey,
+    pub key: RouteKey,
+    pub route: &'a PackedRoute,
+}
+
+/// Adds the entries of one peer's table.
+fn add_entries<'a, M: PrefixMap<SharedRoute>>(
+    alloc: Global,
+    rows: &mut Vec<TableRow<'a>>,
+    seat: &'a Seated<M>,
+) -> Result<(), Memory>
+    ensures { OnOk result (map route_row rows.new.items ≡ map route_row rows.old.items ++ rows_of_seat (seat_of seat.now)) }
+{
+    let peer = seat.key;
+    let entries = seat.session.table().entries(alloc)?;
+    rows.reserve(entries.len())?;
+    for entry in entries.as_slice() {
+        let (key, shared) = *entry;
+        let route = shared.route();
+        let Ok(()) = rows.push(TableRow { peer, key, route }) else {
+            return Err(Memory);
+        };
+    }
+    Ok(())
+}
+
+/// Returns every entry of every table: peers by number, keys in order.
+pub fn table_rows<M: PrefixMap<SharedRoute>>(
+    alloc: Global,
+    tables: &Tables<M>,
+) -> Result<Vec<TableRow<'_>>, Memory>
+    ensures { IfOk result (λ rows. map route_row rows.items ≡ route_rows tables.now) }
+{
+    let mut rows = Vec::new(alloc);
+    for seat in tables.seats() {
+        add_entries(alloc, &mut rows, seat)?;
+    }
+    Ok(rows)
+}
+
+/// How many entries are prefetched together before their lines are added.
+const NEAR_ENTRIES: usize = 64;
+
+/// The same for entries that refer to a lot of data.
+const NEAR_LONG_ENTRIES: usize = 16;
+
+/// Returns the greatest number of entries in the table of any of these peers.
+fn max_entries<M: PrefixMap<SharedRoute>>(seats: &[Seated<M>]) -> usize
+    ensures { result ≡ most_entries (map seat_of seats.now) }
+{
+    let mut most = 0usize;
+    for seat in seats {
+        most = most.max(seat.session.table().len());
+    }
+    most
+}
+
+/// Prefetches a little of what each entry refers to, and returns how many entries to prefetch next. Routes lie
+/// far apart in memory. Reads that don't wait for one another overlap, so the lines are then
+/// added from the processor's cache.
+fn touch_entries(entries: &[(RouteKey, &SharedRoute)]) -> usize
+    ensures { 0 < result }
+{
+    let mut touched = 0usize;
+    for entry in entries {
+        touched = touched.saturating_add(touch_route(entry.1.route()));
+    }
+    if touched > 128 * NEAR_ENTRIES {
+        NEAR_LONG_ENTRIES
+    } else {
+        NEAR_ENTRIES
+    }
+}
+
+/// Adds the lines of some entries of one peer.
+fn put_block<W: Sink>(
+    text: &mut TextBuffer,
+    out: &mut W,
+    peer: PeerKey,
+    block: &[(RouteKey, &SharedRoute)],
+)
+    ensures { Writes W.contents W.failure_count out.old text.old out.new text.new (reached_lines peer block.now) }
+{
+    for entry in block {
+        put_row(text, out, &peer, &entry.0, entry.1.route());
+    }
+}
+
+/// Adds the lines of the entries of one peer. After a failed write, no more lines are made.
+fn put_entries<W: Sink>(
+    text: &mut TextBuffer,
+    out: &mut W,
+    peer: PeerKey,
+    entries: &[(RouteKey, &SharedRoute)],
+)
+    ensures { Writes W.contents W.failure_count out.old text.old out.new text.new (reached_lines peer entries.now) }
+{
+    let mut done = 0;
+    let mut near = NEAR_ENTRIES;
+    while done < entries.len() {
+        if text.has_failed() {
+            return;
+        }
+        let end = entries.len().min(done.saturating_add(near));
+        let block = &entries[done..end];
+        near = touch_entries(block);
+        put_block(text, out, peer, block);
+        done = end;
+    }
+}
+
+/// Adds the lines of one peer's table. Its entries replace the contents of a list that has room for them.
+fn put_table<'a, M: PrefixMap<SharedRoute>, W: Sink>(
+    text: &mut TextBuffer,
+    out: &mut W,
+    all: &mut Vec<(RouteKey, &'a SharedRoute)>,
+    seat: &'a Seated<M>,
+)
+    requires { length (seat_of seat.now).session.table ≤ vec_capacity all.old }
+    ensures lines { Writes W.contents W.failure_count out.old text.old out.new text.new (seat_lines (seat_of seat.now)) }
+    ensures capacity { vec_capacity all.new ≡ vec_capacity all.old }
+{
+    all.clear();
+    seat.session.table().list(all);
+    put_entries(text, out, seat.key, all.as_slice());
+}
+
+/// Adds the lines of every table, in order, by way of one list that has room for the entries of any of them.
+fn put_tables<'a, M: PrefixMap<SharedRoute>, W: Sink>(
+    text: &mut TextBuffer,
+    out: &mut W,
+    mut all: Vec<(RouteKey, &'a SharedRoute)>,
+    seats: &'a [Seated<M>],
+)
+    requires { most_entries (map seat_of seats.now) ≤ vec_capacity all }
+    ensures { Writes W.contents W.failure_count out.old text.old out.new text.new (flat_map seat_lines (map seat_of seats.now)) }
+{
+    for seat in seats {
+        put_table(text, out, &mut all, seat);
+    }
+}
+
+/// Writes what `write_rows` writes of `table_rows`, without a list of all rows. All memory is allocated
+/// before anything is written: if it returns `Memory`, nothing has been written. If it returns `Write`, a
+/// leading part of the text has been written.
+pub fn list_tables<M: PrefixMap<SharedRoute>, W: Sink>(
+    alloc: Global,
+    out: &mut W,
+    tables: &Tables<M>,
+) -> Result<(), ReplayError>
+    ensures ok { OnOk result (Appends (W.contents out.old) (W.contents out.new) (flat_map route_line (route_rows tables.now))) }
+    ensures front { OnErr result (WritesFront (W.contents out.old) (W.contents out.new) (flat_map route_line (route_rows tables.now))) }
+    ensures errors { IfErr result (λ e. (e ≡ errors.Memory) ⊎ (e ≡ errors.Write)) }
+    ensures untouched { result ≡ Err errors.Memory → out.new ≡ out.old }
+    ensures sound { OnOk result (W.failure_count out.new ≡ W.failure_count out.old) }
+    ensures risen { result ≡ Err errors.Write → HasFailed (W.failure_count out.old) (W.failure_count out.new) }
+{
+    let seats = tables.seats();
+    let all = Vec::with_capacity(alloc, max_entries(seats))?;
+    let mut text = TextBuffer::new();
+    put_tables(&mut text, out, all, seats);
+    match text.finish(out) {
+        Ok(()) => Ok(()),
+        Err(Failed) => Err(ReplayError::Write),
+    }
+}
+
+/// Prefetches a route by reading its first and its last byte, and returns about how many bytes it has.
+fn touch_route(route: &PackedRoute) -> usize {
+    let bytes = route.as_bytes();
+    let last = match bytes.last() {
+        Some(byte) => *byte >= 128,
+        None => false,
+    };
+    bytes
+        .len()
+        .saturating_add((route.atomic() != last) as usize)
+}
+
+impl Line for TableRow<'_> {
+    ghost line = { λ row. route_line (route_row row) };
+
+    fn touch(&self) -> usize {
+        touch_route(self.route)
+    }
+
+    fn put<W: Sink>(&self, text: &mut TextBuffer, out: &mut W) {
+        put_row(text, out, &self.peer, &self.key, self.route);
+    }
+}
+
+/// Writes the rows of `table_rows` or `matches`. If it returns `Write`, a leading part of the text has been
+/// written.
+pub fn write_rows<W: Sink>(out: &mut W, rows: &[TableRow<'_>]) -> Result<(), ReplayError>
+    ensures ok { OnOk result (Appends (W.contents out.old) (W.contents out.new) (flat_map (λ row. route_line (route_row row)) rows.now)) }
+    ensures front { OnErr result (WritesFront (W.contents out.old) (W.contents out.new) (flat_map (λ row. route_line (route_row row)) rows.now)) }
+    ensures write { IsErr result → result ≡ Err errors.Write }
+    ensures sound { OnOk result (W.failure_count out.new ≡ W.failure_count out.old) }
+    ensures risen { OnErr result (HasFailed (W.failure_count out.old) (W.failure_count out.new)) }
+{
+    write_lines(out, rows)
+}
