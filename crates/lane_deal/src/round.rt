@@ -118,9 +118,7 @@ fn deal_and_take<
     ensures worked { OnOk result.1 (AllZip (Worked S.stands_for) workers.old workers.new) }
 {
     if workers.len() < 2 && patience.looks < 2 {
-        return deal_then_work(
-            alloc, gate, patience, dealer, units, files, feeds, workers,
-        );
+        return deal_then_work(alloc, gate, patience, dealer, units, files, feeds, workers);
     }
     deal_and_work(
         rt, alloc, gate, patience, dealer, units, files, feeds, workers,

@@ -21,8 +21,5 @@ pub struct Record {
 #[derive(Debug, Drop)]
 pub enum Cut {
     Whole(Record),
-    Broken {
-        offset: u64,
-        fault: Fault,
-    },
+    Broken { offset: u64, fault: Fault },
 }
