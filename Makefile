@@ -31,6 +31,7 @@ help:
 	@echo 'make growths    fails each allocation of the test programs that state what is left then'
 	@echo 'make same       every number of workers and ring gives the same bytes'
 	@echo 'make fuzz       replays damaged dumps (FILES=800 of them; SAMPLES=DIRECTORY adds dumps to damage)'
+	@echo 'make maps       makes ten million drawn calls of the prefix maps beside a plain list'
 	@echo 'make edits      tries further wrong bodies of each crate: the check must refuse them'
 	@echo 'make hostile    replays dumps that are costly to read, at a size and twice that size'
 	@echo 'make bench      measures the program beside bgpdump and others'
@@ -98,6 +99,11 @@ growths:
 	for crate in prefix_tests update_tests table_tests lane_tests replay_tests; do (cd crates/$$crate && rt test) || exit 1; done
 	tests/growths.sh
 
+# Drawn calls of the prefix maps. The two crates are proved first, if they aren't yet.
+maps:
+	for crate in bgp_prefix prefix_shelf; do (cd crates/$$crate && rt check) || exit 1; done
+	tests/maps.sh
+
 same: $(BINARY)
 	tests/same_bytes.sh '$(BINARY)'
 
@@ -113,4 +119,4 @@ bench: $(PROGRAM)
 clean:
 	rm -rf bin dist bench/out crates/*/out
 
-.PHONY: all help run check verdict edits install uninstall dist deb scripts refusals growths same fuzz hostile bench clean
+.PHONY: all help run check verdict edits install uninstall dist deb scripts refusals growths maps same fuzz hostile bench clean
