@@ -5,8 +5,9 @@
 #   tests/maps.sh [CALLS] [SEED..]     CALLS (200000) of each map for each of six kinds of draw and each SEED (1 2 3): 10.8 million
 #   UNPROVED=1 tests/maps.sh CALLS SEED..     the same with no proof, with checks, at some thousand calls a second: tries a changed map
 # A map and kind fails at its first difference, whose seed and call are printed, or where a way of answering never occurred. The program
-# is proved (by JOBS (1) jobs) and built in a repository of its own in the folder for temporary files, bgp_replay_bench/map_calls, over copies of the two crates and of
-# what earlier checks kept of them; the next run finds it there. Needs rt. The last line is `N passed, M failed`.
+# is proved (by JOBS (1) jobs) and built in a repository of its own below the folder for temporary files (bgp_replay_bench/map_calls), over
+# copies of the two crates and of what earlier checks kept of them; the next run finds it there. Needs rt. The last line is `N passed, M
+# failed`.
 set -u
 top=$(dirname "$(dirname "$(realpath "$0")")"); work=$(mktemp -d); trap 'rm -rf "$work"' EXIT
 calls=${1:-200000}; [ $# = 0 ] || shift; [ $# -gt 0 ] || set -- 1 2 3
