@@ -11,10 +11,10 @@ use Rattle.std.proofs.lemmas.List.{append-nil}
 use Rattle.std.proofs.lemmas.List.Elements.{All-cons, All-nil}
 use Rattle.bgp_prefix.specs.Prefixes.{IpPrefix, IsIpPrefix, network_of, leading_bits, Starts}
 use Rattle.bgp_prefix.specs.Keys.{key_cmp, Changes, is_nil}
-use Rattle.bgp_prefix.specs.Tries.{routes, IsTrie, IsUnder, IsRoot, IsRoutes, IsRoutesOf, IsForkOf, IsInserted, branch_of, is_nothing}
+use Rattle.bgp_prefix.specs.Tries.{routes, IsTrie, IsUnder, IsRoot, IsRoutes, IsRoutesOf, IsForkOf, IsInserted, branch_of, is_empty}
 use Rattle.bgp_prefix.specs.declared.key.RouteKey.{RouteKey}
 use Rattle.bgp_prefix.specs.declared.radix.node.Branch.{Branch}
-use Rattle.bgp_prefix.specs.declared.radix.node.Branch.TheVariants.{Nothing, Leaf, Fork, Fork'}
+use Rattle.bgp_prefix.specs.declared.radix.node.Branch.TheVariants.{Empty, Leaf, Fork, Fork'}
 use Rattle.bgp_prefix.specs.declared.radix.node.Fork.{Fork as ForkOf}
 use Rattle.bgp_prefix.proofs.Bits.{fewer_bits, share_fewer, network_bits, IsIpPrefix-network}
 use Rattle.bgp_prefix.proofs.KeyLaws.{key_cmp_total}
@@ -41,17 +41,17 @@ inserted_box old key value f box is done =
 
 -- a branch lies where its root's prefix does
 pub root_under : {V : Type 0} (b : Branch V) (at : IpPrefix) (len bits : ℕ) → IsRoot at b → Starts len bits at → IsUnder len bits b
-root_under Nothing at len bits root s = tt
+root_under Empty at len bits root s = tt
 root_under (Leaf l) at len bits root s = absurd root
 root_under (Fork' p prefix low high here) at len bits root s = rw root s
 
 pub root_starts : {V : Type 0} (b : Branch V) (at : IpPrefix) (len bits : ℕ) → IsRoot at b → IsUnder len bits b → Starts len bits at
-root_starts Nothing at len bits root u = absurd root
+root_starts Empty at len bits root u = absurd root
 root_starts (Leaf l) at len bits root u = absurd root
 root_starts (Fork' p prefix low high here) at len bits root u = subst (Starts len bits) root u
 
-root_is : {V : Type 0} (b : Branch V) (at : IpPrefix) → IsRoot at b → is_nothing b ≡ false
-root_is Nothing at root = absurd root
+root_is : {V : Type 0} (b : Branch V) (at : IpPrefix) → IsRoot at b → is_empty b ≡ false
+root_is Empty at root = absurd root
 root_is (Leaf l) at root = absurd root
 root_is (Fork' p prefix low high here) at root = refl
 
@@ -68,7 +68,7 @@ none_own p = record { sorted = tt; own = All-nil _ }
 alone_under : {V : Type 0} (key : RouteKey) (value : V) (len bits : ℕ) → Starts len bits key.prefix → All (λ (e : RouteKey × V). Starts len bits e.0.prefix) ((key, value) ∷ [])
 alone_under {V} key value len bits s = All-cons (λ (e : RouteKey × V). Starts len bits e.0.prefix) (key, value) [] s (All-nil _)
 
-pub inserted_alone : {V : Type 0} (key : RouteKey) (value : V) → IsIpPrefix key.prefix → IsInserted Nothing (Leaf ((key, value) ∷ [])) key value
+pub inserted_alone : {V : Type 0} (key : RouteKey) (value : V) → IsIpPrefix key.prefix → IsInserted Empty (Leaf ((key, value) ∷ [])) key value
 inserted_alone key value known = record {
   trie = (alone_routes key value known, tt);
   changes = λ q. refl;
@@ -116,7 +116,7 @@ module _ {V : Type 0} (old : Branch V) (at : IpPrefix) (key : RouteKey) (value :
   root_low c same bit = subst (λ (t : ℕ). IsUnder (n + 1) t old) (add-zero (2 * leading_bits n c)) (root_half c 0 same bit)
 
   -- a fork at the key's prefix, over the old branch
-  pub inserted_above : key.prefix.len ≡ n → (is_high : Bool) → leading_bits (n + 1) at.addr ≡ 2 * leading_bits n at.addr + cond is_high 1 0 → let f : ForkOf V = record { prefix = key.prefix; low = Nothing; high = Nothing; here = (key, value) ∷ [] } in IsForkInserted old (cond is_high (record f { high = old }) (record f { low = old })) key value
+  pub inserted_above : key.prefix.len ≡ n → (is_high : Bool) → leading_bits (n + 1) at.addr ≡ 2 * leading_bits n at.addr + cond is_high 1 0 → let f : ForkOf V = record { prefix = key.prefix; low = Empty; high = Empty; here = (key, value) ∷ [] } in IsForkInserted old (cond is_high (record f { high = old }) (record f { low = old })) key value
   inserted_above len true bit = record {
     fork = (known, omega (arith, len, shorter, known_at.short), alone_own key value key.prefix refl, tt, rw len (root_half key.prefix.addr 1 (sym shared.shared) bit), tt, trie, tt);
     changes = λ q. refl;
@@ -137,7 +137,7 @@ module _ {V : Type 0} (old : Branch V) (at : IpPrefix) (key : RouteKey) (value :
       ]
 
   -- a fork at the shared bits, over the old branch and a new leaf
-  pub inserted_between : (c : IpPrefix) → c ≡ record { addr = network_of at.addr n; len = n } → key.prefix.len ≢ n → (is_high : Bool) → leading_bits (n + 1) at.addr ≡ 2 * leading_bits n at.addr + cond is_high 1 0 → let f : ForkOf V = record { prefix = c; low = Nothing; high = Nothing; here = [] } in let g : ForkOf V = cond (not is_high) (record f { high = Leaf ((key, value) ∷ []) }) (record f { low = Leaf ((key, value) ∷ []) }) in IsForkInserted old (cond is_high (record g { high = old }) (record g { low = old })) key value
+  pub inserted_between : (c : IpPrefix) → c ≡ record { addr = network_of at.addr n; len = n } → key.prefix.len ≢ n → (is_high : Bool) → leading_bits (n + 1) at.addr ≡ 2 * leading_bits n at.addr + cond is_high 1 0 → let f : ForkOf V = record { prefix = c; low = Empty; high = Empty; here = [] } in let g : ForkOf V = cond (not is_high) (record f { high = Leaf ((key, value) ∷ []) }) (record f { low = Leaf ((key, value) ∷ []) }) in IsForkInserted old (cond is_high (record g { high = old }) (record g { low = old })) key value
   inserted_between c is longer is_high bit = rw is (between is_high bit)
     where
       leaf : Branch V
@@ -170,13 +170,13 @@ module _ {V : Type 0} (old : Branch V) (at : IpPrefix) (key : RouteKey) (value :
           let long : len ≤ n = fork_under len bits u s in
           record { long = long; shared = share_fewer len n cut.addr at.addr long (omega (arith, shorter, known_at.short)) bits_of_cut ∙ there.shared }
 
-      root_held : is_nothing old ≡ false
+      root_held : is_empty old ≡ false
       root_held = root_is old at root
 
       known_cut : IsIpPrefix cut
       known_cut = IsIpPrefix-network at.addr n known_at.fits (omega (arith, shorter, known_at.short))
 
-      between : (is_high : Bool) → leading_bits (n + 1) at.addr ≡ 2 * leading_bits n at.addr + cond is_high 1 0 → let f : ForkOf V = record { prefix = cut; low = Nothing; high = Nothing; here = [] } in let g : ForkOf V = cond (not is_high) (record f { high = leaf }) (record f { low = leaf }) in IsForkInserted old (cond is_high (record g { high = old }) (record g { low = old })) key value
+      between : (is_high : Bool) → leading_bits (n + 1) at.addr ≡ 2 * leading_bits n at.addr + cond is_high 1 0 → let f : ForkOf V = record { prefix = cut; low = Empty; high = Empty; here = [] } in let g : ForkOf V = cond (not is_high) (record f { high = leaf }) (record f { low = leaf }) in IsForkInserted old (cond is_high (record g { high = old }) (record g { low = old })) key value
       between true bit = record {
         fork = (known_cut, omega (arith, shorter, known_at.short), none_own cut, alone_under key value _ _ (key_low bit), root_half cut.addr 1 bits_of_cut bit, new, trie, rw root_held tt);
         changes = λ q. refl;
@@ -209,7 +209,7 @@ branch_under : {V : Type 0} (es : List (RouteKey × V)) (len bits : ℕ) → All
 branch_under [] len bits h = tt
 branch_under (e ∷ es) len bits h = h
 
-branch_held : {V : Type 0} (es : List (RouteKey × V)) → is_nothing (branch_of es) ≡ is_nil es
+branch_held : {V : Type 0} (es : List (RouteKey × V)) → is_empty (branch_of es) ≡ is_nil es
 branch_held [] = refl
 branch_held (e ∷ es) = refl
 
@@ -293,19 +293,19 @@ module _ {V : Type 0} (key : RouteKey) (value : V) where
       })
 
   pub inserted_low : (old new : Box (ForkOf V) Global) (low : Branch V) → IsFork old.value → Starts (old.value.prefix.len + 1) (2 * leading_bits old.value.prefix.len old.value.prefix.addr) key.prefix → new.value ≡ record old.value { low = low } → IsInserted old.value.low low key value → IsInserted (Fork old) (Fork new) key value
-  inserted_low old new low trie place is done =
+  inserted_low old new low trie starts is done =
       let f = old.value in
       inserted_box (Fork old) key value _ new is (record {
-        fork = (trie.0, trie.1, trie.2, done.under _ _ trie.3 place, trie.4, done.trie, trie.6, rw done.held (low_useful (not (is_nil f.here)) (not (is_nothing f.low)) (not (is_nothing f.high)) trie.7));
-        changes = Changes_low f trie key low (Some value) place done.changes;
+        fork = (trie.0, trie.1, trie.2, done.under _ _ trie.3 starts, trie.4, done.trie, trie.6, rw done.held (low_useful (not (is_nil f.here)) (not (is_empty f.low)) (not (is_empty f.high)) trie.7));
+        changes = Changes_low f trie key low (Some value) starts done.changes;
         under = λ len bits u s. u;
       })
 
   pub inserted_high : (old new : Box (ForkOf V) Global) (high : Branch V) → IsFork old.value → Starts (old.value.prefix.len + 1) (2 * leading_bits old.value.prefix.len old.value.prefix.addr + 1) key.prefix → new.value ≡ record old.value { high = high } → IsInserted old.value.high high key value → IsInserted (Fork old) (Fork new) key value
-  inserted_high old new high trie place is done =
+  inserted_high old new high trie starts is done =
       let f = old.value in
       inserted_box (Fork old) key value _ new is (record {
-        fork = (trie.0, trie.1, trie.2, trie.3, done.under _ _ trie.4 place, trie.5, done.trie, rw done.held (high_useful (not (is_nil f.here)) (not (is_nothing f.low)) (not (is_nothing f.high)) trie.7));
-        changes = Changes_high f trie key high (Some value) place done.changes;
+        fork = (trie.0, trie.1, trie.2, trie.3, done.under _ _ trie.4 starts, trie.5, done.trie, rw done.held (high_useful (not (is_nil f.here)) (not (is_empty f.low)) (not (is_empty f.high)) trie.7));
+        changes = Changes_high f trie key high (Some value) starts done.changes;
         under = λ len bits u s. u;
       })

@@ -100,9 +100,9 @@ pub IsLimit-start : {V : Type 0} (es : List (RouteKey × V)) (addr : ℕ) → T 
 IsLimit-start es addr sorted known = record { sorted = sorted; known = known; short = omega arith; bound = λ k d lt in_k. (known k d lt).short }
 
 -- what a search for the network of that many bits ends at
-module _ {V : Type 0} (es : List (RouteKey × V)) (addr limit place : ℕ) (is : IsLimit es addr limit) (inside : place ≤ length es) (end : IsPartitionPoint (λ e. is_le (prefix_cmp e.0.prefix (network addr limit)) ≡ true) (λ e. is_le (prefix_cmp e.0.prefix (network addr limit)) ≡ false) es place) where
-  match_before : (k : ℕ) (d : RouteKey × V) → k < length es → contains (get_or es k d).0.prefix addr ≡ true → k < place
-  match_before k d lt in_k = elim (cases_lt k place) [
+module _ {V : Type 0} (es : List (RouteKey × V)) (addr limit count : ℕ) (is : IsLimit es addr limit) (inside : count ≤ length es) (end : IsPartitionPoint (λ e. is_le (prefix_cmp e.0.prefix (network addr limit)) ≡ true) (λ e. is_le (prefix_cmp e.0.prefix (network addr limit)) ≡ false) es count) where
+  match_before : (k : ℕ) (d : RouteKey × V) → k < length es → contains (get_or es k d).0.prefix addr ≡ true → k < count
+  match_before k d lt in_k = elim (cases_lt k count) [
     | inl less ↦ less
     | inr past ↦
         let p = (get_or es k d).0.prefix in
@@ -124,36 +124,36 @@ module _ {V : Type 0} (es : List (RouteKey × V)) (addr limit place : ℕ) (is :
     | inr f ↦ f
   ])
 
-  pub none_found : place ≡ 0 → HasNoMatch (finite.from_entries {R = key_cmp} es) addr
+  pub none_found : count ≡ 0 → HasNoMatch (finite.from_entries {R = key_cmp} es) addr
   none_found none = none_of es addr is.known (λ m short. has_none m (λ k d lt in_k len. absurd (omega (arith, none, match_before k d lt in_k))))
 
-  module _ (x : RouteKey × V) (some : 0 < place) (read : x ≡ get_or es (place - 1) x) where
+  module _ (x : RouteKey × V) (some : 0 < count) (read : x ≡ get_or es (count - 1) x) where
     abbrev p : IpPrefix
     p = x.0.prefix
 
-    last : place - 1 < length es
+    last : count - 1 < length es
     last = omega (arith, some, inside)
 
-    read_at : (d : RouteKey × V) → (get_or es (place - 1) d).0.prefix ≡ p
-    read_at d = ap (λ (e : RouteKey × V). e.0.prefix) (get_or_default es (place - 1) d x last ∙ sym read)
+    read_at : (d : RouteKey × V) → (get_or es (count - 1) d).0.prefix ≡ p
+    read_at d = ap (λ (e : RouteKey × V). e.0.prefix) (get_or_default es (count - 1) d x last ∙ sym read)
 
     known_p : IsIpPrefix p
-    known_p = subst IsIpPrefix (read_at x) (is.known (place - 1) x last)
+    known_p = subst IsIpPrefix (read_at x) (is.known (count - 1) x last)
 
     up_to_p : (k : ℕ) (d : RouteKey × V) → k < length es → contains (get_or es k d).0.prefix addr ≡ true → IsUpTo (get_or es k d).0.prefix p
-    up_to_p k d lt in_k = subst (IsUpTo (get_or es k d).0.prefix) (read_at d) (rise es k (place - 1) d is.sorted (omega (arith, some, match_before k d lt in_k)) last)
+    up_to_p k d lt in_k = subst (IsUpTo (get_or es k d).0.prefix) (read_at d) (rise es k (count - 1) d is.sorted (omega (arith, some, match_before k d lt in_k)) last)
 
     pub match_found : contains p addr ≡ true → IsLongestMatch (finite.from_entries {R = key_cmp} es) addr p
     match_found in_p =
         let whole : p ≡ network addr p.len = network_is addr p known_p in_p in
-        let here : list_any (λ (e : RouteKey × V). prefix_eq (network addr p.len) e.0.prefix) es ≡ true = list_any_at (λ (e : RouteKey × V). prefix_eq (network addr p.len) e.0.prefix) es (place - 1) x last (ap (λ (q : IpPrefix). prefix_eq q (get_or es (place - 1) x).0.prefix) (sym (read_at x ∙ whole)) ∙ same_itself (get_or es (place - 1) x).0.prefix) in
+        let here : list_any (λ (e : RouteKey × V). prefix_eq (network addr p.len) e.0.prefix) es ≡ true = list_any_at (λ (e : RouteKey × V). prefix_eq (network addr p.len) e.0.prefix) es (count - 1) x last (ap (λ (q : IpPrefix). prefix_eq q (get_or es (count - 1) x).0.prefix) (sym (read_at x ∙ whole)) ∙ same_itself (get_or es (count - 1) x).0.prefix) in
         let none : (m : ℕ) → p.len < m → m ≤ 32 → list_any (λ (e : RouteKey × V). prefix_eq (network addr m) e.0.prefix) es ≡ false = λ m longer short. has_none m (λ k d lt in_k len. absurd (omega (arith, longer, len, no_longer addr (get_or es k d).0.prefix p (is.known k d lt) known_p in_k in_p (up_to_p k d lt in_k)))) in
         subst (IsLongestMatch (finite.from_entries {R = key_cmp} es) addr) (sym whole) (longest_of es addr p.len is.known here none)
 
     -- where that is no match, it shares fewer bits
     module _ (shared : ℕ) (out : contains p addr ≡ false) (in_p : shared ≤ p.len) (same : leading_bits shared p.addr ≡ leading_bits shared addr) (parted : shared < p.len → leading_bits (shared + 1) p.addr ≢ leading_bits (shared + 1) addr) where
       under : IsUpTo p (network addr limit)
-      under = subst (λ (q : IpPrefix). IsUpTo q (network addr limit)) (read_at x) (up_to_of (get_or es (place - 1) x).0.prefix (network addr limit) (end.0 (place - 1) x (omega arith) (omega (arith, some))))
+      under = subst (λ (q : IpPrefix). IsUpTo q (network addr limit)) (read_at x) (up_to_of (get_or es (count - 1) x).0.prefix (network addr limit) (end.0 (count - 1) x (omega arith) (omega (arith, some))))
 
       fewer_than : (n : ℕ) → leading_bits n p.addr ≡ leading_bits n addr → n ≤ 32 → n < p.len
       fewer_than n bits short = elim (cases_lt n p.len) [

@@ -22,7 +22,7 @@ turned : {A : Type 0} (b : Bool) (x y : A) → cond (not b) x y ≡ cond b y x
 turned true x y = refl
 turned false x y = refl
 
--- an entry put in its place, and a key left out
+-- an entry put where its key belongs, and a key left out
 pub Changes-put : {V : Type 0} (old new : List (RouteKey × V)) (key : RouteKey) (v : V) → new ≡ put key_cmp key v old → Changes old new key (Some v)
 Changes-put old new key v is q = ap (find key_cmp q) is ∙ find-put key_cmp key_cmp_total q key v old
 

@@ -1,4 +1,4 @@
--- The longest match in a branch of the trie, and the nodes on its way.
+-- The longest match in a branch of the trie, and the nodes that are looked at.
 use Rattle.std.proofs.Common.{◌≡◌, ℕ, ◌+◌, ◌*◌, ◌/◌, ◌^◌, ◌<◌, ◌≤◌, Bool, true, false, cond, not, ◌&&◌, List, [], ◌∷◌, ◌++◌, Option, Some, None, refl, sym, ap, ◌∙◌, arith, add-zero, get_or, length, take, drop, suc, ◌⊎◌, inl, inr}
 use Rattle.std.specs.List.{All}
 use Rattle.std.specs.Option.{option_or}
@@ -12,7 +12,7 @@ use Rattle.bgp_prefix.specs.Keys.{is_nil, last_match, matching_prefixes, begins_
 use Rattle.bgp_prefix.specs.Tries.{routes, IsTrie, IsUnder}
 use Rattle.bgp_prefix.specs.declared.key.RouteKey.{RouteKey}
 use Rattle.bgp_prefix.specs.declared.radix.node.Branch.{Branch}
-use Rattle.bgp_prefix.specs.declared.radix.node.Branch.TheVariants.{Nothing, Leaf, Fork'}
+use Rattle.bgp_prefix.specs.declared.radix.node.Branch.TheVariants.{Empty, Leaf, Fork'}
 use Rattle.bgp_prefix.specs.declared.radix.node.Fork.{Fork}
 use Rattle.bgp_prefix.proofs.Bits.{share_fewer}
 use Rattle.bgp_prefix.proofs.KeyLaws.{or_none}
@@ -159,14 +159,14 @@ module _ {V : Type 0} (addr : ℕ) (f : Fork V) (ok : IsFork f) where
     elim is_high as (λ b. IsTrie (cond b f.high f.low)) [ true ↦ ok.6 | false ↦ ok.5 ],
   )
 
-  pub match_way : (is_high : Bool) → leading_bits (f.prefix.len + 1) addr ≡ 2 * leading_bits f.prefix.len addr + cond is_high 1 0 → (is_nil f.here ≡ true) ⊎ (contains f.prefix addr ≡ true) → let child : Branch V = cond is_high f.high f.low in IsMatchOf child × IsTrie child
-  match_way is_high bit (inr in_f) = let m = match_child addr f ok in_f is_high bit in (m.0, m.2)
-  match_way is_high bit (inl none) = (
+  pub match_below : (is_high : Bool) → leading_bits (f.prefix.len + 1) addr ≡ 2 * leading_bits f.prefix.len addr + cond is_high 1 0 → (is_nil f.here ≡ true) ⊎ (contains f.prefix addr ≡ true) → let child : Branch V = cond is_high f.high f.low in IsMatchOf child × IsTrie child
+  match_below is_high bit (inr in_f) = let m = match_child addr f ok in_f is_high bit in (m.0, m.2)
+  match_below is_high bit (inl none) = (
     elim (contains f.prefix addr) as (λ b. contains f.prefix addr ≡ b → IsMatchOf (cond is_high f.high f.low)) [ true ↦ λ in_f. (match_child addr f ok in_f is_high bit).0 | false ↦ λ out. missed_by_all out none is_high ] refl,
     elim is_high as (λ b. IsTrie (cond b f.high f.low)) [ true ↦ ok.6 | false ↦ ok.5 ],
   )
 
--- the match so far, with the fork's own in its place where there is one
+-- the match so far, or the fork's own where there is one
 pub match_kept : {A : Type 0} (below own longest longer whole : Option A) → option_or (option_or below own) longest ≡ whole → option_or own longest ≡ longer → option_or below longer ≡ whole
 match_kept below own longest longer whole e is = ap (option_or below) (sym is) ∙ sym (or_assoc below own longest) ∙ e
 
@@ -185,11 +185,11 @@ no_bits : (p : IpPrefix) → IsIpPrefix p → Starts 0 0 p
 no_bits p known = record { long = omega arith; shared = let none : p.addr / 2 ^ 32 < 1 = div_below p.addr (2 ^ 32) 1 (omega arith) (omega (arith, known.fits)) in omega (arith, none) }
 
 pub under_none : {V : Type 0} (b : Branch V) → IsTrie b → IsUnder 0 0 b
-under_none Nothing ok = tt
+under_none Empty ok = tt
 under_none {V} (Leaf l) ok = All-weaker (λ (e : RouteKey × V). IsIpPrefix e.0.prefix) (λ (e : RouteKey × V). Starts 0 0 e.0.prefix) (λ e is. no_bits e.0.prefix is) l ok.0.known
 under_none (Fork' p prefix low high here) ok = no_bits prefix ok.0
 
--- the last match, place by place from the end
+-- the last match, entry by entry from the end
 module _ {V : Type 0} (addr : ℕ) (es : List (RouteKey × V)) (k : ℕ) (e : RouteKey × V) (in_range : k < length es) (read : e ≡ get_or es k e) (none : last_match (drop (k + 1) es) addr ≡ None) where
   from_here : last_match (drop k es) addr ≡ cond (contains e.0.prefix addr) (Some e.0.prefix) None
   from_here =

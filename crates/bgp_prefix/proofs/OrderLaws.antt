@@ -15,7 +15,7 @@ use Rattle.bgp_prefix.specs.Keys.{key_cmp}
 use Rattle.bgp_prefix.specs.Tries.{routes, IsTrie, IsUnder, IsRoutesOf}
 use Rattle.bgp_prefix.specs.declared.key.RouteKey.{RouteKey}
 use Rattle.bgp_prefix.specs.declared.radix.node.Branch.{Branch}
-use Rattle.bgp_prefix.specs.declared.radix.node.Branch.TheVariants.{Nothing, Leaf, Fork'}
+use Rattle.bgp_prefix.specs.declared.radix.node.Branch.TheVariants.{Empty, Leaf, Fork'}
 use Rattle.bgp_prefix.proofs.TrieLaws.{starts_as_parent}
 
 -- what holds of each key of a list
@@ -113,7 +113,7 @@ module _ {V : Type 0} where
   sorted_parts (e ∷ es) fs h = let rest = sorted_parts es fs (second _ _ h) in (both _ _ (below_parts e.0 es fs (first _ _ h)) rest.0, rest.1)
 
   pub keys_start : (b : Branch V) → IsTrie b → (len bits : ℕ) → IsUnder len bits b → AllKeys (λ k. Starts len bits k.prefix) (routes b)
-  keys_start Nothing ok len bits under = tt
+  keys_start Empty ok len bits under = tt
   keys_start (Leaf l) ok len bits under = AllKeys-from_all (λ k. Starts len bits k.prefix) l under
   keys_start (Fork' p prefix low high here) ok len bits under =
       let P = λ (k : RouteKey). Starts len bits k.prefix in
@@ -126,7 +126,7 @@ module _ {V : Type 0} where
       (AllKeys-weaker (λ k. Starts (prefix.len + 1) (2 * leading_bits prefix.len prefix.addr + 1) k.prefix) P (routes high) (λ k s. starts_as_parent len bits prefix k.prefix 1 ok.1 under (omega arith) s) b))
 
   pub keys_known : (b : Branch V) → IsTrie b → AllKeys (λ k. IsIpPrefix k.prefix) (routes b)
-  keys_known Nothing ok = tt
+  keys_known Empty ok = tt
   keys_known (Leaf l) ok = AllKeys-from_all (λ k. IsIpPrefix k.prefix) l ok.0.known
   keys_known (Fork' p prefix low high here) ok =
       let P = λ (k : RouteKey). IsIpPrefix k.prefix in
@@ -151,7 +151,7 @@ module _ {V : Type 0} where
 
   -- the keys of a branch rise
   pub routes_sorted : (b : Branch V) → IsTrie b → T (is_sorted key_cmp (routes b))
-  routes_sorted Nothing ok = tt
+  routes_sorted Empty ok = tt
   routes_sorted (Leaf l) ok = ok.0.sorted
   routes_sorted (Fork' p prefix low high here) ok =
       let below : T (is_sorted key_cmp (routes low ++ routes high)) = sorted_append (routes low) (routes high) (routes_sorted low ok.5) (routes_sorted high ok.6) (low_below (prefix.len + 1) (2 * leading_bits prefix.len prefix.addr) low high ok.5 ok.6 ok.3 ok.4) in

@@ -9,10 +9,10 @@ use Rattle.std.proofs.lemmas.List.{append-nil}
 use Rattle.std.proofs.lemmas.List.Elements.{All-weaker, All-filter}
 use Rattle.bgp_prefix.specs.Prefixes.{IpPrefix, IsIpPrefix, leading_bits, Starts}
 use Rattle.bgp_prefix.specs.Keys.{key_cmp, Changes, is_nil}
-use Rattle.bgp_prefix.specs.Tries.{routes, IsTrie, IsUnder, IsRoutes, IsRoutesOf, IsUnpruned, IsRemoved, is_nothing, is_idle, heir}
+use Rattle.bgp_prefix.specs.Tries.{routes, IsTrie, IsUnder, IsRoutes, IsRoutesOf, IsUnpruned, IsRemoved, is_empty, is_redundant, only_child}
 use Rattle.bgp_prefix.specs.declared.key.RouteKey.{RouteKey}
 use Rattle.bgp_prefix.specs.declared.radix.node.Branch.{Branch}
-use Rattle.bgp_prefix.specs.declared.radix.node.Branch.TheVariants.{Nothing, Leaf, Fork, Fork'}
+use Rattle.bgp_prefix.specs.declared.radix.node.Branch.TheVariants.{Empty, Leaf, Fork, Fork'}
 use Rattle.bgp_prefix.specs.declared.radix.node.Fork.{Fork as ForkOf}
 use Rattle.bgp_prefix.proofs.KeyLaws.{key_cmp_total, key_cmp_exact, tied_same}
 use Rattle.bgp_prefix.proofs.MapLaws.{Changes-put, Changes-without}
@@ -21,7 +21,7 @@ use Rattle.bgp_prefix.proofs.InsertLaws.{or_first, low_useful, high_useful}
 
 -- a child lies where its parent does
 pub child_under : {V : Type 0} (b : Branch V) (p : IpPrefix) (r len bits : ℕ) → p.len < 32 → r < 2 → IsUnder (p.len + 1) (2 * leading_bits p.len p.addr + r) b → Starts len bits p → IsUnder len bits b
-child_under Nothing p r len bits short h u s = tt
+child_under Empty p r len bits short h u s = tt
 child_under {V} (Leaf l) p r len bits short h u s = All-weaker (λ (e : RouteKey × V). Starts (p.len + 1) (2 * leading_bits p.len p.addr + r) e.0.prefix) (λ (e : RouteKey × V). Starts len bits e.0.prefix) (λ e t. starts_as_parent len bits p e.0.prefix r short s h t) l u
 child_under (Fork' q prefix low high here) p r len bits short h u s = starts_as_parent len bits p prefix r short s h u
 
@@ -88,26 +88,26 @@ held : (a : Bool) → a ≡ false → T (not a)
 held true e = cc
 held false e = tt
 
--- a root that is not idle
-pub busy_trie : {V : Type 0} (b : Branch V) → IsUnpruned b → is_idle b ≡ false → IsTrie b
-busy_trie Nothing ok e = tt
-busy_trie (Leaf l) ok e = (ok, held (is_nil l) e)
-busy_trie (Fork' p prefix low high here) ok e = (ok.0, ok.1, ok.2, ok.3, ok.4, ok.5, ok.6, busy (is_nil here) (is_nothing low) (is_nothing high) e)
+-- a root that is not redundant
+pub kept_root_trie : {V : Type 0} (b : Branch V) → IsUnpruned b → is_redundant b ≡ false → IsTrie b
+kept_root_trie Empty ok e = tt
+kept_root_trie (Leaf l) ok e = (ok, held (is_nil l) e)
+kept_root_trie (Fork' p prefix low high here) ok e = (ok.0, ok.1, ok.2, ok.3, ok.4, ok.5, ok.6, busy (is_nil here) (is_empty low) (is_empty high) e)
 
 no_routes : {V : Type 0} (es : List (RouteKey × V)) → is_nil es ≡ true → es ≡ []
 no_routes [] e = refl
 no_routes (x ∷ xs) e = cc
 
-pub heir_trie : {V : Type 0} (b : Branch V) → IsUnpruned b → IsTrie (heir b)
-heir_trie Nothing ok = tt
-heir_trie (Leaf l) ok = tt
-heir_trie (Fork' p prefix low high here) ok = elim (is_nothing low) as (λ b. IsTrie (if b then high else low)) [ true ↦ ok.6 | false ↦ ok.5 ]
+pub only_child_trie : {V : Type 0} (b : Branch V) → IsUnpruned b → IsTrie (only_child b)
+only_child_trie Empty ok = tt
+only_child_trie (Leaf l) ok = tt
+only_child_trie (Fork' p prefix low high here) ok = elim (is_empty low) as (λ b. IsTrie (if b then high else low)) [ true ↦ ok.6 | false ↦ ok.5 ]
 
-pub heir_under : {V : Type 0} (b : Branch V) → IsUnpruned b → (len bits : ℕ) → IsUnder len bits b → IsUnder len bits (heir b)
-heir_under Nothing ok len bits u = tt
-heir_under (Leaf l) ok len bits u = tt
-heir_under (Fork' p prefix low high here) ok len bits u =
-    elim (is_nothing low) as (λ b. IsUnder len bits (if b then high else low)) [
+pub only_child_under : {V : Type 0} (b : Branch V) → IsUnpruned b → (len bits : ℕ) → IsUnder len bits b → IsUnder len bits (only_child b)
+only_child_under Empty ok len bits u = tt
+only_child_under (Leaf l) ok len bits u = tt
+only_child_under (Fork' p prefix low high here) ok len bits u =
+    elim (is_empty low) as (λ b. IsUnder len bits (if b then high else low)) [
       | true ↦ child_under high prefix 1 len bits ok.1 (omega arith) ok.4 u
       | false ↦ child_under low prefix 0 len bits ok.1 (omega arith) (subst (λ (t : ℕ). IsUnder (prefix.len + 1) t low) (sym (add-zero _)) ok.3) u
     ]
@@ -124,13 +124,13 @@ other_true : (a b : Bool) → a ≡ false → (a || b) ≡ true → b ≡ true
 other_true true b n e = cc
 other_true false b n e = e
 
-pub heir_routes : {V : Type 0} (b : Branch V) → is_idle b ≡ true → routes (heir b) ≡ routes b
-heir_routes Nothing e = refl
-heir_routes (Leaf l) e = sym (no_routes l e)
-heir_routes (Fork' p prefix low high here) e =
+pub only_child_routes : {V : Type 0} (b : Branch V) → is_redundant b ≡ true → routes (only_child b) ≡ routes b
+only_child_routes Empty e = refl
+only_child_routes (Leaf l) e = sym (no_routes l e)
+only_child_routes (Fork' p prefix low high here) e =
     let none = no_routes here (first_true _ _ e) in
     let child = second_true (is_nil here) _ e in
-    elim (is_nothing low) as (λ b. is_nothing low ≡ b → routes (if b then high else low) ≡ here ++ (routes low ++ routes high)) [
+    elim (is_empty low) as (λ b. is_empty low ≡ b → routes (if b then high else low) ≡ here ++ (routes low ++ routes high)) [
       | true ↦ λ n. rw (none, no_branch low n) refl
       | false ↦ λ n. rw (none, no_branch high (other_true _ _ n child)) (sym (append-nil (routes low)))
     ] refl
@@ -160,12 +160,12 @@ module _ {V : Type 0} (key : RouteKey) where
       let changes : Changes (fork_routes f) (here ++ (routes f.low ++ routes f.high)) key None = rw left (removed_here key f trie same) in
       kept_box old box _ is refl (trie.0, trie.1, own, trie.3, trie.4, trie.5, trie.6, or_first _ _ (held (is_nil here) some)) changes
 
-  pub kept_low : (old box : Box (ForkOf V) Global) (low : Branch V) → IsFork old.value → (old.value.prefix.len < key.prefix.len) × (leading_bits (old.value.prefix.len + 1) key.prefix.addr ≡ 2 * leading_bits old.value.prefix.len key.prefix.addr) → box.value ≡ record old.value { low = low } → IsRemoved old.value.low low key → is_nothing low ≡ false → IsRemoved (Fork old) (Fork box) key
-  kept_low old box low trie way is done some =
+  pub kept_low : (old box : Box (ForkOf V) Global) (low : Branch V) → IsFork old.value → (old.value.prefix.len < key.prefix.len) × (leading_bits (old.value.prefix.len + 1) key.prefix.addr ≡ 2 * leading_bits old.value.prefix.len key.prefix.addr) → box.value ≡ record old.value { low = low } → IsRemoved old.value.low low key → is_empty low ≡ false → IsRemoved (Fork old) (Fork box) key
+  kept_low old box low trie direction is done some =
       let f = old.value in
-      kept_box old box _ is refl (trie.0, trie.1, trie.2, done.under _ _ trie.3, trie.4, done.trie, trie.6, rw some (low_useful (not (is_nil f.here)) (not (is_nothing f.low)) (not (is_nothing f.high)) trie.7)) (Changes_low_half f trie key low None way.0 way.1 done.changes)
+      kept_box old box _ is refl (trie.0, trie.1, trie.2, done.under _ _ trie.3, trie.4, done.trie, trie.6, rw some (low_useful (not (is_nil f.here)) (not (is_empty f.low)) (not (is_empty f.high)) trie.7)) (Changes_low_half f trie key low None direction.0 direction.1 done.changes)
 
-  pub kept_high : (old box : Box (ForkOf V) Global) (high : Branch V) → IsFork old.value → (old.value.prefix.len < key.prefix.len) × (leading_bits (old.value.prefix.len + 1) key.prefix.addr ≡ 2 * leading_bits old.value.prefix.len key.prefix.addr + 1) → box.value ≡ record old.value { high = high } → IsRemoved old.value.high high key → is_nothing high ≡ false → IsRemoved (Fork old) (Fork box) key
-  kept_high old box high trie way is done some =
+  pub kept_high : (old box : Box (ForkOf V) Global) (high : Branch V) → IsFork old.value → (old.value.prefix.len < key.prefix.len) × (leading_bits (old.value.prefix.len + 1) key.prefix.addr ≡ 2 * leading_bits old.value.prefix.len key.prefix.addr + 1) → box.value ≡ record old.value { high = high } → IsRemoved old.value.high high key → is_empty high ≡ false → IsRemoved (Fork old) (Fork box) key
+  kept_high old box high trie direction is done some =
       let f = old.value in
-      kept_box old box _ is refl (trie.0, trie.1, trie.2, trie.3, done.under _ _ trie.4, trie.5, done.trie, rw some (high_useful (not (is_nil f.here)) (not (is_nothing f.low)) (not (is_nothing f.high)) trie.7)) (Changes_high_half f trie key high None way.0 way.1 done.changes)
+      kept_box old box _ is refl (trie.0, trie.1, trie.2, trie.3, done.under _ _ trie.4, trie.5, done.trie, rw some (high_useful (not (is_nil f.here)) (not (is_empty f.low)) (not (is_empty f.high)) trie.7)) (Changes_high_half f trie key high None direction.0 direction.1 done.changes)

@@ -101,7 +101,7 @@ greatest Less h = absurd (omega (arith, h))
 greatest Equal h = absurd (omega (arith, h))
 greatest Greater h = refl
 
--- the first place from which no prefix is less
+-- the first position from which no prefix is less
 abbrev pub IsStart : {V : Type 0} → IpPrefix → List (RouteKey × V) → ℕ → Type 0
 IsStart p es i = IsPartitionPoint (λ e. prefix_cmp e.0.prefix p ≡ Less) (λ e. prefix_cmp e.0.prefix p ≢ Less) es i
 
@@ -133,7 +133,7 @@ gap_at_end {V} es k last sorted some at_end below = record {
       | inr le ↦ subst (λ (i : ℕ). key_cmp (get_or es i d).0 k ≡ Less) (omega (arith, le, lt)) (end_less d)
     ]
 
--- where a key stands, or would go, in a list in order, by the keys before a place and the one there
+-- where a key stands, or would go, in a list in order, by the keys before a position and the one there
 pub scanned_at : {V : Type 0} (es : List (RouteKey × V)) (k : RouteKey) (i : ℕ) (e : RouteKey × V) → i < length es → e ≡ get_or es i e → key_cmp e.0 k ≡ Equal → IsAt key_cmp es k i
 scanned_at {V} es k i e in_range read equal = record { in_range = in_range; has_key = λ d. ap (λ (x : RouteKey × V). key_cmp x.0 k) (get_or_default es i d e in_range ∙ sym read) ∙ equal }
 

@@ -5,10 +5,10 @@ use Rattle.std.specs.Option.{option_or, is_some}
 use Rattle.std.specs.FinMap.{find}
 use Rattle.bgp_prefix.specs.Prefixes.{IpPrefix, IsIpPrefix, leading_bits, Starts}
 use Rattle.bgp_prefix.specs.Keys.{key_cmp, Changes, is_nil}
-use Rattle.bgp_prefix.specs.Tries.{routes, IsTrie, IsUnder, IsRoutesOf, is_nothing}
+use Rattle.bgp_prefix.specs.Tries.{routes, IsTrie, IsUnder, IsRoutesOf, is_empty}
 use Rattle.bgp_prefix.specs.declared.key.RouteKey.{RouteKey}
 use Rattle.bgp_prefix.specs.declared.radix.node.Branch.{Branch}
-use Rattle.bgp_prefix.specs.declared.radix.node.Branch.TheVariants.{Nothing, Leaf, Fork'}
+use Rattle.bgp_prefix.specs.declared.radix.node.Branch.TheVariants.{Empty, Leaf, Fork'}
 use Rattle.bgp_prefix.specs.declared.radix.node.Fork.{Fork}
 use Rattle.bgp_prefix.proofs.Bits.{fewer_bits, share_fewer}
 use Rattle.bgp_prefix.proofs.KeyLaws.{find-parts, Changes-front, Changes-back, or_none}
@@ -39,7 +39,7 @@ find_absent P es q all out = elim (find key_cmp q es) as (λ o. find key_cmp q e
 module _ {V : Type 0} where
   -- a key that does not start as the branch does is not in it
   pub find_outside : (b : Branch V) → IsTrie b → (len bits : ℕ) → IsUnder len bits b → (q : RouteKey) → (Starts len bits q.prefix → ⊥) → find key_cmp q (routes b) ≡ None
-  find_outside Nothing ok len bits under q out = refl
+  find_outside Empty ok len bits under q out = refl
   find_outside (Leaf l) ok len bits under q out = find_absent (λ k. Starts len bits k.prefix) l q under out
   find_outside (Fork' p prefix low high here) ok len bits under q out =
       find-parts q here (routes low ++ routes high)
@@ -48,14 +48,14 @@ module _ {V : Type 0} where
       ∙ ap (λ o. option_or o (find key_cmp q (routes high))) (find_outside low ok.5 (prefix.len + 1) (2 * leading_bits prefix.len prefix.addr) ok.3 q (λ s. out (starts_as_parent len bits prefix q.prefix 0 ok.1 under (omega arith) (record { long = s.long; shared = s.shared ∙ sym (add-zero _) }))))
       ∙ find_outside high ok.6 (prefix.len + 1) (2 * leading_bits prefix.len prefix.addr + 1) ok.4 q (λ s. out (starts_as_parent len bits prefix q.prefix 1 ok.1 under (omega arith) s))
 
-  pub no_branch : (b : Branch V) → is_nothing b ≡ true → routes b ≡ []
-  no_branch Nothing e = refl
+  pub no_branch : (b : Branch V) → is_empty b ≡ true → routes b ≡ []
+  no_branch Empty e = refl
   no_branch (Leaf l) e = cc
   no_branch (Fork' p prefix low high here) e = cc
 
   -- what holds of a fork
   abbrev pub IsFork : Fork V → Type 0
-  IsFork f = IsIpPrefix f.prefix × (f.prefix.len < 32) × IsRoutesOf f.prefix f.here × IsUnder (f.prefix.len + 1) (2 * leading_bits f.prefix.len f.prefix.addr) f.low × IsUnder (f.prefix.len + 1) (2 * leading_bits f.prefix.len f.prefix.addr + 1) f.high × IsTrie f.low × IsTrie f.high × T (not (is_nil f.here) || (not (is_nothing f.low) && not (is_nothing f.high)))
+  IsFork f = IsIpPrefix f.prefix × (f.prefix.len < 32) × IsRoutesOf f.prefix f.here × IsUnder (f.prefix.len + 1) (2 * leading_bits f.prefix.len f.prefix.addr) f.low × IsUnder (f.prefix.len + 1) (2 * leading_bits f.prefix.len f.prefix.addr + 1) f.high × IsTrie f.low × IsTrie f.high × T (not (is_nil f.here) || (not (is_empty f.low) && not (is_empty f.high)))
 
   abbrev pub fork_routes : Fork V → List (RouteKey × V)
   fork_routes f = f.here ++ (routes f.low ++ routes f.high)
@@ -82,8 +82,8 @@ module _ {V : Type 0} where
     in_parts : find key_cmp q (fork_routes f) ≡ option_or (find key_cmp q f.here) (option_or (find key_cmp q (routes f.low)) (find key_cmp q (routes f.high)))
     in_parts = find-parts q _ _ ∙ ap (option_or (find key_cmp q f.here)) (find-parts q _ _)
 
-    pub apart_of_fork : (Starts f.prefix.len (leading_bits f.prefix.len f.prefix.addr) q.prefix → ⊥) → find key_cmp q (fork_routes f) ≡ None
-    apart_of_fork out =
+    pub outside_of_fork : (Starts f.prefix.len (leading_bits f.prefix.len f.prefix.addr) q.prefix → ⊥) → find key_cmp q (fork_routes f) ≡ None
+    outside_of_fork out =
         let low : Starts (f.prefix.len + 1) (2 * leading_bits f.prefix.len f.prefix.addr) q.prefix → ⊥ = λ s. out (starts_as_parent _ _ f.prefix q.prefix 0 ok.1 (starts_itself f.prefix) (omega arith) (record { long = s.long; shared = s.shared ∙ sym (add-zero _) })) in
         let high : Starts (f.prefix.len + 1) (2 * leading_bits f.prefix.len f.prefix.addr + 1) q.prefix → ⊥ = λ s. out (starts_as_parent _ _ f.prefix q.prefix 1 ok.1 (starts_itself f.prefix) (omega arith) s) in
         in_parts ∙ rw (other_prefix (λ same. out (rw same (starts_itself f.prefix))), not_low low) (not_high high)

@@ -56,15 +56,15 @@ module _ {V : Type 0} (addr : ℕ) where
         ap (λ t. cond (t && not (begins_with e.0.prefix es)) 1 0 + matching_prefixes es addr) out ∙ omega (arith, rest.1),
       )
 
--- the walk is at a place: what it found in the entries from there on, and what it has still to look at
-pub record IsWalk {V : Type 0} (es : List (RouteKey × V)) (addr place limit steps : ℕ) (longest : Option IpPrefix) : Type 0 where
+-- the walk is at a position: what it found in the entries from there on, and what it has still to look at
+pub record IsWalk {V : Type 0} (es : List (RouteKey × V)) (addr position limit steps : ℕ) (longest : Option IpPrefix) : Type 0 where
   pub sorted : T (is_sorted key_cmp es)
   pub known : All (λ e. IsIpPrefix e.0.prefix) es
-  pub inside : place ≤ length es
-  pub front : AllWithin (λ e. e.0.prefix.addr ≤ addr) es 0 place
-  pub found : longest ≡ last_match (drop place es) addr
-  pub enough : matching_prefixes (drop place es) addr ≤ steps
-  pub left : (k : ℕ) (d : RouteKey × V) → k < place → contains (get_or es k d).0.prefix addr ≡ true → ((get_or es k d).0.prefix.len < limit) ⊎ (begins_with (get_or es k d).0.prefix (drop place es) ≡ true)
+  pub inside : position ≤ length es
+  pub front : AllWithin (λ e. e.0.prefix.addr ≤ addr) es 0 position
+  pub found : longest ≡ last_match (drop position es) addr
+  pub enough : matching_prefixes (drop position es) addr ≤ steps
+  pub left : (k : ℕ) (d : RouteKey × V) → k < position → contains (get_or es k d).0.prefix addr ≡ true → ((get_or es k d).0.prefix.len < limit) ⊎ (begins_with (get_or es k d).0.prefix (drop position es) ≡ true)
   pub most : (l : ℕ) × (limit ≤ l) × (l + steps ≤ 33) × ((len : ℕ) → len ≤ 33 → All (λ e. len ≤ e.0.prefix.len) es → len ≤ l)
 
 -- a prefix that contains the address is no higher
@@ -72,18 +72,18 @@ no_higher : (addr : ℕ) (p : IpPrefix) → IsIpPrefix p → contains p addr ≡
 no_higher addr p known in_p = below_network p p.len addr known (omega arith) known.short (sym (eqb-true _ _ in_p))
 
 module _ {V : Type 0} (es : List (RouteKey × V)) (addr : ℕ) (sorted : T (is_sorted key_cmp es)) (known : All (λ e. IsIpPrefix e.0.prefix) es) where
-  pub IsWalk-start : (place : ℕ) → place ≤ length es → AllWithin (λ e. e.0.prefix.addr ≤ addr) es 0 place → AllWithin (λ e. addr < e.0.prefix.addr) es place (length es) → IsWalk es addr place 33 0 None
-  IsWalk-start place inside front back =
-      let out : All (λ e. contains e.0.prefix addr ≡ false) (drop place es) = λ k d lt.
-      let within : place + k < length es = omega (arith, lt, length-drop place es) in
-      let p = (get_or es (place + k) d).0.prefix in
-      let above : addr < p.addr = back (place + k) d (omega arith) within in
+  pub IsWalk-start : (position : ℕ) → position ≤ length es → AllWithin (λ e. e.0.prefix.addr ≤ addr) es 0 position → AllWithin (λ e. addr < e.0.prefix.addr) es position (length es) → IsWalk es addr position 33 0 None
+  IsWalk-start position inside front back =
+      let out : All (λ e. contains e.0.prefix addr ≡ false) (drop position es) = λ k d lt.
+      let within : position + k < length es = omega (arith, lt, length-drop position es) in
+      let p = (get_or es (position + k) d).0.prefix in
+      let above : addr < p.addr = back (position + k) d (omega arith) within in
       let none : contains p addr ≡ false = elim (cases_Bool (contains p addr)) [
-        | inl t ↦ absurd (omega (arith, above, no_higher addr p (known (place + k) d within) t))
+        | inl t ↦ absurd (omega (arith, above, no_higher addr p (known (position + k) d within) t))
         | inr f ↦ f
       ] in
-      ap (λ (e : RouteKey × V). contains e.0.prefix addr) (get_or-drop place es k d) ∙ none in
-      let none = no_match addr (drop place es) out in
+      ap (λ (e : RouteKey × V). contains e.0.prefix addr) (get_or-drop position es k d) ∙ none in
+      let none = no_match addr (drop position es) out in
       record {
         sorted = sorted;
         known = known;

@@ -42,7 +42,8 @@ begins_with p (e ∷ es) = prefix_eq p e.0.prefix
 -- the number of prefixes that contain the address, in a list in which those of one prefix stand together
 abbrev pub matching_prefixes : {V : Type 0} → List (RouteKey × V) → ℕ → ℕ
 matching_prefixes [] addr = 0
-matching_prefixes (e ∷ es) addr = cond (contains e.0.prefix addr && not (begins_with e.0.prefix es)) 1 0 + matching_prefixes es addr
+matching_prefixes (e ∷ es) addr =
+    cond (contains e.0.prefix addr && not (begins_with e.0.prefix es)) 1 0 + matching_prefixes es addr
 
 -- entries with the values behind their references
 abbrev pub entries_now : {V : Type 0} → List (RouteKey × Bor V) → List (RouteKey × V)

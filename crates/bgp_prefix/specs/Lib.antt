@@ -4,5 +4,5 @@ pub mod Maps
 pub mod Ordered
 pub mod Searches
 pub mod Tries
-pub mod Places
+pub mod Directions
 pub mod Splits

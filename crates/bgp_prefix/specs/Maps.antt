@@ -10,7 +10,8 @@ use Rattle.bgp_prefix.specs.declared.key.RouteKey.{RouteKey}
 pub record IsLongestMatch {V : Type 0} (held : finite.FinMap key_cmp V) (addr : ℕ) (p : IpPrefix) : Type 0 where
   pub held_by : (id : ℕ) × IsTrue (finite.contains_key held (record { prefix = p; id = id }))
   pub matches : IsTrue (contains p addr)
-  pub longest : (k : RouteKey) → IsTrue (finite.contains_key held k) → IsTrue (contains k.prefix addr) → k.prefix ≢ p → k.prefix.len < p.len
+  pub longest : (k : RouteKey) → IsTrue (finite.contains_key held k) → IsTrue (contains k.prefix addr) → k.prefix ≢ p →
+      k.prefix.len < p.len
 
 -- no held key's prefix contains the address
 abbrev pub HasNoMatch : {V : Type 0} → finite.FinMap key_cmp V → ℕ → Type 0

@@ -6,7 +6,8 @@ use Rattle.bgp_prefix.specs.Keys.{is_nil}
 use Rattle.bgp_prefix.specs.declared.key.RouteKey.{RouteKey}
 
 -- a list of routes around a prefix: those of the prefix itself, and those of the longer ones by their next bit
-pub record IsSplit {V : Type 0} (old : List (RouteKey × V)) (at : IpPrefix) (here low high : List (RouteKey × V)) : Type 0 where
+pub record IsSplit {V : Type 0} (old : List (RouteKey × V)) (at : IpPrefix)
+    (here low high : List (RouteKey × V)) : Type 0 where
   pub known : IsIpPrefix at
   pub short : at.len < 32
   pub all : here ++ (low ++ high) ≡ old
@@ -26,7 +27,9 @@ pub record IsCover {V : Type 0} (old : List (RouteKey × V)) (at : IpPrefix) : T
   pub short : at.len < 32
   pub covered : All (λ e. covers at e.0.prefix ≡ true) old
   pub under : (len bits : ℕ) → All (λ e. Starts len bits e.0.prefix) old → Starts len bits at
-  pub parted : Any (λ e. e.0.prefix ≡ at) old ⊎ (Any (λ e. Starts (at.len + 1) (2 * leading_bits at.len at.addr) e.0.prefix) old × Any (λ e. Starts (at.len + 1) (2 * leading_bits at.len at.addr + 1) e.0.prefix) old)
+  pub parted : Any (λ e. e.0.prefix ≡ at) old ⊎
+      (Any (λ e. Starts (at.len + 1) (2 * leading_bits at.len at.addr) e.0.prefix) old ×
+      Any (λ e. Starts (at.len + 1) (2 * leading_bits at.len at.addr + 1) e.0.prefix) old)
 
 -- the first address whose bit after those of the prefix is 1
 abbrev pub upper_half : IpPrefix → ℕ

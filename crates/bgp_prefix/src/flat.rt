@@ -26,8 +26,8 @@ use std::cmp::Ordering;
 use std::marker::Model;
 use std::mem;
 
-/// The most keys of a list that is searched from the front.
-const SHORT: usize = 32;
+/// The most keys of a list that is searched from the front, key by key.
+const SCANNED_KEYS: usize = 32;
 
 /// A finite map from keys to values, as a list in key order.
 #[derive(Drop)]
@@ -47,7 +47,10 @@ impl<V> Model for Flat<V> {
 
     ghost view = { λ p. p.items.items };
 
-    ghost invariant = { λ p. record { sorted : T (is_sorted key_cmp p.items.items); known : All (λ e. IsIpPrefix e.0.prefix) p.items.items } };
+    ghost invariant = { λ p. record {
+      sorted : T (is_sorted key_cmp p.items.items);
+      known : All (λ e. IsIpPrefix e.0.prefix) p.items.items;
+    } };
 }
 
 impl<V: Drop> Flat<V> {
@@ -61,7 +64,7 @@ impl<V: Drop> Flat<V> {
     }
 
     /// Returns a map of one key, in a list with no spare room. An `Err` drops the value.
-    pub(crate) fn one(alloc: Global, key: RouteKey, value: V) -> Result<Flat<V>, Memory>
+    pub(crate) fn single(alloc: Global, key: RouteKey, value: V) -> Result<Flat<V>, Memory>
         ensures { IfOk result (λ one. one ≡ (key, value) ∷ []) }
     {
         // What holds of each prefix is known once it is read.
@@ -90,7 +93,7 @@ impl<V: Drop> Flat<V> {
     {
         match self.items.last() {
             Some(last) if last.0 < *key => Err(self.items.len()),
-            _ if self.items.len() <= SHORT => self.scan(key),
+            _ if self.items.len() <= SCANNED_KEYS => self.scan(key),
             _ => self.items.binary_search_by_key(key, |item| item.0),
         }
     }
@@ -190,7 +193,8 @@ impl<V: Drop> Flat<V> {
     // Where the first key of a prefix is, or would go.
     fn start_of(&self, prefix: &Prefix) -> usize
         ensures bound { result ≤ length self.now }
-        ensures start { IsPartitionPoint (λ e. prefix_cmp e.0.prefix prefix.now ≡ Less) (λ e. prefix_cmp e.0.prefix prefix.now ≢ Less) self.now result }
+        ensures start { IsPartitionPoint (λ e. prefix_cmp e.0.prefix prefix.now ≡ Less)
+            (λ e. prefix_cmp e.0.prefix prefix.now ≢ Less) self.now result }
         ensures sorted { T (is_sorted key_cmp self.now) }
     {
         let first = RouteKey {

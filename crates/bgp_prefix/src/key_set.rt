@@ -1,3 +1,5 @@
+//! Sets of keys, for lookups.
+
 ghost use Rattle.std.specs.Prelude.{◌≡◌, IfOk};
 ghost use Rattle.bgp_prefix.specs.Keys.{among};
 ghost use Rattle.bgp_prefix.specs.declared.key.RouteKey.{RouteKey as KeyValue};

@@ -1,3 +1,5 @@
+//! The trait of finite maps from keys, with longest-prefix match.
+
 ghost use Rattle.std.specs.Prelude.{◌≡◌, ◌+◌, ◌≤◌, ◌++◌, ℕ, OnOk, OnErr, IfOk, IfSome, IfNone, map, vec_len, vec_capacity};
 ghost use Rattle.std.specs.Option.{option_copied};
 ghost use Rattle.std.specs.FinMap as finite;
@@ -40,7 +42,8 @@ pub trait PrefixMap<V: Drop> {
 
     /// Returns the identifiers and values of the keys of a prefix, ascending by identifier.
     fn paths(&self, alloc: Global, prefix: &Prefix) -> Result<Vec<(u32, &V)>, Memory>
-        ensures { IfOk result (λ v. map (λ e. (e.0, e.1.now)) v.items ≡ paths_of prefix.now (finite.entries (contents self.now))) };
+        ensures { IfOk result (λ v. map (λ e. (e.0, e.1.now)) v.items
+            ≡ paths_of prefix.now (finite.entries (contents self.now))) };
 
     /// Removes every key.
     fn clear(&mut self)

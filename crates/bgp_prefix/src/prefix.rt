@@ -1,3 +1,5 @@
+//! IPv4 prefixes (RFC 4271, 4.3), and the bits that they share.
+
 ghost use Rattle.std.specs.Prelude.{◌≡◌, ◌≢◌, ℕ, ◌+◌, ◌-◌, ◌*◌, ◌/◌, ◌^◌, ◌<◌, ◌≤◌, ◌↔◌, IsTrue, IsNone, IsSome, IfSome, MatchOption, if◌then◌else◌};
 ghost use Rattle.bgp_prefix.specs.Prefixes.{IpPrefix, IsIpPrefix, network_of, leading_bits, contains, covers};
 
@@ -35,6 +37,7 @@ impl Prefix {
         Some(Prefix { addr: network, len })
     }
 
+    /// Its address: the bits past the length are 0.
     pub fn addr(&self) -> u32
         ensures addr { result ≡ self.now.addr }
         ensures known { IsIpPrefix self.now }
@@ -42,6 +45,7 @@ impl Prefix {
         self.addr
     }
 
+    /// Its length in bits, at most 32.
     pub fn len(&self) -> u8
         ensures len { result ≡ self.now.len }
         ensures known { IsIpPrefix self.now }
@@ -83,7 +87,8 @@ pub fn shared_len(p: &Prefix, q: &Prefix) -> u8
     ensures in_p { result ≤ p.now.len }
     ensures in_q { result ≤ q.now.len }
     ensures shared { leading_bits result p.now.addr ≡ leading_bits result q.now.addr }
-    ensures longest { result < p.now.len → result < q.now.len → leading_bits (result + 1) p.now.addr ≢ leading_bits (result + 1) q.now.addr }
+    ensures longest { result < p.now.len → result < q.now.len →
+        leading_bits (result + 1) p.now.addr ≢ leading_bits (result + 1) q.now.addr }
     ensures known_p { IsIpPrefix p.now }
     ensures known_q { IsIpPrefix q.now }
 {

@@ -1,10 +1,10 @@
 //! A prefix map as a path-compressed trie whose leaves are short sorted lists.
 
+mod direction;
 mod insertion;
 mod longest_match;
 mod lookup;
 mod node;
-mod place;
 mod removal;
 mod slot;
 
@@ -46,7 +46,8 @@ impl<V: Drop> Radix<V> {
     pub fn longest_steps(&self, addr: u32) -> (Option<Prefix>, u32)
         ensures found { IfSome result.0 (IsLongestMatch (finite.from_entries self.now) addr) }
         ensures none { IfNone result.0 (HasNoMatch (finite.from_entries self.now) addr) }
-        ensures enough { matching_prefixes (finite.entries (finite.from_entries {R = key_cmp} self.now)) addr ≤ result.1 }
+        ensures enough { matching_prefixes (finite.entries (finite.from_entries {R = key_cmp} self.now)) addr
+            ≤ result.1 }
         ensures bound { result.1 ≤ 33 }
     {
         self.root.longest_steps(addr)
@@ -58,7 +59,7 @@ impl<V: Drop> PrefixMap<V> for Radix<V> {
 
     fn new(_alloc: Global) -> Self {
         Radix {
-            root: Branch::Nothing,
+            root: Branch::Empty,
             len: 0,
         }
     }
@@ -99,7 +100,7 @@ impl<V: Drop> PrefixMap<V> for Radix<V> {
     }
 
     fn clear(&mut self) {
-        self.root.set(Branch::Nothing);
+        self.root.set(Branch::Empty);
         self.len = 0;
     }
 

@@ -24,7 +24,7 @@ impl<V: Drop> Flat<V> {
         };
         let mut limit = 32;
         loop {
-            let at = self.up_to(&host.shortened(limit));
+            let at = self.count_up_to(&host.shortened(limit));
             if at == 0 {
                 return None;
             }
@@ -37,9 +37,10 @@ impl<V: Drop> Flat<V> {
     }
 
     // The number of keys whose prefixes are at most this one, in their order.
-    fn up_to(&self, last: &Prefix) -> usize
+    fn count_up_to(&self, last: &Prefix) -> usize
         ensures bound { result ≤ length self.now }
-        ensures end { IsPartitionPoint (λ e. is_le (prefix_cmp e.0.prefix last.now) ≡ true) (λ e. is_le (prefix_cmp e.0.prefix last.now) ≡ false) self.now result }
+        ensures end { IsPartitionPoint (λ e. is_le (prefix_cmp e.0.prefix last.now) ≡ true)
+            (λ e. is_le (prefix_cmp e.0.prefix last.now) ≡ false) self.now result }
     {
         let last = *last;
         self.items
@@ -47,7 +48,7 @@ impl<V: Drop> Flat<V> {
     }
 
     // The number of keys whose addresses are at most this one.
-    fn no_higher(&self, addr: u32) -> usize
+    fn count_up_to_address(&self, addr: u32) -> usize
         ensures bound { result ≤ length self.now }
         ensures end { IsPartitionPoint (λ e. e.0.prefix.addr ≤ addr) (λ e. addr < e.0.prefix.addr) self.now result }
     {
@@ -85,7 +86,7 @@ impl<V: Drop> Flat<V> {
         let mut longest = None;
         let mut steps = 0;
         let mut limit = 33;
-        let mut at = self.no_higher(addr);
+        let mut at = self.count_up_to_address(addr);
         while at > 0 {
             at -= 1;
             let prefix = self.items[at].0.prefix;

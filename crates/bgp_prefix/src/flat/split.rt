@@ -44,7 +44,8 @@ impl<V: Drop> Flat<V> {
     fn own_end(&self, at: &Prefix) -> usize
         requires { IsCover self.now at.now }
         ensures bound { result ≤ length self.now }
-        ensures end { IsPartitionPoint (λ e. prefix_eq e.0.prefix at.now ≡ true) (λ e. prefix_eq e.0.prefix at.now ≡ false) self.now result }
+        ensures end { IsPartitionPoint (λ e. prefix_eq e.0.prefix at.now ≡ true)
+            (λ e. prefix_eq e.0.prefix at.now ≡ false) self.now result }
     {
         let at = *at;
         self.items.partition_point(move |item| item.0.prefix == at)
@@ -54,7 +55,8 @@ impl<V: Drop> Flat<V> {
     fn low_end(&self, at: &Prefix) -> usize
         requires { IsCover self.now at.now }
         ensures bound { result ≤ length self.now }
-        ensures end { IsPartitionPoint (λ e. nat_lt e.0.prefix.addr (upper_half at.now) ≡ true) (λ e. nat_lt e.0.prefix.addr (upper_half at.now) ≡ false) self.now result }
+        ensures end { IsPartitionPoint (λ e. nat_lt e.0.prefix.addr (upper_half at.now) ≡ true)
+            (λ e. nat_lt e.0.prefix.addr (upper_half at.now) ≡ false) self.now result }
     {
         let half = at.addr() as u64 + (1u64 << (31 - at.len() as u32));
         self.items
@@ -92,7 +94,8 @@ fn cut<T: Drop>(items: &mut Vec<T>, first: usize, second: usize) -> Result<(Vec<
     requires order { first ≤ second }
     requires within { second ≤ vec_len items.old }
     ensures left { OnOk result (items.new.items ≡ take first items.old.items) }
-    ensures parts { IfOk result (λ p. (p.0.items ≡ drop first (take second items.old.items)) × (p.1.items ≡ drop second items.old.items)) }
+    ensures parts { IfOk result (λ p. (p.0.items ≡ drop first (take second items.old.items)) ×
+        (p.1.items ≡ drop second items.old.items)) }
     ensures err { OnErr result (items.new.items ≡ items.old.items) }
 {
     let mut last = items.split_off(second)?;

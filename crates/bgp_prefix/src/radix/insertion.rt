@@ -4,12 +4,12 @@ ghost use Rattle.std.specs.Prelude.{◌≡◌, None, IsSome, OnOk, OnErr, IfSome
 ghost use Rattle.std.specs.FinMap.{find};
 ghost use Rattle.bgp_prefix.specs.Prefixes.{IsIpPrefix, leading_bits, Starts};
 ghost use Rattle.bgp_prefix.specs.Keys.{key_cmp};
-ghost use Rattle.bgp_prefix.specs.declared.radix.node.Branch.TheVariants.{Nothing};
+ghost use Rattle.bgp_prefix.specs.declared.radix.node.Branch.TheVariants.{Empty};
 ghost use Rattle.bgp_prefix.specs.Tries.{routes, IsTrie, IsRoot, IsLeaf, IsInserted};
 
+use super::direction::{Direction, direction_of};
 use super::node::{Branch, Fork};
-use super::place::{Place, place_of};
-use super::slot::{exchange, one, take};
+use super::slot::{exchange, remove_into, single};
 use crate::flat::Flat;
 use crate::key::RouteKey;
 use crate::memory::Memory;
@@ -40,15 +40,15 @@ impl<V: Drop> Branch<V> {
         ensures err { OnErr result (self.new ≡ self.old) }
     {
         match self {
-            Branch::Nothing => self.insert_leaf(alloc, key, slot),
+            Branch::Empty => self.insert_leaf(alloc, key, slot),
             Branch::Leaf(_) => self.insert_in_leaf(alloc, key, slot),
             Branch::Fork(fork) => {
                 let at = fork.prefix;
-                match place_of(&at, &key.prefix) {
-                    Place::Here => exchange(&mut fork.here, key, slot),
-                    Place::Low => fork.low.insert(alloc, key, slot),
-                    Place::High => fork.high.insert(alloc, key, slot),
-                    Place::Apart => self.insert_apart(alloc, &at, key, slot),
+                match direction_of(&at, &key.prefix) {
+                    Direction::Here => exchange(&mut fork.here, key, slot),
+                    Direction::Low => fork.low.insert(alloc, key, slot),
+                    Direction::High => fork.high.insert(alloc, key, slot),
+                    Direction::Outside => self.insert_outside(alloc, &at, key, slot),
                 }
             }
         }
@@ -62,14 +62,14 @@ impl<V: Drop> Branch<V> {
         key: &RouteKey,
         slot: &mut Option<V>,
     ) -> Result<(), Memory>
-        requires nothing { self.old ≡ Nothing }
+        requires empty { self.old ≡ Empty }
         requires known { IsIpPrefix key.now.prefix }
         requires given { IsSome slot.old }
         ensures taken { slot.new ≡ None }
         ensures ok { OnOk result (IfSome slot.old (IsInserted self.old self.new key.now)) }
         ensures err { OnErr result (self.new ≡ self.old) }
     {
-        self.set(Branch::Leaf(one(alloc, key, slot)?));
+        self.set(Branch::Leaf(single(alloc, key, slot)?));
         Ok(())
     }
 
@@ -103,7 +103,7 @@ impl<V: Drop> Branch<V> {
                 Ok(())
             }
             Err(e) => {
-                let _ = take(leaf, key, slot);
+                let _ = remove_into(leaf, key, slot);
                 Err(e)
             }
         }
@@ -111,7 +111,7 @@ impl<V: Drop> Branch<V> {
 
     /// Adds a route whose prefix is not covered by the root's prefix `at`, with a fork above both.
     #[inline(never)]
-    fn insert_apart(
+    fn insert_outside(
         &mut self,
         alloc: Global,
         at: &Prefix,
@@ -129,18 +129,18 @@ impl<V: Drop> Branch<V> {
     {
         let shared = shared_len(at, &key.prefix);
         if shared == key.prefix.len() {
-            let here = one(alloc, key, slot)?;
+            let here = single(alloc, key, slot)?;
             let mut fork = Fork::new(alloc, key.prefix, here)?;
             let is_high = bit_after(at.addr(), shared);
-            fork.set_child(is_high, mem::replace(self, Branch::Nothing));
+            fork.set_child(is_high, mem::replace(self, Branch::Empty));
             self.set(Branch::Fork(fork));
             return Ok(());
         }
-        let new = one(alloc, key, slot)?;
+        let new = single(alloc, key, slot)?;
         let mut fork = Fork::new(alloc, at.shortened(shared), Flat::new(alloc))?;
         let is_high = bit_after(at.addr(), shared);
         fork.set_child(!is_high, Branch::Leaf(new));
-        fork.set_child(is_high, mem::replace(self, Branch::Nothing));
+        fork.set_child(is_high, mem::replace(self, Branch::Empty));
         self.set(Branch::Fork(fork));
         Ok(())
     }

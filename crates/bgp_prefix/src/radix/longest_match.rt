@@ -8,7 +8,7 @@ use super::node::Branch;
 use crate::prefix::{Prefix, bit_after};
 
 impl<V: Drop> Branch<V> {
-    /// Returns the longest prefix that contains the address. Usually a leaf has it, and then each fork on the way
+    /// Returns the longest prefix that contains the address. Usually a leaf has it, and then each fork above it
     /// only needs to be looked at for its bit.
     pub(super) fn longest(&self, addr: u32) -> Option<Prefix>
         requires { IsTrie self.now }
@@ -16,7 +16,7 @@ impl<V: Drop> Branch<V> {
     {
         match self.longest_in_leaf(addr) {
             Some(prefix) => Some(prefix),
-            None => self.longest_on_way(addr),
+            None => self.longest_on_descent(addr),
         }
     }
 
@@ -28,7 +28,7 @@ impl<V: Drop> Branch<V> {
         let mut at = self;
         loop {
             match at {
-                Branch::Nothing => return None,
+                Branch::Empty => return None,
                 Branch::Leaf(leaf) => return leaf.last_match(addr),
                 Branch::Fork(fork) => {
                     let Some(branch) = fork.branch(bit_after(addr, fork.prefix.len())) else {
@@ -40,9 +40,9 @@ impl<V: Drop> Branch<V> {
         }
     }
 
-    /// Returns the longest prefix that contains the address, wherever it is.
+    /// Returns the longest prefix that contains the address, whether a leaf or a fork has it.
     #[inline(never)]
-    fn longest_on_way(&self, addr: u32) -> Option<Prefix>
+    fn longest_on_descent(&self, addr: u32) -> Option<Prefix>
         requires { IsTrie self.now }
         ensures { result ≡ last_match (routes self.now) addr }
     {
@@ -50,7 +50,7 @@ impl<V: Drop> Branch<V> {
         let mut found = None;
         loop {
             match at {
-                Branch::Nothing => return found,
+                Branch::Empty => return found,
                 Branch::Leaf(leaf) => return leaf.last_match(addr).or(found),
                 Branch::Fork(fork) => {
                     if !fork.here.is_empty() {
@@ -80,7 +80,7 @@ impl<V: Drop> Branch<V> {
         let mut steps = 0;
         loop {
             match at {
-                Branch::Nothing => return (longest, steps),
+                Branch::Empty => return (longest, steps),
                 Branch::Leaf(leaf) => {
                     let (longer, more) = leaf.longest_steps(addr);
                     return (longer.or(longest), steps + more);

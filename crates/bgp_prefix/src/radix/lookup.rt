@@ -7,14 +7,15 @@ ghost use Rattle.bgp_prefix.specs.Keys.{key_cmp, entries_now};
 ghost use Rattle.bgp_prefix.specs.Maps.{paths_of};
 ghost use Rattle.bgp_prefix.specs.Tries.{routes, IsTrie};
 
+use super::direction::{Direction, direction_of, search_direction};
 use super::node::Branch;
-use super::place::{Place, place_of, way_to};
 use crate::key::RouteKey;
 use crate::memory::Memory;
 use crate::prefix::Prefix;
 use std::alloc::Global;
 
 impl<V: Drop> Branch<V> {
+    /// Returns the value of a key.
     pub(super) fn get(&self, key: &RouteKey) -> Option<&V>
         requires { IsTrie self.now }
         ensures { option_copied result ≡ find key_cmp key.now (routes self.now) }
@@ -22,19 +23,19 @@ impl<V: Drop> Branch<V> {
         let mut at = self;
         loop {
             match at {
-                Branch::Nothing => return None,
+                Branch::Empty => return None,
                 Branch::Leaf(leaf) => return leaf.get(key),
-                Branch::Fork(fork) => match way_to(&fork.prefix, &key.prefix) {
-                    Place::Here => return fork.here.get(key),
-                    Place::Low => match &fork.low {
-                        Branch::Nothing => return None,
+                Branch::Fork(fork) => match search_direction(&fork.prefix, &key.prefix) {
+                    Direction::Here => return fork.here.get(key),
+                    Direction::Low => match &fork.low {
+                        Branch::Empty => return None,
                         low => at = low,
                     },
-                    Place::High => match &fork.high {
-                        Branch::Nothing => return None,
+                    Direction::High => match &fork.high {
+                        Branch::Empty => return None,
                         high => at = high,
                     },
-                    Place::Apart => return None,
+                    Direction::Outside => return None,
                 },
             }
         }
@@ -46,13 +47,13 @@ impl<V: Drop> Branch<V> {
         ensures { IfOk result (λ v. map (λ e. (e.0, e.1.now)) v.items ≡ paths_of prefix.now (routes self.now)) }
     {
         match self {
-            Branch::Nothing => Ok(Vec::new(alloc)),
+            Branch::Empty => Ok(Vec::new(alloc)),
             Branch::Leaf(leaf) => leaf.paths(alloc, prefix),
-            Branch::Fork(fork) => match place_of(&fork.prefix, prefix) {
-                Place::Here => fork.here.paths(alloc, prefix),
-                Place::Low => fork.low.paths(alloc, prefix),
-                Place::High => fork.high.paths(alloc, prefix),
-                Place::Apart => Ok(Vec::new(alloc)),
+            Branch::Fork(fork) => match direction_of(&fork.prefix, prefix) {
+                Direction::Here => fork.here.paths(alloc, prefix),
+                Direction::Low => fork.low.paths(alloc, prefix),
+                Direction::High => fork.high.paths(alloc, prefix),
+                Direction::Outside => Ok(Vec::new(alloc)),
             },
         }
     }
@@ -65,7 +66,7 @@ impl<V: Drop> Branch<V> {
         ensures capacity { vec_capacity all.new ≡ vec_capacity all.old }
     {
         match self {
-            Branch::Nothing => {}
+            Branch::Empty => {}
             Branch::Leaf(leaf) => leaf.append_to(all),
             Branch::Fork(fork) => {
                 fork.here.append_to(all);

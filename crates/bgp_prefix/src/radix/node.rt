@@ -1,22 +1,22 @@
 //! The branches of the trie: leaves, which are short sorted lists, and forks.
 
 ghost use Rattle.std.specs.Prelude.{◌≡◌, OnErr, IfOk, IfSome, IfNone, if◌then◌else◌};
-ghost use Rattle.bgp_prefix.specs.declared.radix.node.Branch.TheVariants.{Nothing};
-ghost use Rattle.bgp_prefix.specs.Tries.{IsForkOf, branch_of, is_nothing};
+ghost use Rattle.bgp_prefix.specs.declared.radix.node.Branch.TheVariants.{Empty};
+ghost use Rattle.bgp_prefix.specs.Tries.{IsForkOf, branch_of, is_empty};
 
 use crate::flat::{Flat, Parts};
 use crate::memory::Memory;
 use crate::prefix::Prefix;
 use std::alloc::Global;
 
-/// A part of the trie: nothing, a leaf with the routes of any prefixes in order, never empty, or a
+/// A part of the trie: empty, a leaf with the routes of any prefixes in order, at least one, or a
 /// fork with two branches. Each prefix with routes is a node: a leaf's block has several nodes
 /// side by side. Forks' lengths increase strictly on the way down, so there are at most 33 levels,
 /// and the derived recursive drop is shallow.
 #[cycle(branch)]
 #[derive(Drop)]
 pub(super) enum Branch<V> {
-    Nothing,
+    Empty,
     Leaf(Flat<V>),
     Fork(Box<Fork<V>>),
 }
@@ -32,22 +32,23 @@ pub(super) struct Fork<V> {
 }
 
 impl<V: Drop> Branch<V> {
-    /// The branch, if there is anything in it.
-    pub(super) fn anything(&self) -> Option<&Branch<V>>
+    /// The branch, if it isn't empty.
+    pub(super) fn nonempty(&self) -> Option<&Branch<V>>
         ensures branch { IfSome result (λ b. b.now ≡ self.now) }
-        ensures nothing { IfNone result (self.now ≡ Nothing) }
+        ensures empty { IfNone result (self.now ≡ Empty) }
     {
         match self {
-            Branch::Nothing => None,
+            Branch::Empty => None,
             branch => Some(branch),
         }
     }
 
-    pub(super) fn is_nothing(&self) -> bool
-        ensures { result ≡ is_nothing self.now }
+    /// Whether there is neither a leaf nor a fork.
+    pub(super) fn is_empty(&self) -> bool
+        ensures { result ≡ is_empty self.now }
     {
         match self {
-            Branch::Nothing => true,
+            Branch::Empty => true,
             _ => false,
         }
     }
@@ -57,12 +58,13 @@ impl<V: Drop> Branch<V> {
         ensures { result ≡ branch_of held }
     {
         if held.is_empty() {
-            Branch::Nothing
+            Branch::Empty
         } else {
             Branch::Leaf(held)
         }
     }
 
+    /// Replaces the branch.
     pub(super) fn set(&mut self, branch: Branch<V>)
         ensures { self.new ≡ branch }
     {
@@ -73,12 +75,13 @@ impl<V: Drop> Branch<V> {
 impl<V: Drop> Fork<V> {
     /// Returns a fork without branches.
     pub(super) fn new(alloc: Global, prefix: Prefix, here: Flat<V>) -> Result<Box<Fork<V>>, Memory>
-        ensures { IfOk result (λ fork. fork.value ≡ record { prefix = prefix; low = Nothing; high = Nothing; here = here }) }
+        ensures { IfOk result (λ fork. fork.value
+            ≡ record { prefix = prefix; low = Empty; high = Empty; here = here }) }
     {
         let fork = Fork {
             prefix,
-            low: Branch::Nothing,
-            high: Branch::Nothing,
+            low: Branch::Empty,
+            high: Branch::Empty,
             here,
         };
         Ok(Box::new(alloc, fork)?)
@@ -104,8 +107,10 @@ impl<V: Drop> Fork<V> {
         Ok(Some(fork))
     }
 
+    /// Sets the fork to these parts of a list, without further forks.
     fn fill(&mut self, parts: Parts<V>)
-        ensures { self.new ≡ record { prefix = parts.at; low = branch_of parts.low; high = branch_of parts.high; here = parts.here } }
+        ensures { self.new
+            ≡ record { prefix = parts.at; low = branch_of parts.low; high = branch_of parts.high; here = parts.here } }
     {
         *self = Fork {
             prefix: parts.at,
@@ -115,19 +120,20 @@ impl<V: Drop> Fork<V> {
         };
     }
 
-    /// Returns the branch of one half, if there is anything in it. Each half is tested separately, so
+    /// Returns the branch of one half, if it isn't empty. Each half is tested separately, so
     /// the way down is a jump, which processors predict, and waits for no node before it.
     pub(super) fn branch(&self, is_high: bool) -> Option<&Branch<V>>
         ensures branch { IfSome result (λ b. b.now ≡ (if is_high then self.now.high else self.now.low)) }
-        ensures nothing { IfNone result ((if is_high then self.now.high else self.now.low) ≡ Nothing) }
+        ensures empty { IfNone result ((if is_high then self.now.high else self.now.low) ≡ Empty) }
     {
         if is_high {
-            self.high.anything()
+            self.high.nonempty()
         } else {
-            self.low.anything()
+            self.low.nonempty()
         }
     }
 
+    /// Replaces the branch of one half.
     pub(super) fn set_child(&mut self, is_high: bool, branch: Branch<V>)
         ensures { self.new ≡ (if is_high then record self.old { high = branch } else record self.old { low = branch }) }
     {

@@ -3,11 +3,11 @@
 ghost use Rattle.std.specs.Prelude.{◌≡◌, ℕ, None};
 ghost use Rattle.std.specs.FinMap.{find};
 ghost use Rattle.bgp_prefix.specs.Keys.{key_cmp};
-ghost use Rattle.bgp_prefix.specs.Tries.{routes, IsTrie, IsUnder, IsUnpruned, IsRemoved, is_nothing, is_idle, heir};
+ghost use Rattle.bgp_prefix.specs.Tries.{routes, IsTrie, IsUnder, IsUnpruned, IsRemoved, is_empty, is_redundant, only_child};
 
+use super::direction::{Direction, search_direction};
 use super::node::Branch;
-use super::place::{Place, way_to};
-use super::slot::take;
+use super::slot::remove_into;
 use crate::key::RouteKey;
 use std::mem;
 
@@ -19,61 +19,61 @@ impl<V: Drop> Branch<V> {
         requires empty { slot.old ≡ None }
         ensures before { slot.new ≡ find key_cmp key.now (routes self.old) }
         ensures removed { IsRemoved self.old self.new key.now }
-        ensures nothing { result ≡ is_nothing self.new }
+        ensures empty { result ≡ is_empty self.new }
     {
         match self {
-            Branch::Nothing => true,
-            Branch::Leaf(leaf) => take(leaf, key, slot) && self.prune(),
-            Branch::Fork(fork) => match way_to(&fork.prefix, &key.prefix) {
-                Place::Here => take(&mut fork.here, key, slot) && self.prune(),
-                Place::Low => fork.low.remove(key, slot) && self.prune(),
-                Place::High => fork.high.remove(key, slot) && self.prune(),
-                Place::Apart => false,
+            Branch::Empty => true,
+            Branch::Leaf(leaf) => remove_into(leaf, key, slot) && self.prune(),
+            Branch::Fork(fork) => match search_direction(&fork.prefix, &key.prefix) {
+                Direction::Here => remove_into(&mut fork.here, key, slot) && self.prune(),
+                Direction::Low => fork.low.remove(key, slot) && self.prune(),
+                Direction::High => fork.high.remove(key, slot) && self.prune(),
+                Direction::Outside => false,
             },
         }
     }
 
-    /// Drops the root if it neither holds routes nor forks. Returns whether nothing is left.
+    /// Replaces a redundant root by its only child, if it has one. Returns whether nothing is left.
     #[inline(never)]
     fn prune(&mut self) -> bool
         requires { IsUnpruned self.old }
         ensures trie { IsTrie self.new }
         ensures routes { routes self.new ≡ routes self.old }
         ensures under { (len : ℕ) → (bits : ℕ) → IsUnder len bits self.old → IsUnder len bits self.new }
-        ensures nothing { result ≡ is_nothing self.new }
+        ensures empty { result ≡ is_empty self.new }
     {
-        if self.is_idle() {
-            let heir = self.heir();
-            self.set(heir);
+        if self.is_redundant() {
+            let only_child = self.take_only_child();
+            self.set(only_child);
         }
-        self.is_nothing()
+        self.is_empty()
     }
 
-    /// Whether the root neither holds routes nor forks.
-    fn is_idle(&self) -> bool
-        ensures { result ≡ is_idle self.now }
+    /// Whether the root is redundant: it neither holds routes nor forks.
+    fn is_redundant(&self) -> bool
+        ensures { result ≡ is_redundant self.now }
     {
         match self {
-            Branch::Nothing => false,
+            Branch::Empty => false,
             Branch::Leaf(leaf) => leaf.is_empty(),
             Branch::Fork(fork) => {
-                fork.here.is_empty() && (fork.low.is_nothing() || fork.high.is_nothing())
+                fork.here.is_empty() && (fork.low.is_empty() || fork.high.is_empty())
             }
         }
     }
 
-    /// What is left below an idle root.
-    fn heir(&mut self) -> Branch<V>
-        ensures { result ≡ heir self.old }
+    /// Takes out what replaces a redundant root: the child of a fork, if there is one.
+    fn take_only_child(&mut self) -> Branch<V>
+        ensures { result ≡ only_child self.old }
     {
         match self {
-            Branch::Nothing => Branch::Nothing,
-            Branch::Leaf(_) => Branch::Nothing,
+            Branch::Empty => Branch::Empty,
+            Branch::Leaf(_) => Branch::Empty,
             Branch::Fork(fork) => {
-                if fork.low.is_nothing() {
-                    mem::replace(&mut fork.high, Branch::Nothing)
+                if fork.low.is_empty() {
+                    mem::replace(&mut fork.high, Branch::Empty)
                 } else {
-                    mem::replace(&mut fork.low, Branch::Nothing)
+                    mem::replace(&mut fork.low, Branch::Empty)
                 }
             }
         }

@@ -14,7 +14,7 @@ use std::alloc::Global;
 
 /// Returns a list of one route, whose value is taken from a slot.
 #[inline(never)]
-pub(super) fn one<V: Drop>(
+pub(super) fn single<V: Drop>(
     alloc: Global,
     key: &RouteKey,
     slot: &mut Option<V>,
@@ -26,7 +26,7 @@ pub(super) fn one<V: Drop>(
     let Some(value) = slot.take() else {
         unreachable!()
     };
-    Flat::one(alloc, *key, value)
+    Flat::single(alloc, *key, value)
 }
 
 /// Sets the value of a key to that of a slot, and leaves the previous one in the slot. An `Err` changes
@@ -51,7 +51,7 @@ pub(super) fn exchange<V: Drop>(
 
 /// Removes a key, and leaves its value in a slot. Returns whether none is left.
 #[inline(never)]
-pub(super) fn take<V: Drop>(held: &mut Flat<V>, key: &RouteKey, slot: &mut Option<V>) -> bool
+pub(super) fn remove_into<V: Drop>(held: &mut Flat<V>, key: &RouteKey, slot: &mut Option<V>) -> bool
     ensures before { slot.new ≡ find key_cmp key.now held.old }
     ensures removed { held.new ≡ where_key key_cmp (λ x. not (eq_by_cmp key_cmp key.now x)) held.old }
     ensures none { result ≡ is_nil held.new }

@@ -9,7 +9,7 @@ returns-then-at-eq0-clause-none g c =
     let l = c.loop-self in
     let host = ap (λ p. p.addr) c.in-Some.ensures.prefix ∙ network_whole c.args.addr in
     let net = c.shortened.ensures.prefix ∙ ap (λ a. network a l.limit) host in
-    none_found c.args.self.now c.args.addr l.limit c.up_to-at.result l.invariant c.up_to-at.ensures.bound (rw net at c.up_to-at.ensures.end) (omega arith)
+    none_found c.args.self.now c.args.addr l.limit c.count_up_to-at.result l.invariant c.count_up_to-at.ensures.bound (rw net at c.count_up_to-at.ensures.end) (omega arith)
 
 pub returns-then-contains-clause-found : goal.returns-then-contains-clause-found
 returns-then-contains-clause-found g c =
@@ -17,7 +17,7 @@ returns-then-contains-clause-found g c =
     let host = ap (λ p. p.addr) c.in-Some.ensures.prefix ∙ network_whole c.args.addr in
     let net = c.shortened.ensures.prefix ∙ ap (λ a. network a l.limit) host in
     let read = rw c.self.view_is at c.index.ensures in
-    match_found c.args.self.now c.args.addr l.limit c.up_to-at.result l.invariant c.up_to-at.ensures.bound (rw net at c.up_to-at.ensures.end) c.index.result.now (omega arith) read (sym c.if-contains.ensures)
+    match_found c.args.self.now c.args.addr l.limit c.count_up_to-at.result l.invariant c.count_up_to-at.ensures.bound (rw net at c.count_up_to-at.ensures.end) c.index.result.now (omega arith) read (sym c.if-contains.ensures)
 
 pub loop-self-smaller : goal.loop-self-smaller
 loop-self-smaller g c =
@@ -27,7 +27,7 @@ loop-self-smaller g c =
     let net = c.shortened.ensures.prefix ∙ ap (λ a. network a l.limit) host in
     let read = rw c.self.view_is at c.index.ensures in
     let s = c.shared_len-limit.ensures in
-    falls c.args.self.now c.args.addr l.limit c.up_to-at.result l.invariant c.up_to-at.ensures.bound (rw net at c.up_to-at.ensures.end) c.index.result.now (omega arith) read c.shared_len-limit.result (sym c.if-contains.ensures) s.in_p (rw host at s.shared) (λ less. rw host at (s.longest less (omega (arith, less, len, s.known_p.short))))
+    falls c.args.self.now c.args.addr l.limit c.count_up_to-at.result l.invariant c.count_up_to-at.ensures.bound (rw net at c.count_up_to-at.ensures.end) c.index.result.now (omega arith) read c.shared_len-limit.result (sym c.if-contains.ensures) s.in_p (rw host at s.shared) (λ less. rw host at (s.longest less (omega (arith, less, len, s.known_p.short))))
 
 pub loop-self-preserved : goal.loop-self-preserved
 loop-self-preserved g c =
@@ -37,4 +37,4 @@ loop-self-preserved g c =
     let net = c.shortened.ensures.prefix ∙ ap (λ a. network a l.limit) host in
     let read = rw c.self.view_is at c.index.ensures in
     let s = c.shared_len-limit.ensures in
-    IsLimit-miss c.args.self.now c.args.addr l.limit c.up_to-at.result l.invariant c.up_to-at.ensures.bound (rw net at c.up_to-at.ensures.end) c.index.result.now (omega arith) read c.shared_len-limit.result (sym c.if-contains.ensures) s.in_p (rw host at s.shared) (λ less. rw host at (s.longest less (omega (arith, less, len, s.known_p.short))))
+    IsLimit-miss c.args.self.now c.args.addr l.limit c.count_up_to-at.result l.invariant c.count_up_to-at.ensures.bound (rw net at c.count_up_to-at.ensures.end) c.index.result.now (omega arith) read c.shared_len-limit.result (sym c.if-contains.ensures) s.in_p (rw host at s.shared) (λ less. rw host at (s.longest less (omega (arith, less, len, s.known_p.short))))

@@ -8,7 +8,7 @@ pub loop-at-init : goal.loop-at-init
 loop-at-init g c =
     let sorted = rw c.self.view_is at c.self.invariant.sorted in
     let known = rw c.self.view_is at c.self.invariant.known in
-    IsWalk-start c.args.self.now c.args.addr sorted known c.no_higher-at.result c.no_higher-at.ensures.bound c.no_higher-at.ensures.end.0 c.no_higher-at.ensures.end.1
+    IsWalk-start c.args.self.now c.args.addr sorted known c.count_up_to_address-at.result c.count_up_to_address-at.ensures.bound c.count_up_to_address-at.ensures.end.0 c.count_up_to_address-at.ensures.end.1
 
 pub loop-at-preserved-then-len-limit : goal.loop-at-preserved-then-len-limit
 loop-at-preserved-then-len-limit g c =

@@ -4,7 +4,7 @@ use Rattle.std.proofs.lemmas.Option.{IfSome_then}
 use Rattle.bgp_prefix.proofs.Outcomes.{ok_then, ok_when}
 use Rattle.bgp_prefix.specs.Keys.{key_cmp}
 use Rattle.bgp_prefix.specs.Tries.{IsTrie, IsInserted}
-use Rattle.bgp_prefix.proofs.TrieLaws.{apart_of_fork, find_here, find_in_low, find_in_high}
+use Rattle.bgp_prefix.proofs.TrieLaws.{outside_of_fork, find_here, find_in_low, find_in_high}
 use Rattle.bgp_prefix.proofs.InsertLaws.{inserted_in_fork, inserted_low, inserted_high}
 use Rattle.bgp_prefix.proofs.radix.node.Branch.+insert.Goals as goal
 
@@ -12,55 +12,55 @@ pub returns-in-Here-clause-before : goal.returns-in-Here-clause-before
 returns-in-Here-clause-before g t c =
     let f = c.in-Fork.fork.value in
     let trie = subst IsTrie c.in-Fork.is c.requires.trie in
-    let place = rw c.deref.ensures at c.in-Here.ensures in
-    rw (c.in-Fork.is, find_here f trie c.args.key.now place) (rw c.deref_mut.ensures.value at c.exchange.ensures.before)
+    let direction = rw c.deref.ensures at c.in-Here.ensures in
+    rw (c.in-Fork.is, find_here f trie c.args.key.now direction) (rw c.deref_mut.ensures.value at c.exchange.ensures.before)
 
 pub returns-in-Here-clause-ok : goal.returns-in-Here-clause-ok
 returns-in-Here-clause-ok g t c =
     let key = c.args.key.now in
     let f = c.in-Fork.fork.value in
     let trie = subst IsTrie c.in-Fork.is c.requires.trie in
-    let place = rw c.deref.ensures at c.in-Here.ensures in
+    let direction = rw c.deref.ensures at c.in-Here.ensures in
     let call = c.exchange in
     let value = c.deref_mut.ensures.value in
-    rw (c.in-Fork.is, value) (ok_then {P = IfSome c.args.slot.now (λ v. call.new.held ≡ put key_cmp key v f.here)} _ (rw value at call.ensures.ok) (λ given. IfSome_then _ {P = λ v. call.new.held ≡ put key_cmp key v f.here} given (λ v is. inserted_in_fork key v _ _ trie place (ap (λ (here : List (_ × _)). record f { here = here }) is))))
+    rw (c.in-Fork.is, value) (ok_then {P = IfSome c.args.slot.now (λ v. call.new.held ≡ put key_cmp key v f.here)} _ (rw value at call.ensures.ok) (λ given. IfSome_then _ {P = λ v. call.new.held ≡ put key_cmp key v f.here} given (λ v is. inserted_in_fork key v _ _ trie direction (ap (λ (here : List (_ × _)). record f { here = here }) is))))
 
 pub returns-in-Low-clause-before : goal.returns-in-Low-clause-before
 returns-in-Low-clause-before g t c =
     let f = c.in-Fork.fork.value in
     let trie = subst IsTrie c.in-Fork.is c.requires.trie in
-    let place = rw c.deref.ensures at c.in-Low.ensures in
-    rw (c.in-Fork.is, find_in_low f trie c.args.key.now place) (rw c.deref_mut-in-Low.ensures.value at c.insert.ensures.before)
+    let direction = rw c.deref.ensures at c.in-Low.ensures in
+    rw (c.in-Fork.is, find_in_low f trie c.args.key.now direction) (rw c.deref_mut-in-Low.ensures.value at c.insert.ensures.before)
 
 pub returns-in-Low-clause-ok : goal.returns-in-Low-clause-ok
 returns-in-Low-clause-ok g t c =
     let key = c.args.key.now in
     let f = c.in-Fork.fork.value in
     let trie = subst IsTrie c.in-Fork.is c.requires.trie in
-    let place = rw c.deref.ensures at c.in-Low.ensures in
+    let direction = rw c.deref.ensures at c.in-Low.ensures in
     let call = c.insert in
     let value = c.deref_mut-in-Low.ensures.value in
-    rw (c.in-Fork.is, value) (ok_then {P = IfSome c.args.slot.now (IsInserted f.low call.new.self key)} _ (rw value at call.ensures.ok) (λ given. IfSome_then _ given (λ v is. inserted_low key v _ _ _ trie place refl is)))
+    rw (c.in-Fork.is, value) (ok_then {P = IfSome c.args.slot.now (IsInserted f.low call.new.self key)} _ (rw value at call.ensures.ok) (λ given. IfSome_then _ given (λ v is. inserted_low key v _ _ _ trie direction refl is)))
 
 pub returns-in-High-clause-before : goal.returns-in-High-clause-before
 returns-in-High-clause-before g t c =
     let f = c.in-Fork.fork.value in
     let trie = subst IsTrie c.in-Fork.is c.requires.trie in
-    let place = rw c.deref.ensures at c.in-High.ensures in
-    rw (c.in-Fork.is, find_in_high f trie c.args.key.now place) (rw c.deref_mut-in-High.ensures.value at c.insert-in-High.ensures.before)
+    let direction = rw c.deref.ensures at c.in-High.ensures in
+    rw (c.in-Fork.is, find_in_high f trie c.args.key.now direction) (rw c.deref_mut-in-High.ensures.value at c.insert-in-High.ensures.before)
 
 pub returns-in-High-clause-ok : goal.returns-in-High-clause-ok
 returns-in-High-clause-ok g t c =
     let key = c.args.key.now in
     let f = c.in-Fork.fork.value in
     let trie = subst IsTrie c.in-Fork.is c.requires.trie in
-    let place = rw c.deref.ensures at c.in-High.ensures in
+    let direction = rw c.deref.ensures at c.in-High.ensures in
     let call = c.insert-in-High in
     let value = c.deref_mut-in-High.ensures.value in
-    rw (c.in-Fork.is, value) (ok_then {P = IfSome c.args.slot.now (IsInserted f.high call.new.self key)} _ (rw value at call.ensures.ok) (λ given. IfSome_then _ given (λ v is. inserted_high key v _ _ _ trie place refl is)))
+    rw (c.in-Fork.is, value) (ok_then {P = IfSome c.args.slot.now (IsInserted f.high call.new.self key)} _ (rw value at call.ensures.ok) (λ given. IfSome_then _ given (λ v is. inserted_high key v _ _ _ trie direction refl is)))
 
-pub returns-in-Apart-clause-before : goal.returns-in-Apart-clause-before
-returns-in-Apart-clause-before g t c =
+pub returns-in-Outside-clause-before : goal.returns-in-Outside-clause-before
+returns-in-Outside-clause-before g t c =
     let trie = subst IsTrie c.in-Fork.is c.requires.trie in
-    let place = rw c.deref.ensures at c.in-Apart.ensures in
-    rw c.in-Fork.is (ok_when _ (c.insert_apart.ensures.taken ∙ sym (apart_of_fork c.in-Fork.fork.value trie c.args.key.now place)))
+    let direction = rw c.deref.ensures at c.in-Outside.ensures in
+    rw c.in-Fork.is (ok_when _ (c.insert_outside.ensures.taken ∙ sym (outside_of_fork c.in-Fork.fork.value trie c.args.key.now direction)))

@@ -10,27 +10,27 @@ pub returns-in-Here : goal.returns-in-Here
 returns-in-Here g t c =
     let f = c.in-Fork.fork.value in
     let trie = subst IsTrie c.in-Fork.is c.requires in
-    let place = rw c.deref.ensures at c.in-Here.ensures in
-    rw (c.in-Fork.is, paths_here c.args.prefix.now f trie place) (rw c.deref-in-Here.ensures at c.paths-in-Here.ensures.paths)
+    let direction = rw c.deref.ensures at c.in-Here.ensures in
+    rw (c.in-Fork.is, paths_here c.args.prefix.now f trie direction) (rw c.deref-in-Here.ensures at c.paths-in-Here.ensures.paths)
 
 pub returns-in-Low : goal.returns-in-Low
 returns-in-Low g t c =
     let f = c.in-Fork.fork.value in
     let trie = subst IsTrie c.in-Fork.is c.requires in
-    let place = rw c.deref.ensures at c.in-Low.ensures in
-    rw (c.in-Fork.is, paths_in_low c.args.prefix.now f trie place) (rw c.deref-in-Low.ensures at c.paths-in-Low.ensures)
+    let direction = rw c.deref.ensures at c.in-Low.ensures in
+    rw (c.in-Fork.is, paths_in_low c.args.prefix.now f trie direction) (rw c.deref-in-Low.ensures at c.paths-in-Low.ensures)
 
 pub returns-in-High : goal.returns-in-High
 returns-in-High g t c =
     let f = c.in-Fork.fork.value in
     let trie = subst IsTrie c.in-Fork.is c.requires in
-    let place = rw c.deref.ensures at c.in-High.ensures in
-    rw (c.in-Fork.is, paths_in_high c.args.prefix.now f trie place) (rw c.deref-in-High.ensures at c.paths-in-High.ensures)
+    let direction = rw c.deref.ensures at c.in-High.ensures in
+    rw (c.in-Fork.is, paths_in_high c.args.prefix.now f trie direction) (rw c.deref-in-High.ensures at c.paths-in-High.ensures)
 
-pub returns-in-Apart : goal.returns-in-Apart
-returns-in-Apart g t c =
+pub returns-in-Outside : goal.returns-in-Outside
+returns-in-Outside g t c =
     let f = c.in-Fork.fork.value in
     let trie = subst IsTrie c.in-Fork.is c.requires in
-    let place = rw c.deref.ensures at c.in-Apart.ensures in
+    let direction = rw c.deref.ensures at c.in-Outside.ensures in
     let under : IsUnder f.prefix.len (leading_bits f.prefix.len f.prefix.addr) (Fork c.in-Fork.fork) = starts_itself f.prefix in
-    rw (c.in-Fork.is, c.new-in-Apart.ensures.items) (sym (paths_outside c.args.prefix.now (Fork c.in-Fork.fork) trie _ _ under place))
+    rw (c.in-Fork.is, c.new-in-Outside.ensures.items) (sym (paths_outside c.args.prefix.now (Fork c.in-Fork.fork) trie _ _ under direction))

@@ -38,6 +38,6 @@ returns-in-Err-clause-err g c =
     let l = c.in-Leaf.leaf in
     let trie = subst IsTrie c.in-Leaf.is c.requires.trie in
     let absent : find key_cmp key l ≡ None = sym c.in_ok-exchange.ensures.before ∙ none_from c.exchange.new.slot (sym c.if-is_some.ensures) in
-    let left = rw c.in-Err.ensures.err at c.take.ensures.removed in
-    let same : c.take.new.held ≡ l = some_then {P = λ v. c.exchange.new.held ≡ put key_cmp key v l} c.args.slot.now c.requires.given c.in_ok-exchange.ensures.ok (λ v is. rw is at left ∙ put_without key l v trie.0.sorted absent) in
+    let left = rw c.in-Err.ensures.err at c.remove_into.ensures.removed in
+    let same : c.remove_into.new.held ≡ l = some_then {P = λ v. c.exchange.new.held ≡ put key_cmp key v l} c.args.slot.now c.requires.given c.in_ok-exchange.ensures.ok (λ v is. rw is at left ∙ put_without key l v trie.0.sorted absent) in
     ap Leaf same ∙ sym c.in-Leaf.is

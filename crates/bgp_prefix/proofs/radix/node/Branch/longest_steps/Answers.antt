@@ -27,9 +27,9 @@ returns-in-Leaf-clause-prefix g c =
 
 pub returns-in-Leaf-clause-bound : goal.returns-in-Leaf-clause-bound
 returns-in-Leaf-clause-bound g c =
-    let way = c.loop-at.invariant.3 in
-    let under = rw c.in-Leaf.is at way.4 in
-    omega (arith, way.2, c.longest_steps-longer.ensures.bound way.0 (omega (arith, way.3)) (longer way.0 way.1 c.in-Leaf.leaf under))
+    let descent = c.loop-at.invariant.3 in
+    let under = rw c.in-Leaf.is at descent.4 in
+    omega (arith, descent.2, c.longest_steps-longer.ensures.bound descent.0 (omega (arith, descent.3)) (longer descent.0 descent.1 c.in-Leaf.leaf under))
 
 pub returns-then-not-contains-clause-prefix : goal.returns-then-not-contains-clause-prefix
 returns-then-not-contains-clause-prefix g c =
@@ -78,7 +78,7 @@ returns-in_default-branch-in-Fork-clause-prefix g c =
       | then-not-is_empty w ↦ own_kept f.prefix f.here _ _ (rw c.deref-in-Fork.ensures at (sym c.is_empty.ensures ∙ w.if-not-is_empty.true)) (rw w.deref-then-not-is_empty.ensures at w.longest-is)
       | else-not-is_empty w ↦ own_none f.prefix f.here _ _ (rw c.deref-in-Fork.ensures at (sym c.is_empty.ensures ∙ w.if-not-is_empty.false)) w.longest-is
     ] in
-    let nothing = rw c.deref-in-Fork-2.ensures at c.in_default-branch-in-Fork.ensures.nothing in
+    let nothing = rw c.deref-in-Fork-2.ensures at c.in_default-branch-in-Fork.ensures.empty in
     subst (λ (b : Branch _). option_or (last_match (routes b) c.args.addr) c.if-not-is_empty.longest ≡ last_match (routes c.args.self.now) c.args.addr) nothing (match_kept _ _ _ _ _ whole own)
 
 pub returns-in_default-branch-in-Fork-clause-enough : goal.returns-in_default-branch-in-Fork-clause-enough
@@ -89,5 +89,5 @@ returns-in_default-branch-in-Fork-clause-enough g c =
     let bit = rw (c.len.ensures.len, c.deref-in-Fork-3.ensures) at c.bit_after.ensures in
     let child = match_child c.args.addr f trie in_f c.bit_after.result bit in
     let few = rw c.in-Fork.is at c.loop-at.invariant.2 in
-    let nothing = rw c.deref-in-Fork-2.ensures at c.in_default-branch-in-Fork.ensures.nothing in
+    let nothing = rw c.deref-in-Fork-2.ensures at c.in_default-branch-in-Fork.ensures.empty in
     omega (arith, few, child.1, ap (λ (b : Branch _). matching_prefixes (routes b) c.args.addr) nothing)

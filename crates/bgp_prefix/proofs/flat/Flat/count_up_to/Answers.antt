@@ -3,7 +3,7 @@ use Rattle.std.proofs.lemmas.Fn.{always_returns_same}
 use Rattle.std.specs.Ordering.{nat_cmp, is_le}
 use Rattle.bgp_prefix.specs.Prefixes.{prefix_cmp}
 use Rattle.bgp_prefix.proofs.JumpLaws.{first_up_to, le_is}
-use Rattle.bgp_prefix.proofs.flat.Flat.up_to.Goals as goal
+use Rattle.bgp_prefix.proofs.flat.Flat.count_up_to.Goals as goal
 
 pub returns-clause-end : goal.returns-clause-end
 returns-clause-end g c =

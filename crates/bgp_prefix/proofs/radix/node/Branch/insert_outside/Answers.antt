@@ -1,7 +1,7 @@
 use Rattle.std.proofs.Common.{◌≡◌, ◌≢◌, [], ◌∷◌, arith}
 use Rattle.std.proofs.lemmas.Option.{IfSome_then}
 use Rattle.bgp_prefix.proofs.InsertLaws.{inserted_box, inserted_above, inserted_between, IsSharedLen}
-use Rattle.bgp_prefix.proofs.radix.node.Branch.insert_apart.Goals as goal
+use Rattle.bgp_prefix.proofs.radix.node.Branch.insert_outside.Goals as goal
 
 pub returns-then-shared-len-clause-ok : goal.returns-then-shared-len-clause-ok
 returns-then-shared-len-clause-ok g c =

@@ -3,7 +3,7 @@ use Rattle.std.proofs.lemmas.Fn.{always_returns_same}
 use Rattle.std.proofs.lemmas.List.Sorted.{IsPartitionedBy-leb}
 use Rattle.bgp_prefix.proofs.SplitLaws.{rise}
 use Rattle.std.proofs.lemmas.Bool.{leb-true, leb-false}
-use Rattle.bgp_prefix.proofs.flat.Flat.no_higher.Goals as goal
+use Rattle.bgp_prefix.proofs.flat.Flat.count_up_to_address.Goals as goal
 
 pub returns-clause-end : goal.returns-clause-end
 returns-clause-end g c =

@@ -6,9 +6,9 @@ use Rattle.bgp_prefix.specs.Tries.{routes, IsTrie, IsUnder}
 use Rattle.bgp_prefix.specs.declared.radix.node.Branch.{Branch}
 use Rattle.bgp_prefix.specs.declared.radix.node.Branch.TheVariants.{Fork}
 use Rattle.bgp_prefix.proofs.TrieLaws.{starts_itself}
-use Rattle.bgp_prefix.proofs.MatchLaws.{no_match, match_way, match_kept, own_kept, own_none, missed}
-use Rattle.bgp_prefix.proofs.radix.node.Branch.longest_on_way.Goals as goal
-use Rattle.bgp_prefix.proofs.radix.node.Branch.longest_on_way.Goals.{then-not-is_empty+else-not-contains, else-not-is_empty}
+use Rattle.bgp_prefix.proofs.MatchLaws.{no_match, match_below, match_kept, own_kept, own_none, missed}
+use Rattle.bgp_prefix.proofs.radix.node.Branch.longest_on_descent.Goals as goal
+use Rattle.bgp_prefix.proofs.radix.node.Branch.longest_on_descent.Goals.{then-not-is_empty+else-not-contains, else-not-is_empty}
 
 pub returns-then-not-contains : goal.returns-then-not-contains
 returns-then-not-contains g c =
@@ -32,9 +32,9 @@ returns-in_default-branch-in-Fork g c =
       | then-not-is_empty+else-not-contains w ↦ own_kept f.prefix f.here _ _ (rw c.deref.ensures at (sym c.is_empty.ensures ∙ w.if-not-is_empty.true)) (rw w.deref-then-not-is_empty-2.ensures at w.found-is)
       | else-not-is_empty w ↦ own_none f.prefix f.here _ _ (rw c.deref.ensures at (sym c.is_empty.ensures ∙ w.if-not-is_empty.false)) w.found-is
     ] in
-    let way = match_way c.args.addr f trie c.bit_after.result bit either in
-    let whole = rw (c.in-Fork.is, way.0) at c.loop-at.invariant.1 in
-    let nothing = rw c.deref-in-Fork.ensures at c.in_default-branch-in-Fork.ensures.nothing in
+    let below = match_below c.args.addr f trie c.bit_after.result bit either in
+    let whole = rw (c.in-Fork.is, below.0) at c.loop-at.invariant.1 in
+    let nothing = rw c.deref-in-Fork.ensures at c.in_default-branch-in-Fork.ensures.empty in
     subst (λ (b : Branch _). option_or (last_match (routes b) c.args.addr) c.if-not-is_empty.found ≡ last_match (routes c.args.self.now) c.args.addr) nothing (match_kept _ _ _ _ _ whole own)
 
 pub loop-at-preserved : goal.loop-at-preserved
@@ -50,6 +50,6 @@ loop-at-preserved g c =
       | then-not-is_empty+else-not-contains w ↦ own_kept f.prefix f.here _ _ (rw c.deref.ensures at (sym c.is_empty.ensures ∙ w.if-not-is_empty.true)) (rw w.deref-then-not-is_empty-2.ensures at w.found-is)
       | else-not-is_empty w ↦ own_none f.prefix f.here _ _ (rw c.deref.ensures at (sym c.is_empty.ensures ∙ w.if-not-is_empty.false)) w.found-is
     ] in
-    let way = match_way c.args.addr f trie c.bit_after.result bit either in
-    let whole = rw (c.in-Fork.is, way.0) at c.loop-at.invariant.1 in
-    rw (rw c.deref-in-Fork.ensures at c.in_Some-branch-in-Fork.ensures.branch) (way.1, match_kept _ _ _ _ _ whole own)
+    let below = match_below c.args.addr f trie c.bit_after.result bit either in
+    let whole = rw (c.in-Fork.is, below.0) at c.loop-at.invariant.1 in
+    rw (rw c.deref-in-Fork.ensures at c.in_Some-branch-in-Fork.ensures.branch) (below.1, match_kept _ _ _ _ _ whole own)
