@@ -7,7 +7,7 @@ use Rattle.std.proofs.lemmas.Bool.{cases_lt}
 use Rattle.std.proofs.lemmas.List.{append-nil, take-append-drop, drop_all, length-append, get_or_append_left, get_or-append_right, get_or_default}
 use Rattle.bgp_prefix.specs.Prefixes.{IpPrefix, prefix_cmp, prefix_eq, contains, leading_bits}
 use Rattle.bgp_prefix.specs.Keys.{key_cmp, is_nil}
-use Rattle.prefix_shelf.specs.Shelves.{in_chunks, first_key, IsRows, EachKey, IsPlaceOf, IsLastUpTo, IsBefore}
+use Rattle.prefix_shelf.specs.Shelves.{in_chunks, first_key, IsRows, EachKey, IsIndexOfPrefix, IsLastUpTo, IsBefore}
 use Rattle.std.specs.List.Sorted.{IsPartitionPoint}
 use Rattle.bgp_prefix.proofs.JumpLaws.{IsLimit, none_found, match_found, falls, IsLimit-miss}
 use Rattle.bgp_prefix.proofs.NetworkLaws.{network}
@@ -75,7 +75,7 @@ module _ {V : Type 0} where
         ],
   )
 
-  module _ (ks : List RouteKey) (cs : List (List (RouteKey × V))) (p : IpPrefix) (i n : ℕ) (c : List (RouteKey × V)) (rows : IsRows ks cs) (is : IsPlaceOf cs p i) (read : c ≡ get_or cs i c) (inside : n ≤ length c) (end : IsEnd p c n) where
+  module _ (ks : List RouteKey) (cs : List (List (RouteKey × V))) (p : IpPrefix) (i n : ℕ) (c : List (RouteKey × V)) (rows : IsRows ks cs) (is : IsIndexOfPrefix cs p i) (read : c ≡ get_or cs i c) (inside : n ≤ length c) (end : IsEnd p c n) where
     whole : in_chunks cs ≡ in_chunks (take i cs) ++ (c ++ in_chunks (drop (suc i) cs))
     whole = around cs i c is.in_range ∙ ap (λ t. in_chunks (take i cs) ++ (t ++ in_chunks (drop (suc i) cs))) (sym read)
 
@@ -87,7 +87,7 @@ module _ {V : Type 0} where
 
     pub none_before : n ≡ 0 → IsLastUpTo (in_chunks cs) p None
     none_before none = record {
-      place = length (in_chunks (take i cs)) + n;
+      count = length (in_chunks (take i cs)) + n;
       inside = within;
       end = point;
       before = elim (cases_lt 0 i) [
@@ -105,12 +105,12 @@ module _ {V : Type 0} where
 
     pub some_before : 0 < n → (q : IpPrefix) → ((d : RouteKey × V) → q ≡ (get_or c (n - 1) d).0.prefix) → IsLastUpTo (in_chunks cs) p (Some q)
     some_before some q has =
-        let place = length (in_chunks (take i cs)) + n in
-        let at : (d : RouteKey × V) → get_or (in_chunks cs) (place - 1) d ≡ get_or c (n - 1) d = λ d.
-        let right : get_or (in_chunks (take i cs) ++ (c ++ in_chunks (drop (suc i) cs))) (place - 1) d ≡ get_or (c ++ in_chunks (drop (suc i) cs)) (place - 1 - length (in_chunks (take i cs))) d = get_or-append_right (in_chunks (take i cs)) (c ++ in_chunks (drop (suc i) cs)) (length (in_chunks (take i cs))) (place - 1) d refl (omega (arith, some)) in
-        let same : place - 1 - length (in_chunks (take i cs)) ≡ n - 1 = omega (arith, some) in
-        ap (λ (es : List (RouteKey × V)). get_or es (place - 1) d) whole ∙ right ∙ ap (λ (m : ℕ). get_or (c ++ in_chunks (drop (suc i) cs)) m d) same ∙ get_or_append_left c (in_chunks (drop (suc i) cs)) d (n - 1) (omega (arith, some, inside)) in
-        record { place = place; inside = within; end = point; before = held c refl at }
+        let count = length (in_chunks (take i cs)) + n in
+        let at : (d : RouteKey × V) → get_or (in_chunks cs) (count - 1) d ≡ get_or c (n - 1) d = λ d.
+        let right : get_or (in_chunks (take i cs) ++ (c ++ in_chunks (drop (suc i) cs))) (count - 1) d ≡ get_or (c ++ in_chunks (drop (suc i) cs)) (count - 1 - length (in_chunks (take i cs))) d = get_or-append_right (in_chunks (take i cs)) (c ++ in_chunks (drop (suc i) cs)) (length (in_chunks (take i cs))) (count - 1) d refl (omega (arith, some)) in
+        let same : count - 1 - length (in_chunks (take i cs)) ≡ n - 1 = omega (arith, some) in
+        ap (λ (es : List (RouteKey × V)). get_or es (count - 1) d) whole ∙ right ∙ ap (λ (m : ℕ). get_or (c ++ in_chunks (drop (suc i) cs)) m d) same ∙ get_or_append_left c (in_chunks (drop (suc i) cs)) d (n - 1) (omega (arith, some, inside)) in
+        record { count = count; inside = within; end = point; before = held c refl at }
       where
         held : (es : List (RouteKey × V)) → es ≡ c → ((d : RouteKey × V) → get_or (in_chunks cs) (length (in_chunks (take i cs)) + n - 1) d ≡ get_or c (n - 1) d) → IsBefore (in_chunks cs) (length (in_chunks (take i cs)) + n) (Some q)
         held [] same at = absurd (omega (arith, ap length same, inside, some))
@@ -124,15 +124,15 @@ module _ {V : Type 0} where
   last_here (e ∷ es) p n q some inside end has =
       let lt : n - 1 < length (e ∷ es) = omega (arith, some, inside) in
       let x : RouteKey × V = get_or (e ∷ es) (n - 1) e in
-      record { place = n; inside = inside; end = end; before = (some, (x, get_or_default (e ∷ es) (n - 1) e x lt, sym (has e))) }
+      record { count = n; inside = inside; end = end; before = (some, (x, get_or_default (e ∷ es) (n - 1) e x lt, sym (has e))) }
 
   -- the last prefix up to one, by the part that has it
-  pub last_in : (ks : List RouteKey) (cs : List (List (RouteKey × V))) (p : IpPrefix) (i : ℕ) (c : List (RouteKey × V)) (r : Option IpPrefix) → IsRows ks cs → IsPlaceOf cs p i → c ≡ get_or cs i c → IsLastUpTo c p r → IsLastUpTo (in_chunks cs) p r
-  last_in ks cs p i c None rows is read last = none_before ks cs p i last.place c rows is read last.inside last.end last.before
+  pub last_in : (ks : List RouteKey) (cs : List (List (RouteKey × V))) (p : IpPrefix) (i : ℕ) (c : List (RouteKey × V)) (r : Option IpPrefix) → IsRows ks cs → IsIndexOfPrefix cs p i → c ≡ get_or cs i c → IsLastUpTo c p r → IsLastUpTo (in_chunks cs) p r
+  last_in ks cs p i c None rows is read last = none_before ks cs p i last.count c rows is read last.inside last.end last.before
   last_in ks cs p i c (Some q) rows is read last =
       let b = last.before in
-      let lt : last.place - 1 < length c = omega (arith, last.inside, b.0) in
-      some_before ks cs p i last.place c rows is read last.inside last.end b.0 q (λ d. sym b.1.2 ∙ ap (λ (x : RouteKey × V). x.0.prefix) (b.1.1 ∙ get_or_default c (last.place - 1) b.1.0 d lt))
+      let lt : last.count - 1 < length c = omega (arith, last.inside, b.0) in
+      some_before ks cs p i last.count c rows is read last.inside last.end b.0 q (λ d. sym b.1.2 ∙ ap (λ (x : RouteKey × V). x.0.prefix) (b.1.1 ∙ get_or_default c (last.count - 1) b.1.0 d lt))
 
   paths_none : (p : IpPrefix) (es : List (RouteKey × V)) → EachKey (λ k. prefix_eq p k.prefix ≡ false) es → paths_of p es ≡ []
   paths_none p [] h = refl
@@ -156,14 +156,14 @@ module _ {V : Type 0} where
 -- what the last prefix up to a network says of the match
 module _ {V : Type 0} (es : List (RouteKey × V)) (addr limit : ℕ) (is : IsLimit es addr limit) where
   pub none_last : IsLastUpTo es (network addr limit) None → HasNoMatch (finite.from_entries {R = key_cmp} es) addr
-  none_last last = none_found es addr limit last.place is last.inside last.end last.before
+  none_last last = none_found es addr limit last.count is last.inside last.end last.before
 
   module _ (q : IpPrefix) (last : IsLastUpTo es (network addr limit) (Some q)) where
     pub found_last : contains q addr ≡ true → IsLongestMatch (finite.from_entries {R = key_cmp} es) addr q
-    found_last in_q = let b = last.before in subst (IsLongestMatch (finite.from_entries {R = key_cmp} es) addr) b.1.2 (match_found es addr limit last.place is last.inside last.end b.1.0 b.0 b.1.1 (subst (λ (p : IpPrefix). contains p addr ≡ true) (sym b.1.2) in_q))
+    found_last in_q = let b = last.before in subst (IsLongestMatch (finite.from_entries {R = key_cmp} es) addr) b.1.2 (match_found es addr limit last.count is last.inside last.end b.1.0 b.0 b.1.1 (subst (λ (p : IpPrefix). contains p addr ≡ true) (sym b.1.2) in_q))
 
     pub falls_last : (shared : ℕ) → contains q addr ≡ false → shared ≤ q.len → leading_bits shared q.addr ≡ leading_bits shared addr → (shared < q.len → leading_bits (shared + 1) q.addr ≢ leading_bits (shared + 1) addr) → shared < limit
-    falls_last shared = let b = last.before in subst (λ (p : IpPrefix). contains p addr ≡ false → shared ≤ p.len → leading_bits shared p.addr ≡ leading_bits shared addr → (shared < p.len → leading_bits (shared + 1) p.addr ≢ leading_bits (shared + 1) addr) → shared < limit) b.1.2 (falls es addr limit last.place is last.inside last.end b.1.0 b.0 b.1.1 shared)
+    falls_last shared = let b = last.before in subst (λ (p : IpPrefix). contains p addr ≡ false → shared ≤ p.len → leading_bits shared p.addr ≡ leading_bits shared addr → (shared < p.len → leading_bits (shared + 1) p.addr ≢ leading_bits (shared + 1) addr) → shared < limit) b.1.2 (falls es addr limit last.count is last.inside last.end b.1.0 b.0 b.1.1 shared)
 
     pub miss_last : (shared : ℕ) → contains q addr ≡ false → shared ≤ q.len → leading_bits shared q.addr ≡ leading_bits shared addr → (shared < q.len → leading_bits (shared + 1) q.addr ≢ leading_bits (shared + 1) addr) → IsLimit es addr shared
-    miss_last shared = let b = last.before in subst (λ (p : IpPrefix). contains p addr ≡ false → shared ≤ p.len → leading_bits shared p.addr ≡ leading_bits shared addr → (shared < p.len → leading_bits (shared + 1) p.addr ≢ leading_bits (shared + 1) addr) → IsLimit es addr shared) b.1.2 (IsLimit-miss es addr limit last.place is last.inside last.end b.1.0 b.0 b.1.1 shared)
+    miss_last shared = let b = last.before in subst (λ (p : IpPrefix). contains p addr ≡ false → shared ≤ p.len → leading_bits shared p.addr ≡ leading_bits shared addr → (shared < p.len → leading_bits (shared + 1) p.addr ≢ leading_bits (shared + 1) addr) → IsLimit es addr shared) b.1.2 (IsLimit-miss es addr limit last.count is last.inside last.end b.1.0 b.0 b.1.1 shared)

@@ -10,7 +10,7 @@ use Rattle.std.proofs.lemmas.List.Edits.{insert_end}
 use Rattle.std.proofs.lemmas.List.Elements.{All-head, All-tail, All-cons, All-set, All-take, All-drop, All-append, All-filter, filter-append}
 use Rattle.bgp_prefix.specs.Prefixes.{IpPrefix, IsIpPrefix, prefix_cmp}
 use Rattle.bgp_prefix.specs.Keys.{key_cmp, is_nil}
-use Rattle.prefix_shelf.specs.Shelves.{in_chunks, first_key, IsRows, EachKey, IsPlaceIn, IsPlaceOf, IsCut, lesser_key}
+use Rattle.prefix_shelf.specs.Shelves.{in_chunks, first_key, IsRows, EachKey, IsIndexOfKey, IsIndexOfPrefix, IsCut, lesser_key}
 use Rattle.std.specs.Option.{option_or}
 use Rattle.bgp_prefix.specs.declared.key.RouteKey.{RouteKey}
 use Rattle.bgp_prefix.proofs.KeyLaws.{key_cmp_total, find-parts, or_none}
@@ -35,7 +35,7 @@ module _ {V : Type 0} where
   around_set (b ∷ cs) zero c lt = refl
   around_set (b ∷ cs) (suc i) c lt = ap (λ t. b ++ t) (around_set cs i c (omega (arith, lt))) ∙ sym (append_assoc b (in_chunks (take i cs)) (c ++ in_chunks (drop (suc i) cs)))
 
-  module _ (cs : List (List (RouteKey × V))) (k : RouteKey) (i : ℕ) (is : IsPlaceIn cs k i) (d : List (RouteKey × V)) where
+  module _ (cs : List (List (RouteKey × V))) (k : RouteKey) (i : ℕ) (is : IsIndexOfKey cs k i) (d : List (RouteKey × V)) where
     abbrev chunk : List (RouteKey × V)
     chunk = get_or cs i d
 
@@ -111,8 +111,8 @@ module _ {V : Type 0} where
     keys_after (suc m) h = let one : suc m - 1 ≡ m = omega arith in rw one (keys_from (suc m) h)
 
   -- where the first key before is no greater, and the one after is
-  pub place_in : (ks : List RouteKey) (cs : List (List (RouteKey × V))) (key : RouteKey) (n : ℕ) → IsRows ks cs → 0 < length cs → n ≤ length ks → (0 < n → (d : RouteKey) → key_cmp (get_or ks (n - 1) d) key ≢ Greater) → (n < length ks → (d : RouteKey) → key_cmp (get_or ks n d) key ≡ Greater) → IsPlaceIn cs key (n - 1)
-  place_in ks cs key n rows some inside below above =
+  pub index_of_key : (ks : List RouteKey) (cs : List (List (RouteKey × V))) (key : RouteKey) (n : ℕ) → IsRows ks cs → 0 < length cs → n ≤ length ks → (0 < n → (d : RouteKey) → key_cmp (get_or ks (n - 1) d) key ≢ Greater) → (n < length ks → (d : RouteKey) → key_cmp (get_or ks n d) key ≡ Greater) → IsIndexOfKey cs key (n - 1)
+  index_of_key ks cs key n rows some inside below above =
       let long : n ≤ length cs = omega (arith, inside, ap length rows.firsts, length-map cs (first_key {V = V})) in
       record {
         in_range = omega (arith, some, long);
@@ -120,8 +120,8 @@ module _ {V : Type 0} where
         after = keys_after ks cs rows (λ j. key_cmp j key ≢ Greater) (λ k. key_cmp k key ≡ Less) (λ k. key_cmp k key ≡ Greater) (less_past key) (more_past key) n above;
       }
 
-  pub place_of : (ks : List RouteKey) (cs : List (List (RouteKey × V))) (p : IpPrefix) (n : ℕ) → IsRows ks cs → 0 < length cs → n ≤ length ks → (0 < n → (d : RouteKey) → is_le (prefix_cmp (get_or ks (n - 1) d).prefix p) ≡ true) → (n < length ks → (d : RouteKey) → is_le (prefix_cmp (get_or ks n d).prefix p) ≡ false) → IsPlaceOf cs p (n - 1)
-  place_of ks cs p n rows some inside below above =
+  pub index_of_prefix : (ks : List RouteKey) (cs : List (List (RouteKey × V))) (p : IpPrefix) (n : ℕ) → IsRows ks cs → 0 < length cs → n ≤ length ks → (0 < n → (d : RouteKey) → is_le (prefix_cmp (get_or ks (n - 1) d).prefix p) ≡ true) → (n < length ks → (d : RouteKey) → is_le (prefix_cmp (get_or ks n d).prefix p) ≡ false) → IsIndexOfPrefix cs p (n - 1)
+  index_of_prefix ks cs p n rows some inside below above =
       let long : n ≤ length cs = omega (arith, inside, ap length rows.firsts, length-map cs (first_key {V = V})) in
       record {
         in_range = omega (arith, some, long);
@@ -172,7 +172,7 @@ module _ {V : Type 0} where
   lesser_at ks cs k i v d z rows lt = ap (lesser_key k) (ap (λ (t : List RouteKey). get_or t i z) rows.firsts ∙ get_map first_key cs i d z lt) ∙ sym (first_put k v (get_or cs i d) (rows.held i d lt))
 
   -- a chunk with a route put
-  pub rows_put : (ks : List RouteKey) (cs : List (List (RouteKey × V))) (k : RouteKey) (i : ℕ) (v : V) (d : List (RouteKey × V)) → IsRows ks cs → IsPlaceIn cs k i → IsIpPrefix k.prefix → IsRows (set ks i (first_key (put key_cmp k v (get_or cs i d)))) (set cs i (put key_cmp k v (get_or cs i d)))
+  pub rows_put : (ks : List RouteKey) (cs : List (List (RouteKey × V))) (k : RouteKey) (i : ℕ) (v : V) (d : List (RouteKey × V)) → IsRows ks cs → IsIndexOfKey cs k i → IsIpPrefix k.prefix → IsRows (set ks i (first_key (put key_cmp k v (get_or cs i d)))) (set cs i (put key_cmp k v (get_or cs i d)))
   rows_put ks cs k i v d rows is known = record {
     sorted = subst (λ (es : List (RouteKey × V)). T (is_sorted key_cmp es)) (sym (put_in cs k i is d v)) (is_sorted-put key_cmp key_cmp_total k v (in_chunks cs) rows.sorted);
     known = subst (λ (es : List (RouteKey × V)). All (λ e. IsIpPrefix e.0.prefix) es) (sym (put_in cs k i is d v)) (of_put (λ j. IsIpPrefix j.prefix) k v (in_chunks cs) known rows.known);
@@ -273,7 +273,7 @@ module _ {V : Type 0} where
   without_known k es all = All-filter (λ (e : RouteKey × V). not (eq_by_cmp key_cmp k e.0)) (λ e. IsIpPrefix e.0.prefix) es all
 
   -- a chunk without a key, where it still holds some
-  pub rows_without : (ks : List RouteKey) (cs : List (List (RouteKey × V))) (k : RouteKey) (i : ℕ) (d : List (RouteKey × V)) → IsRows ks cs → IsPlaceIn cs k i → 0 < length (without k (get_or cs i d)) → IsRows (set ks i (first_key (without k (get_or cs i d)))) (set cs i (without k (get_or cs i d)))
+  pub rows_without : (ks : List RouteKey) (cs : List (List (RouteKey × V))) (k : RouteKey) (i : ℕ) (d : List (RouteKey × V)) → IsRows ks cs → IsIndexOfKey cs k i → 0 < length (without k (get_or cs i d)) → IsRows (set ks i (first_key (without k (get_or cs i d)))) (set cs i (without k (get_or cs i d)))
   rows_without ks cs k i d rows is some =
       let c = without k (get_or cs i d) in
       record {
@@ -298,7 +298,7 @@ module _ {V : Type 0} where
   none_of (e ∷ c) h = absurd (omega (arith, h))
 
   -- a chunk that goes with its last key
-  pub rows_gone : (ks : List RouteKey) (cs : List (List (RouteKey × V))) (k : RouteKey) (i : ℕ) (d : List (RouteKey × V)) → IsRows ks cs → IsPlaceIn cs k i → length (without k (get_or cs i d)) ≡ 0 → (in_chunks (remove (set cs i (without k (get_or cs i d))) i) ≡ without k (in_chunks cs)) × IsRows (remove ks i) (remove (set cs i (without k (get_or cs i d))) i)
+  pub rows_gone : (ks : List RouteKey) (cs : List (List (RouteKey × V))) (k : RouteKey) (i : ℕ) (d : List (RouteKey × V)) → IsRows ks cs → IsIndexOfKey cs k i → length (without k (get_or cs i d)) ≡ 0 → (in_chunks (remove (set cs i (without k (get_or cs i d))) i) ≡ without k (in_chunks cs)) × IsRows (remove ks i) (remove (set cs i (without k (get_or cs i d))) i)
   rows_gone ks cs k i d rows is none =
       let c = without k (get_or cs i d) in
       let same : in_chunks (remove (set cs i c) i) ≡ without k (in_chunks cs) = chunk_gone cs i c is.in_range (none_of c none) ∙ without_in cs k i is d in (

@@ -66,26 +66,30 @@ abbrev pub EachKey : {V : Type 0} → (RouteKey → Type 0) → List (RouteKey �
 EachKey P [] = Unit {0}
 EachKey P (e ∷ es) = P e.0 × EachKey P es
 
--- the chunk in which the key is, or would go
-pub record IsPlaceIn {V : Type 0} (chunks : List (List (RouteKey × V))) (key : RouteKey) (i : ℕ) : Type 0 where
+-- the index of the chunk in which the key is, or would go
+pub record IsIndexOfKey {V : Type 0} (chunks : List (List (RouteKey × V))) (key : RouteKey) (i : ℕ) : Type 0 where
   pub in_range : i < length chunks
   pub before : EachKey (λ k. key_cmp k key ≡ Less) (in_chunks (take i chunks))
   pub after : EachKey (λ k. key_cmp k key ≡ Greater) (in_chunks (drop (suc i) chunks))
 
--- the chunk in which the last prefix up to this one is, if any chunk has it
-pub record IsPlaceOf {V : Type 0} (chunks : List (List (RouteKey × V))) (last : IpPrefix) (i : ℕ) : Type 0 where
+-- the index of the chunk in which the last prefix up to this one is, if any chunk has it
+pub record IsIndexOfPrefix {V : Type 0} (chunks : List (List (RouteKey × V))) (last : IpPrefix) (i : ℕ) : Type 0 where
   pub in_range : i < length chunks
   pub before : EachKey (λ k. is_le (prefix_cmp k.prefix last) ≡ true) (in_chunks (take i chunks))
   pub after : EachKey (λ k. is_le (prefix_cmp k.prefix last) ≡ false) (in_chunks (drop (suc i) chunks))
-  pub start : 0 < i → (d : List (RouteKey × V)) → is_le (prefix_cmp (first_key (slice_index_or chunks i d)).prefix last) ≡ true
+  pub start : 0 < i → (d : List (RouteKey × V)) →
+      is_le (prefix_cmp (first_key (slice_index_or chunks i d)).prefix last) ≡ true
 
--- the last prefix up to this one, of a list in order
+-- the last prefix of the first count entries; none if there are none
 abbrev pub IsBefore : {V : Type 0} → List (RouteKey × V) → ℕ → Option IpPrefix → Type 0
-IsBefore es place None = place ≡ 0
-IsBefore {V} es place (Some p) = (0 < place) × ((x : RouteKey × V) × (x ≡ slice_index_or es (place - 1) x) × (x.0.prefix ≡ p))
+IsBefore es count None = count ≡ 0
+IsBefore {V} es count (Some p) =
+    (0 < count) × ((x : RouteKey × V) × (x ≡ slice_index_or es (count - 1) x) × (x.0.prefix ≡ p))
 
+-- the last prefix up to this one, of a list in order: that of the last of the count entries up to it
 pub record IsLastUpTo {V : Type 0} (es : List (RouteKey × V)) (last : IpPrefix) (p : Option IpPrefix) : Type 0 where
-  pub place : ℕ
-  pub inside : place ≤ length es
-  pub end : IsPartitionPoint (λ e. is_le (prefix_cmp e.0.prefix last) ≡ true) (λ e. is_le (prefix_cmp e.0.prefix last) ≡ false) es place
-  pub before : IsBefore es place p
+  pub count : ℕ
+  pub inside : count ≤ length es
+  pub end : IsPartitionPoint (λ e. is_le (prefix_cmp e.0.prefix last) ≡ true)
+      (λ e. is_le (prefix_cmp e.0.prefix last) ≡ false) es count
+  pub before : IsBefore es count p

@@ -1,3 +1,5 @@
+//! Chunks: lists of routes in three arrays.
+
 ghost use Rattle.std.specs.Prelude.{◌≡◌, ◌<◌, ◌≤◌, ◌⊎◌, ℕ, List, [], ◌∷◌, ◌++◌, not, T, IfOk, IfErr, OnOk, OnErr, length, map, take, drop, vec_len, vec_capacity, slice_index_or, slice_set, is_ok, if◌then◌else◌, true, false};
 ghost use Rattle.std.specs.List.{insert, remove};
 ghost use Rattle.std.specs.List.Sorted.{IsPartitionPoint};
@@ -9,7 +11,7 @@ ghost use Rattle.bgp_prefix.specs.Keys.{key_cmp};
 ghost use Rattle.bgp_prefix.specs.Searches.{IsAt, IsGap};
 ghost use Rattle.prefix_shelf.specs.Shelves.{ids_put, ids_removed};
 
-use crate::part::{HALF, Part, STEP, WHOLE};
+use crate::part::{FULL_LEN, GROWTH_STEP, HALF_LEN, Part};
 use bgp_prefix::{Memory, Prefix, RouteKey};
 use std::alloc::Global;
 use std::cmp::Ordering;
@@ -128,22 +130,23 @@ impl<V: Drop> Chunk<V> {
         ensures high { IfOk result (λ high. high ≡ drop 64 self.old) }
         ensures err { OnErr result (self.new ≡ self.old) }
     {
-        let keys = copied_from(alloc, &self.keys, HALF)?;
-        let ids = ids_from(alloc, &self.ids, HALF)?;
-        let values = self.values.split_off(HALF)?;
-        self.keys.truncate(HALF);
-        self.ids.truncate(HALF);
-        self.keys.shrink_to(HALF + STEP);
-        self.ids.shrink_to(HALF + STEP);
-        self.values.shrink_to(HALF + STEP);
+        let keys = copied_from(alloc, &self.keys, HALF_LEN)?;
+        let ids = ids_from(alloc, &self.ids, HALF_LEN)?;
+        let values = self.values.split_off(HALF_LEN)?;
+        self.keys.truncate(HALF_LEN);
+        self.ids.truncate(HALF_LEN);
+        self.keys.shrink_to(HALF_LEN + GROWTH_STEP);
+        self.ids.shrink_to(HALF_LEN + GROWTH_STEP);
+        self.values.shrink_to(HALF_LEN + GROWTH_STEP);
         Ok(Chunk { keys, ids, values })
     }
 
     // The number of routes whose prefixes are at most this one, in their order.
-    fn up_to(&self, last: &Prefix) -> usize
+    fn count_up_to(&self, last: &Prefix) -> usize
         requires { T (is_sorted key_cmp self.now) }
         ensures bound { result ≤ length self.now }
-        ensures end { IsPartitionPoint (λ e. is_le (prefix_cmp e.0.prefix last.now) ≡ true) (λ e. is_le (prefix_cmp e.0.prefix last.now) ≡ false) self.now result }
+        ensures end { IsPartitionPoint (λ e. is_le (prefix_cmp e.0.prefix last.now) ≡ true)
+            (λ e. is_le (prefix_cmp e.0.prefix last.now) ≡ false) self.now result }
     {
         let mut low = 0;
         let mut high = self.len();
@@ -163,7 +166,7 @@ impl<V: Drop> Part for Chunk<V> {
 
     ghost routes = { λ c. c };
 
-    fn one(alloc: Global, key: &RouteKey, value: V) -> Result<Chunk<V>, Memory> {
+    fn single(alloc: Global, key: &RouteKey, value: V) -> Result<Chunk<V>, Memory> {
         let mut keys = Vec::with_capacity(alloc, 1)?;
         let mut values = Vec::with_capacity(alloc, 1)?;
         let mut ids = Vec::new(alloc);
@@ -183,7 +186,7 @@ impl<V: Drop> Part for Chunk<V> {
 
     fn ends_below(&self, key: &RouteKey) -> bool {
         let len = self.len();
-        if len < WHOLE {
+        if len < FULL_LEN {
             return false;
         }
         match self.key_at(len - 1).cmp(key) {
@@ -192,8 +195,8 @@ impl<V: Drop> Part for Chunk<V> {
         }
     }
 
-    fn is_over(&self) -> bool {
-        self.len() > WHOLE
+    fn is_overfull(&self) -> bool {
+        self.len() > FULL_LEN
     }
 
     fn get(&self, key: &RouteKey) -> Option<&V> {
@@ -221,7 +224,7 @@ impl<V: Drop> Part for Chunk<V> {
     }
 
     fn split(&mut self, alloc: Global) -> Option<Chunk<V>> {
-        if self.len() <= HALF {
+        if self.len() <= HALF_LEN {
             return None;
         }
         match self.cut(alloc) {
@@ -254,7 +257,7 @@ impl<V: Drop> Part for Chunk<V> {
     }
 
     fn last_up_to(&self, last: &Prefix) -> Option<Prefix> {
-        let at = self.up_to(last);
+        let at = self.count_up_to(last);
         if at == 0 {
             return None;
         }
@@ -314,7 +317,7 @@ pub(crate) fn make_room<T>(items: &mut Vec<T>) -> Result<(), Memory>
     ensures room { OnOk result (vec_len items.new < vec_capacity items.new) }
 {
     if items.len() == items.capacity() {
-        items.reserve_exact(items.len().clamp(1, STEP))?;
+        items.reserve_exact(items.len().clamp(1, GROWTH_STEP))?;
     }
     Ok(())
 }

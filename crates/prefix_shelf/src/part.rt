@@ -1,3 +1,5 @@
+//! What rows of chunks, and the chunks of a row, are alike in: the trait of a part.
+
 ghost use Rattle.std.specs.Prelude.{◌≡◌, List, [], ◌∷◌, ◌++◌, ◌+◌, ◌<◌, ◌≤◌, not, T, IsTrue, IfOk, OnOk, OnErr, IfSome, IfNone, length, map, vec_len, vec_capacity};
 ghost use Rattle.std.specs.Option.{option_copied};
 ghost use Rattle.std.specs.Ordering.{eq_by_cmp};
@@ -12,12 +14,12 @@ ghost use Rattle.prefix_shelf.specs.Shelves.{first_key, EachKey, IsCut, IsLastUp
 use bgp_prefix::{Memory, Prefix, RouteKey};
 use std::alloc::Global;
 
-/// The most routes in a chunk, and the most chunks in a row: one with more is cut in two.
-pub(crate) const WHOLE: usize = 128;
-/// How many stay when one is cut in two.
-pub(crate) const HALF: usize = 64;
+/// The most routes in a chunk, and the most chunks in a row: a part with more is cut in two.
+pub(crate) const FULL_LEN: usize = 128;
+/// How many stay when a part is cut in two.
+pub(crate) const HALF_LEN: usize = 64;
 /// How much the room of an array grows at most: up to then it is doubled.
-pub(crate) const STEP: usize = 16;
+pub(crate) const GROWTH_STEP: usize = 16;
 
 /// Routes in key order, which `Rows` keeps as consecutive parts.
 pub(crate) trait Part: Drop {
@@ -30,7 +32,7 @@ pub(crate) trait Part: Drop {
     ghost routes: { Self → List (RouteKey × Self.Value) };
 
     /// Returns a part of one route.
-    fn one(alloc: Global, key: &RouteKey, value: Self::Value) -> Result<Self, Memory>
+    fn single(alloc: Global, key: &RouteKey, value: Self::Value) -> Result<Self, Memory>
         requires { IsIpPrefix key.now.prefix }
         ensures { IfOk result (λ one. routes one ≡ (key.now, value) ∷ []) };
 
@@ -48,8 +50,8 @@ pub(crate) trait Part: Drop {
         requires { T (is_sorted key_cmp (routes self.now)) }
         ensures { IsTrue result → EachKey (λ k. key_cmp k key.now ≡ Less) (routes self.now) };
 
-    /// Whether it has more than it should keep.
-    fn is_over(&self) -> bool;
+    /// Whether it has more than `FULL_LEN`, and should be cut in two.
+    fn is_overfull(&self) -> bool;
 
     /// Returns the value of a key.
     fn get(&self, key: &RouteKey) -> Option<&Self::Value>
@@ -73,7 +75,8 @@ pub(crate) trait Part: Drop {
     fn remove(&mut self, key: &RouteKey) -> Option<Self::Value>
         requires { T (is_sorted key_cmp (routes self.old)) }
         ensures before { result ≡ find key_cmp key.now (routes self.old) }
-        ensures removed { routes self.new ≡ where_key key_cmp (λ x. not (eq_by_cmp key_cmp key.now x)) (routes self.old) };
+        ensures removed { routes self.new
+            ≡ where_key key_cmp (λ x. not (eq_by_cmp key_cmp key.now x)) (routes self.old) };
 
     /// Keeps its first half, and returns the rest: nothing if it is short, or if an allocation fails.
     fn split(&mut self, alloc: Global) -> Option<Self>
@@ -87,7 +90,7 @@ pub(crate) trait Part: Drop {
         ensures len { vec_len all.new ≡ vec_len all.old + length (routes self.now) }
         ensures capacity { vec_capacity all.new ≡ vec_capacity all.old };
 
-    /// Appends the identifiers and values of the routes of a prefix to a list.
+    /// Appends the identifiers and values of the routes of a prefix to a list. An `Err` leaves any part of them there.
     fn paths<'a>(
         &'a self,
         prefix: &Prefix,

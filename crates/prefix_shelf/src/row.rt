@@ -1,5 +1,7 @@
+//! Rows of chunks, as parts of a shelf.
+
 use crate::chunk::Chunk;
-use crate::part::{HALF, Part};
+use crate::part::{HALF_LEN, Part};
 use crate::rows::Rows;
 use bgp_prefix::{Memory, Prefix, RouteKey};
 use std::alloc::Global;
@@ -28,8 +30,8 @@ impl<V: Drop> Part for Row<V> {
 
     ghost routes = { λ r. r };
 
-    fn one(alloc: Global, key: &RouteKey, value: V) -> Result<Row<V>, Memory> {
-        let rows = Rows::one(alloc, key, value)?;
+    fn single(alloc: Global, key: &RouteKey, value: V) -> Result<Row<V>, Memory> {
+        let rows = Rows::single(alloc, key, value)?;
         Ok(Row { rows })
     }
 
@@ -45,8 +47,8 @@ impl<V: Drop> Part for Row<V> {
         self.rows.ends_below(key)
     }
 
-    fn is_over(&self) -> bool {
-        self.rows.is_over()
+    fn is_overfull(&self) -> bool {
+        self.rows.is_overfull()
     }
 
     fn get(&self, key: &RouteKey) -> Option<&V> {
@@ -62,7 +64,7 @@ impl<V: Drop> Part for Row<V> {
     }
 
     fn split(&mut self, alloc: Global) -> Option<Row<V>> {
-        if self.rows.parts.len() <= HALF {
+        if self.rows.parts.len() <= HALF_LEN {
             return None;
         }
         match self.rows.cut(alloc) {

@@ -1,3 +1,5 @@
+//! Consecutive parts in key order, found by their first keys.
+
 ghost use Rattle.std.specs.Prelude.{◌≡◌, ◌+◌, ◌<◌, ◌≤◌, List, [], ◌∷◌, ◌++◌, not, T, IsTrue, IfOk, OnOk, OnErr, length, map, slice_index_or, slice_set, vec_len, vec_capacity};
 ghost use Rattle.std.specs.Option.{option_copied};
 ghost use Rattle.std.specs.Ordering.{eq_by_cmp};
@@ -7,10 +9,10 @@ ghost use Rattle.std.specs.FinMap.Entries.{where_key};
 ghost use Rattle.bgp_prefix.specs.Prefixes.{IsIpPrefix};
 ghost use Rattle.bgp_prefix.specs.Keys.{key_cmp, is_nil, entries_now};
 ghost use Rattle.bgp_prefix.specs.Maps.{paths_of};
-ghost use Rattle.prefix_shelf.specs.Shelves.{routes_of, first_key, lesser_key, EachKey, IsRows, IsCut, IsPlaceIn, IsPlaceOf, IsLastUpTo};
+ghost use Rattle.prefix_shelf.specs.Shelves.{routes_of, first_key, lesser_key, EachKey, IsRows, IsCut, IsIndexOfKey, IsIndexOfPrefix, IsLastUpTo};
 
 use crate::chunk::{copied_from, make_room, put};
-use crate::part::{HALF, Part, STEP, WHOLE};
+use crate::part::{FULL_LEN, GROWTH_STEP, HALF_LEN, Part};
 use bgp_prefix::{Memory, Prefix, RouteKey};
 use std::alloc::Global;
 use std::cmp::Ordering;
@@ -25,14 +27,14 @@ pub(crate) struct Rows<P> {
 
 impl<P: Part> Rows<P> {
     /// Returns one part of one route.
-    pub(crate) fn one(alloc: Global, key: &RouteKey, value: P::Value) -> Result<Rows<P>, Memory>
+    pub(crate) fn single(alloc: Global, key: &RouteKey, value: P::Value) -> Result<Rows<P>, Memory>
         requires { IsIpPrefix key.now.prefix }
         ensures routes { IfOk result (λ one. routes_of P.routes one.parts.items ≡ (key.now, value) ∷ []) }
         ensures rows { IfOk result (λ one. IsRows one.firsts.items (map P.routes one.parts.items)) }
     {
         let mut firsts = Vec::with_capacity(alloc, 1)?;
         let mut parts = Vec::with_capacity(alloc, 1)?;
-        let part = P::one(alloc, key, value)?;
+        let part = P::single(alloc, key, value)?;
         put(&mut firsts, 0, *key);
         put(&mut parts, 0, part);
         Ok(Rows { firsts, parts })
@@ -61,19 +63,19 @@ impl<P: Part> Rows<P> {
         ensures { IsTrue result → EachKey (λ k. key_cmp k key.now ≡ Less) (routes_of P.routes self.now.parts.items) }
     {
         let len = self.parts.len();
-        len >= WHOLE && self.parts[len - 1].ends_below(key)
+        len >= FULL_LEN && self.parts[len - 1].ends_below(key)
     }
 
-    /// Whether it has more parts than it should keep.
-    pub(crate) fn is_over(&self) -> bool {
-        self.parts.len() > WHOLE
+    /// Whether it has more than `FULL_LEN` parts.
+    pub(crate) fn is_overfull(&self) -> bool {
+        self.parts.len() > FULL_LEN
     }
 
-    // The part in which a key is, or would go. The end is tried first.
-    fn place(&self, key: &RouteKey) -> usize
+    // The index of the part in which a key is, or would go. The end is tried first.
+    fn index_of_key(&self, key: &RouteKey) -> usize
         requires rows { IsRows self.now.firsts.items (map P.routes self.now.parts.items) }
         requires some { 0 < length self.now.parts.items }
-        ensures { IsPlaceIn (map P.routes self.now.parts.items) key.now result }
+        ensures { IsIndexOfKey (map P.routes self.now.parts.items) key.now result }
     {
         let len = self.firsts.len();
         let mut low = 0;
@@ -100,43 +102,46 @@ impl<P: Part> Rows<P> {
         if self.parts.is_empty() {
             return None;
         }
-        self.parts[self.place(key)].get(key)
+        self.parts[self.index_of_key(key)].get(key)
     }
 
     // Sets the value of a key in its part.
-    fn store(
+    fn insert_in_part(
         &mut self,
         alloc: Global,
-        place: usize,
+        index: usize,
         key: &RouteKey,
         value: P::Value,
     ) -> Result<Option<P::Value>, Memory>
         requires rows { IsRows self.old.firsts.items (map P.routes self.old.parts.items) }
         requires known { IsIpPrefix key.now.prefix }
-        requires place { IsPlaceIn (map P.routes self.old.parts.items) key.now place }
-        ensures before { IfOk result (λ before. before ≡ find key_cmp key.now (routes_of P.routes self.old.parts.items)) }
-        ensures ok { OnOk result (routes_of P.routes self.new.parts.items ≡ put key_cmp key.now value (routes_of P.routes self.old.parts.items)) }
+        requires index { IsIndexOfKey (map P.routes self.old.parts.items) key.now index }
+        ensures before { IfOk result
+            (λ before. before ≡ find key_cmp key.now (routes_of P.routes self.old.parts.items)) }
+        ensures ok { OnOk result (routes_of P.routes self.new.parts.items
+            ≡ put key_cmp key.now value (routes_of P.routes self.old.parts.items)) }
         ensures err { OnErr result (routes_of P.routes self.new.parts.items ≡ routes_of P.routes self.old.parts.items) }
         ensures rows { IsRows self.new.firsts.items (map P.routes self.new.parts.items) }
         ensures kept { OnOk result (length self.new.parts.items ≡ length self.old.parts.items) }
     {
-        let before = self.parts[place].insert(alloc, key, value)?;
-        lower(&mut self.firsts, place, key);
+        let before = self.parts[index].insert(alloc, key, value)?;
+        lower_first_key(&mut self.firsts, index, key);
         Ok(before)
     }
 
     // Adds a new part of one route after the others.
-    fn push_one(&mut self, alloc: Global, key: &RouteKey, value: P::Value) -> Result<(), Memory>
+    fn push_single(&mut self, alloc: Global, key: &RouteKey, value: P::Value) -> Result<(), Memory>
         requires rows { IsRows self.old.firsts.items (map P.routes self.old.parts.items) }
         requires known { IsIpPrefix key.now.prefix }
         requires last { EachKey (λ k. key_cmp k key.now ≡ Less) (routes_of P.routes self.old.parts.items) }
-        ensures ok { OnOk result (routes_of P.routes self.new.parts.items ≡ put key_cmp key.now value (routes_of P.routes self.old.parts.items)) }
+        ensures ok { OnOk result (routes_of P.routes self.new.parts.items
+            ≡ put key_cmp key.now value (routes_of P.routes self.old.parts.items)) }
         ensures err { OnErr result (routes_of P.routes self.new.parts.items ≡ routes_of P.routes self.old.parts.items) }
         ensures rows { IsRows self.new.firsts.items (map P.routes self.new.parts.items) }
     {
         make_room(&mut self.firsts)?;
         make_room(&mut self.parts)?;
-        let part = P::one(alloc, key, value)?;
+        let part = P::single(alloc, key, value)?;
         let len = self.firsts.len();
         put(&mut self.firsts, len, *key);
         let len = self.parts.len();
@@ -144,14 +149,14 @@ impl<P: Part> Rows<P> {
         Ok(())
     }
 
-    // Replaces a part that has more than it should keep by two, if there is memory for it.
-    fn divide(&mut self, alloc: Global, place: usize)
+    // Replaces an overfull part by two, if there is memory for it.
+    fn split_overfull(&mut self, alloc: Global, index: usize)
         requires rows { IsRows self.old.firsts.items (map P.routes self.old.parts.items) }
-        requires within { place < length self.old.parts.items }
+        requires within { index < length self.old.parts.items }
         ensures same { routes_of P.routes self.new.parts.items ≡ routes_of P.routes self.old.parts.items }
         ensures rows { IsRows self.new.firsts.items (map P.routes self.new.parts.items) }
     {
-        if !self.parts[place].is_over() {
+        if !self.parts[index].is_overfull() {
             return;
         }
         if make_room(&mut self.firsts).is_err() {
@@ -160,12 +165,12 @@ impl<P: Part> Rows<P> {
         if make_room(&mut self.parts).is_err() {
             return;
         }
-        let Some(high) = self.parts[place].split(alloc) else {
+        let Some(high) = self.parts[index].split(alloc) else {
             return;
         };
         let first = high.first();
-        put(&mut self.firsts, place + 1, first);
-        put(&mut self.parts, place + 1, high);
+        put(&mut self.firsts, index + 1, first);
+        put(&mut self.parts, index + 1, high);
     }
 
     /// Sets the value of a key, and returns the previous one.
@@ -177,22 +182,24 @@ impl<P: Part> Rows<P> {
     ) -> Result<Option<P::Value>, Memory>
         requires rows { IsRows self.old.firsts.items (map P.routes self.old.parts.items) }
         requires known { IsIpPrefix key.now.prefix }
-        ensures before { IfOk result (λ before. before ≡ find key_cmp key.now (routes_of P.routes self.old.parts.items)) }
-        ensures ok { OnOk result (routes_of P.routes self.new.parts.items ≡ put key_cmp key.now value (routes_of P.routes self.old.parts.items)) }
+        ensures before { IfOk result
+            (λ before. before ≡ find key_cmp key.now (routes_of P.routes self.old.parts.items)) }
+        ensures ok { OnOk result (routes_of P.routes self.new.parts.items
+            ≡ put key_cmp key.now value (routes_of P.routes self.old.parts.items)) }
         ensures err { OnErr result (routes_of P.routes self.new.parts.items ≡ routes_of P.routes self.old.parts.items) }
         ensures rows { IsRows self.new.firsts.items (map P.routes self.new.parts.items) }
     {
         if self.parts.is_empty() {
-            self.push_one(alloc, key, value)?;
+            self.push_single(alloc, key, value)?;
             return Ok(None);
         }
-        let place = self.place(key);
-        if place + 1 == self.parts.len() && self.parts[place].ends_below(key) {
-            self.push_one(alloc, key, value)?;
+        let index = self.index_of_key(key);
+        if index + 1 == self.parts.len() && self.parts[index].ends_below(key) {
+            self.push_single(alloc, key, value)?;
             return Ok(None);
         }
-        let before = self.store(alloc, place, key, value)?;
-        self.divide(alloc, place);
+        let before = self.insert_in_part(alloc, index, key, value)?;
+        self.split_overfull(alloc, index);
         Ok(before)
     }
 
@@ -207,14 +214,14 @@ impl<P: Part> Rows<P> {
         if self.parts.is_empty() {
             return None;
         }
-        let place = self.place(key);
-        let before = self.parts[place].remove(key);
-        if self.parts[place].is_empty() {
-            let _ = self.parts.remove(place);
-            let _ = self.firsts.remove(place);
+        let index = self.index_of_key(key);
+        let before = self.parts[index].remove(key);
+        if self.parts[index].is_empty() {
+            let _ = self.parts.remove(index);
+            let _ = self.firsts.remove(index);
         } else {
-            let first = self.parts[place].first();
-            self.firsts[place] = first;
+            let first = self.parts[index].first();
+            self.firsts[index] = first;
         }
         before
     }
@@ -223,23 +230,26 @@ impl<P: Part> Rows<P> {
     pub(crate) fn cut(&mut self, alloc: Global) -> Result<Rows<P>, Memory>
         requires rows { IsRows self.old.firsts.items (map P.routes self.old.parts.items) }
         requires long { 64 < length self.old.parts.items }
-        ensures cut { IfOk result (λ high. IsCut (routes_of P.routes self.old.parts.items) (routes_of P.routes self.new.parts.items) (routes_of P.routes high.parts.items)) }
+        ensures cut { IfOk result
+            (λ high. IsCut (routes_of P.routes self.old.parts.items) (routes_of P.routes self.new.parts.items)
+            (routes_of P.routes high.parts.items)) }
         ensures low { IsRows self.new.firsts.items (map P.routes self.new.parts.items) }
         ensures high { IfOk result (λ high. IsRows high.firsts.items (map P.routes high.parts.items)) }
         ensures err { OnErr result (routes_of P.routes self.new.parts.items ≡ routes_of P.routes self.old.parts.items) }
     {
-        let firsts = copied_from(alloc, &self.firsts, HALF)?;
-        let parts = self.parts.split_off(HALF)?;
-        self.firsts.truncate(HALF);
-        self.firsts.shrink_to(HALF + STEP);
-        self.parts.shrink_to(HALF + STEP);
+        let firsts = copied_from(alloc, &self.firsts, HALF_LEN)?;
+        let parts = self.parts.split_off(HALF_LEN)?;
+        self.firsts.truncate(HALF_LEN);
+        self.firsts.shrink_to(HALF_LEN + GROWTH_STEP);
+        self.parts.shrink_to(HALF_LEN + GROWTH_STEP);
         Ok(Rows { firsts, parts })
     }
 
     /// Appends the routes to a list that has room for them, in order. Allocates nothing.
     pub(crate) fn list<'a>(&'a self, all: &mut Vec<(RouteKey, &'a P::Value)>)
         requires { vec_len all.old + length (routes_of P.routes self.now.parts.items) ≤ vec_capacity all.old }
-        ensures entries { entries_now all.new.items ≡ entries_now all.old.items ++ routes_of P.routes self.now.parts.items }
+        ensures entries { entries_now all.new.items
+            ≡ entries_now all.old.items ++ routes_of P.routes self.now.parts.items }
         ensures len { vec_len all.new ≡ vec_len all.old + length (routes_of P.routes self.now.parts.items) }
         ensures capacity { vec_capacity all.new ≡ vec_capacity all.old }
     {
@@ -258,7 +268,8 @@ impl<P: Part> Rows<P> {
     ) -> Result<(), Memory>
         requires { IsRows self.now.firsts.items (map P.routes self.now.parts.items) }
         ensures { OnOk result (map (λ e. (e.0, e.1.now)) all.new.items
-            ≡ map (λ e. (e.0, e.1.now)) all.old.items ++ paths_of prefix.now (routes_of P.routes self.now.parts.items)) }
+            ≡ map (λ e. (e.0, e.1.now)) all.old.items
+            ++ paths_of prefix.now (routes_of P.routes self.now.parts.items)) }
     {
         if self.parts.is_empty() {
             return Ok(());
@@ -267,7 +278,7 @@ impl<P: Part> Rows<P> {
             prefix: *prefix,
             id: 0,
         };
-        let mut at = self.place(&first);
+        let mut at = self.index_of_key(&first);
         while at < self.parts.len() {
             match self.firsts[at].prefix.cmp(prefix) {
                 Ordering::Greater => return Ok(()),
@@ -278,11 +289,11 @@ impl<P: Part> Rows<P> {
         Ok(())
     }
 
-    // The part that has the last prefix up to this one, if any has.
-    fn place_of(&self, last: &Prefix) -> usize
+    // The index of the part that has the last prefix up to this one, if any has.
+    fn index_of_prefix(&self, last: &Prefix) -> usize
         requires rows { IsRows self.now.firsts.items (map P.routes self.now.parts.items) }
         requires some { 0 < length self.now.parts.items }
-        ensures { IsPlaceOf (map P.routes self.now.parts.items) last.now result }
+        ensures { IsIndexOfPrefix (map P.routes self.now.parts.items) last.now result }
     {
         let mut low = 0;
         let mut high = self.firsts.len();
@@ -304,14 +315,15 @@ impl<P: Part> Rows<P> {
         if self.parts.is_empty() {
             return None;
         }
-        self.parts[self.place_of(last)].last_up_to(last)
+        self.parts[self.index_of_prefix(last)].last_up_to(last)
     }
 }
 
 // Replaces a greater key by this one.
-fn lower(firsts: &mut Vec<RouteKey>, at: usize, key: &RouteKey)
+fn lower_first_key(firsts: &mut Vec<RouteKey>, at: usize, key: &RouteKey)
     requires { at < length firsts.old.items }
-    ensures { (d : _) → firsts.new.items ≡ slice_set firsts.old.items at (lesser_key key.now (slice_index_or firsts.old.items at d)) }
+    ensures { (d : _) →
+        firsts.new.items ≡ slice_set firsts.old.items at (lesser_key key.now (slice_index_or firsts.old.items at d)) }
 {
     if *key < firsts[at] {
         firsts[at] = *key;

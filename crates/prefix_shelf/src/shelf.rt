@@ -1,3 +1,5 @@
+//! A prefix map as a sorted list in chunks.
+
 ghost use Rattle.std.specs.FinMap as finite;
 
 use crate::row::Row;
@@ -35,7 +37,10 @@ impl<V> Model for Shelf<V> {
 
     ghost view = { λ m. routes_of (λ r. r) m.rows.parts.items };
 
-    ghost invariant = { λ m. record { rows : IsRows m.rows.firsts.items (map (λ r. r) m.rows.parts.items); count : m.len ≡ length (routes_of (λ r. r) m.rows.parts.items) } };
+    ghost invariant = { λ m. record {
+      rows : IsRows m.rows.firsts.items (map (λ r. r) m.rows.parts.items);
+      count : m.len ≡ length (routes_of (λ r. r) m.rows.parts.items);
+    } };
 }
 
 impl<V: Drop> PrefixMap<V> for Shelf<V> {

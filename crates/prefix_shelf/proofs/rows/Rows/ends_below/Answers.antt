@@ -17,20 +17,20 @@ ends_below-requires g c =
     let cs = map f ps in
     let x = c.index.result.now in
     let i = c.len-len.result - 1 in
-    let lt : i < length ps = omega (arith, c.len-len.ensures, c.if-len-ge-WHOLE.true) in
+    let lt : i < length ps = omega (arith, c.len-len.ensures, c.if-len-ge-FULL_LEN.true) in
     let in_range : i < length cs = omega (arith, lt, length-map ps f) in
     let read : f x ≡ get_or cs i (f x) = part_read f ps i x lt c.index.ensures in
     rw read (chunk_sorted cs i (f x) c.requires.sorted in_range)
 
-pub returns-then-len-ge-WHOLE : goal.returns-then-len-ge-WHOLE
-returns-then-len-ge-WHOLE g c =
+pub returns-then-len-ge-FULL_LEN : goal.returns-then-len-ge-FULL_LEN
+returns-then-len-ge-FULL_LEN g c =
     let f = g.P.Part.routes in
     let ps = c.args.self.now.parts.items in
     let ks = c.args.self.now.firsts.items in
     let cs = map f ps in
     let x = c.index.result.now in
     let i = c.len-len.result - 1 in
-    let lt : i < length ps = omega (arith, c.len-len.ensures, c.if-len-ge-WHOLE.true) in
+    let lt : i < length ps = omega (arith, c.len-len.ensures, c.if-len-ge-FULL_LEN.true) in
     let in_range : i < length cs = omega (arith, lt, length-map ps f) in
     let read : f x ≡ get_or cs i (f x) = part_read f ps i x lt c.index.ensures in
-    λ yes. last_of ks cs c.args.key.now i (f x) c.requires (omega (arith, c.len-len.ensures, c.if-len-ge-WHOLE.true, length-map ps f)) (subst (λ (t : List (RouteKey × _)). EachKey (λ k. key_cmp k c.args.key.now ≡ Less) t) read (c.ends_below.ensures yes))
+    λ yes. last_of ks cs c.args.key.now i (f x) c.requires (omega (arith, c.len-len.ensures, c.if-len-ge-FULL_LEN.true, length-map ps f)) (subst (λ (t : List (RouteKey × _)). EachKey (λ k. key_cmp k c.args.key.now ≡ Less) t) read (c.ends_below.ensures yes))

@@ -13,10 +13,10 @@ get-requires g c =
     let ks = c.args.self.now.firsts.items in
     let cs = map f ps in
     let x = c.index.result.now in
-    let i = c.place.result in
-    let lt : i < length ps = omega (arith, c.place.ensures.in_range, length-map ps f) in
+    let i = c.index_of_key.result in
+    let lt : i < length ps = omega (arith, c.index_of_key.ensures.in_range, length-map ps f) in
     let read : f x ≡ get_or cs i (f x) = part_read f ps i x lt c.index.ensures in
-    rw read (chunk_sorted cs i (f x) c.requires.sorted c.place.ensures.in_range)
+    rw read (chunk_sorted cs i (f x) c.requires.sorted c.index_of_key.ensures.in_range)
 
 pub returns : goal.returns
 returns g c =
@@ -25,8 +25,8 @@ returns g c =
     let ks = c.args.self.now.firsts.items in
     let cs = map f ps in
     let x = c.index.result.now in
-    let i = c.place.result in
-    let lt : i < length ps = omega (arith, c.place.ensures.in_range, length-map ps f) in
+    let i = c.index_of_key.result in
+    let lt : i < length ps = omega (arith, c.index_of_key.ensures.in_range, length-map ps f) in
     let read : f x ≡ get_or cs i (f x) = part_read f ps i x lt c.index.ensures in
     let k = c.args.key.now in
-    c.get.ensures ∙ ap (find key_cmp k) read ∙ sym (find_in cs k i c.place.ensures (f x))
+    c.get.ensures ∙ ap (find key_cmp k) read ∙ sym (find_in cs k i c.index_of_key.ensures (f x))

@@ -17,25 +17,25 @@ ends_below-requires g c =
     let cs = map f ps in
     let k = c.args.key.now in
     let x = c.index.result.now in
-    let i = c.place-place.result in
-    let is = c.place-place.ensures in
+    let i = c.index_of_key-index.result in
+    let is = c.index_of_key-index.ensures in
     let lt : i < length ps = omega (arith, is.in_range, length-map ps f) in
     let read : f x ≡ get_or cs i (f x) = part_read f ps i x lt c.index.ensures in
     rw read (chunk_sorted cs i (f x) c.requires.rows.sorted is.in_range)
 
-pub push_one-requires-then-ends_below-clause-last : goal.push_one-requires-then-ends_below-clause-last
-push_one-requires-then-ends_below-clause-last g c =
+pub push_single-requires-then-ends_below-clause-last : goal.push_single-requires-then-ends_below-clause-last
+push_single-requires-then-ends_below-clause-last g c =
     let f = g.P.Part.routes in
     let ps = c.args.self.now.parts.items in
     let ks = c.args.self.now.firsts.items in
     let cs = map f ps in
     let k = c.args.key.now in
     let x = c.index.result.now in
-    let i = c.place-place.result in
-    let is = c.place-place.ensures in
+    let i = c.index_of_key-index.result in
+    let is = c.index_of_key-index.ensures in
     let lt : i < length ps = omega (arith, is.in_range, length-map ps f) in
     let read : f x ≡ get_or cs i (f x) = part_read f ps i x lt c.index.ensures in
-    let last : EachKey (λ j. key_cmp j k ≡ Less) (in_chunks cs) = last_of ks cs k i (f x) c.requires.rows (omega (arith, c.if-place-len.true, c.len.ensures, length-map ps f)) (subst (λ (t : List (RouteKey × _)). EachKey (λ j. key_cmp j k ≡ Less) t) read (c.ends_below.ensures c.if-ends_below.true)) in
+    let last : EachKey (λ j. key_cmp j k ≡ Less) (in_chunks cs) = last_of ks cs k i (f x) c.requires.rows (omega (arith, c.if-index-len.true, c.len.ensures, length-map ps f)) (subst (λ (t : List (RouteKey × _)). EachKey (λ j. key_cmp j k ≡ Less) t) read (c.ends_below.ensures c.if-ends_below.true)) in
     last
 
 pub returns-then-ends_below-clause-before : goal.returns-then-ends_below-clause-before
@@ -46,17 +46,17 @@ returns-then-ends_below-clause-before g c =
     let cs = map f ps in
     let k = c.args.key.now in
     let x = c.index.result.now in
-    let i = c.place-place.result in
-    let is = c.place-place.ensures in
+    let i = c.index_of_key-index.result in
+    let is = c.index_of_key-index.ensures in
     let lt : i < length ps = omega (arith, is.in_range, length-map ps f) in
     let read : f x ≡ get_or cs i (f x) = part_read f ps i x lt c.index.ensures in
-    let last : EachKey (λ j. key_cmp j k ≡ Less) (in_chunks cs) = last_of ks cs k i (f x) c.requires.rows (omega (arith, c.if-place-len.true, c.len.ensures, length-map ps f)) (subst (λ (t : List (RouteKey × _)). EachKey (λ j. key_cmp j k ≡ Less) t) read (c.ends_below.ensures c.if-ends_below.true)) in
+    let last : EachKey (λ j. key_cmp j k ≡ Less) (in_chunks cs) = last_of ks cs k i (f x) c.requires.rows (omega (arith, c.if-index-len.true, c.len.ensures, length-map ps f)) (subst (λ (t : List (RouteKey × _)). EachKey (λ j. key_cmp j k ≡ Less) t) read (c.ends_below.ensures c.if-ends_below.true)) in
     sym (find_below k (in_chunks cs) last)
 
-pub divide-requires-clause-within : goal.divide-requires-clause-within
-divide-requires-clause-within g c =
+pub split_overfull-requires-clause-within : goal.split_overfull-requires-clause-within
+split_overfull-requires-clause-within g c =
     let f = g.P.Part.routes in
     let ps = c.args.self.now.parts.items in
     let ks = c.args.self.now.firsts.items in
     let cs = map f ps in
-    omega (arith, c.in_ok-before.ensures.kept, c.place-place.ensures.in_range, length-map ps f)
+    omega (arith, c.in_ok-before.ensures.kept, c.index_of_key-index.ensures.in_range, length-map ps f)

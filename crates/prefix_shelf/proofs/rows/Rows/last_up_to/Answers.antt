@@ -12,10 +12,10 @@ last_up_to-requires g c =
     let ks = c.args.self.now.firsts.items in
     let cs = map f ps in
     let x = c.index.result.now in
-    let i = c.place_of.result in
-    let lt : i < length ps = omega (arith, c.place_of.ensures.in_range, length-map ps f) in
+    let i = c.index_of_prefix.result in
+    let lt : i < length ps = omega (arith, c.index_of_prefix.ensures.in_range, length-map ps f) in
     let read : f x ≡ get_or cs i (f x) = part_read f ps i x lt c.index.ensures in
-    rw read (chunk_sorted cs i (f x) c.requires.sorted c.place_of.ensures.in_range)
+    rw read (chunk_sorted cs i (f x) c.requires.sorted c.index_of_prefix.ensures.in_range)
 
 pub returns : goal.returns
 returns g c =
@@ -24,7 +24,7 @@ returns g c =
     let ks = c.args.self.now.firsts.items in
     let cs = map f ps in
     let x = c.index.result.now in
-    let i = c.place_of.result in
-    let lt : i < length ps = omega (arith, c.place_of.ensures.in_range, length-map ps f) in
+    let i = c.index_of_prefix.result in
+    let lt : i < length ps = omega (arith, c.index_of_prefix.ensures.in_range, length-map ps f) in
     let read : f x ≡ get_or cs i (f x) = part_read f ps i x lt c.index.ensures in
-    last_in ks cs c.args.last.now i (f x) c.last_up_to.result c.requires c.place_of.ensures read c.last_up_to.ensures
+    last_in ks cs c.args.last.now i (f x) c.last_up_to.result c.requires c.index_of_prefix.ensures read c.last_up_to.ensures

@@ -14,9 +14,9 @@ loop-at-init g c =
     let ps = c.args.self.now.parts.items in
     let ks = c.args.self.now.firsts.items in
     let cs = map f ps in
-    let none = paths_below c.args.prefix.now (in_chunks (take c.place-at.result cs)) c.place-at.ensures.before in
+    let none = paths_below c.args.prefix.now (in_chunks (take c.index_of_key-at.result cs)) c.index_of_key-at.ensures.before in
     record {
-      inside = omega (arith, c.place-at.ensures.in_range, length-map ps f);
+      inside = omega (arith, c.index_of_key-at.ensures.in_range, length-map ps f);
       listed = rw none (sym (append-nil _));
     }
 

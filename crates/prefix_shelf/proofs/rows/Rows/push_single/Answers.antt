@@ -2,7 +2,7 @@ use Rattle.std.proofs.Common.{◌≡◌, ap, map, arith, length}
 use Rattle.std.proofs.lemmas.List.{length-map}
 use Rattle.prefix_shelf.proofs.KeyedLists.{map_insert}
 use Rattle.prefix_shelf.proofs.ShelfLaws.{rows_push}
-use Rattle.prefix_shelf.proofs.rows.Rows.push_one.Goals as goal
+use Rattle.prefix_shelf.proofs.rows.Rows.push_single.Goals as goal
 
 pub returns-clause-ok : goal.returns-clause-ok
 returns-clause-ok g c =

@@ -1,7 +1,7 @@
 use Rattle.std.proofs.Common.{[], ◌∷◌}
 use Rattle.std.proofs.lemmas.List.{append-nil}
 use Rattle.prefix_shelf.proofs.ShelfLaws.{rows_one}
-use Rattle.prefix_shelf.proofs.rows.Rows.one.Goals as goal
+use Rattle.prefix_shelf.proofs.rows.Rows.single.Goals as goal
 
 pub returns-clause-routes : goal.returns-clause-routes
 returns-clause-routes g c =

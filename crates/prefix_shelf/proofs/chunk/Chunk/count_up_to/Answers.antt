@@ -1,6 +1,6 @@
 use Rattle.std.proofs.Common.{◌≡◌, arith}
 use Rattle.prefix_shelf.proofs.ChunkLaws.{point_between}
-use Rattle.prefix_shelf.proofs.chunk.Chunk.up_to.Goals as goal
+use Rattle.prefix_shelf.proofs.chunk.Chunk.count_up_to.Goals as goal
 
 pub returns-clause-end : goal.returns-clause-end
 returns-clause-end g c =

@@ -1,7 +1,7 @@
 use Rattle.std.proofs.Common.{◌≡◌, ◌-◌, map, arith}
 use Rattle.std.proofs.lemmas.List.{length-map}
-use Rattle.prefix_shelf.proofs.ShelfLaws.{place_in}
-use Rattle.prefix_shelf.proofs.rows.Rows.place.Goals as goal
+use Rattle.prefix_shelf.proofs.ShelfLaws.{index_of_prefix}
+use Rattle.prefix_shelf.proofs.rows.Rows.index_of_prefix.Goals as goal
 
 pub returns : goal.returns
 returns g c =
@@ -12,4 +12,4 @@ returns g c =
     let l = c.loop-low in
     let met : l.high ≡ l.low = omega (arith, c.loop-low-test.false, l.invariant.order) in
     let is : c.saturating_sub.result ≡ l.low - 1 = c.saturating_sub.ensures in
-    rw is (place_in ks cs c.args.key.now l.low c.requires.rows (omega (arith, c.requires.some, length-map ps f)) (omega (arith, l.invariant.inside, met)) l.invariant.below (rw met at l.invariant.above))
+    rw is (index_of_prefix ks cs c.args.last.now l.low c.requires.rows (omega (arith, c.requires.some, length-map ps f)) (omega (arith, l.invariant.inside, met)) l.invariant.below (rw met at l.invariant.above))

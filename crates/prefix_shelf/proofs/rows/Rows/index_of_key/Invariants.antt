@@ -2,7 +2,7 @@ use Rattle.std.proofs.Common.{◌≡◌, ◌≢◌, ◌-◌, ◌<◌, ◌≤◌,
 use Rattle.std.specs.declared.cmp.Ordering.TheVariants.{Greater}
 use Rattle.bgp_prefix.specs.Keys.{key_cmp}
 use Rattle.bgp_prefix.specs.declared.key.RouteKey.{RouteKey}
-use Rattle.prefix_shelf.proofs.rows.Rows.place.Given as goal
+use Rattle.prefix_shelf.proofs.rows.Rows.index_of_key.Given as goal
 
 -- the key before is no greater, and the one at the end is
 abbrev pub invariant-loop-low : goal.invariant-loop-low

@@ -5,7 +5,7 @@ use Rattle.prefix_shelf.specs.Shelves.{in_chunks, IsCut}
 use Rattle.bgp_prefix.specs.declared.key.RouteKey.{RouteKey}
 use Rattle.prefix_shelf.proofs.KeyedLists.{part_read, map_insert}
 use Rattle.prefix_shelf.proofs.ShelfLaws.{rows_split}
-use Rattle.prefix_shelf.proofs.rows.Rows.divide.Goals as goal
+use Rattle.prefix_shelf.proofs.rows.Rows.split_overfull.Goals as goal
 
 pub first-first-requires : goal.first-first-requires
 first-first-requires g c =
@@ -17,7 +17,7 @@ returns-in_default-clause-same g c =
     let ps = c.args.self.now.parts.items in
     let ks = c.args.self.now.firsts.items in
     let cs = map f ps in
-    let i = c.args.place in
+    let i = c.args.index in
     let x = c.index_mut.result.now in
     let low = c.split.new.self in
     let lt : i < length ps = c.requires.within in
@@ -32,7 +32,7 @@ returns-in_default-clause-rows g c =
     let ps = c.args.self.now.parts.items in
     let ks = c.args.self.now.firsts.items in
     let cs = map f ps in
-    let i = c.args.place in
+    let i = c.args.index in
     let x = c.index_mut.result.now in
     let low = c.split.new.self in
     let lt : i < length ps = c.requires.within in
@@ -47,7 +47,7 @@ returns-clause-same g c =
     let ps = c.args.self.now.parts.items in
     let ks = c.args.self.now.firsts.items in
     let cs = map f ps in
-    let i = c.args.place in
+    let i = c.args.index in
     let x = c.index_mut.result.now in
     let low = c.split.new.self in
     let lt : i < length ps = c.requires.within in
@@ -64,7 +64,7 @@ returns-clause-rows g c =
     let ps = c.args.self.now.parts.items in
     let ks = c.args.self.now.firsts.items in
     let cs = map f ps in
-    let i = c.args.place in
+    let i = c.args.index in
     let x = c.index_mut.result.now in
     let low = c.split.new.self in
     let lt : i < length ps = c.requires.within in
