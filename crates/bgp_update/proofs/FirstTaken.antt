@@ -6,8 +6,8 @@ use Rattle.bgp_update.specs.declared.width.Carrier.{Carrier}
 use Rattle.bgp_update.specs.declared.values.FirstValues.{FirstValues}
 use Rattle.bgp_update.specs.AttributeTypes.{type_of, bad_attribute}
 use Rattle.bgp_update.specs.Attributes.{WrittenAttribute, value_fault, refuses_repeat, fault_unless, fault_of_type, fault_beside}
-use Rattle.bgp_update.specs.Values.{kept_value, place, or_value, Takes}
-use Rattle.bgp_update.proofs.TypeLaws.{place_tells, no_type, equal_places}
+use Rattle.bgp_update.specs.Values.{kept_value, value_index, or_value, Takes}
+use Rattle.bgp_update.proofs.TypeLaws.{value_index_decides, no_type, equal_value_indices}
 
 abbrev Values : Type 0
 Values = AttributeType → Option (List ℕ)
@@ -30,27 +30,27 @@ takes_other carrier width first a e =
 
 -- the first of its type
 pub takes_first : (carrier : Carrier) (width : Width) (first later : FirstValues) (a : WrittenAttribute) (t : AttributeType) → type_of a.code ≡ Some t → kept_value first t ≡ None → value_fault carrier width t a.value ≡ None
-    → ((u : AttributeType) → kept_value later u ≡ cond (eqb (place u) (place t)) (Some a.value) (kept_value first u)) → Takes carrier width first a later
+    → ((u : AttributeType) → kept_value later u ≡ cond (eqb (value_index u) (value_index t)) (Some a.value) (kept_value first u)) → Takes carrier width first a later
 takes_first carrier width first later a t e none fine kept =
     record {
       passes = beside carrier width (kept_value first) a t None e none ∙ fine;
-      kept = λ u. kept u ∙ by_test u (eqb (place u) (place t)) refl ∙ ap (λ (b : Bool). or_value (kept_value first u) (cond b (Some a.value) None)) (sym (place_tells a.code t u e));
+      kept = λ u. kept u ∙ by_test u (eqb (value_index u) (value_index t)) refl ∙ ap (λ (b : Bool). or_value (kept_value first u) (cond b (Some a.value) None)) (sym (value_index_decides a.code t u e));
     }
   where
-    by_test : (u : AttributeType) (b : Bool) → eqb (place u) (place t) ≡ b → cond b (Some a.value) (kept_value first u) ≡ or_value (kept_value first u) (cond b (Some a.value) None)
+    by_test : (u : AttributeType) (b : Bool) → eqb (value_index u) (value_index t) ≡ b → cond b (Some a.value) (kept_value first u) ≡ or_value (kept_value first u) (cond b (Some a.value) None)
     by_test u false h = or_none (kept_value first u)
-    by_test u true h = ap (λ (o : Option (List ℕ)). or_value o (Some a.value)) (sym (ap (kept_value first) (equal_places u t h) ∙ none))
+    by_test u true h = ap (λ (o : Option (List ℕ)). or_value o (Some a.value)) (sym (ap (kept_value first) (equal_value_indices u t h) ∙ none))
 
 -- a repeat
 pub takes_again : (carrier : Carrier) (width : Width) (first : FirstValues) (a : WrittenAttribute) (t : AttributeType) (value : List ℕ) → type_of a.code ≡ Some t → Some value ≡ kept_value first t → refuses_repeat carrier t ≡ false → Takes carrier width first a first
 takes_again carrier width first a t value e some allowed =
     record {
       passes = beside carrier width (kept_value first) a t (Some value) e (sym some) ∙ ap (λ (b : Bool). fault_unless (cond b false true) (bad_attribute t)) allowed;
-      kept = λ u. by_test u (eqb (place u) (place t)) refl ∙ ap (λ (b : Bool). or_value (kept_value first u) (cond b (Some a.value) None)) (sym (place_tells a.code t u e));
+      kept = λ u. by_test u (eqb (value_index u) (value_index t)) refl ∙ ap (λ (b : Bool). or_value (kept_value first u) (cond b (Some a.value) None)) (sym (value_index_decides a.code t u e));
     }
   where
-    by_test : (u : AttributeType) (b : Bool) → eqb (place u) (place t) ≡ b → kept_value first u ≡ or_value (kept_value first u) (cond b (Some a.value) None)
+    by_test : (u : AttributeType) (b : Bool) → eqb (value_index u) (value_index t) ≡ b → kept_value first u ≡ or_value (kept_value first u) (cond b (Some a.value) None)
     by_test u false h = or_none (kept_value first u)
     by_test u true h =
-        let held : Some value ≡ kept_value first u = some ∙ ap (kept_value first) (sym (equal_places u t h)) in
+        let held : Some value ≡ kept_value first u = some ∙ ap (kept_value first) (sym (equal_value_indices u t h)) in
         sym held ∙ ap (λ (o : Option (List ℕ)). or_value o (Some a.value)) held

@@ -65,12 +65,12 @@ none_left bytes h e = by_path (spelled_path bytes) h.written
     by_path [] w = refl
     by_path (x ∷ xs) w = absurd (omega (arith, e, ap length w))
 
--- a number of a segment, by its place
-pub number_by_place : (count : ℕ) (octets : List ℕ) (i : ℕ) → i < count → get_or (numbers_in 4 count octets) i 0 ≡ big_number 4 (drop (4 * i) octets)
-number_by_place zero octets i h = absurd (omega arith)
-number_by_place (suc count) octets zero h = refl
-number_by_place (suc count) octets (suc i) h =
-    number_by_place count (drop 4 octets) i (omega arith) ∙ ap (big_number 4) (drop-drop (4 * i) 4 octets ∙ ap (λ (n : ℕ). drop n octets) (omega arith))
+-- a number of a segment, by its index
+pub number_by_index : (count : ℕ) (octets : List ℕ) (i : ℕ) → i < count → get_or (numbers_in 4 count octets) i 0 ≡ big_number 4 (drop (4 * i) octets)
+number_by_index zero octets i h = absurd (omega arith)
+number_by_index (suc count) octets zero h = refl
+number_by_index (suc count) octets (suc i) h =
+    number_by_index count (drop 4 octets) i (omega arith) ∙ ap (big_number 4) (drop-drop (4 * i) 4 octets ∙ ap (λ (n : ℕ). drop n octets) (omega arith))
 
 pub length_numbers_in : (len count : ℕ) (octets : List ℕ) → length (numbers_in len count octets) ≡ count
 length_numbers_in len zero octets = refl
@@ -86,12 +86,12 @@ origin_goes_on origin s [] = refl
 origin_goes_on origin s (t ∷ path) =
     let e : length (s ∷ t ∷ path) - 1 ≡ suc (length (t ∷ path) - 1) = omega arith in ap (λ (n : ℕ). segment_origin (slice_get (s ∷ t ∷ path) n)) (sym e)
 
--- a number that is read at its place
+-- a number that is read at its index
 pub number_read : (kind : SegmentKind) (count : ℕ) (octets : List ℕ) (s : PathSegment) (i x : ℕ) → segment_with kind (numbers_in 4 count octets) ≡ s → i < length s.numbers
     → x ≡ big_number 4 (take (length octets - 4 * i) (drop (4 * i) octets)) → x ≡ get_or s.numbers i 0
 number_read kind count octets s i x is h e =
     let lt : i < count = omega (arith, h, ap (λ (t : PathSegment). length t.numbers) is, length_numbers_in 4 count octets) in
-    e ∙ ap (big_number 4) (take_rest octets (4 * i)) ∙ sym (number_by_place count octets i lt) ∙ ap (λ (t : PathSegment). get_or t.numbers i 0) is
+    e ∙ ap (big_number 4) (take_rest octets (4 * i)) ∙ sym (number_by_index count octets i lt) ∙ ap (λ (t : PathSegment). get_or t.numbers i 0) is
 
 pub last_read : (xs : List ℕ) (n x : ℕ) → n ≡ length xs → 0 < n → x ≡ get_or xs (n - 1) 0 → Some x ≡ last_of xs
 last_read xs n x e pos is = ap (λ (y : ℕ). Some y) is ∙ ap (λ (m : ℕ). Some (get_or xs (m - 1) 0)) e ∙ sym (slice_get-get_or xs (length xs - 1) 0 (omega (arith, e, pos)))

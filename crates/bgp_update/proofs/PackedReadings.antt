@@ -17,7 +17,7 @@ use Rattle.bgp_update.specs.Values.{kept_value, KeepsFirst}
 use Rattle.bgp_update.specs.Packing.{IsSpelled, spelled_path, IsWritable, HaveWidths, CanPack, without_path, fields_bytes, path_part, bytes_or_none, route_bytes, unpacked, ArePacked}
 use Rattle.bgp_update.proofs.SegmentLaws.{path_in-bytes}
 use Rattle.bgp_update.proofs.AttributeLaws.{attributes_in-is}
-use Rattle.bgp_update.proofs.Sayings.{route_is_said}
+use Rattle.bgp_update.proofs.FromFirstValues.{route_of_first_values}
 use Rattle.bgp_update.proofs.Packings.{route_bytes-fields, packed-bytes, unpacked-bytes}
 use Rattle.bgp_update.proofs.PackedPaths.{spelled-bytes}
 use Rattle.bgp_update.proofs.Packable.{route_writable}
@@ -65,9 +65,9 @@ widths_without fields r e h = let w = subst HaveWidths e h in record { next_hop 
 pub reading_is_packed : (width : Width) (bytes new : List ℕ) (first : FirstValues) → IsBytes bytes → KeepsFirst RibEntry width bytes first → HaveWidths (route_from width (kept_value first)) → new ≡ route_bytes (route_from width (kept_value first)) → ArePacked (route_in width bytes) new
 reading_is_packed width bytes new first fine keeps widths e =
     let r : Route = route_from width (kept_value first) in
-    let said : route_in width bytes ≡ Ok r = route_is_said width bytes first r keeps refl in
+    let said : route_in width bytes ≡ Ok r = route_of_first_values width bytes first r keeps refl in
     let packs : CanPack r = record { fields = widths; path = route_writable width bytes r fine said } in
     record { packed = packed-bytes r new packs e; read_so = said ∙ ap (λ (x : Route). Ok x) (sym (ap unpacked e ∙ unpacked-bytes r packs)) }
 
 pub said_path_writable : (width : Width) (bytes : List ℕ) (first : FirstValues) → IsBytes bytes → KeepsFirst RibEntry width bytes first → IsWritable (route_from width (kept_value first)).path
-said_path_writable width bytes first fine keeps = route_writable width bytes (route_from width (kept_value first)) fine (route_is_said width bytes first (route_from width (kept_value first)) keeps refl)
+said_path_writable width bytes first fine keeps = route_writable width bytes (route_from width (kept_value first)) fine (route_of_first_values width bytes first (route_from width (kept_value first)) keeps refl)

@@ -1,10 +1,10 @@
--- Each type has a code and a place of its own.
+-- Each type has a code, and an index for its value, of its own.
 use Rattle.std.proofs.Common.{◌≡◌, ℕ, Bool, true, false, cond, eqb, Option, Some, None, refl, sym, ap, ◌∙◌, arith}
 use Rattle.std.proofs.lemmas.Bool.{eqb-true}
 use Rattle.bgp_update.specs.declared.attribute_type.AttributeType.{AttributeType}
 use Rattle.bgp_update.specs.declared.attribute_type.AttributeType.TheVariants as types
 use Rattle.bgp_update.specs.AttributeTypes.{type_code, type_of}
-use Rattle.bgp_update.specs.Values.{place}
+use Rattle.bgp_update.specs.Values.{value_index}
 
 pub type_again : (t : AttributeType) → type_of (type_code t) ≡ Some t
 type_again types.Origin = refl
@@ -47,7 +47,7 @@ type_is code t =
     (found code t types.As4Path _
     (found code t types.As4Aggregator None (λ e. absurd (some_not t e))))))))))))
 
--- ---- places
+-- ---- indices of values
 
 abbrev type_at : ℕ → AttributeType
 type_at n =
@@ -62,31 +62,31 @@ type_at n =
     (cond (eqb n 8) types.MpUnreachNlri
     (cond (eqb n 9) types.As4Path types.As4Aggregator)))))))))
 
-place_again : (t : AttributeType) → type_at (place t) ≡ t
-place_again types.Origin = refl
-place_again t = refl
+type_at_value_index : (t : AttributeType) → type_at (value_index t) ≡ t
+type_at_value_index types.Origin = refl
+type_at_value_index t = refl
 
-same_place : (t u : AttributeType) → place t ≡ place u → t ≡ u
-same_place t u e = sym (place_again t) ∙ ap type_at e ∙ place_again u
+same_value_index : (t u : AttributeType) → value_index t ≡ value_index u → t ≡ u
+same_value_index t u e = sym (type_at_value_index t) ∙ ap type_at e ∙ type_at_value_index u
 
 same_test : (n : ℕ) → eqb n n ≡ true
 same_test n = grind arith
 
--- the codes of a type and of another are equal where their places are
-pub place_tells : (code : ℕ) (t u : AttributeType) → type_of code ≡ Some t → eqb code (type_code u) ≡ eqb (place u) (place t)
-place_tells code t u e = by_test (eqb (place u) (place t)) refl
+-- the codes of a type and of another are equal where the indices of their values are
+pub value_index_decides : (code : ℕ) (t u : AttributeType) → type_of code ≡ Some t → eqb code (type_code u) ≡ eqb (value_index u) (value_index t)
+value_index_decides code t u e = by_test (eqb (value_index u) (value_index t)) refl
   where
     same : u ≡ t → eqb code (type_code u) ≡ true
     same h = ap (λ (c : ℕ). eqb c (type_code u)) (type_is code t e ∙ ap type_code (sym h)) ∙ same_test (type_code u)
 
-    is_other : eqb (place u) (place t) ≡ false → (b : Bool) → eqb code (type_code u) ≡ b → b ≡ false
+    is_other : eqb (value_index u) (value_index t) ≡ false → (b : Bool) → eqb code (type_code u) ≡ b → b ≡ false
     is_other h false k = refl
     is_other h true k =
         let same_types : t ≡ u = some_is t u (sym e ∙ ap type_of (eqb-true code (type_code u) k) ∙ type_again u) in
-        absurd (no_and_yes (eqb (place u) (place t)) h (ap (λ (x : AttributeType). eqb (place u) (place x)) same_types ∙ same_test (place u)))
+        absurd (no_and_yes (eqb (value_index u) (value_index t)) h (ap (λ (x : AttributeType). eqb (value_index u) (value_index x)) same_types ∙ same_test (value_index u)))
 
-    by_test : (b : Bool) → eqb (place u) (place t) ≡ b → eqb code (type_code u) ≡ b
-    by_test true h = same (same_place u t (eqb-true (place u) (place t) h))
+    by_test : (b : Bool) → eqb (value_index u) (value_index t) ≡ b → eqb code (type_code u) ≡ b
+    by_test true h = same (same_value_index u t (eqb-true (value_index u) (value_index t) h))
     by_test false h = is_other h (eqb code (type_code u)) refl
 
 -- a code of no type that is looked at is that of none
@@ -97,5 +97,5 @@ no_type code t e = by_test (eqb code (type_code t)) refl
     by_test false h = refl
     by_test true h = absurd (some_not t (sym e ∙ ap type_of (eqb-true code (type_code t) h) ∙ type_again t))
 
-pub equal_places : (t u : AttributeType) → eqb (place t) (place u) ≡ true → t ≡ u
-equal_places t u h = same_place t u (eqb-true (place t) (place u) h)
+pub equal_value_indices : (t u : AttributeType) → eqb (value_index t) (value_index u) ≡ true → t ≡ u
+equal_value_indices t u h = same_value_index t u (eqb-true (value_index t) (value_index u) h)

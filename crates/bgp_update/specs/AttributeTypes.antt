@@ -1,5 +1,5 @@
--- The types of path attributes that are looked at, by their type codes (RFC 4271, 4.3 and 5.1; RFC 4760, sections 3 and 4;
--- RFC 6793, section 3).
+-- The types of path attributes that are looked at, by their type codes (RFC 4271, 4.3 and 5.1; RFC 4760, sections 3 and
+-- 4; RFC 6793, section 3).
 use Rattle.std.specs.Prelude.{ℕ, Option, Some, None, ◌==◌, if◌then◌else◌}
 use Rattle.mrt_frame.specs.declared.fault.Fault.{Fault}
 use Rattle.mrt_frame.specs.declared.fault.Fault.TheVariants.{BadAttribute}

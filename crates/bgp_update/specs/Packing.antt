@@ -56,7 +56,8 @@ hop_code (Some (V6Pair a link)) = 3
 
 abbrev pub field_flags : Route → ℕ
 field_flags r =
-    origin_code r.origin + 4 * flag r.atomic + 8 * hop_code r.next_hop + 32 * flag (is_some r.med) + 64 * flag (is_some r.local_pref)
+    origin_code r.origin + 4 * flag r.atomic + 8 * hop_code r.next_hop + 32 * flag (is_some r.med)
+    + 64 * flag (is_some r.local_pref)
     + 128 * flag (is_some r.aggregator)
 
 abbrev pub hop_bytes : Option NextHop → List ℕ
@@ -79,7 +80,9 @@ path_part (Some path) = path_bytes 4 path
 
 unfoldable pub route_bytes : Route → List ℕ
 route_bytes r =
-    (field_flags r ∷ flag (is_some r.path) ∷ []) ++ (hop_bytes r.next_hop ++ (number_bytes r.med ++ (number_bytes r.local_pref ++ (aggregator_bytes r.aggregator ++ path_part r.path))))
+    (field_flags r ∷ flag (is_some r.path) ∷ [])
+    ++ (hop_bytes r.next_hop ++ (number_bytes r.med
+    ++ (number_bytes r.local_pref ++ (aggregator_bytes r.aggregator ++ path_part r.path))))
 
 -- ---- the route of bytes
 
@@ -89,9 +92,9 @@ origin_bits bytes = slice_index bytes 0 % 4
 abbrev pub hop_bits : List ℕ → ℕ
 hop_bits bytes = slice_index bytes 0 / 8 % 4
 
--- 1 where a flag is set; its place is 4 for ATOMIC_AGGREGATE, 32 for MED, 64 for LOCAL_PREF, and 128 for AGGREGATOR
+-- 1 where a flag is set; its weight is 4 for ATOMIC_AGGREGATE, 32 for MED, 64 for LOCAL_PREF, and 128 for AGGREGATOR
 abbrev pub flag_bit : ℕ → List ℕ → ℕ
-flag_bit place bytes = slice_index bytes 0 / place % 2
+flag_bit weight bytes = slice_index bytes 0 / weight % 2
 
 abbrev pub hop_len : ℕ → ℕ
 hop_len code = if code == 0 then 0 else (if code == 1 then 4 else (if code == 2 then 16 else 32))
@@ -110,17 +113,22 @@ unfoldable pub path_at : List ℕ → ℕ
 path_at bytes = aggregator_at bytes + 8 * flag_bit 128 bytes
 
 abbrev pub origin_by : ℕ → Option Origin
-origin_by code = if code == 0 then Some Igp else (if code == 1 then Some Egp else (if code == 2 then Some Incomplete else None))
+origin_by code =
+    if code == 0 then Some Igp else (if code == 1 then Some Egp else (if code == 2 then Some Incomplete else None))
 
 abbrev pub hop_by : ℕ → List ℕ → Option NextHop
 hop_by code bytes =
-    if code == 0 then None else (if code == 1 then Some (V4 (big_number 4 bytes)) else (if code == 2 then Some (V6 (big_number 16 bytes)) else Some (V6Pair (big_number 16 bytes) (big_number 16 (drop 16 bytes)))))
+    if code == 0 then None else
+    (if code == 1 then Some (V4 (big_number 4 bytes)) else
+    (if code == 2 then Some (V6 (big_number 16 bytes)) else
+    Some (V6Pair (big_number 16 bytes) (big_number 16 (drop 16 bytes)))))
 
 abbrev pub number_by : ℕ → List ℕ → Option ℕ
 number_by bit bytes = if bit == 1 then Some (big_number 4 bytes) else None
 
 abbrev pub aggregator_by : ℕ → List ℕ → Option Aggregator
-aggregator_by bit bytes = if bit == 1 then Some (record { asn = big_number 4 bytes; addr = big_number 4 (drop 4 bytes) }) else None
+aggregator_by bit bytes =
+    if bit == 1 then Some (record { asn = big_number 4 bytes; addr = big_number 4 (drop 4 bytes) }) else None
 
 abbrev pub segments_of : Result (List PathSegment) Fault → List PathSegment
 segments_of (Ok path) = path
@@ -157,7 +165,8 @@ pub record IsSpelled (bytes : List ℕ) : Type 0 where
 -- the bytes in front of the path
 unfoldable pub fields_bytes : Route → Bool → List ℕ
 fields_bytes r has_path =
-    (((((field_flags r ∷ flag has_path ∷ []) ++ hop_bytes r.next_hop) ++ number_bytes r.med) ++ number_bytes r.local_pref) ++ aggregator_bytes r.aggregator)
+    (((((field_flags r ∷ flag has_path ∷ []) ++ hop_bytes r.next_hop) ++ number_bytes r.med)
+    ++ number_bytes r.local_pref) ++ aggregator_bytes r.aggregator)
 
 -- a route but for its path
 abbrev pub without_path : Route → Route

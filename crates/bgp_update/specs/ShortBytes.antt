@@ -1,4 +1,4 @@
--- Immutable bytes, in place if they are few.
+-- Immutable bytes, stored inline if they are few.
 use Rattle.std.specs.Prelude.{◌≡◌, ◌≤◌, ⊤, ℕ, List, length, take}
 use Rattle.std.specs.Box.{boxed_slice_items}
 use Rattle.bgp_update.specs.declared.short_bytes.Held.{Held}

@@ -1,4 +1,5 @@
-// The laws of readings, and of merging.
+//! The laws of readings, and of merging.
+
 ghost use Rattle.std.specs.Prelude.{◌≡◌, ◌↔◌, ℕ, Bool, List, Ok};
 ghost use Rattle.mrt_frame.specs.Bytes.{AreBytes};
 ghost use Rattle.bgp_update.specs.declared.route.Route.{Route};

@@ -1,4 +1,4 @@
-//! Path attributes, one by one.
+//! A path attribute as it stands in a field, what is wrong with a value of its type, and which repeats are refused.
 
 ghost use Rattle.std.specs.Prelude.{◌≡◌, ℕ, ◌≤◌, ◌<◌, Bool, true, IsTrue, List, Ok, Err, IfOk, IfErr, length};
 ghost use Rattle.mrt_frame.specs.declared.fault.Fault.TheVariants.{ShortAttribute};
@@ -6,17 +6,15 @@ ghost use Rattle.mrt_frame.specs.Fields as fields;
 ghost use Rattle.mrt_frame.specs.Fields.{Reads};
 ghost use Rattle.bgp_update.specs.Keys.{keys_in};
 ghost use Rattle.bgp_update.specs.Segments.{number_len, path_in};
-ghost use Rattle.bgp_update.specs.Merging as merging;
 ghost use Rattle.bgp_update.specs.Attributes as attributes;
 ghost use Rattle.bgp_update.specs.Attributes.{length_len, fault_of};
 
 use crate::attribute_type::AttributeType;
 use crate::key::key_count;
 use crate::multiprotocol::{reach_in, unreach_in};
-use crate::route::{Aggregator, Origin};
+use crate::route_fields::origin_of;
 use crate::segment::segment_count;
 use crate::width::{Carrier, Width};
-use byteorder::{BigEndian, ByteOrder};
 use mrt_frame::{Fault, byte_at, bytes_at, u16_at};
 
 /// A path attribute as it appears in a field.
@@ -42,7 +40,8 @@ fn value_len_at(flags: u8, bytes: &[u8]) -> Result<(usize, &[u8]), Fault>
 /// Reads an attribute, and returns it with the bytes after it.
 #[tactic(auto, unfolding(crate::specs::Attributes::attribute_at))]
 pub fn attribute_at(bytes: &[u8]) -> Result<(Attribute<'_>, &[u8]), Fault>
-    ensures { Reads (λ x. (record { flags = x.0.flags; code = x.0.code; value = x.0.value.now }, x.1.now)) result (attributes.attribute_at bytes.now) }
+    ensures { Reads (λ x. (record { flags = x.0.flags; code = x.0.code; value = x.0.value.now }, x.1.now)) result
+        (attributes.attribute_at bytes.now) }
 {
     let (flags, rest) = byte_at(bytes, Fault::ShortAttribute)?;
     let (code, rest) = byte_at(rest, Fault::ShortAttribute)?;
@@ -51,45 +50,7 @@ pub fn attribute_at(bytes: &[u8]) -> Result<(Attribute<'_>, &[u8]), Fault>
     Ok((Attribute { flags, code, value }, rest))
 }
 
-pub fn origin_of(value: &[u8]) -> Option<Origin>
-    ensures { result ≡ attributes.origin_of value.now }
-{
-    if value.len() != 1 {
-        return None;
-    }
-    match value[0] {
-        0 => Some(Origin::Igp),
-        1 => Some(Origin::Egp),
-        2 => Some(Origin::Incomplete),
-        _ => None,
-    }
-}
-
-/// Reads AGGREGATOR, according to its length.
-pub fn aggregator_of(value: &[u8]) -> Option<Aggregator>
-    ensures { result ≡ merging.aggregator_of value.now }
-{
-    if value.len() == 6 {
-        let asn = BigEndian::read_u16(value) as u32;
-        let addr = BigEndian::read_u32(&value[2..]);
-        Some(Aggregator { asn, addr })
-    } else {
-        as4_aggregator_of(value)
-    }
-}
-
-/// Reads AS4_AGGREGATOR. One of any other length is discarded.
-pub fn as4_aggregator_of(value: &[u8]) -> Option<Aggregator>
-    ensures { result ≡ merging.as4_aggregator_of value.now }
-{
-    if value.len() != 8 {
-        return None;
-    }
-    let asn = BigEndian::read_u32(value);
-    let addr = BigEndian::read_u32(&value[4..]);
-    Some(Aggregator { asn, addr })
-}
-
+/// Returns the fault of a value that isn't well-formed.
 fn fault_unless(is_formed: bool, fault: Fault) -> Option<Fault>
     ensures { result ≡ attributes.fault_unless is_formed fault }
 {
@@ -141,7 +102,8 @@ fn unreached_fault(carrier: Carrier, value: &[u8]) -> Option<Fault>
     }
 }
 
-/// Returns what is wrong with the value of an attribute of this type.
+/// Returns what is wrong with the value of an attribute of this type: the check of each type (RFC 4271, 4.3 and 5.1;
+/// RFC 4760, 3 and 4; RFC 6793, 3).
 #[tactic(auto, unfolding(crate::specs::Attributes::value_fault))]
 pub fn value_fault(
     carrier: Carrier,

@@ -1,4 +1,6 @@
-//! The types of path attributes.
+//! The types of path attributes that are looked at. `attribute.rt` has the check of each type's value (`value_fault`)
+//! and which repeats are refused; `values.rt` keeps the first value of each type; `route_fields.rt` reads a route's
+//! fields from these (`route_from`), and `multiprotocol.rt` the keys of MP_REACH_NLRI and MP_UNREACH_NLRI.
 
 ghost use Rattle.std.specs.Prelude.{◌≡◌};
 ghost use Rattle.bgp_update.specs.AttributeTypes.{type_code, type_of, bad_attribute};
@@ -8,27 +10,27 @@ use mrt_frame::Fault;
 /// A path attribute type that is looked at, by its type code (RFC 4271, 4.3).
 #[derive(Clone, Copy)]
 pub enum AttributeType {
-    /// ORIGIN (RFC 4271, 5.1.1).
+    /// ORIGIN (RFC 4271, 5.1.1), read by `origin_of`.
     Origin = 1,
-    /// AS_PATH (RFC 4271, 5.1.2).
+    /// AS_PATH (RFC 4271, 5.1.2), read by `read_path`.
     AsPath = 2,
-    /// NEXT_HOP (RFC 4271, 5.1.3).
+    /// NEXT_HOP (RFC 4271, 5.1.3), read by `next_hop_value`.
     NextHop = 3,
-    /// MULTI_EXIT_DISC (RFC 4271, 5.1.4).
+    /// MULTI_EXIT_DISC (RFC 4271, 5.1.4), read by `number_value`.
     MultiExitDisc = 4,
-    /// LOCAL_PREF (RFC 4271, 5.1.5).
+    /// LOCAL_PREF (RFC 4271, 5.1.5), read by `number_value`.
     LocalPref = 5,
-    /// ATOMIC_AGGREGATE (RFC 4271, 5.1.6).
+    /// ATOMIC_AGGREGATE (RFC 4271, 5.1.6), which has no value.
     AtomicAggregate = 6,
-    /// AGGREGATOR (RFC 4271, 5.1.7).
+    /// AGGREGATOR (RFC 4271, 5.1.7), read by `aggregator_of`.
     Aggregator = 7,
-    /// MP_REACH_NLRI (RFC 4760, 3).
+    /// MP_REACH_NLRI (RFC 4760, 3), read by `reached`.
     MpReachNlri = 14,
-    /// MP_UNREACH_NLRI (RFC 4760, 4).
+    /// MP_UNREACH_NLRI (RFC 4760, 4), read by `with_unreached`.
     MpUnreachNlri = 15,
-    /// AS4_PATH (RFC 6793, 3).
+    /// AS4_PATH (RFC 6793, 3), read by `as4_path_value`: nothing is wrong with any value.
     As4Path = 17,
-    /// AS4_AGGREGATOR (RFC 6793, 3).
+    /// AS4_AGGREGATOR (RFC 6793, 3), read by `as4_aggregator_of`: nothing is wrong with any value.
     As4Aggregator = 18,
 }
 

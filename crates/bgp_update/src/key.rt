@@ -7,7 +7,7 @@ ghost use Rattle.bgp_update.specs.Answers.{Gives};
 ghost use Rattle.bgp_update.specs.Keys as keys_spec;
 ghost use Rattle.bgp_update.specs.Keys.{route_keys_in, key_count_in};
 
-use crate::front::front_number;
+use crate::octets::leading_octets_number;
 use crate::width::AttrError;
 use bgp_prefix::{Prefix, RouteKey};
 use mrt_frame::{Fault, byte_at, bytes_at};
@@ -30,7 +30,7 @@ fn prefix_of(len: u8, octets: &[u8]) -> Option<Prefix>
     requires { length octets.now ≤ 4 }
     ensures { len ≤ 32 → result ≡ Some (keys_spec.prefix_of len octets.now) }
 {
-    Prefix::new(front_number(octets), len)
+    Prefix::new(leading_octets_number(octets), len)
 }
 
 /// Reads the prefix of this length in bits at the start of the bytes, and returns it with the bytes after it (RFC 4271,
@@ -56,7 +56,7 @@ pub fn key_at(bytes: &[u8], add_path: bool) -> Result<(RouteKey, &[u8]), Fault>
     let (len, rest) = byte_at(rest, Fault::BadPrefix)?;
     match prefix_at(len, rest) {
         Ok((prefix, rest)) => {
-            let id = front_number(identifier);
+            let id = leading_octets_number(identifier);
             Ok((RouteKey { prefix, id }, rest))
         }
         Err(fault) => Err(fault),

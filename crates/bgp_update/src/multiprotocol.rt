@@ -105,7 +105,8 @@ fn read_reach(
     add_path: bool,
 ) -> Result<(Option<NextHop>, Vec<RouteKey>), AttrError>
     ensures found { IfOk result (λ x. SaysReach add_path value.now x.0 x.1.items) }
-    ensures only { (hop : Option NextHop) (keys : List RouteKey) → SaysReach add_path value.now hop keys → Gives {Y = Option NextHop × List RouteKey} (λ x. (x.0, x.1.items)) result (Ok (hop, keys)) }
+    ensures only { (hop : Option NextHop) (keys : List RouteKey) → SaysReach add_path value.now hop keys →
+        Gives {Y = Option NextHop × List RouteKey} (λ x. (x.0, x.1.items)) result (Ok (hop, keys)) }
     ensures exact { Gives (λ x. (x.0, x.1.items)) result (reached_keys add_path (Some value.now)) }
 {
     whole_reach(alloc, value, add_path)
@@ -147,9 +148,12 @@ fn with_unreach(
     value: &[u8],
     add_path: bool,
 ) -> Result<Vec<RouteKey>, AttrError>
-    ensures found { IfOk result (λ v. (said : List RouteKey) × SaysUnreach add_path value.now said × (v.items ≡ keys.items ++ said)) }
-    ensures only { (said : List RouteKey) → SaysUnreach add_path value.now said → Gives (λ v. v.items) result (Ok (keys.items ++ said)) }
-    ensures exact { Gives (λ v. v.items) result (keys_spec.with_keys keys.items (unreached_keys add_path (Some value.now))) }
+    ensures found { IfOk result (λ v. (said : List RouteKey) × SaysUnreach add_path value.now said ×
+        (v.items ≡ keys.items ++ said)) }
+    ensures only { (said : List RouteKey) → SaysUnreach add_path value.now said →
+        Gives (λ v. v.items) result (Ok (keys.items ++ said)) }
+    ensures exact { Gives (λ v. v.items) result
+        (keys_spec.with_keys keys.items (unreached_keys add_path (Some value.now))) }
 {
     with_whole_unreach(keys, value, add_path)
 }
@@ -161,7 +165,8 @@ pub fn with_unreached(
     value: Option<&[u8]>,
     add_path: bool,
 ) -> Result<Vec<RouteKey>, AttrError>
-    ensures { Gives (λ v. v.items) result (keys_spec.with_keys keys.items (unreached_keys add_path (option_map (λ v. v.now) value.entry))) }
+    ensures { Gives (λ v. v.items) result
+        (keys_spec.with_keys keys.items (unreached_keys add_path (option_map (λ v. v.now) value.entry))) }
 {
     match value {
         Some(value) => with_unreach(keys, value, add_path),

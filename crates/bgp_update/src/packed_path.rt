@@ -66,7 +66,8 @@ fn first_of(bytes: &[u8]) -> (PackedSegment<'_>, &[u8])
 /// Returns the segment of a field that was read.
 fn segment_of(field: SegmentField<'_>) -> PackedSegment<'_>
     requires { field.count * 4 ≤ length field.octets.now }
-    ensures { result ≡ record { kind = field.entry.kind; numbers = numbers_in 4 field.entry.count field.entry.octets.now } }
+    ensures { result
+        ≡ record { kind = field.entry.kind; numbers = numbers_in 4 field.entry.count field.entry.octets.now } }
 {
     PackedSegment {
         kind: field.kind,
@@ -92,7 +93,7 @@ impl<'a> PackedSegment<'a> {
     }
 
     /// Its number at an index below `len`.
-    #[tactic(auto, using(crate::proofs::PackedPaths::length_numbers_in, crate::proofs::PackedPaths::number_by_place))]
+    #[tactic(auto, using(crate::proofs::PackedPaths::length_numbers_in, crate::proofs::PackedPaths::number_by_index))]
     pub fn number(&self, i: usize) -> u32
         requires { i < length self.now.numbers }
         ensures { result ≡ slice_index self.now.numbers i }

@@ -109,7 +109,7 @@ fn aggregator_in(bytes: &[u8]) -> Option<Aggregator>
 }
 
 /// A route as one block of bytes, which contracts see as the `Route`. Equal routes have equal bytes. Up to 46 bytes are
-/// stored in place: those of an IPv4 next hop, MULTI_EXIT_DISC and a path of eight numbers in one segment, for example.
+/// stored inline: those of an IPv4 next hop, MULTI_EXIT_DISC and a path of eight numbers in one segment, for example.
 #[derive(Drop)]
 pub struct PackedRoute {
     bytes: ShortBytes,
@@ -154,7 +154,7 @@ impl PackedRoute {
         self.bytes.as_slice()
     }
 
-    /// Whether the routes are equal.
+    /// Whether the bytes are equal, as those of equal routes are, and only they.
     #[tactic(auto, using(crate::proofs::Packings::same_packed))]
     fn has_same_bytes(&self, other: &PackedRoute) -> bool
         ensures { IsTrue result ↔ (self.now ≡ other.now) }

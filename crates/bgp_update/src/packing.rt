@@ -12,8 +12,10 @@ ghost use Rattle.bgp_update.specs.declared.width.Width.TheVariants.{Four};
 use crate::attribute_type::AttributeType;
 use crate::packed_route::PackedRoute;
 use crate::route::Route;
+use crate::route_fields::{
+    aggregator_from, next_hop_value, number_value, origin_value, route_from,
+};
 use crate::route_writing::{push_fields, push_route};
-use crate::saying::{aggregator_from, next_hop_value, number_value, origin_value, route_from};
 use crate::values::{FirstValues, keep_values};
 use crate::width::{AttrError, Carrier, Width};
 use bgp_prefix::Memory;
@@ -38,7 +40,8 @@ fn fields_from(first: &FirstValues<'_>, width: Width) -> Route
 /// Writes the route of values with four-octet AS numbers: the bytes of AS_PATH are copied.
 fn push_four(out: &mut Vec<u8>, first: &FirstValues<'_>) -> Result<(), Memory>
     requires { IfSome (kept_value first.now AsPath) IsSpelled }
-    ensures bytes { OnOk result (out.new.items ≡ out.old.items ++ route_bytes (attributes.route_from Four (kept_value first.now))) }
+    ensures bytes { OnOk result (out.new.items
+        ≡ out.old.items ++ route_bytes (attributes.route_from Four (kept_value first.now))) }
     ensures widths { OnOk result (HaveWidths (attributes.route_from Four (kept_value first.now))) }
 {
     let fields = fields_from(first, Width::Four);
@@ -64,7 +67,8 @@ fn push_attrs(
 ) -> Result<(), Memory>
     requires four { width ≡ Four → IfSome (kept_value first.now AsPath) IsSpelled }
     requires writable { IsWritable (attributes.route_from width (kept_value first.now)).path }
-    ensures bytes { OnOk result (out.new.items ≡ out.old.items ++ route_bytes (attributes.route_from width (kept_value first.now))) }
+    ensures bytes { OnOk result (out.new.items
+        ≡ out.old.items ++ route_bytes (attributes.route_from width (kept_value first.now))) }
     ensures widths { OnOk result (HaveWidths (attributes.route_from width (kept_value first.now))) }
 {
     match width {
@@ -77,8 +81,8 @@ fn push_attrs(
     }
 }
 
-/// Replaces the contents of a buffer by the route that the attributes of a RIB entry encode. With four-octet AS numbers it
-/// allocates nothing except to enlarge the buffer.
+/// Replaces the contents of a buffer by the route that the attributes of a RIB entry encode. With four-octet AS numbers
+/// it allocates nothing except to enlarge the buffer.
 #[tactic(auto, unfolding(crate::specs::Attributes::route_in))]
 fn pack_attrs(
     alloc: Global,

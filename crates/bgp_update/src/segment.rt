@@ -50,7 +50,8 @@ pub(crate) fn segment_field_at(
     bytes: &[u8],
     width: Width,
 ) -> Result<(SegmentField<'_>, &[u8]), Fault>
-    ensures { Reads (λ x. (record { kind = x.0.kind; count = x.0.count; octets = x.0.octets.now }, x.1.now)) result (segments_spec.segment_field_at (number_len width) bytes.now) }
+    ensures { Reads (λ x. (record { kind = x.0.kind; count = x.0.count; octets = x.0.octets.now }, x.1.now)) result
+        (segments_spec.segment_field_at (number_len width) bytes.now) }
 {
     let (number, rest) = byte_at(bytes, Fault::BadPath)?;
     let kind = kind_of(number).ok_or(Fault::BadPath)?;
@@ -147,8 +148,10 @@ fn whole_path(alloc: Global, bytes: &[u8], width: Width) -> Result<AsPath, AttrE
 
 /// Returns the path that the bytes encode.
 pub fn read_path(alloc: Global, bytes: &[u8], width: Width) -> Result<AsPath, AttrError>
-    ensures found { IfOk result (λ path. IsPath (number_len width) path × (bytes.now ≡ path_bytes (number_len width) path)) }
-    ensures only { (path : List PathSegment) → IsPath (number_len width) path → bytes.now ≡ path_bytes (number_len width) path → Gives (λ p. p) result (Ok path) }
+    ensures found { IfOk result (λ path. IsPath (number_len width) path ×
+        (bytes.now ≡ path_bytes (number_len width) path)) }
+    ensures only { (path : List PathSegment) → IsPath (number_len width) path →
+        bytes.now ≡ path_bytes (number_len width) path → Gives (λ p. p) result (Ok path) }
     ensures exact { Gives (λ p. p) result (path_in (number_len width) bytes.now) }
 {
     whole_path(alloc, bytes, width)

@@ -1,4 +1,4 @@
-//! Immutable bytes, in place if they are few.
+//! Immutable bytes, stored inline if they are few.
 
 ghost use Rattle.std.specs.Prelude.{◌≡◌, ◌↔◌, IfOk, IsTrue};
 
@@ -7,7 +7,7 @@ use std::alloc::Global;
 use std::boxed::BoxedSlice;
 use std::marker::Model;
 
-/// How many bytes are stored in place: with their length and the count of an `Arc` they fill what an allocation of 64
+/// How many bytes are stored inline: with their length and the count of an `Arc` they fill what an allocation of 64
 /// bytes has room for.
 const FEW: usize = 46;
 

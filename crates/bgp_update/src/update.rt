@@ -13,7 +13,7 @@ use crate::attribute_type::AttributeType;
 use crate::key::read_keys;
 use crate::multiprotocol::{reached, with_unreached};
 use crate::route::{Route, Update};
-use crate::saying::route_from;
+use crate::route_fields::route_from;
 use crate::values::{FirstValues, keep_values};
 use crate::width::{AttrError, Carrier, Width};
 use bgp_prefix::{RouteKey, Sequence};
@@ -28,9 +28,12 @@ struct UpdateFields<'a> {
     announced: &'a [u8],
 }
 
+/// Reads the fields of an UPDATE.
 #[tactic(auto, unfolding(crate::specs::Updates::fields_in))]
 fn fields_in(body: &[u8]) -> Result<UpdateFields<'_>, Fault>
-    ensures { Reads (λ f. record { withdrawn = f.withdrawn.now; attributes = f.attributes.now; announced = f.announced.now }) result (updates.fields_in body.now) }
+    ensures { Reads
+        (λ f. record { withdrawn = f.withdrawn.now; attributes = f.attributes.now; announced = f.announced.now })
+        result (updates.fields_in body.now) }
 {
     if body.len() < 4 {
         return Err(Fault::BadLength);
@@ -56,7 +59,8 @@ fn update_from(
     width: Width,
     add_path: bool,
 ) -> Result<Update, AttrError>
-    ensures { Gives (λ update. update) result (said_update width add_path withdrawn.items (kept_value first.now) announced.items) }
+    ensures { Gives (λ update. update) result
+        (said_update width add_path withdrawn.items (kept_value first.now) announced.items) }
 {
     let unreached = first.value(AttributeType::MpUnreachNlri);
     let withdrawn = with_unreached(withdrawn, unreached, add_path)?;
@@ -128,7 +132,8 @@ pub fn read_update(
     add_path: bool,
 ) -> Result<Update, AttrError>
     ensures found { IfOk result (ReadsAsUpdate width add_path body.now) }
-    ensures only { (update : Update) → ReadsAsUpdate width add_path body.now update → Gives (λ u. u) result (Ok update) }
+    ensures only { (update : Update) → ReadsAsUpdate width add_path body.now update →
+        Gives (λ u. u) result (Ok update) }
     ensures exact { Gives (λ u. u) result (update_in width add_path body.now) }
     ensures writable { IfOk result (λ update. IsWritable update.route.path) }
 {

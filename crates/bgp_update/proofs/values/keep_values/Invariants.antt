@@ -1,12 +1,12 @@
 use Rattle.std.proofs.Common.{◌≡◌, length}
 use Rattle.bgp_update.specs.Attributes.{attributes_in}
-use Rattle.bgp_update.specs.Values.{place_count}
+use Rattle.bgp_update.specs.Values.{value_count}
 use Rattle.bgp_update.proofs.AttributeLoop.{ReadsOn}
 use Rattle.bgp_update.proofs.values.keep_values.Given as goal
 
 abbrev pub invariant-loop-rest : goal.invariant-loop-rest
 invariant-loop-rest l = record {
-  whole : length l.first.values ≡ place_count;
+  whole : length l.first.values ≡ value_count;
   reads : ReadsOn l.carrier l.width l.first l.rest (attributes_in l.carrier l.width l.bytes);
 }
 

@@ -16,12 +16,12 @@ use Rattle.bgp_update.specs.PathEquality.{list_eq, number_eq, segment_eq}
 use Rattle.bgp_update.specs.Equality.{bool_eq, origin_number, aggregator_eq, hop_eq, route_eq}
 
 -- a test that is true exactly of equal values
-pub record Tells {A : Type 0} (eq : A → A → Bool) : Type 0 where
+pub record DecidesEquality {A : Type 0} (eq : A → A → Bool) : Type 0 where
   pub same : (x y : A) → eq x y ≡ true → x ≡ y
   pub itself : (x : A) → eq x x ≡ true
 
-numbers_tell : Tells number_eq
-numbers_tell = record { same = eqb-true; itself = λ x. eq-eqb x x refl }
+numbers_decide : DecidesEquality number_eq
+numbers_decide = record { same = eqb-true; itself = λ x. eq-eqb x x refl }
 
 same_bool : (x y : Bool) → bool_eq x y ≡ true → x ≡ y
 same_bool true true h = refl
@@ -44,8 +44,8 @@ origin_back Incomplete = refl
 abbrev origin_eq : Origin → Origin → Bool
 origin_eq x y = nat_eq (origin_number x) (origin_number y)
 
-origins_tell : Tells origin_eq
-origins_tell = record {
+origins_decide : DecidesEquality origin_eq
+origins_decide = record {
   same = λ x y h. sym (origin_back x) ∙ ap origin_of_number (eqb-true (origin_number x) (origin_number y) h) ∙ origin_back y;
   itself = λ x. eq-eqb (origin_number x) (origin_number x) refl;
 }
@@ -64,8 +64,8 @@ same_aggregator x y h =
     let parts = and_parts (nat_eq x.asn y.asn) (nat_eq x.addr y.addr) h in
     λ i. record { asn = eqb-true x.asn y.asn parts.0 i; addr = eqb-true x.addr y.addr parts.1 i }
 
-aggregators_tell : Tells aggregator_eq
-aggregators_tell = record { same = same_aggregator; itself = λ x. and_from (nat_eq x.asn x.asn) (nat_eq x.addr x.addr) (eq-eqb x.asn x.asn refl) (eq-eqb x.addr x.addr refl) }
+aggregators_decide : DecidesEquality aggregator_eq
+aggregators_decide = record { same = same_aggregator; itself = λ x. and_from (nat_eq x.asn x.asn) (nat_eq x.addr x.addr) (eq-eqb x.asn x.asn refl) (eq-eqb x.addr x.addr refl) }
 
 same_hop : (x y : NextHop) → hop_eq x y ≡ true → x ≡ y
 same_hop (V4 a) (V4 b) h = ap (λ n. V4 n) (eqb-true a b h)
@@ -85,10 +85,10 @@ hop_itself (V4 a) = eq-eqb a a refl
 hop_itself (V6 a) = eq-eqb a a refl
 hop_itself (V6Pair a link) = and_from (nat_eq a a) (nat_eq link link) (eq-eqb a a refl) (eq-eqb link link refl)
 
-hops_tell : Tells hop_eq
-hops_tell = record { same = same_hop; itself = hop_itself }
+hops_decide : DecidesEquality hop_eq
+hops_decide = record { same = same_hop; itself = hop_itself }
 
-module _ {A : Type 0} {eq : A → A → Bool} (t : Tells eq) where
+module _ {A : Type 0} {eq : A → A → Bool} (t : DecidesEquality eq) where
   same_option : (x y : Option A) → option_eq eq x y ≡ true → x ≡ y
   same_option None None h = refl
   same_option None (Some y) h = absurd cc
@@ -111,21 +111,21 @@ module _ {A : Type 0} {eq : A → A → Bool} (t : Tells eq) where
   list_itself [] = refl
   list_itself (x ∷ xs) = and_from (eq x x) (list_eq eq xs xs) (t.itself x) (list_itself xs)
 
-  lists_tell : Tells (list_eq eq)
-  lists_tell = record { same = same_list; itself = list_itself }
+  lists_decide : DecidesEquality (list_eq eq)
+  lists_decide = record { same = same_list; itself = list_itself }
 
 same_segment : (x y : PathSegment) → segment_eq x y ≡ true → x ≡ y
 same_segment x y h =
     let parts = and_parts (nat_eq (kind_number x.kind) (kind_number y.kind)) (list_eq number_eq x.numbers y.numbers) h in
     let kinds : x.kind ≡ y.kind = sym (kind_back x.kind) ∙ ap kind_of_number (eqb-true (kind_number x.kind) (kind_number y.kind) parts.0) ∙ kind_back y.kind in
-    let numbers : x.numbers ≡ y.numbers = same_list numbers_tell x.numbers y.numbers parts.1 in
+    let numbers : x.numbers ≡ y.numbers = same_list numbers_decide x.numbers y.numbers parts.1 in
     λ i. record { kind = kinds i; numbers = numbers i }
 
-segments_tell : Tells segment_eq
-segments_tell = record { same = same_segment; itself = λ x. and_from _ _ (eq-eqb (kind_number x.kind) (kind_number x.kind) refl) (list_itself numbers_tell x.numbers) }
+segments_decide : DecidesEquality segment_eq
+segments_decide = record { same = same_segment; itself = λ x. and_from _ _ (eq-eqb (kind_number x.kind) (kind_number x.kind) refl) (list_itself numbers_decide x.numbers) }
 
-paths_tell : Tells (list_eq segment_eq)
-paths_tell = lists_tell segments_tell
+paths_decide : DecidesEquality (list_eq segment_eq)
+paths_decide = lists_decide segments_decide
 
 pub same_route : (a b : Route) → route_eq a b ≡ true → a ≡ b
 unfolding route_eq
@@ -137,27 +137,27 @@ same_route a b h =
     let meds = and_parts _ (option_eq number_eq a.med b.med) prefs.0 in
     let origins = and_parts (option_eq origin_eq a.origin b.origin) (option_eq hop_eq a.next_hop b.next_hop) meds.0 in
     λ i. record {
-      origin = same_option origins_tell a.origin b.origin origins.0 i;
-      path = same_option paths_tell a.path b.path paths.1 i;
-      next_hop = same_option hops_tell a.next_hop b.next_hop origins.1 i;
-      med = same_option numbers_tell a.med b.med meds.1 i;
-      local_pref = same_option numbers_tell a.local_pref b.local_pref prefs.1 i;
+      origin = same_option origins_decide a.origin b.origin origins.0 i;
+      path = same_option paths_decide a.path b.path paths.1 i;
+      next_hop = same_option hops_decide a.next_hop b.next_hop origins.1 i;
+      med = same_option numbers_decide a.med b.med meds.1 i;
+      local_pref = same_option numbers_decide a.local_pref b.local_pref prefs.1 i;
       atomic = same_bool a.atomic b.atomic atomics.1 i;
-      aggregator = same_option aggregators_tell a.aggregator b.aggregator aggregators.1 i;
+      aggregator = same_option aggregators_decide a.aggregator b.aggregator aggregators.1 i;
     }
 
 pub route_itself : (a : Route) → route_eq a a ≡ true
 unfolding route_eq
 route_itself a =
-    and_from _ _ (and_from _ _ (and_from _ _ (and_from _ _ (and_from _ _ (and_from _ _ (option_itself origins_tell a.origin) (option_itself hops_tell a.next_hop)) (option_itself numbers_tell a.med)) (option_itself numbers_tell a.local_pref)) (bool_itself a.atomic)) (option_itself aggregators_tell a.aggregator)) (option_itself paths_tell a.path)
+    and_from _ _ (and_from _ _ (and_from _ _ (and_from _ _ (and_from _ _ (and_from _ _ (option_itself origins_decide a.origin) (option_itself hops_decide a.next_hop)) (option_itself numbers_decide a.med)) (option_itself numbers_decide a.local_pref)) (bool_itself a.atomic)) (option_itself aggregators_decide a.aggregator)) (option_itself paths_decide a.path)
 
 pub same_as_route : (a b : Route) → a ≡ b → route_eq a b ≡ true
 same_as_route a b h = ap (route_eq a) (sym h) ∙ route_itself a
 
--- a test that tells equal routes is the test of all fields
-pub tells_same : (b : Bool) (x y : Route) → (b ≡ true → x ≡ y) → (x ≡ y → b ≡ true) → b ≡ route_eq x y
-tells_same true x y f g = sym (same_as_route x y (f refl))
-tells_same false x y f g = elim (route_eq x y) as (λ t. route_eq x y ≡ t → false ≡ t) [
+-- a test that is true exactly of equal routes is the test of all fields
+pub decides_same : (b : Bool) (x y : Route) → (b ≡ true → x ≡ y) → (x ≡ y → b ≡ true) → b ≡ route_eq x y
+decides_same true x y f g = sym (same_as_route x y (f refl))
+decides_same false x y f g = elim (route_eq x y) as (λ t. route_eq x y ≡ t → false ≡ t) [
   | true ↦ λ e. g (same_route x y e)
   | false ↦ λ e. refl
 ] refl

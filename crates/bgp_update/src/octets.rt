@@ -1,11 +1,11 @@
-//! The leading bytes of a number.
+//! A number by its leading octets.
 
 ghost use Rattle.std.specs.Prelude.{◌≡◌, ℕ, ◌≤◌, length};
 ghost use Rattle.byteorder.specs.Endian.{big_number};
 
 /// Returns the number whose leading bytes these are, at most four.
 #[inline]
-pub fn front_number(octets: &[u8]) -> u32
+pub fn leading_octets_number(octets: &[u8]) -> u32
     requires { length octets.now ≤ 4 }
     ensures { result ≡ big_number 4 octets.now }
 {
