@@ -53,7 +53,7 @@ announcement = message 1 false (hex (codes "002D 02 0000 0014") ++ plain_attribu
 abbrev withdrawal : ReplayUnit
 withdrawal = message 2 false (hex (codes "0019 02 0002 080A 0000"))
 
--- one that withdraws 10.0.0.0/8 and 11.0.0.0/8, announces 12.0.0.0/8, and by attribute 14 the first by 192.0.2.9
+-- one that withdraws 10.0.0.0/8 and 11.0.0.0/8, announces 12.0.0.0/8, and by MP_REACH_NLRI the first by 192.0.2.9
 abbrev reaching : ReplayUnit
 reaching = message 2 false (hex (codes "003F 02 0004 080A 080B 0022") ++ plain_attributes ++ hex (codes "800E0B 0001 01 04 C0000209 00 080A 080C"))
 
@@ -105,7 +105,7 @@ four_changes : session_of (state_change 5 6 ∷ state_change 6 6 ∷ state_chang
 unfolding items_after attribute_at attributes_in value_fault route_from route_in path_in segment_at segment_field_at written_key_at keys_in route_keys_in key_at reach_in reach_at unreach_in next_hop_of reached_keys unreached_keys fields_in said_update update_in message_in message_event_in event_in unit_steps steps_of route_eq outcomes_of churn_of damaged_of table_of session_of
 four_changes = refl
 
--- what is reached is not withdrawn, and goes by the next hop of attribute 14
+-- what is reached is not withdrawn, and goes by the next hop of MP_REACH_NLRI
 reached : session_of (announcement ∷ reaching ∷ []) ≡ record { up = true; table = (ten, record plain_route { next_hop = Some (hop.V4 0xC0000209) }) ∷ (key 0x0C000000 0, plain_route) ∷ []; churn = churn_with (2 ∷ 1 ∷ 0 ∷ 0 ∷ 1 ∷ 0 ∷ 0 ∷ 0 ∷ []) 1 2; faults = []; spent = false }
 unfolding items_after attribute_at attributes_in value_fault route_from route_in path_in segment_at segment_field_at written_key_at keys_in route_keys_in key_at reach_in reach_at unreach_in next_hop_of reached_keys unreached_keys fields_in said_update update_in message_in message_event_in event_in unit_steps steps_of route_eq outcomes_of churn_of damaged_of table_of session_of
 reached = refl

@@ -37,7 +37,7 @@ use Rattle.adj_rib.proofs.Stepping.{stopped-count_by-push, AreCounts, AreAfter, 
 
 -- ---- whether the peer is up
 
--- the new state that a reading tells
+-- the new state in a reading, if it is a state change
 abbrev state_read : Result Event Fault → Option ℕ
 state_read (Ok (event.State old new)) = Some new
 state_read (Ok (event.Change update)) = None

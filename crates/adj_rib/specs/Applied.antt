@@ -60,7 +60,10 @@ timed time c = record c { first = Some (unwrap_or c.first time); last = Some tim
 
 -- the counts of idle and of damaged units after one more, by its reading
 unfoldable pub noted : Bool → Result Event Fault → Churn → Churn
-noted up reading c = record c { idle = counted_if (is_routing reading && not up) c.idle; refused = counted_if (is_err reading) c.refused }
+noted up reading c = record c {
+  idle = counted_if (is_routing reading && not up) c.idle;
+  refused = counted_if (is_err reading) c.refused;
+}
 
 abbrev pub up_after : Bool → Result Event Fault → Bool
 up_after up (Ok (event.State old new)) = new == ESTABLISHED
@@ -78,7 +81,23 @@ pub record Kept : Type 0 where
 
 -- before the first unit
 abbrev pub START : Kept
-START = record { up = true; table = finite.empty; churn = record { added = 0; changed = 0; same = 0; gone = 0; void = 0; resets = 0; idle = 0; refused = 0; first = None; last = None }; faults = [] }
+START = record {
+  up = true;
+  table = finite.empty;
+  churn = record {
+    added = 0;
+    changed = 0;
+    same = 0;
+    gone = 0;
+    void = 0;
+    resets = 0;
+    idle = 0;
+    refused = 0;
+    first = None;
+    last = None;
+  };
+  faults = [];
+}
 
 -- after the steps of a reading
 unfoldable pub followed : Kept → Result Event Fault → Kept

@@ -19,7 +19,13 @@ pub record SessionState : Type 0 where
 
 -- what a session is that took these units, in this order
 unfoldable pub session_of : List ReplayUnit → SessionState
-session_of units = record { up = is_up units; table = table_of (steps_of units); churn = churn_of units; faults = damaged_of units; spent = false }
+session_of units = record {
+  up = is_up units;
+  table = table_of (steps_of units);
+  churn = churn_of units;
+  faults = damaged_of units;
+  spent = false;
+}
 
 -- a session that stands for these units
 abbrev pub StandsFor : SessionState → List ReplayUnit → Type 0

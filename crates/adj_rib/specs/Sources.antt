@@ -12,9 +12,10 @@ use Rattle.mrt_body.specs.declared.meaning.Event.TheVariants as event
 use Rattle.adj_rib.specs.Steps.{ESTABLISHED, is_up}
 use Rattle.adj_rib.specs.Churns.{reading_of}
 
--- an event that announces the key with the route: as prefix of the message, by its attribute 14, or as a RIB entry
+-- an event that announces the key with the route: as a prefix of the message, by its MP_REACH_NLRI, or as a RIB entry
 abbrev pub Announces : Event → RouteKey → Route → Type 0
-Announces (event.Change u) key route = (Contains u.announced key × (u.route ≡ route)) ⊎ (Contains u.reached key × (by_hop u.route u.reached_hop ≡ route))
+Announces (event.Change u) key route =
+    (Contains u.announced key × (u.route ≡ route)) ⊎ (Contains u.reached key × (by_hop u.route u.reached_hop ≡ route))
 Announces (event.Rib other entered) key route = (other ≡ key) × (entered ≡ route)
 Announces (event.State old new) key route = ⊥
 Announces event.Other key route = ⊥

@@ -26,7 +26,7 @@ pub data Step : Type 0 where
 abbrev pub ESTABLISHED : ℕ
 ESTABLISHED = 6
 
--- the new state that a payload tells
+-- the new state in a payload, if it is a state change
 abbrev pub new_state : Payload → Option ℕ
 new_state (State from to) = Some to
 new_state (Message bytes width add_path) = None
@@ -34,7 +34,8 @@ new_state (Entry key attrs) = None
 
 -- The last state change has new state Established, or there is none.
 abbrev pub is_up : List ReplayUnit → Bool
-is_up units = option_map_or (λ state. state == ESTABLISHED) (last_or None (filter_map (λ u. new_state u.payload) units)) true
+is_up units =
+    option_map_or (λ state. state == ESTABLISHED) (last_or None (filter_map (λ u. new_state u.payload) units)) true
 
 -- a state change is a break unless both states are Established (own)
 abbrev pub state_steps : ℕ → ℕ → List Step
@@ -48,11 +49,11 @@ withdrawals u = map withdraw (filter (λ key. not (among u.announced key || amon
 abbrev pub announcements : Update → List Step
 announcements u = map (λ key. announce key u.route) u.announced
 
--- what attribute 14 announces, by its own next hop
+-- what MP_REACH_NLRI announces, by its own next hop
 abbrev pub reachings : Update → List Step
 reachings u = map (λ key. announce key (by_hop u.route u.reached_hop)) u.reached
 
--- the withdrawals, then the announcements, then those of attribute 14, each in order
+-- the withdrawals, then the announcements, then those of MP_REACH_NLRI, each in order
 abbrev pub update_steps : Update → List Step
 update_steps u = withdrawals u ++ announcements u ++ reachings u
 

@@ -1,3 +1,5 @@
+//! What a peer's units did to its table, in counts and times.
+
 use crate::outcome::Outcome;
 
 /// What a peer's units did to its table. Each count stops at `u64::MAX`; times are in microseconds
@@ -32,7 +34,19 @@ impl Churn {
 
     /// Returns the churn of no unit.
     pub(crate) fn new() -> Churn
-        ensures { result ≡ record { added = 0; changed = 0; same = 0; gone = 0; void = 0; resets = 0; idle = 0; refused = 0; first = None; last = None } }
+        ensures { result
+            ≡ record {
+              added = 0;
+              changed = 0;
+              same = 0;
+              gone = 0;
+              void = 0;
+              resets = 0;
+              idle = 0;
+              refused = 0;
+              first = None;
+              last = None;
+            } }
     {
         Churn {
             added: 0,

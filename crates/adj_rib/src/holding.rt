@@ -1,4 +1,5 @@
-// The law of tables.
+//! The law of tables.
+
 ghost use Rattle.std.specs.Prelude.{◌≡◌, ◌↔◌, List, Some, T};
 ghost use Rattle.std.specs.FinMap.{find, is_sorted};
 ghost use Rattle.bgp_prefix.specs.Keys.{key_cmp};

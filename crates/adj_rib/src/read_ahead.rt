@@ -1,4 +1,4 @@
-//! Attributes that are read before their RIB entry is taken.
+//! Attributes that are read ahead: before the session takes their RIB entry.
 
 ghost use Rattle.std.specs.Prelude.{◌≡◌, None, Ok};
 ghost use Rattle.std.specs.Option.{ForSome};

@@ -1,3 +1,5 @@
+//! A peer's Adj-RIB-In (RFC 4271, 3.2), and how each unit changes it.
+
 use crate::churn::Churn;
 use crate::outcome::Outcome;
 use crate::read_ahead::ReadAhead;
@@ -63,16 +65,18 @@ impl<M: PrefixMap<SharedRoute>> RibIn<M> {
 
     /// Counts an UPDATE or a RIB entry of a peer that isn't up.
     fn count_idle(&mut self)
-        ensures { self.new ≡ record self.old { churn = record self.old.churn { idle = counted_if true self.old.churn.idle } } }
+        ensures { self.new
+            ≡ record self.old { churn = record self.old.churn { idle = counted_if true self.old.churn.idle } } }
     {
         self.churn.idle = self.churn.idle.saturating_add(1);
     }
 
     /// Takes the steps of an UPDATE.
     #[tactic(auto, unfolding(crate::specs::Applied::followed, crate::specs::Applied::noted))]
-    fn change(&mut self, alloc: Global, update: Update) -> Result<(), Memory>
+    fn take_update(&mut self, alloc: Global, update: Update) -> Result<(), Memory>
         requires { IsWritable update.route.path }
-        ensures { OnOk result (kept_in M.contents self.new ≡ followed (kept_in M.contents self.old) (Ok (events.Change update))) }
+        ensures { OnOk result (kept_in M.contents self.new
+            ≡ followed (kept_in M.contents self.old) (Ok (events.Change update))) }
     {
         if !self.up {
             self.count_idle();
@@ -89,7 +93,7 @@ impl<M: PrefixMap<SharedRoute>> RibIn<M> {
 
     /// Lists a damaged unit.
     #[tactic(auto, unfolding(crate::specs::Applied::refused, crate::specs::Applied::followed, crate::specs::Applied::noted))]
-    fn refuse(&mut self, damage: Damage) -> Result<(), Memory>
+    fn list_damage(&mut self, damage: Damage) -> Result<(), Memory>
         ensures { OnOk result (kept_in M.contents self.new ≡ refused (kept_in M.contents self.old) damage) }
     {
         self.churn.refused = self.churn.refused.saturating_add(1);
@@ -97,10 +101,16 @@ impl<M: PrefixMap<SharedRoute>> RibIn<M> {
         Ok(())
     }
 
-    /// Takes the steps of a RIB entry.
+    /// Takes the steps of a RIB entry, whose route was read.
     #[tactic(auto, unfolding(crate::specs::Applied::followed, crate::specs::Applied::noted))]
-    fn hold(&mut self, alloc: Global, key: RouteKey, hashed: &HashedRoute) -> Result<(), Memory>
-        ensures { OnOk result (kept_in M.contents self.new ≡ followed (kept_in M.contents self.old) (Ok (events.Rib key hashed.now.route))) }
+    fn announce_entry(
+        &mut self,
+        alloc: Global,
+        key: RouteKey,
+        hashed: &HashedRoute,
+    ) -> Result<(), Memory>
+        ensures { OnOk result (kept_in M.contents self.new
+            ≡ followed (kept_in M.contents self.old) (Ok (events.Rib key hashed.now.route))) }
     {
         if self.up {
             let slot = self.routes.slot_of(alloc, hashed)?;
@@ -113,7 +123,7 @@ impl<M: PrefixMap<SharedRoute>> RibIn<M> {
 
     /// Takes a RIB entry.
     #[tactic(auto, unfolding(mrt_body::specs::Events::event_in))]
-    fn enter(
+    fn take_entry(
         &mut self,
         alloc: Global,
         place: Place,
@@ -122,34 +132,36 @@ impl<M: PrefixMap<SharedRoute>> RibIn<M> {
         ahead: &ReadAhead,
     ) -> Result<(), Memory>
         requires { ForSome ahead.now.read (λ hashed. route_in Four attrs.now ≡ Ok hashed.route) }
-        ensures { OnOk result (kept_in M.contents self.new ≡ read_as (kept_in M.contents self.old) place (event_in (payloads.Entry key attrs.now))) }
+        ensures { OnOk result (kept_in M.contents self.new
+            ≡ read_as (kept_in M.contents self.old) place (event_in (payloads.Entry key attrs.now))) }
     {
         if let Some(hashed) = &ahead.read {
-            return self.hold(alloc, key, hashed);
+            return self.announce_entry(alloc, key, hashed);
         }
         let mut buffer = Vec::new(alloc);
         match HashedRoute::read(alloc, &mut buffer, attrs) {
-            Ok(hashed) => self.hold(alloc, key, &hashed),
-            Err(AttrError::Bad(fault)) => self.refuse(Damage { place, fault }),
+            Ok(hashed) => self.announce_entry(alloc, key, &hashed),
+            Err(AttrError::Bad(fault)) => self.list_damage(Damage { place, fault }),
             Err(AttrError::Memory) => Err(Memory),
         }
     }
 
     /// Takes a message or a state change.
     #[tactic(auto, unfolding(crate::specs::Applied::followed, crate::specs::Applied::noted))]
-    fn follow(&mut self, alloc: Global, place: Place, payload: &Payload) -> Result<(), Memory>
+    fn take_message(&mut self, alloc: Global, place: Place, payload: &Payload) -> Result<(), Memory>
         requires { IsNoEntry payload.now }
-        ensures { OnOk result (kept_in M.contents self.new ≡ read_as (kept_in M.contents self.old) place (event_in payload.now)) }
+        ensures { OnOk result (kept_in M.contents self.new
+            ≡ read_as (kept_in M.contents self.old) place (event_in payload.now)) }
     {
         match event(alloc, payload) {
             Ok(Event::State(old, new)) => {
                 self.change_state(old, new);
                 Ok(())
             }
-            Ok(Event::Change(update)) => self.change(alloc, update),
+            Ok(Event::Change(update)) => self.take_update(alloc, update),
             Ok(Event::Other) => Ok(()),
             Ok(Event::Rib(_, _)) => unreachable!(),
-            Err(AttrError::Bad(fault)) => self.refuse(Damage { place, fault }),
+            Err(AttrError::Bad(fault)) => self.list_damage(Damage { place, fault }),
             Err(AttrError::Memory) => Err(Memory),
         }
     }
@@ -183,9 +195,9 @@ impl<M: PrefixMap<SharedRoute>> RibIn<M> {
         self.churn.note_time(unit.time);
         match &unit.payload {
             Payload::Entry { key, attrs } => {
-                self.enter(alloc, unit.place, *key, attrs.as_slice(), ahead)
+                self.take_entry(alloc, unit.place, *key, attrs.as_slice(), ahead)
             }
-            payload => self.follow(alloc, unit.place, payload),
+            payload => self.take_message(alloc, unit.place, payload),
         }
     }
 }

@@ -105,8 +105,8 @@ const SAMPLED_SLOTS: usize = 256;
 /// How many buckets there are at first. Their number is always a power of two.
 const FIRST_BUCKETS: usize = 8;
 
-/// In how many slots a route may be: that of its bucket, and those after it.
-const NEAR_SLOTS: usize = 8;
+/// In how many slots a route is looked for: that of its bucket, and those after it.
+const PROBED_SLOTS: usize = 8;
 
 /// A peer's routes by the hash of their bytes (open addressing). At most three in four buckets have
 /// one; if all slots of a bucket are taken, a later route evicts the first. When the buckets are full, the routes
@@ -132,22 +132,22 @@ impl RouteSet {
 
     /// How many buckets there are.
     fn buckets(&self) -> usize {
-        self.slots.len().saturating_sub(NEAR_SLOTS)
+        self.slots.len().saturating_sub(PROBED_SLOTS)
     }
 
     /// The bucket of a hash.
     fn bucket_of(&self, hash: u32) -> usize
         ensures { 0 < vec_len self.now.slots → result < vec_len self.now.slots }
     {
-        hash as usize & self.slots.len().saturating_sub(NEAR_SLOTS + 1)
+        hash as usize & self.slots.len().saturating_sub(PROBED_SLOTS + 1)
     }
 
     /// Returns the slot that holds this route, if any does.
-    fn position(&self, hashed: &HashedRoute) -> Option<usize>
+    fn find_slot(&self, hashed: &HashedRoute) -> Option<usize>
         ensures { IfSome result (λ at. kept_route (slice_get self.now.slots.items at) ≡ Some hashed.now.route) }
     {
         let bucket = self.bucket_of(hashed.hash);
-        for at in bucket..bucket.saturating_add(NEAR_SLOTS) {
+        for at in bucket..bucket.saturating_add(PROBED_SLOTS) {
             match self.slots.as_slice().get(at) {
                 Some(Slot::Kept { hash, route }) => {
                     if *hash == hashed.hash && route.route().is_same(&hashed.route) {
@@ -166,7 +166,7 @@ impl RouteSet {
         ensures { result < vec_len self.now.slots }
     {
         let bucket = self.bucket_of(hash);
-        for at in bucket..bucket.saturating_add(NEAR_SLOTS) {
+        for at in bucket..bucket.saturating_add(PROBED_SLOTS) {
             if let Some(Slot::Empty) = self.slots.as_slice().get(at) {
                 return at;
             }
@@ -193,7 +193,7 @@ impl RouteSet {
         ensures { IfOk result (λ at. kept_route (slice_get self.new.slots.items at) ≡ Some hashed.now.route) }
     {
         let route = SharedRoute::new(alloc, hashed.route.try_copy(alloc)?)?;
-        self.fit(alloc)?;
+        self.make_buckets(alloc)?;
         Ok(self.keep(hashed.hash, route))
     }
 
@@ -201,7 +201,7 @@ impl RouteSet {
     pub(crate) fn slot_of(&mut self, alloc: Global, hashed: &HashedRoute) -> Result<usize, Memory>
         ensures { IfOk result (λ at. kept_route (slice_get self.new.slots.items at) ≡ Some hashed.now.route) }
     {
-        match self.position(hashed) {
+        match self.find_slot(hashed) {
             Some(at) => Ok(at),
             None => self.add(alloc, hashed),
         }
@@ -229,11 +229,11 @@ impl RouteSet {
     /// Prefetches the route with this hash, if the set has one. The number means nothing.
     pub(crate) fn prefetch_route(&self, hashed: &HashedRoute) -> usize {
         let bucket = self.bucket_of(hashed.hash);
-        for at in bucket..bucket.saturating_add(NEAR_SLOTS) {
+        for at in bucket..bucket.saturating_add(PROBED_SLOTS) {
             match self.slots.as_slice().get(at) {
                 Some(Slot::Kept { hash, route }) => {
                     if *hash == hashed.hash {
-                        return route.touch();
+                        return route.prefetch();
                     }
                 }
                 _ => return 0,
@@ -257,7 +257,7 @@ impl RouteSet {
     }
 
     /// Makes buckets for one more route.
-    fn fit(&mut self, alloc: Global) -> Result<(), Memory>
+    fn make_buckets(&mut self, alloc: Global) -> Result<(), Memory>
         ensures { OnOk result (0 < vec_len self.new.slots) }
     {
         let buckets = self.buckets();
@@ -295,7 +295,7 @@ impl RouteSet {
 fn empty_slots(alloc: Global, buckets: usize) -> Result<Vec<Slot>, Memory>
     ensures { IfOk result (λ slots. 0 < vec_len slots) }
 {
-    let count = buckets.saturating_add(NEAR_SLOTS);
+    let count = buckets.saturating_add(PROBED_SLOTS);
     let mut slots = Vec::with_capacity(alloc, count)?;
     for _ in 1..count {
         slots.push(Slot::Empty)?;

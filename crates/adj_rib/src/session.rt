@@ -1,3 +1,5 @@
+//! The session of one peer.
+
 ghost use Rattle.std.specs.Prelude.{◌≡◌, [], ◌∷◌, ◌++◌, List, OnOk, is_err, IsErr, IsTrue};
 ghost use Rattle.std.specs.FinMap as finite;
 ghost use Rattle.adj_rib.specs.RouteSets.{IsAheadOf};
@@ -26,7 +28,13 @@ impl<M: PrefixMap<SharedRoute>> Model for Session<M> {
 
     ghost Value = { SessionState };
 
-    ghost view = { λ s. record { up = s.rib.up; table = finite.entries (M.contents s.rib.table); churn = s.rib.churn; faults = s.rib.faults.items; spent = s.spent } };
+    ghost view = { λ s. record {
+      up = s.rib.up;
+      table = finite.entries (M.contents s.rib.table);
+      churn = s.rib.churn;
+      faults = s.rib.faults.items;
+      spent = s.spent;
+    } };
 }
 
 impl<M: PrefixMap<SharedRoute>> Session<M> {
@@ -44,7 +52,8 @@ impl<M: PrefixMap<SharedRoute>> Session<M> {
     /// listed. After an `Err` the session is spent: each further `take` returns `Err`, and the results of the other
     /// calls, except `is_spent`, no longer mean anything.
     pub fn take(&mut self, alloc: Global, unit: &Unit) -> Result<(), Memory>
-        ensures stands { (before : List ReplayUnit) → StandsFor self.old before → OnOk result (StandsFor self.new (before ++ unit.now ∷ [])) }
+        ensures stands { (before : List ReplayUnit) → StandsFor self.old before →
+            OnOk result (StandsFor self.new (before ++ unit.now ∷ [])) }
         ensures spent { self.new.spent ≡ is_err result }
         ensures stays_spent { IsTrue self.old.spent → IsErr result }
     {
@@ -59,7 +68,8 @@ impl<M: PrefixMap<SharedRoute>> Session<M> {
         ahead: &ReadAhead,
     ) -> Result<(), Memory>
         requires { IsAheadOf unit.now.payload ahead.now }
-        ensures stands { (before : List ReplayUnit) → StandsFor self.old before → OnOk result (StandsFor self.new (before ++ unit.now ∷ [])) }
+        ensures stands { (before : List ReplayUnit) → StandsFor self.old before →
+            OnOk result (StandsFor self.new (before ++ unit.now ∷ [])) }
         ensures spent { self.new.spent ≡ is_err result }
         ensures stays_spent { IsTrue self.old.spent → IsErr result }
     {

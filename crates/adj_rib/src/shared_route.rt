@@ -53,7 +53,7 @@ impl SharedRoute {
 
     /// Prefetches the count of owners, where a further one will be counted, and the route's last byte: they may be in
     /// different cache lines. The number means nothing.
-    pub(crate) fn touch(&self) -> usize {
+    pub(crate) fn prefetch(&self) -> usize {
         let last = match self.route.as_bytes().last() {
             Some(byte) => *byte as usize,
             None => 0,

@@ -1,4 +1,5 @@
-// Where the routes of a table come from.
+//! The law of where the routes of a table come from.
+
 ghost use Rattle.std.specs.Prelude.{◌≡◌, List, [], ◌∷◌, ◌++◌, Some};
 ghost use Rattle.std.specs.FinMap.{find};
 ghost use Rattle.bgp_prefix.specs.Keys.{key_cmp};
@@ -12,6 +13,8 @@ ghost use Rattle.adj_rib.specs.Sources.{ComesFrom, IsBreak};
 /// Each route of a table was announced by a unit that came while the peer was up, and after the last
 /// break, which leaves none.
 pub fn routes_come_while_up()
-    ensures source { (units : List ReplayUnit) (key : RouteKey) (route : Route) → find key_cmp key (table_of (steps_of units)) ≡ Some route → ComesFrom units key route }
-    ensures emptied { (units : List ReplayUnit) (unit : ReplayUnit) → IsBreak unit.payload → table_of (steps_of (units ++ unit ∷ [])) ≡ [] }
+    ensures source { (units : List ReplayUnit) (key : RouteKey) (route : Route) →
+        find key_cmp key (table_of (steps_of units)) ≡ Some route → ComesFrom units key route }
+    ensures emptied { (units : List ReplayUnit) (unit : ReplayUnit) → IsBreak unit.payload →
+        table_of (steps_of (units ++ unit ∷ [])) ≡ [] }
 {}

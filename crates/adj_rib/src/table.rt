@@ -1,3 +1,5 @@
+//! Single changes of a table, each counted.
+
 ghost use Rattle.std.specs.Prelude.{◌≡◌, OnOk};
 ghost use Rattle.std.specs.FinMap as finite;
 ghost use Rattle.adj_rib.specs.Steps.{announce, withdraw};
@@ -29,7 +31,8 @@ pub(crate) fn announce_route<M: PrefixMap<SharedRoute>>(
     key: RouteKey,
     route: &SharedRoute,
 ) -> Result<(), Memory>
-    ensures { OnOk result ((M.contents table.new, churn.new) ≡ applied (M.contents table.old, churn.old) (announce key route.now)) }
+    ensures { OnOk result ((M.contents table.new, churn.new)
+        ≡ applied (M.contents table.old, churn.old) (announce key route.now)) }
 {
     let old = table.insert(alloc, key, route.share(alloc)?)?;
     churn.count(outcome_over(old, route));

@@ -1,3 +1,5 @@
+//! The changes of a table by an UPDATE.
+
 ghost use Rattle.std.specs.Prelude.{◌≡◌, ◌||◌, ◌++◌, map, not, OnOk};
 ghost use Rattle.std.specs.List.{fold, filter};
 ghost use Rattle.bgp_prefix.specs.Keys.{among};
@@ -21,7 +23,9 @@ fn withdraw_others<M: PrefixMap<SharedRoute>>(
     announced: &KeySet,
     reached: &KeySet,
 )
-    ensures { (M.contents table.new, churn.new) ≡ fold applied (M.contents table.old, churn.old) (map withdraw (filter (λ key. not (among announced.now key || among reached.now key)) withdrawn.now)) }
+    ensures { (M.contents table.new, churn.new)
+        ≡ fold applied (M.contents table.old, churn.old)
+        (map withdraw (filter (λ key. not (among announced.now key || among reached.now key)) withdrawn.now)) }
 {
     for key in withdrawn {
         if !announced.contains(key) && !reached.contains(key) {
@@ -38,7 +42,8 @@ fn announce_all<M: PrefixMap<SharedRoute>>(
     keys: &[RouteKey],
     route: &SharedRoute,
 ) -> Result<(), Memory>
-    ensures { OnOk result ((M.contents table.new, churn.new) ≡ fold applied (M.contents table.old, churn.old) (map (λ key. announce key route.now) keys.now)) }
+    ensures { OnOk result ((M.contents table.new, churn.new)
+        ≡ fold applied (M.contents table.old, churn.old) (map (λ key. announce key route.now) keys.now)) }
 {
     for key in keys {
         announce_route(alloc, table, churn, *key, route)?;
@@ -56,7 +61,8 @@ fn announce_keys<M: PrefixMap<SharedRoute>>(
     route: &Route,
 ) -> Result<(), Memory>
     requires { IsWritable route.now.path }
-    ensures { OnOk result ((M.contents table.new, churn.new) ≡ fold applied (M.contents table.old, churn.old) (map (λ key. announce key route.now) keys.now)) }
+    ensures { OnOk result ((M.contents table.new, churn.new)
+        ≡ fold applied (M.contents table.old, churn.old) (map (λ key. announce key route.now) keys.now)) }
 {
     if keys.is_empty() {
         return Ok(());
@@ -72,7 +78,8 @@ fn withdraw_update<M: PrefixMap<SharedRoute>>(
     churn: &mut Churn,
     update: &Update,
 ) -> Result<(), Memory>
-    ensures { OnOk result ((M.contents table.new, churn.new) ≡ fold applied (M.contents table.old, churn.old) (withdrawals update.now)) }
+    ensures { OnOk result ((M.contents table.new, churn.new)
+        ≡ fold applied (M.contents table.old, churn.old) (withdrawals update.now)) }
 {
     let withdrawn = update.withdrawn.as_slice();
     if !withdrawn.is_empty() {
@@ -83,7 +90,7 @@ fn withdraw_update<M: PrefixMap<SharedRoute>>(
     Ok(())
 }
 
-/// Announces what an UPDATE announces, and then what it reaches with its attribute 14.
+/// Announces what an UPDATE announces, and then what it reaches by MP_REACH_NLRI.
 fn announce_update<M: PrefixMap<SharedRoute>>(
     alloc: Global,
     routes: &mut RouteSet,
@@ -92,7 +99,8 @@ fn announce_update<M: PrefixMap<SharedRoute>>(
     update: Update,
 ) -> Result<(), Memory>
     requires { IsWritable update.route.path }
-    ensures { OnOk result ((M.contents table.new, churn.new) ≡ fold applied (M.contents table.old, churn.old) (announcements update ++ reachings update)) }
+    ensures { OnOk result ((M.contents table.new, churn.new)
+        ≡ fold applied (M.contents table.old, churn.old) (announcements update ++ reachings update)) }
 {
     let Update {
         withdrawn: _,
@@ -116,7 +124,8 @@ pub(crate) fn apply_update<M: PrefixMap<SharedRoute>>(
     update: Update,
 ) -> Result<(), Memory>
     requires { IsWritable update.route.path }
-    ensures { OnOk result ((M.contents table.new, churn.new) ≡ fold applied (M.contents table.old, churn.old) (update_steps update)) }
+    ensures { OnOk result ((M.contents table.new, churn.new)
+        ≡ fold applied (M.contents table.old, churn.old) (update_steps update)) }
 {
     withdraw_update(alloc, table, churn, &update)?;
     announce_update(alloc, routes, table, churn, update)
