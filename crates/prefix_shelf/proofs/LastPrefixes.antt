@@ -7,7 +7,7 @@ use Rattle.std.proofs.lemmas.Bool.{cases_lt}
 use Rattle.std.proofs.lemmas.List.{append-nil, take-append-drop, drop_all, length-append, get_or_append_left, get_or-append_right, get_or_default}
 use Rattle.bgp_prefix.specs.Prefixes.{IpPrefix, prefix_cmp, prefix_eq, contains, leading_bits}
 use Rattle.bgp_prefix.specs.Keys.{key_cmp, is_nil}
-use Rattle.prefix_shelf.specs.Shelves.{in_chunks, first_key, IsRows, EachKey, IsIndexOfPrefix, IsLastUpTo, IsBefore}
+use Rattle.prefix_shelf.specs.Shelves.{in_chunks, first_key, AreParts, EachKey, IsIndexOfPrefix, IsLastUpTo, IsBefore}
 use Rattle.std.specs.List.Sorted.{IsPartitionPoint}
 use Rattle.bgp_prefix.proofs.JumpLaws.{IsLimit, none_found, match_found, falls, IsLimit-miss}
 use Rattle.bgp_prefix.proofs.NetworkLaws.{network}
@@ -34,7 +34,7 @@ module _ {V : Type 0} where
   ])
 
   -- a key above the last part is above all
-  pub last_of : (ks : List RouteKey) (cs : List (List (RouteKey × V))) (k : RouteKey) (i : ℕ) (d : List (RouteKey × V)) → IsRows ks cs → i + 1 ≡ length cs → EachBelow k (get_or cs i d) → EachBelow k (in_chunks cs)
+  pub last_of : (ks : List RouteKey) (cs : List (List (RouteKey × V))) (k : RouteKey) (i : ℕ) (d : List (RouteKey × V)) → AreParts ks cs → i + 1 ≡ length cs → EachBelow k (get_or cs i d) → EachBelow k (in_chunks cs)
   last_of ks cs k i d rows last below =
       let lt : i < length cs = omega (arith, last) in
       let rest : drop (suc i) cs ≡ [] = drop_all (suc i) cs (omega (arith, last)) in
@@ -75,7 +75,7 @@ module _ {V : Type 0} where
         ],
   )
 
-  module _ (ks : List RouteKey) (cs : List (List (RouteKey × V))) (p : IpPrefix) (i n : ℕ) (c : List (RouteKey × V)) (rows : IsRows ks cs) (is : IsIndexOfPrefix cs p i) (read : c ≡ get_or cs i c) (inside : n ≤ length c) (end : IsEnd p c n) where
+  module _ (ks : List RouteKey) (cs : List (List (RouteKey × V))) (p : IpPrefix) (i n : ℕ) (c : List (RouteKey × V)) (rows : AreParts ks cs) (is : IsIndexOfPrefix cs p i) (read : c ≡ get_or cs i c) (inside : n ≤ length c) (end : IsEnd p c n) where
     whole : in_chunks cs ≡ in_chunks (take i cs) ++ (c ++ in_chunks (drop (suc i) cs))
     whole = around cs i c is.in_range ∙ ap (λ t. in_chunks (take i cs) ++ (t ++ in_chunks (drop (suc i) cs))) (sym read)
 
@@ -127,7 +127,7 @@ module _ {V : Type 0} where
       record { count = n; inside = inside; end = end; before = (some, (x, get_or_default (e ∷ es) (n - 1) e x lt, sym (has e))) }
 
   -- the last prefix up to one, by the part that has it
-  pub last_in : (ks : List RouteKey) (cs : List (List (RouteKey × V))) (p : IpPrefix) (i : ℕ) (c : List (RouteKey × V)) (r : Option IpPrefix) → IsRows ks cs → IsIndexOfPrefix cs p i → c ≡ get_or cs i c → IsLastUpTo c p r → IsLastUpTo (in_chunks cs) p r
+  pub last_in : (ks : List RouteKey) (cs : List (List (RouteKey × V))) (p : IpPrefix) (i : ℕ) (c : List (RouteKey × V)) (r : Option IpPrefix) → AreParts ks cs → IsIndexOfPrefix cs p i → c ≡ get_or cs i c → IsLastUpTo c p r → IsLastUpTo (in_chunks cs) p r
   last_in ks cs p i c None rows is read last = none_before ks cs p i last.count c rows is read last.inside last.end last.before
   last_in ks cs p i c (Some q) rows is read last =
       let b = last.before in
@@ -141,7 +141,7 @@ module _ {V : Type 0} where
   pub paths_below : (p : IpPrefix) (es : List (RouteKey × V)) → EachBelow (record { prefix = p; id = 0 }) es → paths_of p es ≡ []
   paths_below p es h = paths_none p es (each_weaker (λ k. key_cmp k (record { prefix = p; id = 0 }) ≡ Less) (λ k. prefix_eq p k.prefix ≡ false) es (λ k less. other_of_less k.prefix p (lesser_prefix k p less)) h)
 
-  pub paths_until : (p : IpPrefix) (ks : List RouteKey) (cs : List (List (RouteKey × V))) (n : ℕ) → IsRows ks cs → (n < length ks → (d : RouteKey) → prefix_cmp (get_or ks n d).prefix p ≡ Greater) → paths_of p (in_chunks (take n cs)) ≡ paths_of p (in_chunks cs)
+  pub paths_until : (p : IpPrefix) (ks : List RouteKey) (cs : List (List (RouteKey × V))) (n : ℕ) → AreParts ks cs → (n < length ks → (d : RouteKey) → prefix_cmp (get_or ks n d).prefix p ≡ Greater) → paths_of p (in_chunks (take n cs)) ≡ paths_of p (in_chunks cs)
   paths_until p ks cs n rows h =
       let Q : RouteKey → Type 0 = λ k. prefix_cmp k.prefix p ≡ Greater in
       let any : RouteKey → Type 0 = λ k. Unit {0} in

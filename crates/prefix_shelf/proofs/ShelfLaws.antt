@@ -10,7 +10,7 @@ use Rattle.std.proofs.lemmas.List.Edits.{insert_end}
 use Rattle.std.proofs.lemmas.List.Elements.{All-head, All-tail, All-cons, All-set, All-take, All-drop, All-append, All-filter, filter-append}
 use Rattle.bgp_prefix.specs.Prefixes.{IpPrefix, IsIpPrefix, prefix_cmp}
 use Rattle.bgp_prefix.specs.Keys.{key_cmp, is_nil}
-use Rattle.prefix_shelf.specs.Shelves.{in_chunks, first_key, IsRows, EachKey, IsIndexOfKey, IsIndexOfPrefix, IsCut, lesser_key}
+use Rattle.prefix_shelf.specs.Shelves.{in_chunks, first_key, AreParts, EachKey, IsIndexOfKey, IsIndexOfPrefix, IsCut, lesser_key}
 use Rattle.std.specs.Option.{option_or}
 use Rattle.bgp_prefix.specs.declared.key.RouteKey.{RouteKey}
 use Rattle.bgp_prefix.proofs.KeyLaws.{key_cmp_total, find-parts, or_none}
@@ -73,7 +73,7 @@ module _ {V : Type 0} where
   drop_sorted n cs sorted = (sorted_parts (in_chunks (take n cs)) (in_chunks (drop n cs)) (subst (λ (es : List (RouteKey × V)). T (is_sorted key_cmp es)) (ap in_chunks (sym (take-append-drop n cs)) ∙ chunks_append (take n cs) (drop n cs)) sorted)).1
 
   -- by what holds of the first key of a chunk: what follows for the keys before, and for those after
-  module _ (ks : List RouteKey) (cs : List (List (RouteKey × V))) (rows : IsRows ks cs) (A P Q : RouteKey → Type 0) (down : (k j : RouteKey) → key_cmp k j ≡ Less → A j → P k) (up : (j k : RouteKey) → key_cmp j k ≡ Less → Q j → Q k) where
+  module _ (ks : List RouteKey) (cs : List (List (RouteKey × V))) (rows : AreParts ks cs) (A P Q : RouteKey → Type 0) (down : (k j : RouteKey) → key_cmp k j ≡ Less → A j → P k) (up : (j k : RouteKey) → key_cmp j k ≡ Less → Q j → Q k) where
     before_head : (es c bs : List (RouteKey × V)) → T (is_sorted key_cmp (es ++ (c ++ bs))) → is_nil c ≡ false → A (first_key c) → EachKey P es
     before_head es [] bs sorted held h = cc
     before_head es (e ∷ c) bs sorted held h = each_weaker (λ k. key_cmp k e.0 ≡ Less) P es (λ k less. down k e.0 less h) (each_before e.0 e.1 es (c ++ bs) sorted)
@@ -111,7 +111,7 @@ module _ {V : Type 0} where
     keys_after (suc m) h = let one : suc m - 1 ≡ m = omega arith in rw one (keys_from (suc m) h)
 
   -- where the first key before is no greater, and the one after is
-  pub index_of_key : (ks : List RouteKey) (cs : List (List (RouteKey × V))) (key : RouteKey) (n : ℕ) → IsRows ks cs → 0 < length cs → n ≤ length ks → (0 < n → (d : RouteKey) → key_cmp (get_or ks (n - 1) d) key ≢ Greater) → (n < length ks → (d : RouteKey) → key_cmp (get_or ks n d) key ≡ Greater) → IsIndexOfKey cs key (n - 1)
+  pub index_of_key : (ks : List RouteKey) (cs : List (List (RouteKey × V))) (key : RouteKey) (n : ℕ) → AreParts ks cs → 0 < length cs → n ≤ length ks → (0 < n → (d : RouteKey) → key_cmp (get_or ks (n - 1) d) key ≢ Greater) → (n < length ks → (d : RouteKey) → key_cmp (get_or ks n d) key ≡ Greater) → IsIndexOfKey cs key (n - 1)
   index_of_key ks cs key n rows some inside below above =
       let long : n ≤ length cs = omega (arith, inside, ap length rows.firsts, length-map cs (first_key {V = V})) in
       record {
@@ -120,7 +120,7 @@ module _ {V : Type 0} where
         after = keys_after ks cs rows (λ j. key_cmp j key ≢ Greater) (λ k. key_cmp k key ≡ Less) (λ k. key_cmp k key ≡ Greater) (less_past key) (more_past key) n above;
       }
 
-  pub index_of_prefix : (ks : List RouteKey) (cs : List (List (RouteKey × V))) (p : IpPrefix) (n : ℕ) → IsRows ks cs → 0 < length cs → n ≤ length ks → (0 < n → (d : RouteKey) → is_le (prefix_cmp (get_or ks (n - 1) d).prefix p) ≡ true) → (n < length ks → (d : RouteKey) → is_le (prefix_cmp (get_or ks n d).prefix p) ≡ false) → IsIndexOfPrefix cs p (n - 1)
+  pub index_of_prefix : (ks : List RouteKey) (cs : List (List (RouteKey × V))) (p : IpPrefix) (n : ℕ) → AreParts ks cs → 0 < length cs → n ≤ length ks → (0 < n → (d : RouteKey) → is_le (prefix_cmp (get_or ks (n - 1) d).prefix p) ≡ true) → (n < length ks → (d : RouteKey) → is_le (prefix_cmp (get_or ks n d).prefix p) ≡ false) → IsIndexOfPrefix cs p (n - 1)
   index_of_prefix ks cs p n rows some inside below above =
       let long : n ≤ length cs = omega (arith, inside, ap length rows.firsts, length-map cs (first_key {V = V})) in
       record {
@@ -138,7 +138,7 @@ module _ {V : Type 0} where
   put_held k v (e ∷ es) = elim (key_cmp k e.0) as (λ r. is_nil (by_order r ((k, v) ∷ e ∷ es) ((e.0, v) ∷ es) (e ∷ put key_cmp k v es)) ≡ false) [ Less ↦ refl | Equal ↦ refl | Greater ↦ refl ]
 
   -- the first key of the routes of parts, and of parts of which none is empty
-  pub first_in : (ks : List RouteKey) (cs : List (List (RouteKey × V))) (k : RouteKey) → IsRows ks cs → 0 < length (in_chunks cs) → ((d : RouteKey) → k ≡ get_or ks 0 d) → k ≡ first_key (in_chunks cs)
+  pub first_in : (ks : List RouteKey) (cs : List (List (RouteKey × V))) (k : RouteKey) → AreParts ks cs → 0 < length (in_chunks cs) → ((d : RouteKey) → k ≡ get_or ks 0 d) → k ≡ first_key (in_chunks cs)
   first_in ks cs k rows some read = read k ∙ ap (λ (t : List RouteKey). get_or t 0 k) rows.firsts ∙ head cs rows.held some
     where
       head : (cs : List (List (RouteKey × V))) → All (λ c. is_nil c ≡ false) cs → 0 < length (in_chunks cs) → get_or (map first_key cs) 0 k ≡ first_key (in_chunks cs)
@@ -146,12 +146,12 @@ module _ {V : Type 0} where
       head ([] ∷ cs) held some = let no = All-head (λ (c : List (RouteKey × V)). is_nil c ≡ false) [] cs held in cc
       head ((e ∷ c) ∷ cs) held some = refl
 
-  pub some_in : (ks : List RouteKey) (cs : List (List (RouteKey × V))) → IsRows ks cs → 0 < length (in_chunks cs) → 0 < length ks
+  pub some_in : (ks : List RouteKey) (cs : List (List (RouteKey × V))) → AreParts ks cs → 0 < length (in_chunks cs) → 0 < length ks
   some_in ks [] rows some = absurd (omega (arith, some))
   some_in ks (c ∷ cs) rows some = omega (arith, ap length rows.firsts)
 
-  pub rows_one : (k : RouteKey) (v : V) → IsIpPrefix k.prefix → IsRows (k ∷ []) (((k, v) ∷ []) ∷ [])
-  rows_one k v known = record {
+  pub parts_one : (k : RouteKey) (v : V) → IsIpPrefix k.prefix → AreParts (k ∷ []) (((k, v) ∷ []) ∷ [])
+  parts_one k v known = record {
     sorted = tt;
     known = All-cons (λ (e : RouteKey × V). IsIpPrefix e.0.prefix) (k, v) [] known (λ j d lt. absurd (omega (arith, lt)));
     held = All-cons (λ (c : List (RouteKey × V)). is_nil c ≡ false) ((k, v) ∷ []) [] refl (λ j d lt. absurd (omega (arith, lt)));
@@ -168,12 +168,12 @@ module _ {V : Type 0} where
   first_put k v (e ∷ es) held = elim (key_cmp k e.0) as (λ r. first_key (by_order r ((k, v) ∷ e ∷ es) ((e.0, v) ∷ es) (e ∷ put key_cmp k v es)) ≡ cond (is_lt r) k e.0) [ Less ↦ refl | Equal ↦ refl | Greater ↦ refl ]
 
   -- the first key of a part in which one was put
-  pub lesser_at : (ks : List RouteKey) (cs : List (List (RouteKey × V))) (k : RouteKey) (i : ℕ) (v : V) (d : List (RouteKey × V)) (z : RouteKey) → IsRows ks cs → i < length cs → lesser_key k (get_or ks i z) ≡ first_key (put key_cmp k v (get_or cs i d))
+  pub lesser_at : (ks : List RouteKey) (cs : List (List (RouteKey × V))) (k : RouteKey) (i : ℕ) (v : V) (d : List (RouteKey × V)) (z : RouteKey) → AreParts ks cs → i < length cs → lesser_key k (get_or ks i z) ≡ first_key (put key_cmp k v (get_or cs i d))
   lesser_at ks cs k i v d z rows lt = ap (lesser_key k) (ap (λ (t : List RouteKey). get_or t i z) rows.firsts ∙ get_map first_key cs i d z lt) ∙ sym (first_put k v (get_or cs i d) (rows.held i d lt))
 
   -- a chunk with a route put
-  pub rows_put : (ks : List RouteKey) (cs : List (List (RouteKey × V))) (k : RouteKey) (i : ℕ) (v : V) (d : List (RouteKey × V)) → IsRows ks cs → IsIndexOfKey cs k i → IsIpPrefix k.prefix → IsRows (set ks i (first_key (put key_cmp k v (get_or cs i d)))) (set cs i (put key_cmp k v (get_or cs i d)))
-  rows_put ks cs k i v d rows is known = record {
+  pub parts_put : (ks : List RouteKey) (cs : List (List (RouteKey × V))) (k : RouteKey) (i : ℕ) (v : V) (d : List (RouteKey × V)) → AreParts ks cs → IsIndexOfKey cs k i → IsIpPrefix k.prefix → AreParts (set ks i (first_key (put key_cmp k v (get_or cs i d)))) (set cs i (put key_cmp k v (get_or cs i d)))
+  parts_put ks cs k i v d rows is known = record {
     sorted = subst (λ (es : List (RouteKey × V)). T (is_sorted key_cmp es)) (sym (put_in cs k i is d v)) (is_sorted-put key_cmp key_cmp_total k v (in_chunks cs) rows.sorted);
     known = subst (λ (es : List (RouteKey × V)). All (λ e. IsIpPrefix e.0.prefix) es) (sym (put_in cs k i is d v)) (of_put (λ j. IsIpPrefix j.prefix) k v (in_chunks cs) known rows.known);
     held = All-set (λ c. is_nil c ≡ false) cs i (put key_cmp k v (get_or cs i d)) (put_held k v (get_or cs i d)) rows.held;
@@ -216,8 +216,8 @@ module _ {V : Type 0} where
   first_of_both (e ∷ a) b c some whole = ap first_key whole
 
   -- a part in two
-  pub rows_split : (ks : List RouteKey) (cs : List (List (RouteKey × V))) (i : ℕ) (a b : List (RouteKey × V)) (d : List (RouteKey × V)) → IsRows ks cs → i < length cs → IsCut (get_or cs i d) a b → (in_chunks (insert (set cs i a) (i + 1) b) ≡ in_chunks cs) × IsRows (insert ks (i + 1) (first_key b)) (insert (set cs i a) (i + 1) b)
-  rows_split ks cs i a b d rows lt cut =
+  pub parts_split : (ks : List RouteKey) (cs : List (List (RouteKey × V))) (i : ℕ) (a b : List (RouteKey × V)) (d : List (RouteKey × V)) → AreParts ks cs → i < length cs → IsCut (get_or cs i d) a b → (in_chunks (insert (set cs i a) (i + 1) b) ≡ in_chunks cs) × AreParts (insert ks (i + 1) (first_key b)) (insert (set cs i a) (i + 1) b)
+  parts_split ks cs i a b d rows lt cut =
       let one : i + 1 ≡ suc i = omega arith in
       let same : in_chunks (insert (set cs i a) (suc i) b) ≡ in_chunks cs = split_chunks cs i a b d lt cut.whole in
       rw one (
@@ -237,8 +237,8 @@ module _ {V : Type 0} where
       omega (arith, length-append c (in_chunks cs), one, length_all cs (All-tail (λ (x : List (RouteKey × V)). is_nil x ≡ false) c cs held))
 
   -- the first parts, and the others
-  pub rows_cut : (ks : List RouteKey) (cs : List (List (RouteKey × V))) (n : ℕ) → IsRows ks cs → 0 < n → n < length cs → record { low : IsRows (take n ks) (take n cs); high : IsRows (drop n ks) (drop n cs); cut : IsCut (in_chunks cs) (in_chunks (take n cs)) (in_chunks (drop n cs)) }
-  rows_cut ks cs n rows some less =
+  pub parts_cut : (ks : List RouteKey) (cs : List (List (RouteKey × V))) (n : ℕ) → AreParts ks cs → 0 < n → n < length cs → record { low : AreParts (take n ks) (take n cs); high : AreParts (drop n ks) (drop n cs); cut : IsCut (in_chunks cs) (in_chunks (take n cs)) (in_chunks (drop n cs)) }
+  parts_cut ks cs n rows some less =
       let whole : in_chunks (take n cs) ++ in_chunks (drop n cs) ≡ in_chunks cs = sym (chunks_append (take n cs) (drop n cs)) ∙ ap in_chunks (take-append-drop n cs) in
       let parts = sorted_parts (in_chunks (take n cs)) (in_chunks (drop n cs)) (subst (λ (es : List (RouteKey × V)). T (is_sorted key_cmp es)) (sym whole) rows.sorted) in
       let known : All (λ (e : RouteKey × V). IsIpPrefix e.0.prefix) (in_chunks (take n cs) ++ in_chunks (drop n cs)) = subst (λ (es : List (RouteKey × V)). All (λ e. IsIpPrefix e.0.prefix) es) (sym whole) rows.known in
@@ -255,8 +255,8 @@ module _ {V : Type 0} where
       }
 
   -- one more chunk at the end
-  pub rows_push : (ks : List RouteKey) (cs : List (List (RouteKey × V))) (k : RouteKey) (v : V) → IsRows ks cs → EachKey (λ j. key_cmp j k ≡ Less) (in_chunks cs) → IsIpPrefix k.prefix → (in_chunks (insert cs (length cs) ((k, v) ∷ [])) ≡ put key_cmp k v (in_chunks cs)) × IsRows (insert ks (length ks) k) (insert cs (length cs) ((k, v) ∷ []))
-  rows_push ks cs k v rows last known =
+  pub parts_push : (ks : List RouteKey) (cs : List (List (RouteKey × V))) (k : RouteKey) (v : V) → AreParts ks cs → EachKey (λ j. key_cmp j k ≡ Less) (in_chunks cs) → IsIpPrefix k.prefix → (in_chunks (insert cs (length cs) ((k, v) ∷ [])) ≡ put key_cmp k v (in_chunks cs)) × AreParts (insert ks (length ks) k) (insert cs (length cs) ((k, v) ∷ []))
+  parts_push ks cs k v rows last known =
       let one : List (RouteKey × V) = (k, v) ∷ [] in
       let is : in_chunks (cs ++ one ∷ []) ≡ put key_cmp k v (in_chunks cs) = chunks_append cs (one ∷ []) ∙ sym (put_below k v (in_chunks cs) [] last) ∙ ap (put key_cmp k v) (append-nil (in_chunks cs)) in
       rw (insert_end cs one, insert_end ks k) (
@@ -273,8 +273,8 @@ module _ {V : Type 0} where
   without_known k es all = All-filter (λ (e : RouteKey × V). not (eq_by_cmp key_cmp k e.0)) (λ e. IsIpPrefix e.0.prefix) es all
 
   -- a chunk without a key, where it still holds some
-  pub rows_without : (ks : List RouteKey) (cs : List (List (RouteKey × V))) (k : RouteKey) (i : ℕ) (d : List (RouteKey × V)) → IsRows ks cs → IsIndexOfKey cs k i → 0 < length (without k (get_or cs i d)) → IsRows (set ks i (first_key (without k (get_or cs i d)))) (set cs i (without k (get_or cs i d)))
-  rows_without ks cs k i d rows is some =
+  pub parts_without : (ks : List RouteKey) (cs : List (List (RouteKey × V))) (k : RouteKey) (i : ℕ) (d : List (RouteKey × V)) → AreParts ks cs → IsIndexOfKey cs k i → 0 < length (without k (get_or cs i d)) → AreParts (set ks i (first_key (without k (get_or cs i d)))) (set cs i (without k (get_or cs i d)))
+  parts_without ks cs k i d rows is some =
       let c = without k (get_or cs i d) in
       record {
         sorted = subst (λ (es : List (RouteKey × V)). T (is_sorted key_cmp es)) (sym (without_in cs k i is d)) (is_sorted-where_key key_cmp (λ x. not (eq_by_cmp key_cmp k x)) (in_chunks cs) rows.sorted);
@@ -298,8 +298,8 @@ module _ {V : Type 0} where
   none_of (e ∷ c) h = absurd (omega (arith, h))
 
   -- a chunk that goes with its last key
-  pub rows_gone : (ks : List RouteKey) (cs : List (List (RouteKey × V))) (k : RouteKey) (i : ℕ) (d : List (RouteKey × V)) → IsRows ks cs → IsIndexOfKey cs k i → length (without k (get_or cs i d)) ≡ 0 → (in_chunks (remove (set cs i (without k (get_or cs i d))) i) ≡ without k (in_chunks cs)) × IsRows (remove ks i) (remove (set cs i (without k (get_or cs i d))) i)
-  rows_gone ks cs k i d rows is none =
+  pub parts_gone : (ks : List RouteKey) (cs : List (List (RouteKey × V))) (k : RouteKey) (i : ℕ) (d : List (RouteKey × V)) → AreParts ks cs → IsIndexOfKey cs k i → length (without k (get_or cs i d)) ≡ 0 → (in_chunks (remove (set cs i (without k (get_or cs i d))) i) ≡ without k (in_chunks cs)) × AreParts (remove ks i) (remove (set cs i (without k (get_or cs i d))) i)
+  parts_gone ks cs k i d rows is none =
       let c = without k (get_or cs i d) in
       let same : in_chunks (remove (set cs i c) i) ≡ without k (in_chunks cs) = chunk_gone cs i c is.in_range (none_of c none) ∙ without_in cs k i is d in (
         same,

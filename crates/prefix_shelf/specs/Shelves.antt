@@ -45,7 +45,7 @@ abbrev pub lesser_key : RouteKey → RouteKey → RouteKey
 lesser_key k j = cond (is_lt (key_cmp k j)) k j
 
 -- chunks that hold routes, in the order of their keys, and the first key of each
-pub record IsRows {V : Type 0} (ks : List RouteKey) (chunks : List (List (RouteKey × V))) : Type 0 where
+pub record AreParts {V : Type 0} (ks : List RouteKey) (chunks : List (List (RouteKey × V))) : Type 0 where
   pub sorted : T (is_sorted key_cmp (in_chunks chunks))
   pub known : All (λ e. IsIpPrefix e.0.prefix) (in_chunks chunks)
   pub held : All (λ c. is_nil c ≡ false) chunks

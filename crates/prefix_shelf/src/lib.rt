@@ -3,8 +3,8 @@
 
 mod chunk;
 mod part;
+mod parts;
 mod row;
-mod rows;
 mod shelf;
 
 pub use shelf::Shelf;

@@ -21,7 +21,7 @@ pub(crate) const HALF_LEN: usize = 64;
 /// How much the room of an array grows at most: up to then it is doubled.
 pub(crate) const GROWTH_STEP: usize = 16;
 
-/// Routes in key order, which `Rows` keeps as consecutive parts.
+/// Routes in key order, which `Parts` keeps as consecutive parts.
 pub(crate) trait Part: Drop {
     ghost use Rattle.bgp_prefix.specs.declared.key.RouteKey.{RouteKey};
     ghost use Rattle.std.specs.Prelude.{List};

@@ -2,7 +2,7 @@
 
 use crate::chunk::Chunk;
 use crate::part::{HALF_LEN, Part};
-use crate::rows::Rows;
+use crate::parts::Parts;
 use bgp_prefix::{Memory, Prefix, RouteKey};
 use std::alloc::Global;
 use std::marker::Model;
@@ -10,19 +10,19 @@ use std::marker::Model;
 /// Consecutive chunks of routes, as one part of a shelf.
 #[derive(Drop)]
 pub(crate) struct Row<V> {
-    rows: Rows<Chunk<V>>,
+    chunks: Parts<Chunk<V>>,
 }
 
 impl<V> Model for Row<V> {
     ghost use Rattle.std.specs.Prelude.{List, map};
     ghost use Rattle.bgp_prefix.specs.declared.key.RouteKey.{RouteKey};
-    ghost use Rattle.prefix_shelf.specs.Shelves.{routes_of, IsRows};
+    ghost use Rattle.prefix_shelf.specs.Shelves.{routes_of, AreParts};
 
     ghost Value = { List (RouteKey × V) };
 
-    ghost view = { λ r. routes_of (λ c. c) r.rows.parts.items };
+    ghost view = { λ r. routes_of (λ c. c) r.chunks.parts.items };
 
-    ghost invariant = { λ r. IsRows r.rows.firsts.items (map (λ c. c) r.rows.parts.items) };
+    ghost invariant = { λ r. AreParts r.chunks.firsts.items (map (λ c. c) r.chunks.parts.items) };
 }
 
 impl<V: Drop> Part for Row<V> {
@@ -31,57 +31,57 @@ impl<V: Drop> Part for Row<V> {
     ghost routes = { λ r. r };
 
     fn single(alloc: Global, key: &RouteKey, value: V) -> Result<Row<V>, Memory> {
-        let rows = Rows::single(alloc, key, value)?;
-        Ok(Row { rows })
+        let chunks = Parts::single(alloc, key, value)?;
+        Ok(Row { chunks })
     }
 
     fn is_empty(&self) -> bool {
-        self.rows.is_empty()
+        self.chunks.is_empty()
     }
 
     fn first(&self) -> RouteKey {
-        self.rows.first()
+        self.chunks.first()
     }
 
     fn ends_below(&self, key: &RouteKey) -> bool {
-        self.rows.ends_below(key)
+        self.chunks.ends_below(key)
     }
 
     fn is_overfull(&self) -> bool {
-        self.rows.is_overfull()
+        self.chunks.is_overfull()
     }
 
     fn get(&self, key: &RouteKey) -> Option<&V> {
-        self.rows.get(key)
+        self.chunks.get(key)
     }
 
     fn insert(&mut self, alloc: Global, key: &RouteKey, value: V) -> Result<Option<V>, Memory> {
-        self.rows.insert(alloc, key, value)
+        self.chunks.insert(alloc, key, value)
     }
 
     fn remove(&mut self, key: &RouteKey) -> Option<V> {
-        self.rows.remove(key)
+        self.chunks.remove(key)
     }
 
     fn split(&mut self, alloc: Global) -> Option<Row<V>> {
-        if self.rows.parts.len() <= HALF_LEN {
+        if self.chunks.parts.len() <= HALF_LEN {
             return None;
         }
-        match self.rows.cut(alloc) {
-            Ok(rows) => Some(Row { rows }),
+        match self.chunks.cut(alloc) {
+            Ok(chunks) => Some(Row { chunks }),
             Err(_) => None,
         }
     }
 
     fn list<'a>(&'a self, all: &mut Vec<(RouteKey, &'a V)>) {
-        self.rows.list(all);
+        self.chunks.list(all);
     }
 
     fn paths<'a>(&'a self, prefix: &Prefix, all: &mut Vec<(u32, &'a V)>) -> Result<(), Memory> {
-        self.rows.paths(prefix, all)
+        self.chunks.paths(prefix, all)
     }
 
     fn last_up_to(&self, last: &Prefix) -> Option<Prefix> {
-        self.rows.last_up_to(last)
+        self.chunks.last_up_to(last)
     }
 }

@@ -2,8 +2,8 @@
 
 ghost use Rattle.std.specs.FinMap as finite;
 
+use crate::parts::Parts;
 use crate::row::Row;
-use crate::rows::Rows;
 use bgp_prefix::{Memory, Prefix, PrefixMap, RouteKey, shared_len};
 use std::alloc::Global;
 use std::marker::Model;
@@ -24,21 +24,21 @@ use std::marker::Model;
 /// shortened are not merged. `Radix` counts its steps; `Flat` serves a few keys.
 #[derive(Drop)]
 pub struct Shelf<V> {
-    rows: Rows<Row<V>>,
+    rows: Parts<Row<V>>,
     len: usize,
 }
 
 impl<V> Model for Shelf<V> {
     ghost use Rattle.std.specs.Prelude.{◌≡◌, List, length, map};
     ghost use Rattle.bgp_prefix.specs.declared.key.RouteKey.{RouteKey};
-    ghost use Rattle.prefix_shelf.specs.Shelves.{routes_of, IsRows};
+    ghost use Rattle.prefix_shelf.specs.Shelves.{routes_of, AreParts};
 
     ghost Value = { List (RouteKey × V) };
 
     ghost view = { λ m. routes_of (λ r. r) m.rows.parts.items };
 
     ghost invariant = { λ m. record {
-      rows : IsRows m.rows.firsts.items (map (λ r. r) m.rows.parts.items);
+      rows : AreParts m.rows.firsts.items (map (λ r. r) m.rows.parts.items);
       count : m.len ≡ length (routes_of (λ r. r) m.rows.parts.items);
     } };
 }
@@ -48,7 +48,7 @@ impl<V: Drop> PrefixMap<V> for Shelf<V> {
 
     fn new(alloc: Global) -> Self {
         Shelf {
-            rows: Rows {
+            rows: Parts {
                 firsts: Vec::new(alloc),
                 parts: Vec::new(alloc),
             },

@@ -9,16 +9,16 @@ invariant_of-self g c =
     let old = routes_of (λ r. r) c.self.inside.rows.parts.items in
     let new = routes_of (λ r. r) c.remove-before.new.self.parts.items in
     let is = Changes-without old new c.args.key.now c.remove-before.ensures.removed in
-    let length = length_taken old new c.args.key.now c.self.invariant.rows.sorted c.remove-before.ensures.rows.sorted c.remove-before.result c.remove-before.ensures.before is (sym c.if-is_some.ensures) in
-    record { rows = c.remove-before.ensures.rows; count = omega (arith, length, c.self.invariant.count) }
+    let length = length_taken old new c.args.key.now c.self.invariant.rows.sorted c.remove-before.ensures.parts.sorted c.remove-before.result c.remove-before.ensures.before is (sym c.if-is_some.ensures) in
+    record { rows = c.remove-before.ensures.parts; count = omega (arith, length, c.self.invariant.count) }
 
 pub invariant_of-self-else-is_some : goal.invariant_of-self-else-is_some
 invariant_of-self-else-is_some g c =
     let old = routes_of (λ r. r) c.self.inside.rows.parts.items in
     let new = routes_of (λ r. r) c.remove-before.new.self.parts.items in
     let is = Changes-without old new c.args.key.now c.remove-before.ensures.removed in
-    let length = length_kept old new c.args.key.now c.self.invariant.rows.sorted c.remove-before.ensures.rows.sorted c.remove-before.result c.remove-before.ensures.before is (sym c.if-is_some.ensures) in
-    record { rows = c.remove-before.ensures.rows; count = omega (arith, length, c.self.invariant.count) }
+    let length = length_kept old new c.args.key.now c.self.invariant.rows.sorted c.remove-before.ensures.parts.sorted c.remove-before.result c.remove-before.ensures.before is (sym c.if-is_some.ensures) in
+    record { rows = c.remove-before.ensures.parts; count = omega (arith, length, c.self.invariant.count) }
 
 pub returns-then-is_some-clause-before : goal.returns-then-is_some-clause-before
 returns-then-is_some-clause-before g c = rw (← c.self.view_is) (c.remove-before.ensures.before ∙ sym (found (routes_of (λ r. r) c.self.inside.rows.parts.items) c.args.key.now))
