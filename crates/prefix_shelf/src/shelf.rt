@@ -13,7 +13,7 @@ use std::marker::Model;
 /// of the rows, and of the chunks of a row, are kept in separate lists.
 ///
 /// A call searches the first keys of the rows, those of a row, and then a chunk, each by binary search with the
-/// end tried first: a key after all others, like each key of a RIB dump, is placed with three comparisons,
+/// end tried first: a key after all others, like each key of a RIB dump, is inserted after three comparisons,
 /// and keys in order leave full chunks. An insertion or a removal moves no more than a part of a chunk,
 /// of a row's list of chunks and of the list of rows. `longest` searches at most 33 times.
 ///
