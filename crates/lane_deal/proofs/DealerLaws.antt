@@ -1,6 +1,6 @@
 -- What the dealer did, unit by unit.
 use Rattle.std.proofs.Common.{◌≡◌, ℕ, ◌+◌, ◌-◌, ◌^◌, ◌≤◌, ◌<◌, ◌||◌, true, false, if◌then◌else◌, List, [], ◌∷◌, ◌++◌, length, map, slice_index_or, Option, Some, None, Result, Ok, Err, refl, sym, ap, ◌∙◌, subst, append_assoc, arith, length-append}
-use Rattle.std.specs.Prelude.{option_to_list, min, MatchResult}
+use Rattle.std.specs.Prelude.{option_to_list, is_some, min, MatchResult}
 use Rattle.std.specs.List.{list_any, filter_map, AllByRecursion}
 use Rattle.std.proofs.lemmas.List.{append-nil, map-append}
 use Rattle.std.proofs.lemmas.List.Elements.{filter_map-append}
@@ -57,6 +57,11 @@ pub none_kept : (kept : Option ReplayUnit) (given : List Found) (listed : List D
 none_kept None given listed e = refl
 none_kept (Some k) given [] e = absurd (cc)
 none_kept (Some k) given (d ∷ listed) e = absurd (cc)
+
+-- nothing is kept where there is no unit
+pub kept_is_none : (kept : Option ReplayUnit) → is_some kept ≡ false → kept ≡ None
+kept_is_none None e = refl
+kept_is_none (Some k) e = absurd (cc)
 
 -- ---- numbers
 
@@ -127,6 +132,11 @@ module _ {D : Type 0} where
         refused = same ∙ sym (append-nil old.refused.items);
         ended = λ clash. absurd (cc);
       }
+
+  -- what was kept is next
+  pub Next-taken : (old new : Dealer D) (u : UnitsState) (k : Known) (next : Option ReplayUnit) → next ≡ old.kept → is_some old.kept ≡ true → Asks old new → new.refused.items ≡ old.refused.items → Next old new u k u k next
+  Next-taken old new u k (Some unit) e some asks same = Next-kept old new u k unit (sym e) asks same
+  Next-taken old new u k None e some asks same = let clash : false ≡ true = ap is_some e ∙ some in absurd (cc)
 
   abbrev NextOr : Dealer D → Dealer D → UnitsState → Known → UnitsState → Known → Result (Option ReplayUnit) ReplayError → Type 0
   NextOr old new u k u' k' result = MatchResult result (λ next. Next old new u k u' k' next) (λ e. (file : ℕ) → e ≡ Read file → NextInVain old new u k)

@@ -1,6 +1,6 @@
 //! The dealing of what files give to the lanes.
 
-ghost use Rattle.std.specs.Prelude.{◌≡◌, ℕ, ◌<◌, ◌∷◌, [], length, map, IfErr, IfSome, IfOk, MatchResult, OnOk, None};
+ghost use Rattle.std.specs.Prelude.{◌≡◌, ℕ, ◌<◌, ◌∷◌, [], length, map, true, false, IfErr, IfSome, IfOk, MatchResult, OnOk, None};
 ghost use Rattle.std.specs.Option.{ForSome};
 ghost use Rattle.rtrb.specs.Ring.{known_free};
 ghost use Rattle.std.specs.Prelude.{slice_index_or};
@@ -26,7 +26,7 @@ use std::sync::atomic::AtomicBool;
 pub struct Dealer<D> {
     pub dealing: D,
     pub peers: Peers,
-    /// The unit that came back from a full ring. It is the next to be dealt.
+    /// The unit whose lane's ring was full. It is the next to be dealt.
     pub kept: Option<Unit>,
     pub refused: Vec<Damage>,
     /// The number of units dealt. Saturates at `u64::MAX`.
@@ -34,22 +34,24 @@ pub struct Dealer<D> {
     ghost small: { ForSome kept IsSmallUnit },
 }
 
-/// Pushes the unit to its lane, or returns it if that lane's ring is full and stays full for this many
-/// further tries.
-fn deal_one<G: Gate>(
-    gate: &G,
-    lane: usize,
-    looks: u32,
-    over: &AtomicBool,
-    item: Numbered,
-    feeds: &mut [Feed],
-) -> Result<(), Numbered>
+/// Whether the lane's ring has a free slot, at once or at one of this many further looks.
+fn has_room(feeds: &mut [Feed], lane: usize, looks: u32, over: &AtomicBool) -> bool
+    requires { lane < length feeds.old }
+    ensures looked { (lane_of : ℕ → ℕ) → Dealt lane_of feeds.old feeds.new [] }
+    ensures room { result ≡ true → (d : _) → 0 < known_free (slice_index_or feeds.new lane d).producer }
+    ensures full { result ≡ false → (d : _) → known_free (slice_index_or feeds.old lane d).producer ≡ 0 }
+{
+    feeds[lane].has_room(looks, over)
+}
+
+/// Pushes the item to its lane's ring, which has a free slot.
+fn deal_one<G: Gate>(gate: &G, lane: usize, item: Numbered, feeds: &mut [Feed])
     requires lane { lane < length feeds.old }
     requires small { IsSmallUnit item.unit }
-    ensures dealt { OnOk result ((lane_of : ℕ → ℕ) → lane_of item.number ≡ lane → Dealt lane_of feeds.old feeds.new (item ∷ [])) }
-    ensures full { IfErr result (λ back. (back ≡ item) × ((lane_of : ℕ → ℕ) → Dealt lane_of feeds.old feeds.new []) × ((d : _) → known_free (slice_index_or feeds.old lane d).producer ≡ 0)) }
+    requires room { (d : _) → 0 < known_free (slice_index_or feeds.old lane d).producer }
+    ensures { (lane_of : ℕ → ℕ) → lane_of item.number ≡ lane → Dealt lane_of feeds.old feeds.new (item ∷ []) }
 {
-    feeds[lane].push(gate, lane, looks, over, item)
+    feeds[lane].push(gate, lane, item);
 }
 
 /// Lists what the files refuse, until they yield a unit or end.
@@ -102,7 +104,7 @@ impl<D: Dealing> Dealer<D> {
         ensures { (number : ℕ) → D.lane_of self.now.dealing number workers < workers }
     {}
 
-    /// Returns the unit that came back, if there is one, and otherwise the next one from the files.
+    /// Returns the kept unit, if there is one, and otherwise the next one from the files.
     fn next_unit<R: Source>(
         &mut self,
         alloc: Global,
@@ -119,13 +121,13 @@ impl<D: Dealing> Dealer<D> {
             (λ next. Next self.old self.new units.old (map R.remaining files.old) units.new (map R.remaining files.new) next)
             (λ e. (file : ℕ) → e ≡ Read file → NextInVain self.old self.new units.old (map R.remaining files.old)) }
     {
-        if let Some(unit) = self.kept.take() {
-            return Ok(Some(unit));
+        if self.kept.is_none() {
+            return ask(alloc, units, files, &mut self.refused);
         }
-        ask(alloc, units, files, &mut self.refused)
+        Ok(self.kept.take())
     }
 
-    /// Deals until a ring is full and stays full for this many further tries, a batch is dealt or the files end.
+    /// Deals until a ring is full and stays full for this many further looks, a batch is dealt or the files end.
     pub fn deal<R: Source, G: Gate>(
         &mut self,
         alloc: Global,
@@ -152,13 +154,12 @@ impl<D: Dealing> Dealer<D> {
             };
             let number = self.peers.number_of(&unit.peer)?;
             let lane = self.dealing.lane(number, feeds.len());
-            match deal_one(gate, lane, looks, over, Numbered { number, unit }, feeds) {
-                Ok(()) => self.dealt = self.dealt.saturating_add(1),
-                Err(back) => {
-                    self.kept = Some(back.unit);
-                    return Ok(Step::Blocked);
-                }
+            if !has_room(feeds, lane, looks, over) {
+                self.kept = Some(unit);
+                return Ok(Step::Blocked);
             }
+            deal_one(gate, lane, Numbered { number, unit }, feeds);
+            self.dealt = self.dealt.saturating_add(1);
         }
         Ok(Step::FullBatch)
     }

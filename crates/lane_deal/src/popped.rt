@@ -15,11 +15,20 @@ pub struct Popped {
 impl Popped {
     ghost use Rattle.std.specs.Prelude.{◌≡◌};
 
-    /// Reads ahead of an item by way of a buffer, whose contents are replaced.
-    pub fn new(alloc: Global, buffer: &mut Vec<u8>, item: Numbered) -> Popped
+    /// Reads nothing ahead of the item.
+    pub fn new(item: Numbered) -> Popped
         ensures { result.item ≡ item }
     {
-        let ahead = ReadAhead::of(alloc, buffer, &item.unit);
-        Popped { item, ahead }
+        Popped {
+            item,
+            ahead: ReadAhead::nothing(),
+        }
+    }
+
+    /// Reads ahead of the item by way of a buffer, whose contents are replaced.
+    pub fn read_ahead(&mut self, alloc: Global, buffer: &mut Vec<u8>)
+        ensures { self.new.item ≡ self.old.item }
+    {
+        self.ahead = ReadAhead::of(alloc, buffer, &self.item.unit);
     }
 }

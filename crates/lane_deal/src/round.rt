@@ -25,7 +25,9 @@ use std::alloc::Global;
 use std::sync::atomic::{AtomicBool, Ordering};
 use std::thread::{Threads, join_mut};
 
-/// Deals in one half while the workers take in the other. The round is over once the dealer ends or a worker fails.
+/// Deals in one half while the workers take in the other. The round is over once the dealer ends or a worker fails. For a
+/// single worker that looks at most once at an empty ring, and so would gain little from a thread of its own, the
+/// calling thread deals first and takes afterwards.
 fn deal_and_work<
     T: Threads + Sync,
     D: Dealing + Send,
@@ -51,6 +53,13 @@ fn deal_and_work<
     let flag = AtomicBool::new(false);
     let over = &flag;
     let (batch, looks) = (patience.batch, patience.looks);
+    if workers.len() < 2 && looks < 2 {
+        // Nobody empties a full ring meanwhile, so the dealer looks no further.
+        let step = dealer.deal(alloc, gate, batch, 0, over, units, files, feeds);
+        over.store(true, Ordering::SeqCst);
+        let worked = run_at_most_one(alloc, gate, over, patience, workers);
+        return (step, worked);
+    }
     let mut deal = || -> Result<Step, ReplayError>
         requires { (0 < length feeds.now) × (length files.now ≡ units.now.count) }
         ensures { DealsOn (λ number. D.lane_of dealer.entry.now.dealing number (length feeds.entry.now)) batch feeds.entry.now feeds.exit.now dealer.entry.now dealer.exit.now units.entry.now (map R.remaining files.entry.now) (map R.failure_count files.entry.now) units.exit.now (map R.remaining files.exit.now) (map R.failure_count files.exit.now) result }
@@ -66,63 +75,6 @@ fn deal_and_work<
     // If no thread can be started, the workers run last, when the round is over.
     let (worked, step) = join_mut(rt, &mut work, &mut deal);
     (step, worked)
-}
-
-/// Deals first and lets the worker take afterwards, both in the calling thread.
-fn deal_then_work<D: Dealing, R: Source, S: Sessions, G: Gate>(
-    alloc: Global,
-    gate: &G,
-    patience: Patience,
-    dealer: &mut Dealer<D>,
-    units: &mut Units,
-    files: &mut [R],
-    feeds: &mut [Feed],
-    workers: &mut [Worker<S>],
-) -> (Result<Step, ReplayError>, Result<(), Memory>)
-    requires lanes { 0 < length feeds.old }
-    requires files { length files.old ≡ units.old.count }
-    requires few { length workers.old < 2 }
-    ensures deals { DealsOn (λ number. D.lane_of dealer.old.dealing number (length feeds.old)) patience.batch feeds.old feeds.new dealer.old dealer.new units.old (map R.remaining files.old) (map R.failure_count files.old) units.new (map R.remaining files.new) (map R.failure_count files.new) result.0 }
-    ensures worked { OnOk result.1 (AllZip (Worked S.stands_for) workers.old workers.new) }
-{
-    let over = AtomicBool::new(false);
-    // Nobody empties a full ring meanwhile, so no push is retried.
-    let step = dealer.deal(alloc, gate, patience.batch, 0, &over, units, files, feeds);
-    over.store(true, Ordering::SeqCst);
-    let worked = run_at_most_one(alloc, gate, &over, patience, workers);
-    (step, worked)
-}
-
-/// Deals, and lets the workers take: side by side, or one after the other for a single worker that looks at most once
-/// at an empty ring and so would gain little from a thread of its own.
-fn deal_and_take<
-    T: Threads + Sync,
-    D: Dealing + Send,
-    R: Source + Send,
-    S: Sessions + Send,
-    G: Gate,
->(
-    rt: &T,
-    alloc: Global,
-    gate: &G,
-    patience: Patience,
-    dealer: &mut Dealer<D>,
-    units: &mut Units,
-    files: &mut [R],
-    feeds: &mut [Feed],
-    workers: &mut [Worker<S>],
-) -> (Result<Step, ReplayError>, Result<(), Memory>)
-    requires lanes { 0 < length feeds.old }
-    requires files { length files.old ≡ units.old.count }
-    ensures deals { DealsOn (λ number. D.lane_of dealer.old.dealing number (length feeds.old)) patience.batch feeds.old feeds.new dealer.old dealer.new units.old (map R.remaining files.old) (map R.failure_count files.old) units.new (map R.remaining files.new) (map R.failure_count files.new) result.0 }
-    ensures worked { OnOk result.1 (AllZip (Worked S.stands_for) workers.old workers.new) }
-{
-    if workers.len() < 2 && patience.looks < 2 {
-        return deal_then_work(alloc, gate, patience, dealer, units, files, feeds, workers);
-    }
-    deal_and_work(
-        rt, alloc, gate, patience, dealer, units, files, feeds, workers,
-    )
 }
 
 /// Runs one round over all lanes, whose rings are made anew at its end.
@@ -151,7 +103,7 @@ pub fn run_round<
     ensures reads { ReadsOn units.old (map R.remaining files.old) (map R.failure_count files.old) units.new (map R.failure_count files.new) result }
     ensures plays { IfAnswered result (PlaysLanes S.stands_for (λ number. D.lane_of dealer.old.dealing number (length feeds.old)) capacity patience.batch feeds.old workers.old feeds.new workers.new dealer.old dealer.new units.old (map R.remaining files.old) units.new (map R.remaining files.new) result) }
 {
-    let (step, worked) = deal_and_take(
+    let (step, worked) = deal_and_work(
         rt, alloc, gate, patience, dealer, units, files, feeds, workers,
     );
     let Ok(()) = worked else {

@@ -1,6 +1,0 @@
-use Rattle.std.proofs.Common.{◌≡◌, []}
-use Rattle.lane_deal.specs.Feeds.{Pushed}
-use Rattle.lane_deal.proofs.feed.Feed.push_again.Given as goal
-
-abbrev pub invariant-loop-look : goal.invariant-loop-look
-invariant-loop-look g l = (l.item ≡ l.initial.item) × Pushed l.initial.self l.self []
