@@ -1,22 +1,20 @@
 //! The units and refusals of files.
 
-ghost use Rattle.std.specs.Prelude.{◌≡◌, ℕ, Bool, List, ◌<◌, ◌≤◌, ◌+◌, ◌^◌, Some, None, true, false, [], map, drop, Ok, Err, IfOk, IfErr, IfSome, OnOk, length, option_to_list};
-ghost use Rattle.mrt_body.specs.Units.{IsSmall, IsSmallUnit, alone, all_cuts, found_in, found_units, is_past, refused_at, at_record};
+mod record;
+
+ghost use Rattle.std.specs.Prelude.{◌≡◌, ℕ, List, ◌<◌, ◌≤◌, ◌+◌, ◌^◌, None, [], map, drop, Ok, Err, IfOk, IfErr, IfSome, OnOk, length, option_to_list};
+ghost use Rattle.mrt_body.specs.Units.{IsSmall, IsSmallUnit, all_cuts, found_in};
 ghost use Rattle.mrt_frame.specs.Frames.{StandsAt, KeepsUnlessRead};
-ghost use Rattle.mrt_body.specs.ToCome.{UnitsState, GivesPending, CutsOne, TakesRecord, TakesFound, NothingToCome, HasEnded, FailsInRecord, GivesAllBefore, Steps, StopsAt, Stops, KeepsPlan, answers_left, units_left, unit_count, cuts_to_come, found_to_come, steps_left, fresh_units, standing_after};
-ghost use Rattle.mrt_body.specs.declared.content.Content.TheVariants as content_spec;
+ghost use Rattle.mrt_body.specs.ToCome.{UnitsState, GivesPending, CutsOne, TakesFound, NothingToCome, HasEnded, FailsInRecord, GivesAllBefore, Steps, StopsAt, Stops, KeepsPlan, answers_left, units_left, unit_count, cuts_to_come, found_to_come, steps_left, fresh_units, standing_after};
 ghost use Rattle.mrt_body.specs.declared.standing.Standing.TheVariants as standings;
 
 use crate::at::RecordAt;
-use crate::content::{Content, content_of, is_extended};
+use crate::content::{content_of, is_extended};
 use crate::in_force::Index;
-use crate::index::peers_in;
-use crate::payload::{message_unit, states_unit};
 use crate::standing::Standing;
-use crate::unit::{Damage, Found, Unit};
-use bgp_prefix::Sequence;
-use bgp_update::AttrError;
-use mrt_frame::{Cut, Fault, FrameReader, ReplayError, Source};
+use crate::unit::{Found, Unit};
+use mrt_frame::{Cut, FrameReader, ReplayError, Source};
+use record::refused;
 use std::alloc::Global;
 use std::marker::Model;
 
@@ -129,48 +127,21 @@ impl Units {
         ensures small { IfOk result (λ found. IfSome found IsSmall) }
     {
         match self.standing {
-            Standing::Going => self.find(alloc, files),
             Standing::Failed => Err(ReplayError::Read { file: self.file }),
             Standing::Spent => Err(ReplayError::Spent),
-        }
-    }
-
-    /// Returns the first of what is still to come.
-    fn find<R: Source>(
-        &mut self,
-        alloc: Global,
-        files: &mut [R],
-    ) -> Result<Option<Found>, ReplayError>
-        requires files { length files.old ≡ self.old.count }
-        requires going { self.old.standing ≡ standings.Going }
-        ensures before { IfErr result (GivesAllBefore self.old (map R.remaining files.old) self.new (map R.remaining files.new)) }
-        ensures found { IfOk result (λ found. TakesFound self.old (map R.remaining files.old) self.new (map R.remaining files.new) (option_to_list found)) }
-        ensures ended { IfOk result (λ found. found ≡ None → NothingToCome self.old (map R.remaining files.old)) }
-        ensures at_end { IfOk result (λ found. found ≡ None → self.new.file ≡ self.new.count) }
-        ensures ends { IfOk result (λ found. found ≡ None → HasEnded self.new) }
-        ensures stays_ended { HasEnded self.old → (result ≡ Ok None) × (self.new ≡ self.old) × (files.new ≡ files.old) }
-        ensures fewer { IfOk result (λ found. answers_left self.new + length (option_to_list found) ≤ answers_left self.old) }
-        ensures units { IfOk result (λ found. units_left self.new + unit_count found ≤ units_left self.old) }
-        ensures going { IfOk result (λ _. self.new.standing ≡ standings.Going) }
-        ensures cause { IfErr result (Stops self.old (map R.remaining files.old) self.new (map R.failure_count files.old) (map R.failure_count files.new)) }
-        ensures sound { OnOk result (map R.failure_count files.new ≡ map R.failure_count files.old) }
-        ensures unfailed { IfErr result (KeepsUnlessRead (map R.failure_count files.old) (map R.failure_count files.new)) }
-        ensures later { drop (self.new.file + 1) files.new ≡ drop (self.new.file + 1) files.old }
-        ensures plan { KeepsPlan self.old self.new }
-        ensures small { IfOk result (λ found. IfSome found IsSmall) }
-    {
-        'files: loop {
-            if let Some(unit) = self.next_entry(alloc)? {
-                return Ok(Some(Found::Unit(unit)));
-            }
-            if self.file == self.count {
-                return Ok(None);
-            }
-            match self.step(alloc, &mut files[self.file]) {
-                Ok(Some(found)) => return Ok(Some(found)),
-                Ok(None) => {}
-                Err(error) => return Err(error),
-            }
+            Standing::Going => 'files: loop {
+                if let Some(unit) = self.next_entry(alloc)? {
+                    return Ok(Some(Found::Unit(unit)));
+                }
+                if self.file == self.count {
+                    return Ok(None);
+                }
+                match self.step(alloc, &mut files[self.file]) {
+                    Ok(Some(found)) => return Ok(Some(found)),
+                    Ok(None) => {}
+                    Err(error) => return Err(error),
+                }
+            },
         }
     }
 
@@ -278,133 +249,6 @@ impl Units {
             }
         }
     }
-
-    /// Returns what comes of a whole record. Entries are still to be returned afterwards.
-    fn take(
-        &mut self,
-        alloc: Global,
-        at: RecordAt,
-        is_extended: bool,
-        content: Content,
-        body: Sequence<u8>,
-    ) -> Result<Option<Found>, ReplayError>
-        requires given { self.old.pending ≡ [] }
-        requires counted { self.old.aside < self.old.records }
-        requires small { length body ≤ 16777216 }
-        ensures takes { IfOk result (TakesRecord self.old at is_extended content body self.new) }
-        ensures few { IfOk result (λ found. length (option_to_list found) + length self.new.pending ≤ 65535) }
-        ensures want { IfErr result (λ e. (e ≡ ReplayError.Memory) × (self.new.standing ≡ standings.Spent)) }
-        ensures here { self.new.file ≡ self.old.file }
-        ensures plan { KeepsPlan self.old self.new }
-        ensures small { IfOk result (λ found. IfSome found IsSmall) }
-    {
-        match content {
-            Content::IndexTable => self.take_index(alloc, at, body.as_slice()),
-            Content::Rib { add_path } => self.take_rib(at, add_path, body),
-            Content::Message { width, add_path } => {
-                let unit = message_unit(at, is_extended, width, add_path, body);
-                Ok(self.found(at, unit))
-            }
-            Content::States { width } => {
-                let unit = states_unit(at, is_extended, width, body.as_slice());
-                Ok(self.found(at, unit))
-            }
-            Content::Aside => {
-                self.aside += 1;
-                Ok(None)
-            }
-        }
-    }
-
-    /// Returns a unit that isn't skipped, or the refusal of its record.
-    fn found(&self, at: RecordAt, unit: Result<Unit, Fault>) -> Option<Found>
-        ensures found { option_to_list result ≡ found_units self.now.until at (alone unit) }
-        ensures small { IfOk unit IsSmallUnit → IfSome result IsSmall }
-    {
-        match unit {
-            Ok(unit) => {
-                if self.is_past(unit.time) {
-                    None
-                } else {
-                    Some(Found::Unit(unit))
-                }
-            }
-            Err(fault) => Some(refused(at, fault)),
-        }
-    }
-
-    /// Whether a unit of this time is skipped.
-    fn is_past(&self, time: u64) -> bool
-        ensures { result ≡ is_past self.now.until time }
-    {
-        match self.until {
-            Some(until) => time / 1_000_000 > until,
-            None => false,
-        }
-    }
-
-    /// Puts an index in force, or none if it is damaged.
-    fn take_index(
-        &mut self,
-        alloc: Global,
-        at: RecordAt,
-        body: &[u8],
-    ) -> Result<Option<Found>, ReplayError>
-        requires { self.old.pending ≡ [] }
-        ensures takes { (extended : Bool) → IfOk result (TakesRecord self.old at extended content_spec.IndexTable body.now self.new) }
-        ensures few { IfOk result (λ found. length (option_to_list found) + length self.new.pending ≤ 65535) }
-        ensures want { IfErr result (λ e. (e ≡ ReplayError.Memory) × (self.new.standing ≡ standings.Spent)) }
-        ensures here { self.new.file ≡ self.old.file }
-        ensures plan { KeepsPlan self.old self.new }
-        ensures small { IfOk result (λ found. IfSome found IsSmall) }
-    {
-        self.index = None;
-        match peers_in(alloc, body) {
-            Ok(peers) => {
-                self.index = Some(Index::new(alloc, peers));
-                Ok(None)
-            }
-            Err(AttrError::Bad(fault)) => Ok(Some(refused(at, fault))),
-            Err(AttrError::Memory) => {
-                self.standing = Standing::Spent;
-                Err(ReplayError::Memory)
-            }
-        }
-    }
-
-    /// Reads a RIB record against the index in force.
-    fn take_rib(
-        &mut self,
-        at: RecordAt,
-        add_path: bool,
-        body: Sequence<u8>,
-    ) -> Result<Option<Found>, ReplayError>
-        requires given { self.old.pending ≡ [] }
-        requires small { length body ≤ 16777216 }
-        ensures takes { (extended : Bool) → IfOk result (TakesRecord self.old at extended (content_spec.Rib add_path) body self.new) }
-        ensures few { IfOk result (λ found. length (option_to_list found) + length self.new.pending ≤ 65535) }
-        ensures want { IfErr result (λ e. (e ≡ ReplayError.Memory) × (self.new.standing ≡ standings.Spent)) }
-        ensures here { self.new.file ≡ self.old.file }
-        ensures plan { KeepsPlan self.old self.new }
-        ensures small { IfOk result (λ found. IfSome found IsSmall) }
-    {
-        let is_past = self.is_past(at.time(0));
-        let Some(index) = &mut self.index else {
-            return Ok(Some(refused(at, Fault::NoPeerIndex)));
-        };
-        match index.read(at, add_path, body) {
-            Ok(()) if is_past => {
-                index.leave_out();
-                Ok(None)
-            }
-            Ok(()) => Ok(None),
-            Err(AttrError::Bad(fault)) => Ok(Some(refused(at, fault))),
-            Err(AttrError::Memory) => {
-                self.standing = Standing::Spent;
-                Err(ReplayError::Memory)
-            }
-        }
-    }
 }
 
 /// Returns the state of a reading after this error.
@@ -415,14 +259,4 @@ fn standing_after(error: ReplayError) -> Standing
         ReplayError::Read { .. } => Standing::Failed,
         _ => Standing::Spent,
     }
-}
-
-/// Returns the refusal of a record.
-fn refused(at: RecordAt, fault: Fault) -> Found
-    ensures { result ≡ refused_at at fault }
-{
-    Found::Refused(Damage {
-        place: at.place(None),
-        fault,
-    })
 }

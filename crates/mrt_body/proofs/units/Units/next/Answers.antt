@@ -3,18 +3,18 @@ use Rattle.std.specs.Prelude.{option_to_list}
 use Rattle.std.proofs.lemmas.List.{length-set}
 use Rattle.mrt_body.specs.ToCome.{UnitsState}
 use Rattle.mrt_body.proofs.FilesLaws.{one_more_step, still_sound, still_unfailed, later_left, gives_before, stops_in, gives_nothing, fewer_than, units_than}
-use Rattle.mrt_body.proofs.units.Units.find.Goals as goal
+use Rattle.mrt_body.proofs.units.Units.next.Goals as goal
 
 pub returns-in-Ok-Some-clause-found : goal.returns-in-Ok-Some-clause-found
 returns-in-Ok-Some-clause-found g c =
     let file = ap (λ (u : UnitsState). u.file) c.step.view_is in
-    let file' = ap (λ (u : UnitsState). u.file) c.self.view_is in
-    let count = ap (λ (u : UnitsState). u.count) c.self.view_is in
-    let within : c.step.inside.file < length c.files.files = omega (arith, file, file', count, c.next_entry.ensures.plan.0, c.files.invariant.files, c.self.invariant.file_in, c.if-self.false) in
+    let file' = ap (λ (u : UnitsState). u.file) c.self-in-files.view_is in
+    let count = ap (λ (u : UnitsState). u.count) c.self-in-files.view_is in
+    let within : c.step.inside.file < length c.files.files = omega (arith, file, file', count, c.next_entry.ensures.plan.0, c.files.invariant.files, c.self-in-files.invariant.file_in, c.if-self.false) in
     one_more_step g.R.Source.remaining c.args.self.now c.files.self c.next_entry.new.self c.step-in-files.new.self c.args.files.now c.files.files c.step.inside.file c.index-files-self.result c.step-in-files.new.reader (option_to_list (Some c.in-Ok-Some.found))
     c.files.invariant.taken
-    (rw c.in_default.is at c.in_ok-unit.ensures.gives)
-    (c.in_ok-unit.ensures.ended c.in_default.is)
+    (rw c.in_default.is at c.in_ok-unit-in-Going.ensures.gives)
+    (c.in_ok-unit-in-Going.ensures.ended c.in_default.is)
     file within
     (rw c.in-Ok-Some.field-0-is at c.in-Ok-Some.ensures.steps)
 
@@ -25,11 +25,11 @@ returns-in-Ok-Some-clause-sound g c =
 pub returns-in-Err-clause-cause : goal.returns-in-Err-clause-cause
 returns-in-Err-clause-cause g c =
     let file = ap (λ (u : UnitsState). u.file) c.step.view_is in
-    let file' = ap (λ (u : UnitsState). u.file) c.self.view_is in
-    let count = ap (λ (u : UnitsState). u.count) c.self.view_is in
-    let within : c.step.inside.file < length c.files.files = omega (arith, file, file', count, c.next_entry.ensures.plan.0, c.files.invariant.files, c.self.invariant.file_in, c.if-self.false) in
+    let file' = ap (λ (u : UnitsState). u.file) c.self-in-files.view_is in
+    let count = ap (λ (u : UnitsState). u.count) c.self-in-files.view_is in
+    let within : c.step.inside.file < length c.files.files = omega (arith, file, file', count, c.next_entry.ensures.plan.0, c.files.invariant.files, c.self-in-files.invariant.file_in, c.if-self.false) in
     stops_in g.R.Failures.failure_count c.args.self.now c.files.self c.next_entry.new.self c.step-in-files.new.self c.args.files.now c.files.files c.step.inside.file c.index-files-self.result c.step-in-files.new.reader g.R.Source.remaining c.in-Err.error
-    c.files.invariant.counts c.requires.going c.files.invariant.plan.1 c.files.invariant.taken (rw c.in_default.is at c.in_ok-unit.ensures.gives) file within c.in-Err.ensures.cause
+    c.files.invariant.counts c.files.invariant.started c.files.invariant.plan.1 c.files.invariant.taken (rw c.in_default.is at c.in_ok-unit-in-Going.ensures.gives) file within c.in-Err.ensures.cause
 
 pub returns-in-Err-clause-unfailed : goal.returns-in-Err-clause-unfailed
 returns-in-Err-clause-unfailed g c =
@@ -46,21 +46,21 @@ returns-in-Err-clause-later g c =
     later_left c.args.files.now c.files.files c.step.inside.file c.files.self.file c.step-in-files.new.self.file c.step-in-files.new.reader c.files.invariant.later (file ∙ c.next_entry.ensures.here) (omega (arith, c.next_entry.ensures.here, c.step-in-files.ensures.onward))
 
 pub returns-in-Err-clause-before : goal.returns-in-Err-clause-before
-returns-in-Err-clause-before g c =
+returns-in-Err-clause-before g c = λ _.
     let file = ap (λ (u : UnitsState). u.file) c.step.view_is in
-    let file' = ap (λ (u : UnitsState). u.file) c.self.view_is in
-    let count = ap (λ (u : UnitsState). u.count) c.self.view_is in
-    let within : c.step.inside.file < length c.files.files = omega (arith, file, file', count, c.next_entry.ensures.plan.0, c.files.invariant.files, c.self.invariant.file_in, c.if-self.false) in
+    let file' = ap (λ (u : UnitsState). u.file) c.self-in-files.view_is in
+    let count = ap (λ (u : UnitsState). u.count) c.self-in-files.view_is in
+    let within : c.step.inside.file < length c.files.files = omega (arith, file, file', count, c.next_entry.ensures.plan.0, c.files.invariant.files, c.self-in-files.invariant.file_in, c.if-self.false) in
     gives_before g.R.Source.remaining c.args.self.now c.files.self c.next_entry.new.self c.step-in-files.new.self c.args.files.now c.files.files c.step.inside.file c.index-files-self.result c.step-in-files.new.reader c.in-Err.error
-    c.files.invariant.taken (rw c.in_default.is at c.in_ok-unit.ensures.gives) file within c.in-Err.ensures.before
+    c.files.invariant.taken (rw c.in_default.is at c.in_ok-unit-in-Going.ensures.gives) file within c.in-Err.ensures.before
 
 pub files-preserved : goal.files-preserved
 files-preserved g c =
     let file = ap (λ (u : UnitsState). u.file) c.step.view_is in
-    let file' = ap (λ (u : UnitsState). u.file) c.self.view_is in
-    let count = ap (λ (u : UnitsState). u.count) c.self.view_is in
-    let within : c.step.inside.file < length c.files.files = omega (arith, file, file', count, c.next_entry.ensures.plan.0, c.files.invariant.files, c.self.invariant.file_in, c.if-self.false) in
-    let gives = rw c.in_default.is at c.in_ok-unit.ensures.gives in
+    let file' = ap (λ (u : UnitsState). u.file) c.self-in-files.view_is in
+    let count = ap (λ (u : UnitsState). u.count) c.self-in-files.view_is in
+    let within : c.step.inside.file < length c.files.files = omega (arith, file, file', count, c.next_entry.ensures.plan.0, c.files.invariant.files, c.self-in-files.invariant.file_in, c.if-self.false) in
+    let gives = rw c.in_default.is at c.in_ok-unit-in-Going.ensures.gives in
     let same = gives_nothing c.files.self c.next_entry.new.self gives in
     record {
       later = later_left c.args.files.now c.files.files c.step.inside.file c.files.self.file c.step-in-files.new.self.file c.step-in-files.new.reader c.files.invariant.later (file ∙ c.next_entry.ensures.here) (omega (arith, c.next_entry.ensures.here, c.step-in-files.ensures.onward));
@@ -68,15 +68,16 @@ files-preserved g c =
           let still = same ∙ (c.files.invariant.ended h).0 in
           absurd (omega (arith, file', count, ap (λ (u : UnitsState). u.file) still, ap (λ (u : UnitsState). u.count) still, h.1, c.if-self.false));
       files = length-set c.files.files c.step.inside.file c.step-in-files.new.reader ∙ c.files.invariant.files ∙ sym c.next_entry.ensures.plan.0 ∙ sym c.step-in-files.ensures.plan.0;
+      started = c.files.invariant.started;
       plan = (c.step-in-files.ensures.plan.0 ∙ c.next_entry.ensures.plan.0 ∙ c.files.invariant.plan.0, c.step-in-files.ensures.plan.1 ∙ c.next_entry.ensures.plan.1 ∙ c.files.invariant.plan.1, c.step-in-files.ensures.plan.2 ∙ c.next_entry.ensures.plan.2 ∙ c.files.invariant.plan.2);
       going = c.in-Ok-None.ensures.going;
       counts = still_sound g.R.Failures.failure_count c.args.self.now c.files.self c.next_entry.new.self c.step-in-files.new.self c.args.files.now c.files.files c.step.inside.file c.index-files-self.result c.step-in-files.new.reader c.files.invariant.counts c.in-Ok-None.ensures.sound;
-      answers = fewer_than c.args.self.now c.files.self c.next_entry.new.self c.step-in-files.new.self c.files.invariant.answers (rw c.in_default.is at c.in_ok-unit.ensures.gives) (rw c.in-Ok-None.field-0-is at c.in-Ok-None.ensures.fewer_answers);
-      units = units_than c.args.self.now c.files.self c.next_entry.new.self c.step-in-files.new.self c.files.invariant.units (rw c.in_default.is at c.in_ok-unit.ensures.gives) (rw c.in-Ok-None.field-0-is at c.in-Ok-None.ensures.units);
+      answers = fewer_than c.args.self.now c.files.self c.next_entry.new.self c.step-in-files.new.self c.files.invariant.answers (rw c.in_default.is at c.in_ok-unit-in-Going.ensures.gives) (rw c.in-Ok-None.field-0-is at c.in-Ok-None.ensures.fewer_answers);
+      units = units_than c.args.self.now c.files.self c.next_entry.new.self c.step-in-files.new.self c.files.invariant.units (rw c.in_default.is at c.in_ok-unit-in-Going.ensures.gives) (rw c.in-Ok-None.field-0-is at c.in-Ok-None.ensures.units);
       taken = one_more_step g.R.Source.remaining c.args.self.now c.files.self c.next_entry.new.self c.step-in-files.new.self c.args.files.now c.files.files c.step.inside.file c.index-files-self.result c.step-in-files.new.reader []
           c.files.invariant.taken
-          (rw c.in_default.is at c.in_ok-unit.ensures.gives)
-          (c.in_ok-unit.ensures.ended c.in_default.is)
+          (rw c.in_default.is at c.in_ok-unit-in-Going.ensures.gives)
+          (c.in_ok-unit-in-Going.ensures.ended c.in_default.is)
           file within
           (rw c.in-Ok-None.field-0-is at c.in-Ok-None.ensures.steps);
     }
