@@ -18,6 +18,7 @@ use Rattle.mrt_body.specs.declared.unit.PeerKey.{PeerKey}
 use Rattle.mrt_body.specs.declared.unit.Unit.{Unit as ReplayUnit}
 use Rattle.mrt_body.specs.declared.unit.Found.{Found}
 use Rattle.mrt_body.specs.declared.unit.Found.TheVariants as found
+use Rattle.mrt_body.specs.Selections.{up_to}
 use Rattle.mrt_body.specs.Units.{found_in, found_in_files, all_cuts, is_whole, is_aside}
 use Rattle.mrt_body.specs.ToCome.{UnitsState, in_next_file, as_found, found_here, found_left, found_to_come, cuts_to_come, Passes, TakesFound, GivesPending, StaysInFile, LeavesFile, Steps, HasRecord, HasMoreRecords, StopsAt, Stops, before_failure, FailsInRecord, FailsBehind, GivesAllBefore, answers_left, units_left, unit_count, fresh_units}
 use Rattle.mrt_body.proofs.IndexLaws.{found_in_file-is}
@@ -80,7 +81,7 @@ module _ (old : UnitsState) (frames : Position) (index : Option (List PeerKey)) 
 
   stay_passes : (taken : List Found) → old.pending ≡ [] → StaysInFile old bytes stayed rest taken → Passes old (bytes ∷ later) stayed (rest ∷ later) taken
   stay_passes taken none s =
-      let others = found_in_files old.until (old.file + 1) later in
+      let others = found_in_files old.selection (old.file + 1) later in
       record {
         found = ap (λ (l : List ReplayUnit). as_found l ++ (found_here old bytes ++ others)) none ∙ ap (λ (l : List Found). l ++ others) s.found ∙ append_assoc taken (as_found pending ++ found_here stayed rest) others
             ∙ ap (λ (l : List Found). taken ++ l) (append_assoc (as_found pending) (found_here stayed rest) others);
@@ -90,9 +91,9 @@ module _ (old : UnitsState) (frames : Position) (index : Option (List PeerKey)) 
 
 -- no more of it is to come
 module _ (old : UnitsState) where
-  next_left : (later : List Bytes) → found_in_files old.until (old.file + 1) later ≡ found_left (in_next_file old) later
+  next_left : (later : List Bytes) → found_in_files old.selection (old.file + 1) later ≡ found_left (in_next_file old) later
   next_left [] = refl
-  next_left (bytes ∷ later) = ap (λ (l : List Found). l ++ found_in_files old.until ((old.file + 1) + 1) later) (found_in_file-is old.until (old.file + 1) bytes)
+  next_left (bytes ∷ later) = ap (λ (l : List Found). l ++ found_in_files old.selection ((old.file + 1) + 1) later) (found_in_file-is old.selection (old.file + 1) bytes)
 
   next_cuts : (later : List Bytes) → all_cuts later ≡ cuts_to_come (in_next_file old) later
   next_cuts [] = refl
@@ -103,7 +104,7 @@ module _ (old : UnitsState) where
 
   leave_passes : (bytes : Bytes) (later : List Bytes) (taken : List Found) → old.pending ≡ [] → LeavesFile old bytes (in_next_file old) taken → Passes old (bytes ∷ later) (in_next_file old) later taken
   leave_passes bytes later taken none s =
-      let others = found_in_files old.until (old.file + 1) later in
+      let others = found_in_files old.selection (old.file + 1) later in
       record {
         found = ap (λ (l : List ReplayUnit). as_found l ++ (found_here old bytes ++ others)) none ∙ ap (λ (l : List Found). l ++ others) s.found ∙ ap (λ (l : List Found). taken ++ l) (next_left later);
         records = counted_next is_whole old.records (to_come old.frames bytes) later s.records;
@@ -291,7 +292,7 @@ few_units (Some (found.Refused damage)) = omega arith
 pub fresh_found : (count max_records : ℕ) (until : Option ℕ) (contents : List Bytes) → found_to_come (fresh_units count max_records until) contents ≡ found_in until contents
 unfolding found_in
 fresh_found count max_records until [] = refl
-fresh_found count max_records until (bytes ∷ later) = ap (λ (l : List Found). l ++ found_in_files until 1 later) (sym (found_in_file-is until 0 bytes))
+fresh_found count max_records until (bytes ∷ later) = ap (λ (l : List Found). l ++ found_in_files (up_to until) 1 later) (sym (found_in_file-is (up_to until) 0 bytes))
 
 pub fresh_cuts : (count max_records : ℕ) (until : Option ℕ) (contents : List Bytes) → cuts_to_come (fresh_units count max_records until) contents ≡ all_cuts contents
 fresh_cuts count max_records until [] = refl

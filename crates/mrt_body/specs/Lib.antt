@@ -3,6 +3,7 @@ pub mod Many
 pub mod Indexes
 pub mod RibRecords
 pub mod Bgp4mp
+pub mod Selections
 pub mod Units
 pub mod Agreement
 pub mod Refusals

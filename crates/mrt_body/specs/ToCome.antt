@@ -12,6 +12,7 @@ use Rattle.mrt_frame.specs.declared.error.ReplayError.TheVariants as errors
 use Rattle.mrt_frame.specs.declared.phase.Phase.TheVariants.{Reading}
 use Rattle.mrt_body.specs.declared.at.RecordAt.{RecordAt}
 use Rattle.mrt_body.specs.declared.content.Content.{Content}
+use Rattle.mrt_body.specs.declared.selection.Selection.{Selection}
 use Rattle.mrt_body.specs.declared.standing.Standing.{Standing}
 use Rattle.mrt_body.specs.declared.standing.Standing.TheVariants.{Going, Failed as FailedRead, Spent as SpentAll}
 use Rattle.mrt_body.specs.declared.unit.PeerKey.{PeerKey}
@@ -19,6 +20,7 @@ use Rattle.mrt_body.specs.declared.unit.Unit.{Unit as ReplayUnit}
 use Rattle.mrt_body.specs.declared.unit.Found.{Found}
 use Rattle.mrt_body.specs.declared.unit.Found.TheVariants as found
 use Rattle.mrt_body.specs.Pending.{IndexState}
+use Rattle.mrt_body.specs.Selections.{up_to}
 use Rattle.mrt_body.specs.Units.{found_from, found_in_files, found_units, units_in, index_with, aside_count, all_cuts, is_whole, is_aside}
 
 -- Where a reading stands: the current file and its reader, the index in force, the units of the RIB record cut last that are
@@ -27,7 +29,7 @@ pub record UnitsState : Type 0 where
   pub count : ℕ
   pub file : ℕ
   pub frames : Position
-  pub until : Option ℕ
+  pub selection : Selection
   pub index : Option (List PeerKey)
   pub pending : List ReplayUnit
   pub max_records : ℕ
@@ -36,7 +38,7 @@ pub record UnitsState : Type 0 where
   pub standing : Standing
 
 abbrev pub fresh_units : ℕ → ℕ → Option ℕ → UnitsState
-fresh_units count max_records until = record { count = count; file = 0; frames = start_of 0; until = until; index = None; pending = []; max_records = max_records; records = 0; aside = 0; standing = Going }
+fresh_units count max_records until = record { count = count; file = 0; frames = start_of 0; selection = up_to until; index = None; pending = []; max_records = max_records; records = 0; aside = 0; standing = Going }
 
 -- at the start of the next file
 abbrev pub in_next_file : UnitsState → UnitsState
@@ -49,12 +51,12 @@ as_found units = map (λ u. found.Unit u) units
 
 -- of the current file behind the pending units, where it still gives these bytes
 abbrev pub found_here : UnitsState → List ℕ → List Found
-found_here u bytes = found_from u.file u.until u.index (to_come u.frames bytes)
+found_here u bytes = found_from u.file u.selection u.index (to_come u.frames bytes)
 
 -- of the current file and the later ones, which still give these bytes
 abbrev pub found_left : UnitsState → List (List ℕ) → List Found
 found_left u [] = []
-found_left u (bytes ∷ later) = found_here u bytes ++ found_in_files u.until (u.file + 1) later
+found_left u (bytes ∷ later) = found_here u bytes ++ found_in_files u.selection (u.file + 1) later
 
 -- all the units and refusals to come
 abbrev pub found_to_come : UnitsState → List (List ℕ) → List Found
@@ -150,7 +152,7 @@ CutsOne old known new left (Some (Whole r)) =
 -- what comes of a whole record: what was given, and what pends
 pub record TakesRecord (old : UnitsState) (at : RecordAt) (extended : Bool) (content : Content) (body : List ℕ) (new : UnitsState) (given : Option Found) : Type 0 where
   pub state : new ≡ record old { index = index_with old.index content body; pending = new.pending; aside = old.aside + aside_count content }
-  pub found : option_to_list given ++ as_found new.pending ≡ found_units old.until at (units_in at extended old.index content body)
+  pub found : option_to_list given ++ as_found new.pending ≡ found_units old.selection at (units_in at extended old.index content body)
 
 -- more of the current file is to come, where it gave these bytes before and gives those now
 pub record StaysInFile (old : UnitsState) (bytes : List ℕ) (new : UnitsState) (rest : List ℕ) (taken : List Found) : Type 0 where
@@ -170,9 +172,9 @@ pub record LeavesFile (old : UnitsState) (bytes : List ℕ) (new : UnitsState) (
 abbrev pub Steps : UnitsState → Option (List ℕ) → UnitsState → Option (List ℕ) → List Found → Type 0
 Steps old known new left taken = (bytes : List ℕ) → known ≡ Some bytes → (rest : List ℕ) × (left ≡ Some rest) × (StaysInFile old bytes new rest taken ⊎ LeavesFile old bytes new taken)
 
--- the number of files, the greatest number of records and the last second stay
+-- the number of files, the greatest number of records and the selection stay
 abbrev pub KeepsPlan : UnitsState → UnitsState → Type 0
-KeepsPlan old new = (new.count ≡ old.count) × (new.max_records ≡ old.max_records) × (new.until ≡ old.until)
+KeepsPlan old new = (new.count ≡ old.count) × (new.max_records ≡ old.max_records) × (new.selection ≡ old.selection)
 
 -- ---- where a reading stands whose reader failed
 

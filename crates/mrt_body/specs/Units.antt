@@ -1,5 +1,5 @@
 -- The units and refusals of dumps (RFC 6396, sections 2, 4.3 and 4.4; 3 for extended timestamps; RFC 8050).
-use Rattle.std.specs.Prelude.{ℕ, ◌+◌, ◌*◌, ◌/◌, Bool, true, false, List, [], ◌∷◌, ◌++◌, map, Option, Some, None, Result, Ok, Err, nat_lt, slice_index_or, ◌==◌, ◌||◌, if◌then◌else◌, ◌≤◌, ⊤, length}
+use Rattle.std.specs.Prelude.{ℕ, ◌+◌, ◌*◌, Bool, true, false, List, [], ◌∷◌, ◌++◌, map, Option, Some, None, Result, Ok, Err, slice_index_or, ◌==◌, ◌||◌, if◌then◌else◌, ◌≤◌, ⊤, length}
 use Rattle.std.specs.List.{filter, filter_map, count_by, flat_map, last_or}
 use Rattle.std.specs.Option.{option_and_then}
 use Rattle.bgp_prefix.specs.Prefixes.{IpPrefix}
@@ -23,9 +23,11 @@ use Rattle.mrt_body.specs.declared.unit.Payload.TheVariants.{State, Message, Ent
 use Rattle.mrt_body.specs.declared.unit.Unit.{Unit as ReplayUnit}
 use Rattle.mrt_body.specs.declared.unit.Found.{Found}
 use Rattle.mrt_body.specs.declared.unit.Found.TheVariants as found
+use Rattle.mrt_body.specs.declared.selection.Selection.{Selection}
 use Rattle.mrt_body.specs.Indexes.{peers_in}
 use Rattle.mrt_body.specs.RibRecords.{RibForm, WrittenEntry, rib_beside, rib_prefix}
 use Rattle.mrt_body.specs.Bgp4mp.{session_peer_at, states_in, microseconds_at}
+use Rattle.mrt_body.specs.Selections.{is_selected, up_to}
 
 -- ---- kinds of record
 
@@ -109,30 +111,22 @@ units_in at extended index (content.Message width add_path) body = alone (messag
 units_in at extended index (content.States width) body = alone (states_unit at extended width body)
 units_in at extended index content.Aside body = Ok []
 
--- whether a unit of this time is left out
-abbrev pub is_past : Option ℕ → ℕ → Bool
-is_past None time = false
-is_past (Some until) time = nat_lt until (time / 1000000)
-
-abbrev pub is_within : Option ℕ → ReplayUnit → Bool
-is_within until unit = if is_past until unit.time then false else true
-
 -- the refusal of a record
 abbrev pub refused_at : RecordAt → Fault → Found
 refused_at at fault = found.Refused (record { place = place_of at None; fault = fault })
 
--- a refused record is listed whatever its time
-abbrev pub found_units : Option ℕ → RecordAt → Result (List ReplayUnit) Fault → List Found
-found_units until at (Ok units) = map (λ u. found.Unit u) (filter (is_within until) units)
-found_units until at (Err fault) = refused_at at fault ∷ []
+-- a refused record is listed whatever is selected
+abbrev pub found_units : Selection → RecordAt → Result (List ReplayUnit) Fault → List Found
+found_units selection at (Ok units) = map (λ u. found.Unit u) (filter (is_selected selection) units)
+found_units selection at (Err fault) = refused_at at fault ∷ []
 
 abbrev pub at_record : ℕ → ℕ → ℕ → RecordAt
 at_record file offset seconds = record { file = file; offset = offset; seconds = seconds }
 
 -- what a cut gives beside the index in force
-unfoldable pub found_at : ℕ → Option ℕ → Option (List PeerKey) → Cut → List Found
-found_at file until index (Whole r) = let at = at_record file r.offset r.seconds in found_units until at (units_in at (is_extended r.kind) index (content_of r.kind r.subtype) r.body)
-found_at file until index (Broken offset fault) = refused_at (at_record file offset 0) fault ∷ []
+unfoldable pub found_at : ℕ → Selection → Option (List PeerKey) → Cut → List Found
+found_at file selection index (Whole r) = let at = at_record file r.offset r.seconds in found_units selection at (units_in at (is_extended r.kind) index (content_of r.kind r.subtype) r.body)
+found_at file selection index (Broken offset fault) = refused_at (at_record file offset 0) fault ∷ []
 
 -- ---- the index in force
 
@@ -163,16 +157,17 @@ abbrev pub index_before : List Cut → Option (List PeerKey)
 index_before earlier = option_and_then index_of_body (last_or None (filter_map index_body earlier))
 
 -- an index holds in its own file alone
-abbrev pub found_in_file : Option ℕ → ℕ → List ℕ → List Found
-found_in_file until file bytes = flat_map_after (λ earlier cut. found_at file until (index_before earlier) cut) [] (cuts 0 bytes)
+abbrev pub found_in_file : Selection → ℕ → List ℕ → List Found
+found_in_file selection file bytes = flat_map_after (λ earlier cut. found_at file selection (index_before earlier) cut) [] (cuts 0 bytes)
 
 -- the files from this number on
-abbrev pub found_in_files : Option ℕ → ℕ → List (List ℕ) → List Found
-found_in_files until file [] = []
-found_in_files until file (bytes ∷ files) = found_in_file until file bytes ++ found_in_files until (file + 1) files
+abbrev pub found_in_files : Selection → ℕ → List (List ℕ) → List Found
+found_in_files selection file [] = []
+found_in_files selection file (bytes ∷ files) = found_in_file selection file bytes ++ found_in_files selection (file + 1) files
 
+-- those up to this second
 unfoldable pub found_in : Option ℕ → List (List ℕ) → List Found
-found_in until files = found_in_files until 0 files
+found_in until files = found_in_files (up_to until) 0 files
 
 -- ---- the same, as a reading goes on
 
@@ -186,9 +181,9 @@ index_after index (Whole r) = index_with index (content_of r.kind r.subtype) r.b
 index_after index (Broken offset fault) = index
 
 -- what the cuts give, where this index is in force before the first
-abbrev pub found_from : ℕ → Option ℕ → Option (List PeerKey) → List Cut → List Found
-found_from file until index [] = []
-found_from file until index (cut ∷ others) = found_at file until index cut ++ found_from file until (index_after index cut) others
+abbrev pub found_from : ℕ → Selection → Option (List PeerKey) → List Cut → List Found
+found_from file selection index [] = []
+found_from file selection index (cut ∷ others) = found_at file selection index cut ++ found_from file selection (index_after index cut) others
 
 abbrev pub unit_of : Found → Option ReplayUnit
 unit_of (found.Unit unit) = Some unit

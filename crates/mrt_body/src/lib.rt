@@ -14,6 +14,7 @@ mod payload;
 mod payload_bytes;
 mod reading;
 mod rib;
+mod selection;
 mod session;
 mod standing;
 mod unit;

@@ -11,6 +11,7 @@ ghost use Rattle.mrt_body.specs.declared.standing.Standing.TheVariants as standi
 use crate::at::RecordAt;
 use crate::content::{content_of, is_extended};
 use crate::in_force::Index;
+use crate::selection::Selection;
 use crate::standing::Standing;
 use crate::unit::{Found, Unit};
 use mrt_frame::{Cut, FrameReader, ReplayError, Source};
@@ -25,7 +26,7 @@ pub struct Units {
     file: usize,
     frames: FrameReader,
     index: Option<Index>,
-    until: Option<u64>,
+    selection: Selection,
     max_records: u64,
     records: u64,
     aside: u64,
@@ -37,7 +38,7 @@ impl Model for Units {
 
     ghost Value = { UnitsState };
 
-    ghost view = { λ u. record { count = u.count; file = u.file; frames = u.frames; until = u.until; index = index_peers u.index; pending = index_pending u.index; max_records = u.max_records; records = u.records; aside = u.aside; standing = u.standing } };
+    ghost view = { λ u. record { count = u.count; file = u.file; frames = u.frames; selection = u.selection; index = index_peers u.index; pending = index_pending u.index; max_records = u.max_records; records = u.records; aside = u.aside; standing = u.standing } };
 
     ghost invariant = { λ u. StandsWithin u.count u.file u.frames u.max_records u.records u.aside u.standing };
 }
@@ -57,7 +58,7 @@ impl Units {
             file: 0,
             frames: FrameReader::new(0),
             index: None,
-            until,
+            selection: Selection { until },
             max_records,
             records: 0,
             aside: 0,

@@ -1,7 +1,7 @@
 //! What comes of a whole record: an index in force, its unit, its entries or its refusal.
 
 ghost use Rattle.std.specs.Prelude.{◌≡◌, ◌<◌, ◌≤◌, ◌+◌, Bool, [], IfOk, IfErr, IfSome, length, option_to_list};
-ghost use Rattle.mrt_body.specs.Units.{IsSmall, IsSmallUnit, alone, found_units, is_past, refused_at};
+ghost use Rattle.mrt_body.specs.Units.{IsSmall, IsSmallUnit, alone, found_units, refused_at};
 ghost use Rattle.mrt_body.specs.ToCome.{TakesRecord, KeepsPlan};
 ghost use Rattle.mrt_body.specs.declared.content.Content.TheVariants as content_spec;
 ghost use Rattle.mrt_body.specs.declared.standing.Standing.TheVariants as standings;
@@ -57,30 +57,20 @@ impl Units {
         }
     }
 
-    /// Returns a unit that isn't skipped, or the refusal of its record.
+    /// Returns a unit if it is selected, or the refusal of its record.
     fn found(&self, at: RecordAt, unit: Result<Unit, Fault>) -> Option<Found>
-        ensures found { option_to_list result ≡ found_units self.now.until at (alone unit) }
+        ensures found { option_to_list result ≡ found_units self.now.selection at (alone unit) }
         ensures small { IfOk unit IsSmallUnit → IfSome result IsSmall }
     {
         match unit {
             Ok(unit) => {
-                if self.is_past(unit.time) {
-                    None
-                } else {
+                if self.selection.selects(&unit) {
                     Some(Found::Unit(unit))
+                } else {
+                    None
                 }
             }
             Err(fault) => Some(refused(at, fault)),
-        }
-    }
-
-    /// Whether a unit of this time is skipped.
-    fn is_past(&self, time: u64) -> bool
-        ensures { result ≡ is_past self.now.until time }
-    {
-        match self.until {
-            Some(until) => time / 1_000_000 > until,
-            None => false,
         }
     }
 
@@ -129,7 +119,7 @@ impl Units {
         ensures plan { KeepsPlan self.old self.new }
         ensures small { IfOk result (λ found. IfSome found IsSmall) }
     {
-        let is_past = self.is_past(at.time(0));
+        let is_past = self.selection.is_past(at.time(0));
         let Some(index) = &mut self.index else {
             return Ok(Some(refused(at, Fault::NoPeerIndex)));
         };

@@ -1,7 +1,6 @@
 use Rattle.std.proofs.Common.{sym, ap, ◌∙◌}
 use Rattle.mrt_body.specs.contracts.units.Units.{the_view}
-use Rattle.mrt_body.specs.Units.{is_past, time_of}
-use Rattle.mrt_body.specs.ToCome.{UnitsState}
+use Rattle.mrt_body.specs.Selections.{is_past}
 use Rattle.mrt_body.proofs.TakeLaws.{with_index, rib_taken, rib_left_out}
 use Rattle.mrt_body.proofs.units.Units.take_rib.Goals as goal
 
@@ -10,7 +9,7 @@ returns-in-Ok-clause-takes c extended =
     rw (← c.self.view_is, c.leave_out.ensures) (rib_left_out (the_view c.self.inside) c.args.at extended c.args.add_path c.args.body c.in-Some.index c.read.new.self
     (ap (with_index (the_view c.self.inside)) (sym c.in-Some.is))
     c.in-Ok.ensures.peers
-    (ap (λ (u : UnitsState). is_past u.until (time_of c.args.at 0)) c.self.view_is ∙ ap (is_past c.args.self.now.until) (sym c.time.ensures) ∙ sym c.if-is_past.ensures)
+    (ap (is_past c.self.inside.selection.until) (sym c.time.ensures) ∙ sym c.if-is_past.ensures)
     c.in-Ok.ensures.units)
 
 pub returns-in-Ok-2-clause-takes : goal.returns-in-Ok-2-clause-takes
@@ -18,5 +17,5 @@ returns-in-Ok-2-clause-takes c extended =
     rw (← c.self.view_is) (rib_taken (the_view c.self.inside) c.args.at extended c.args.add_path c.args.body c.in-Some.index c.read.new.self
     (ap (with_index (the_view c.self.inside)) (sym c.in-Some.is))
     c.in-Ok-2.ensures.peers
-    (ap (λ (u : UnitsState). is_past u.until (time_of c.args.at 0)) c.self.view_is ∙ ap (is_past c.args.self.now.until) (sym c.time.ensures) ∙ sym c.if-is_past.ensures)
+    (ap (is_past c.self.inside.selection.until) (sym c.time.ensures) ∙ sym c.if-is_past.ensures)
     c.in-Ok-2.ensures.units)
