@@ -22,7 +22,9 @@ pub record IsIndexBody (body : List ℕ) (peers : List PeerKey) : Type 0 where
   pub said : peers ≡ peers_of form
 
 -- a RIB record beside an index of these peers
-pub record IsRibBody (at : RecordAt) (add_path : Bool) (peers : List PeerKey) (body : List ℕ) (units : List ReplayUnit) : Type 0 where
+pub record IsRibBody
+    (at : RecordAt) (add_path : Bool) (peers : List PeerKey) (body : List ℕ) (units : List ReplayUnit)
+    : Type 0 where
   pub form : RibForm
   pub fits : FitsRib add_path (length peers) form
   pub spelled : body ≡ rib_bytes add_path form
@@ -34,7 +36,9 @@ IsRibBodyBeside at add_path None body units = ⊥
 IsRibBodyBeside at add_path (Some peers) body units = IsRibBody at add_path peers body units
 
 -- microseconds where the timestamp is extended, the session, and a message to the end, which may be empty
-pub record IsMessageBody (at : RecordAt) (extended : Bool) (width : Width) (add_path : Bool) (body : List ℕ) (unit : ReplayUnit) : Type 0 where
+pub record IsMessageBody
+    (at : RecordAt) (extended : Bool) (width : Width) (add_path : Bool) (body : List ℕ) (unit : ReplayUnit)
+    : Type 0 where
   pub microseconds : ℕ
   pub session : SessionForm
   pub message : List ℕ
@@ -44,7 +48,9 @@ pub record IsMessageBody (at : RecordAt) (extended : Bool) (width : Width) (add_
   pub said : unit ≡ session_unit at microseconds (session_peer session) (Message message width add_path)
 
 -- microseconds where the timestamp is extended, the session, old state 2, and new state 2
-pub record IsStatesBody (at : RecordAt) (extended : Bool) (width : Width) (body : List ℕ) (unit : ReplayUnit) : Type 0 where
+pub record IsStatesBody
+    (at : RecordAt) (extended : Bool) (width : Width) (body : List ℕ) (unit : ReplayUnit)
+    : Type 0 where
   pub microseconds : ℕ
   pub session : SessionForm
   pub from : ℕ
@@ -53,13 +59,17 @@ pub record IsStatesBody (at : RecordAt) (extended : Bool) (width : Width) (body 
   pub fits_session : FitsSession width session
   pub fits_from : from < 256 ^ 2
   pub fits_to : to < 256 ^ 2
-  pub spelled : body ≡ microseconds_bytes extended microseconds ++ (session_bytes width session ++ (big_bytes 2 from ++ big_bytes 2 to))
+  pub spelled : body ≡ microseconds_bytes extended microseconds
+      ++ (session_bytes width session ++ (big_bytes 2 from ++ big_bytes 2 to))
   pub said : unit ≡ session_unit at microseconds (session_peer session) (State from to)
 
 -- a record with this content agrees with its form beside the index in force, and these are its units
 abbrev pub Agrees : RecordAt → Bool → Option (List PeerKey) → Content → List ℕ → List ReplayUnit → Type 0
-Agrees at extended index content.IndexTable body units = ((peers : List PeerKey) × IsIndexBody body peers) × (units ≡ [])
+Agrees at extended index content.IndexTable body units =
+    ((peers : List PeerKey) × IsIndexBody body peers) × (units ≡ [])
 Agrees at extended index (content.Rib add_path) body units = IsRibBodyBeside at add_path index body units
-Agrees at extended index (content.Message width add_path) body units = (unit : ReplayUnit) × IsMessageBody at extended width add_path body unit × (units ≡ unit ∷ [])
-Agrees at extended index (content.States width) body units = (unit : ReplayUnit) × IsStatesBody at extended width body unit × (units ≡ unit ∷ [])
+Agrees at extended index (content.Message width add_path) body units =
+    (unit : ReplayUnit) × IsMessageBody at extended width add_path body unit × (units ≡ unit ∷ [])
+Agrees at extended index (content.States width) body units =
+    (unit : ReplayUnit) × IsStatesBody at extended width body unit × (units ≡ unit ∷ [])
 Agrees at extended index content.Aside body units = units ≡ []

@@ -25,7 +25,11 @@ family_of addr = if is_ipv6 addr then 2 else 1
 
 abbrev pub session_bytes : Width → SessionForm → List ℕ
 session_bytes width f =
-    asn_bytes width f.peer_as ++ (asn_bytes width f.local_as ++ (big_bytes 2 f.interface ++ (big_bytes 2 (family_of f.peer_addr) ++ (addr_bytes f.peer_addr ++ addr_bytes f.local_addr))))
+    asn_bytes width f.peer_as
+    ++ (asn_bytes width f.local_as
+    ++ (big_bytes 2 f.interface
+    ++ (big_bytes 2 (family_of f.peer_addr)
+    ++ (addr_bytes f.peer_addr ++ addr_bytes f.local_addr))))
 
 pub record FitsSession (width : Width) (f : SessionForm) : Type 0 where
   pub peer_as : f.peer_as < 256 ^ number_len width
@@ -51,7 +55,9 @@ session_peer f = record { asn = f.peer_as; addr = f.peer_addr }
 
 -- whether the family is IPv6
 abbrev pub family_at : List ℕ → Reading Bool
-family_at bytes = number_at ShortRecord 2 bytes >>= λ family. if family.0 == 1 then Ok (false, family.1) else (if family.0 == 2 then Ok (true, family.1) else Err BadFamily)
+family_at bytes = number_at ShortRecord 2 bytes >>= λ family.
+    if family.0 == 1 then Ok (false, family.1) else
+    (if family.0 == 2 then Ok (true, family.1) else Err BadFamily)
 
 -- the fields before a message or states
 unfoldable pub session_at : Width → List ℕ → Reading SessionForm
@@ -62,7 +68,16 @@ session_at width bytes = do
   family ← family_at interface.1
   peer_addr ← addr_at family.0 family.1
   local_addr ← addr_at family.0 peer_addr.1
-  Ok (record { peer_as = peer_as.0; local_as = local_as.0; interface = interface.0; peer_addr = peer_addr.0; local_addr = local_addr.0 }, local_addr.1)
+  Ok (
+    record {
+      peer_as = peer_as.0;
+      local_as = local_as.0;
+      interface = interface.0;
+      peer_addr = peer_addr.0;
+      local_addr = local_addr.0;
+    },
+    local_addr.1,
+  )
 
 unfoldable pub session_peer_at : Width → List ℕ → Reading PeerKey
 session_peer_at width bytes = session_at width bytes >>= λ s. Ok (session_peer s.0, s.1)

@@ -33,8 +33,17 @@ UPDATE = 2
 
 -- A message is an UPDATE with its reading, or of another type, which isn't read.
 abbrev pub IsMessageEvent : Width → Bool → List ℕ → Event → Type 0
-IsMessageEvent width add_path bytes (event.Change update) = (body : List ℕ) × (bytes ≡ message_bytes UPDATE body) × (message_header_len + length body < 256 ^ 2) × ReadsAsUpdate width add_path body update
-IsMessageEvent width add_path bytes event.Other = (kind : ℕ) × (body : List ℕ) × (kind ≢ UPDATE) × (bytes ≡ message_bytes kind body) × (message_header_len + length body < 256 ^ 2)
+IsMessageEvent width add_path bytes (event.Change update) =
+    (body : List ℕ)
+    × (bytes ≡ message_bytes UPDATE body)
+    × (message_header_len + length body < 256 ^ 2)
+    × ReadsAsUpdate width add_path body update
+IsMessageEvent width add_path bytes event.Other =
+    (kind : ℕ)
+    × (body : List ℕ)
+    × (kind ≢ UPDATE)
+    × (bytes ≡ message_bytes kind body)
+    × (message_header_len + length body < 256 ^ 2)
 IsMessageEvent width add_path bytes (event.State old new) = ⊥
 IsMessageEvent width add_path bytes (event.Rib key route) = ⊥
 
@@ -64,10 +73,14 @@ IsWritableEvent event.Other = ⊤
 unfoldable pub message_in : List ℕ → Result (ℕ × List ℕ) Fault
 message_in bytes =
     if nat_lt (length bytes) message_header_len then Err BadLength else
-    (if list_all (λ b. b == 255) (take 16 bytes) then (if big_number 2 (drop 16 bytes) == length bytes then Ok (slice_index bytes 18, drop 19 bytes) else Err BadLength) else Err BadMarker)
+    (if list_all (λ b. b == 255) (take 16 bytes) then
+    (if big_number 2 (drop 16 bytes) == length bytes then Ok (slice_index bytes 18, drop 19 bytes) else Err BadLength)
+    else Err BadMarker)
 
 unfoldable pub message_event_in : Width → Bool → List ℕ → Result Event Fault
-message_event_in width add_path bytes = message_in bytes >>= λ m. if m.0 == UPDATE then (update_in width add_path m.1 >>= λ update. Ok (event.Change update)) else Ok event.Other
+message_event_in width add_path bytes = message_in bytes >>= λ m.
+    if m.0 == UPDATE then (update_in width add_path m.1 >>= λ update. Ok (event.Change update)) else
+    Ok event.Other
 
 unfoldable pub event_in : Payload → Result Event Fault
 event_in (State from to) = Ok (event.State from to)

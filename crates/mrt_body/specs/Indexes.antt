@@ -79,7 +79,11 @@ pub record IndexForm : Type 0 where
   pub peers : List WrittenPeer
 
 abbrev pub index_bytes : IndexForm → List ℕ
-index_bytes form = big_bytes 4 form.collector ++ (big_bytes 2 (length form.view) ++ (form.view ++ (big_bytes 2 (length form.peers) ++ flat_map peer_bytes form.peers)))
+index_bytes form =
+    big_bytes 4 form.collector
+    ++ (big_bytes 2 (length form.view)
+    ++ (form.view
+    ++ (big_bytes 2 (length form.peers) ++ flat_map peer_bytes form.peers)))
 
 pub record FitsIndex (form : IndexForm) : Type 0 where
   pub collector : form.collector < 256 ^ 4
@@ -113,7 +117,10 @@ index_head_at body = do
 
 -- the table that a body spells, or its first fault
 unfoldable pub index_in : List ℕ → Result IndexForm Fault
-index_in body = index_head_at body >>= λ head. many written_peer_at head.0.count head.1 >>= λ peers. Ok (record { collector = head.0.collector; view = head.0.view; peers = peers })
+index_in body =
+    index_head_at body >>= λ head.
+    many written_peer_at head.0.count head.1 >>= λ peers.
+    Ok (record { collector = head.0.collector; view = head.0.view; peers = peers })
 
 -- ---- the peers themselves
 

@@ -22,13 +22,18 @@ without_pending index = record { peers = index.peers; pending = [] }
 
 -- the unit of the entry of this number
 abbrev pub read_unit : RecordAt → List PeerKey → IpPrefix → ℕ → ReadEntry → ReplayUnit
-read_unit at peers prefix number e =
-    record { place = place_of at (Some number); time = time_of at 0; peer = slice_index_or peers e.peer no_peer; payload = Entry (record { prefix = prefix; id = e.identifier }) e.attributes }
+read_unit at peers prefix number e = record {
+  place = place_of at (Some number);
+  time = time_of at 0;
+  peer = slice_index_or peers e.peer no_peer;
+  payload = Entry (record { prefix = prefix; id = e.identifier }) e.attributes;
+}
 
 -- the units of entries, the first of which has this number
 abbrev pub read_units : RecordAt → List PeerKey → IpPrefix → ℕ → List ReadEntry → List ReplayUnit
 read_units at peers prefix number [] = []
-read_units at peers prefix number (e ∷ entries) = read_unit at peers prefix number e ∷ read_units at peers prefix (number + 1) entries
+read_units at peers prefix number (e ∷ entries) =
+    read_unit at peers prefix number e ∷ read_units at peers prefix (number + 1) entries
 
 -- the list has the record's entries
 pub record AreListed (peers : List PeerKey) (list : List ListedEntry) (r : RibRecord) : Type 0 where

@@ -18,7 +18,9 @@ use Rattle.mrt_body.specs.Bgp4mp.{microseconds_bytes, FitsMicroseconds}
 use Rattle.mrt_body.specs.Agreement.{Agrees}
 
 -- bytes stand behind a body that agrees
-pub record HasMore (at : RecordAt) (extended : Bool) (index : Option (List PeerKey)) (c : Content) (body : List ℕ) : Type 0 where
+pub record HasMore
+    (at : RecordAt) (extended : Bool) (index : Option (List PeerKey)) (c : Content) (body : List ℕ)
+    : Type 0 where
   pub front : List ℕ
   pub more : List ℕ
   pub units : List ReplayUnit
@@ -40,7 +42,11 @@ pub record HasOtherFamily (extended : Bool) (width : Width) (body : List ℕ) : 
   pub fits_interface : interface < 256 ^ 2
   pub fits_family : family < 256 ^ 2
   pub other : (family ≢ 1) × (family ≢ 2)
-  pub spelled : body ≡ microseconds_bytes extended microseconds ++ (asn_bytes width peer_as ++ (asn_bytes width local_as ++ (big_bytes 2 interface ++ (big_bytes 2 family ++ rest))))
+  pub spelled : body ≡ microseconds_bytes extended microseconds
+      ++ (asn_bytes width peer_as
+      ++ (asn_bytes width local_as
+      ++ (big_bytes 2 interface
+      ++ (big_bytes 2 family ++ rest))))
 
 -- behind the sequence number stands the length of a prefix that is over 32, or has more bytes than are left
 pub record HasBadPrefix (body : List ℕ) : Type 0 where
@@ -62,7 +68,11 @@ pub record HasUnknownPeer (add_path : Bool) (peers : ℕ) (body : List ℕ) : Ty
   pub fits_count : count < 256 ^ 2
   pub fits_peer : peer < 256 ^ 2
   pub unknown : peers ≤ peer
-  pub spelled : body ≡ big_bytes 4 form.sequence ++ ((form.len ∷ form.octets) ++ (big_bytes 2 count ++ (flat_map (entry_bytes add_path) form.entries ++ (big_bytes 2 peer ++ rest))))
+  pub spelled : body ≡ big_bytes 4 form.sequence
+      ++ ((form.len ∷ form.octets)
+      ++ (big_bytes 2 count
+      ++ (flat_map (entry_bytes add_path) form.entries
+      ++ (big_bytes 2 peer ++ rest))))
 
 -- what is wrong with a RIB record beside this index, other than a field that runs past the body
 abbrev pub HasRibFault : RecordAt → Bool → Bool → Option (List PeerKey) → List ℕ → Fault → Type 0
@@ -74,15 +84,21 @@ HasRibFault at extended add_path (Some peers) body fault =
 
 -- what is wrong with a body, other than a field that runs past it
 abbrev pub HasFault : RecordAt → Bool → Option (List PeerKey) → Content → List ℕ → Fault → Type 0
-HasFault at extended index content.IndexTable body fault = (fault ≡ TrailingBytes) × HasMore at extended index content.IndexTable body
+HasFault at extended index content.IndexTable body fault =
+    (fault ≡ TrailingBytes) × HasMore at extended index content.IndexTable body
 HasFault at extended index (content.Rib add_path) body fault = HasRibFault at extended add_path index body fault
-HasFault at extended index (content.Message width add_path) body fault = (fault ≡ BadFamily) × HasOtherFamily extended width body
+HasFault at extended index (content.Message width add_path) body fault =
+    (fault ≡ BadFamily) × HasOtherFamily extended width body
 HasFault at extended index (content.States width) body fault =
-    ((fault ≡ BadFamily) × HasOtherFamily extended width body) ⊎ ((fault ≡ TrailingBytes) × HasMore at extended index (content.States width) body)
+    ((fault ≡ BadFamily) × HasOtherFamily extended width body)
+    ⊎ ((fault ≡ TrailingBytes) × HasMore at extended index (content.States width) body)
 HasFault at extended index content.Aside body fault = ⊥
 
--- A body that doesn't agree is refused for what is wrong with it, and where nothing else is, for a field that runs past it.
+-- A body that doesn't agree is refused for what is wrong with it, and where nothing else is, for a field that runs
+-- past it.
 abbrev pub IsRefused : RecordAt → Bool → Option (List PeerKey) → Content → List ℕ → Fault → Type 0
 IsRefused at extended index c body fault =
     HasFault at extended index c body fault
-    ⊎ ((fault ≡ ShortRecord) × ((units : List ReplayUnit) → Agrees at extended index c body units → ⊥) × ((other : Fault) → HasFault at extended index c body other → ⊥))
+    ⊎ ((fault ≡ ShortRecord)
+    × ((units : List ReplayUnit) → Agrees at extended index c body units → ⊥)
+    × ((other : Fault) → HasFault at extended index c body other → ⊥))

@@ -24,7 +24,11 @@ identifier_bytes true identifier = big_bytes 4 identifier
 identifier_bytes false identifier = []
 
 abbrev pub entry_bytes : Bool → WrittenEntry → List ℕ
-entry_bytes add_path e = big_bytes 2 e.peer ++ (big_bytes 4 e.originated ++ (identifier_bytes add_path e.identifier ++ (big_bytes 2 (length e.attributes) ++ e.attributes)))
+entry_bytes add_path e =
+    big_bytes 2 e.peer
+    ++ (big_bytes 4 e.originated
+    ++ (identifier_bytes add_path e.identifier
+    ++ (big_bytes 2 (length e.attributes) ++ e.attributes)))
 
 -- without identifiers each is 0
 abbrev pub FitsIdentifier : Bool → ℕ → Type 0
@@ -47,7 +51,10 @@ pub record RibForm : Type 0 where
   pub entries : List WrittenEntry
 
 abbrev pub rib_bytes : Bool → RibForm → List ℕ
-rib_bytes add_path form = big_bytes 4 form.sequence ++ ((form.len ∷ form.octets) ++ (big_bytes 2 (length form.entries) ++ flat_map (entry_bytes add_path) form.entries))
+rib_bytes add_path form =
+    big_bytes 4 form.sequence
+    ++ ((form.len ∷ form.octets)
+    ++ (big_bytes 2 (length form.entries) ++ flat_map (entry_bytes add_path) form.entries))
 
 pub record FitsRib (add_path : Bool) (peers : ℕ) (form : RibForm) : Type 0 where
   pub sequence : form.sequence < 256 ^ 4
@@ -60,7 +67,8 @@ pub record FitsRib (add_path : Bool) (peers : ℕ) (form : RibForm) : Type 0 whe
 
 -- the number of one of so many peers
 abbrev pub peer_index_at : ℕ → List ℕ → Reading ℕ
-peer_index_at peers bytes = number_at ShortRecord 2 bytes >>= λ index. if nat_lt index.0 peers then Ok index else Err BadPeerIndex
+peer_index_at peers bytes = number_at ShortRecord 2 bytes >>= λ index.
+    if nat_lt index.0 peers then Ok index else Err BadPeerIndex
 
 abbrev pub identifier_at : Bool → List ℕ → Reading ℕ
 identifier_at true bytes = number_at ShortRecord 4 bytes
@@ -73,7 +81,10 @@ entry_at add_path peers bytes = do
   identifier ← identifier_at add_path originated.1
   len ← number_at ShortRecord 2 identifier.1
   attributes ← bytes_at ShortRecord len.0 len.1
-  Ok (record { peer = peer.0; originated = originated.0; identifier = identifier.0; attributes = attributes.0 }, attributes.1)
+  Ok (
+    record { peer = peer.0; originated = originated.0; identifier = identifier.0; attributes = attributes.0 },
+    attributes.1,
+  )
 
 -- what stands before the entries
 pub record RibHead : Type 0 where
@@ -92,7 +103,10 @@ rib_head_at bytes = do
 
 -- the record that a body spells beside an index of so many peers, or its first fault
 unfoldable pub rib_in : Bool → ℕ → List ℕ → Result RibForm Fault
-rib_in add_path peers body = rib_head_at body >>= λ head. many (entry_at add_path peers) head.0.count head.1 >>= λ entries. Ok (record { sequence = head.0.sequence; len = head.0.len; octets = head.0.octets; entries = entries })
+rib_in add_path peers body =
+    rib_head_at body >>= λ head.
+    many (entry_at add_path peers) head.0.count head.1 >>= λ entries.
+    Ok (record { sequence = head.0.sequence; len = head.0.len; octets = head.0.octets; entries = entries })
 
 -- without an index no record is read
 abbrev pub rib_beside : Bool → Option (List PeerKey) → List ℕ → Result RibForm Fault
@@ -109,7 +123,8 @@ pub record RibSummary : Type 0 where
   pub count : ℕ
 
 unfoldable pub read_head_at : List ℕ → Reading RibSummary
-read_head_at bytes = rib_head_at bytes >>= λ head. Ok (record { prefix = prefix_of head.0.len head.0.octets; count = head.0.count }, head.1)
+read_head_at bytes = rib_head_at bytes >>= λ head.
+    Ok (record { prefix = prefix_of head.0.len head.0.octets; count = head.0.count }, head.1)
 
 pub record ReadEntry : Type 0 where
   pub peer : ℕ

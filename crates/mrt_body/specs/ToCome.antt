@@ -23,8 +23,8 @@ use Rattle.mrt_body.specs.Pending.{IndexState}
 use Rattle.mrt_body.specs.Selections.{up_to}
 use Rattle.mrt_body.specs.Units.{found_from, found_in_files, found_units, units_in, index_with, aside_count, all_cuts, is_whole, is_aside}
 
--- Where a reading stands: the current file and its reader, the index in force, the units of the RIB record cut last that are
--- still to be given, and what was counted.
+-- Where a reading stands: the current file and its reader, the index in force, the units of the RIB record cut last
+-- that are still to be given, and what was counted.
 pub record UnitsState : Type 0 where
   pub count : ℕ
   pub file : ℕ
@@ -38,7 +38,18 @@ pub record UnitsState : Type 0 where
   pub standing : Standing
 
 abbrev pub fresh_units : ℕ → ℕ → Option ℕ → UnitsState
-fresh_units count max_records until = record { count = count; file = 0; frames = start_of 0; selection = up_to until; index = None; pending = []; max_records = max_records; records = 0; aside = 0; standing = Going }
+fresh_units count max_records until = record {
+  count = count;
+  file = 0;
+  frames = start_of 0;
+  selection = up_to until;
+  index = None;
+  pending = [];
+  max_records = max_records;
+  records = 0;
+  aside = 0;
+  standing = Going;
+}
 
 -- at the start of the next file
 abbrev pub in_next_file : UnitsState → UnitsState
@@ -70,20 +81,28 @@ cuts_to_come u (bytes ∷ later) = to_come u.frames bytes ++ all_cuts later
 -- ---- steps of a reading
 
 -- where the bytes to come are these before and those after: what was given, and the counts of what was cut
-pub record Passes (old : UnitsState) (contents : List (List ℕ)) (new : UnitsState) (rest : List (List ℕ)) (taken : List Found) : Type 0 where
+pub record Passes
+    (old : UnitsState) (contents : List (List ℕ)) (new : UnitsState) (rest : List (List ℕ)) (taken : List Found)
+    : Type 0 where
   pub found : found_to_come old contents ≡ taken ++ found_to_come new rest
-  pub records : old.records + count_by is_whole (cuts_to_come old contents) ≡ new.records + count_by is_whole (cuts_to_come new rest)
-  pub aside : old.aside + count_by is_aside (cuts_to_come old contents) ≡ new.aside + count_by is_aside (cuts_to_come new rest)
+  pub records : old.records + count_by is_whole (cuts_to_come old contents)
+      ≡ new.records + count_by is_whole (cuts_to_come new rest)
+  pub aside : old.aside + count_by is_aside (cuts_to_come old contents)
+      ≡ new.aside + count_by is_aside (cuts_to_come new rest)
 
--- Of each file the bytes that it still gives, where they are known. Where those of the current and the later files are known,
--- this was given of them, and the others are known and to come now.
+-- Of each file the bytes that it still gives, where they are known. Where those of the current and the later files are
+-- known, this was given of them, and the others are known and to come now.
 abbrev pub TakesFound : UnitsState → List (Option (List ℕ)) → UnitsState → List (Option (List ℕ)) → List Found → Type 0
 TakesFound old before new after taken =
-    (contents : List (List ℕ)) → drop old.file before ≡ map (λ bytes. Some bytes) contents → (rest : List (List ℕ)) × (drop new.file after ≡ map (λ bytes. Some bytes) rest) × Passes old contents new rest taken
+    (contents : List (List ℕ)) → drop old.file before ≡ map (λ bytes. Some bytes) contents →
+    (rest : List (List ℕ))
+    × (drop new.file after ≡ map (λ bytes. Some bytes) rest)
+    × Passes old contents new rest taken
 
 -- where the bytes of the current and the later files are known, nothing is to come of them
 abbrev pub NothingToCome : UnitsState → List (Option (List ℕ)) → Type 0
-NothingToCome u known = (contents : List (List ℕ)) → drop u.file known ≡ map (λ bytes. Some bytes) contents → found_to_come u contents ≡ []
+NothingToCome u known =
+    (contents : List (List ℕ)) → drop u.file known ≡ map (λ bytes. Some bytes) contents → found_to_come u contents ≡ []
 
 -- the last file has ended, and nothing of it pends
 abbrev pub HasEnded : UnitsState → Type 0
@@ -93,7 +112,8 @@ HasEnded u = (u.standing ≡ Going) × (u.file ≡ u.count) × (u.pending ≡ []
 abbrev pub steps_left : UnitsState → ℕ
 steps_left u = (u.max_records - u.records) + (u.count - u.file)
 
--- at most so many answers can still come, whatever the readers give: each record gives at most 65,535, and each file one rest
+-- at most so many answers can still come, whatever the readers give: each record gives at most 65,535, and each file
+-- one rest
 abbrev pub answers_left : UnitsState → ℕ
 answers_left u = (u.max_records - u.records) * 65535 + length u.pending + (u.count - u.file)
 
@@ -116,7 +136,9 @@ standing_after errors.Records = SpentAll
 standing_after errors.Spent = SpentAll
 
 -- what always holds
-pub record StandsWithin (count file : ℕ) (frames : Position) (max_records records aside : ℕ) (standing : Standing) : Type 0 where
+pub record StandsWithin
+    (count file : ℕ) (frames : Position) (max_records records aside : ℕ) (standing : Standing)
+    : Type 0 where
   pub file_in : file ≤ count
   pub frames_of : frames.file ≡ file
   pub records_in : records ≤ max_records
@@ -140,26 +162,50 @@ GivesPending old new given = (new ≡ record old { pending = new.pending }) × (
 
 -- these were the last cuts of the current file, where its bytes are known
 abbrev pub EndsFile : UnitsState → Option (List ℕ) → UnitsState → Option (List ℕ) → List Cut → Type 0
-EndsFile old known new left cuts = (new ≡ in_next_file old) × ((bytes : List ℕ) → known ≡ Some bytes → (rest : List ℕ) × (left ≡ Some rest) × (to_come old.frames bytes ≡ cuts))
+EndsFile old known new left cuts =
+    (new ≡ in_next_file old)
+    × ((bytes : List ℕ) → known ≡ Some bytes →
+    (rest : List ℕ) × (left ≡ Some rest) × (to_come old.frames bytes ≡ cuts))
 
 -- one cut of the current file
 abbrev pub CutsOne : UnitsState → Option (List ℕ) → UnitsState → Option (List ℕ) → Option Cut → Type 0
 CutsOne old known new left None = EndsFile old known new left []
-CutsOne old known new left (Some (Broken offset fault)) = (offset ≡ old.frames.offset) × EndsFile old known new left (Broken offset fault ∷ [])
+CutsOne old known new left (Some (Broken offset fault)) =
+    (offset ≡ old.frames.offset) × EndsFile old known new left (Broken offset fault ∷ [])
 CutsOne old known new left (Some (Whole r)) =
-    (new ≡ record old { frames = new.frames; records = old.records + 1 }) × (new.frames.phase ≡ Reading) × TakesCuts old.frames known new.frames left (Whole r ∷ [])
+    (new ≡ record old { frames = new.frames; records = old.records + 1 })
+    × (new.frames.phase ≡ Reading)
+    × TakesCuts old.frames known new.frames left (Whole r ∷ [])
 
 -- what comes of a whole record: what was given, and what pends
-pub record TakesRecord (old : UnitsState) (at : RecordAt) (extended : Bool) (content : Content) (body : List ℕ) (new : UnitsState) (given : Option Found) : Type 0 where
-  pub state : new ≡ record old { index = index_with old.index content body; pending = new.pending; aside = old.aside + aside_count content }
-  pub found : option_to_list given ++ as_found new.pending ≡ found_units old.selection at (units_in at extended old.index content body)
+pub record TakesRecord
+    (old : UnitsState) (at : RecordAt) (extended : Bool) (content : Content) (body : List ℕ)
+    (new : UnitsState) (given : Option Found)
+    : Type 0 where
+  pub state : new ≡ record old {
+    index = index_with old.index content body;
+    pending = new.pending;
+    aside = old.aside + aside_count content;
+  }
+  pub found : option_to_list given ++ as_found new.pending
+      ≡ found_units old.selection at (units_in at extended old.index content body)
 
 -- more of the current file is to come, where it gave these bytes before and gives those now
-pub record StaysInFile (old : UnitsState) (bytes : List ℕ) (new : UnitsState) (rest : List ℕ) (taken : List Found) : Type 0 where
-  pub state : new ≡ record old { frames = new.frames; index = new.index; pending = new.pending; records = new.records; aside = new.aside }
+pub record StaysInFile
+    (old : UnitsState) (bytes : List ℕ) (new : UnitsState) (rest : List ℕ) (taken : List Found)
+    : Type 0 where
+  pub state : new ≡ record old {
+    frames = new.frames;
+    index = new.index;
+    pending = new.pending;
+    records = new.records;
+    aside = new.aside;
+  }
   pub found : found_here old bytes ≡ taken ++ (as_found new.pending ++ found_here new rest)
-  pub records : old.records + count_by is_whole (to_come old.frames bytes) ≡ new.records + count_by is_whole (to_come new.frames rest)
-  pub aside : old.aside + count_by is_aside (to_come old.frames bytes) ≡ new.aside + count_by is_aside (to_come new.frames rest)
+  pub records : old.records + count_by is_whole (to_come old.frames bytes)
+      ≡ new.records + count_by is_whole (to_come new.frames rest)
+  pub aside : old.aside + count_by is_aside (to_come old.frames bytes)
+      ≡ new.aside + count_by is_aside (to_come new.frames rest)
 
 -- no more of the file is to come
 pub record LeavesFile (old : UnitsState) (bytes : List ℕ) (new : UnitsState) (taken : List Found) : Type 0 where
@@ -170,7 +216,11 @@ pub record LeavesFile (old : UnitsState) (bytes : List ℕ) (new : UnitsState) (
 
 -- where the bytes of the current file are known, this was given of them
 abbrev pub Steps : UnitsState → Option (List ℕ) → UnitsState → Option (List ℕ) → List Found → Type 0
-Steps old known new left taken = (bytes : List ℕ) → known ≡ Some bytes → (rest : List ℕ) × (left ≡ Some rest) × (StaysInFile old bytes new rest taken ⊎ LeavesFile old bytes new taken)
+Steps old known new left taken =
+    (bytes : List ℕ) → known ≡ Some bytes →
+    (rest : List ℕ)
+    × (left ≡ Some rest)
+    × (StaysInFile old bytes new rest taken ⊎ LeavesFile old bytes new taken)
 
 -- the number of files, the greatest number of records and the selection stay
 abbrev pub KeepsPlan : UnitsState → UnitsState → Type 0
@@ -180,19 +230,26 @@ KeepsPlan old new = (new.count ≡ old.count) × (new.max_records ≡ old.max_re
 
 -- as it stood before the record at which the read failed
 abbrev pub before_failure : UnitsState → UnitsState
-before_failure u = record u { frames = record { file = u.frames.file; offset = u.frames.offset; phase = Reading }; standing = Going }
+before_failure u = record u {
+  frames = record { file = u.frames.file; offset = u.frames.offset; phase = Reading };
+  standing = Going;
+}
 
 -- at one file: the read failed at the record that is next, and took no whole record
 abbrev pub FailsInRecord : UnitsState → Option (List ℕ) → UnitsState → Option (List ℕ) → ReplayError → Type 0
-FailsInRecord old known new left (errors.Read file) = (before_failure new ≡ old) × ReadsPart old.frames.offset known left (errors.Read file)
+FailsInRecord old known new left (errors.Read file) =
+    (before_failure new ≡ old) × ReadsPart old.frames.offset known left (errors.Read file)
 FailsInRecord old known new left errors.Write = ⊤
 FailsInRecord old known new left errors.Memory = ⊤
 FailsInRecord old known new left errors.Records = ⊤
 FailsInRecord old known new left errors.Spent = ⊤
 
--- The read failed at the record behind all that was given and counted, and took this part of the current file, which holds no
--- whole record. These bytes of that file and of the later ones are left.
-pub record FailsBehind (old : UnitsState) (contents : List (List ℕ)) (new : UnitsState) (after : List (Option (List ℕ))) (given : List Found) : Type 0 where
+-- The read failed at the record behind all that was given and counted, and took this part of the current file, which
+-- holds no whole record. These bytes of that file and of the later ones are left.
+pub record FailsBehind
+    (old : UnitsState) (contents : List (List ℕ)) (new : UnitsState) (after : List (Option (List ℕ)))
+    (given : List Found)
+    : Type 0 where
   pub part : List ℕ
   pub fault : Fault
   pub bytes : List ℕ
@@ -202,8 +259,11 @@ pub record FailsBehind (old : UnitsState) (contents : List (List ℕ)) (new : Un
   pub passes : Passes old contents (before_failure new) ((part ++ bytes) ∷ later) given
 
 -- where the bytes of the current and the later files are known, a read that failed left out nothing before its record
-abbrev pub GivesAllBefore : UnitsState → List (Option (List ℕ)) → UnitsState → List (Option (List ℕ)) → ReplayError → Type 0
-GivesAllBefore old before new after (errors.Read file) = (contents : List (List ℕ)) → drop old.file before ≡ map (λ bytes. Some bytes) contents → FailsBehind old contents new after []
+abbrev pub GivesAllBefore : UnitsState → List (Option (List ℕ))
+    → UnitsState → List (Option (List ℕ)) → ReplayError → Type 0
+GivesAllBefore old before new after (errors.Read file) =
+    (contents : List (List ℕ)) → drop old.file before ≡ map (λ bytes. Some bytes) contents →
+    FailsBehind old contents new after []
 GivesAllBefore old before new after errors.Write = ⊤
 GivesAllBefore old before new after errors.Memory = ⊤
 GivesAllBefore old before new after errors.Records = ⊤
@@ -213,25 +273,40 @@ GivesAllBefore old before new after errors.Spent = ⊤
 
 -- the greatest number was cut, and one more stands in the current file, where its bytes are known
 abbrev pub HasRecord : UnitsState → Option (List ℕ) → Type 0
-HasRecord u known = (u.records ≡ u.max_records) × ((bytes : List ℕ) → known ≡ Some bytes → 0 < count_by is_whole (to_come u.frames bytes))
+HasRecord u known =
+    (u.records ≡ u.max_records)
+    × ((bytes : List ℕ) → known ≡ Some bytes → 0 < count_by is_whole (to_come u.frames bytes))
 
 -- where the bytes of the current and the later files are known, there are more records than the greatest number
 abbrev pub HasMoreRecords : UnitsState → List (Option (List ℕ)) → Type 0
-HasMoreRecords u known = (contents : List (List ℕ)) → drop u.file known ≡ map (λ bytes. Some bytes) contents → u.max_records < u.records + count_by is_whole (cuts_to_come u contents)
+HasMoreRecords u known =
+    (contents : List (List ℕ)) → drop u.file known ≡ map (λ bytes. Some bytes) contents →
+    u.max_records < u.records + count_by is_whole (cuts_to_come u contents)
 
 -- at one file, whose count of failures was this before and is that after
 abbrev pub StopsAt : UnitsState → Option (List ℕ) → UnitsState → ℕ → ℕ → ReplayError → Type 0
-StopsAt old known new before after (errors.Read file) = (file ≡ old.file) × (new ≡ record old { frames = new.frames; standing = FailedRead }) × HasFailed before after
+StopsAt old known new before after (errors.Read file) =
+    (file ≡ old.file)
+    × (new ≡ record old { frames = new.frames; standing = FailedRead })
+    × HasFailed before after
 StopsAt old known new before after errors.Write = ⊥
 StopsAt old known new before after errors.Memory = new.standing ≡ SpentAll
-StopsAt old known new before after errors.Records = (new.standing ≡ SpentAll) × (new.records ≡ new.max_records) × HasRecord old known
+StopsAt old known new before after errors.Records =
+    (new.standing ≡ SpentAll) × (new.records ≡ new.max_records) × HasRecord old known
 StopsAt old known new before after errors.Spent = ⊥
 
--- The reader of this file failed in this call or in an earlier one; or a growth was refused, or the greatest number of records
--- was cut, and each later call answers Spent.
+-- The reader of this file failed in this call or in an earlier one; or a growth was refused, or the greatest number of
+-- records was cut, and each later call answers Spent.
 abbrev pub Stops : UnitsState → List (Option (List ℕ)) → UnitsState → List ℕ → List ℕ → ReplayError → Type 0
-Stops old known new before after (errors.Read file) = (new.file ≡ file) × (new.standing ≡ FailedRead) × ((old.standing ≡ FailedRead) ⊎ HasFailed (slice_index before file) (slice_index after file))
+Stops old known new before after (errors.Read file) =
+    (new.file ≡ file)
+    × (new.standing ≡ FailedRead)
+    × ((old.standing ≡ FailedRead) ⊎ HasFailed (slice_index before file) (slice_index after file))
 Stops old known new before after errors.Write = ⊥
 Stops old known new before after errors.Memory = (old.standing ≡ Going) × (new.standing ≡ SpentAll)
-Stops old known new before after errors.Records = (old.standing ≡ Going) × (new.standing ≡ SpentAll) × (new.records ≡ new.max_records) × HasMoreRecords old known
+Stops old known new before after errors.Records =
+    (old.standing ≡ Going)
+    × (new.standing ≡ SpentAll)
+    × (new.records ≡ new.max_records)
+    × HasMoreRecords old known
 Stops old known new before after errors.Spent = (old.standing ≡ SpentAll) × (new ≡ old)

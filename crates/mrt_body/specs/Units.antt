@@ -33,7 +33,10 @@ use Rattle.mrt_body.specs.Selections.{is_selected, up_to}
 
 -- TABLE_DUMP_V2 (RFC 6396, 4.3; RFC 8050, 4)
 abbrev pub dump_content : ℕ → Content
-dump_content subtype = if subtype == 1 then content.IndexTable else (if subtype == 2 then content.Rib false else (if subtype == 8 then content.Rib true else content.Aside))
+dump_content subtype =
+    if subtype == 1 then content.IndexTable else
+    (if subtype == 2 then content.Rib false else
+    (if subtype == 8 then content.Rib true else content.Aside))
 
 -- BGP4MP, and BGP4MP_ET (RFC 6396, 4.4; RFC 8050, 3)
 abbrev pub session_content : ℕ → Content
@@ -46,7 +49,9 @@ session_content subtype =
     (if subtype == 9 then content.Message Four true else content.Aside)))))
 
 unfoldable pub content_of : ℕ → ℕ → Content
-content_of kind subtype = if kind == 13 then dump_content subtype else (if kind == 16 || kind == 17 then session_content subtype else content.Aside)
+content_of kind subtype =
+    if kind == 13 then dump_content subtype else
+    (if kind == 16 || kind == 17 then session_content subtype else content.Aside)
 
 -- the type with extended timestamps
 abbrev pub is_extended : ℕ → Bool
@@ -67,13 +72,18 @@ no_peer = record { asn = 0; addr = V4 0 }
 
 -- the unit of the entry of this number
 abbrev pub entry_unit : RecordAt → List PeerKey → IpPrefix → ℕ → WrittenEntry → ReplayUnit
-entry_unit at peers prefix number e =
-    record { place = place_of at (Some number); time = time_of at 0; peer = slice_index_or peers e.peer no_peer; payload = Entry (record { prefix = prefix; id = e.identifier }) e.attributes }
+entry_unit at peers prefix number e = record {
+  place = place_of at (Some number);
+  time = time_of at 0;
+  peer = slice_index_or peers e.peer no_peer;
+  payload = Entry (record { prefix = prefix; id = e.identifier }) e.attributes;
+}
 
 -- the units of entries, the first of which has this number
 abbrev pub entry_units : RecordAt → List PeerKey → IpPrefix → ℕ → List WrittenEntry → List ReplayUnit
 entry_units at peers prefix number [] = []
-entry_units at peers prefix number (e ∷ entries) = entry_unit at peers prefix number e ∷ entry_units at peers prefix (number + 1) entries
+entry_units at peers prefix number (e ∷ entries) =
+    entry_unit at peers prefix number e ∷ entry_units at peers prefix (number + 1) entries
 
 -- the entries of a RIB record, numbered from 1
 abbrev pub rib_units : RecordAt → Option (List PeerKey) → RibForm → List ReplayUnit
@@ -85,7 +95,8 @@ rib_units_in at add_path index body = rib_beside add_path index body >>= λ form
 
 -- the unit of a message or state change
 abbrev pub session_unit : RecordAt → ℕ → PeerKey → Payload → ReplayUnit
-session_unit at microseconds peer payload = record { place = place_of at None; time = time_of at microseconds; peer = peer; payload = payload }
+session_unit at microseconds peer payload =
+    record { place = place_of at None; time = time_of at microseconds; peer = peer; payload = payload }
 
 unfoldable pub message_unit : RecordAt → Bool → Width → Bool → List ℕ → Result ReplayUnit Fault
 message_unit at extended width add_path body = do
@@ -125,7 +136,9 @@ at_record file offset seconds = record { file = file; offset = offset; seconds =
 
 -- what a cut gives beside the index in force
 unfoldable pub found_at : ℕ → Selection → Option (List PeerKey) → Cut → List Found
-found_at file selection index (Whole r) = let at = at_record file r.offset r.seconds in found_units selection at (units_in at (is_extended r.kind) index (content_of r.kind r.subtype) r.body)
+found_at file selection index (Whole r) =
+    let at = at_record file r.offset r.seconds in
+    found_units selection at (units_in at (is_extended r.kind) index (content_of r.kind r.subtype) r.body)
 found_at file selection index (Broken offset fault) = refused_at (at_record file offset 0) fault ∷ []
 
 -- ---- the index in force
@@ -158,12 +171,14 @@ index_before earlier = option_and_then index_of_body (last_or None (filter_map i
 
 -- an index holds in its own file alone
 abbrev pub found_in_file : Selection → ℕ → List ℕ → List Found
-found_in_file selection file bytes = flat_map_after (λ earlier cut. found_at file selection (index_before earlier) cut) [] (cuts 0 bytes)
+found_in_file selection file bytes =
+    flat_map_after (λ earlier cut. found_at file selection (index_before earlier) cut) [] (cuts 0 bytes)
 
 -- the files from this number on
 abbrev pub found_in_files : Selection → ℕ → List (List ℕ) → List Found
 found_in_files selection file [] = []
-found_in_files selection file (bytes ∷ files) = found_in_file selection file bytes ++ found_in_files selection (file + 1) files
+found_in_files selection file (bytes ∷ files) =
+    found_in_file selection file bytes ++ found_in_files selection (file + 1) files
 
 -- those up to this second
 unfoldable pub found_in : Option ℕ → List (List ℕ) → List Found
@@ -183,7 +198,8 @@ index_after index (Broken offset fault) = index
 -- what the cuts give, where this index is in force before the first
 abbrev pub found_from : ℕ → Selection → Option (List PeerKey) → List Cut → List Found
 found_from file selection index [] = []
-found_from file selection index (cut ∷ others) = found_at file selection index cut ++ found_from file selection (index_after index cut) others
+found_from file selection index (cut ∷ others) =
+    found_at file selection index cut ++ found_from file selection (index_after index cut) others
 
 abbrev pub unit_of : Found → Option ReplayUnit
 unit_of (found.Unit unit) = Some unit

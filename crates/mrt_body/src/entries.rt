@@ -32,7 +32,13 @@ fn entry_unit(
     peer: PeerKey,
     attributes: &[u8],
 ) -> Result<Unit, Memory>
-    ensures { IfOk result (λ unit. unit ≡ record { place = record { file = at.file; offset = at.offset; entry = Some number }; time = time_of at 0; peer = peer; payload = Payload.Entry key attributes.now }) }
+    ensures { IfOk result
+        (λ unit. unit ≡ record {
+          place = record { file = at.file; offset = at.offset; entry = Some number };
+          time = time_of at 0;
+          peer = peer;
+          payload = Payload.Entry key attributes.now;
+        }) }
 {
     let attrs = PayloadBytes::from_slice(alloc, attributes)?;
     Ok(Unit {
@@ -62,7 +68,8 @@ impl RibRecord {
         list: &mut Vec<ListedEntry>,
     ) -> Result<RibRecord, AttrError>
         requires { length body ≤ 16777216 }
-        ensures units { Gives (units_left peers.now list.new.items) result (rib_units_in at add_path (Some peers.now) body) }
+        ensures units { Gives (units_left peers.now list.new.items) result
+            (rib_units_in at add_path (Some peers.now) body) }
         ensures listed { IfOk result (AreListed peers.now list.new.items) }
         // A record takes no more room than for as many entries as its body can have.
         ensures room { vec_capacity list.new ≤ max (vec_capacity list.old) (length body / 8) }
@@ -93,7 +100,9 @@ impl RibRecord {
         list: &[ListedEntry],
     ) -> Result<Option<Unit>, Memory>
         requires { AreListed peers.now list.now self.old }
-        ensures gives { IfOk result (λ unit. units_left peers.now list.now self.old ≡ option_to_list unit ++ units_left peers.now list.now self.new) }
+        ensures gives { IfOk result
+            (λ unit. units_left peers.now list.now self.old
+            ≡ option_to_list unit ++ units_left peers.now list.now self.new) }
         ensures ended { IfOk result (λ unit. unit ≡ None → units_left peers.now list.now self.old ≡ []) }
         ensures none { units_left peers.now list.now self.old ≡ [] → result ≡ Ok None }
         ensures listed { AreListed peers.now list.now self.new }

@@ -10,8 +10,9 @@ use std::marker::Model;
 /// How many bytes a payload stores inline: most messages and nearly all attributes of RIB entries have no more.
 const IN_PLACE: usize = 112;
 
-/// The bytes of a message, or of the attributes of a RIB entry, which contracts see as their list. Up to 112 of them are
-/// stored in the value itself, so few units that pass between threads carry an allocation that another thread frees.
+/// The bytes of a message, or of the attributes of a RIB entry, which contracts see as their list. Up to 112 of
+/// them are stored in the value itself, so few units that pass between threads carry an allocation that another
+/// thread frees.
 #[derive(Debug, Drop)]
 pub struct PayloadBytes {
     bytes: SmallVec<u8, IN_PLACE>,

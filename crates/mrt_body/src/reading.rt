@@ -10,8 +10,10 @@ ghost use Rattle.mrt_body.specs.Units.{aside_of, found_in, records_of};
 /// From `Units::new` to `None` it is everything, and all records were counted. Up to `Read` it is everything
 /// before the record whose read failed.
 pub fn readings_give_all_found()
-    ensures joined { (first second third : UnitsState) (old mid new : List (Option (List ℕ))) (given more : List Found) →
-        TakesFound first old second mid given → TakesFound second mid third new more → TakesFound first old third new (given ++ more) }
+    ensures joined { (first second third : UnitsState)
+        (old mid new : List (Option (List ℕ))) (given more : List Found) →
+        TakesFound first old second mid given → TakesFound second mid third new more →
+        TakesFound first old third new (given ++ more) }
     ensures front { (count max_records : ℕ) (until : Option ℕ) (last : UnitsState)
         (contents : List (List ℕ)) (left : List (Option (List ℕ))) (given : List Found) →
         TakesFound (fresh_units count max_records until) (map (λ bytes. Some bytes) contents) last left given →

@@ -31,7 +31,8 @@ pub(crate) struct RibEntry<'a> {
 /// Reads the fields before the entries, and returns them with the bytes after them.
 #[tactic(auto, using(crate::proofs::HeadParts::head_parts))]
 pub(crate) fn rib_head_at(bytes: &[u8]) -> Result<(RibHead, &[u8]), Fault>
-    ensures reads { Reads (λ x. (record { prefix = x.0.prefix; count = x.0.count }, x.1.now)) result (ribs.read_head_at bytes.now) }
+    ensures reads { Reads (λ x. (record { prefix = x.0.prefix; count = x.0.count }, x.1.now)) result
+        (ribs.read_head_at bytes.now) }
     ensures few { IfOk result (λ x. x.0.count ≤ 65535) }
 {
     let (_, rest) = u32_at(bytes, Fault::ShortRecord)?;
@@ -74,7 +75,9 @@ pub(crate) fn entry_at(
     add_path: bool,
     peers: usize,
 ) -> Result<(RibEntry<'_>, &[u8]), Fault>
-    ensures reads { Reads (λ x. (record { peer = x.0.peer; identifier = x.0.identifier; attributes = x.0.attributes.now }, x.1.now)) result (ribs.read_entry_at add_path peers bytes.now) }
+    ensures reads { Reads
+        (λ x. (record { peer = x.0.peer; identifier = x.0.identifier; attributes = x.0.attributes.now }, x.1.now))
+        result (ribs.read_entry_at add_path peers bytes.now) }
     ensures small { IfOk result (λ x. length x.0.attributes.now ≤ 65535) }
 {
     let (peer, rest) = peer_index_at(bytes, peers)?;
@@ -115,7 +118,12 @@ fn listed_entry(
     requires within { length attributes.now + left ≤ body }
     requires short { length attributes.now ≤ 65535 }
     requires small { body ≤ 16777216 }
-    ensures { result ≡ record { start = body - left - length attributes.now; identifier = identifier; peer = peer; len = length attributes.now } }
+    ensures { result ≡ record {
+      start = body - left - length attributes.now;
+      identifier = identifier;
+      peer = peer;
+      len = length attributes.now;
+    } }
 {
     let len = attributes.len();
     ListedEntry {
@@ -145,7 +153,8 @@ pub(crate) fn list_entries(
 ) -> Result<(), AttrError>
     requires within { start ≤ length body.now }
     requires small { length body.now ≤ 16777216 }
-    ensures listed { Gives (λ _. map (read_listed body.now) list.new.items) result (many (ribs.read_entry_at add_path peers) count (drop start body.now)) }
+    ensures listed { Gives (λ _. map (read_listed body.now) list.new.items) result
+        (many (ribs.read_entry_at add_path peers) count (drop start body.now)) }
     ensures within { All (IsListed peers (length body.now)) list.new.items }
     // A false count allocates nothing.
     ensures room { vec_capacity list.new ≤ max (vec_capacity list.old) (length body.now / 8) }

@@ -38,7 +38,18 @@ impl Model for Units {
 
     ghost Value = { UnitsState };
 
-    ghost view = { λ u. record { count = u.count; file = u.file; frames = u.frames; selection = u.selection; index = index_peers u.index; pending = index_pending u.index; max_records = u.max_records; records = u.records; aside = u.aside; standing = u.standing } };
+    ghost view = { λ u. record {
+      count = u.count;
+      file = u.file;
+      frames = u.frames;
+      selection = u.selection;
+      index = index_peers u.index;
+      pending = index_pending u.index;
+      max_records = u.max_records;
+      records = u.records;
+      aside = u.aside;
+      standing = u.standing;
+    } };
 
     ghost invariant = { λ u. StandsWithin u.count u.file u.frames u.max_records u.records u.aside u.standing };
 }
@@ -97,7 +108,9 @@ impl Units {
     ) -> Result<Option<Found>, ReplayError>
         requires { length files.old ≡ self.old.count }
         // It is the first of what is still to come, and leaves the rest.
-        ensures found { IfOk result (λ found. TakesFound self.old (map R.remaining files.old) self.new (map R.remaining files.new) (option_to_list found)) }
+        ensures found { IfOk result
+            (λ found. TakesFound self.old (map R.remaining files.old) self.new (map R.remaining files.new)
+            (option_to_list found)) }
         // None is returned only if nothing is to come.
         ensures ended { IfOk result (λ found. found ≡ None → NothingToCome self.old (map R.remaining files.old)) }
         // It is returned at the end of the last file.
@@ -106,21 +119,27 @@ impl Units {
         ensures ends { IfOk result (λ found. found ≡ None → HasEnded self.new) }
         ensures stays_ended { HasEnded self.old → (result ≡ Ok None) × (self.new ≡ self.old) × (files.new ≡ files.old) }
         // Each result lowers the number of those that can still come, whatever the readers return.
-        ensures fewer { IfOk result (λ found. answers_left self.new + length (option_to_list found) ≤ answers_left self.old) }
+        ensures fewer { IfOk result
+            (λ found. answers_left self.new + length (option_to_list found) ≤ answers_left self.old) }
         // Each unit lowers the number of units that can still come.
         ensures units { IfOk result (λ found. units_left self.new + unit_count found ≤ units_left self.old) }
         // A result that is no error lets the reading go on.
         ensures going { IfOk result (λ _. self.new.standing ≡ standings.Going) }
         // An error has its cause, which persists.
-        ensures cause { IfErr result (Stops self.old (map R.remaining files.old) self.new (map R.failure_count files.old) (map R.failure_count files.new)) }
+        ensures cause { IfErr result
+            (Stops self.old (map R.remaining files.old) self.new
+            (map R.failure_count files.old) (map R.failure_count files.new)) }
         ensures spent { self.old.standing ≡ standings.Spent → (result ≡ Err ReplayError.Spent) × (self.new ≡ self.old) }
         // After Read each call returns the same Read, and reads nothing.
-        ensures again { self.old.standing ≡ standings.Failed → (result ≡ Err (ReplayError.Read self.old.file)) × (self.new ≡ self.old) × (files.new ≡ files.old) }
+        ensures again { self.old.standing ≡ standings.Failed →
+            (result ≡ Err (ReplayError.Read self.old.file)) × (self.new ≡ self.old) × (files.new ≡ files.old) }
         ensures sound { OnOk result (map R.failure_count files.new ≡ map R.failure_count files.old) }
         // Before Read nothing is skipped that comes before the record at which the read failed.
-        ensures before { self.old.standing ≡ standings.Going → IfErr result (GivesAllBefore self.old (map R.remaining files.old) self.new (map R.remaining files.new)) }
+        ensures before { self.old.standing ≡ standings.Going → IfErr result
+            (GivesAllBefore self.old (map R.remaining files.old) self.new (map R.remaining files.new)) }
         // An error other than Read comes without a failure of a reader.
-        ensures unfailed { IfErr result (KeepsUnlessRead (map R.failure_count files.old) (map R.failure_count files.new)) }
+        ensures unfailed { IfErr result
+            (KeepsUnlessRead (map R.failure_count files.old) (map R.failure_count files.new)) }
         // No file after the current one is read.
         ensures later { drop (self.new.file + 1) files.new ≡ drop (self.new.file + 1) files.old }
         ensures plan { KeepsPlan self.old self.new }
@@ -175,8 +194,11 @@ impl Units {
         ensures cuts { IfOk result (CutsOne self.old (R.remaining reader.old) self.new (R.remaining reader.new)) }
         ensures counted { self.old.aside ≤ self.old.records }
         ensures onward { self.old.file ≤ self.new.file }
-        ensures before { IfErr result (FailsInRecord self.old (R.remaining reader.old) self.new (R.remaining reader.new)) }
-        ensures cause { IfErr result (StopsAt self.old (R.remaining reader.old) self.new (R.failure_count reader.old) (R.failure_count reader.new)) }
+        ensures before { IfErr result
+            (FailsInRecord self.old (R.remaining reader.old) self.new (R.remaining reader.new)) }
+        ensures cause { IfErr result
+            (StopsAt self.old (R.remaining reader.old) self.new
+            (R.failure_count reader.old) (R.failure_count reader.new)) }
         ensures sound { OnOk result (R.failure_count reader.new ≡ R.failure_count reader.old) }
         ensures unfailed { IfErr result (KeepsUnlessRead (R.failure_count reader.old) (R.failure_count reader.new)) }
         ensures plan { KeepsPlan self.old self.new }
@@ -216,13 +238,19 @@ impl Units {
         requires within { self.old.file < self.old.count }
         requires given { self.old.pending ≡ [] }
         ensures units { IfOk result (λ found. units_left self.new + unit_count found ≤ units_left self.old) }
-        ensures fewer_answers { IfOk result (λ found. answers_left self.new + length (option_to_list found) ≤ answers_left self.old) }
-        ensures steps { IfOk result (λ found. Steps self.old (R.remaining reader.old) self.new (R.remaining reader.new) (option_to_list found)) }
+        ensures fewer_answers { IfOk result
+            (λ found. answers_left self.new + length (option_to_list found) ≤ answers_left self.old) }
+        ensures steps { IfOk result
+            (λ found. Steps self.old (R.remaining reader.old) self.new (R.remaining reader.new)
+            (option_to_list found)) }
         ensures fewer { IfOk result (λ _. steps_left self.new < steps_left self.old) }
         ensures going { IfOk result (λ _. self.new.standing ≡ standings.Going) }
         ensures onward { self.old.file ≤ self.new.file }
-        ensures before { IfErr result (FailsInRecord self.old (R.remaining reader.old) self.new (R.remaining reader.new)) }
-        ensures cause { IfErr result (StopsAt self.old (R.remaining reader.old) self.new (R.failure_count reader.old) (R.failure_count reader.new)) }
+        ensures before { IfErr result
+            (FailsInRecord self.old (R.remaining reader.old) self.new (R.remaining reader.new)) }
+        ensures cause { IfErr result
+            (StopsAt self.old (R.remaining reader.old) self.new
+            (R.failure_count reader.old) (R.failure_count reader.new)) }
         ensures sound { OnOk result (R.failure_count reader.new ≡ R.failure_count reader.old) }
         ensures unfailed { IfErr result (KeepsUnlessRead (R.failure_count reader.old) (R.failure_count reader.new)) }
         ensures plan { KeepsPlan self.old self.new }

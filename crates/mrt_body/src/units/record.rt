@@ -82,7 +82,8 @@ impl Units {
         body: &[u8],
     ) -> Result<Option<Found>, ReplayError>
         requires { self.old.pending ≡ [] }
-        ensures takes { (extended : Bool) → IfOk result (TakesRecord self.old at extended content_spec.IndexTable body.now self.new) }
+        ensures takes { (extended : Bool) → IfOk result
+            (TakesRecord self.old at extended content_spec.IndexTable body.now self.new) }
         ensures few { IfOk result (λ found. length (option_to_list found) + length self.new.pending ≤ 65535) }
         ensures want { IfErr result (λ e. (e ≡ ReplayError.Memory) × (self.new.standing ≡ standings.Spent)) }
         ensures here { self.new.file ≡ self.old.file }
@@ -112,7 +113,8 @@ impl Units {
     ) -> Result<Option<Found>, ReplayError>
         requires given { self.old.pending ≡ [] }
         requires small { length body ≤ 16777216 }
-        ensures takes { (extended : Bool) → IfOk result (TakesRecord self.old at extended (content_spec.Rib add_path) body self.new) }
+        ensures takes { (extended : Bool) → IfOk result
+            (TakesRecord self.old at extended (content_spec.Rib add_path) body self.new) }
         ensures few { IfOk result (λ found. length (option_to_list found) + length self.new.pending ≤ 65535) }
         ensures want { IfErr result (λ e. (e ≡ ReplayError.Memory) × (self.new.standing ≡ standings.Spent)) }
         ensures here { self.new.file ≡ self.old.file }
