@@ -1,4 +1,5 @@
-// The laws of bodies and of payloads.
+//! The laws of bodies and of payloads.
+
 ghost use Rattle.std.specs.Prelude.{◌≡◌, ◌↔◌, ℕ, Bool, List, Option, Ok, Err};
 ghost use Rattle.mrt_frame.specs.Bytes.{AreBytes};
 ghost use Rattle.mrt_frame.specs.declared.fault.Fault.{Fault};

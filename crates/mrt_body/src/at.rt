@@ -1,3 +1,5 @@
+//! Where a record stands, and when it was written.
+
 ghost use Rattle.std.specs.Prelude.{◌≡◌};
 ghost use Rattle.mrt_body.specs.Units.{place_of, time_of};
 

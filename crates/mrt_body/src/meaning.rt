@@ -1,3 +1,5 @@
+//! The events that payloads mean.
+
 use bgp_prefix::RouteKey;
 use bgp_update::{Route, Update};
 

@@ -1,4 +1,5 @@
-// The laws of a whole reading.
+//! The laws of a whole reading.
+
 ghost use Rattle.std.specs.Prelude.{◌≡◌, ◌++◌, ℕ, List, Option, Some, length, map};
 ghost use Rattle.mrt_frame.specs.declared.error.ReplayError.TheVariants.{Read};
 ghost use Rattle.mrt_body.specs.declared.unit.Found.{Found};

@@ -1,3 +1,5 @@
+//! Whether a reading of files goes on.
+
 /// The state of a reading of files.
 #[derive(Clone, Copy, Debug, PartialEq, Eq)]
 pub(crate) enum Standing {

@@ -1,3 +1,5 @@
+//! Units of peers, their payloads and places, and refusals.
+
 use crate::payload_bytes::PayloadBytes;
 use bgp_prefix::RouteKey;
 use bgp_update::Width;
