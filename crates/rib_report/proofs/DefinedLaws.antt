@@ -18,7 +18,9 @@ use Rattle.bgp_prefix.proofs.KeyLaws.{prefix_cmp_total, prefix_cmp_exact, prefix
 use Rattle.bgp_prefix.proofs.OrderedLaws.{is_sorted-tabulated, find-tabulated}
 use Rattle.mrt_body.specs.declared.unit.Damage.{Damage}
 use Rattle.peer_tables.specs.Tables.{Seat, TablesState}
-use Rattle.rib_report.specs.Rows.{VisibilityRow, PrefixOrigins, visibility_pair, origins_pair}
+use Rattle.rib_report.specs.Rows.{seen_pair, origins_pair}
+use Rattle.rib_report.specs.declared.reports.visibility.SeenRow.{SeenRow}
+use Rattle.rib_report.specs.declared.reports.origins.OriginRow.{OriginRow}
 use Rattle.rib_report.specs.Reports.{seat_prefixes, table_prefixes, is_visible_at, visibility_of, visibility_rows, table_origins, origins_among, origins_of, has_several, grouped_origins, origin_rows, place_cmp, in_place_order}
 use Rattle.rib_report.proofs.ListedLaws.{place_cmp_total, insertion_is}
 use Rattle.peer_tables.proofs.RowLaws.{map_twice}
@@ -49,12 +51,12 @@ module _ {K V : Type 0} (cmp : K → K → Ordering) (exact : (x y : K) → cmp 
 
 -- ---- visibility
 
-abbrev row_for : TablesState → IpPrefix → VisibilityRow
+abbrev row_for : TablesState → IpPrefix → SeenRow
 row_for tables p = record { prefix = p; peers = visibility_of tables p }
 
-rows_are : (tables : TablesState) → map visibility_pair (visibility_rows tables) ≡ tabulated prefix_cmp (λ p. Some (visibility_of tables p)) (table_prefixes tables)
+rows_are : (tables : TablesState) → map seen_pair (visibility_rows tables) ≡ tabulated prefix_cmp (λ p. Some (visibility_of tables p)) (table_prefixes tables)
 rows_are tables =
-    sym (map_twice (row_for tables) visibility_pair (in_order prefix_cmp (table_prefixes tables)))
+    sym (map_twice (row_for tables) seen_pair (in_order prefix_cmp (table_prefixes tables)))
     ∙ sym (map_twice (λ (e : IpPrefix × Unit {0}). e.0) (λ p. (p, visibility_of tables p)) (set_of prefix_cmp (table_prefixes tables)))
     ∙ paired_set prefix_cmp prefix_cmp_exact (visibility_of tables) (table_prefixes tables)
 
@@ -63,7 +65,7 @@ is_equal Less h = absurd cc
 is_equal Equal h = refl
 is_equal Greater h = absurd cc
 
-found : (tables : TablesState) (p : IpPrefix) → find prefix_cmp p (map visibility_pair (visibility_rows tables)) ≡ cond (list_any (eq_by_cmp prefix_cmp p) (table_prefixes tables)) (Some (visibility_of tables p)) None
+found : (tables : TablesState) (p : IpPrefix) → find prefix_cmp p (map seen_pair (visibility_rows tables)) ≡ cond (list_any (eq_by_cmp prefix_cmp p) (table_prefixes tables)) (Some (visibility_of tables p)) None
 found tables p =
     ap (find prefix_cmp p) (rows_are tables)
     ∙ find-tabulated prefix_cmp_total (λ q. Some (visibility_of tables q)) (λ q k tied. ap (λ r. Some (visibility_of tables r)) (sym (prefix_cmp_exact q k (is_equal (prefix_cmp q k) tied)))) p (table_prefixes tables)
@@ -94,18 +96,18 @@ counted_where true m n low e =
     (same, omega (arith, same, least))
 counted_where false m n low e = absurd cc
 
-pub visibility_from_row : (tables : TablesState) (p : IpPrefix) (n : ℕ) → find prefix_cmp p (map visibility_pair (visibility_rows tables)) ≡ Some n → (visibility_of tables p ≡ n) × (1 ≤ n)
+pub visibility_from_row : (tables : TablesState) (p : IpPrefix) (n : ℕ) → find prefix_cmp p (map seen_pair (visibility_rows tables)) ≡ Some n → (visibility_of tables p ≡ n) × (1 ≤ n)
 visibility_from_row tables p n e =
     counted_where (list_any (eq_by_cmp prefix_cmp p) (table_prefixes tables)) (visibility_of tables p) n
     (λ h. (visible_somewhere p tables.seats).0 (sym (same_tests p (table_prefixes tables)) ∙ h)) (sym (found tables p) ∙ e)
 
-pub row_from_visibility : (tables : TablesState) (p : IpPrefix) (n : ℕ) → (visibility_of tables p ≡ n) × (1 ≤ n) → find prefix_cmp p (map visibility_pair (visibility_rows tables)) ≡ Some n
+pub row_from_visibility : (tables : TablesState) (p : IpPrefix) (n : ℕ) → (visibility_of tables p ≡ n) × (1 ≤ n) → find prefix_cmp p (map seen_pair (visibility_rows tables)) ≡ Some n
 row_from_visibility tables p n h =
     let low : 1 ≤ visibility_of tables p = omega (arith, h.0, h.1) in
     let shown = same_tests p (table_prefixes tables) ∙ (visible_somewhere p tables.seats).1 low in
     found tables p ∙ ap (λ b. cond b (Some (visibility_of tables p)) None) shown ∙ ap Some h.0
 
-pub rows_sorted : (tables : TablesState) → IsTrue (is_sorted prefix_cmp (map visibility_pair (visibility_rows tables)))
+pub rows_sorted : (tables : TablesState) → IsTrue (is_sorted prefix_cmp (map seen_pair (visibility_rows tables)))
 rows_sorted tables = subst (λ es. IsTrue (is_sorted prefix_cmp es)) (sym (rows_are tables)) (true_of _ (is_sorted-tabulated prefix_cmp_total (λ p. Some (visibility_of tables p)) (table_prefixes tables)))
 
 -- ---- origins
@@ -117,7 +119,7 @@ kept_by_key value keeps [] = refl
 kept_by_key {K} {V} value keeps (e ∷ es) =
     ap (λ (l : List (K × V)). cond (keeps (value e.0)) ((e.0, value e.0) ∷ l) l) (kept_by_key value keeps es)
 
-paired_filter : (rows : List PrefixOrigins) → map origins_pair (filter has_several rows) ≡ filter (λ (e : IpPrefix × List ℕ). nat_le 2 (length e.1)) (map origins_pair rows)
+paired_filter : (rows : List OriginRow) → map origins_pair (filter has_several rows) ≡ filter (λ (e : IpPrefix × List ℕ). nat_le 2 (length e.1)) (map origins_pair rows)
 paired_filter [] = refl
 paired_filter (row ∷ rows) =
     elim (has_several row) as (λ b. map origins_pair (cond b (row ∷ filter has_several rows) (filter has_several rows))

@@ -14,7 +14,7 @@ use Rattle.std.proofs.lemmas.Map.Lookups.{exact_pairs, exact_unsigned}
 use Rattle.bgp_prefix.specs.Prefixes.{IpPrefix, prefix_cmp, prefix_eq}
 use Rattle.bgp_prefix.specs.Ordered.{in_order}
 use Rattle.bgp_prefix.proofs.KeyLaws.{prefix_cmp_total, prefix_cmp_exact, prefix_tied}
-use Rattle.rib_report.specs.Rows.{PrefixOrigins}
+use Rattle.rib_report.specs.declared.reports.origins.OriginRow.{OriginRow}
 use Rattle.rib_report.specs.Runs.{pair_cmp, pair_eq}
 use Rattle.rib_report.specs.Reports.{has_several, origins_among, grouped_origins}
 use Rattle.rib_report.proofs.RunLaws.{set_of, set_same, set_run, below_set, put_front, map_same, all_of, all_mapped}
@@ -87,7 +87,7 @@ numbers pairs = map (λ e. e.1) pairs
 abbrev prefixes : List (IpPrefix × ℕ) → List IpPrefix
 prefixes pairs = map (λ e. e.0) pairs
 
-abbrev row_of : IpPrefix → List ℕ → PrefixOrigins
+abbrev row_of : IpPrefix → List ℕ → OriginRow
 row_of p origins = record { prefix = p; origins = origins }
 
 module _ (xs ys : List (IpPrefix × ℕ)) (same : (f : IpPrefix × ℕ → Bool) → list_any f xs ≡ list_any f ys) where
@@ -238,7 +238,7 @@ first_group (x ∷ xs) p (suc m) up some is within same other =
     )
 
 -- a run is a row of the report where it has at least two pairs
-pub several_run : (xs run later : List (IpPrefix × ℕ)) (p : IpPrefix) (rows new : List PrefixOrigins) (all : List PrefixOrigins) → 2 ≤ length run → grouped_origins xs ≡ row_of p (numbers run) ∷ grouped_origins later
+pub several_run : (xs run later : List (IpPrefix × ℕ)) (p : IpPrefix) (rows new : List OriginRow) (all : List OriginRow) → 2 ≤ length run → grouped_origins xs ≡ row_of p (numbers run) ∷ grouped_origins later
     → new ≡ rows ++ row_of p (numbers run) ∷ [] → rows ++ filter has_several (grouped_origins xs) ≡ all → new ++ filter has_several (grouped_origins later) ≡ all
 several_run xs run later p rows new all several groups added before =
     let row = row_of p (numbers run) in
@@ -247,7 +247,7 @@ several_run xs run later p rows new all several groups added before =
     ap (filter has_several) groups ∙ ap (λ b. cond b (row ∷ filter has_several (grouped_origins later)) (filter has_several (grouped_origins later))) passes in
     ap (λ l. l ++ filter has_several (grouped_origins later)) added ∙ append_assoc rows (row ∷ []) (filter has_several (grouped_origins later)) ∙ ap (λ l. rows ++ l) (sym kept) ∙ before
 
-pub single_run : (xs run later : List (IpPrefix × ℕ)) (p : IpPrefix) (rows : List PrefixOrigins) (all : List PrefixOrigins) → length run < 2 → grouped_origins xs ≡ row_of p (numbers run) ∷ grouped_origins later
+pub single_run : (xs run later : List (IpPrefix × ℕ)) (p : IpPrefix) (rows : List OriginRow) (all : List OriginRow) → length run < 2 → grouped_origins xs ≡ row_of p (numbers run) ∷ grouped_origins later
     → rows ++ filter has_several (grouped_origins xs) ≡ all → rows ++ filter has_several (grouped_origins later) ≡ all
 single_run xs run later p rows all single groups before =
     let row = row_of p (numbers run) in

@@ -6,6 +6,7 @@ use Rattle.std.specs.Ordering.{eq_by_cmp, is_eq, is_lt, ordering_then, ordering_
 use Rattle.std.specs.List.{AllByRecursion, flat_map, count_by, list_any}
 use Rattle.std.specs.FinMap.Entries.{is_sorted, below_all}
 use Rattle.std.proofs.lemmas.Bool.{false≢true}
+use Rattle.std.proofs.lemmas.List.{map-id}
 use Rattle.std.proofs.lemmas.List.Folds.{list_any-append}
 use Rattle.std.proofs.lemmas.List.Sums.{sum_by-cons, sum_by-append}
 use Rattle.bgp_prefix.specs.Prefixes.{IpPrefix, prefix_cmp, prefix_eq}
@@ -17,7 +18,7 @@ use Rattle.bgp_update.specs.declared.route.Route.{Route}
 use Rattle.rib_report.specs.declared.reports.visibility.SeenRow.{SeenRow}
 use Rattle.peer_tables.specs.Tables.{Seat, TablesState}
 use Rattle.rib_report.specs.Reports.{HasOrder, seat_prefixes, is_visible_at, table_prefixes, visibility_of, visibility_rows}
-use Rattle.rib_report.specs.Rows.{VisibilityRow, seen_row, seen_pair}
+use Rattle.rib_report.specs.Rows.{seen_pair}
 use Rattle.rib_report.specs.Runs.{counted, new_after, without_repeats}
 use Rattle.rib_report.proofs.StableSort.{Ascends}
 use Rattle.rib_report.proofs.SortedRuns.{above_first, above_later}
@@ -153,16 +154,16 @@ any_in_tables f (s ∷ seats) =
     ∙ ap (λ b. list_any f (seat_prefixes s) || b) (any_in_tables f seats)
     ∙ sym (list_any-append f (seat_prefixes s) (flat_map seat_prefixes seats))
 
-abbrev row_of : IpPrefix × ℕ → VisibilityRow
+abbrev row_of : IpPrefix × ℕ → SeenRow
 row_of e = record { prefix = e.0; peers = e.1 }
 
 -- the counts of all prefixes are the rows of the report
 pub seen_rows : (tables : TablesState) (rows : List SeenRow) → AllByRecursion HasOrder tables.seats
-    → map seen_pair rows ≡ counted prefix_cmp (flat_map (λ s. without_repeats (seat_prefixes s)) tables.seats) → map seen_row rows ≡ visibility_rows tables
+    → map seen_pair rows ≡ counted prefix_cmp (flat_map (λ s. without_repeats (seat_prefixes s)) tables.seats) → rows ≡ visibility_rows tables
 seen_rows tables rows ordered e =
     let once = flat_map (λ s. without_repeats (seat_prefixes s)) tables.seats in
     let count : IpPrefix → ℕ = λ p. count_of p once in
-    map_twice seen_pair row_of rows ∙ ap (map row_of) e ∙ sym (map_twice (λ p. (p, count p)) row_of (in_order prefix_cmp once))
+    sym (map-id rows) ∙ map_twice seen_pair row_of rows ∙ ap (map row_of) e ∙ sym (map_twice (λ p. (p, count p)) row_of (in_order prefix_cmp once))
     ∙ map_same (λ p. row_of (p, count p)) (λ p. row_of (p, visibility_of tables p)) (in_order prefix_cmp once)
     (all_of (λ p. ap (λ n. row_of (p, n)) (count_in_tables p tables.seats ordered)) (in_order prefix_cmp once))
     ∙ ap (λ es. map (λ p. row_of (p, visibility_of tables p)) (map (λ (e : IpPrefix × Unit {0}). e.0) es)) (set_same prefix_cmp_total prefix_cmp_exact once (table_prefixes tables) (λ q. any_in_tables (eq_by_cmp prefix_cmp q) tables.seats))

@@ -12,7 +12,7 @@ use Rattle.adj_rib.specs.Churns.{churn_of, damaged_of}
 use Rattle.peer_tables.specs.Peers.{peers_of, units_of_peer}
 use Rattle.peer_tables.specs.Tables.{Seat, TablesState, tables_of}
 use Rattle.peer_tables.specs.Standing.{StandFor}
-use Rattle.rib_report.specs.Rows.{PeerChurn}
+use Rattle.rib_report.specs.declared.reports.churn.ChurnRow.{ChurnRow}
 use Rattle.rib_report.specs.Reports.{entry_row, is_longest, origin_pair, grouped_origins, has_several, in_place_order, rows_of_seat, matches_of_seat, seat_prefixes, is_visible_at, seat_origins, peer_churn}
 use Rattle.rib_report.specs.UnitReports.{table_at, prefixes_at, is_visible, HasReportsOf, HaveSameTexts}
 use Rattle.peer_tables.proofs.StandingLaws.{peer_seat, seats_from, StandFor-only}
@@ -45,7 +45,7 @@ module _ (units : List ReplayUnit) where
   unfolding session_of
   visible_at p = count_of_peers (is_visible_at p) (is_visible units p) (λ n q. refl) 0 (peers_of units)
 
-  churn_at : PeerKey → PeerChurn
+  churn_at : PeerKey → ChurnRow
   churn_at q = record { peer = q; churn = churn_of (units_of_peer units q) }
 
 pub HasReportsOf-tables_of : (units : List ReplayUnit) (refused : List Damage) → HasReportsOf units refused (tables_of units refused)

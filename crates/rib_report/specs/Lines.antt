@@ -19,7 +19,10 @@ use Rattle.mrt_body.specs.declared.unit.PeerAddr.{PeerAddr}
 use Rattle.mrt_body.specs.declared.unit.PeerAddr.TheVariants.{V4, V6}
 use Rattle.mrt_body.specs.declared.unit.PeerKey.{PeerKey}
 use Rattle.mrt_body.specs.declared.unit.Damage.{Damage}
-use Rattle.rib_report.specs.Rows.{RouteRow, VisibilityRow, PrefixOrigins, PeerChurn}
+use Rattle.rib_report.specs.Rows.{TableRow}
+use Rattle.rib_report.specs.declared.reports.visibility.SeenRow.{SeenRow}
+use Rattle.rib_report.specs.declared.reports.origins.OriginRow.{OriginRow}
+use Rattle.rib_report.specs.declared.reports.churn.ChurnRow.{ChurnRow}
 
 -- ---- peers and routes
 
@@ -70,7 +73,7 @@ abbrev pub atomic_text : Bool → List ℕ
 atomic_text atomic = if atomic then codes "atomic" else codes "-"
 
 -- peer, key, path, next hop, origin, MED, LOCAL_PREF, atomic, aggregator
-abbrev pub route_line : RouteRow → List ℕ
+abbrev pub route_line : TableRow → List ℕ
 route_line row = line (peer_text row.peer ∷ key_text row.key ∷ field path_text row.route.path ∷ field next_hop_text row.route.next_hop ∷ field origin_text row.route.origin
     ∷ field decimal row.route.med ∷ field decimal row.route.local_pref ∷ atomic_text row.route.atomic ∷ field aggregator_text row.route.aggregator ∷ [])
 
@@ -83,14 +86,14 @@ attributes_text route = line (field next_hop_text route.next_hop ∷ field origi
 abbrev pub route_text : RouteKey → Route → List ℕ
 route_text key route = key_text key ++ 124 ∷ (field path_text route.path ++ 124 ∷ attributes_text route)
 
-abbrev pub visibility_line : VisibilityRow → List ℕ
+abbrev pub visibility_line : SeenRow → List ℕ
 visibility_line row = line (prefix_text row.prefix ∷ decimal row.peers ∷ [])
 
-abbrev pub origin_line : PrefixOrigins → List ℕ
+abbrev pub origin_line : OriginRow → List ℕ
 origin_line row = line (prefix_text row.prefix ∷ numbers_text 32 row.origins ∷ [])
 
 -- peer, new, changed, same, gone, void, resets, idle, refused, first and last time
-abbrev pub churn_line : PeerChurn → List ℕ
+abbrev pub churn_line : ChurnRow → List ℕ
 churn_line row = line (peer_text row.peer ∷ decimal row.churn.added ∷ decimal row.churn.changed ∷ decimal row.churn.same ∷ decimal row.churn.gone ∷ decimal row.churn.void
     ∷ decimal row.churn.resets ∷ decimal row.churn.idle ∷ decimal row.churn.refused ∷ field time_text row.churn.first ∷ field time_text row.churn.last ∷ [])
 

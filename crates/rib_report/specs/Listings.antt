@@ -6,12 +6,12 @@ use Rattle.bgp_prefix.specs.declared.key.RouteKey.{RouteKey}
 use Rattle.bgp_update.specs.declared.route.Route.{Route}
 use Rattle.mrt_body.specs.declared.unit.PeerKey.{PeerKey}
 use Rattle.peer_tables.specs.Tables.{Seat}
-use Rattle.rib_report.specs.Rows.{RouteRow}
+use Rattle.rib_report.specs.Rows.{TableRow}
 use Rattle.rib_report.specs.Reports.{entry_row, rows_of_seat}
 use Rattle.rib_report.specs.Lines.{route_line}
 
 -- the row of an entry
-abbrev pub reached_row : PeerKey → RouteKey × Bor Route → RouteRow
+abbrev pub reached_row : PeerKey → RouteKey × Bor Route → TableRow
 reached_row peer e = entry_row peer (e.0, e.1.now)
 
 -- the lines of entries of one peer

@@ -15,25 +15,28 @@ use Rattle.mrt_body.specs.declared.unit.PeerKey.{PeerKey}
 use Rattle.mrt_body.specs.declared.unit.Place.{Place}
 use Rattle.mrt_body.specs.declared.unit.Damage.{Damage}
 use Rattle.peer_tables.specs.Tables.{Seat, TablesState, all_faults}
-use Rattle.rib_report.specs.Rows.{RouteRow, VisibilityRow, PrefixOrigins, PeerChurn}
+use Rattle.rib_report.specs.Rows.{TableRow}
+use Rattle.rib_report.specs.declared.reports.visibility.SeenRow.{SeenRow}
+use Rattle.rib_report.specs.declared.reports.origins.OriginRow.{OriginRow}
+use Rattle.rib_report.specs.declared.reports.churn.ChurnRow.{ChurnRow}
 
 -- ---- entries
 
-abbrev pub entry_row : PeerKey → RouteKey × Route → RouteRow
+abbrev pub entry_row : PeerKey → RouteKey × Route → TableRow
 entry_row peer e = record { peer = peer; key = e.0; route = e.1 }
 
 -- every entry of a peer's table, keys in order
-abbrev pub rows_of_seat : Seat → List RouteRow
+abbrev pub rows_of_seat : Seat → List TableRow
 rows_of_seat seat = map (entry_row seat.key) seat.session.table
 
 -- every entry of every table: peers by number, keys in order
-abbrev pub route_rows : TablesState → List RouteRow
+abbrev pub route_rows : TablesState → List TableRow
 route_rows tables = flat_map rows_of_seat tables.seats
 
 -- ---- longest match
 
 -- a row of a route of a prefix, by its identifier
-abbrev pub path_row : PeerKey → IpPrefix → ℕ × Route → RouteRow
+abbrev pub path_row : PeerKey → IpPrefix → ℕ × Route → TableRow
 path_row peer p e = record { peer = peer; key = record { prefix = p; id = e.0 }; route = e.1 }
 
 -- the prefix of the entry contains the address
@@ -49,10 +52,10 @@ abbrev pub is_longest : ℕ → List (RouteKey × Route) → RouteKey × Route �
 is_longest addr table e = matches_entry addr e && list_all (yields addr e) table
 
 -- all entries of the longest match in a peer's table (RFC 1812, 5.2.4.3)
-abbrev pub matches_of_seat : ℕ → Seat → List RouteRow
+abbrev pub matches_of_seat : ℕ → Seat → List TableRow
 matches_of_seat addr seat = map (entry_row seat.key) (filter (is_longest addr seat.session.table) seat.session.table)
 
-abbrev pub match_rows : TablesState → ℕ → List RouteRow
+abbrev pub match_rows : TablesState → ℕ → List TableRow
 match_rows tables addr = flat_map (matches_of_seat addr) tables.seats
 
 -- ---- visibility
@@ -81,7 +84,7 @@ is_visible_at p seat = list_any (prefix_eq p) (seat_prefixes seat)
 abbrev pub visibility_of : TablesState → IpPrefix → ℕ
 visibility_of tables p = count_by (is_visible_at p) tables.seats
 
-abbrev pub visibility_rows : TablesState → List VisibilityRow
+abbrev pub visibility_rows : TablesState → List SeenRow
 visibility_rows tables = map (λ p. record { prefix = p; peers = visibility_of tables p }) (prefixes_in_tables tables)
 
 -- ---- origins
@@ -101,30 +104,30 @@ abbrev pub table_origins : TablesState → List (IpPrefix × ℕ)
 table_origins tables = flat_map seat_origins tables.seats
 
 -- the set of the origin ASes of a prefix's routes, ascending
-abbrev pub origins_among : List (IpPrefix × ℕ) → IpPrefix → PrefixOrigins
+abbrev pub origins_among : List (IpPrefix × ℕ) → IpPrefix → OriginRow
 origins_among pairs p = record { prefix = p; origins = in_order nat_cmp (map (λ e. e.1) (filter (λ e. prefix_eq p e.0) pairs)) }
 
 -- the set of the origin ASes of a prefix's routes at all peers, ascending
 abbrev pub origins_of : TablesState → IpPrefix → List ℕ
 origins_of tables p = (origins_among (table_origins tables) p).origins
 
-abbrev pub has_several : PrefixOrigins → Bool
+abbrev pub has_several : OriginRow → Bool
 has_several row = nat_le 2 (length row.origins)
 
 -- each prefix that has an origin AS, in order
-abbrev pub grouped_origins : List (IpPrefix × ℕ) → List PrefixOrigins
+abbrev pub grouped_origins : List (IpPrefix × ℕ) → List OriginRow
 grouped_origins pairs = map (origins_among pairs) (in_order prefix_cmp (map (λ e. e.0) pairs))
 
 -- the prefixes with at least two different origins
-abbrev pub origin_rows : TablesState → List PrefixOrigins
+abbrev pub origin_rows : TablesState → List OriginRow
 origin_rows tables = filter has_several (grouped_origins (table_origins tables))
 
 -- ---- churn
 
-abbrev pub peer_churn : Seat → PeerChurn
+abbrev pub peer_churn : Seat → ChurnRow
 peer_churn seat = record { peer = seat.key; churn = seat.session.churn }
 
-abbrev pub churn_rows : TablesState → List PeerChurn
+abbrev pub churn_rows : TablesState → List ChurnRow
 churn_rows tables = map peer_churn tables.seats
 
 -- ---- faults

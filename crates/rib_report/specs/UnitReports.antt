@@ -13,7 +13,10 @@ use Rattle.adj_rib.specs.Tables.{table_of}
 use Rattle.adj_rib.specs.Churns.{churn_of, damaged_of}
 use Rattle.peer_tables.specs.Peers.{peers_of, units_of_peer}
 use Rattle.peer_tables.specs.Tables.{TablesState}
-use Rattle.rib_report.specs.Rows.{RouteRow, VisibilityRow, PrefixOrigins, PeerChurn}
+use Rattle.rib_report.specs.Rows.{TableRow}
+use Rattle.rib_report.specs.declared.reports.visibility.SeenRow.{SeenRow}
+use Rattle.rib_report.specs.declared.reports.origins.OriginRow.{OriginRow}
+use Rattle.rib_report.specs.declared.reports.churn.ChurnRow.{ChurnRow}
 use Rattle.rib_report.specs.Reports.{entry_row, is_longest, origin_pair, grouped_origins, has_several, in_place_order, route_rows, match_rows, visibility_rows, origin_rows, churn_rows, fault_rows}
 use Rattle.rib_report.specs.Lines.{route_line, visibility_line, origin_line, churn_line, fault_line}
 
@@ -22,11 +25,11 @@ abbrev pub table_at : List ReplayUnit → PeerKey → List (RouteKey × Route)
 table_at units q = table_of (steps_of (units_of_peer units q))
 
 -- every entry of every peer's table
-abbrev pub unit_routes : List ReplayUnit → List RouteRow
+abbrev pub unit_routes : List ReplayUnit → List TableRow
 unit_routes units = flat_map (λ q. map (entry_row q) (table_at units q)) (peers_of units)
 
 -- at each peer, all entries of the longest match (RFC 1812, 5.2.4.3)
-abbrev pub unit_matches : List ReplayUnit → ℕ → List RouteRow
+abbrev pub unit_matches : List ReplayUnit → ℕ → List TableRow
 unit_matches units addr = flat_map (λ q. map (entry_row q) (filter (is_longest addr (table_at units q)) (table_at units q))) (peers_of units)
 
 abbrev pub prefixes_at : List ReplayUnit → PeerKey → List IpPrefix
@@ -37,16 +40,16 @@ abbrev pub is_visible : List ReplayUnit → IpPrefix → PeerKey → Bool
 is_visible units p q = list_any (prefix_eq p) (prefixes_at units q)
 
 -- each prefix of any table once, in order, and at how many peers it is visible
-abbrev pub unit_visibility : List ReplayUnit → List VisibilityRow
+abbrev pub unit_visibility : List ReplayUnit → List SeenRow
 unit_visibility units =
     map (λ p. record { prefix = p; peers = count_by (is_visible units p) (peers_of units) }) (in_order prefix_cmp (flat_map (prefixes_at units) (peers_of units)))
 
 -- the prefixes with at least two different origins, over all peers
-abbrev pub unit_origins : List ReplayUnit → List PrefixOrigins
+abbrev pub unit_origins : List ReplayUnit → List OriginRow
 unit_origins units = filter has_several (grouped_origins (flat_map (λ q. filter_map origin_pair (table_at units q)) (peers_of units)))
 
 -- what each peer's own units did
-abbrev pub unit_churn : List ReplayUnit → List PeerChurn
+abbrev pub unit_churn : List ReplayUnit → List ChurnRow
 unit_churn units = map (λ q. record { peer = q; churn = churn_of (units_of_peer units q) }) (peers_of units)
 
 -- the refusals and every peer's damaged units, in place order

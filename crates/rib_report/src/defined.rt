@@ -6,17 +6,17 @@ ghost use Rattle.std.specs.FinMap.{find, is_sorted};
 ghost use Rattle.std.specs.List.Sorted.{IsSortedByKey, IsStableByKey};
 ghost use Rattle.bgp_prefix.specs.Prefixes.{IpPrefix, prefix_cmp};
 ghost use Rattle.peer_tables.specs.Tables.{TablesState, all_faults};
-ghost use Rattle.rib_report.specs.Rows.{visibility_pair, origins_pair};
+ghost use Rattle.rib_report.specs.Rows.{seen_pair, origins_pair};
 ghost use Rattle.rib_report.specs.Reports.{place_cmp, visibility_of, visibility_rows, origins_of, origin_rows, fault_rows};
 
 /// The rows of visibility are exactly the prefixes that are visible at a peer, each once and in order,
 /// with the number of these peers.
 pub fn visibility_counts_peers()
     ensures rows { (tables : TablesState) (prefix : IpPrefix) (peers : ℕ) →
-        (find prefix_cmp prefix (map visibility_pair (visibility_rows tables)) ≡ Some peers)
+        (find prefix_cmp prefix (map seen_pair (visibility_rows tables)) ≡ Some peers)
         ↔ ((visibility_of tables prefix ≡ peers) × (1 ≤ peers)) }
     ensures sorted { (tables : TablesState) →
-        IsTrue (is_sorted prefix_cmp (map visibility_pair (visibility_rows tables))) }
+        IsTrue (is_sorted prefix_cmp (map seen_pair (visibility_rows tables))) }
 {}
 
 /// The rows of origins are exactly the prefixes whose routes have at least two different origin ASes, each

@@ -1,13 +1,12 @@
 //! The report `churn`: what each peer's units did to its table. A line holds a peer, eight counts, and the times of its
 //! first and last unit.
 
-ghost use Rattle.std.specs.Prelude.{◌≡◌, IfOk, OnOk, OnErr, IsErr, Err, map};
+ghost use Rattle.std.specs.Prelude.{◌≡◌, IfOk, OnOk, OnErr, IsErr, Err};
 ghost use Rattle.std.specs.List.{flat_map};
 ghost use Rattle.std.specs.Io.KnownBytes.{Appends};
 ghost use Rattle.mrt_frame.specs.Devices.{HasFailed};
 ghost use Rattle.mrt_frame.specs.Writes.{WritesFront};
 ghost use Rattle.mrt_frame.specs.declared.error.ReplayError.TheVariants as errors;
-ghost use Rattle.rib_report.specs.Rows.{churn_row};
 ghost use Rattle.rib_report.specs.Reports.{churn_rows};
 ghost use Rattle.rib_report.specs.Digits.{field, time_text};
 ghost use Rattle.rib_report.specs.Lines.{churn_line};
@@ -36,7 +35,7 @@ pub fn churn<M: PrefixMap<SharedRoute>>(
     alloc: Global,
     tables: &Tables<M>,
 ) -> Result<Vec<ChurnRow>, Memory>
-    ensures { IfOk result (λ rows. map churn_row rows.items ≡ churn_rows tables.now) }
+    ensures { IfOk result (λ rows. rows.items ≡ churn_rows tables.now) }
 {
     let mut rows = Vec::new(alloc);
     for seat in tables.seats() {
@@ -59,7 +58,7 @@ fn put_optional_time<W: Sink>(text: &mut TextBuffer, out: &mut W, time: Option<u
 }
 
 impl Line for ChurnRow {
-    ghost line = { λ row. churn_line (churn_row row) };
+    ghost line = { churn_line };
 
     fn touch(&self) -> usize {
         0
@@ -94,8 +93,8 @@ impl Line for ChurnRow {
 
 /// Writes the rows of `churn`. If it returns `Write`, a leading part of the text has been written.
 pub fn write_churn<W: Sink>(out: &mut W, rows: &[ChurnRow]) -> Result<(), ReplayError>
-    ensures ok { OnOk result (Appends (W.contents out.old) (W.contents out.new) (flat_map (λ row. churn_line (churn_row row)) rows.now)) }
-    ensures front { OnErr result (WritesFront (W.contents out.old) (W.contents out.new) (flat_map (λ row. churn_line (churn_row row)) rows.now)) }
+    ensures ok { OnOk result (Appends (W.contents out.old) (W.contents out.new) (flat_map churn_line rows.now)) }
+    ensures front { OnErr result (WritesFront (W.contents out.old) (W.contents out.new) (flat_map churn_line rows.now)) }
     ensures write { IsErr result → result ≡ Err errors.Write }
     ensures sound { OnOk result (W.failure_count out.new ≡ W.failure_count out.old) }
     ensures risen { OnErr result (HasFailed (W.failure_count out.old) (W.failure_count out.new)) }

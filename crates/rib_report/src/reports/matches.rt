@@ -3,7 +3,7 @@
 
 ghost use Rattle.std.specs.Prelude.{◌≡◌, ◌++◌, IfOk, OnOk, map};
 ghost use Rattle.bgp_prefix.specs.Maps.{paths_of};
-ghost use Rattle.rib_report.specs.Rows.{route_row};
+ghost use Rattle.rib_report.specs.Rows.{table_row};
 ghost use Rattle.rib_report.specs.Reports.{path_row, matches_of_seat, match_rows};
 ghost use Rattle.peer_tables.specs.Seats.{seat_of};
 
@@ -20,7 +20,7 @@ fn add_paths<'a, M: PrefixMap<SharedRoute>>(
     seat: &'a Seated<M>,
     prefix: Prefix,
 ) -> Result<(), Memory>
-    ensures { OnOk result (map route_row rows.new.items ≡ map route_row rows.old.items ++ map (path_row seat.now.key prefix) (paths_of prefix (seat_of seat.now).session.table)) }
+    ensures { OnOk result (map table_row rows.new.items ≡ map table_row rows.old.items ++ map (path_row seat.now.key prefix) (paths_of prefix (seat_of seat.now).session.table)) }
 {
     let peer = seat.key;
     let paths = seat.session.table().paths(alloc, &prefix)?;
@@ -42,7 +42,7 @@ fn add_matches<'a, M: PrefixMap<SharedRoute>>(
     seat: &'a Seated<M>,
     addr: u32,
 ) -> Result<(), Memory>
-    ensures { OnOk result (map route_row rows.new.items ≡ map route_row rows.old.items ++ matches_of_seat addr (seat_of seat.now)) }
+    ensures { OnOk result (map table_row rows.new.items ≡ map table_row rows.old.items ++ matches_of_seat addr (seat_of seat.now)) }
 {
     match seat.session.table().longest(addr) {
         Some(prefix) => add_paths(alloc, rows, seat, prefix),
@@ -57,7 +57,7 @@ pub fn matches<M: PrefixMap<SharedRoute>>(
     tables: &Tables<M>,
     addr: u32,
 ) -> Result<Vec<TableRow<'_>>, Memory>
-    ensures { IfOk result (λ rows. map route_row rows.items ≡ match_rows tables.now addr) }
+    ensures { IfOk result (λ rows. map table_row rows.items ≡ match_rows tables.now addr) }
 {
     let mut rows = Vec::new(alloc);
     for seat in tables.seats() {

@@ -7,7 +7,6 @@ ghost use Rattle.std.specs.Io.KnownBytes.{Appends};
 ghost use Rattle.mrt_frame.specs.Devices.{HasFailed};
 ghost use Rattle.mrt_frame.specs.Writes.{WritesFront};
 ghost use Rattle.mrt_frame.specs.declared.error.ReplayError.TheVariants as errors;
-ghost use Rattle.rib_report.specs.Rows.{origin_row};
 ghost use Rattle.rib_report.specs.Runs.{pair_cmp};
 ghost use Rattle.rib_report.specs.Reports.{route_origin, origin_pair, seat_origins, table_origins, has_several, grouped_origins, origin_rows};
 ghost use Rattle.rib_report.specs.Lines.{origin_line};
@@ -99,7 +98,7 @@ fn run_length(pairs: &[(Prefix, u32)], first: Prefix) -> usize
 
 /// Makes the row of a prefix from its pairs of prefix and origin AS.
 fn row_of_run(alloc: Global, prefix: Prefix, run: &[(Prefix, u32)]) -> Result<OriginRow, Memory>
-    ensures { IfOk result (λ row. origin_row row ≡ record { prefix = prefix; origins = map (λ e. e.1) run.now }) }
+    ensures { IfOk result (λ row. row ≡ record { prefix = prefix; origins = map (λ e. e.1) run.now }) }
 {
     let mut origins = Vec::with_capacity(alloc, run.len())?;
     for pair in run {
@@ -114,7 +113,7 @@ fn row_of_run(alloc: Global, prefix: Prefix, run: &[(Prefix, u32)]) -> Result<Or
 /// Makes a row for each run of at least two pairs with the same prefix.
 fn group_runs(alloc: Global, pairs: &[(Prefix, u32)]) -> Result<Vec<OriginRow>, Memory>
     requires { IsStrictlySortedBy pair_cmp pairs.now }
-    ensures { IfOk result (λ rows. map origin_row rows.items ≡ filter has_several (grouped_origins pairs.now)) }
+    ensures { IfOk result (λ rows. rows.items ≡ filter has_several (grouped_origins pairs.now)) }
 {
     let mut rows = Vec::new(alloc);
     let mut rest = pairs;
@@ -134,7 +133,7 @@ pub fn origins<M: PrefixMap<SharedRoute>>(
     alloc: Global,
     tables: &Tables<M>,
 ) -> Result<Vec<OriginRow>, Memory>
-    ensures { IfOk result (λ rows. map origin_row rows.items ≡ origin_rows tables.now) }
+    ensures { IfOk result (λ rows. rows.items ≡ origin_rows tables.now) }
 {
     let mut pairs = all_origins(alloc, tables)?;
     pairs.sort()?;
@@ -143,7 +142,7 @@ pub fn origins<M: PrefixMap<SharedRoute>>(
 }
 
 impl Line for OriginRow {
-    ghost line = { λ row. origin_line (origin_row row) };
+    ghost line = { origin_line };
 
     fn touch(&self) -> usize {
         0
@@ -159,8 +158,8 @@ impl Line for OriginRow {
 
 /// Writes the rows of `origins`. If it returns `Write`, a leading part of the text has been written.
 pub fn write_origins<W: Sink>(out: &mut W, rows: &[OriginRow]) -> Result<(), ReplayError>
-    ensures ok { OnOk result (Appends (W.contents out.old) (W.contents out.new) (flat_map (λ row. origin_line (origin_row row)) rows.now)) }
-    ensures front { OnErr result (WritesFront (W.contents out.old) (W.contents out.new) (flat_map (λ row. origin_line (origin_row row)) rows.now)) }
+    ensures ok { OnOk result (Appends (W.contents out.old) (W.contents out.new) (flat_map origin_line rows.now)) }
+    ensures front { OnErr result (WritesFront (W.contents out.old) (W.contents out.new) (flat_map origin_line rows.now)) }
     ensures write { IsErr result → result ≡ Err errors.Write }
     ensures sound { OnOk result (W.failure_count out.new ≡ W.failure_count out.old) }
     ensures risen { OnErr result (HasFailed (W.failure_count out.old) (W.failure_count out.new)) }

@@ -8,7 +8,7 @@ ghost use Rattle.mrt_frame.specs.Devices.{HasFailed};
 ghost use Rattle.mrt_frame.specs.Writes.{WritesFront};
 ghost use Rattle.mrt_frame.specs.declared.error.ReplayError.TheVariants as errors;
 ghost use Rattle.peer_tables.specs.Seats.{seat_of};
-ghost use Rattle.rib_report.specs.Rows.{route_row};
+ghost use Rattle.rib_report.specs.Rows.{table_row};
 ghost use Rattle.rib_report.specs.Reports.{rows_of_seat, route_rows};
 ghost use Rattle.rib_report.specs.Listings.{reached_lines, seat_lines, most_entries};
 ghost use Rattle.rib_report.specs.Lines.{route_line};
@@ -40,7 +40,7 @@ fn add_entries<'a, M: PrefixMap<SharedRoute>>(
     rows: &mut Vec<TableRow<'a>>,
     seat: &'a Seated<M>,
 ) -> Result<(), Memory>
-    ensures { OnOk result (map route_row rows.new.items ≡ map route_row rows.old.items ++ rows_of_seat (seat_of seat.now)) }
+    ensures { OnOk result (map table_row rows.new.items ≡ map table_row rows.old.items ++ rows_of_seat (seat_of seat.now)) }
 {
     let peer = seat.key;
     let entries = seat.session.table().entries(alloc)?;
@@ -60,7 +60,7 @@ pub fn table_rows<M: PrefixMap<SharedRoute>>(
     alloc: Global,
     tables: &Tables<M>,
 ) -> Result<Vec<TableRow<'_>>, Memory>
-    ensures { IfOk result (λ rows. map route_row rows.items ≡ route_rows tables.now) }
+    ensures { IfOk result (λ rows. map table_row rows.items ≡ route_rows tables.now) }
 {
     let mut rows = Vec::new(alloc);
     for seat in tables.seats() {
@@ -209,7 +209,7 @@ fn touch_route(route: &PackedRoute) -> usize {
 }
 
 impl Line for TableRow<'_> {
-    ghost line = { λ row. route_line (route_row row) };
+    ghost line = { λ row. route_line (table_row row) };
 
     fn touch(&self) -> usize {
         touch_route(self.route)
@@ -223,8 +223,8 @@ impl Line for TableRow<'_> {
 /// Writes the rows of `table_rows` or `matches`. If it returns `Write`, a leading part of the text has been
 /// written.
 pub fn write_rows<W: Sink>(out: &mut W, rows: &[TableRow<'_>]) -> Result<(), ReplayError>
-    ensures ok { OnOk result (Appends (W.contents out.old) (W.contents out.new) (flat_map (λ row. route_line (route_row row)) rows.now)) }
-    ensures front { OnErr result (WritesFront (W.contents out.old) (W.contents out.new) (flat_map (λ row. route_line (route_row row)) rows.now)) }
+    ensures ok { OnOk result (Appends (W.contents out.old) (W.contents out.new) (flat_map (λ row. route_line (table_row row)) rows.now)) }
+    ensures front { OnErr result (WritesFront (W.contents out.old) (W.contents out.new) (flat_map (λ row. route_line (table_row row)) rows.now)) }
     ensures write { IsErr result → result ≡ Err errors.Write }
     ensures sound { OnOk result (W.failure_count out.new ≡ W.failure_count out.old) }
     ensures risen { OnErr result (HasFailed (W.failure_count out.old) (W.failure_count out.new)) }

@@ -9,7 +9,7 @@ ghost use Rattle.mrt_frame.specs.Devices.{HasFailed};
 ghost use Rattle.mrt_frame.specs.Writes.{WritesFront};
 ghost use Rattle.mrt_frame.specs.declared.error.ReplayError.TheVariants as errors;
 ghost use Rattle.bgp_prefix.specs.Prefixes.{prefix_cmp};
-ghost use Rattle.rib_report.specs.Rows.{seen_row, seen_pair};
+ghost use Rattle.rib_report.specs.Rows.{seen_pair};
 ghost use Rattle.rib_report.specs.Runs.{counted, is_last, without_repeats};
 ghost use Rattle.rib_report.specs.Reports.{HasOrder, seat_prefixes, visibility_rows};
 ghost use Rattle.rib_report.specs.Lines.{visibility_line};
@@ -118,7 +118,7 @@ pub fn visibility<M: PrefixMap<SharedRoute>>(
     alloc: Global,
     tables: &Tables<M>,
 ) -> Result<Vec<SeenRow>, Memory>
-    ensures { IfOk result (λ rows. map seen_row rows.items ≡ visibility_rows tables.now) }
+    ensures { IfOk result (λ rows. rows.items ≡ visibility_rows tables.now) }
 {
     let mut prefixes = all_prefixes(alloc, tables)?;
     prefixes.sort()?;
@@ -126,7 +126,7 @@ pub fn visibility<M: PrefixMap<SharedRoute>>(
 }
 
 impl Line for SeenRow {
-    ghost line = { λ row. visibility_line (seen_row row) };
+    ghost line = { visibility_line };
 
     fn touch(&self) -> usize {
         0
@@ -142,8 +142,8 @@ impl Line for SeenRow {
 
 /// Writes the rows of `visibility`. If it returns `Write`, a leading part of the text has been written.
 pub fn write_visibility<W: Sink>(out: &mut W, rows: &[SeenRow]) -> Result<(), ReplayError>
-    ensures ok { OnOk result (Appends (W.contents out.old) (W.contents out.new) (flat_map (λ row. visibility_line (seen_row row)) rows.now)) }
-    ensures front { OnErr result (WritesFront (W.contents out.old) (W.contents out.new) (flat_map (λ row. visibility_line (seen_row row)) rows.now)) }
+    ensures ok { OnOk result (Appends (W.contents out.old) (W.contents out.new) (flat_map visibility_line rows.now)) }
+    ensures front { OnErr result (WritesFront (W.contents out.old) (W.contents out.new) (flat_map visibility_line rows.now)) }
     ensures write { IsErr result → result ≡ Err errors.Write }
     ensures sound { OnOk result (W.failure_count out.new ≡ W.failure_count out.old) }
     ensures risen { OnErr result (HasFailed (W.failure_count out.old) (W.failure_count out.new)) }

@@ -1,14 +1,13 @@
 use Rattle.std.proofs.Common.{◌≡◌, ℕ, List, [], ◌∷◌, ◌++◌, ◌∙◌, ap, sym, drop, map, subst}
 use Rattle.std.specs.List.Sorted.{IsStrictlySortedBy}
-use Rattle.std.proofs.lemmas.List.{map-append}
 use Rattle.bgp_prefix.specs.Prefixes.{IpPrefix}
-use Rattle.rib_report.specs.Rows.{PrefixOrigins, origin_row}
+use Rattle.rib_report.specs.declared.reports.origins.OriginRow.{OriginRow}
 use Rattle.rib_report.specs.Runs.{pair_cmp}
 use Rattle.rib_report.specs.Reports.{grouped_origins}
 use Rattle.rib_report.proofs.OriginLaws.{first_group, several_run, single_run}
 use Rattle.rib_report.proofs.reports.origins.group_runs.Goals as goal
 
-abbrev row_of : IpPrefix → List (IpPrefix × ℕ) → PrefixOrigins
+abbrev row_of : IpPrefix → List (IpPrefix × ℕ) → OriginRow
 row_of p run = record { prefix = p; origins = map (λ e. e.1) run }
 
 pub loop-rest-preserved-in_ok-push : goal.loop-rest-preserved-in_ok-push
@@ -18,15 +17,15 @@ loop-rest-preserved-in_ok-push c =
     let n = c.run_length.result in
     let run = c.split_at.result.0.now in
     let later = c.split_at.result.1.now in
-    let rows = map origin_row c.loop-rest.rows.items in
+    let rows = c.loop-rest.rows.items in
     let group = first_group rest first n c.loop-rest.invariant.sorted c.in-len1-up.len_at_least c.first-item.is c.run_length.ensures.within c.run_length.ensures.same c.run_length.ensures.other in
     let groups : grouped_origins rest ≡ row_of first.0 run ∷ grouped_origins later =
     group.1 ∙ ap (λ l. row_of first.0 l ∷ grouped_origins (drop n rest)) (sym c.split_at.ensures.front) ∙ ap (λ l. row_of first.0 run ∷ grouped_origins l) (sym c.split_at.ensures.back) in
-    let pushed : map origin_row c.push.new.self.items ≡ rows ++ row_of first.0 run ∷ [] =
-    ap (map origin_row) c.in_ok-push.ensures.items ∙ map-append origin_row c.loop-rest.rows.items _ ∙ ap (λ row. rows ++ row ∷ []) c.in_ok-row_of_run.ensures in
+    let pushed : c.push.new.self.items ≡ rows ++ row_of first.0 run ∷ [] =
+    c.in_ok-push.ensures.items ∙ ap (λ row. rows ++ row ∷ []) c.in_ok-row_of_run.ensures in
     record {
       sorted = subst (IsStrictlySortedBy pair_cmp) (sym c.split_at.ensures.back) group.2;
-      rows = several_run rest run later first.0 rows (map origin_row c.push.new.self.items) _ c.if-run-ge2.true groups pushed c.loop-rest.invariant.rows;
+      rows = several_run rest run later first.0 rows c.push.new.self.items _ c.if-run-ge2.true groups pushed c.loop-rest.invariant.rows;
     }
 
 pub loop-rest-preserved : goal.loop-rest-preserved
@@ -41,5 +40,5 @@ loop-rest-preserved c =
     group.1 ∙ ap (λ l. row_of first.0 l ∷ grouped_origins (drop n rest)) (sym c.split_at.ensures.front) ∙ ap (λ l. row_of first.0 run ∷ grouped_origins l) (sym c.split_at.ensures.back) in
     record {
       sorted = subst (IsStrictlySortedBy pair_cmp) (sym c.split_at.ensures.back) group.2;
-      rows = single_run rest run later first.0 (map origin_row c.loop-rest.rows.items) _ c.if-run-ge2.false groups c.loop-rest.invariant.rows;
+      rows = single_run rest run later first.0 c.loop-rest.rows.items _ c.if-run-ge2.false groups c.loop-rest.invariant.rows;
     }

@@ -1,4 +1,4 @@
-use Rattle.std.proofs.Common.{◌≡◌, ◌∙◌, ℕ, ap, sym, subst, map}
+use Rattle.std.proofs.Common.{◌≡◌, ◌∙◌, ℕ, ap, sym, subst}
 use Rattle.std.specs.List.{dedup, filter, list_any}
 use Rattle.std.specs.List.Sorted.{IsStrictlySortedBy}
 use Rattle.std.proofs.lemmas.Result.{IfOk-weaker}
@@ -6,7 +6,6 @@ use Rattle.std.proofs.lemmas.List.Filters.{dedup_is}
 use Rattle.std.proofs.lemmas.List.Kept.{IsStrictlySortedBy-dedup}
 use Rattle.std.proofs.lemmas.List.Sorted.{list_any-IsPermutation}
 use Rattle.bgp_prefix.specs.Prefixes.{IpPrefix}
-use Rattle.rib_report.specs.Rows.{origin_row}
 use Rattle.rib_report.specs.Runs.{pair_cmp, pair_eq}
 use Rattle.rib_report.specs.Reports.{has_several, grouped_origins, origin_rows}
 use Rattle.rib_report.proofs.OriginLaws.{pair_cmp_total, pair_tied, any_dedup, grouped_same}
@@ -19,7 +18,7 @@ returns g c =
     let pairs = c.in_ok-pairs.pairs.items in
     let alike : (f : IpPrefix × ℕ → _) → list_any f (dedup pair_eq sorted) ≡ list_any f pairs = λ f. any_dedup f sorted ∙ sym (list_any-IsPermutation f pairs sorted c.sort.ensures.permutation) in
     let same = ap grouped_origins (c.as_slice.ensures.value ∙ left) ∙ grouped_same (dedup pair_eq sorted) pairs alike ∙ ap grouped_origins c.in_ok-pairs.ensures in
-    IfOk-weaker c.group_runs.result (λ rows. map origin_row rows.items ≡ filter has_several (grouped_origins c.as_slice.result.now)) (λ rows. map origin_row rows.items ≡ origin_rows c.args.tables.now)
+    IfOk-weaker c.group_runs.result (λ rows. rows.items ≡ filter has_several (grouped_origins c.as_slice.result.now)) (λ rows. rows.items ≡ origin_rows c.args.tables.now)
     (λ rows h. h ∙ ap (filter has_several) same) c.group_runs.ensures
 
 pub group_runs-requires : goal.group_runs-requires
