@@ -1,11 +1,13 @@
 //! Text on its way to a writer, through a fixed buffer.
 
 ghost use Rattle.std.specs.Prelude.{◌≡◌, ℕ, ◌+◌, ◌<◌, ◌≤◌, ◌++◌, [], ◌∷◌, List, Option, OnOk, OnErr, length, decimal};
+ghost use Rattle.rib_report.specs.Digits.{decimal_glyph, digits_in};
 ghost use Rattle.rib_report.specs.Lines.{peer_text, prefix_text, key_text, attributes_text};
 ghost use Rattle.rib_report.specs.Texts.{BufferState, empty_buffer, text_state, IsText, IsWritten, IsCutOff, Writes, Grows};
 
 use crate::place::{
-    place_attributes, place_behind, place_key, place_number, place_peer, place_prefix,
+    place_attributes, place_behind, place_key, place_microseconds, place_number, place_peer,
+    place_prefix,
 };
 use crate::short::ShortTexts;
 use bgp_prefix::{Prefix, RouteKey};
@@ -78,6 +80,14 @@ impl TextBuffer {
         ensures { Grows self.old self.new 12 (decimal number) }
     {
         self.len = place_number(&mut self.bytes, self.len, &self.shorts, number);
+    }
+
+    /// Appends a decimal point and the last six digits of a number to the pending bytes.
+    pub(crate) fn append_microseconds(&mut self, number: u32)
+        requires { length self.old.waiting + 7 ≤ 65536 }
+        ensures { Grows self.old self.new 7 (46 ∷ digits_in decimal_glyph 10 6 number) }
+    {
+        self.len = place_microseconds(&mut self.bytes, self.len, number);
     }
 
     /// Appends a byte and a number in decimal to the pending bytes.

@@ -2,23 +2,23 @@
 
 ghost use Rattle.std.specs.Prelude.{◌≡◌, ℕ, ◌+◌, ◌≤◌, ◌<◌, ◌^◌, ◌++◌, [], ◌∷◌, List, length, decimal};
 ghost use Rattle.rib_report.specs.Texts.{Writes};
-ghost use Rattle.rib_report.specs.Digits.{decimal_glyph, digits_in, time_text, numbers_text};
+ghost use Rattle.rib_report.specs.Digits.{time_text, numbers_text};
 
 use crate::buffer::TextBuffer;
 use bgp_update::PackedSegment;
 use itoa::Buffer;
 use mrt_frame::Sink;
 
-fn decimal_digit(digit: u64) -> u8
-    requires { digit < 10 }
-    ensures { result ≡ decimal_glyph digit }
-{
-    b'0' + digit as u8
-}
-
 impl TextBuffer {
     /// Adds a number in decimal.
     pub(crate) fn put_number<W: Sink>(&mut self, out: &mut W, number: u64)
+        ensures { Writes W.contents W.failure_count out.old self.old out.new self.new (decimal number) }
+    {
+        self.put_long_number(out, number as u128);
+    }
+
+    /// Adds a number that may have more than 64 bits, in decimal.
+    pub(crate) fn put_long_number<W: Sink>(&mut self, out: &mut W, number: u128)
         ensures { Writes W.contents W.failure_count out.old self.old out.new self.new (decimal number) }
     {
         if number < 1_000_000 {
@@ -35,23 +35,8 @@ impl TextBuffer {
         ensures { Writes W.contents W.failure_count out.old self.old out.new self.new (time_text time) }
     {
         self.put_number(out, time / 1_000_000);
-        self.put_microseconds(out, time % 1_000_000);
-    }
-
-    /// Adds a decimal point and six digits.
-    fn put_microseconds<W: Sink>(&mut self, out: &mut W, count: u64)
-        ensures { Writes W.contents W.failure_count out.old self.old out.new self.new (46 ∷ digits_in decimal_glyph 10 6 count) }
-    {
-        let digits = [
-            b'.',
-            decimal_digit(count / 100_000 % 10),
-            decimal_digit(count / 10_000 % 10),
-            decimal_digit(count / 1_000 % 10),
-            decimal_digit(count / 100 % 10),
-            decimal_digit(count / 10 % 10),
-            decimal_digit(count % 10),
-        ];
-        self.put(out, &digits);
+        self.make_room(out, 7);
+        self.append_microseconds((time % 1_000_000) as u32);
     }
 
     /// Adds a byte and a number in decimal.

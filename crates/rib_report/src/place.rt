@@ -6,7 +6,7 @@ ghost use Rattle.rib_report.specs.Texts.{Places};
 ghost use Rattle.rib_report.specs.Digits.{hexadecimal_glyph, decimal_glyph, digits_in, field, ipv4_text, ipv6_text};
 ghost use Rattle.rib_report.specs.Lines.{addr_text, peer_text, prefix_text, identifier_text, key_text, next_hop_text, origin_text, aggregator_text, atomic_text, attributes_text};
 
-use crate::short::ShortTexts;
+use crate::short::{ShortTexts, three_digits};
 use bgp_prefix::{Prefix, RouteKey};
 use bgp_update::{Aggregator, NextHop, Origin, PackedRoute};
 use mrt_body::{PeerAddr, PeerKey};
@@ -54,18 +54,13 @@ fn place_short(bytes: &mut [u8], at: usize, shorts: &ShortTexts, number: u32) ->
     place_front(bytes, at, &text.bytes, text.len as usize)
 }
 
-/// Three digits.
+/// The last three digits of a number.
 #[inline]
 fn place_three(bytes: &mut [u8], at: usize, number: u32) -> usize
-    requires { (number < 1000) × (at + 3 ≤ length bytes.old) }
+    requires { at + 3 ≤ length bytes.old }
     ensures { Places bytes.old at bytes.new result 3 (digits_in decimal_glyph 10 3 number) }
 {
-    let digits = [
-        b'0' + (number / 100 % 10) as u8,
-        b'0' + (number / 10 % 10) as u8,
-        b'0' + (number % 10) as u8,
-    ];
-    place_text(bytes, at, &digits)
+    place_text(bytes, at, &three_digits(number))
 }
 
 /// A number of at most six digits.
@@ -92,6 +87,16 @@ pub(crate) fn place_number(bytes: &mut [u8], at: usize, shorts: &ShortTexts, num
     let high = place_six(bytes, at, shorts, number / 1_000_000);
     let middle = place_three(bytes, high, number / 1_000 % 1_000);
     place_three(bytes, middle, number % 1_000)
+}
+
+/// A decimal point and the last six digits of a number.
+pub(crate) fn place_microseconds(bytes: &mut [u8], at: usize, number: u32) -> usize
+    requires { at + 7 ≤ length bytes.old }
+    ensures { Places bytes.old at bytes.new result 7 (46 ∷ digits_in decimal_glyph 10 6 number) }
+{
+    let at = place_byte(bytes, at, b'.');
+    let at = place_three(bytes, at, number / 1_000);
+    place_three(bytes, at, number)
 }
 
 /// An address in dotted decimal.

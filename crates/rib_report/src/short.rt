@@ -1,7 +1,8 @@
 //! The decimal texts of small numbers, made once.
 
-ghost use Rattle.std.specs.Prelude.{ℕ, ◌<◌, slice_index_or};
+ghost use Rattle.std.specs.Prelude.{◌≡◌, ℕ, ◌<◌, slice_index_or};
 ghost use Rattle.rib_report.specs.declared.short.ShortText.{ShortText};
+ghost use Rattle.rib_report.specs.Digits.{decimal_glyph, digits_in};
 ghost use Rattle.rib_report.specs.ShortTexts.{IsShortText};
 
 /// A text of at most four bytes, in a block that is copied whole.
@@ -18,12 +19,24 @@ pub(crate) struct ShortTexts {
     ghost texts_of_numbers: { (k : ℕ) → k < 1000 → (d : ShortText) → IsShortText k (slice_index_or texts k d) },
 }
 
-/// The text of a number of at most three digits.
+/// Returns the last three decimal digits of a number.
+#[inline]
+pub(crate) fn three_digits(number: u32) -> [u8; 3]
+    ensures { result ≡ digits_in decimal_glyph 10 3 number }
+{
+    [
+        b'0' + (number / 100 % 10) as u8,
+        b'0' + (number / 10 % 10) as u8,
+        b'0' + (number % 10) as u8,
+    ]
+}
+
+/// Returns the text of a number of at most three digits.
 fn short_text(number: u32) -> ShortText
     requires { number < 1000 }
     ensures { IsShortText number result }
 {
-    let ones = b'0' + (number % 10) as u8;
+    let [hundreds, tens, ones] = three_digits(number);
     if number < 10 {
         return ShortText {
             bytes: [ones, 0, 0, 0],
@@ -32,12 +45,10 @@ fn short_text(number: u32) -> ShortText
     }
     if number < 100 {
         return ShortText {
-            bytes: [b'0' + (number / 10) as u8, ones, 0, 0],
+            bytes: [tens, ones, 0, 0],
             len: 2,
         };
     }
-    let hundreds = b'0' + (number / 100) as u8;
-    let tens = b'0' + (number / 10 % 10) as u8;
     ShortText {
         bytes: [hundreds, tens, ones, 0],
         len: 3,

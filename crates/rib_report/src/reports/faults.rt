@@ -19,7 +19,6 @@ use crate::line::Line;
 use crate::write::write_lines;
 use adj_rib::SharedRoute;
 use bgp_prefix::{Memory, PrefixMap};
-use itoa::Buffer;
 use mrt_body::Damage;
 use mrt_frame::{Fault, ReplayError, Sink};
 use peer_tables::Tables;
@@ -55,8 +54,7 @@ pub fn faults<M: PrefixMap<SharedRoute>>(
 fn put_file<W: Sink>(text: &mut TextBuffer, out: &mut W, file: usize)
     ensures { Writes W.contents W.failure_count out.old text.old out.new text.new (decimal (file + 1)) }
 {
-    let mut digits = Buffer::new();
-    text.put(out, digits.format(file as u128 + 1).as_bytes());
+    text.put_long_number(out, file as u128 + 1);
 }
 
 /// Adds the number of an entry, if there is one.
