@@ -9,7 +9,7 @@ use Rattle.std.specs.Io.KnownBytes.{Appends}
 use Rattle.std.proofs.KnownBytes.{Appends-trans, Appends-nil}
 use Rattle.mrt_frame.specs.Devices.{HasFailed, one_more, greatest_count}
 use Rattle.mrt_frame.specs.Writes.{WritesFront}
-use Rattle.rib_report.specs.Texts.{TextState, empty_buffer, IsText, IsWritten, IsCutOff, Adds, Grows, Places}
+use Rattle.rib_report.specs.Texts.{TextState, empty_buffer, IsText, IsWritten, IsCutOff, Adds, Grows, Formats}
 
 pub Adds_trans : {s t u : TextState} {p q : List ℕ} → Adds s t p → Adds t u q → Adds s u (p ++ q)
 Adds_trans {p = p} {q = q} f g = record { adds = λ contents failures text h. subst (IsText contents failures _) (append_assoc text p q) (g.adds contents failures (text ++ p) (f.adds contents failures text h)) }
@@ -112,10 +112,10 @@ text_begun {s = s} fresh f = f.adds s.contents s.failures [] (record {
 pub Adds_of_growth : {s t : TextState} {m : ℕ} {p : List ℕ} → t.contents ≡ s.contents → t.failures ≡ s.failures → Grows s.buffer t.buffer m p → Adds s t p
 Adds_of_growth same count f = Adds_grown same count f.waiting f.still
 
--- ---- pieces that are placed
+-- ---- pieces in a block
 
-pub Places_trans : {a b c : List ℕ} {i j k m n : ℕ} {p q : List ℕ} → Places a i b j m p → Places b j c k n q → Places a i c k (m + n) (p ++ q)
-Places_trans {a = a} {i = i} {p = p} {q = q} f g = record {
+pub Formats_trans : {a b c : List ℕ} {i j k m n : ℕ} {p q : List ℕ} → Formats a i b j m p → Formats b j c k n q → Formats a i c k (m + n) (p ++ q)
+Formats_trans {a = a} {i = i} {p = p} {q = q} f g = record {
   text = g.text ∙ ap (λ l. l ++ q) f.text ∙ append_assoc (take i a) p q;
   room = omega (arith, f.room, g.room);
   within = g.within;
@@ -123,8 +123,8 @@ Places_trans {a = a} {i = i} {p = p} {q = q} f g = record {
 }
 
 -- the same piece, written another way
-pub Places_as : {a b : List ℕ} {i j m : ℕ} {p q : List ℕ} → p ≡ q → Places a i b j m p → Places a i b j m q
-Places_as {a = a} {b = b} {i = i} {j = j} {m = m} e f = subst (Places a i b j m) e f
+pub Formats_as : {a b : List ℕ} {i j m : ℕ} {p q : List ℕ} → p ≡ q → Formats a i b j m p → Formats a i b j m q
+Formats_as {a = a} {b = b} {i = i} {j = j} {m = m} e f = subst (Formats a i b j m) e f
 
 -- the front of a block that was copied whole
 pub take-front_put : (a k n : ℕ) (xs ys : List ℕ) → a ≤ length xs → n ≤ length ys → take (a + n) (put_mid a k xs ys) ≡ take a xs ++ take n ys

@@ -5,9 +5,9 @@ ghost use Rattle.rib_report.specs.Digits.{decimal_glyph, digits_in};
 ghost use Rattle.rib_report.specs.Lines.{peer_text, prefix_text, key_text, attributes_text};
 ghost use Rattle.rib_report.specs.Texts.{BufferState, empty_buffer, text_state, IsText, IsWritten, IsCutOff, Writes, Grows};
 
-use crate::place::{
-    place_attributes, place_behind, place_key, place_microseconds, place_number, place_peer,
-    place_prefix,
+use crate::format::{
+    format_attributes, format_behind, format_key, format_microseconds, format_number, format_peer,
+    format_prefix,
 };
 use crate::short::ShortTexts;
 use bgp_prefix::{Prefix, RouteKey};
@@ -79,7 +79,7 @@ impl TextBuffer {
         requires { length self.old.waiting + 13 ≤ 65536 }
         ensures { Grows self.old self.new 12 (decimal number) }
     {
-        self.len = place_number(&mut self.bytes, self.len, &self.shorts, number);
+        self.len = format_number(&mut self.bytes, self.len, &self.shorts, number);
     }
 
     /// Appends a decimal point and the last six digits of a number to the pending bytes.
@@ -87,7 +87,7 @@ impl TextBuffer {
         requires { length self.old.waiting + 7 ≤ 65536 }
         ensures { Grows self.old self.new 7 (46 ∷ digits_in decimal_glyph 10 6 number) }
     {
-        self.len = place_microseconds(&mut self.bytes, self.len, number);
+        self.len = format_microseconds(&mut self.bytes, self.len, number);
     }
 
     /// Appends a byte and a number in decimal to the pending bytes.
@@ -95,7 +95,7 @@ impl TextBuffer {
         requires { length self.old.waiting + 14 ≤ 65536 }
         ensures { Grows self.old self.new 13 (separator ∷ decimal number) }
     {
-        self.len = place_behind(&mut self.bytes, self.len, &self.shorts, separator, number);
+        self.len = format_behind(&mut self.bytes, self.len, &self.shorts, separator, number);
     }
 
     /// Appends a peer to the pending bytes.
@@ -103,7 +103,7 @@ impl TextBuffer {
         requires { length self.old.waiting + 52 ≤ 65536 }
         ensures { Grows self.old self.new 52 (peer_text peer.now) }
     {
-        self.len = place_peer(&mut self.bytes, self.len, &self.shorts, peer);
+        self.len = format_peer(&mut self.bytes, self.len, &self.shorts, peer);
     }
 
     /// Appends a prefix to the pending bytes.
@@ -111,7 +111,7 @@ impl TextBuffer {
         requires { length self.old.waiting + 20 ≤ 65536 }
         ensures { Grows self.old self.new 19 (prefix_text prefix.now) }
     {
-        self.len = place_prefix(&mut self.bytes, self.len, &self.shorts, prefix);
+        self.len = format_prefix(&mut self.bytes, self.len, &self.shorts, prefix);
     }
 
     /// Appends a key to the pending bytes.
@@ -119,7 +119,7 @@ impl TextBuffer {
         requires { length self.old.waiting + 33 ≤ 65536 }
         ensures { Grows self.old self.new 32 (key_text key.now) }
     {
-        self.len = place_key(&mut self.bytes, self.len, &self.shorts, key);
+        self.len = format_key(&mut self.bytes, self.len, &self.shorts, key);
     }
 
     /// Appends the fields of a route that follow its path, and the end of the line, to the pending bytes.
@@ -127,7 +127,7 @@ impl TextBuffer {
         requires { length self.old.waiting + 153 ≤ 65536 }
         ensures { Grows self.old self.new 153 (attributes_text route.now) }
     {
-        self.len = place_attributes(&mut self.bytes, self.len, &self.shorts, route);
+        self.len = format_attributes(&mut self.bytes, self.len, &self.shorts, route);
     }
 
     /// The number of bytes that may still be appended.

@@ -4,9 +4,9 @@
 mod buffer;
 mod defined;
 mod fields;
+mod format;
 mod line;
 mod numbers;
-mod place;
 mod reports;
 mod request;
 mod short;

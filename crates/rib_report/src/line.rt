@@ -11,8 +11,9 @@ pub(crate) trait Line {
     /// The line, including its end.
     ghost line: { Self → List ℕ };
 
-    /// Prefetches what the row refers to, if it lies elsewhere in memory, by reading a little of it.
-    fn touch(&self) -> usize;
+    /// Prefetches what the row refers to, if it lies elsewhere in memory, by reading a little of it, and returns
+    /// about how many bytes that is.
+    fn prefetch(&self) -> usize;
 
     /// Adds the line.
     fn put<W: Sink>(&self, text: &mut TextBuffer, out: &mut W)

@@ -1,6 +1,6 @@
 //! The lines of rows written to a sink.
 
-ghost use Rattle.std.specs.Prelude.{◌≡◌, ℕ, List, OnOk, OnErr, IsErr, Err};
+ghost use Rattle.std.specs.Prelude.{◌≡◌, ◌<◌, ℕ, List, OnOk, OnErr, IsErr, Err};
 ghost use Rattle.std.specs.List.{flat_map};
 ghost use Rattle.std.specs.Io.KnownBytes.{Appends};
 ghost use Rattle.mrt_frame.specs.Devices.{HasFailed};
@@ -11,25 +11,31 @@ use crate::buffer::TextBuffer;
 use crate::line::Line;
 use mrt_frame::{Failed, ReplayError, Sink};
 
-/// How many rows are prefetched together before their lines are written.
-const NEAR_ROWS: usize = 64;
+/// How many rows are prefetched together before their lines are written. Routes lie far apart in memory. Reads
+/// that don't wait for one another overlap, so the lines are then written from the processor's cache.
+pub(crate) const NEAR_ROWS: usize = 64;
 
 /// The same for rows that refer to a lot of data.
 const NEAR_LONG_ROWS: usize = 16;
 
-/// Prefetches a little of what each row refers to, and returns how many rows to prefetch next. Routes lie
-/// far apart in memory. Reads that don't wait for one another overlap, so the lines are then
-/// written from the processor's cache.
-fn touch_all<R: Line>(rows: &[R]) -> usize {
-    let mut touched = 0usize;
-    for row in rows {
-        touched = touched.saturating_add(row.touch());
-    }
-    if touched > 128 * NEAR_ROWS {
+/// Returns how many rows to prefetch after rows that refer to so many bytes.
+pub(crate) fn next_rows(bytes: usize) -> usize
+    ensures { 0 < result }
+{
+    if bytes > 128 * NEAR_ROWS {
         NEAR_LONG_ROWS
     } else {
         NEAR_ROWS
     }
+}
+
+/// Prefetches a little of what each row refers to, and returns how many rows to prefetch next.
+fn prefetch_rows<R: Line>(rows: &[R]) -> usize {
+    let mut bytes = 0usize;
+    for row in rows {
+        bytes = bytes.saturating_add(row.prefetch());
+    }
+    next_rows(bytes)
 }
 
 /// Writes a line for each row.
@@ -48,7 +54,7 @@ pub(crate) fn write_lines<W: Sink, R: Line>(out: &mut W, rows: &[R]) -> Result<(
         if near == 0 {
             let (block, later) = ahead.split_at(next.min(ahead.len()));
             near = block.len();
-            next = touch_all(block);
+            next = prefetch_rows(block);
             ahead = later;
         }
         near = near.saturating_sub(1);

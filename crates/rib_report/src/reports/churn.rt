@@ -60,7 +60,7 @@ fn put_optional_time<W: Sink>(text: &mut TextBuffer, out: &mut W, time: Option<u
 impl Line for ChurnRow {
     ghost line = { churn_line };
 
-    fn touch(&self) -> usize {
+    fn prefetch(&self) -> usize {
         0
     }
 

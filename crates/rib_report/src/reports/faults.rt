@@ -132,7 +132,7 @@ fn put_fault<W: Sink>(text: &mut TextBuffer, out: &mut W, fault: Fault)
 impl Line for Damage {
     ghost line = { fault_line };
 
-    fn touch(&self) -> usize {
+    fn prefetch(&self) -> usize {
         0
     }
 

@@ -144,7 +144,7 @@ pub fn origins<M: PrefixMap<SharedRoute>>(
 impl Line for OriginRow {
     ghost line = { origin_line };
 
-    fn touch(&self) -> usize {
+    fn prefetch(&self) -> usize {
         0
     }
 

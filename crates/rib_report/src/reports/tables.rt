@@ -17,7 +17,7 @@ ghost use Rattle.rib_report.specs.Texts.{Writes};
 use crate::buffer::TextBuffer;
 use crate::fields::put_row;
 use crate::line::Line;
-use crate::write::write_lines;
+use crate::write::{NEAR_ROWS, next_rows, write_lines};
 use adj_rib::SharedRoute;
 use bgp_prefix::{Memory, PrefixMap, RouteKey};
 use bgp_update::PackedRoute;
@@ -69,12 +69,6 @@ pub fn table_rows<M: PrefixMap<SharedRoute>>(
     Ok(rows)
 }
 
-/// How many entries are prefetched together before their lines are added.
-const NEAR_ENTRIES: usize = 64;
-
-/// The same for entries that refer to a lot of data.
-const NEAR_LONG_ENTRIES: usize = 16;
-
 /// Returns the greatest number of entries in the table of any of these peers.
 fn max_entries<M: PrefixMap<SharedRoute>>(seats: &[Seated<M>]) -> usize
     ensures { result ≡ most_entries (map seat_of seats.now) }
@@ -86,21 +80,15 @@ fn max_entries<M: PrefixMap<SharedRoute>>(seats: &[Seated<M>]) -> usize
     most
 }
 
-/// Prefetches a little of what each entry refers to, and returns how many entries to prefetch next. Routes lie
-/// far apart in memory. Reads that don't wait for one another overlap, so the lines are then
-/// added from the processor's cache.
-fn touch_entries(entries: &[(RouteKey, &SharedRoute)]) -> usize
+/// Prefetches a little of what each entry refers to, and returns how many entries to prefetch next.
+fn prefetch_entries(entries: &[(RouteKey, &SharedRoute)]) -> usize
     ensures { 0 < result }
 {
-    let mut touched = 0usize;
+    let mut bytes = 0usize;
     for entry in entries {
-        touched = touched.saturating_add(touch_route(entry.1.route()));
+        bytes = bytes.saturating_add(prefetch_route(entry.1.route()));
     }
-    if touched > 128 * NEAR_ENTRIES {
-        NEAR_LONG_ENTRIES
-    } else {
-        NEAR_ENTRIES
-    }
+    next_rows(bytes)
 }
 
 /// Adds the lines of some entries of one peer.
@@ -127,14 +115,14 @@ fn put_entries<W: Sink>(
     ensures { Writes W.contents W.failure_count out.old text.old out.new text.new (reached_lines peer entries.now) }
 {
     let mut done = 0;
-    let mut near = NEAR_ENTRIES;
+    let mut near = NEAR_ROWS;
     while done < entries.len() {
         if text.has_failed() {
             return;
         }
         let end = entries.len().min(done.saturating_add(near));
         let block = &entries[done..end];
-        near = touch_entries(block);
+        near = prefetch_entries(block);
         put_block(text, out, peer, block);
         done = end;
     }
@@ -197,7 +185,7 @@ pub fn list_tables<M: PrefixMap<SharedRoute>, W: Sink>(
 }
 
 /// Prefetches a route by reading its first and its last byte, and returns about how many bytes it has.
-fn touch_route(route: &PackedRoute) -> usize {
+fn prefetch_route(route: &PackedRoute) -> usize {
     let bytes = route.as_bytes();
     let last = match bytes.last() {
         Some(byte) => *byte >= 128,
@@ -211,8 +199,8 @@ fn touch_route(route: &PackedRoute) -> usize {
 impl Line for TableRow<'_> {
     ghost line = { λ row. route_line (table_row row) };
 
-    fn touch(&self) -> usize {
-        touch_route(self.route)
+    fn prefetch(&self) -> usize {
+        prefetch_route(self.route)
     }
 
     fn put<W: Sink>(&self, text: &mut TextBuffer, out: &mut W) {

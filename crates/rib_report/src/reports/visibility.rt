@@ -128,7 +128,7 @@ pub fn visibility<M: PrefixMap<SharedRoute>>(
 impl Line for SeenRow {
     ghost line = { visibility_line };
 
-    fn touch(&self) -> usize {
+    fn prefetch(&self) -> usize {
         0
     }
 

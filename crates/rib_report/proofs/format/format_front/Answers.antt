@@ -1,7 +1,7 @@
 use Rattle.std.proofs.Common.{◌≡◌, ◌∙◌, ◌++◌, ◌+◌, ◌-◌, ap, take, length, arith, rules}
 use borrow.Rule.Slice.PartMut.{put_mid}
 use Rattle.rib_report.proofs.TextLaws.{take-front_put}
-use Rattle.rib_report.proofs.place.place_front.Goals as goal
+use Rattle.rib_report.proofs.format.format_front.Goals as goal
 
 pub returns : goal.returns
 returns c =
