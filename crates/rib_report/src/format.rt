@@ -234,55 +234,101 @@ fn format_ipv6_pair(bytes: &mut [u8], at: usize, global: u128, local: u128) -> u
     format_ipv6(bytes, at, local)
 }
 
-fn format_hop(bytes: &mut [u8], at: usize, shorts: &ShortTexts, hop: NextHop) -> usize
-    requires { at + 79 ≤ length bytes.old }
-    ensures { Formats bytes.old at bytes.new result 79 (next_hop_text hop) }
-{
-    match hop {
-        NextHop::V4(addr) => format_ipv4(bytes, at, shorts, addr),
-        NextHop::V6(addr) => format_ipv6(bytes, at, addr),
-        NextHop::V6Pair(global, local) => format_ipv6_pair(bytes, at, global, local),
-    }
+/// The value of a path attribute, as the line of a route shows it.
+trait AttributeValue: Copy {
+    /// Its text.
+    ghost text_of: { Self → List ℕ };
+
+    /// The greatest length of its text.
+    ghost longest: { ℕ };
+
+    /// Writes the text. There has to be room for one byte more than the longest text.
+    fn format(self, bytes: &mut [u8], at: usize, shorts: &ShortTexts) -> usize
+        requires { at + longest < length bytes.old }
+        ensures { Formats bytes.old at bytes.new result longest (text_of self) };
+
+    /// The longest text isn't empty.
+    ghost some: { 1 ≤ longest };
 }
 
-fn format_next_hop(
+impl AttributeValue for u32 {
+    ghost use Rattle.std.proofs.Common.{rules};
+
+    ghost text_of = { decimal };
+
+    ghost longest = { 12 };
+
+    fn format(self, bytes: &mut [u8], at: usize, shorts: &ShortTexts) -> usize {
+        format_number(bytes, at, shorts, self)
+    }
+
+    ghost some = { Prim.search rules };
+}
+
+impl AttributeValue for NextHop {
+    ghost use Rattle.std.proofs.Common.{rules};
+
+    ghost text_of = { next_hop_text };
+
+    ghost longest = { 79 };
+
+    fn format(self, bytes: &mut [u8], at: usize, shorts: &ShortTexts) -> usize {
+        match self {
+            NextHop::V4(addr) => format_ipv4(bytes, at, shorts, addr),
+            NextHop::V6(addr) => format_ipv6(bytes, at, addr),
+            NextHop::V6Pair(global, local) => format_ipv6_pair(bytes, at, global, local),
+        }
+    }
+
+    ghost some = { Prim.search rules };
+}
+
+impl AttributeValue for Origin {
+    ghost use Rattle.std.proofs.Common.{rules};
+
+    ghost text_of = { origin_text };
+
+    ghost longest = { 10 };
+
+    fn format(self, bytes: &mut [u8], at: usize, _shorts: &ShortTexts) -> usize {
+        match self {
+            Origin::Igp => format_text(bytes, at, b"IGP"),
+            Origin::Egp => format_text(bytes, at, b"EGP"),
+            Origin::Incomplete => format_text(bytes, at, b"INCOMPLETE"),
+        }
+    }
+
+    ghost some = { Prim.search rules };
+}
+
+impl AttributeValue for Aggregator {
+    ghost use Rattle.std.proofs.Common.{rules};
+
+    ghost text_of = { aggregator_text };
+
+    ghost longest = { 28 };
+
+    fn format(self, bytes: &mut [u8], at: usize, shorts: &ShortTexts) -> usize {
+        let at = format_number(bytes, at, shorts, self.asn);
+        let at = format_byte(bytes, at, b' ');
+        format_ipv4(bytes, at, shorts, self.addr)
+    }
+
+    ghost some = { Prim.search rules };
+}
+
+/// Writes the value of an attribute, or `-` where the route doesn't have it.
+fn format_attribute<V: AttributeValue>(
     bytes: &mut [u8],
     at: usize,
     shorts: &ShortTexts,
-    next_hop: Option<NextHop>,
+    value: Option<V>,
 ) -> usize
-    requires { at + 79 ≤ length bytes.old }
-    ensures { Formats bytes.old at bytes.new result 79 (field next_hop_text next_hop) }
+    requires { at + V.longest < length bytes.old }
+    ensures { Formats bytes.old at bytes.new result V.longest (field V.text_of value) }
 {
-    match next_hop {
-        Some(hop) => format_hop(bytes, at, shorts, hop),
-        None => format_absent(bytes, at),
-    }
-}
-
-fn format_origin(bytes: &mut [u8], at: usize, origin: Option<Origin>) -> usize
-    requires { at + 10 ≤ length bytes.old }
-    ensures { Formats bytes.old at bytes.new result 10 (field origin_text origin) }
-{
-    match origin {
-        Some(Origin::Igp) => format_text(bytes, at, b"IGP"),
-        Some(Origin::Egp) => format_text(bytes, at, b"EGP"),
-        Some(Origin::Incomplete) => format_text(bytes, at, b"INCOMPLETE"),
-        None => format_absent(bytes, at),
-    }
-}
-
-fn format_optional_number(
-    bytes: &mut [u8],
-    at: usize,
-    shorts: &ShortTexts,
-    number: Option<u32>,
-) -> usize
-    requires { at + 13 ≤ length bytes.old }
-    ensures { Formats bytes.old at bytes.new result 12 (field decimal number) }
-{
-    match number {
-        Some(number) => format_number(bytes, at, shorts, number),
+    match value {
+        Some(value) => value.format(bytes, at, shorts),
         None => format_absent(bytes, at),
     }
 }
@@ -298,30 +344,6 @@ fn format_atomic(bytes: &mut [u8], at: usize, atomic: bool) -> usize
     }
 }
 
-fn format_pair(bytes: &mut [u8], at: usize, shorts: &ShortTexts, aggregator: Aggregator) -> usize
-    requires { at + 29 ≤ length bytes.old }
-    ensures { Formats bytes.old at bytes.new result 28 (aggregator_text aggregator) }
-{
-    let at = format_number(bytes, at, shorts, aggregator.asn);
-    let at = format_byte(bytes, at, b' ');
-    format_ipv4(bytes, at, shorts, aggregator.addr)
-}
-
-fn format_aggregator(
-    bytes: &mut [u8],
-    at: usize,
-    shorts: &ShortTexts,
-    aggregator: Option<Aggregator>,
-) -> usize
-    requires { at + 29 ≤ length bytes.old }
-    ensures { Formats bytes.old at bytes.new result 28 (field aggregator_text aggregator) }
-{
-    match aggregator {
-        Some(aggregator) => format_pair(bytes, at, shorts, aggregator),
-        None => format_absent(bytes, at),
-    }
-}
-
 /// Writes the fields of a route that follow its path, and the end of the line.
 pub(crate) fn format_attributes(
     bytes: &mut [u8],
@@ -332,17 +354,17 @@ pub(crate) fn format_attributes(
     requires { at + 153 ≤ length bytes.old }
     ensures { Formats bytes.old at bytes.new result 153 (attributes_text route.now) }
 {
-    let at = format_next_hop(bytes, at, shorts, route.next_hop());
+    let at = format_attribute(bytes, at, shorts, route.next_hop());
     let at = format_byte(bytes, at, b'|');
-    let at = format_origin(bytes, at, route.origin());
+    let at = format_attribute(bytes, at, shorts, route.origin());
     let at = format_byte(bytes, at, b'|');
-    let at = format_optional_number(bytes, at, shorts, route.med());
+    let at = format_attribute(bytes, at, shorts, route.med());
     let at = format_byte(bytes, at, b'|');
-    let at = format_optional_number(bytes, at, shorts, route.local_pref());
+    let at = format_attribute(bytes, at, shorts, route.local_pref());
     let at = format_byte(bytes, at, b'|');
     let at = format_atomic(bytes, at, route.atomic());
     let at = format_byte(bytes, at, b'|');
-    let at = format_aggregator(bytes, at, shorts, route.aggregator());
+    let at = format_attribute(bytes, at, shorts, route.aggregator());
     format_byte(bytes, at, b'\n')
 }
 
