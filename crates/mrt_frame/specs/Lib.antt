@@ -1,4 +1,5 @@
 pub mod Devices
+pub mod Faults
 pub mod Cuts
 pub mod Frames
 pub mod Cutting

@@ -4,8 +4,7 @@ use Rattle.std.specs.List.{join_with_byte}
 use Rattle.rib_report.specs.Digits.{line, field, time_text, ipv4_text, ipv6_text, numbers_text}
 use Rattle.bgp_prefix.specs.Prefixes.{IpPrefix}
 use Rattle.bgp_prefix.specs.declared.key.RouteKey.{RouteKey}
-use Rattle.mrt_frame.specs.declared.fault.Fault.{Fault}
-use Rattle.mrt_frame.specs.declared.fault.Fault.TheVariants.{ShortHeader, ShortBody, BodyTooLong, ShortRecord, TrailingBytes, BadFamily, NoPeerIndex, BadPeerIndex, BadPrefix, BadMarker, BadLength, BadUpdate, ShortAttribute, BadAttribute, BadPath}
+use Rattle.mrt_frame.specs.Faults.{fault_number, fault_name}
 use Rattle.bgp_update.specs.declared.path.SegmentKind.{SegmentKind}
 use Rattle.bgp_update.specs.declared.path.SegmentKind.TheVariants.{AsSet, AsSequence, ConfedSequence, ConfedSet}
 use Rattle.bgp_update.specs.declared.next_hop.NextHop.{NextHop}
@@ -98,40 +97,6 @@ churn_line row = line (peer_text row.peer ∷ decimal row.churn.added ∷ decima
     ∷ decimal row.churn.resets ∷ decimal row.churn.idle ∷ decimal row.churn.refused ∷ field time_text row.churn.first ∷ field time_text row.churn.last ∷ [])
 
 -- ---- faults
-
-abbrev pub fault_number : Fault → ℕ
-fault_number ShortHeader = 1
-fault_number ShortBody = 2
-fault_number BodyTooLong = 3
-fault_number ShortRecord = 4
-fault_number TrailingBytes = 5
-fault_number BadFamily = 6
-fault_number NoPeerIndex = 7
-fault_number BadPeerIndex = 8
-fault_number BadPrefix = 9
-fault_number BadMarker = 10
-fault_number BadLength = 11
-fault_number BadUpdate = 12
-fault_number ShortAttribute = 13
-fault_number (BadAttribute code) = 14
-fault_number BadPath = 15
-
-abbrev pub fault_name : Fault → List ℕ
-fault_name ShortHeader = codes "ShortHeader"
-fault_name ShortBody = codes "ShortBody"
-fault_name BodyTooLong = codes "BodyTooLong"
-fault_name ShortRecord = codes "ShortRecord"
-fault_name TrailingBytes = codes "TrailingBytes"
-fault_name BadFamily = codes "BadFamily"
-fault_name NoPeerIndex = codes "NoPeerIndex"
-fault_name BadPeerIndex = codes "BadPeerIndex"
-fault_name BadPrefix = codes "BadPrefix"
-fault_name BadMarker = codes "BadMarker"
-fault_name BadLength = codes "BadLength"
-fault_name BadUpdate = codes "BadUpdate"
-fault_name ShortAttribute = codes "ShortAttribute"
-fault_name (BadAttribute code) = codes "BadAttribute(" ++ decimal code ++ codes ")"
-fault_name BadPath = codes "BadPath"
 
 -- file from 1, offset, entry, number and name
 abbrev pub fault_line : Damage → List ℕ

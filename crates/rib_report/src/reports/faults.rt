@@ -5,12 +5,13 @@ ghost use Rattle.std.specs.Prelude.{◌≡◌, ◌+◌, ◌++◌, IfOk, OnOk, On
 ghost use Rattle.std.specs.List.{flat_map};
 ghost use Rattle.std.specs.Io.KnownBytes.{Appends};
 ghost use Rattle.mrt_frame.specs.Devices.{HasFailed};
+ghost use Rattle.mrt_frame.specs.Faults.{fault_number, fault_name};
 ghost use Rattle.mrt_frame.specs.Writes.{WritesFront};
 ghost use Rattle.mrt_frame.specs.declared.error.ReplayError.TheVariants as errors;
 ghost use Rattle.peer_tables.specs.Tables.{all_faults};
 ghost use Rattle.rib_report.specs.Reports.{fault_rows};
 ghost use Rattle.rib_report.specs.Digits.{field};
-ghost use Rattle.rib_report.specs.Lines.{fault_number, fault_name, fault_line};
+ghost use Rattle.rib_report.specs.Lines.{fault_line};
 ghost use Rattle.rib_report.specs.Texts.{Writes};
 
 use crate::buffer::TextBuffer;
@@ -67,65 +68,29 @@ fn put_entry<W: Sink>(text: &mut TextBuffer, out: &mut W, entry: Option<u16>)
     }
 }
 
-/// Adds a fault that concerns an attribute of a given type.
-fn put_attribute_fault<W: Sink>(text: &mut TextBuffer, out: &mut W, code: u8)
-    ensures { Writes W.contents W.failure_count out.old text.old out.new text.new (codes "BadAttribute(" ++ decimal code ++ codes ")") }
-{
-    text.put(out, b"BadAttribute(");
-    text.put_number(out, code as u64);
-    text.put_byte(out, b')');
-}
-
-/// Returns the number of a fault.
-fn number_of(fault: Fault) -> u64
-    ensures { result ≡ fault_number fault }
-{
-    match fault {
-        Fault::ShortHeader => 1,
-        Fault::ShortBody => 2,
-        Fault::BodyTooLong => 3,
-        Fault::ShortRecord => 4,
-        Fault::TrailingBytes => 5,
-        Fault::BadFamily => 6,
-        Fault::NoPeerIndex => 7,
-        Fault::BadPeerIndex => 8,
-        Fault::BadPrefix => 9,
-        Fault::BadMarker => 10,
-        Fault::BadLength => 11,
-        Fault::BadUpdate => 12,
-        Fault::ShortAttribute => 13,
-        Fault::BadAttribute(_) => 14,
-        Fault::BadPath => 15,
-    }
-}
-
 /// Adds the number of a fault.
 fn put_fault_number<W: Sink>(text: &mut TextBuffer, out: &mut W, fault: Fault)
     ensures { Writes W.contents W.failure_count out.old text.old out.new text.new (decimal (fault_number fault)) }
 {
-    text.put_number(out, number_of(fault));
+    text.put_number(out, fault.number() as u64);
+}
+
+/// Adds the type of an attribute, in parentheses.
+fn put_attribute_type<W: Sink>(text: &mut TextBuffer, out: &mut W, code: u8)
+    ensures { Writes W.contents W.failure_count out.old text.old out.new text.new (codes "(" ++ decimal code ++ codes ")") }
+{
+    text.put_byte(out, b'(');
+    text.put_number(out, code as u64);
+    text.put_byte(out, b')');
 }
 
 /// Adds the name of a fault.
 fn put_fault<W: Sink>(text: &mut TextBuffer, out: &mut W, fault: Fault)
     ensures { Writes W.contents W.failure_count out.old text.old out.new text.new (fault_name fault) }
 {
-    match fault {
-        Fault::ShortHeader => text.put(out, b"ShortHeader"),
-        Fault::ShortBody => text.put(out, b"ShortBody"),
-        Fault::BodyTooLong => text.put(out, b"BodyTooLong"),
-        Fault::ShortRecord => text.put(out, b"ShortRecord"),
-        Fault::TrailingBytes => text.put(out, b"TrailingBytes"),
-        Fault::BadFamily => text.put(out, b"BadFamily"),
-        Fault::NoPeerIndex => text.put(out, b"NoPeerIndex"),
-        Fault::BadPeerIndex => text.put(out, b"BadPeerIndex"),
-        Fault::BadPrefix => text.put(out, b"BadPrefix"),
-        Fault::BadMarker => text.put(out, b"BadMarker"),
-        Fault::BadLength => text.put(out, b"BadLength"),
-        Fault::BadUpdate => text.put(out, b"BadUpdate"),
-        Fault::ShortAttribute => text.put(out, b"ShortAttribute"),
-        Fault::BadAttribute(code) => put_attribute_fault(text, out, code),
-        Fault::BadPath => text.put(out, b"BadPath"),
+    text.put(out, fault.name().as_bytes());
+    if let Fault::BadAttribute(code) = fault {
+        put_attribute_type(text, out, code);
     }
 }
 

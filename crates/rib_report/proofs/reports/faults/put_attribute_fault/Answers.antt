@@ -1,5 +1,0 @@
-use Rattle.rib_report.proofs.TextLaws.{Adds_trans}
-use Rattle.rib_report.proofs.reports.faults.put_attribute_fault.Goals as goal
-
-pub returns : goal.returns
-returns g c = Adds_trans c.put.ensures (Adds_trans c.put_number.ensures c.put_byte.ensures)
