@@ -73,13 +73,16 @@ atomic_text atomic = if atomic then codes "atomic" else codes "-"
 
 -- peer, key, path, next hop, origin, MED, LOCAL_PREF, atomic, aggregator
 abbrev pub route_line : TableRow → List ℕ
-route_line row = line (peer_text row.peer ∷ key_text row.key ∷ field path_text row.route.path ∷ field next_hop_text row.route.next_hop ∷ field origin_text row.route.origin
-    ∷ field decimal row.route.med ∷ field decimal row.route.local_pref ∷ atomic_text row.route.atomic ∷ field aggregator_text row.route.aggregator ∷ [])
+route_line row = line (peer_text row.peer ∷ key_text row.key
+    ∷ field path_text row.route.path ∷ field next_hop_text row.route.next_hop ∷ field origin_text row.route.origin
+    ∷ field decimal row.route.med ∷ field decimal row.route.local_pref
+    ∷ atomic_text row.route.atomic ∷ field aggregator_text row.route.aggregator ∷ [])
 
 -- what stands behind a route's path, and the end of the line
 abbrev pub attributes_text : Route → List ℕ
-attributes_text route = line (field next_hop_text route.next_hop ∷ field origin_text route.origin ∷ field decimal route.med ∷ field decimal route.local_pref ∷ atomic_text route.atomic
-    ∷ field aggregator_text route.aggregator ∷ [])
+attributes_text route = line (field next_hop_text route.next_hop ∷ field origin_text route.origin
+    ∷ field decimal route.med ∷ field decimal route.local_pref
+    ∷ atomic_text route.atomic ∷ field aggregator_text route.aggregator ∷ [])
 
 -- what stands behind a route's peer, and the end of the line
 abbrev pub route_text : RouteKey → Route → List ℕ
@@ -93,11 +96,14 @@ origin_line row = line (prefix_text row.prefix ∷ numbers_text 32 row.origins �
 
 -- peer, new, changed, same, gone, void, resets, idle, refused, first and last time
 abbrev pub churn_line : ChurnRow → List ℕ
-churn_line row = line (peer_text row.peer ∷ decimal row.churn.added ∷ decimal row.churn.changed ∷ decimal row.churn.same ∷ decimal row.churn.gone ∷ decimal row.churn.void
-    ∷ decimal row.churn.resets ∷ decimal row.churn.idle ∷ decimal row.churn.refused ∷ field time_text row.churn.first ∷ field time_text row.churn.last ∷ [])
+churn_line row = line (peer_text row.peer
+    ∷ decimal row.churn.added ∷ decimal row.churn.changed ∷ decimal row.churn.same ∷ decimal row.churn.gone
+    ∷ decimal row.churn.void ∷ decimal row.churn.resets ∷ decimal row.churn.idle ∷ decimal row.churn.refused
+    ∷ field time_text row.churn.first ∷ field time_text row.churn.last ∷ [])
 
 -- ---- faults
 
 -- file from 1, offset, entry, number and name
 abbrev pub fault_line : Damage → List ℕ
-fault_line d = line (decimal (d.place.file + 1) ∷ decimal d.place.offset ∷ field decimal d.place.entry ∷ decimal (fault_number d.fault) ∷ fault_name d.fault ∷ [])
+fault_line d = line (decimal (d.place.file + 1) ∷ decimal d.place.offset ∷ field decimal d.place.entry
+    ∷ decimal (fault_number d.fault) ∷ fault_name d.fault ∷ [])

@@ -45,7 +45,8 @@ matches_entry addr e = contains e.0.prefix addr
 
 -- the other entry's prefix is the same, is shorter, or doesn't contain the address
 abbrev pub yields : ℕ → RouteKey × Route → RouteKey × Route → Bool
-yields addr e other = not (matches_entry addr other) || (prefix_eq e.0.prefix other.0.prefix || nat_lt other.0.prefix.len e.0.prefix.len)
+yields addr e other =
+    not (matches_entry addr other) || (prefix_eq e.0.prefix other.0.prefix || nat_lt other.0.prefix.len e.0.prefix.len)
 
 -- its prefix contains the address, and every other prefix of the table that does is shorter
 abbrev pub is_longest : ℕ → List (RouteKey × Route) → RouteKey × Route → Bool
@@ -105,7 +106,8 @@ table_origins tables = flat_map seat_origins tables.seats
 
 -- the set of the origin ASes of a prefix's routes, ascending
 abbrev pub origins_among : List (IpPrefix × ℕ) → IpPrefix → OriginRow
-origins_among pairs p = record { prefix = p; origins = in_order nat_cmp (map (λ e. e.1) (filter (λ e. prefix_eq p e.0) pairs)) }
+origins_among pairs p =
+    record { prefix = p; origins = in_order nat_cmp (map (λ e. e.1) (filter (λ e. prefix_eq p e.0) pairs)) }
 
 -- the set of the origin ASes of a prefix's routes at all peers, ascending
 abbrev pub origins_of : TablesState → IpPrefix → List ℕ
@@ -134,7 +136,9 @@ churn_rows tables = map peer_churn tables.seats
 
 -- by file, offset and entry, none first
 abbrev pub place_cmp : Place → Place → Ordering
-place_cmp a b = ordering_then (nat_cmp a.file b.file) (ordering_then (nat_cmp a.offset b.offset) (option_cmp nat_cmp a.entry b.entry))
+place_cmp a b =
+    ordering_then (nat_cmp a.file b.file)
+    (ordering_then (nat_cmp a.offset b.offset) (option_cmp nat_cmp a.entry b.entry))
 
 -- behind those that stand earlier
 abbrev pub placed : Damage → List Damage → List Damage

@@ -30,7 +30,8 @@ unit_routes units = flat_map (λ q. map (entry_row q) (table_at units q)) (peers
 
 -- at each peer, all entries of the longest match (RFC 1812, 5.2.4.3)
 abbrev pub unit_matches : List ReplayUnit → ℕ → List TableRow
-unit_matches units addr = flat_map (λ q. map (entry_row q) (filter (is_longest addr (table_at units q)) (table_at units q))) (peers_of units)
+unit_matches units addr =
+    flat_map (λ q. map (entry_row q) (filter (is_longest addr (table_at units q)) (table_at units q))) (peers_of units)
 
 abbrev pub prefixes_at : List ReplayUnit → PeerKey → List IpPrefix
 prefixes_at units q = map (λ e. e.0.prefix) (table_at units q)
@@ -42,11 +43,13 @@ is_visible units p q = list_any (prefix_eq p) (prefixes_at units q)
 -- each prefix of any table once, in order, and at how many peers it is visible
 abbrev pub unit_visibility : List ReplayUnit → List SeenRow
 unit_visibility units =
-    map (λ p. record { prefix = p; peers = count_by (is_visible units p) (peers_of units) }) (in_order prefix_cmp (flat_map (prefixes_at units) (peers_of units)))
+    map (λ p. record { prefix = p; peers = count_by (is_visible units p) (peers_of units) })
+    (in_order prefix_cmp (flat_map (prefixes_at units) (peers_of units)))
 
 -- the prefixes with at least two different origins, over all peers
 abbrev pub unit_origins : List ReplayUnit → List OriginRow
-unit_origins units = filter has_several (grouped_origins (flat_map (λ q. filter_map origin_pair (table_at units q)) (peers_of units)))
+unit_origins units =
+    filter has_several (grouped_origins (flat_map (λ q. filter_map origin_pair (table_at units q)) (peers_of units)))
 
 -- what each peer's own units did
 abbrev pub unit_churn : List ReplayUnit → List ChurnRow
@@ -54,7 +57,8 @@ unit_churn units = map (λ q. record { peer = q; churn = churn_of (units_of_peer
 
 -- the refusals and every peer's damaged units, in place order
 abbrev pub unit_faults : List ReplayUnit → List Damage → List Damage
-unit_faults units refused = in_place_order (refused ++ flat_map (λ q. damaged_of (units_of_peer units q)) (peers_of units))
+unit_faults units refused =
+    in_place_order (refused ++ flat_map (λ q. damaged_of (units_of_peer units q)) (peers_of units))
 
 -- Each report on the tables has the rows of the report over units and refusals.
 pub record HasReportsOf (units : List ReplayUnit) (refused : List Damage) (tables : TablesState) : Type 0 where

@@ -196,8 +196,12 @@ impl TextBuffer {
 
     /// Passes on all pending bytes, and reports whether a write failed.
     pub(crate) fn finish<W: Sink>(&mut self, out: &mut W) -> Result<(), Failed>
-        ensures ok { (contents : Option (List ℕ)) (failures : ℕ) (text : List ℕ) → IsText contents failures (text_state W.contents W.failure_count out.old self.old) text → OnOk result (IsWritten contents failures (W.contents out.new) (W.failure_count out.new) text) }
-        ensures err { (contents : Option (List ℕ)) (failures : ℕ) (text : List ℕ) → IsText contents failures (text_state W.contents W.failure_count out.old self.old) text → OnErr result (IsCutOff contents failures (W.contents out.new) (W.failure_count out.new) text) }
+        ensures ok { (contents : Option (List ℕ)) (failures : ℕ) (text : List ℕ) →
+            IsText contents failures (text_state W.contents W.failure_count out.old self.old) text →
+            OnOk result (IsWritten contents failures (W.contents out.new) (W.failure_count out.new) text) }
+        ensures err { (contents : Option (List ℕ)) (failures : ℕ) (text : List ℕ) →
+            IsText contents failures (text_state W.contents W.failure_count out.old self.old) text →
+            OnErr result (IsCutOff contents failures (W.contents out.new) (W.failure_count out.new) text) }
     {
         self.hand_on(out);
         if self.failed {

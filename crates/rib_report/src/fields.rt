@@ -40,7 +40,8 @@ fn put_enclosed<W: Sink>(
     segment: &PackedSegment<'_>,
     closing: u8,
 )
-    ensures { Writes W.contents W.failure_count out.old text.old out.new text.new (opening ∷ numbers_text separator segment.now.numbers ++ closing ∷ []) }
+    ensures { Writes W.contents W.failure_count out.old text.old out.new text.new
+        (opening ∷ numbers_text separator segment.now.numbers ++ closing ∷ []) }
 {
     text.put_byte(out, opening);
     text.put_segment_numbers(out, separator, segment);
@@ -48,7 +49,8 @@ fn put_enclosed<W: Sink>(
 }
 
 fn put_segment<W: Sink>(text: &mut TextBuffer, out: &mut W, segment: &PackedSegment<'_>)
-    ensures { Writes W.contents W.failure_count out.old text.old out.new text.new (kind_text segment.now.kind segment.now.numbers) }
+    ensures { Writes W.contents W.failure_count out.old text.old out.new text.new
+        (kind_text segment.now.kind segment.now.numbers) }
 {
     match segment.kind() {
         SegmentKind::AsSequence => text.put_segment_numbers(out, b' ', segment),
@@ -107,7 +109,8 @@ pub(crate) fn put_row<W: Sink>(
     key: &RouteKey,
     route: &PackedRoute,
 )
-    ensures { Writes W.contents W.failure_count out.old text.old out.new text.new (route_line (record { peer = peer.now; key = key.now; route = route.now })) }
+    ensures { Writes W.contents W.failure_count out.old text.old out.new text.new
+        (route_line (record { peer = peer.now; key = key.now; route = route.now })) }
 {
     put_peer(text, out, peer);
     text.put_byte(out, b'|');

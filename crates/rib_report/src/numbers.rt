@@ -50,7 +50,8 @@ impl TextBuffer {
 
     /// Adds numbers in decimal, separated by a byte.
     pub(crate) fn put_numbers<W: Sink>(&mut self, out: &mut W, separator: u8, numbers: &[u32])
-        ensures { Writes W.contents W.failure_count out.old self.old out.new self.new (numbers_text separator numbers.now) }
+        ensures { Writes W.contents W.failure_count out.old self.old out.new self.new
+            (numbers_text separator numbers.now) }
     {
         let [first, rest @ ..] = numbers else {
             return;
@@ -69,7 +70,8 @@ impl TextBuffer {
         separator: u8,
         segment: &PackedSegment<'_>,
     )
-        ensures { Writes W.contents W.failure_count out.old self.old out.new self.new (numbers_text separator segment.now.numbers) }
+        ensures { Writes W.contents W.failure_count out.old self.old out.new self.new
+            (numbers_text separator segment.now.numbers) }
     {
         let count = segment.len();
         if count == 0 {

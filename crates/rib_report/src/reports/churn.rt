@@ -94,7 +94,8 @@ impl Line for ChurnRow {
 /// Writes the rows of `churn`. If it returns `Write`, a leading part of the text has been written.
 pub fn write_churn<W: Sink>(out: &mut W, rows: &[ChurnRow]) -> Result<(), ReplayError>
     ensures ok { OnOk result (Appends (W.contents out.old) (W.contents out.new) (flat_map churn_line rows.now)) }
-    ensures front { OnErr result (WritesFront (W.contents out.old) (W.contents out.new) (flat_map churn_line rows.now)) }
+    ensures front { OnErr result (WritesFront (W.contents out.old) (W.contents out.new)
+        (flat_map churn_line rows.now)) }
     ensures write { IsErr result → result ≡ Err errors.Write }
     ensures sound { OnOk result (W.failure_count out.new ≡ W.failure_count out.old) }
     ensures risen { OnErr result (HasFailed (W.failure_count out.old) (W.failure_count out.new)) }

@@ -77,7 +77,8 @@ fn put_fault_number<W: Sink>(text: &mut TextBuffer, out: &mut W, fault: Fault)
 
 /// Adds the type of an attribute, in parentheses.
 fn put_attribute_type<W: Sink>(text: &mut TextBuffer, out: &mut W, code: u8)
-    ensures { Writes W.contents W.failure_count out.old text.old out.new text.new (codes "(" ++ decimal code ++ codes ")") }
+    ensures { Writes W.contents W.failure_count out.old text.old out.new text.new
+        (codes "(" ++ decimal code ++ codes ")") }
 {
     text.put_byte(out, b'(');
     text.put_number(out, code as u64);
@@ -118,7 +119,8 @@ impl Line for Damage {
 /// Writes the rows of `faults`. If it returns `Write`, a leading part of the text has been written.
 pub fn write_faults<W: Sink>(out: &mut W, rows: &[Damage]) -> Result<(), ReplayError>
     ensures ok { OnOk result (Appends (W.contents out.old) (W.contents out.new) (flat_map fault_line rows.now)) }
-    ensures front { OnErr result (WritesFront (W.contents out.old) (W.contents out.new) (flat_map fault_line rows.now)) }
+    ensures front { OnErr result (WritesFront (W.contents out.old) (W.contents out.new)
+        (flat_map fault_line rows.now)) }
     ensures write { IsErr result → result ≡ Err errors.Write }
     ensures sound { OnOk result (W.failure_count out.new ≡ W.failure_count out.old) }
     ensures risen { OnErr result (HasFailed (W.failure_count out.old) (W.failure_count out.new)) }

@@ -20,7 +20,8 @@ fn add_paths<'a, M: PrefixMap<SharedRoute>>(
     seat: &'a Seated<M>,
     prefix: Prefix,
 ) -> Result<(), Memory>
-    ensures { OnOk result (map table_row rows.new.items ≡ map table_row rows.old.items ++ map (path_row seat.now.key prefix) (paths_of prefix (seat_of seat.now).session.table)) }
+    ensures { OnOk result (map table_row rows.new.items ≡ map table_row rows.old.items
+        ++ map (path_row seat.now.key prefix) (paths_of prefix (seat_of seat.now).session.table)) }
 {
     let peer = seat.key;
     let paths = seat.session.table().paths(alloc, &prefix)?;
@@ -42,7 +43,8 @@ fn add_matches<'a, M: PrefixMap<SharedRoute>>(
     seat: &'a Seated<M>,
     addr: u32,
 ) -> Result<(), Memory>
-    ensures { OnOk result (map table_row rows.new.items ≡ map table_row rows.old.items ++ matches_of_seat addr (seat_of seat.now)) }
+    ensures { OnOk result (map table_row rows.new.items ≡ map table_row rows.old.items
+        ++ matches_of_seat addr (seat_of seat.now)) }
 {
     match seat.session.table().longest(addr) {
         Some(prefix) => add_paths(alloc, rows, seat, prefix),

@@ -40,7 +40,8 @@ fn add_entries<'a, M: PrefixMap<SharedRoute>>(
     rows: &mut Vec<TableRow<'a>>,
     seat: &'a Seated<M>,
 ) -> Result<(), Memory>
-    ensures { OnOk result (map table_row rows.new.items ≡ map table_row rows.old.items ++ rows_of_seat (seat_of seat.now)) }
+    ensures { OnOk result (map table_row rows.new.items ≡ map table_row rows.old.items
+        ++ rows_of_seat (seat_of seat.now)) }
 {
     let peer = seat.key;
     let entries = seat.session.table().entries(alloc)?;
@@ -136,7 +137,8 @@ fn put_table<'a, M: PrefixMap<SharedRoute>, W: Sink>(
     seat: &'a Seated<M>,
 )
     requires { length (seat_of seat.now).session.table ≤ vec_capacity all.old }
-    ensures lines { Writes W.contents W.failure_count out.old text.old out.new text.new (seat_lines (seat_of seat.now)) }
+    ensures lines { Writes W.contents W.failure_count out.old text.old out.new text.new
+        (seat_lines (seat_of seat.now)) }
     ensures capacity { vec_capacity all.new ≡ vec_capacity all.old }
 {
     all.clear();
@@ -152,7 +154,8 @@ fn put_tables<'a, M: PrefixMap<SharedRoute>, W: Sink>(
     seats: &'a [Seated<M>],
 )
     requires { most_entries (map seat_of seats.now) ≤ vec_capacity all }
-    ensures { Writes W.contents W.failure_count out.old text.old out.new text.new (flat_map seat_lines (map seat_of seats.now)) }
+    ensures { Writes W.contents W.failure_count out.old text.old out.new text.new
+        (flat_map seat_lines (map seat_of seats.now)) }
 {
     for seat in seats {
         put_table(text, out, &mut all, seat);
@@ -167,8 +170,10 @@ pub fn list_tables<M: PrefixMap<SharedRoute>, W: Sink>(
     out: &mut W,
     tables: &Tables<M>,
 ) -> Result<(), ReplayError>
-    ensures ok { OnOk result (Appends (W.contents out.old) (W.contents out.new) (flat_map route_line (route_rows tables.now))) }
-    ensures front { OnErr result (WritesFront (W.contents out.old) (W.contents out.new) (flat_map route_line (route_rows tables.now))) }
+    ensures ok { OnOk result (Appends (W.contents out.old) (W.contents out.new)
+        (flat_map route_line (route_rows tables.now))) }
+    ensures front { OnErr result (WritesFront (W.contents out.old) (W.contents out.new)
+        (flat_map route_line (route_rows tables.now))) }
     ensures errors { IfErr result (λ e. (e ≡ errors.Memory) ⊎ (e ≡ errors.Write)) }
     ensures untouched { result ≡ Err errors.Memory → out.new ≡ out.old }
     ensures sound { OnOk result (W.failure_count out.new ≡ W.failure_count out.old) }
@@ -211,8 +216,10 @@ impl Line for TableRow<'_> {
 /// Writes the rows of `table_rows` or `matches`. If it returns `Write`, a leading part of the text has been
 /// written.
 pub fn write_rows<W: Sink>(out: &mut W, rows: &[TableRow<'_>]) -> Result<(), ReplayError>
-    ensures ok { OnOk result (Appends (W.contents out.old) (W.contents out.new) (flat_map (λ row. route_line (table_row row)) rows.now)) }
-    ensures front { OnErr result (WritesFront (W.contents out.old) (W.contents out.new) (flat_map (λ row. route_line (table_row row)) rows.now)) }
+    ensures ok { OnOk result (Appends (W.contents out.old) (W.contents out.new)
+        (flat_map (λ row. route_line (table_row row)) rows.now)) }
+    ensures front { OnErr result (WritesFront (W.contents out.old) (W.contents out.new)
+        (flat_map (λ row. route_line (table_row row)) rows.now)) }
     ensures write { IsErr result → result ≡ Err errors.Write }
     ensures sound { OnOk result (W.failure_count out.new ≡ W.failure_count out.old) }
     ensures risen { OnErr result (HasFailed (W.failure_count out.old) (W.failure_count out.new)) }

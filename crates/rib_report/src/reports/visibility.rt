@@ -49,7 +49,8 @@ fn add_prefixes<M: PrefixMap<SharedRoute>>(
     prefixes: &mut Vec<Prefix>,
     seat: &Seated<M>,
 ) -> Result<(), Memory>
-    ensures prefixes { OnOk result (prefixes.new.items ≡ prefixes.old.items ++ without_repeats (seat_prefixes (seat_of seat.now))) }
+    ensures prefixes { OnOk result
+        (prefixes.new.items ≡ prefixes.old.items ++ without_repeats (seat_prefixes (seat_of seat.now))) }
     ensures ordered { OnOk result (HasOrder (seat_of seat.now)) }
 {
     let entries = seat.session.table().entries(alloc)?;
@@ -69,7 +70,8 @@ fn all_prefixes<M: PrefixMap<SharedRoute>>(
     alloc: Global,
     tables: &Tables<M>,
 ) -> Result<Vec<Prefix>, Memory>
-    ensures prefixes { IfOk result (λ prefixes. prefixes.items ≡ flat_map (λ seat. without_repeats (seat_prefixes seat)) tables.now.seats) }
+    ensures prefixes { IfOk result
+        (λ prefixes. prefixes.items ≡ flat_map (λ seat. without_repeats (seat_prefixes seat)) tables.now.seats) }
     ensures ordered { OnOk result (AllByRecursion HasOrder tables.now.seats) }
 {
     let mut prefixes = Vec::new(alloc);
@@ -143,7 +145,8 @@ impl Line for SeenRow {
 /// Writes the rows of `visibility`. If it returns `Write`, a leading part of the text has been written.
 pub fn write_visibility<W: Sink>(out: &mut W, rows: &[SeenRow]) -> Result<(), ReplayError>
     ensures ok { OnOk result (Appends (W.contents out.old) (W.contents out.new) (flat_map visibility_line rows.now)) }
-    ensures front { OnErr result (WritesFront (W.contents out.old) (W.contents out.new) (flat_map visibility_line rows.now)) }
+    ensures front { OnErr result (WritesFront (W.contents out.old) (W.contents out.new)
+        (flat_map visibility_line rows.now)) }
     ensures write { IsErr result → result ≡ Err errors.Write }
     ensures sound { OnOk result (W.failure_count out.new ≡ W.failure_count out.old) }
     ensures risen { OnErr result (HasFailed (W.failure_count out.old) (W.failure_count out.new)) }
