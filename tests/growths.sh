@@ -13,8 +13,8 @@ tries() { # CRATE TEST..
   for name in "$@"; do echo "$top/crates/$crate/out/${crate}_tests" ./refuse.so memory-test 1 0 none "$name"; done
 }
 {
-  tries prefix_tests prefixes::a_refused_growth_leaves_the_flat_map prefixes::a_refused_growth_leaves_the_radix_map \
-    prefixes::a_refused_growth_leaves_the_shelf
+  tries prefix_tests prefixes::growths::a_refused_growth_leaves_the_flat_map prefixes::growths::a_refused_growth_leaves_the_radix_map \
+    prefixes::growths::a_refused_growth_leaves_the_shelf
   tries update_tests updates::paths::growths_of_a_path
   tries table_tests ribs::spent_after_a_refused_growth
   tries lane_tests growths::growths_of_rounds layers::collect_orders_by_number schedules::turns_one_by_one

@@ -25,7 +25,7 @@ fn addr(octets: [u8; 4]) -> u32 {
 }
 
 #[test]
-fn prefix_relations(rt: HostRuntime) {
+fn a_prefix_covers_longer_ones_and_sorts_by_address_and_length(rt: HostRuntime) {
     assert!(rt; Prefix::new(0, 33).is_none());
     let ten = prefix([10, 0, 0, 0], 8);
     let Some(inner) = Prefix::new(0x0A01_0000, 16) else {
@@ -39,7 +39,7 @@ fn prefix_relations(rt: HostRuntime) {
 }
 
 #[test]
-fn addresses_in_prefixes(rt: HostRuntime) {
+fn a_prefix_contains_the_addresses_that_share_its_bits(rt: HostRuntime) {
     for (octets, len, within, is_in) in [
         ([0, 0, 0, 0], 0, [0, 0, 0, 0], true),
         ([255, 255, 255, 255], 0, [255, 255, 255, 255], true),
@@ -152,7 +152,7 @@ fn calls_of<M: PrefixMap<u32> + Drop>(rt: &impl Abort, alloc: Global) {
 }
 
 #[test]
-fn calls_of_each_map(rt: HostRuntime) {
+fn each_map_holds_what_was_inserted_and_not_removed(rt: HostRuntime) {
     calls_of::<Flat<u32>>(&rt, rt.alloc());
     calls_of::<Radix<u32>>(&rt, rt.alloc());
     calls_of::<Shelf<u32>>(&rt, rt.alloc());
@@ -166,7 +166,7 @@ fn insert_all_ones<M: PrefixMap<u32>>(rt: &impl Abort, alloc: Global, map: &mut 
 }
 
 #[test]
-fn all_33_prefixes(rt: HostRuntime) {
+fn all_33_prefixes_of_an_address_take_33_steps(rt: HostRuntime) {
     let alloc = rt.alloc();
     let ones = addr([255, 255, 255, 255]);
     let mut map = <Radix<u32> as PrefixMap<u32>>::new(alloc);
