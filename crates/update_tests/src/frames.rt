@@ -1,18 +1,11 @@
 //! Records cut from readers, and writers.
 
+use fixtures::{body_of, bytes_of};
 use mrt_frame::*;
 use std::alloc::Global;
 use std::io;
 use std::io::{ErrorKind, Read, Write};
 use std::process::Abort;
-
-/// An UPDATE that announces 10.0.0.0/8, in a record of 77 bytes.
-const UPDATE: [u8; 77] = [
-    0, 0, 0, 1, 0, 16, 0, 4, 0, 0, 0, 65, 0, 0, 253, 232, 0, 0, 253, 233, 0, 0, 0, 1, 192, 0, 2, 1,
-    192, 0, 2, 2, 255, 255, 255, 255, 255, 255, 255, 255, 255, 255, 255, 255, 255, 255, 255, 255,
-    0, 45, 2, 0, 0, 0, 20, 64, 1, 1, 0, 64, 2, 6, 2, 1, 0, 0, 253, 232, 64, 3, 4, 192, 0, 2, 1, 8,
-    10,
-];
 
 /// Gives its bytes in pieces, and fails in place of the end.
 #[derive(Drop)]
@@ -37,14 +30,9 @@ impl Read for Failing {
     }
 }
 
-/// The update so many times, and then the first bytes of another.
-fn updates(rt: &impl Abort, alloc: Global, times: u8, more: &[u8]) -> Vec<u8> {
-    let mut bytes = Vec::new(alloc);
-    for _ in 0..times {
-        bytes.extend_from_slice(&UPDATE).expect(rt, "memory");
-    }
-    bytes.extend_from_slice(more).expect(rt, "memory");
-    bytes
+/// The bytes of records by their names.
+fn records(rt: &impl Abort, alloc: Global, words: &str) -> Vec<u8> {
+    bytes_of(alloc, words).expect(rt, "memory for records")
 }
 
 /// The next cut of a reader that doesn't fail.
@@ -57,12 +45,13 @@ fn next_cut(
     frames.next(alloc, reader).expect(rt, "a read")
 }
 
-fn expect_update(rt: &impl Abort, cut: &Option<Cut>, at: u64) {
+fn expect_announcement(rt: &impl Abort, alloc: Global, cut: &Option<Cut>, at: u64) {
+    let body = body_of(alloc, "announcement").expect(rt, "memory for a body");
     match cut {
         Some(Cut::Whole(record)) => {
             assert!(rt; record.offset == at && record.seconds == 1);
             assert!(rt; record.kind == 16 && record.subtype == 4);
-            assert!(rt; record.body.as_slice() == &UPDATE[12..]);
+            assert!(rt; record.body.as_slice() == body.as_slice());
         }
         _ => assert!(rt; false),
     }
@@ -78,12 +67,13 @@ fn expect_broken(rt: &impl Abort, cut: &Option<Cut>, at: u64, why: Fault) {
 }
 
 #[test]
-fn a_whole_record_and_a_short_header(rt: HostRuntime) {
+fn a_short_header_is_refused_behind_a_whole_record(rt: HostRuntime) {
     let alloc = rt.alloc();
-    let bytes = updates(&rt, alloc, 1, &[0, 0, 0]);
+    let bytes = records(&rt, alloc, "announcement 000000");
     let mut reader = Counted::new(bytes.as_slice());
     let mut frames = FrameReader::new(0);
-    expect_update(&rt, &next_cut(&rt, alloc, &mut frames, &mut reader), 0);
+    let cut = next_cut(&rt, alloc, &mut frames, &mut reader);
+    expect_announcement(&rt, alloc, &cut, 0);
     expect_broken(
         &rt,
         &next_cut(&rt, alloc, &mut frames, &mut reader),
@@ -104,17 +94,23 @@ fn next_error(
     frames.next(alloc, reader).expect_err(rt, "a failing read")
 }
 
-/// Two updates are cut by reads of these pieces, and the failure behind them is told twice.
-fn expect_updates_and_a_failure(rt: &impl Abort, alloc: Global, piece: usize) {
+/// Two announcements are cut by reads of these pieces, and the failure behind them is told twice.
+fn expect_announcements_and_a_failure(rt: &impl Abort, alloc: Global, piece: usize) {
     let mut reader = Counted::new(Failing {
-        bytes: updates(rt, alloc, 2, &UPDATE[..12]),
+        bytes: records(
+            rt,
+            alloc,
+            "announcement announcement 00000001 0010 0004 00000041",
+        ),
         at: 0,
         piece,
         asked: 0,
     });
     let mut frames = FrameReader::new(3);
-    expect_update(rt, &next_cut(rt, alloc, &mut frames, &mut reader), 0);
-    expect_update(rt, &next_cut(rt, alloc, &mut frames, &mut reader), 77);
+    for at in [0, 77] {
+        let cut = next_cut(rt, alloc, &mut frames, &mut reader);
+        expect_announcement(rt, alloc, &cut, at);
+    }
     assert!(rt; reader.failures() == 0);
     for _ in 0..2u8 {
         let error = next_error(rt, alloc, &mut frames, &mut reader);
@@ -125,15 +121,16 @@ fn expect_updates_and_a_failure(rt: &impl Abort, alloc: Global, piece: usize) {
 
 /// Short reads cut the same records. A failing read is told, and told again without another.
 #[test]
-fn short_and_failing_reads(rt: HostRuntime) {
+fn short_reads_cut_the_same_records_and_a_failed_one_is_told_again(rt: HostRuntime) {
     for piece in [1, 5] {
-        expect_updates_and_a_failure(&rt, rt.alloc(), piece);
+        expect_announcements_and_a_failure(&rt, rt.alloc(), piece);
     }
 }
 
-/// The bytes give a broken cut and nothing behind it, and so many of them stay unread.
-fn expect_one_broken(rt: &impl Abort, alloc: Global, bytes: &[u8], why: Fault, unread: usize) {
-    let mut reader = Counted::new(bytes);
+/// The records give a broken cut and nothing behind it, and so many of their bytes stay unread.
+fn expect_one_broken(rt: &impl Abort, alloc: Global, words: &str, why: Fault, unread: usize) {
+    let bytes = records(rt, alloc, words);
+    let mut reader = Counted::new(bytes.as_slice());
     let mut frames = FrameReader::new(0);
     expect_broken(rt, &next_cut(rt, alloc, &mut frames, &mut reader), 0, why);
     assert!(rt; next_cut(rt, alloc, &mut frames, &mut reader).is_none());
@@ -141,14 +138,14 @@ fn expect_one_broken(rt: &impl Abort, alloc: Global, bytes: &[u8], why: Fault, u
 }
 
 #[test]
-fn faults_of_a_rest(rt: HostRuntime) {
-    let alloc = rt.alloc();
-    expect_one_broken(&rt, alloc, &UPDATE[..76], Fault::ShortBody, 0);
-    let long = [0, 0, 0, 1, 0, 16, 0, 4, 1, 0, 0, 1, 1, 2, 3, 4, 5];
-    expect_one_broken(&rt, alloc, long.as_slice(), Fault::BodyTooLong, 5);
-    // A body of the greatest length that isn't there.
-    let longest = [0, 0, 0, 1, 0, 16, 0, 4, 1, 0, 0, 0];
-    expect_one_broken(&rt, alloc, longest.as_slice(), Fault::ShortBody, 0);
+fn a_rest_that_is_no_record_is_refused_once(rt: HostRuntime) {
+    for (words, fault, unread) in [
+        ("cut-announcement", Fault::ShortBody, 0),
+        ("header-of-longest-body", Fault::ShortBody, 0),
+        ("header-of-too-long-body 0102030405", Fault::BodyTooLong, 5),
+    ] {
+        expect_one_broken(&rt, rt.alloc(), words, fault, unread);
+    }
 }
 
 /// Takes a few bytes, and from then on none.

@@ -1,14 +1,15 @@
 //! The attributes of RIB entries.
 
-use super::bytes::*;
+use super::readings::expect_path;
 use bgp_update::*;
+use fixtures::bytes_of;
 use mrt_frame::Fault;
 use std::alloc::Global;
 use std::process::Abort;
 
 /// The route that attributes give, with four-byte AS numbers.
 fn route_of(rt: &impl Abort, alloc: Global, text: &str) -> Route {
-    let bytes = bytes_of(rt, alloc, text);
+    let bytes = bytes_of(alloc, text).expect(rt, "memory");
     read_attrs(alloc, bytes.as_slice(), Width::Four).expect(rt, "a route")
 }
 
@@ -22,7 +23,7 @@ fn fault_of(rt: &impl Abort, alloc: Global, bytes: &[u8]) -> Option<Fault> {
 }
 
 #[test]
-fn every_attribute(rt: HostRuntime) {
+fn every_attribute_of_a_rib_entry_is_read(rt: HostRuntime) {
     let alloc = rt.alloc();
     let text =
         "40010102 400200 400304C0000201 8004040000000A 40050400000064 400600 C00706FDE8C0000209";
@@ -39,7 +40,7 @@ fn every_attribute(rt: HostRuntime) {
 }
 
 #[test]
-fn attribute_shapes(rt: HostRuntime) {
+fn cut_and_misshapen_attributes_are_refused(rt: HostRuntime) {
     let alloc = rt.alloc();
     for (text, want) in [
         ("4001", Fault::ShortAttribute),
@@ -47,7 +48,7 @@ fn attribute_shapes(rt: HostRuntime) {
         ("400100", Fault::BadAttribute(1)),
         ("40020102", Fault::BadPath),
     ] {
-        let bytes = bytes_of(&rt, alloc, text);
+        let bytes = bytes_of(alloc, text).expect(&rt, "memory");
         let fault = fault_of(&rt, alloc, bytes.as_slice());
         assert!(rt; fault == Some(want), "at {text}");
     }
@@ -62,7 +63,7 @@ fn expect_origin_alone(rt: &impl Abort, route: &Route) {
 }
 
 #[test]
-fn origin_alone(rt: HostRuntime) {
+fn a_second_origin_and_attributes_14_and_15_are_skipped(rt: HostRuntime) {
     let alloc = rt.alloc();
     // A length of two bytes; a second ORIGIN, which isn't checked; attributes 14 and 15, which are skipped.
     for text in [
@@ -79,9 +80,9 @@ fn origin_alone(rt: HostRuntime) {
 
 /// Each front of an attribute field is whole where an attribute ends, and else ends inside one.
 #[test]
-fn fronts_of_attributes(rt: HostRuntime) {
+fn a_front_of_attributes_is_whole_only_where_one_ends(rt: HostRuntime) {
     let alloc = rt.alloc();
-    let bytes = bytes_of(&rt, alloc, "40010100 4002060201 0000FDE8 400304 C0000201");
+    let bytes = bytes_of(alloc, "plain-attributes").expect(&rt, "memory");
     for n in 0..=bytes.len() {
         let want = match n {
             0 | 4 | 13 | 20 => None,

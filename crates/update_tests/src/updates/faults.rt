@@ -1,14 +1,15 @@
 //! Damaged messages: which fault is named.
 
-use super::bytes::*;
+use super::readings::*;
 use bgp_update::*;
+use fixtures::update_of;
 use mrt_frame::Fault;
 use std::alloc::Global;
 use std::process::Abort;
 
 /// The announcement with this byte at this place has this fault.
 fn expect_fault_by_byte(rt: &impl Abort, alloc: Global, at: usize, byte: u8, want: Fault) {
-    let mut body = bytes_of(rt, alloc, ANNOUNCE);
+    let mut body = update_of(alloc, "announcement").expect(rt, "memory");
     if at < body.len() {
         body[at] = byte;
     }
@@ -17,7 +18,7 @@ fn expect_fault_by_byte(rt: &impl Abort, alloc: Global, at: usize, byte: u8, wan
 }
 
 #[test]
-fn one_byte_changed(rt: HostRuntime) {
+fn each_changed_byte_has_its_own_fault(rt: HostRuntime) {
     for (at, byte, want) in [
         // The length of the NLRI's prefix.
         (24usize, 0x21u8, Fault::BadPrefix),
@@ -39,7 +40,7 @@ fn one_byte_changed(rt: HostRuntime) {
 
 /// Fields are checked from left to right: withdrawn, attributes one by one, NLRI.
 #[test]
-fn first_fault_wins(rt: HostRuntime) {
+fn the_first_fault_from_the_left_is_named(rt: HostRuntime) {
     for (text, want) in [
         ("0003 2100 FF 4001", Fault::BadUpdate),
         ("0002 210A 0003 400101 210A", Fault::BadPrefix),
@@ -53,7 +54,8 @@ fn first_fault_wins(rt: HostRuntime) {
     }
 }
 
-/// The fault of a message's front of n bytes, where the message has its attributes up to one place and keys up to others.
+/// The fault of a message's front of n bytes, where the message has its attributes up to one place and keys up to
+/// others.
 fn fault_of_front(n: usize, attributes_end: usize, key_ends: &[usize]) -> Option<Fault> {
     if n < 4 {
         Some(Fault::BadLength)
@@ -76,7 +78,7 @@ fn expect_fronts(
     attributes_end: usize,
     key_ends: &[usize],
 ) {
-    let body = bytes_of(rt, alloc, text);
+    let body = update_of(alloc, text).expect(rt, "memory");
     for n in 0..=body.len() {
         let fault = fault_in(rt, alloc, &body.as_slice()[..n], width, add_path);
         let want = fault_of_front(n, attributes_end, key_ends);
@@ -85,19 +87,25 @@ fn expect_fronts(
 }
 
 #[test]
-fn fronts_of_messages(rt: HostRuntime) {
+fn a_front_of_a_message_is_whole_only_where_a_field_of_keys_ends(rt: HostRuntime) {
     for (text, width, add_path, attributes_end, key_ends) in [
-        (REPLACE, Width::Four, false, 26, [28].as_slice()),
         (
-            THREE_LENGTHS,
+            "withdrawn-and-announced",
+            Width::Four,
+            false,
+            26,
+            [28].as_slice(),
+        ),
+        (
+            "of-three-lengths",
             Width::Four,
             false,
             24,
             [25, 27, 30].as_slice(),
         ),
-        (TWO_OCTETS, Width::Two, false, 39, [41].as_slice()),
-        (WITH_IDENTIFIER, Width::Four, true, 24, [30].as_slice()),
-        (REACH, Width::Four, false, 31, [].as_slice()),
+        ("two-octet-path", Width::Two, false, 39, [41].as_slice()),
+        ("with-identifier", Width::Four, true, 24, [30].as_slice()),
+        ("reached", Width::Four, false, 31, [].as_slice()),
     ] {
         expect_fronts(
             &rt,

@@ -1,8 +1,9 @@
 //! Prefixes and path identifiers.
 
-use super::bytes::*;
+use super::readings::*;
 use bgp_prefix::Prefix;
 use bgp_update::*;
+use fixtures::update_of;
 use mrt_frame::Fault;
 use std::process::Abort;
 
@@ -22,52 +23,56 @@ fn expect_plain_keys(
 }
 
 #[test]
-fn keys_of_messages(rt: HostRuntime) {
+fn keys_stand_with_their_identifiers_and_without_host_bits(rt: HostRuntime) {
     for (text, add_path, withdrawn, announced) in [
-        (ANNOUNCE, false, [].as_slice(), [TEN].as_slice()),
-        (REPLACE, false, [TEN].as_slice(), [TEN].as_slice()),
+        ("announcement", false, [].as_slice(), [TEN].as_slice()),
         (
-            THREE_LENGTHS,
+            "withdrawn-and-announced",
+            false,
+            [TEN].as_slice(),
+            [TEN].as_slice(),
+        ),
+        (
+            "of-three-lengths",
             false,
             [].as_slice(),
             [(0, 0, 0), TEN, (0x0A010000, 16, 0)].as_slice(),
         ),
         // Bits past the length are put to 0.
         (
-            "0000 0014 40010100 4002060201 0000FDE8 400304 C0000201 0C0AFF",
+            "of-host-bits",
             false,
             [].as_slice(),
             [(0x0AF00000, 12, 0)].as_slice(),
         ),
         (
-            WITH_IDENTIFIER,
+            "with-identifier",
             true,
             [].as_slice(),
             [(0x0A000000, 8, 7)].as_slice(),
         ),
         (
-            "0006 00000007 080A 0000",
+            "withdrawal-with-identifier",
             true,
             [(0x0A000000, 8, 7)].as_slice(),
             [].as_slice(),
         ),
-        ("0002 080A 0000", false, [TEN].as_slice(), [].as_slice()),
+        ("withdrawal", false, [TEN].as_slice(), [].as_slice()),
     ] {
-        let update = update_of(&rt, rt.alloc(), text, Width::Four, add_path);
+        let update = reading_of(&rt, rt.alloc(), text, Width::Four, add_path);
         expect_plain_keys(&rt, &update, withdrawn, announced);
     }
 }
 
 #[test]
-fn identifier_past_its_field(rt: HostRuntime) {
-    let text = "0000 0014 40010100 4002060201 0000FDE8 400304 C0000201 000007";
-    let body = bytes_of(&rt, rt.alloc(), text);
+fn an_identifier_past_its_field_is_a_bad_prefix(rt: HostRuntime) {
+    let body = update_of(rt.alloc(), "cut-identifier").expect(&rt, "memory");
     let fault = fault_in(&rt, rt.alloc(), body.as_slice(), Width::Four, true);
     assert!(rt; fault == Some(Fault::BadPrefix));
 }
 
 #[test]
-fn prefixes(rt: HostRuntime) {
+fn a_prefix_is_taken_off_the_front_of_bytes(rt: HostRuntime) {
     match prefix_at(12, &[0x0A, 0xFF, 1]) {
         Ok((prefix, rest)) => {
             assert!(rt; Some(prefix) == Prefix::new(0x0AF00000, 12));

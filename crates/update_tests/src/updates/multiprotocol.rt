@@ -1,6 +1,6 @@
 //! MP_REACH_NLRI and MP_UNREACH_NLRI.
 
-use super::bytes::*;
+use super::readings::*;
 use bgp_update::*;
 use mrt_frame::Fault;
 use std::alloc::Global;
@@ -15,36 +15,30 @@ fn expect_reached(rt: &impl Abort, update: &Update, hop: NextHop) {
 }
 
 #[test]
-fn reached_by_each_hop(rt: HostRuntime) {
+fn attribute_14_reaches_keys_by_each_form_of_next_hop(rt: HostRuntime) {
     let addr = 0x20010DB8000000000000000000000009;
-    let link = 0xFE800000000000000000000000000001;
+    let link = 0xFE800000000000000000000000000009;
     for (text, hop) in [
-        (REACH, NextHop::V4(0xC0000209)),
-        (
-            "0000 0027 40010100 4002060201 0000FDE8 800E17 0001 01 10 20010DB8000000000000000000000009 00 080A",
-            NextHop::V6(addr),
-        ),
-        (
-            "0000 0037 40010100 4002060201 0000FDE8 800E27 0001 01 20 20010DB8000000000000000000000009 FE800000000000000000000000000001 00 080A",
-            NextHop::V6Pair(addr, link),
-        ),
+        ("reached", NextHop::V4(0xC0000209)),
+        ("reached-by-ipv6", NextHop::V6(addr)),
+        ("reached-by-ipv6-pair", NextHop::V6Pair(addr, link)),
     ] {
-        let update = update_of(&rt, rt.alloc(), text, Width::Four, false);
+        let update = reading_of(&rt, rt.alloc(), text, Width::Four, false);
         expect_reached(&rt, &update, hop);
     }
 }
 
-/// The route of `REACH`, by its own next hop.
+/// The route of the record `reached`, by its own next hop.
 fn reached_route(rt: &impl Abort, alloc: Global) -> Route {
-    let update = update_of(rt, alloc, REACH, Width::Four, false);
+    let update = reading_of(rt, alloc, "reached", Width::Four, false);
     update.route.with_next_hop(update.reached_hop)
 }
 
 /// The route of an UPDATE, by the next hop of attribute 14, is that of one with this NEXT_HOP.
 #[test]
-fn route_by_the_reached_hop(rt: HostRuntime) {
+fn a_route_by_the_reached_hop_differs_in_its_next_hop_alone(rt: HostRuntime) {
     let alloc = rt.alloc();
-    let plain = update_of(&rt, alloc, ANNOUNCE, Width::Four, false).route;
+    let plain = reading_of(&rt, alloc, "announcement", Width::Four, false).route;
     let by_hop = reached_route(&rt, alloc);
     assert!(rt; by_hop.next_hop == Some(NextHop::V4(0xC0000209)));
     assert!(rt; !by_hop.is_same(&plain));
@@ -62,13 +56,9 @@ fn expect_withdrawn(rt: &impl Abort, update: &Update, withdrawn: &[(u32, u8, u32
 }
 
 #[test]
-fn unreached(rt: HostRuntime) {
+fn attribute_15_withdraws_behind_the_withdrawn_routes(rt: HostRuntime) {
     for (text, add_path, withdrawn) in [
-        (
-            "0000 0008 800F05 0001 01 080A",
-            false,
-            [(0x0A000000, 8, 0)].as_slice(),
-        ),
+        ("unreached", false, [(0x0A000000, 8, 0)].as_slice()),
         // Behind the withdrawn field, and each with its identifier.
         (
             "0006 00000007 080A 000C 800F09 0001 01 00000009 080A",
@@ -76,31 +66,22 @@ fn unreached(rt: HostRuntime) {
             [(0x0A000000, 8, 7), (0x0A000000, 8, 9)].as_slice(),
         ),
     ] {
-        let update = update_of(&rt, rt.alloc(), text, Width::Four, add_path);
+        let update = reading_of(&rt, rt.alloc(), text, Width::Four, add_path);
         expect_withdrawn(&rt, &update, withdrawn);
     }
 }
 
 #[test]
-fn multiprotocol_faults(rt: HostRuntime) {
+fn repeated_cut_and_misshapen_attributes_14_and_15_are_refused(rt: HostRuntime) {
     for (text, want) in [
-        (
-            "0000 0029 40010100 4002060201 0000FDE8 800E0B 0001 01 04 C0000209 00 080A 800E0B 0001 01 04 C0000209 00 080A",
-            Some(Fault::BadAttribute(14)),
-        ),
+        ("reached-twice", Some(Fault::BadAttribute(14))),
         // Another family is skipped, but a second attribute of any family is refused.
-        (
-            "0000 001B 40010100 4002060201 0000FDE8 800E0B 0002 01 04 C0000209 00 080A",
-            None,
-        ),
+        ("reached-in-another-family", None),
         (
             "0000 000E 800F05 0001 01 080A 800F03 0002 01",
             Some(Fault::BadAttribute(15)),
         ),
-        (
-            "0000 001B 40010100 4002060201 0000FDE8 800E0B 0001 01 05 C0000209 00 080A",
-            Some(Fault::BadAttribute(14)),
-        ),
+        ("reached-by-five-bytes", Some(Fault::BadAttribute(14))),
         ("0000 0006 800E03 0001 01", Some(Fault::BadAttribute(14))),
         (
             "0000 000B 800E08 0001 01 04 C0000209",

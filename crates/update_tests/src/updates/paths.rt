@@ -1,6 +1,6 @@
 //! Paths, and AS_PATH with AS4_PATH.
 
-use super::bytes::*;
+use super::readings::*;
 use bgp_prefix::Memory;
 use bgp_update::*;
 use std::alloc::Global;
@@ -45,7 +45,7 @@ fn expect_measures(rt: &impl Abort, path: &Option<AsPath>, length: u64, origin: 
 }
 
 #[test]
-fn two_octet_paths(rt: HostRuntime) {
+fn as4_path_is_merged_unless_it_is_longer_or_the_aggregator_is_of_another_as(rt: HostRuntime) {
     let of_100 = Aggregator {
         asn: 100,
         addr: 0xC0000209,
@@ -55,39 +55,23 @@ fn two_octet_paths(rt: HostRuntime) {
         addr: 0xC0000209,
     };
     for (text, is_joined, aggregator, origin) in [
-        (TWO_OCTETS, true, None, 70001),
+        ("two-octet-path", true, None, 70001),
         // AS4_PATH is longer than AS_PATH.
-        (
-            "0000 002B 40010100 4002080203 0064 5BA0 5BA0 400304 C0000201 C011120204 00011170 00011171 00011172 00011173 080A",
-            false,
-            None,
-            23456,
-        ),
+        ("longer-as4-path", false, None, 23456),
         // AGGREGATOR has an AS number of its own.
-        (
-            "0000 0037 40010100 4002080203 0064 5BA0 5BA0 400304 C0000201 C0110A0202 00011170 00011171 C00706 0064 C0000209 C01208 00011170 C0000209 080A",
-            false,
-            Some(of_100),
-            23456,
-        ),
+        ("aggregator-of-another-as", false, Some(of_100), 23456),
         // AGGREGATOR has AS_TRANS.
-        (
-            "0000 0037 40010100 4002080203 0064 5BA0 5BA0 400304 C0000201 C0110A0202 00011170 00011171 C00706 5BA0 C0000209 C01208 00011170 C0000209 080A",
-            true,
-            Some(of_70000),
-            70001,
-        ),
+        ("aggregator-of-as-trans", true, Some(of_70000), 70001),
     ] {
-        let update = update_of(&rt, rt.alloc(), text, Width::Two, false);
+        let update = reading_of(&rt, rt.alloc(), text, Width::Two, false);
         expect_two_octet_route(&rt, &update.route, is_joined, aggregator, origin);
         expect_keys(&rt, update.announced.as_slice(), &[(0x0A000000, 8, 0)]);
     }
 }
 
 #[test]
-fn set_path(rt: HostRuntime) {
-    let text = "0000 0014 40010100 4002060101 0000FDE9 400304 C0000201 080A";
-    let update = update_of(&rt, rt.alloc(), text, Width::Four, false);
+fn a_set_has_length_1_and_no_origin(rt: HostRuntime) {
+    let update = reading_of(&rt, rt.alloc(), "by-as-set", Width::Four, false);
     expect_path(&rt, &update.route.path, &[(SegmentKind::AsSet, &[65001])]);
     expect_measures(&rt, &update.route.path, 1, None);
 }
@@ -125,7 +109,8 @@ fn merge_keeps_a_confederation(rt: HostRuntime) {
     );
 }
 
-/// Adds the segment of this number to a path of as many segments. A refused push leaves the path as it was, and is tried again.
+/// Adds the segment of this number to a path of as many segments. A refused push leaves the path as it was, and is
+/// tried again.
 fn push_number(
     rt: &impl Abort,
     alloc: Global,
@@ -152,7 +137,7 @@ fn expect_places(rt: &impl Abort, path: &AsPath) {
 
 /// A refused push leaves the path as it was (`make growths` refuses them).
 #[test]
-fn growths_of_a_path(rt: HostRuntime) -> Result<(), Fail> {
+fn a_refused_push_leaves_the_path(rt: HostRuntime) -> Result<(), Fail> {
     let alloc = rt.alloc();
     let mut path = AsPath::new(alloc);
     for number in 0..20u32 {
