@@ -6,54 +6,19 @@ mod rows;
 mod sizes;
 
 use bgp_update::Width;
+use fixtures::{bytes_of, message_of};
 use lines::next_of;
 use mrt_body::{Damage, Found, Payload, PeerAddr, Place, Unit, Units};
 use mrt_frame::{Counted, Fault, ReplayError};
 use std::alloc::Global;
 use std::process::Abort;
 
-/// An UPDATE of second 1 from 192.0.2.1 that announces 10.0.0.0/8.
-const UPDATE: [u8; 77] = [
-    0, 0, 0, 1, 0, 16, 0, 4, 0, 0, 0, 65, 0, 0, 253, 232, 0, 0, 253, 233, 0, 0, 0, 1, 192, 0, 2, 1,
-    192, 0, 2, 2, 255, 255, 255, 255, 255, 255, 255, 255, 255, 255, 255, 255, 255, 255, 255, 255,
-    0, 45, 2, 0, 0, 0, 20, 64, 1, 1, 0, 64, 2, 6, 2, 1, 0, 0, 253, 232, 64, 3, 4, 192, 0, 2, 1, 8,
-    10,
-];
-
-/// A state change of second 2 from Established to Idle.
-const STATES: [u8; 36] = [
-    0, 0, 0, 2, 0, 16, 0, 5, 0, 0, 0, 24, 0, 0, 253, 232, 0, 0, 253, 233, 0, 0, 0, 1, 192, 0, 2, 1,
-    192, 0, 2, 2, 0, 6, 0, 1,
-];
-
-/// A table of two peers.
-const PEERS: [u8; 56] = [
-    0, 0, 0, 3, 0, 13, 0, 1, 0, 0, 0, 44, 192, 0, 2, 99, 0, 0, 0, 2, 1, 192, 0, 2, 1, 32, 1, 13,
-    184, 0, 0, 0, 0, 0, 0, 0, 0, 0, 0, 0, 1, 253, 232, 2, 192, 0, 2, 2, 192, 0, 2, 2, 0, 1, 17,
-    112,
-];
-
-/// A RIB record with an entry of each peer; the attributes of the second are damaged.
-const RIB: [u8; 60] = [
-    0, 0, 0, 3, 0, 13, 0, 2, 0, 0, 0, 48, 0, 0, 0, 0, 8, 10, 0, 2, 0, 0, 0, 0, 0, 1, 0, 20, 64, 1,
-    1, 0, 64, 2, 6, 2, 1, 0, 0, 253, 232, 64, 3, 4, 192, 0, 2, 1, 0, 1, 0, 0, 0, 1, 0, 4, 64, 1, 1,
-    3,
-];
-
-/// A RIB record with one entry of path identifier 7.
-const PATHS: [u8; 52] = [
-    0, 0, 0, 3, 0, 13, 0, 8, 0, 0, 0, 40, 0, 0, 0, 0, 8, 10, 0, 1, 0, 0, 0, 0, 0, 1, 0, 0, 0, 7, 0,
-    20, 64, 1, 1, 0, 64, 2, 6, 2, 1, 0, 0, 253, 232, 64, 3, 4, 192, 0, 2, 1,
-];
-
-fn joined(rt: &impl Abort, alloc: Global, parts: &[&[u8]]) -> Vec<u8> {
-    let mut bytes = Vec::new(alloc);
-    for part in parts {
-        bytes
-            .extend_from_slice(part)
-            .expect(rt, "memory for a part");
-    }
-    bytes
+/// The announcement, in a record of this subtype.
+fn announcement_of_subtype(rt: &impl Abort, alloc: Global, subtype: u8) -> Vec<u8> {
+    let mut record = bytes_of(alloc, "announcement").expect(rt, "memory for a record");
+    assert!(rt; record.len() == 77);
+    record[7] = subtype;
+    record
 }
 
 /// What a file of these bytes gives.
@@ -112,36 +77,48 @@ fn expect_entry(
 }
 
 #[test]
-fn entries_of_rib_records(rt: HostRuntime) {
-    let bytes = joined(&rt, rt.alloc(), &[&PEERS, &RIB, &PATHS]);
-    let found = found_in(&rt, rt.alloc(), bytes.as_slice());
+fn rib_records_give_an_entry_of_each_peer(rt: HostRuntime) {
+    let alloc = rt.alloc();
+    let records = "peer-index-table rib-record rib-record-with-identifier";
+    let bytes = bytes_of(alloc, records).expect(&rt, "memory for a file");
+    let attributes = bytes_of(alloc, "plain-attributes").expect(&rt, "memory for attributes");
+    let found = found_in(&rt, alloc, bytes.as_slice());
     assert!(rt; found.len() == 3);
-    expect_entry(&rt, &found[0], 56, 1, 0, &RIB[28..48]);
+    expect_entry(&rt, &found[0], 56, 1, 0, attributes.as_slice());
     expect_entry(&rt, &found[1], 56, 2, 0, &[0x40, 1, 1, 3]);
-    expect_entry(&rt, &found[2], 116, 1, 7, &PATHS[32..52]);
+    expect_entry(&rt, &found[2], 116, 1, 7, attributes.as_slice());
+}
+
+/// The announcement, a state change, and the announcement's bytes under two other subtypes.
+fn messages_and_a_state_change(rt: &impl Abort, alloc: Global) -> Vec<u8> {
+    let mut bytes = bytes_of(alloc, "announcement established-to-idle").expect(
+        rt,
+        "memory for a file",
+    );
+    for subtype in [9u8, 1] {
+        let record = announcement_of_subtype(rt, alloc, subtype);
+        bytes
+            .extend_from_slice(record.as_slice())
+            .expect(rt, "memory for a record");
+    }
+    bytes
 }
 
 #[test]
-fn messages_and_state_changes(rt: HostRuntime) {
-    let mut with_paths = UPDATE;
-    with_paths[7] = 9;
-    let mut two_bytes = UPDATE;
-    two_bytes[7] = 1;
-    let bytes = joined(
-        &rt,
-        rt.alloc(),
-        &[&UPDATE, &STATES, &with_paths, &two_bytes],
-    );
-    let found = found_in(&rt, rt.alloc(), bytes.as_slice());
+fn the_subtype_says_how_a_message_is_read(rt: HostRuntime) {
+    let alloc = rt.alloc();
+    let bytes = messages_and_a_state_change(&rt, alloc);
+    let message = message_of(alloc, "announcement").expect(&rt, "memory for a message");
+    let found = found_in(&rt, alloc, bytes.as_slice());
     assert!(rt; found.len() == 4);
-    expect_message(&rt, &found[0], &UPDATE[32..], false);
+    expect_message(&rt, &found[0], message.as_slice(), false);
     expect_states(&rt, &found[1]);
-    expect_message(&rt, &found[2], &UPDATE[32..], true);
+    expect_message(&rt, &found[2], message.as_slice(), true);
     // 65000 is read as two AS numbers, and the address family is the second half of 65001.
     expect_refused(&rt, &found[3], 77 + 36 + 77, Fault::BadFamily);
 }
 
-/// Expects the state change of `STATES` behind an update.
+/// Expects the change from Established to Idle behind an announcement.
 fn expect_states(rt: &impl Abort, found: &Found) {
     let unit = unit_of(rt, found);
     assert!(rt; unit.time == 2_000_000 && unit.place.offset == 77);
@@ -169,12 +146,10 @@ fn expect_message(rt: &impl Abort, found: &Found, message: &[u8], paths: bool) {
 }
 
 #[test]
-fn records_then_spent(rt: HostRuntime) {
+fn past_the_limit_on_records_the_units_are_spent(rt: HostRuntime) {
     let alloc = rt.alloc();
-    let mut bytes = [0; 154];
-    bytes[..77].copy_from_slice(&UPDATE);
-    bytes[77..].copy_from_slice(&UPDATE);
-    let mut files = [Counted::new(&bytes[..])];
+    let bytes = bytes_of(alloc, "announcement announcement").expect(&rt, "memory for a file");
+    let mut files = [Counted::new(bytes.as_slice())];
     let mut units = Units::new(1, 1, None);
     assert!(rt; matches!(next_of(&rt, alloc, &mut units, &mut files), Ok(Some(_))));
     for error in [ReplayError::Records, ReplayError::Spent, ReplayError::Spent] {

@@ -1,24 +1,17 @@
 //! Readers that give little at a time, that fail, and that never end.
 
 use super::lines::{next_of, push_found};
-use fixtures::{Dripping, Zeros, dump};
+use fixtures::{Dripping, THREE_PEERS, Zeros, bytes_of};
 use mrt_body::{Found, Units};
 use mrt_frame::{Counted, Failures, ReplayError, Source};
 use std::alloc::Global;
 use std::io::ErrorKind;
 use std::process::Abort;
 
-/// Five announcements of three peers, in 385 bytes.
-const THREE_PEERS: &str = "M MB M MC MB";
-
-fn bytes_of(rt: &impl Abort, alloc: Global, words: &str) -> Vec<u8> {
-    dump(alloc, words).expect(rt, "memory for records")
-}
-
 #[test]
-fn one_byte_a_read(rt: HostRuntime) {
+fn reads_of_one_byte_give_the_same_units(rt: HostRuntime) {
     let alloc = rt.alloc();
-    let bytes = bytes_of(&rt, alloc, THREE_PEERS);
+    let bytes = bytes_of(alloc, THREE_PEERS).expect(&rt, "memory for records");
     assert!(rt; bytes.len() == 385);
     let expected = "0|0|-|1000000|65000 C0000201|message 45 Four false
 0|77|-|1000000|65000 C0000202|message 45 Four false
@@ -61,8 +54,8 @@ fn expect_read<R: Source>(
 /// A reader that fails in place of each byte: the whole records before it are given, then the failed
 /// read, and then the same again with nothing read.
 #[test]
-fn every_read_fails(rt: HostRuntime) {
-    let bytes = bytes_of(&rt, rt.alloc(), THREE_PEERS);
+fn a_failed_read_comes_behind_the_whole_records(rt: HostRuntime) {
+    let bytes = bytes_of(rt.alloc(), THREE_PEERS).expect(&rt, "memory for records");
     for k in 0..=bytes.len() {
         expect_failure_behind(&rt, rt.alloc(), &bytes.as_slice()[..k]);
     }
@@ -100,9 +93,9 @@ fn expect_unit_at<R: Source>(
 }
 
 #[test]
-fn the_second_file_fails_at_once(rt: HostRuntime) {
+fn a_second_file_that_fails_at_once_is_named(rt: HostRuntime) {
     let alloc = rt.alloc();
-    let bytes = bytes_of(&rt, alloc, "M");
+    let bytes = bytes_of(alloc, "announcement").expect(&rt, "memory for a record");
     let mut files = [
         Counted::new(Dripping::new(bytes.as_slice(), None)),
         Counted::new(Dripping::new(&[], Some(ErrorKind::Interrupted))),
@@ -114,7 +107,7 @@ fn the_second_file_fails_at_once(rt: HostRuntime) {
 }
 
 #[test]
-fn endless_zeros(rt: HostRuntime) {
+fn endless_zeros_end_at_the_limit_on_records(rt: HostRuntime) {
     let mut files = [Counted::new(Zeros)];
     expect_text(
         &rt,

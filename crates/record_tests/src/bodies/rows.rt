@@ -1,7 +1,7 @@
 //! Rows that stand as text: what files hold, and what they give.
 
 use super::lines::push_found;
-use fixtures::dump;
+use fixtures::bytes_of;
 use mrt_frame::Counted;
 use std::alloc::Global;
 use std::process::Abort;
@@ -51,7 +51,7 @@ impl<'a> Row<'a> {
 }
 
 fn push_file(rt: &impl Abort, alloc: Global, files: &mut Vec<Vec<u8>>, words: &str) {
-    let file = dump(alloc, words).expect(rt, "memory for a file");
+    let file = bytes_of(alloc, words).expect(rt, "memory for a file");
     files.push(file).expect(rt, "memory for a file");
 }
 
@@ -108,52 +108,52 @@ fn run_row(rt: &impl Abort, alloc: Global, text: &str) {
 
 const FILES: &str = "
 row rib-without-index
-file T M
+file rib-record announcement
 > 0|0|NoPeerIndex
 > 0|60|-|1000000|65000 C0000201|message 45 Four false
 > records 2 aside 0
 row rib-with-a-damaged-entry
-file P T
+file peer-index-table rib-record
 > 0|56|1|3000000|65000 20010DB8000000000000000000000001|entry 0A000000/8#0 20
 > 0|56|2|3000000|70000 C0000202|entry 0A000000/8#0 4
 > records 2 aside 0
 row state-change-unit
-file S61
+file established-to-idle
 > 0|0|-|2000000|65000 C0000201|state 6 1
 > records 1 aside 0
 row index-in-its-file-alone
-file P
-file M
-file T
+file peer-index-table
+file announcement
+file rib-record
 > 1|0|-|1000000|65000 C0000201|message 45 Four false
 > 2|0|NoPeerIndex
 > records 3 aside 0
 row short-body-then-next-file
-file M-1
-file M
+file cut-announcement
+file announcement
 > 0|0|ShortBody
 > 1|0|-|1000000|65000 C0000201|message 45 Four false
 > records 1 aside 0
 row too-many-records
-file M M
+file announcement announcement
 most 1
 > 0|0|-|1000000|65000 C0000201|message 45 Four false
 > Records
 > records 1 aside 0
 row just-enough-records
-file M M
+file announcement announcement
 most 2
 > 0|0|-|1000000|65000 C0000201|message 45 Four false
 > 0|77|-|1000000|65000 C0000201|message 45 Four false
 > records 2 aside 0
 row limit-before-a-rest
-file M 000000
+file announcement 000000
 most 1
 > 0|0|-|1000000|65000 C0000201|message 45 Four false
 > 0|77|ShortHeader
 > records 1 aside 0
 row limit-before-rests-of-two-files
-file M 000000
+file announcement 000000
 file 00000001 000C 0001
 most 1
 > 0|0|-|1000000|65000 C0000201|message 45 Four false
@@ -161,20 +161,20 @@ most 1
 > 1|0|ShortHeader
 > records 1 aside 0
 row too-long-then-next-file
-file 00000001 0010 0004 01000001 0102030405
-file M
+file header-of-too-long-body 0102030405
+file announcement
 > 0|0|BodyTooLong
 > 1|0|-|1000000|65000 C0000201|message 45 Four false
 > records 1 aside 0
 row a-damaged-index-is-not-in-force
-file P 00000003 000D 0001 00000000 T P T
+file peer-index-table 00000003 000D 0001 00000000 rib-record peer-index-table rib-record
 > 0|56|ShortRecord
 > 0|68|NoPeerIndex
 > 0|184|1|3000000|65000 20010DB8000000000000000000000001|entry 0A000000/8#0 20
 > 0|184|2|3000000|70000 C0000202|entry 0A000000/8#0 4
 > records 5 aside 0
 row a-second-index-is-in-force
-file P 00000003 000D 0001 00000015 C0000263 0000 0001 02 C0000203 C0000203 00011171 T
+file peer-index-table 00000003 000D 0001 00000015 C0000263 0000 0001 02 C0000203 C0000203 00011171 rib-record
 > 0|89|BadPeerIndex
 > records 3 aside 0
 row no-file-is-whole
@@ -183,13 +183,13 @@ file 00
 > 1|0|ShortHeader
 > records 0 aside 0
 row until-leaves-out-units
-file M E S61 P T 00000009 0010 0004 00000002 0000
+file announcement extended-announcement established-to-idle peer-index-table rib-record 00000009 0010 0004 00000002 0000
 until 1
 > 0|0|-|1000000|65000 C0000201|message 45 Four false
 > 0|310|ShortRecord
 > records 6 aside 0
 row an-index-past-the-time-is-in-force
-file P 00000001 000D 0002 00000030 00000000 080A 0002 0000 00000001 0014 A4 0001 00000001 0004 40010103
+file peer-index-table 00000001 000D 0002 00000030 00000000 080A 0002 0000 00000001 0014 plain-attributes 0001 00000001 0004 40010103
 until 1
 > 0|56|1|1000000|65000 20010DB8000000000000000000000001|entry 0A000000/8#0 20
 > 0|56|2|1000000|70000 C0000202|entry 0A000000/8#0 4
@@ -198,7 +198,7 @@ until 1
 
 const FORMS: &str = "
 row sessions
-file 00000002 0010 0000 00000014 H2 0006 0001 00000001 0010 0001 00000023 H2 FF16 0013 04 00000001 0010 0004 00000027 H4 FF16 0013 04 S61 00000001 0010 0008 00000023 H2 FF16 0013 04 00000001 0010 0009 00000027 H4 FF16 0013 04
+file 00000002 0010 0000 00000014 two-octet-session 0006 0001 00000001 0010 0001 00000023 two-octet-session marker 0013 04 00000001 0010 0004 00000027 session marker 0013 04 established-to-idle 00000001 0010 0008 00000023 two-octet-session marker 0013 04 00000001 0010 0009 00000027 session marker 0013 04
 > 0|0|-|2000000|65000 C0000201|state 6 1
 > 0|32|-|1000000|65000 C0000201|message 19 Two false
 > 0|79|-|1000000|65000 C0000201|message 19 Four false
@@ -207,7 +207,7 @@ file 00000002 0010 0000 00000014 H2 0006 0001 00000001 0010 0001 00000023 H2 FF1
 > 0|213|-|1000000|65000 C0000201|message 19 Four true
 > records 6 aside 0
 row sessions-with-extended-time
-file 00000002 0011 0000 00000018 000000FA H2 0006 0001 00000001 0011 0001 00000027 000000FA H2 FF16 0013 04 00000001 0011 0004 0000002B 000000FA H4 FF16 0013 04 00000002 0011 0005 0000001C 000000FA H4 0006 0001 00000001 0011 0008 00000027 000000FA H2 FF16 0013 04 00000001 0011 0009 0000002B 000000FA H4 FF16 0013 04
+file 00000002 0011 0000 00000018 000000FA two-octet-session 0006 0001 00000001 0011 0001 00000027 000000FA two-octet-session marker 0013 04 00000001 0011 0004 0000002B 000000FA session marker 0013 04 00000002 0011 0005 0000001C 000000FA session 0006 0001 00000001 0011 0008 00000027 000000FA two-octet-session marker 0013 04 00000001 0011 0009 0000002B 000000FA session marker 0013 04
 > 0|0|-|2000250|65000 C0000201|state 6 1
 > 0|36|-|1000250|65000 C0000201|message 19 Two false
 > 0|87|-|1000250|65000 C0000201|message 19 Four false
@@ -216,15 +216,15 @@ file 00000002 0011 0000 00000018 000000FA H2 0006 0001 00000001 0011 0001 000000
 > 0|233|-|1000250|65000 C0000201|message 19 Four true
 > records 6 aside 0
 row an-ipv6-session
-file 00000002 0010 0005 00000030 H6 0006 0001
+file 00000002 0010 0005 00000030 ipv6-session 0006 0001
 > 0|0|-|2000000|65000 20010DB8000000000000000000000001|state 6 1
 > records 1 aside 0
 row extended-time
-file E
+file extended-announcement
 > 0|0|-|2000000|65000 C0000201|message 45 Four false
 > records 1 aside 0
 row an-empty-message
-file 00000001 0010 0004 00000014 H4
+file 00000001 0010 0004 00000014 session
 > 0|0|-|1000000|65000 C0000201|message 0 Four false
 > records 1 aside 0
 row a-view-name-and-other-bits
@@ -236,30 +236,30 @@ file 00000003 000D 0001 00000016 C0000263 0003 616263 0001 FC C0000201 C0000202 
 > 0|34|1|3000000|65000 C0000202|entry 00000000/0#0 0
 > records 2 aside 0
 row host-bits
-file P 00000003 000D 0002 00000011 00000000 0C0AFF 0001 0001 00000001 0000
+file peer-index-table 00000003 000D 0002 00000011 00000000 0C0AFF 0001 0001 00000001 0000
 > 0|56|1|3000000|70000 C0000202|entry 0AF00000/12#0 0
 > records 2 aside 0
 row no-entries
-file P 00000003 000D 0002 00000008 00000000 080A 0000
+file peer-index-table 00000003 000D 0002 00000008 00000000 080A 0000
 > records 2 aside 0
 row add-path-rib-entry
-file P TP
+file peer-index-table rib-record-with-identifier
 > 0|56|1|3000000|65000 20010DB8000000000000000000000001|entry 0A000000/8#7 20
 > records 2 aside 0
 row add-path-messages
-file AP WP
+file with-identifier withdrawal-with-identifier
 > 0|0|-|1000000|65000 C0000201|message 49 Four true
 > 0|81|-|2000000|65000 C0000201|message 29 Four true
 > records 2 aside 0
 row add-path-without-index
-file TP
+file rib-record-with-identifier
 > 0|0|NoPeerIndex
 > records 1 aside 0
 row local-records-aside
 file 00000001 0010 000A 00000000 00000001 0010 000B 00000000 00000001 0011 000B 00000000 00000001 0011 0007 00000000
 > records 4 aside 4
 row other-records-aside
-file 00000001 000C 0001 00000000 00000001 000D 0000 00000000 00000001 000D 0004 00000000 00000001 0020 0001 00000000 M
+file table-dump 00000001 000D 0000 00000000 00000001 000D 0004 00000000 00000001 0020 0001 00000000 announcement
 > 0|48|-|1000000|65000 C0000201|message 45 Four false
 > records 5 aside 4
 ";
@@ -270,84 +270,84 @@ file 000000
 > 0|0|ShortHeader
 > records 0 aside 0
 row greatest-length-short-body
-file 00000001 0010 0004 01000000
+file header-of-longest-body
 > 0|0|ShortBody
 > records 0 aside 0
 row body-too-long
-file 00000001 0010 0004 01000001
+file header-of-too-long-body
 > 0|0|BodyTooLong
 > records 0 aside 0
 row short-record
-file 00000001 0010 0004 00000002 0000
+file short-record
 > 0|0|ShortRecord
 > records 1 aside 0
 row short-microseconds
-file 00000001 0011 0004 00000003 000000
+file short-microseconds
 > 0|0|ShortRecord
 > records 1 aside 0
 row trailing-byte
-file 00000002 0010 0005 00000019 H4 0006 0001 00
+file trailing-byte
 > 0|0|TrailingBytes
 > records 1 aside 0
 row bad-family
-file 00000001 0010 0004 00000041 0000FDE8 0000FDE9 0000 0003 C0000201 C0000202 FF16 002D 02 0000 0014 A4 080A
+file bad-family
 > 0|0|BadFamily
 > records 1 aside 0
 row no-peer-index
-file T
+file rib-record
 > 0|0|NoPeerIndex
 > records 1 aside 0
 row bad-peer-index
-file P 00000003 000D 0002 00000030 00000000 080A 0002 0000 00000001 0014 A4 0002 00000001 0004 40010103
+file peer-index-table bad-peer-index
 > 0|56|BadPeerIndex
 > records 2 aside 0
 row bad-prefix-in-rib
-file P 00000003 000D 0002 00000030 00000000 210A 0002 0000 00000001 0014 A4 0001 00000001 0004 40010103
+file peer-index-table bad-prefix-in-rib
 > 0|56|BadPrefix
 > records 2 aside 0
 row bad-prefix-past-the-body
-file P 00000003 000D 0002 00000006 00000000 090A
+file peer-index-table 00000003 000D 0002 00000006 00000000 090A
 > 0|56|BadPrefix
 > records 2 aside 0
 row peer-count-too-large
-file 00000003 000D 0001 0000002C C0000263 0000 FFFF 01 C0000201 20010DB8000000000000000000000001 FDE8 02 C0000202 C0000202 00011170 T
+file peer-count-too-large rib-record
 > 0|0|ShortRecord
 > 0|56|NoPeerIndex
 > records 2 aside 0
 row peer-count-too-small
-file 00000003 000D 0001 0000002C C0000263 0000 0001 01 C0000201 20010DB8000000000000000000000001 FDE8 02 C0000202 C0000202 00011170
+file peer-count-too-small
 > 0|0|TrailingBytes
 > records 1 aside 0
 row entry-count-too-large
-file P 00000003 000D 0002 00000030 00000000 080A FFFF 0000 00000001 0014 A4 0001 00000001 0004 40010103
+file peer-index-table entry-count-too-large
 > 0|56|ShortRecord
 > records 2 aside 0
 row entry-count-too-small
-file P 00000003 000D 0002 00000030 00000000 080A 0001 0000 00000001 0014 A4 0001 00000001 0004 40010103
+file peer-index-table entry-count-too-small
 > 0|56|TrailingBytes
 > records 2 aside 0
 row the-first-fault-wins
-file P 00000003 000D 0002 00000008 00000000 210A 0002 00000003 000D 0002 0000000A 00000000 080A 0002 0002
+file peer-index-table 00000003 000D 0002 00000008 00000000 210A 0002 00000003 000D 0002 0000000A 00000000 080A 0002 0002
 > 0|56|BadPrefix
 > 0|76|BadPeerIndex
 > records 3 aside 0
 row an-identifier-past-the-body
-file P 00000003 000D 0008 00000011 00000000 080A 0001 0000 00000001 000000
+file peer-index-table 00000003 000D 0008 00000011 00000000 080A 0001 0000 00000001 000000
 > 0|56|ShortRecord
 > records 2 aside 0
 ";
 
 #[test]
-fn several_files(rt: HostRuntime) {
+fn each_file_has_its_own_index_and_its_own_rest(rt: HostRuntime) {
     assert!(rt; run_rows(&rt, rt.alloc(), FILES) == 15);
 }
 
 #[test]
-fn every_form(rt: HostRuntime) {
+fn every_form_of_record_gives_its_units(rt: HostRuntime) {
     assert!(rt; run_rows(&rt, rt.alloc(), FORMS) == 14);
 }
 
 #[test]
-fn every_fault(rt: HostRuntime) {
+fn every_fault_of_a_body_refuses_its_record(rt: HostRuntime) {
     assert!(rt; run_rows(&rt, rt.alloc(), FAULTS) == 17);
 }

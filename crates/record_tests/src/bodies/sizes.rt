@@ -1,46 +1,33 @@
 //! Cut bodies, and the greatest ones.
 
 use super::lines::{next_of, push_found};
-use fixtures::dump;
+use fixtures::{body_of, bytes_of};
 use mrt_body::{Found, Payload, Units};
 use mrt_frame::{Counted, ReplayError, Source};
 use std::alloc::Global;
 use std::process::Abort;
 
-/// Bodies in hexadecimal digits with the type and the subtype of their record, and how many of their
-/// first bytes are read. A front is refused: with fewer bytes as ShortRecord, but for a RIB record's
-/// prefix that runs past the body.
+/// Types and subtypes, each with a record of it or the fields of its body, and how many bytes the body has. A front
+/// is refused as ShortRecord, but for a RIB record's prefix that runs past the body.
 const BODIES: [(&str, &str, usize); 5] = [
-    (
-        "000D 0001",
-        "C0000263 0000 0002 01 C0000201 20010DB8000000000000000000000001 FDE8 02 C0000202 C0000202 00011170",
-        44,
-    ),
-    (
-        "000D 0002",
-        "00000000 080A 0002 0000 00000001 0014 A4 0001 00000001 0004 40010103",
-        48,
-    ),
-    (
-        "000D 0008",
-        "00000000 080A 0001 0000 00000001 00000007 0014 A4",
-        40,
-    ),
-    ("0010 0005", "H4 0006 0001", 24),
-    ("0011 0000", "000000FA H2 0006 0001", 24),
+    ("000D 0001", "peer-index-table", 44),
+    ("000D 0002", "rib-record", 48),
+    ("000D 0008", "rib-record-with-identifier", 40),
+    ("0010 0005", "established-to-idle", 24),
+    ("0011 0000", "000000FA two-octet-session 0006 0001", 24),
 ];
 
 /// Each front of a body, and the body with a byte more, behind a table of two peers.
 #[test]
-fn every_front_of_a_body(rt: HostRuntime) {
-    for (kinds, body, whole) in BODIES {
-        expect_fronts_refused(&rt, rt.alloc(), kinds, body, whole);
+fn every_front_of_a_body_is_refused(rt: HostRuntime) {
+    for (kinds, record, whole) in BODIES {
+        expect_fronts_refused(&rt, rt.alloc(), kinds, record, whole);
     }
 }
 
 /// Expects the refusal of each front of a body, and of the body with a byte more.
-fn expect_fronts_refused(rt: &impl Abort, alloc: Global, kinds: &str, body: &str, whole: usize) {
-    let body = dump(alloc, body).expect(rt, "memory for a body");
+fn expect_fronts_refused(rt: &impl Abort, alloc: Global, kinds: &str, record: &str, whole: usize) {
+    let body = body_of(alloc, record).expect(rt, "memory for a body");
     assert!(rt; body.len() == whole);
     for k in 0..whole {
         let fault = match kinds {
@@ -75,16 +62,22 @@ fn expect_fault(rt: &impl Abort, alloc: Global, kinds: &str, body: &[u8], fault:
 /// A table of two peers, and a record of this body.
 fn file_with(rt: &impl Abort, alloc: Global, kinds: &str, body: &[u8]) -> Vec<u8> {
     let mut header = String::new(alloc);
-    write!(header, "P 00000003 {kinds} {:08X}", body.len()).expect(rt, "memory for a header");
-    let mut file = dump(alloc, header.as_str()).expect(rt, "memory for a file");
+    write!(
+        header,
+        "peer-index-table 00000003 {kinds} {:08X}",
+        body.len()
+    )
+    .expect(rt, "memory for a header");
+    let mut file = bytes_of(alloc, header.as_str()).expect(rt, "memory for a file");
     file.extend_from_slice(body).expect(rt, "memory for a body");
     file
 }
 
 /// Each front of three records in one file.
 #[test]
-fn every_front_of_a_file(rt: HostRuntime) {
-    let bytes = dump(rt.alloc(), "P T M").expect(&rt, "memory for a file");
+fn every_front_of_a_file_gives_its_whole_records(rt: HostRuntime) {
+    let records = "peer-index-table rib-record announcement";
+    let bytes = bytes_of(rt.alloc(), records).expect(&rt, "memory for a file");
     assert!(rt; bytes.len() == 193);
     for k in 0..=bytes.len() {
         let (begin, units) = match k {
@@ -121,7 +114,7 @@ fn counts_of(rt: &impl Abort, alloc: Global, file: &[u8], begin: u64) -> (u8, u8
 
 /// A record of 65,535 entries, without attributes.
 #[test]
-fn the_most_entries(rt: HostRuntime) {
+fn a_record_of_65535_entries_gives_each(rt: HostRuntime) {
     let alloc = rt.alloc();
     let file = many_entries(&rt, alloc);
     let mut files = [Counted::new(file.as_slice())];
@@ -150,8 +143,8 @@ fn expect_number<R: Source>(
 
 fn many_entries(rt: &impl Abort, alloc: Global) -> Vec<u8> {
     // The body has 8 bytes and then 8 of each entry.
-    let header = "P 00000003 000D 0002 00080000 00000000 080A FFFF";
-    let mut file = dump(alloc, header).expect(rt, "memory for a header");
+    let header = "peer-index-table 00000003 000D 0002 00080000 00000000 080A FFFF";
+    let mut file = bytes_of(alloc, header).expect(rt, "memory for a header");
     for _ in 0..65_535u16 {
         file.extend_from_slice(&[0, 1, 0, 0, 0, 1, 0, 0])
             .expect(rt, "memory for an entry");
@@ -161,9 +154,10 @@ fn many_entries(rt: &impl Abort, alloc: Global) -> Vec<u8> {
 
 /// A body of 16,777,216 bytes, all but the first 20 of them the message.
 #[test]
-fn the_longest_body(rt: HostRuntime) {
+fn the_longest_body_is_read(rt: HostRuntime) {
     let alloc = rt.alloc();
-    let mut file = dump(alloc, "00000001 0010 0004 01000000 H4").expect(&rt, "memory for a header");
+    let header = "header-of-longest-body session";
+    let mut file = bytes_of(alloc, header).expect(&rt, "memory for a header");
     file.resize(12 + 16_777_216, 0xFF)
         .expect(&rt, "memory for a body");
     let mut units = Units::new(1, 1000, None);
