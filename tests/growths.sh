@@ -16,7 +16,7 @@ tries() { # CRATE TEST..
   tries prefix_tests prefixes::growths::a_refused_growth_leaves_the_flat_map prefixes::growths::a_refused_growth_leaves_the_radix_map \
     prefixes::growths::a_refused_growth_leaves_the_shelf
   tries update_tests updates::paths::a_refused_push_leaves_the_path
-  tries table_tests ribs::spent_after_a_refused_growth
+  tries table_tests ribs::sessions::a_session_is_spent_after_a_refused_growth
   tries lane_tests growths::growths_of_rounds layers::collect_orders_by_number schedules::turns_one_by_one
   tries replay_tests growths::growths_of_runs_by_each_dealing growths::growths_of_runs_of_each_request growths::growths_of_words
 } > tries

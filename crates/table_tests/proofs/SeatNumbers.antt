@@ -8,7 +8,8 @@ use Rattle.peer_tables.specs.Gathers.{gathered_seats}
 use Rattle.peer_tables.specs.Seats.{seat_of}
 use Rattle.peer_tables.specs.Tables.{Seat}
 
-pub three_numbers : {M : Type 0} (gathered : Gathered M) (first second third : Seated M) → gathered.lanes ≡ (first ∷ []) ∷ (second ∷ third ∷ []) ∷ []
+pub three_numbers : {M : Type 0} (gathered : Gathered M) (first second third : Seated M)
+    → gathered.lanes ≡ (first ∷ []) ∷ (second ∷ third ∷ []) ∷ []
     → (first.number ≡ second.number → ⊥) → (first.number ≡ third.number → ⊥) → (second.number ≡ third.number → ⊥)
     → IsDistinct nat_eq (map (λ seat. seat.number) (gathered_seats gathered))
 unfolding IsDistinct

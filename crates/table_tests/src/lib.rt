@@ -2,6 +2,8 @@
 #![tactic(auto)]
 
 #[cfg(test)]
+mod payloads;
+#[cfg(test)]
 mod reports;
 #[cfg(test)]
 mod ribs;

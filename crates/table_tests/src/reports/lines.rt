@@ -3,7 +3,7 @@
 use adj_rib::Churn;
 use bgp_prefix::{Prefix, RouteKey, Sequence};
 use bgp_update::{NextHop, PackedRoute, Width, read_attrs};
-use fixtures::push_digits;
+use fixtures::bytes_of;
 use mrt_body::{Damage, PeerAddr, PeerKey, Place};
 use mrt_frame::{Counted, Fault};
 use rib_report::{
@@ -47,8 +47,7 @@ fn route_by(
     attributes: &str,
     next_hop: Option<NextHop>,
 ) -> PackedRoute {
-    let mut bytes = Vec::new(alloc);
-    push_digits(&mut bytes, attributes).expect(rt, attributes);
+    let bytes = bytes_of(alloc, attributes).expect(rt, attributes);
     let route = read_attrs(alloc, bytes.as_slice(), Width::Four).expect(rt, attributes);
     PackedRoute::pack(alloc, &route.with_next_hop(next_hop)).expect(rt, attributes)
 }
@@ -65,7 +64,7 @@ static GREATEST: &str = "40010102
 800404FFFFFFFF 400504FFFFFFFF 400600 C00708FFFFFFFF FFFFFFFF";
 
 #[test]
-fn routes(rt: HostRuntime) {
+fn each_field_of_a_route_has_its_text(rt: HostRuntime) {
     let alloc = rt.alloc();
     let bare = route_by(&rt, alloc, "", None);
     let empty_path = route_by(
@@ -118,7 +117,7 @@ fn numbers(rt: &impl Abort, alloc: Global, numbers: &[u32]) -> Sequence<u32> {
 }
 
 #[test]
-fn prefixes(rt: HostRuntime) {
+fn visibility_and_origins_have_a_line_for_each_prefix(rt: HostRuntime) {
     let alloc = rt.alloc();
     let visible = [
         SeenRow {
@@ -170,7 +169,7 @@ fn counts(first: Option<u64>, last: Option<u64>) -> Churn {
 /// A record's microseconds may be past a second, and are then carried over: second 1 and
 /// 4,294,967,295 microseconds are 4295.967295.
 #[test]
-fn churns(rt: HostRuntime) {
+fn churn_has_its_counts_and_times(rt: HostRuntime) {
     let alloc = rt.alloc();
     let most = u64::MAX;
     let greatest = Churn {
@@ -225,7 +224,7 @@ fn damage(file: usize, offset: u64, entry: Option<u16>, fault: Fault) -> Damage 
 }
 
 #[test]
-fn all_faults(rt: HostRuntime) {
+fn each_fault_has_its_place_number_and_name(rt: HostRuntime) {
     let rows = [
         damage(0, 0, None, Fault::ShortHeader),
         damage(0, 0, None, Fault::ShortBody),

@@ -4,56 +4,16 @@ ghost use Rattle.std.specs.Prelude.{◌≡◌, ◌≢◌, [], ◌∷◌, map, na
 ghost use Rattle.std.specs.List.{IsDistinct};
 ghost use Rattle.peer_tables.specs.Gathers.{gathered_seats};
 
+use crate::payloads::message_in;
 use adj_rib::{Session, SharedRoute};
-use bgp_prefix::{Memory, PrefixMap, Sequence};
-use bgp_update::Width;
-use fixtures::push_digits;
-use mrt_body::{Damage, Payload, PayloadBytes, PeerAddr, PeerKey, Place, Unit};
+use bgp_prefix::{PrefixMap, Sequence};
+use mrt_body::{Damage, PeerAddr, PeerKey, Place, Unit};
 use rib_report::{Gathered, Seated, Tables, collect};
 use std::alloc::Global;
 use std::process::Abort;
 
-/// A message of a peer: its form, and its bytes as words (`push_word`).
-#[derive(Clone, Copy)]
-pub enum Said<'a> {
-    Plain(&'a str),
-    /// With path identifiers (RFC 7911).
-    WithIdentifiers(&'a str),
-}
-
-/// What three peers say, in their order.
-pub type Peers<'a> = [&'a [Said<'a>]; 3];
-
-/// Adds the bytes that a word spells: a marker, attributes, or hexadecimal digits two by two.
-fn push_word(bytes: &mut Vec<u8>, word: &str) -> Result<(), Memory> {
-    let digits = match word {
-        "FF16" => "FFFFFFFFFFFFFFFFFFFFFFFFFFFFFFFF",
-        // ORIGIN IGP, AS_PATH 65000, NEXT_HOP 192.0.2.1.
-        "A4" => "4001010040020602010000FDE8400304C0000201",
-        _ => word,
-    };
-    push_digits(bytes, digits)
-}
-
-fn bytes_of(alloc: Global, words: &str) -> Result<PayloadBytes, Memory> {
-    let mut bytes = Vec::new(alloc);
-    for word in words.split(' ') {
-        push_word(&mut bytes, word)?;
-    }
-    Ok(PayloadBytes::from_vec(bytes))
-}
-
-fn message(rt: &impl Abort, alloc: Global, said: Said<'_>) -> Payload {
-    let (words, add_path) = match said {
-        Said::Plain(words) => (words, false),
-        Said::WithIdentifiers(words) => (words, true),
-    };
-    Payload::Message {
-        bytes: bytes_of(alloc, words).expect(rt, words),
-        width: Width::Four,
-        add_path,
-    }
-}
+/// The named records whose messages three peers send, in their order.
+pub type Peers<'a> = [&'a [&'a str]; 3];
 
 /// The peer of a number: 65000 192.0.2.1 and the next two addresses.
 pub fn peer_of(number: u32) -> PeerKey {
@@ -68,11 +28,11 @@ fn session_of<M: PrefixMap<SharedRoute> + Drop>(
     rt: &impl Abort,
     alloc: Global,
     peer: PeerKey,
-    messages: &[Said<'_>],
+    records: &[&str],
 ) -> Session<M> {
     let mut session = Session::new(alloc);
     let mut offset = 0u64;
-    for said in messages {
+    for record in records {
         let unit = Unit {
             place: Place {
                 file: 0,
@@ -81,7 +41,7 @@ fn session_of<M: PrefixMap<SharedRoute> + Drop>(
             },
             time: 1_000_000,
             peer,
-            payload: message(rt, alloc, *said),
+            payload: message_in(alloc, *record).expect(rt, "a message"),
         };
         session.take(alloc, &unit).expect(rt, "a unit");
         offset = offset.wrapping_add(100);
@@ -97,12 +57,12 @@ fn seat_of<M: PrefixMap<SharedRoute> + Drop>(
 ) -> Seated<M>
     ensures { result.number ≡ number }
 {
-    let messages = *peers.get(number).expect(rt, "a peer of this number");
+    let records = *peers.get(number).expect(rt, "a peer of this number");
     let key = peer_of((number & 3) as u32);
     Seated {
         number,
         key,
-        session: session_of(rt, alloc, key, messages),
+        session: session_of(rt, alloc, key, records),
     }
 }
 

@@ -1,6 +1,6 @@
 //! Reports on three peers, however their seats are spread over lanes, with each map.
 
-use super::peers::{Peers, Said, tables_of};
+use super::peers::{Peers, tables_of};
 use adj_rib::SharedRoute;
 use bgp_prefix::{Flat, PrefixMap, Radix};
 use mrt_body::{Damage, Place};
@@ -32,46 +32,6 @@ struct Case<'a> {
     reports: &'a [(Report, &'a str)],
 }
 
-/// Announces 10.0.0.0/8 with path 65000 and next hop 192.0.2.1.
-pub const ONE: Said<'static> = Said::Plain("FF16 002D 02 0000 0014 A4 080A");
-
-/// Announces the same under identifier 7, and withdraws that.
-const SEVENTH: Said<'static> = Said::WithIdentifiers("FF16 0031 02 0000 0014 A4 00000007 080A");
-
-const NOT_SEVENTH: Said<'static> = Said::WithIdentifiers("FF16 001D 02 0006 00000007 080A 0000");
-
-/// Announces 0.0.0.0/0, 10.0.0.0/8 and 10.1.0.0/16.
-pub const THREE_LENGTHS: Said<'static> = Said::Plain("FF16 0031 02 0000 0014 A4 00 080A 100A01");
-
-/// 10.0.0.0/8 with AS_SET 65001, and with AS_SEQUENCE 65001.
-const BY_SET: Said<'static> = Said::Plain(
-    "FF16 002D 02 0000 0014 40010100 4002060101 0000FDE9 400304 C0000201 080A",
-);
-
-pub const BY_ANOTHER: Said<'static> = Said::Plain(
-    "FF16 002D 02 0000 0014 40010100 4002060201 0000FDE9 400304 C0000201 080A",
-);
-
-/// Reached by an IPv6 next hop, and by a global and a link-local one.
-const BY_V6: Said<'static> = Said::Plain(
-    "FF16 003E 02 0000 0027 40010100 4002060201 0000FDE8 800E17 0001 01 10 20010DB8000000000000000000000009 00 080A",
-);
-
-const BY_V6_PAIR: Said<'static> = Said::Plain(
-    "FF16 004E 02 0000 0037 40010100 4002060201 0000FDE8 800E27 0001 01 20 20010DB8000000000000000000000009 FE800000000000000000000000000009 00 080A",
-);
-
-/// Damaged: ORIGIN 3, a segment of kind 5, a prefix of length 33.
-pub const BAD_ORIGIN: Said<'static> = Said::Plain(
-    "FF16 002D 02 0000 0014 40010103 4002060201 0000FDE8 400304 C0000201 080A",
-);
-
-pub const BAD_SEGMENT: Said<'static> = Said::Plain(
-    "FF16 002D 02 0000 0014 40010100 4002060501 0000FDE8 400304 C0000201 080A",
-);
-
-pub const BAD_LENGTH: Said<'static> = Said::Plain("FF16 002D 02 0000 0014 A4 210A");
-
 pub const REFUSED: [Damage; 2] = [
     Damage {
         place: Place {
@@ -93,7 +53,11 @@ pub const REFUSED: [Damage; 2] = [
 
 const THREE_PEERS: Case<'static> = Case {
     name: "three peers",
-    peers: [&[ONE, ONE], &[ONE, ONE], &[ONE]],
+    peers: [
+        &["announcement", "announcement"],
+        &["announcement", "announcement"],
+        &["announcement"],
+    ],
     refused: &[],
     damaged: 0,
     reports: &[
@@ -127,7 +91,7 @@ const THREE_PEERS: Case<'static> = Case {
 
 const LONGEST: Case<'static> = Case {
     name: "the longest match at each peer",
-    peers: [&[THREE_LENGTHS], &[], &[ONE]],
+    peers: [&["of-three-lengths"], &[], &["announcement"]],
     refused: &[],
     damaged: 0,
     reports: &[
@@ -165,7 +129,7 @@ const LONGEST: Case<'static> = Case {
 
 const BY_A_SET: Case<'static> = Case {
     name: "visible at two peers, one origin",
-    peers: [&[ONE], &[BY_SET], &[]],
+    peers: [&["announcement"], &["by-as-set"], &[]],
     refused: &[],
     damaged: 0,
     reports: &[
@@ -182,7 +146,11 @@ const BY_A_SET: Case<'static> = Case {
 
 const TWO_ORIGINS: Case<'static> = Case {
     name: "two origins",
-    peers: [&[BY_ANOTHER], &[ONE], &[THREE_LENGTHS]],
+    peers: [
+        &["by-other-origin"],
+        &["announcement"],
+        &["of-three-lengths"],
+    ],
     refused: &[],
     damaged: 0,
     reports: &[
@@ -196,7 +164,15 @@ const TWO_ORIGINS: Case<'static> = Case {
 
 const TWO_PATHS: Case<'static> = Case {
     name: "two paths of one prefix",
-    peers: [&[ONE, SEVENTH], &[ONE, SEVENTH, NOT_SEVENTH], &[SEVENTH]],
+    peers: [
+        &["announcement", "with-identifier"],
+        &[
+            "announcement",
+            "with-identifier",
+            "withdrawal-with-identifier",
+        ],
+        &["with-identifier"],
+    ],
     refused: &[],
     damaged: 0,
     reports: &[
@@ -221,7 +197,7 @@ const TWO_PATHS: Case<'static> = Case {
 
 const IPV6_HOPS: Case<'static> = Case {
     name: "next hops of IPv6",
-    peers: [&[BY_V6], &[], &[BY_V6_PAIR]],
+    peers: [&["reached-by-ipv6"], &[], &["reached-by-ipv6-pair"]],
     refused: &[],
     damaged: 0,
     reports: &[(
@@ -235,7 +211,11 @@ const IPV6_HOPS: Case<'static> = Case {
 /// Where places are equal, the refusals come first, and then the peers by number.
 const DAMAGED: Case<'static> = Case {
     name: "damaged units and refusals",
-    peers: [&[BAD_ORIGIN, ONE], &[ONE, BAD_LENGTH], &[BAD_SEGMENT]],
+    peers: [
+        &["bad-origin", "announcement"],
+        &["announcement", "bad-prefix-length"],
+        &["bad-segment-kind"],
+    ],
     refused: &REFUSED,
     damaged: 5,
     reports: &[
@@ -344,7 +324,7 @@ fn expect_case(rt: &impl Abort, alloc: Global, case: &Case<'_>) {
 }
 
 #[test]
-fn reports_on_three_peers(rt: HostRuntime) {
+fn reports_are_the_same_however_peers_are_spread_over_lanes(rt: HostRuntime) {
     let cases = [
         THREE_PEERS,
         LONGEST,

@@ -1,10 +1,7 @@
 //! Reports to writers that take little, fail, or take nothing more.
 
 use super::peers::{Peers, tables_of};
-use super::reports::{
-    BAD_LENGTH, BAD_ORIGIN, BAD_SEGMENT, BY_ANOTHER, ONE, REFUSED, Report, THREE_LENGTHS,
-    write_report,
-};
+use super::reports::{REFUSED, Report, write_report};
 use adj_rib::SharedRoute;
 use bgp_prefix::{Memory, Prefix, Radix};
 use mrt_frame::{Counted, Failures, ReplayError};
@@ -55,9 +52,9 @@ impl Write for Narrow {
 }
 
 const PEERS: Peers<'static> = [
-    &[BAD_ORIGIN, THREE_LENGTHS],
-    &[BY_ANOTHER, BAD_LENGTH],
-    &[BAD_SEGMENT, ONE],
+    &["bad-origin", "of-three-lengths"],
+    &["by-other-origin", "bad-prefix-length"],
+    &["bad-segment-kind", "announcement"],
 ];
 
 const REPORTS: [Report; 6] = [
@@ -117,7 +114,7 @@ fn expect_by_bytes(
 }
 
 #[test]
-fn every_write_of_each_report(rt: HostRuntime) {
+fn each_report_stops_at_the_write_that_fails(rt: HostRuntime) {
     let alloc = rt.alloc();
     let tables = tables_of::<Radix<SharedRoute>>(&rt, alloc, [2, 0, 1], &PEERS, &REFUSED);
     for report in REPORTS {
@@ -184,7 +181,7 @@ fn expect_front(rt: &impl Abort, alloc: Global, rows: &[SeenRow], front: &[u8]) 
 
 /// A text that passes the buffer's 65,536 bytes once: it takes two writes.
 #[test]
-fn a_long_report(rt: HostRuntime) {
+fn a_report_past_64_kib_takes_two_writes(rt: HostRuntime) {
     let alloc = rt.alloc();
     let rows = many_rows(alloc).expect(&rt, "rows");
     let text = many_lines(alloc).expect(&rt, "lines");
