@@ -26,7 +26,7 @@ use Rattle.lane_deal.specs.LaneRings.{AreReady}
 use Rattle.lane_deal.specs.Replayers.{LaneState, ReplayerState, ReplayerStandsFor, StandsForSome}
 use Rattle.lane_deal.specs.Rounds.{IsSettled}
 use Rattle.lane_deal.specs.Shown.{lane_state, lane_states, state_at}
-use Rattle.lane_deal.proofs.Numbering.{numbers_of_places}
+use Rattle.lane_deal.proofs.Numbering.{numbers_of_positions}
 use Rattle.lane_deal.proofs.SeatLaws.{numbers_rise}
 use Rattle.lane_deal.proofs.SettledLaws.{settled_seats}
 use Rattle.lane_deal.proofs.Bridges.{length-lane_states}
@@ -44,7 +44,7 @@ range_differs a (suc n) = (below_differ a (a + 1) n (omega arith), range_differs
 
 table_numbers : (units : List ReplayUnit) (refused : List Damage) → map (λ s. s.number) (tables_of units refused).seats ≡ range_with_len 0 (length (peers_of units))
 unfolding tables_of
-table_numbers units refused = map-map (λ (s : Seat). s.number) _ (enumerate_from 0 (peers_of units)) ∙ numbers_of_places 0 (peers_of units)
+table_numbers units refused = map-map (λ (s : Seat). s.number) _ (enumerate_from 0 (peers_of units)) ∙ numbers_of_positions 0 (peers_of units)
 
 pub tables_differ : (units : List ReplayUnit) (refused : List Damage) → IsDistinct nat_eq (map (λ s. s.number) (tables_of units refused).seats)
 tables_differ units refused = subst (IsDistinct nat_eq) (sym (table_numbers units refused)) (range_differs 0 (length (peers_of units)))

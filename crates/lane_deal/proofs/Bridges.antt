@@ -22,7 +22,7 @@ use Rattle.lane_deal.specs.Replayers.{LaneState, LaneStandsFor}
 use Rattle.lane_deal.specs.Seating.{seat_by, seats_by}
 use Rattle.lane_deal.specs.Shown.{lane_state, lane_states, SeatsHold}
 use Rattle.lane_deal.proofs.Peers.{is_seen, listed_peer, numbers_stay, all_more}
-use Rattle.lane_deal.proofs.PeerPlaces.{listed_gets, some_is}
+use Rattle.lane_deal.proofs.PeerPositions.{listed_gets, some_is}
 use Rattle.lane_deal.proofs.SeatLists.{front_of, back_of, seen_more}
 use Rattle.lane_deal.proofs.SettledLaws.{all_peers, all_filtered, map_alike}
 

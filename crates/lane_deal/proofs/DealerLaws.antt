@@ -28,7 +28,7 @@ use Rattle.lane_deal.specs.Numbers.{NumbersPeer, number_in, with_number, numbere
 use Rattle.lane_deal.proofs.Asking.{TakesUnits-none, TakesUnits-more, front_from_takes, front_more, all_more_given}
 use Rattle.lane_deal.proofs.Deals.{Dealt-append, Dealt-same, Dealt-none}
 use Rattle.lane_deal.proofs.Numbering.{unlisted}
-use Rattle.lane_deal.proofs.Peers.{peer_itself, is_seen, new_peer, peers_of-append, listed_peer, first_place, all_more}
+use Rattle.lane_deal.proofs.Peers.{peer_itself, is_seen, new_peer, peers_of-append, listed_peer, first_position, all_more}
 
 abbrev Known : Type 0
 Known = List (Option (List ℕ))
@@ -115,7 +115,7 @@ all_push P (x ∷ xs) ys h k = (h.0, all_push P xs ys h.1 k)
 pub numbered_stay : (keys more : List PeerKey) (units : List ReplayUnit) → AreListed keys units → numbered (keys ++ more) units ≡ numbered keys units
 numbered_stay keys more [] h = refl
 numbered_stay keys more (u ∷ units) h =
-    ap (λ n. record { number = n; unit = u } ∷ numbered (keys ++ more) units) (first_place (peer_eq u.peer) keys more h.0)
+    ap (λ n. record { number = n; unit = u } ∷ numbered (keys ++ more) units) (first_position (peer_eq u.peer) keys more h.0)
     ∙ ap (λ l. with_number keys u ∷ l) (numbered_stay keys more units h.1)
 
 -- ---- the dealer's steps

@@ -7,7 +7,7 @@ pub mod SettledLaws
 pub mod RoundLaws
 pub mod RouteCounts
 pub mod Examples
-pub mod PeerPlaces
+pub mod PeerPositions
 pub mod Moves
 pub mod Pairs
 pub mod Working

@@ -61,21 +61,21 @@ module _ {S : Type 0} (seat : ℕ → PeerKey → S) where
             ∙ ap (λ l. seat (length (peers_of before)) x.peer ∷ l) others
       ] refl more
 
-  -- each peer's number is its place
+  -- each peer's number is its position
   pub numbered_peers : (units : List ReplayUnit) → map (λ q. seat (number_of_peer units q) q) (peers_of units) ≡ map (λ e. seat e.0 e.1) (enumerate_from 0 (peers_of units))
   unfolding peers_of
   numbered_peers units = numbered_from [] units
 
 -- ---- numbers that rise
 
-pub numbers_of_places : {X : Type 0} (n : ℕ) (xs : List X) → map (λ e. e.0) (enumerate_from n xs) ≡ range_with_len n (length xs)
-numbers_of_places n [] = refl
-numbers_of_places n (x ∷ xs) = ap (λ l. n ∷ l) (numbers_of_places (n + 1) xs) ∙ ap (range_with_len n) {x = suc (length xs)} {y = length (x ∷ xs)} (omega arith)
+pub numbers_of_positions : {X : Type 0} (n : ℕ) (xs : List X) → map (λ e. e.0) (enumerate_from n xs) ≡ range_with_len n (length xs)
+numbers_of_positions n [] = refl
+numbers_of_positions n (x ∷ xs) = ap (λ l. n ∷ l) (numbers_of_positions (n + 1) xs) ∙ ap (range_with_len n) {x = suc (length xs)} {y = length (x ∷ xs)} (omega arith)
 
 pub range_rises : (first count : ℕ) → IsStrictlyIncreasing (range_with_len first count)
 range_rises first count = λ k inside.
     let many = length-range_with_len first count in
     omega (arith, get_or-range_with_len first count k 0 (omega (arith, many)), get_or-range_with_len first count (k + 1) 0 (omega (arith, many)))
 
-pub places_rise : {X : Type 0} (xs : List X) → IsStrictlyIncreasing (map (λ e. e.0) (enumerate_from 0 xs))
-places_rise xs = subst IsStrictlyIncreasing (sym (numbers_of_places 0 xs)) (range_rises 0 (length xs))
+pub positions_rise : {X : Type 0} (xs : List X) → IsStrictlyIncreasing (map (λ e. e.0) (enumerate_from 0 xs))
+positions_rise xs = subst IsStrictlyIncreasing (sym (numbers_of_positions 0 xs)) (range_rises 0 (length xs))

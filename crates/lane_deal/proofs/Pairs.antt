@@ -1,4 +1,4 @@
--- Two lists, place by place.
+-- Two lists, position by position.
 use Rattle.std.proofs.Common.{List, [], ◌∷◌, ◌++◌, Result, Ok, Err, OnOk}
 use Rattle.std.specs.List.{AllZip}
 

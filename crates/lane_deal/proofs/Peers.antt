@@ -98,17 +98,17 @@ listed_peer units q seen = listed_when_new [] units q seen refl
 
 -- ---- numbers
 
-pub first_place : {X : Type 0} (p : X → Bool) (xs ys : List X) → list_any p xs ≡ true → position_or_len p (xs ++ ys) ≡ position_or_len p xs
-first_place p [] ys e = cc
-first_place p (x ∷ xs) ys e =
+pub first_position : {X : Type 0} (p : X → Bool) (xs ys : List X) → list_any p xs ≡ true → position_or_len p (xs ++ ys) ≡ position_or_len p xs
+first_position p [] ys e = cc
+first_position p (x ∷ xs) ys e =
     elim (p x) as (λ b. (b || list_any p xs) ≡ true → cond (not b) (1 + prefix_len (λ x. not (p x)) (xs ++ ys)) 0 ≡ cond (not b) (1 + prefix_len (λ x. not (p x)) xs) 0) [
       | true ↦ λ _. refl
-      | false ↦ λ later. ap (λ n. 1 + n) (first_place p xs ys later)
+      | false ↦ λ later. ap (λ n. 1 + n) (first_position p xs ys later)
     ] e
 
 -- more units leave the number of a peer as it is
 pub number_stays : (units more : List ReplayUnit) (q : PeerKey) → is_seen units q ≡ true → number_of_peer (units ++ more) q ≡ number_of_peer units q
-number_stays units more q seen = ap (position_or_len (peer_eq q)) (peers_of-append units more) ∙ first_place (peer_eq q) (peers_of units) (new_peers units more) (listed_peer units q seen)
+number_stays units more q seen = ap (position_or_len (peer_eq q)) (peers_of-append units more) ∙ first_position (peer_eq q) (peers_of units) (new_peers units more) (listed_peer units q seen)
 
 pub seen_after : (before xs : List ReplayUnit) → AllByRecursion (λ u. is_seen (before ++ xs) u.peer ≡ true) xs
 seen_after before [] = tt

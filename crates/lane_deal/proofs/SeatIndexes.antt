@@ -8,7 +8,7 @@ use Rattle.peer_tables.specs.Seats.{seat_of}
 use Rattle.peer_tables.specs.Tables.{Seat}
 use Rattle.peer_tables.specs.declared.tables.Seated.{Seated}
 use Rattle.lane_deal.specs.Seating.{AreIndexed}
-use Rattle.lane_deal.proofs.PeerPlaces.{some_is, split_get, place_gets}
+use Rattle.lane_deal.proofs.PeerPositions.{some_is, split_get, position_gets}
 
 or_false : (a b : Bool) → (a || b) ≡ false → b ≡ false
 or_false true b e = absurd cc
@@ -56,7 +56,7 @@ module _ {M : Type 0} where
   not_there positions seats n h nowhere =
       elim (has n seats) as (λ b. has n seats ≡ b → b ≡ false) [
         | true ↦ λ any.
-            let found = place_gets (λ s. eqb s.number n) (map seat_of seats) any in
+            let found = position_gets (λ s. eqb s.number n) (map seat_of seats) any in
             let at = position_or_len (λ s. eqb s.number n) (map seat_of seats) in
             let here : slice_get (numbers seats) at ≡ Some n = number_at seats at found.0 found.1 ∙ ap (λ k. Some k) (eqb-true found.0.number n found.2) in
             absurd (nowhere at (h at n here) here)

@@ -14,7 +14,7 @@ use Rattle.peer_tables.specs.Tables.{Seat, tables_of}
 use Rattle.lane_deal.specs.Lanes.{number_of_peer, lane_units, seats_of_lane}
 use Rattle.lane_deal.proofs.Classes.{of_class, by_class, by_class-IsPermutation, all_of}
 use Rattle.lane_deal.proofs.Peers.{units_of_chosen, peers_of_chosen}
-use Rattle.lane_deal.proofs.Numbering.{numbered_peers, places_rise}
+use Rattle.lane_deal.proofs.Numbering.{numbered_peers, positions_rise}
 
 abbrev seat_numbered : List ReplayUnit → ℕ → PeerKey → Seat
 seat_numbered units number q = record { number = number; key = q; session = session_of (units_of_peer units q) }
@@ -65,4 +65,4 @@ module _ (lane_of : ℕ → ℕ) (units : List ReplayUnit) where
 -- the numbers of all peers rise
 pub numbers_rise : (units : List ReplayUnit) (refused : List Damage) → IsStrictlyIncreasing (map (λ s. s.number) (tables_of units refused).seats)
 unfolding tables_of
-numbers_rise units refused = subst IsStrictlyIncreasing (sym (map-map (λ (s : Seat). s.number) (λ e. seat_numbered units e.0 e.1) (enumerate_from 0 (peers_of units)))) (places_rise (peers_of units))
+numbers_rise units refused = subst IsStrictlyIncreasing (sym (map-map (λ (s : Seat). s.number) (λ e. seat_numbered units e.0 e.1) (enumerate_from 0 (peers_of units)))) (positions_rise (peers_of units))

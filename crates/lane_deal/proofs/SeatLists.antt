@@ -20,9 +20,9 @@ use Rattle.lane_deal.specs.declared.numbered.Numbered.{Numbered}
 use Rattle.lane_deal.specs.Keys.{AreApart}
 use Rattle.lane_deal.specs.Numbers.{number_in, units_in}
 use Rattle.lane_deal.specs.Seating.{seat_by, seats_by, AreNumbered, HoldsUnits, new_seat, SeatFor, TakenAt}
-use Rattle.lane_deal.proofs.Numbering.{numbered_peers, numbers_of_places}
+use Rattle.lane_deal.proofs.Numbering.{numbered_peers, numbers_of_positions}
 use Rattle.lane_deal.proofs.Peers.{peer_itself, same_peer, is_seen, listed_peer}
-use Rattle.lane_deal.proofs.PeerPlaces.{listed_at, listed_gets}
+use Rattle.lane_deal.proofs.PeerPositions.{listed_at, listed_gets}
 use Rattle.lane_deal.proofs.DealerLaws.{peers_push, listed_is_seen, seen_last}
 
 -- ---- lists
@@ -74,7 +74,7 @@ peers_apart units i q at =
     let ps = peers_of units in
     let l : i < length ps = slice_get_within ps i q at in
     let is = get_or_from_slice_get ps i q q at in
-    let all = numbered_peers (λ n _. n) units ∙ numbers_of_places 0 ps in
+    let all = numbered_peers (λ n _. n) units ∙ numbers_of_positions 0 ps in
     let here : number_in ps (get_or ps i q) ≡ i = sym (get_or-map (λ r. number_in ps r) ps i q 0 l) ∙ ap (λ l. get_or l i 0) all ∙ get_or-range_with_len 0 (length ps) i 0 l ∙ omega arith in
     ap (number_in ps) (sym is) ∙ here
 
@@ -94,25 +94,25 @@ module _ (number : PeerKey → ℕ) (units : List ReplayUnit) (u : ReplayUnit) w
   own_units q e = filter-append (λ v. peer_eq v.peer q) units (u ∷ []) ∙ ap (λ b. units_of_peer units q ++ cond b (u ∷ []) []) (ap (λ p. peer_eq p q) e ∙ peer_itself q)
 
   -- its session was there
-  seats_found : (place : ℕ) (d : PeerKey) → place < length (peers_of units) → u.peer ≡ get_or (peers_of units) place d
-      → seats_by number (units ++ u ∷ []) ≡ set (seats_by number units) place (record { number = number (get_or (peers_of units) place d); key = get_or (peers_of units) place d; session = session_of (units_of_peer units (get_or (peers_of units) place d) ++ u ∷ []) })
-  seats_found place d l is =
+  seats_found : (position : ℕ) (d : PeerKey) → position < length (peers_of units) → u.peer ≡ get_or (peers_of units) position d
+      → seats_by number (units ++ u ∷ []) ≡ set (seats_by number units) position (record { number = number (get_or (peers_of units) position d); key = get_or (peers_of units) position d; session = session_of (units_of_peer units (get_or (peers_of units) position d) ++ u ∷ []) })
+  seats_found position d l is =
       let ps = peers_of units in
-      let k = get_or ps place d in
-      let seen : list_any (peer_eq u.peer) ps ≡ true = ap (λ p. list_any (peer_eq p) ps) is ∙ listed_at ps place k (gets ps place d l) in
+      let k = get_or ps position d in
+      let seen : list_any (peer_eq u.peer) ps ≡ true = ap (λ p. list_any (peer_eq p) ps) is ∙ listed_at ps position k (gets ps position d l) in
       let same : peers_of (units ++ u ∷ []) ≡ ps = peers_push units u ∙ ap (λ b. ps ++ (if b then [] else u.peer ∷ [])) seen ∙ append-nil ps in
       ap (map (seat_by number (units ++ u ∷ []))) same
-      ∙ map_but_one (seat_by number units) (seat_by number (units ++ u ∷ [])) ps place d l (λ j m ne.
+      ∙ map_but_one (seat_by number units) (seat_by number (units ++ u ∷ [])) ps position d l (λ j m ne.
       let q = get_or ps j d in
       let apart : peer_eq u.peer q ≡ false =
       elim (peer_eq u.peer q) as (λ b. peer_eq u.peer q ≡ b → b ≡ false) [
         | true ↦ λ e.
             let equal : k ≡ q = sym is ∙ same_peer u.peer q e in
-            let clash : j ≡ place = sym (peers_apart units j q (gets ps j d m)) ∙ ap (number_in ps) (sym equal) ∙ peers_apart units place k (gets ps place d l) in absurd (ne clash)
+            let clash : j ≡ position = sym (peers_apart units j q (gets ps j d m)) ∙ ap (number_in ps) (sym equal) ∙ peers_apart units position k (gets ps position d l) in absurd (ne clash)
         | false ↦ λ _. refl
       ] refl in
       ap (λ l. record { number = number q; key = q; session = session_of l }) (other_units q apart))
-      ∙ ap (λ l. set (seats_by number units) place (record { number = number k; key = k; session = session_of l })) (own_units k is)
+      ∙ ap (λ l. set (seats_by number units) position (record { number = number k; key = k; session = session_of l })) (own_units k is)
 
   none_alike : (ps : List PeerKey) → list_any (peer_eq u.peer) ps ≡ false → map (seat_by number (units ++ u ∷ [])) ps ≡ map (seat_by number units) ps
   none_alike [] e = refl
@@ -141,7 +141,7 @@ number_listed number units (p ∷ ps) zero n q at e =
     let is : p ≡ q = cc in ap (λ b. b || list_any (λ s. eqb s.number n) (map (seat_by number units) ps)) (eq-eqb (number p) n (ap number is ∙ e))
 number_listed number units (p ∷ ps) (suc i) n q at e = ap (λ b. eqb (number p) n || b) (number_listed number units ps i n q at e) ∙ or-true (eqb (number p) n)
 
-module _ (s₀ s₁ s₂ : List Seat) (taken : List Numbered) (n place : ℕ) (u : ReplayUnit) (q : TakenAt s₁ s₂ place u) (h : HoldsUnits s₀ taken) where
+module _ (s₀ s₁ s₂ : List Seat) (taken : List Numbered) (n position : ℕ) (u : ReplayUnit) (q : TakenAt s₁ s₂ position u) (h : HoldsUnits s₀ taken) where
   abbrev item : Numbered
   item = record { number = n; unit = u }
 
@@ -168,23 +168,23 @@ module _ (s₀ s₁ s₂ : List Seat) (taken : List Numbered) (n place : ℕ) (u
     seen_own : is_seen (units_in (taken ++ item ∷ [])) u.peer ≡ true
     seen_own = ap (λ l. is_seen l u.peer) one_more ∙ seen_last before u
 
-    taken_found : s₁ ≡ s₀ → place < length s₀ → ((d : Seat) → (get_or s₀ place d).number ≡ n) → seats_by number (units_in (taken ++ item ∷ [])) ≡ s₂
+    taken_found : s₁ ≡ s₀ → position < length s₀ → ((d : Seat) → (get_or s₀ position d).number ≡ n) → seats_by number (units_in (taken ++ item ∷ [])) ≡ s₂
     taken_found same within at =
         let ps = peers_of before in
-        let k = get_or ps place u.peer in
+        let k = get_or ps position u.peer in
         let d : Seat = new_seat n u.peer in
-        let l : place < length ps = (let e = ap length seats_before in let m = length-map ps (seat_by number before) in omega arith) in
-        let seat_is : get_or s₀ place d ≡ seat_by number before k = ap (λ l. get_or l place d) (sym seats_before) ∙ get_or-map (seat_by number before) ps place u.peer d l in
+        let l : position < length ps = (let e = ap length seats_before in let m = length-map ps (seat_by number before) in omega arith) in
+        let seat_is : get_or s₀ position d ≡ seat_by number before k = ap (λ l. get_or l position d) (sym seats_before) ∙ get_or-map (seat_by number before) ps position u.peer d l in
         let number_is : number k ≡ n = ap (λ s. s.number) (sym seat_is) ∙ at d in
-        let seen : is_seen (units_in (taken ++ item ∷ [])) k ≡ true = ap (λ l. is_seen l k) one_more ∙ seen_more before (u ∷ []) k (seen_at before place k (gets ps place u.peer l)) in
+        let seen : is_seen (units_in (taken ++ item ∷ [])) k ≡ true = ap (λ l. is_seen l k) one_more ∙ seen_more before (u ∷ []) k (seen_at before position k (gets ps position u.peer l)) in
         let is : u.peer ≡ k = a.apart u.peer k seen_own seen (number_own ∙ sym number_is) in
-        let here : get_or s₁ place d ≡ seat_by number before k = ap (λ l. get_or l place d) same ∙ seat_is in
+        let here : get_or s₁ position d ≡ seat_by number before k = ap (λ l. get_or l position d) same ∙ seat_is in
         let took = q (units_of_peer before k) d (ap (λ s. s.session) here) in
-        ap (seats_by number) one_more ∙ seats_found number before u place u.peer l is
-        ∙ ap (λ l. set l place (record { number = number k; key = k; session = session_of (units_of_peer before k ++ u ∷ []) })) (seats_before ∙ sym same)
-        ∙ ap (λ s. set s₁ place (record { number = s.number; key = s.key; session = session_of (units_of_peer before k ++ u ∷ []) })) (sym here) ∙ sym took
+        ap (seats_by number) one_more ∙ seats_found number before u position u.peer l is
+        ∙ ap (λ l. set l position (record { number = number k; key = k; session = session_of (units_of_peer before k ++ u ∷ []) })) (seats_before ∙ sym same)
+        ∙ ap (λ s. set s₁ position (record { number = s.number; key = s.key; session = session_of (units_of_peer before k ++ u ∷ []) })) (sym here) ∙ sym took
 
-    taken_new : list_any (λ s. eqb s.number n) s₀ ≡ false → place ≡ length s₀ → s₁ ≡ s₀ ++ new_seat n u.peer ∷ [] → seats_by number (units_in (taken ++ item ∷ [])) ≡ s₂
+    taken_new : list_any (λ s. eqb s.number n) s₀ ≡ false → position ≡ length s₀ → s₁ ≡ s₀ ++ new_seat n u.peer ∷ [] → seats_by number (units_in (taken ++ item ∷ [])) ≡ s₂
     taken_new none at grown =
         let ps = peers_of before in
         let d : Seat = new_seat n u.peer in
@@ -194,17 +194,17 @@ module _ (s₀ s₁ s₂ : List Seat) (taken : List Numbered) (n place : ℕ) (u
               let clash : false ≡ true = sym none ∙ ap (list_any (λ s. eqb s.number n)) (sym seats_before) ∙ number_listed number before ps (number_in ps u.peer) n u.peer (listed_gets ps u.peer (listed_peer before u.peer e)) number_own in cc
           | false ↦ λ _. refl
         ] refl in
-        let last : get_or s₁ place d ≡ new_seat n u.peer = ap (λ l. get_or l place d) grown ∙ get_or_push s₀ (new_seat n u.peer) d place (sym at) in
+        let last : get_or s₁ position d ≡ new_seat n u.peer = ap (λ l. get_or l position d) grown ∙ get_or_push s₀ (new_seat n u.peer) d position (sym at) in
         let took = q [] d (ap (λ s. s.session) last) in
         ap (seats_by number) one_more ∙ seats_new number before u new
         ∙ ap (λ l. l ++ record { number = number u.peer; key = u.peer; session = session_of ([] ++ u ∷ []) } ∷ []) seats_before
         ∙ ap (λ m. s₀ ++ record { number = m; key = u.peer; session = session_of ([] ++ u ∷ []) } ∷ []) number_own
-        ∙ sym (set_last s₀ (new_seat n u.peer) (record { number = n; key = u.peer; session = session_of ([] ++ u ∷ []) }) place at)
-        ∙ ap (λ l. set l place (record { number = n; key = u.peer; session = session_of ([] ++ u ∷ []) })) (sym grown)
-        ∙ ap (λ s. set s₁ place (record { number = s.number; key = s.key; session = session_of ([] ++ u ∷ []) })) (sym last) ∙ sym took
+        ∙ sym (set_last s₀ (new_seat n u.peer) (record { number = n; key = u.peer; session = session_of ([] ++ u ∷ []) }) position at)
+        ∙ ap (λ l. set l position (record { number = n; key = u.peer; session = session_of ([] ++ u ∷ []) })) (sym grown)
+        ∙ ap (λ s. set s₁ position (record { number = s.number; key = s.key; session = session_of ([] ++ u ∷ []) })) (sym last) ∙ sym took
 
   -- the sessions stand for one unit more
-  pub HoldsUnits-more : SeatFor s₀ s₁ n u.peer place → HoldsUnits s₂ (taken ++ item ∷ [])
+  pub HoldsUnits-more : SeatFor s₀ s₁ n u.peer position → HoldsUnits s₂ (taken ++ item ∷ [])
   HoldsUnits-more p number a =
       elim p [
         | inl found ↦ taken_found number a found.0 found.1 found.2
@@ -216,26 +216,26 @@ unfolding peers_of
 HoldsUnits-none number a = refl
 
 -- a session that took a unit keeps its number
-pub numbers_stay_at : {M : Type 0} (seats : List (Seated M)) (place : ℕ) (x : Seated M) (session : SessionState) → place < length seats
-    → map (λ seat. seat.number) (set seats place (record { number = (get_or seats place x).number; key = (get_or seats place x).key; session = session })) ≡ map (λ seat. seat.number) seats
-numbers_stay_at [] place x session l = refl
+pub numbers_stay_at : {M : Type 0} (seats : List (Seated M)) (position : ℕ) (x : Seated M) (session : SessionState) → position < length seats
+    → map (λ seat. seat.number) (set seats position (record { number = (get_or seats position x).number; key = (get_or seats position x).key; session = session })) ≡ map (λ seat. seat.number) seats
+numbers_stay_at [] position x session l = refl
 numbers_stay_at (s ∷ seats) zero x session l = refl
-numbers_stay_at (s ∷ seats) (suc place) x session l = ap (λ ns. s.number ∷ ns) (numbers_stay_at seats place x session (omega (arith, l)))
+numbers_stay_at (s ∷ seats) (suc position) x session l = ap (λ ns. s.number ∷ ns) (numbers_stay_at seats position x session (omega (arith, l)))
 
 -- one session took a unit
-pub TakenAt-from : {M E : Type 0} (r : Result (Unit {0}) E) (seats : List (Seated M)) (place : ℕ) (u : ReplayUnit) (x : Seated M) (session : SessionState) → place < length seats
-    → ((before : List ReplayUnit) → (get_or seats place x).session ≡ session_of before → OnOk r (session ≡ session_of (before ++ u ∷ [])))
-    → OnOk r (TakenAt (map seat_of seats) (map seat_of (set seats place (record { number = (get_or seats place x).number; key = (get_or seats place x).key; session = session }))) place u)
-TakenAt-from (Ok o) seats place u x session l h = λ before d e.
-    let at : get_or (map seat_of seats) place d ≡ seat_of (get_or seats place x) = get_or-map seat_of seats place x d l in
+pub TakenAt-from : {M E : Type 0} (r : Result (Unit {0}) E) (seats : List (Seated M)) (position : ℕ) (u : ReplayUnit) (x : Seated M) (session : SessionState) → position < length seats
+    → ((before : List ReplayUnit) → (get_or seats position x).session ≡ session_of before → OnOk r (session ≡ session_of (before ++ u ∷ [])))
+    → OnOk r (TakenAt (map seat_of seats) (map seat_of (set seats position (record { number = (get_or seats position x).number; key = (get_or seats position x).key; session = session }))) position u)
+TakenAt-from (Ok o) seats position u x session l h = λ before d e.
+    let at : get_or (map seat_of seats) position d ≡ seat_of (get_or seats position x) = get_or-map seat_of seats position x d l in
     let took = h before (ap (λ s. s.session) (sym at) ∙ e) in
-    map-set seat_of seats place (record { number = (get_or seats place x).number; key = (get_or seats place x).key; session = session })
-    ∙ ap (λ t. set (map seat_of seats) place (record { number = (get_or seats place x).number; key = (get_or seats place x).key; session = t })) took
-    ∙ ap (λ s. set (map seat_of seats) place (record { number = s.number; key = s.key; session = session_of (before ++ u ∷ []) })) (sym at)
-TakenAt-from (Err e) seats place u x session l h = tt
+    map-set seat_of seats position (record { number = (get_or seats position x).number; key = (get_or seats position x).key; session = session })
+    ∙ ap (λ t. set (map seat_of seats) position (record { number = (get_or seats position x).number; key = (get_or seats position x).key; session = t })) took
+    ∙ ap (λ s. set (map seat_of seats) position (record { number = s.number; key = s.key; session = session_of (before ++ u ∷ []) })) (sym at)
+TakenAt-from (Err e) seats position u x session l h = tt
 
 -- the sessions stand for one unit more, where it was taken
-pub HoldsUnits-taken : {T E : Type 0} (r : Result T E) (s₀ s₁ s₂ s₃ : List Seat) (n place : ℕ) (u : ReplayUnit) → SeatFor s₀ s₁ n u.peer place → s₃ ≡ s₂ → OnOk r (TakenAt s₁ s₂ place u)
+pub HoldsUnits-taken : {T E : Type 0} (r : Result T E) (s₀ s₁ s₂ s₃ : List Seat) (n position : ℕ) (u : ReplayUnit) → SeatFor s₀ s₁ n u.peer position → s₃ ≡ s₂ → OnOk r (TakenAt s₁ s₂ position u)
     → OnOk r ((taken : List Numbered) → HoldsUnits s₀ taken → HoldsUnits s₃ (taken ++ record { number = n; unit = u } ∷ []))
-HoldsUnits-taken (Ok o) s₀ s₁ s₂ s₃ n place u p e q = λ taken h. rw e (HoldsUnits-more s₀ s₁ s₂ taken n place u q h p)
-HoldsUnits-taken (Err o) s₀ s₁ s₂ s₃ n place u p e q = tt
+HoldsUnits-taken (Ok o) s₀ s₁ s₂ s₃ n position u p e q = λ taken h. rw e (HoldsUnits-more s₀ s₁ s₂ taken n position u q h p)
+HoldsUnits-taken (Err o) s₀ s₁ s₂ s₃ n position u p e q = tt

@@ -34,8 +34,8 @@ use Rattle.lane_deal.proofs.Bridges.{units_numbered}
 use Rattle.lane_deal.proofs.Classes.{of_class, by_class, by_class-IsPermutation, all_of}
 use Rattle.lane_deal.proofs.ClassLists.{kept_pass, all_pass, none_pass, any_alike, filters_swapped, of_lists, in_lists}
 use Rattle.lane_deal.proofs.HandingIn.{flat_each}
-use Rattle.lane_deal.proofs.Numbering.{numbered_peers, numbers_of_places}
-use Rattle.lane_deal.proofs.PeerPlaces.{listed_gets, some_is}
+use Rattle.lane_deal.proofs.Numbering.{numbered_peers, numbers_of_positions}
+use Rattle.lane_deal.proofs.PeerPositions.{listed_gets, some_is}
 use Rattle.lane_deal.proofs.Peers.{is_seen, new_peers, same_peer, peers_of-append, listed_peer, seen_after, all_more, units_of_chosen, peers_of_chosen}
 use Rattle.lane_deal.proofs.Rising.{Rises, range_rises, rises_filtered, increasing, distinct}
 use Rattle.lane_deal.proofs.ScheduleLaws.{lane_units-front}
@@ -150,8 +150,8 @@ module _ (lane_of : ℕ → ℕ) (all : List ReplayUnit) (s : LanesState) (share
 
     numbers_rise : Rises (map (λ x. x.number) (seats_taken all taken))
     numbers_rise =
-        let places : map (λ q. number_of_peer all q) (peers_of all) ≡ range_with_len 0 (length (peers_of all)) = numbered_peers (λ n _. n) all ∙ numbers_of_places 0 (peers_of all) in
-        subst Rises (sym (map-map (λ (x : Seat). x.number) own_seat peers)) (rises_filtered (λ q. number_of_peer all q) (is_seen taken) (peers_of all) (subst Rises (sym places) (range_rises 0 (length (peers_of all)))))
+        let positions : map (λ q. number_of_peer all q) (peers_of all) ≡ range_with_len 0 (length (peers_of all)) = numbered_peers (λ n _. n) all ∙ numbers_of_positions 0 (peers_of all) in
+        subst Rises (sym (map-map (λ (x : Seat). x.number) own_seat peers)) (rises_filtered (λ q. number_of_peer all q) (is_seen taken) (peers_of all) (subst Rises (sym positions) (range_rises 0 (length (peers_of all)))))
 
     module _ (none : s.undealt ≡ []) (idle : (lane : ℕ) → s.ring lane ≡ []) where
       all_taken : (lane : ℕ) → s.taken lane ≡ of_class class all lane

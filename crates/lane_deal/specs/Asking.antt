@@ -19,14 +19,17 @@ as_refused listed = map (λ damage. found.Refused damage) listed
 
 -- Where the bytes of the current and the later files are known, this is the first of what is to come.
 abbrev pub GivesFront : UnitsState → List (Option (List ℕ)) → List Found → Type 0
-GivesFront u known given = (contents : List (List ℕ)) → drop u.file known ≡ map (λ bytes. Some bytes) contents → (rest : List Found) × (found_to_come u contents ≡ given ++ rest)
+GivesFront u known given = (contents : List (List ℕ)) → drop u.file known ≡ map (λ bytes. Some bytes) contents →
+    (rest : List Found) × (found_to_come u contents ≡ given ++ rest)
 
 -- Where the bytes of the current and the later files are known, this is all that is to come.
 abbrev pub GivesAll : UnitsState → List (Option (List ℕ)) → List Found → Type 0
-GivesAll u known given = (contents : List (List ℕ)) → drop u.file known ≡ map (λ bytes. Some bytes) contents → found_to_come u contents ≡ given
+GivesAll u known given = (contents : List (List ℕ)) → drop u.file known ≡ map (λ bytes. Some bytes) contents →
+    found_to_come u contents ≡ given
 
 -- These were given by the files. The reading goes on as it did, and no more units can come than before.
-pub record TakesUnits (u : UnitsState) (known : List (Option (List ℕ))) (u' : UnitsState) (known' : List (Option (List ℕ))) (given : List Found) : Type 0 where
+pub record TakesUnits (u : UnitsState) (known : List (Option (List ℕ))) (u' : UnitsState)
+    (known' : List (Option (List ℕ))) (given : List Found) : Type 0 where
   pub found : TakesFound u known u' known' given
   pub few : length (filter_map unit_of given) + units_left u' ≤ units_left u
   pub plan : KeepsPlan u u'
@@ -36,20 +39,23 @@ pub record TakesUnits (u : UnitsState) (known : List (Option (List ℕ))) (u' : 
 -- Why a reading stops: a reader failed in this call or before it, memory ran out, there are more records than the limit, or the
 -- reading was spent.
 abbrev pub StopsReading : UnitsState → List (Option (List ℕ)) → List ℕ → List ℕ → ReplayError → Type 0
-StopsReading u known before after (errors.Read file) = (u.standing ≡ standings.Failed) ⊎ HasFailed (slice_index before file) (slice_index after file)
+StopsReading u known before after (errors.Read file) = (u.standing ≡ standings.Failed) ⊎
+    HasFailed (slice_index before file) (slice_index after file)
 StopsReading u known before after errors.Write = ⊥
 StopsReading u known before after errors.Memory = ⊤
 StopsReading u known before after errors.Records = HasMoreRecords u known
 StopsReading u known before after errors.Spent = u.standing ≡ standings.Spent
 
 -- An answer leaves the readers' failures as they were, an error has its cause, and the end is that of the last file.
-pub record ReadsOn (u : UnitsState) (known : List (Option (List ℕ))) (before : List ℕ) (u' : UnitsState) (after : List ℕ) (result : Result Step ReplayError) : Type 0 where
+pub record ReadsOn (u : UnitsState) (known : List (Option (List ℕ))) (before : List ℕ) (u' : UnitsState)
+    (after : List ℕ) (result : Result Step ReplayError) : Type 0 where
   pub sound : OnOk result (after ≡ before)
   pub cause : IfErr result (StopsReading u known before after)
   pub at_end : result ≡ Ok End → u'.file ≡ u'.count
 
 -- these refusals were listed, and then came a unit or the end
-pub record Asked (r r' : List Damage) (u : UnitsState) (known : List (Option (List ℕ))) (u' : UnitsState) (known' : List (Option (List ℕ))) (next : Option ReplayUnit) : Type 0 where
+pub record Asked (r r' : List Damage) (u : UnitsState) (known : List (Option (List ℕ))) (u' : UnitsState)
+    (known' : List (Option (List ℕ))) (next : Option ReplayUnit) : Type 0 where
   pub listed : List Damage
   pub refused : r' ≡ r ++ listed
   pub takes : TakesUnits u known u' known' (as_refused listed ++ as_found (option_to_list next))

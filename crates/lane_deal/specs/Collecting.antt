@@ -29,7 +29,9 @@ module _ {L S X : Type 0} (state : L → S) (held : S → List X) (with_held : S
   pub record ExchangedBelow (count : ℕ) (lanes lanes' : List L) (lists lists' : List (List X)) : Type 0 where
     pub lanes_count : length lanes' ≡ length lanes
     pub lists_count : length lists' ≡ length lists
-    pub each : (lane : ℕ) (d : L) (e : List X) → lane < count → Exchanged (slice_index_or lanes lane d) (slice_index_or lanes' lane d) (slice_index_or lists lane e) (slice_index_or lists' lane e)
+    pub each : (lane : ℕ) (d : L) (e : List X) → lane < count →
+        Exchanged (slice_index_or lanes lane d) (slice_index_or lanes' lane d) (slice_index_or lists lane e)
+        (slice_index_or lists' lane e)
     pub lanes_rest : (lane : ℕ) (d : L) → count ≤ lane → slice_index_or lanes' lane d ≡ slice_index_or lanes lane d
     pub lists_rest : (lane : ℕ) (e : List X) → count ≤ lane → slice_index_or lists' lane e ≡ slice_index_or lists lane e
 

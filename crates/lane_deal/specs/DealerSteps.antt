@@ -28,7 +28,8 @@ module _ {D : Type 0} where
     pub dealt : new.dealt ≡ old.dealt
 
   -- the kept unit, or what the files gave: refusals, which were listed, and then a unit or the end
-  pub record Next (old new : Dealer D) (u : UnitsState) (known : List (Option (List ℕ))) (u' : UnitsState) (known' : List (Option (List ℕ))) (next : Option ReplayUnit) : Type 0 where
+  pub record Next (old new : Dealer D) (u : UnitsState) (known : List (Option (List ℕ))) (u' : UnitsState)
+      (known' : List (Option (List ℕ))) (next : Option ReplayUnit) : Type 0 where
     pub given : List Found
     pub listed : List Damage
     pub takes : TakesUnits u known u' known' given
@@ -47,29 +48,36 @@ module _ {D : Type 0} where
     pub refused : new.refused.items ≡ old.refused.items ++ listed
 
   -- Of the kept unit and those that the files gave these were dealt or listed, in order, and the next is kept.
-  pub record Handles (lane_of : ℕ → ℕ) (feeds feeds' : List Feed) (old new : Dealer D) (given done : List Found) : Type 0 where
+  pub record Handles (lane_of : ℕ → ℕ) (feeds feeds' : List Feed) (old new : Dealer D) (given done : List Found)
+      : Type 0 where
     pub dealing : new.dealing ≡ old.dealing
     pub order : to_deal old.kept given ≡ done ++ to_deal new.kept []
     pub refused : new.refused.items ≡ old.refused.items ++ filter_map damage_of done
     pub counted : new.dealt ≡ min (old.dealt + length (filter_map unit_of done)) (2 ^ 64 - 1)
     pub pushed : Dealt lane_of feeds feeds' (numbered new.peers.keys.items (filter_map unit_of done))
     pub listed : AllByRecursion (λ u. list_any (peer_eq u.peer) new.peers.keys.items ≡ true) (filter_map unit_of done)
-    pub keys : (before : List ReplayUnit) → old.peers.keys.items ≡ peers_of (before ++ option_to_list old.kept) → new.peers.keys.items ≡ peers_of ((before ++ filter_map unit_of done) ++ option_to_list new.kept)
+    pub keys : (before : List ReplayUnit) → old.peers.keys.items ≡ peers_of (before ++ option_to_list old.kept) →
+        new.peers.keys.items ≡ peers_of ((before ++ filter_map unit_of done) ++ option_to_list new.kept)
 
   -- a unit is kept: at least as many as its lane's ring had free slots were pushed to it
   pub record IsFull (lane_of : ℕ → ℕ) (feeds : List Feed) (new : Dealer D) (dealt : List ReplayUnit) : Type 0 where
     pub unit : ReplayUnit
     pub kept : new.kept ≡ Some unit
-    pub full : (d : Feed) → known_free (slice_index_or feeds (lane_of (number_in new.peers.keys.items unit.peer)) d).producer ≤ length (in_lane lane_of (lane_of (number_in new.peers.keys.items unit.peer)) (numbered new.peers.keys.items dealt))
+    pub full : (d : Feed) → known_free (slice_index_or feeds (lane_of (number_in new.peers.keys.items unit.peer))
+        d).producer ≤ length (in_lane lane_of (lane_of (number_in new.peers.keys.items unit.peer))
+        (numbered new.peers.keys.items dealt))
 
   -- why the dealer stopped
-  abbrev pub StopsDealing : (ℕ → ℕ) → ℕ → List Feed → Dealer D → UnitsState → List (Option (List ℕ)) → List Found → List ReplayUnit → Step → Type 0
+  abbrev pub StopsDealing : (ℕ → ℕ) → ℕ → List Feed → Dealer D → UnitsState → List (Option (List ℕ)) → List Found →
+      List ReplayUnit → Step → Type 0
   StopsDealing lane_of batch feeds new u known given dealt Blocked = IsFull lane_of feeds new dealt
   StopsDealing lane_of batch feeds new u known given dealt FullBatch = length dealt ≡ batch
   StopsDealing lane_of batch feeds new u known given dealt End = (new.kept ≡ None) × GivesAll u known given
 
   -- what the dealer did in a round
-  pub record Deals (lane_of : ℕ → ℕ) (batch : ℕ) (feeds feeds' : List Feed) (old new : Dealer D) (u : UnitsState) (known : List (Option (List ℕ))) (u' : UnitsState) (known' : List (Option (List ℕ))) (result : Result Step ReplayError) : Type 0 where
+  pub record Deals (lane_of : ℕ → ℕ) (batch : ℕ) (feeds feeds' : List Feed) (old new : Dealer D) (u : UnitsState)
+      (known : List (Option (List ℕ))) (u' : UnitsState) (known' : List (Option (List ℕ)))
+      (result : Result Step ReplayError) : Type 0 where
     pub given : List Found
     pub done : List Found
     pub gives : GivesFront u known given
@@ -79,7 +87,9 @@ module _ {D : Type 0} where
     pub nothing_kept : OnErr result (new.kept ≡ None)
 
   -- what the dealer did in a round, and what became of the reading
-  pub record DealsOn (lane_of : ℕ → ℕ) (batch : ℕ) (feeds feeds' : List Feed) (old new : Dealer D) (u : UnitsState) (known : List (Option (List ℕ))) (before : List ℕ) (u' : UnitsState) (known' : List (Option (List ℕ))) (after : List ℕ) (result : Result Step ReplayError) : Type 0 where
+  pub record DealsOn (lane_of : ℕ → ℕ) (batch : ℕ) (feeds feeds' : List Feed) (old new : Dealer D) (u : UnitsState)
+      (known : List (Option (List ℕ))) (before : List ℕ) (u' : UnitsState) (known' : List (Option (List ℕ)))
+      (after : List ℕ) (result : Result Step ReplayError) : Type 0 where
     pub count : u'.count ≡ u.count
     pub reads : ReadsOn u known before u' after result
     pub deals : IfAnswered result (Deals lane_of batch feeds feeds' old new u known u' known' result)

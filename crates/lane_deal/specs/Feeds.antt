@@ -17,4 +17,5 @@ pub record Pushed (before after : Feed) (items : List Numbered) : Type 0 where
 -- each item was pushed to the lane of its peer, in order
 pub record Dealt (lane_of : ℕ → ℕ) (before after : List Feed) (items : List Numbered) : Type 0 where
   pub lanes : length after ≡ length before
-  pub each : (lane : ℕ) (d : Feed) → lane < length before → Pushed (slice_index_or before lane d) (slice_index_or after lane d) (in_lane lane_of lane items)
+  pub each : (lane : ℕ) (d : Feed) → lane < length before →
+      Pushed (slice_index_or before lane d) (slice_index_or after lane d) (in_lane lane_of lane items)

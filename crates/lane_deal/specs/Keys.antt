@@ -4,9 +4,10 @@ use Rattle.std.specs.List.{position_or_len}
 use Rattle.mrt_body.specs.declared.unit.PeerKey.{PeerKey}
 use Rattle.peer_tables.specs.Peers.{peer_eq}
 
--- no peer stands there twice: each one's place is the first at which it stands
+-- no peer stands there twice: each one's position is the first at which it stands
 abbrev pub AreApart : List PeerKey → Type 0
-AreApart keys = (number : ℕ) (key : PeerKey) → slice_get keys number ≡ Some key → position_or_len (peer_eq key) keys ≡ number
+AreApart keys = (number : ℕ) (key : PeerKey) → slice_get keys number ≡ Some key →
+    position_or_len (peer_eq key) keys ≡ number
 
 -- a peer's number is found exactly where the peer stands
 abbrev pub AreListed : (PeerKey → Option ℕ) → List PeerKey → Type 0

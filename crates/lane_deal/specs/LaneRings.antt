@@ -22,7 +22,8 @@ IsReady capacity feed worker =
 abbrev pub AreReady : {S : Type 0} → ℕ → List Feed → List (Worker S) → Type 0
 AreReady {S} capacity feeds workers =
     (length workers ≡ length feeds)
-    × ((lane : ℕ) (d : Feed) (e : Worker S) → lane < length feeds → IsReady capacity (slice_index_or feeds lane d) (slice_index_or workers lane e))
+    × ((lane : ℕ) (d : Feed) (e : Worker S) → lane < length feeds →
+    IsReady capacity (slice_index_or feeds lane d) (slice_index_or workers lane e))
 
 module _ {S : Type 0} (stands_for : S → List Numbered → Type 0) where
   -- these items were dealt to the lane: some were taken, and the others wait in its ring
@@ -35,10 +36,12 @@ module _ {S : Type 0} (stands_for : S → List Numbered → Type 0) where
   -- each lane stands for its part of the items that were dealt
   abbrev pub LanesStand : (ℕ → ℕ) → List Feed → List (Worker S) → List Numbered → Type 0
   LanesStand lane_of feeds workers dealt =
-      (lane : ℕ) (d : Feed) (e : Worker S) → lane < length feeds → LaneStands (slice_index_or feeds lane d) (slice_index_or workers lane e) (in_lane lane_of lane dealt)
+      (lane : ℕ) (d : Feed) (e : Worker S) → lane < length feeds →
+      LaneStands (slice_index_or feeds lane d) (slice_index_or workers lane e) (in_lane lane_of lane dealt)
 
 -- the waiting items were moved to a ring made anew
-pub record Renewed {S : Type 0} (capacity : ℕ) (feed : Feed) (worker : Worker S) (feed' : Feed) (worker' : Worker S) : Type 0 where
+pub record Renewed {S : Type 0} (capacity : ℕ) (feed : Feed) (worker : Worker S) (feed' : Feed) (worker' : Worker S)
+    : Type 0 where
   pub fifo : received worker.consumer ++ sent feed'.producer ≡ sent feed.producer
   pub sessions : worker'.sessions ≡ worker.sessions
   pub taken : worker'.taken ≡ worker.taken
@@ -60,35 +63,47 @@ abbrev pub IsLane : {S : Type 0} → ℕ → Feed → Worker S → Type 0
 IsLane capacity feed worker = IsPair feed.producer worker.consumer × (consumer_capacity worker.consumer ≡ capacity)
 
 -- each lane was renewed
-pub record RenewedAll {S : Type 0} (capacity : ℕ) (feeds : List Feed) (workers : List (Worker S)) (feeds' : List Feed) (workers' : List (Worker S)) : Type 0 where
+pub record RenewedAll {S : Type 0} (capacity : ℕ) (feeds : List Feed) (workers : List (Worker S)) (feeds' : List Feed)
+    (workers' : List (Worker S)) : Type 0 where
   pub feeds_count : length feeds' ≡ length feeds
   pub workers_count : length workers' ≡ length workers
-  pub each : (lane : ℕ) (d : Feed) (e : Worker S) → lane < length feeds → Renewed capacity (slice_index_or feeds lane d) (slice_index_or workers lane e) (slice_index_or feeds' lane d) (slice_index_or workers' lane e)
+  pub each : (lane : ℕ) (d : Feed) (e : Worker S) → lane < length feeds →
+      Renewed capacity (slice_index_or feeds lane d) (slice_index_or workers lane e) (slice_index_or feeds' lane d)
+      (slice_index_or workers' lane e)
 
 -- the lanes below this one were renewed, and the others are as they were
-pub record RenewedBelow {S : Type 0} (capacity count : ℕ) (feeds : List Feed) (workers : List (Worker S)) (feeds' : List Feed) (workers' : List (Worker S)) : Type 0 where
+pub record RenewedBelow {S : Type 0} (capacity count : ℕ) (feeds : List Feed) (workers : List (Worker S))
+    (feeds' : List Feed) (workers' : List (Worker S)) : Type 0 where
   pub feeds_count : length feeds' ≡ length feeds
   pub workers_count : length workers' ≡ length workers
-  pub each : (lane : ℕ) (d : Feed) (e : Worker S) → lane < count → Renewed capacity (slice_index_or feeds lane d) (slice_index_or workers lane e) (slice_index_or feeds' lane d) (slice_index_or workers' lane e)
+  pub each : (lane : ℕ) (d : Feed) (e : Worker S) → lane < count →
+      Renewed capacity (slice_index_or feeds lane d) (slice_index_or workers lane e) (slice_index_or feeds' lane d)
+      (slice_index_or workers' lane e)
   pub feeds_rest : (lane : ℕ) (d : Feed) → count ≤ lane → slice_index_or feeds' lane d ≡ slice_index_or feeds lane d
-  pub workers_rest : (lane : ℕ) (e : Worker S) → count ≤ lane → slice_index_or workers' lane e ≡ slice_index_or workers lane e
+  pub workers_rest : (lane : ℕ) (e : Worker S) → count ≤ lane →
+      slice_index_or workers' lane e ≡ slice_index_or workers lane e
 
 -- a lane to which nothing was dealt
-pub record IsFresh {S : Type 0} (stands_for : S → List Numbered → Type 0) (capacity : ℕ) (feed : Feed) (worker : Worker S) : Type 0 where
+pub record IsFresh {S : Type 0} (stands_for : S → List Numbered → Type 0) (capacity : ℕ) (feed : Feed)
+    (worker : Worker S) : Type 0 where
   pub ready : IsReady capacity feed worker
   pub empty : sent feed.producer ≡ []
   pub sessions : stands_for worker.sessions []
   pub untaken : worker.taken ≡ 0
 
 -- all lanes are fresh
-pub record AreFresh {S : Type 0} (stands_for : S → List Numbered → Type 0) (capacity count : ℕ) (feeds : List Feed) (workers : List (Worker S)) : Type 0 where
+pub record AreFresh {S : Type 0} (stands_for : S → List Numbered → Type 0) (capacity count : ℕ) (feeds : List Feed)
+    (workers : List (Worker S)) : Type 0 where
   pub feeds_count : length feeds ≡ count
   pub workers_count : length workers ≡ count
-  pub each : (lane : ℕ) (d : Feed) (e : Worker S) → lane < count → IsFresh stands_for capacity (slice_index_or feeds lane d) (slice_index_or workers lane e)
+  pub each : (lane : ℕ) (d : Feed) (e : Worker S) → lane < count →
+      IsFresh stands_for capacity (slice_index_or feeds lane d) (slice_index_or workers lane e)
 
 -- all that was dealt is taken
-pub record Settled {S : Type 0} (stands_for : S → List Numbered → Type 0) (capacity : ℕ) (feeds : List Feed) (workers : List (Worker S)) (feeds' : List Feed) (workers' : List (Worker S)) : Type 0 where
+pub record Settled {S : Type 0} (stands_for : S → List Numbered → Type 0) (capacity : ℕ) (feeds : List Feed)
+    (workers : List (Worker S)) (feeds' : List Feed) (workers' : List (Worker S)) : Type 0 where
   pub count : length feeds' ≡ length feeds
   pub ready : AreReady capacity feeds' workers'
-  pub stands : (lane_of : ℕ → ℕ) (dealt : List Numbered) → LanesStand stands_for lane_of feeds workers dealt → LanesStand stands_for lane_of feeds' workers' dealt
+  pub stands : (lane_of : ℕ → ℕ) (dealt : List Numbered) → LanesStand stands_for lane_of feeds workers dealt →
+      LanesStand stands_for lane_of feeds' workers' dealt
   pub empty : Worker S → (lane : ℕ) (d : Feed) → lane < length feeds → sent (slice_index_or feeds' lane d).producer ≡ []

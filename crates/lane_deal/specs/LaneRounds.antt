@@ -16,14 +16,22 @@ use Rattle.lane_deal.specs.LaneRings.{AreReady, LanesStand}
 use Rattle.lane_deal.specs.Numbers.{numbered}
 
 -- the round dealt these units, and took all that waited before it
-pub record Rounded {S : Type 0} (stands_for : S → List Numbered → Type 0) (lane_of : ℕ → ℕ) (capacity : ℕ) (feeds : List Feed) (workers : List (Worker S)) (feeds' : List Feed) (workers' : List (Worker S)) (items : List Numbered) : Type 0 where
+pub record Rounded {S : Type 0} (stands_for : S → List Numbered → Type 0) (lane_of : ℕ → ℕ) (capacity : ℕ)
+    (feeds : List Feed) (workers : List (Worker S)) (feeds' : List Feed) (workers' : List (Worker S))
+    (items : List Numbered) : Type 0 where
   pub count : length feeds' ≡ length feeds
   pub ready : AreReady capacity feeds' workers'
-  pub stands : (dealt : List Numbered) → LanesStand stands_for lane_of feeds workers dealt → LanesStand stands_for lane_of feeds' workers' (dealt ++ items)
-  pub taken : Worker S → (lane : ℕ) (d : Feed) → lane < length feeds → length (sent (slice_index_or feeds' lane d).producer) ≤ length (in_lane lane_of lane items)
+  pub stands : (dealt : List Numbered) → LanesStand stands_for lane_of feeds workers dealt →
+      LanesStand stands_for lane_of feeds' workers' (dealt ++ items)
+  pub taken : Worker S → (lane : ℕ) (d : Feed) → lane < length feeds →
+      length (sent (slice_index_or feeds' lane d).producer) ≤ length (in_lane lane_of lane items)
 
 -- what the dealer did in a round, and what came of it in the lanes
-pub record PlaysLanes {S D : Type 0} (stands_for : S → List Numbered → Type 0) (lane_of : ℕ → ℕ) (capacity batch : ℕ) (feeds : List Feed) (workers : List (Worker S)) (feeds' : List Feed) (workers' : List (Worker S)) (old new : Dealer D) (u : UnitsState) (known : List (Option (List ℕ))) (u' : UnitsState) (known' : List (Option (List ℕ))) (result : Result Step ReplayError) : Type 0 where
+pub record PlaysLanes {S D : Type 0} (stands_for : S → List Numbered → Type 0) (lane_of : ℕ → ℕ) (capacity batch : ℕ)
+    (feeds : List Feed) (workers : List (Worker S)) (feeds' : List Feed) (workers' : List (Worker S))
+    (old new : Dealer D) (u : UnitsState) (known : List (Option (List ℕ))) (u' : UnitsState)
+    (known' : List (Option (List ℕ))) (result : Result Step ReplayError) : Type 0 where
   pub between : List Feed
   pub deals : Deals lane_of batch feeds between old new u known u' known' result
-  pub rounded : Rounded stands_for lane_of capacity feeds workers feeds' workers' (numbered new.peers.keys.items (filter_map unit_of deals.done))
+  pub rounded : Rounded stands_for lane_of capacity feeds workers feeds' workers'
+      (numbered new.peers.keys.items (filter_map unit_of deals.done))

@@ -25,14 +25,16 @@ module _ {S : Type 0} (stands_for : S → List Numbered → Type 0) where
     pub ring : SameConsumer before.consumer after.consumer
     pub received : received after.consumer ≡ received before.consumer ++ items
     pub counted : after.taken ≡ min (before.taken + length items) (2 ^ 64 - 1)
-    pub sessions : (taken : List Numbered) → stands_for before.sessions taken → stands_for after.sessions (taken ++ items)
+    pub sessions : (taken : List Numbered) → stands_for before.sessions taken →
+        stands_for after.sessions (taken ++ items)
 
   -- the worker gave these items to its sessions, in order
   pub record Takes (before after : Worker S) (items : List Numbered) : Type 0 where
     pub lane : after.lane ≡ before.lane
     pub ring : after.consumer ≡ before.consumer
     pub counted : after.taken ≡ min (before.taken + length items) (2 ^ 64 - 1)
-    pub sessions : (taken : List Numbered) → stands_for before.sessions taken → stands_for after.sessions (taken ++ items)
+    pub sessions : (taken : List Numbered) → stands_for before.sessions taken →
+        stands_for after.sessions (taken ++ items)
 
   -- the worker took some of the items that it knew, the first ones
   pub record TookFront (before after : Worker S) : Type 0 where

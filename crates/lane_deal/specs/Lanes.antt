@@ -7,7 +7,7 @@ use Rattle.adj_rib.specs.Sessions.{session_of}
 use Rattle.peer_tables.specs.Peers.{peer_eq, peers_of, units_of_peer}
 use Rattle.peer_tables.specs.Tables.{Seat}
 
--- a peer's number: its place by first appearance
+-- a peer's number: its position by first appearance
 abbrev pub number_of_peer : List ReplayUnit → PeerKey → ℕ
 number_of_peer units q = position_or_len (peer_eq q) (peers_of units)
 
@@ -22,4 +22,5 @@ lane_units lane_of units lane = filter (λ unit. lane_of_unit lane_of units unit
 -- One session for each peer of these units, under its number among all: it stands for the peer's units here.
 abbrev pub seats_of_lane : List ReplayUnit → List ReplayUnit → List Seat
 seats_of_lane all units =
-    map (λ q. record { number = number_of_peer all q; key = q; session = session_of (units_of_peer units q) }) (peers_of units)
+    map (λ q. record { number = number_of_peer all q; key = q; session = session_of (units_of_peer units q) })
+    (peers_of units)

@@ -20,16 +20,20 @@ shown r = state_at r.dealer r.feeds.items r.workers.items (is_spent r.state)
 
 -- where the bytes of the current and the later files are known, this is to come of them behind what was given
 abbrev pub IsLeft : UnitsState → List (Option (List ℕ)) → List Found → List Found → Type 0
-IsLeft u known given left = (contents : List (List ℕ)) × (drop u.file known ≡ map (λ bytes. Some bytes) contents) × (found_to_come u contents ≡ given ++ left)
+IsLeft u known given left = (contents : List (List ℕ)) × (drop u.file known ≡ map (λ bytes. Some bytes) contents) ×
+    (found_to_come u contents ≡ given ++ left)
 
 -- A round was given these by the files, in order, and dealt or listed those of the kept unit and these; whatever the files give
 -- behind them is left.
-pub record PlaysOn (dealing : ℕ → ℕ → ℕ) (plan : Plan) (old new : ReplayerState) (u : UnitsState) (known : List (Option (List ℕ))) (u' : UnitsState) (known' : List (Option (List ℕ))) (result : Result Step ReplayError) : Type 0 where
+pub record PlaysOn (dealing : ℕ → ℕ → ℕ) (plan : Plan) (old new : ReplayerState) (u : UnitsState)
+    (known : List (Option (List ℕ))) (u' : UnitsState) (known' : List (Option (List ℕ)))
+    (result : Result Step ReplayError) : Type 0 where
   pub given : List Found
   pub done : List Found
   pub gives : GivesFront u known given
   pub takes : OnOk result (TakesUnits u known u' known' given)
   pub plays : (left : List Found) → PlaysRound dealing plan.ring old new (given ++ left) left done
-  pub stops : IfOk result (λ step. (left : List Found) → (step ≡ End → IsLeft u known given left) → Stops dealing plan old new left (filter_map unit_of done) step)
+  pub stops : IfOk result (λ step. (left : List Found) → (step ≡ End → IsLeft u known given left) →
+      Stops dealing plan old new left (filter_map unit_of done) step)
   pub ended : result ≡ Ok End → (new.kept ≡ None) × GivesAll u known given
   pub nothing_kept : OnErr result (new.kept ≡ None)

@@ -60,10 +60,12 @@ pub record LaneStandsFor (capacity : ℕ) (all dealt : List ReplayUnit) (lane : 
 
 -- These units were dealt and these refusals listed, and there are lanes. The dealing gives the lane of a peer's number, of so many lanes; the kept unit's peer
 -- has its number already.
-pub record ReplayerStandsFor (dealing : ℕ → ℕ → ℕ) (capacity : ℕ) (units : List ReplayUnit) (refused : List Damage) (r : ReplayerState) : Type 0 where
+pub record ReplayerStandsFor (dealing : ℕ → ℕ → ℕ) (capacity : ℕ) (units : List ReplayUnit) (refused : List Damage)
+    (r : ReplayerState) : Type 0 where
   pub unspent : r.spent ≡ false
   pub lanes : (lane : ℕ) (state : LaneState) → slice_get r.lanes lane ≡ Some state
-      → LaneStandsFor capacity (units ++ option_to_list r.kept) (lane_units (λ number. dealing number (length r.lanes)) units lane) state
+      → LaneStandsFor capacity (units ++ option_to_list r.kept)
+      (lane_units (λ number. dealing number (length r.lanes)) units lane) state
   pub peers : r.peers ≡ peers_of (units ++ option_to_list r.kept)
   pub refused_kept : r.refused ≡ refused
   pub some_lanes : 0 < length r.lanes

@@ -22,19 +22,22 @@ share_of dealing r lane units = count_by (λ unit. lane_in dealing r unit == lan
 
 -- What a round, or as much of it as a failed read left, did with what was to come: these are, in order, the units that it dealt and the
 -- refusals that it listed. The next one is kept or still to come. What waited in a ring was taken.
-pub record PlaysRound (dealing : ℕ → ℕ → ℕ) (capacity : ℕ) (old new : ReplayerState) (coming left done : List Found) : Type 0 where
+pub record PlaysRound (dealing : ℕ → ℕ → ℕ) (capacity : ℕ) (old new : ReplayerState) (coming left done : List Found)
+    : Type 0 where
   pub order : to_deal old.kept coming ≡ done ++ to_deal new.kept left
   pub lanes : length new.lanes ≡ length old.lanes
   pub stands : (units : List ReplayUnit) (refused : List Damage) → ReplayerStandsFor dealing capacity units refused old
       → ReplayerStandsFor dealing capacity (units ++ filter_map unit_of done) (refused ++ filter_map damage_of done) new
-  pub taken : (lane : ℕ) (state : LaneState) → slice_get new.lanes lane ≡ Some state → length state.ring.sent ≤ share_of dealing new lane (filter_map unit_of done)
+  pub taken : (lane : ℕ) (state : LaneState) → slice_get new.lanes lane ≡ Some state →
+      length state.ring.sent ≤ share_of dealing new lane (filter_map unit_of done)
 
 -- ---- why it stopped
 
 -- a unit is kept, and those that waited in its lane and those dealt there would leave no slot
 abbrev pub IsBlocked : (ℕ → ℕ → ℕ) → ℕ → ReplayerState → ReplayerState → List ReplayUnit → Type 0
 IsBlocked dealing capacity old new dealt =
-    (unit : ReplayUnit) × (state : LaneState) × (new.kept ≡ Some unit) × (slice_get old.lanes (lane_in dealing new unit) ≡ Some state)
+    (unit : ReplayUnit) × (state : LaneState) × (new.kept ≡ Some unit) ×
+    (slice_get old.lanes (lane_in dealing new unit) ≡ Some state)
     × (capacity ≤ length state.ring.sent + share_of dealing new (lane_in dealing new unit) dealt)
 
 -- what the answer of a round says: a unit came back from a full ring, a batch is dealt, or nothing is kept and nothing to come
@@ -56,7 +59,8 @@ pub record RoundState : Type 0 where
 abbrev pub AreRounds : (ℕ → ℕ → ℕ) → Plan → ReplayerState → List Found → List RoundState → Type 0
 AreRounds dealing plan r coming [] = Unit {0}
 AreRounds dealing plan r coming (round ∷ rounds) =
-    PlaysRound dealing plan.ring r round.replayer coming round.left round.done × Stops dealing plan r round.replayer round.left (filter_map unit_of round.done) round.step
+    PlaysRound dealing plan.ring r round.replayer coming round.left round.done ×
+    Stops dealing plan r round.replayer round.left (filter_map unit_of round.done) round.step
     × AreRounds dealing plan round.replayer round.left rounds
 
 -- the units that were dealt in them
@@ -73,4 +77,5 @@ IsSettled r = (lane : ℕ) (state : LaneState) → slice_get r.lanes lane ≡ So
 pub record Settles (dealing : ℕ → ℕ → ℕ) (capacity : ℕ) (old new : ReplayerState) : Type 0 where
   pub settled : IsSettled new
   pub kept : new.kept ≡ old.kept
-  pub stands : (units : List ReplayUnit) (refused : List Damage) → ReplayerStandsFor dealing capacity units refused old → ReplayerStandsFor dealing capacity units refused new
+  pub stands : (units : List ReplayUnit) (refused : List Damage) →
+      ReplayerStandsFor dealing capacity units refused old → ReplayerStandsFor dealing capacity units refused new

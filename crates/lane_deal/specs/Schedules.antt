@@ -24,13 +24,23 @@ with_list lists lane list other = if lane == other then list else lists other
 abbrev pub dealt : (ReplayUnit → ℕ) → LanesState → List ReplayUnit → LanesState
 dealt lane_of s [] = s
 dealt lane_of s (unit ∷ units) =
-    record { undealt = units; ring = with_list s.ring (lane_of unit) (s.ring (lane_of unit) ++ unit ∷ []); taken = s.taken }
+    record {
+      undealt = units;
+      ring = with_list s.ring (lane_of unit)
+          (s.ring (lane_of unit) ++ unit ∷ []);
+      taken = s.taken;
+    }
 
 -- the first of the units in a lane's ring goes to the end of what the lane took
 abbrev pub took : ℕ → LanesState → List ReplayUnit → LanesState
 took lane s [] = s
 took lane s (unit ∷ units) =
-    record { undealt = s.undealt; ring = with_list s.ring lane units; taken = with_list s.taken lane (s.taken lane ++ unit ∷ []) }
+    record {
+      undealt = s.undealt;
+      ring = with_list s.ring lane units;
+      taken = with_list s.taken lane
+          (s.taken lane ++ unit ∷ []);
+    }
 
 -- after one event; one that finds nothing changes nothing
 abbrev pub after_turn : (ReplayUnit → ℕ) → LanesState → Turn → LanesState

@@ -19,7 +19,8 @@ seats_by number units = map (seat_by number units) (peers_of units)
 -- each unit has its peer's number, and different peers have different ones
 pub record AreNumbered (number : PeerKey → ℕ) (items : List Numbered) : Type 0 where
   pub each : AllByRecursion (λ item. number item.unit.peer ≡ item.number) items
-  pub apart : (p q : PeerKey) → list_any (λ u. peer_eq u.peer p) (units_in items) ≡ true → list_any (λ u. peer_eq u.peer q) (units_in items) ≡ true → number p ≡ number q → p ≡ q
+  pub apart : (p q : PeerKey) → list_any (λ u. peer_eq u.peer p) (units_in items) ≡ true →
+      list_any (λ u. peer_eq u.peer q) (units_in items) ≡ true → number p ≡ number q → p ≡ q
 
 -- the sessions stand for these units, where their numbers are those of their peers
 abbrev pub HoldsUnits : List Seat → List Numbered → Type 0
@@ -30,16 +31,24 @@ new_seat number key = record { number = number; key = key; session = session_of 
 
 -- the session of this number stands there: it was found, or there was none and it is new
 abbrev pub SeatFor : List Seat → List Seat → ℕ → PeerKey → ℕ → Type 0
-SeatFor old new number key place =
-    ((new ≡ old) × (place < length old) × ((d : Seat) → (slice_index_or old place d).number ≡ number))
-    ⊎ ((list_any (λ s. s.number == number) old ≡ false) × (place ≡ length old) × (new ≡ old ++ new_seat number key ∷ []))
+SeatFor old new number key position =
+    ((new ≡ old) × (position < length old) × ((d : Seat) → (slice_index_or old position d).number ≡ number))
+    ⊎ ((list_any (λ s. s.number == number) old ≡ false) × (position ≡ length old) ×
+    (new ≡ old ++ new_seat number key ∷ []))
 
 -- the session there took one unit more
 abbrev pub TakenAt : List Seat → List Seat → ℕ → ReplayUnit → Type 0
-TakenAt old new place unit =
-    (before : List ReplayUnit) (d : Seat) → (slice_index_or old place d).session ≡ session_of before
-    → new ≡ slice_set old place (record { number = (slice_index_or old place d).number; key = (slice_index_or old place d).key; session = session_of (before ++ unit ∷ []) })
+TakenAt old new position unit =
+    (before : List ReplayUnit) (d : Seat) → (slice_index_or old position d).session ≡ session_of before
+    → new ≡ slice_set old position
+    (record {
+      number = (slice_index_or old position d).number;
+      key = (slice_index_or old position
+          d).key;
+      session = session_of (before ++ unit ∷ []);
+    })
 
 -- each session's position is remembered under its number
 abbrev pub AreIndexed : List (Option ℕ) → List ℕ → Type 0
-AreIndexed positions numbers = (at number : ℕ) → slice_get numbers at ≡ Some number → slice_get positions number ≡ Some (Some at)
+AreIndexed positions numbers = (at number : ℕ) → slice_get numbers at ≡ Some number →
+    slice_get positions number ≡ Some (Some at)

@@ -32,4 +32,13 @@ module _ {M : Type 0} {g : Ghosts M SharedRoute} where
 
   -- what a replayer of these shows
   abbrev pub state_at : {D : Type 0} → Dealer D → List Feed → List (Worker (Seats M g)) → Bool → ReplayerState
-  state_at dealer feeds workers spent = record { lanes = lane_states feeds workers; peers = dealer.peers.keys.items; kept = dealer.kept; refused = dealer.refused.items; dealt = dealer.dealt; spent = spent }
+  state_at dealer feeds workers
+      spent = record {
+        lanes = lane_states feeds
+            workers;
+        peers = dealer.peers.keys.items;
+        kept = dealer.kept;
+        refused = dealer.refused.items;
+        dealt = dealer.dealt;
+        spent = spent;
+      }

@@ -19,9 +19,11 @@ module _ {M : Type 0} {g : Ghosts M SharedRoute} where
     pub seats : SeatsHold lane.seats (numbered (peers_of all) taken)
     pub took : lane.took ≡ min (length taken) (2 ^ 64 - 1)
 
-  pub record LanesShow (all : List ReplayUnit) (undealt : List Numbered) (lanes : List (OneLane M g)) (s : LanesState) : Type 0 where
+  pub record LanesShow (all : List ReplayUnit) (undealt : List Numbered) (lanes : List (OneLane M g)) (s : LanesState)
+      : Type 0 where
     pub rest : undealt ≡ numbered (peers_of all) s.undealt
-    pub each : (lane : ℕ) (d : OneLane M g) → lane < length lanes → LaneShows all (slice_index_or lanes lane d) (s.ring lane) (s.taken lane)
+    pub each : (lane : ℕ) (d : OneLane M g) → lane < length lanes →
+        LaneShows all (slice_index_or lanes lane d) (s.ring lane) (s.taken lane)
     pub past : (lane : ℕ) → length lanes ≤ lane → (s.ring lane ≡ []) × (s.taken lane ≡ [])
 
   -- Lanes that deal these units are in this state: what each took and what waits in its ring are, in order, its own of those dealt.

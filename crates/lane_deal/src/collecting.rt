@@ -70,8 +70,11 @@ pub fn collect_lanes<M: PrefixMap<SharedRoute> + Drop, L: HoldsSeats<M> + Drop>(
     refused: Vec<Damage>,
 ) -> Result<Tables<M>, (Vec<L>, Vec<Damage>)>
     requires { IsDistinct nat_eq (map (λ seat. seat.number) (seats_held (λ lane. L.held (L.state lane)) lanes.items)) }
-    ensures only { (seats : List Seat) → IsPermutation (seats_held (λ lane. L.held (L.state lane)) lanes.items) seats → IsStrictlyIncreasing (map (λ seat. seat.number) seats) → IfOk result (λ tables. tables ≡ record { seats = seats; refused = refused.items }) }
-    ensures back { IfErr result (λ back. (map L.state back.0.items ≡ map L.state lanes.items) × (back.1.items ≡ refused.items)) }
+    ensures only { (seats : List Seat) → IsPermutation (seats_held (λ lane. L.held (L.state lane)) lanes.items) seats →
+        IsStrictlyIncreasing (map (λ seat. seat.number) seats) →
+        IfOk result (λ tables. tables ≡ record { seats = seats; refused = refused.items }) }
+    ensures back { IfErr result (λ back. (map L.state back.0.items ≡ map L.state lanes.items) ×
+        (back.1.items ≡ refused.items)) }
 {
     let Ok(mut lists) = empty_lists(alloc, lanes.len()) else {
         return Err((lanes, refused));

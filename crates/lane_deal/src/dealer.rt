@@ -65,11 +65,15 @@ fn ask<R: Source>(
     ensures count { units.new.count ≡ units.old.count }
     ensures small { IfOk result (λ next. IfSome next IsSmallUnit) }
     ensures sound { OnOk result (map R.failure_count files.new ≡ map R.failure_count files.old) }
-    ensures cause { IfErr result (StopsReading units.old (map R.remaining files.old) (map R.failure_count files.old) (map R.failure_count files.new)) }
+    ensures cause { IfErr result
+        (StopsReading units.old (map R.remaining files.old) (map R.failure_count files.old)
+        (map R.failure_count files.new)) }
     ensures at_end { IfOk result (λ next. next ≡ None → units.new.file ≡ units.new.count) }
     ensures asked { MatchResult result
-        (λ next. Asked refused.old.items refused.new.items units.old (map R.remaining files.old) units.new (map R.remaining files.new) next)
-        (λ e. (file : ℕ) → e ≡ Read file → AskedInVain refused.old.items refused.new.items units.old (map R.remaining files.old)) }
+        (λ next. Asked refused.old.items refused.new.items units.old (map R.remaining files.old) units.new
+        (map R.remaining files.new) next)
+        (λ e. (file : ℕ) → e ≡ Read file → AskedInVain refused.old.items refused.new.items units.old
+        (map R.remaining files.old)) }
 {
     while let Some(found) = units.next(alloc, files)? {
         match found {
@@ -87,7 +91,8 @@ impl<D: Dealing> Dealer<D> {
     pub fn new(alloc: Global, dealing: D) -> Result<Dealer<D>, Memory>
     where
         D: Drop,
-        ensures { IfOk result (λ dealer. (dealer.dealing ≡ dealing) × (dealer.peers.keys.items ≡ []) × (dealer.kept ≡ None) × (dealer.refused.items ≡ []) × (dealer.dealt ≡ 0)) }
+        ensures { IfOk result (λ dealer. (dealer.dealing ≡ dealing) × (dealer.peers.keys.items ≡ []) ×
+            (dealer.kept ≡ None) × (dealer.refused.items ≡ []) × (dealer.dealt ≡ 0)) }
     {
         Ok(Dealer {
             dealing,
@@ -115,10 +120,13 @@ impl<D: Dealing> Dealer<D> {
         ensures count { units.new.count ≡ units.old.count }
         ensures small { IfOk result (λ next. IfSome next IsSmallUnit) }
         ensures sound { OnOk result (map R.failure_count files.new ≡ map R.failure_count files.old) }
-        ensures cause { IfErr result (StopsReading units.old (map R.remaining files.old) (map R.failure_count files.old) (map R.failure_count files.new)) }
+        ensures cause { IfErr result
+            (StopsReading units.old (map R.remaining files.old) (map R.failure_count files.old)
+            (map R.failure_count files.new)) }
         ensures at_end { IfOk result (λ next. next ≡ None → units.new.file ≡ units.new.count) }
         ensures next { MatchResult result
-            (λ next. Next self.old self.new units.old (map R.remaining files.old) units.new (map R.remaining files.new) next)
+            (λ next. Next self.old self.new units.old (map R.remaining files.old) units.new (map R.remaining files.new)
+            next)
             (λ e. (file : ℕ) → e ≡ Read file → NextInVain self.old self.new units.old (map R.remaining files.old)) }
     {
         if self.kept.is_none() {
@@ -143,9 +151,13 @@ impl<D: Dealing> Dealer<D> {
         requires files { length files.old ≡ units.old.count }
         ensures count { units.new.count ≡ units.old.count }
         ensures sound { OnOk result (map R.failure_count files.new ≡ map R.failure_count files.old) }
-        ensures cause { IfErr result (StopsReading units.old (map R.remaining files.old) (map R.failure_count files.old) (map R.failure_count files.new)) }
+        ensures cause { IfErr result
+            (StopsReading units.old (map R.remaining files.old) (map R.failure_count files.old)
+            (map R.failure_count files.new)) }
         ensures at_end { result ≡ Ok Step.End → units.new.file ≡ units.new.count }
-        ensures deals { IfAnswered result (Deals (λ number. D.lane_of self.old.dealing number (length feeds.old)) batch feeds.old feeds.new self.old self.new units.old (map R.remaining files.old) units.new (map R.remaining files.new) result) }
+        ensures deals { IfAnswered result
+            (Deals (λ number. D.lane_of self.old.dealing number (length feeds.old)) batch feeds.old feeds.new self.old
+            self.new units.old (map R.remaining files.old) units.new (map R.remaining files.new) result) }
     {
         let _dealt = self.dealt;
         for dealt in 0..batch {

@@ -51,7 +51,8 @@ pub fn renew_all<S>(
     workers: &mut [Worker<S>],
 ) -> Result<(), Memory>
     requires lanes { length workers.old ≡ length feeds.old }
-    requires pairs { (lane : ℕ) (d : _) (e : _) → lane < length feeds.old → IsLane capacity (slice_index_or feeds.old lane d) (slice_index_or workers.old lane e) }
+    requires pairs { (lane : ℕ) (d : _) (e : _) → lane < length feeds.old →
+        IsLane capacity (slice_index_or feeds.old lane d) (slice_index_or workers.old lane e) }
     ensures { OnOk result (RenewedAll capacity feeds.old workers.old feeds.new workers.new) }
 {
     for lane in 0..feeds.len() {

@@ -85,7 +85,9 @@ impl Peers {
 
     /// Returns the number of a peer seen before.
     fn find(&self, peer: &PeerKey) -> Option<usize>
-        ensures { MatchOption result (list_any (peer_eq peer.now) self.now.keys.items ≡ false) (λ number. slice_get self.now.keys.items number ≡ Some peer.now) }
+        ensures { MatchOption result
+            (list_any (peer_eq peer.now) self.now.keys.items ≡ false) (λ number. slice_get self.now.keys.items
+            number ≡ Some peer.now) }
     {
         if let Some(number) = self.recent.get(recent_slot(peer)) {
             if seen_at(&self.keys, *number, peer) {

@@ -38,7 +38,8 @@ pub struct Replayer<M: PrefixMap<SharedRoute>, D: Dealing> {
     state: State,
     ghost lanes: { 0 < length feeds.items },
     ghost ready: { state ≢ Spent → AreReady plan.ring feeds.items workers.items },
-    ghost stands: { state ≢ Spent → ∥ StandsForSome (D.lane_of dealer.dealing) plan.ring (state_at dealer feeds.items workers.items false) ∥₁ },
+    ghost stands: { state ≢ Spent → ∥ StandsForSome (D.lane_of dealer.dealing) plan.ring
+        (state_at dealer feeds.items workers.items false) ∥₁ },
 }
 
 fn state_after(answer: &Result<Step, ReplayError>) -> State
@@ -67,11 +68,13 @@ impl<M: PrefixMap<SharedRoute> + Send + Drop, D: Dealing + Send> Replayer<M, D> 
     where
         D: Drop,
         requires { IsPlan plan }
-        ensures running { IfOk result (λ replayer. (replayer.state ≡ Running) × (replayer.rounds ≡ 0) × (replayer.dealer.kept ≡ None)) }
+        ensures running { IfOk result (λ replayer. (replayer.state ≡ Running) × (replayer.rounds ≡ 0) ×
+            (replayer.dealer.kept ≡ None)) }
         ensures plan { IfOk result (λ replayer. (replayer.plan ≡ plan) × (replayer.dealer.dealing ≡ dealing)) }
         ensures lanes { IfOk result (λ replayer. length (shown replayer).lanes ≡ plan.workers) }
         ensures settled { IfOk result (λ replayer. IsSettled (shown replayer)) }
-        ensures stands { IfOk result (λ replayer. ReplayerStandsFor (D.lane_of dealing) plan.ring [] [] (shown replayer)) }
+        ensures stands { IfOk result
+            (λ replayer. ReplayerStandsFor (D.lane_of dealing) plan.ring [] [] (shown replayer)) }
     {
         let (feeds, workers) = make_lanes(alloc, plan.ring, plan.workers)?;
         Ok(Replayer {
@@ -104,11 +107,16 @@ impl<M: PrefixMap<SharedRoute> + Send + Drop, D: Dealing + Send> Replayer<M, D> 
     ) -> Result<Step, ReplayError>
         requires { length files.old ≡ units.old.count }
         ensures count { units.new.count ≡ units.old.count }
-        ensures reads { self.old.state ≡ Running → ReadsOn units.old (map R.remaining files.old) (map R.failure_count files.old) units.new (map R.failure_count files.new) result }
+        ensures reads { self.old.state ≡ Running → ReadsOn units.old (map R.remaining files.old)
+            (map R.failure_count files.old) units.new (map R.failure_count files.new) result }
         ensures forks { self.old.state ≡ Running → self.new.rounds ≡ min (self.old.rounds + 1) (2 ^ 64 - 1) }
-        ensures played { self.old.state ≡ Running → IfAnswered result (PlaysOn (D.lane_of self.old.dealer.dealing) self.old.plan (shown self.old) (shown self.new) units.old (map R.remaining files.old) units.new (map R.remaining files.new) result) }
-        ensures kept { (self.new.plan ≡ self.old.plan) × (self.old.state ≡ Running → IfAnswered result (self.new.dealer.dealing ≡ self.old.dealer.dealing)) }
-        ensures idle { self.old.state ≢ Running → (self.new ≡ self.old) × (units.new ≡ units.old) × (files.new ≡ files.old) }
+        ensures played { self.old.state ≡ Running → IfAnswered result
+            (PlaysOn (D.lane_of self.old.dealer.dealing) self.old.plan (shown self.old) (shown self.new) units.old
+            (map R.remaining files.old) units.new (map R.remaining files.new) result) }
+        ensures kept { (self.new.plan ≡ self.old.plan) × (self.old.state ≡ Running → IfAnswered result
+            (self.new.dealer.dealing ≡ self.old.dealer.dealing)) }
+        ensures idle { self.old.state ≢ Running → (self.new ≡ self.old) × (units.new ≡ units.old) ×
+            (files.new ≡ files.old) }
         ensures repeats { Repeats self.old.state result }
         ensures state { self.old.state ≡ Running → StateAfter result self.new.state }
     {
@@ -147,7 +155,8 @@ impl<M: PrefixMap<SharedRoute> + Send + Drop, D: Dealing + Send> Replayer<M, D> 
     ) -> Result<(), ReplayError>
         ensures forks { self.old.state ≢ Spent → self.new.rounds ≡ min (self.old.rounds + 1) (2 ^ 64 - 1) }
         ensures memory { self.old.state ≢ Spent → IfErr result (λ e. e ≡ ReplayError.Memory) }
-        ensures settled { OnOk result (Settles (D.lane_of self.old.dealer.dealing) self.old.plan.ring (shown self.old) (shown self.new)) }
+        ensures settled { OnOk result
+            (Settles (D.lane_of self.old.dealer.dealing) self.old.plan.ring (shown self.old) (shown self.new)) }
         ensures kept { (self.new.plan ≡ self.old.plan) × (self.new.dealer ≡ self.old.dealer) }
         ensures same { OnOk result (self.new.state ≡ self.old.state) }
         ensures spent { OnErr result (self.new.state ≡ Spent) }
@@ -188,8 +197,12 @@ impl<M: PrefixMap<SharedRoute> + Drop, D: Dealing + Drop> Replayer<M, D> {
     /// Returns the tables of all dealt units. If an allocation fails, the replayer comes back as it was.
     pub fn into_tables(self, alloc: Global) -> Result<Tables<M>, (Replayer<M, D>, ReplayError)>
         requires { self.state ≢ Spent → IsSettled (shown self) }
-        ensures tables { (units : List ReplayUnit) (refused : List Damage) → ReplayerStandsFor (D.lane_of self.dealer.dealing) self.plan.ring units refused (shown self) → IfOk result (λ tables. tables ≡ tables_of units refused) }
-        ensures back { IfErr result (λ back. (shown back.0 ≡ shown self) × (back.0.plan ≡ self.plan) × (back.0.dealer.dealing ≡ self.dealer.dealing) × (back.0.rounds ≡ self.rounds) × (back.0.state ≡ self.state)) }
+        ensures tables { (units : List ReplayUnit) (refused : List Damage) →
+            ReplayerStandsFor (D.lane_of self.dealer.dealing) self.plan.ring units refused (shown self) →
+            IfOk result (λ tables. tables ≡ tables_of units refused) }
+        ensures back { IfErr result (λ back. (shown back.0 ≡ shown self) × (back.0.plan ≡ self.plan) ×
+            (back.0.dealer.dealing ≡ self.dealer.dealing) × (back.0.rounds ≡ self.rounds) ×
+            (back.0.state ≡ self.state)) }
         ensures memory { self.state ≢ Spent → IfErr result (λ back. back.1 ≡ ReplayError.Memory) }
         ensures spent { self.state ≡ Spent → result ≡ Err (self, ReplayError.Spent) }
     {
@@ -247,7 +260,8 @@ impl<M: PrefixMap<SharedRoute>, D: Dealing> Replayer<M, D> {
     /// Each peer's lane is one of the lanes.
     pub fn lanes_are_below(&self)
         requires { self.now.state ≢ Spent }
-        ensures { (number : ℕ) → D.lane_of self.now.dealer.dealing number (length (shown self.now).lanes) < length (shown self.now).lanes }
+        ensures { (number : ℕ) → D.lane_of self.now.dealer.dealing number
+            (length (shown self.now).lanes) < length (shown self.now).lanes }
     {
         let lanes = self.feeds.len();
         self.dealer.lanes_are_below(lanes);
@@ -284,7 +298,8 @@ impl<M: PrefixMap<SharedRoute>, D: Dealing> Replayer<M, D> {
     /// The number of units that wait in a lane's ring, or 0 past the last lane.
     pub fn waiting(&self, lane: usize) -> usize
         ensures past { self.now.state ≢ Spent → length (shown self.now).lanes ≤ lane → result ≡ 0 }
-        ensures waiting { self.now.state ≢ Spent → (state : LaneState) → slice_get (shown self.now).lanes lane ≡ Some state → result ≡ length state.ring.sent }
+        ensures waiting { self.now.state ≢ Spent → (state : LaneState) →
+            slice_get (shown self.now).lanes lane ≡ Some state → result ≡ length state.ring.sent }
     {
         let workers = self.workers.as_slice();
         if lane >= workers.len() {
@@ -315,7 +330,8 @@ impl<M: PrefixMap<SharedRoute>, D: Dealing> Replayer<M, D> {
 
     /// The number of units that a lane took, or 0 past the last lane. Saturates at `u64::MAX`.
     pub fn took(&self, lane: usize) -> u64
-        ensures took { self.now.state ≢ Spent → (state : LaneState) → slice_get (shown self.now).lanes lane ≡ Some state → result ≡ state.took }
+        ensures took { self.now.state ≢ Spent → (state : LaneState) →
+            slice_get (shown self.now).lanes lane ≡ Some state → result ≡ state.took }
         ensures past { self.now.state ≢ Spent → length (shown self.now).lanes ≤ lane → result ≡ 0 }
     {
         let workers = self.workers.as_slice();

@@ -47,7 +47,9 @@ fn deal_and_work<
 ) -> (Result<Step, ReplayError>, Result<(), Memory>)
     requires lanes { 0 < length feeds.old }
     requires files { length files.old ≡ units.old.count }
-    ensures deals { DealsOn (λ number. D.lane_of dealer.old.dealing number (length feeds.old)) patience.batch feeds.old feeds.new dealer.old dealer.new units.old (map R.remaining files.old) (map R.failure_count files.old) units.new (map R.remaining files.new) (map R.failure_count files.new) result.0 }
+    ensures deals { DealsOn (λ number. D.lane_of dealer.old.dealing number (length feeds.old)) patience.batch feeds.old
+        feeds.new dealer.old dealer.new units.old (map R.remaining files.old) (map R.failure_count files.old) units.new
+        (map R.remaining files.new) (map R.failure_count files.new) result.0 }
     ensures worked { OnOk result.1 (AllZip (Worked S.stands_for) workers.old workers.new) }
 {
     let flag = AtomicBool::new(false);
@@ -62,7 +64,10 @@ fn deal_and_work<
     }
     let mut deal = || -> Result<Step, ReplayError>
         requires { (0 < length feeds.now) × (length files.now ≡ units.now.count) }
-        ensures { DealsOn (λ number. D.lane_of dealer.entry.now.dealing number (length feeds.entry.now)) batch feeds.entry.now feeds.exit.now dealer.entry.now dealer.exit.now units.entry.now (map R.remaining files.entry.now) (map R.failure_count files.entry.now) units.exit.now (map R.remaining files.exit.now) (map R.failure_count files.exit.now) result }
+        ensures { DealsOn (λ number. D.lane_of dealer.entry.now.dealing number (length feeds.entry.now)) batch
+            feeds.entry.now feeds.exit.now dealer.entry.now dealer.exit.now units.entry.now
+            (map R.remaining files.entry.now) (map R.failure_count files.entry.now) units.exit.now
+            (map R.remaining files.exit.now) (map R.failure_count files.exit.now) result }
     {
         let step = dealer.deal(alloc, gate, batch, looks, over, units, files, feeds);
         over.store(true, Ordering::SeqCst);
@@ -100,8 +105,12 @@ pub fn run_round<
     requires files { length files.old ≡ units.old.count }
     requires ready { AreReady capacity feeds.old workers.old }
     ensures count { units.new.count ≡ units.old.count }
-    ensures reads { ReadsOn units.old (map R.remaining files.old) (map R.failure_count files.old) units.new (map R.failure_count files.new) result }
-    ensures plays { IfAnswered result (PlaysLanes S.stands_for (λ number. D.lane_of dealer.old.dealing number (length feeds.old)) capacity patience.batch feeds.old workers.old feeds.new workers.new dealer.old dealer.new units.old (map R.remaining files.old) units.new (map R.remaining files.new) result) }
+    ensures reads { ReadsOn units.old (map R.remaining files.old) (map R.failure_count files.old) units.new
+        (map R.failure_count files.new) result }
+    ensures plays { IfAnswered result
+        (PlaysLanes S.stands_for (λ number. D.lane_of dealer.old.dealing number (length feeds.old)) capacity
+        patience.batch feeds.old workers.old feeds.new workers.new dealer.old dealer.new units.old
+        (map R.remaining files.old) units.new (map R.remaining files.new) result) }
 {
     let (step, worked) = deal_and_work(
         rt, alloc, gate, patience, dealer, units, files, feeds, workers,

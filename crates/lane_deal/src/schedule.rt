@@ -69,7 +69,8 @@ fn empty_lanes<M: PrefixMap<SharedRoute> + Drop>(
     alloc: Global,
     count: usize,
 ) -> Result<Vec<OneLane<M>>, Memory>
-    ensures { IfOk result (λ lanes. (length lanes.items ≡ count) × ((all units : List ReplayUnit) → LanesShow all (numbered (peers_of all) units) lanes.items (start units))) }
+    ensures { IfOk result (λ lanes. (length lanes.items ≡ count) ×
+        ((all units : List ReplayUnit) → LanesShow all (numbered (peers_of all) units) lanes.items (start units))) }
 {
     let mut lanes = Vec::new(alloc);
     for made in 0..count {
@@ -89,7 +90,9 @@ fn deal<M: PrefixMap<SharedRoute> + Drop, D: Dealing>(
     dealing: &D,
 ) -> Result<(), Memory>
     requires { 0 < length lanes.old }
-    ensures { OnOk result ((all : List ReplayUnit) (s : LanesState) → LanesShow all undealt.old.items lanes.old s → LanesShow all undealt.new.items lanes.new (dealt (lane_of_unit (λ number. D.lane_of dealing.now number (length lanes.old)) all) s s.undealt)) }
+    ensures { OnOk result ((all : List ReplayUnit) (s : LanesState) → LanesShow all undealt.old.items lanes.old s →
+        LanesShow all undealt.new.items lanes.new
+        (dealt (lane_of_unit (λ number. D.lane_of dealing.now number (length lanes.old)) all) s s.undealt)) }
 {
     let Some(item) = undealt.pop_front() else {
         return Ok(());
@@ -104,7 +107,8 @@ fn take_one<M: PrefixMap<SharedRoute> + Drop>(
     alloc: Global,
     lane: &mut OneLane<M>,
 ) -> Result<(), Memory>
-    ensures { OnOk result ((all waiting taken : List ReplayUnit) → LaneShows all lane.old waiting taken → LaneShows all lane.new (drop 1 waiting) (taken ++ take 1 waiting)) }
+    ensures { OnOk result ((all waiting taken : List ReplayUnit) → LaneShows all lane.old waiting taken →
+        LaneShows all lane.new (drop 1 waiting) (taken ++ take 1 waiting)) }
 {
     let Some(item) = lane.ring.pop_front() else {
         return Ok(());
@@ -120,7 +124,8 @@ fn take_from<M: PrefixMap<SharedRoute> + Drop>(
     lanes: &mut [OneLane<M>],
     lane: usize,
 ) -> Result<(), Memory>
-    ensures { OnOk result ((all : List ReplayUnit) (undealt : List _) (s : LanesState) → LanesShow all undealt lanes.old s → LanesShow all undealt lanes.new (took lane s (s.ring lane))) }
+    ensures { OnOk result ((all : List ReplayUnit) (undealt : List _) (s : LanesState) →
+        LanesShow all undealt lanes.old s → LanesShow all undealt lanes.new (took lane s (s.ring lane))) }
 {
     if lane >= lanes.len() {
         return Ok(());
@@ -137,7 +142,9 @@ fn apply<M: PrefixMap<SharedRoute> + Drop, D: Dealing>(
     dealing: &D,
 ) -> Result<(), Memory>
     requires { 0 < length lanes.old }
-    ensures { OnOk result ((all : List ReplayUnit) (s : LanesState) → LanesShow all undealt.old.items lanes.old s → LanesShow all undealt.new.items lanes.new (after_turn (lane_of_unit (λ number. D.lane_of dealing.now number (length lanes.old)) all) s turn)) }
+    ensures { OnOk result ((all : List ReplayUnit) (s : LanesState) → LanesShow all undealt.old.items lanes.old s →
+        LanesShow all undealt.new.items lanes.new
+        (after_turn (lane_of_unit (λ number. D.lane_of dealing.now number (length lanes.old)) all) s turn)) }
 {
     match turn {
         Turn::Deal => deal(undealt, lanes, dealing),
@@ -154,7 +161,9 @@ fn apply_all<M: PrefixMap<SharedRoute> + Drop, D: Dealing>(
     dealing: &D,
 ) -> Result<(), Memory>
     requires { 0 < length lanes.old }
-    ensures { OnOk result ((all : List ReplayUnit) → LanesShow all undealt.old.items lanes.old (start all) → LanesShow all undealt.new.items lanes.new (after_turns (λ number. D.lane_of dealing.now number (length lanes.old)) all turns.now)) }
+    ensures { OnOk result ((all : List ReplayUnit) → LanesShow all undealt.old.items lanes.old (start all) →
+        LanesShow all undealt.new.items lanes.new
+        (after_turns (λ number. D.lane_of dealing.now number (length lanes.old)) all turns.now)) }
 {
     for turn in turns {
         apply(alloc, undealt, lanes, *turn, dealing)?;
@@ -172,7 +181,9 @@ pub fn run_schedule<M: PrefixMap<SharedRoute> + Drop, D: Dealing>(
 ) -> Result<Lanes<M>, Memory>
     requires { 0 < workers }
     ensures lanes { IfOk result (λ lanes. length lanes.lanes.items ≡ workers) }
-    ensures shows { IfOk result (λ lanes. Shows units.items lanes (after_turns (λ number. D.lane_of dealing.now number workers) units.items turns.now)) }
+    ensures shows { IfOk result
+        (λ lanes. Shows units.items lanes
+        (after_turns (λ number. D.lane_of dealing.now number workers) units.items turns.now)) }
 {
     let mut undealt = number_all(alloc, units)?;
     let mut lanes = empty_lanes(alloc, workers)?;

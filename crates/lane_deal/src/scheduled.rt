@@ -49,7 +49,8 @@ impl<M: PrefixMap<SharedRoute> + Drop> Lanes<M> {
 
     /// The number of units that a lane took.
     pub fn took(&self, lane: usize) -> usize
-        ensures { (all : List ReplayUnit) (s : LanesState) → Shows all self.now s → result ≡ min (length (s.taken lane)) (2 ^ 64 - 1) }
+        ensures { (all : List ReplayUnit) (s : LanesState) → Shows all self.now s →
+            result ≡ min (length (s.taken lane)) (2 ^ 64 - 1) }
     {
         match self.lanes.get(lane) {
             Some(lane) => lane.took,
@@ -61,10 +62,12 @@ impl<M: PrefixMap<SharedRoute> + Drop> Lanes<M> {
     pub fn into_tables(self, alloc: Global) -> Result<Tables<M>, (Lanes<M>, Memory)>
         ensures tables { (all : List ReplayUnit) (s : LanesState) → Shows all self s →
             IfOk result (λ tables. tables ≡ tables_taken all s (length self.lanes.items)) }
-        ensures whole { (all : List ReplayUnit) (s : LanesState) → Shows all self s → s.undealt ≡ [] → ((lane : ℕ) → s.ring lane ≡ []) →
+        ensures whole { (all : List ReplayUnit) (s : LanesState) → Shows all self s → s.undealt ≡ [] →
+            ((lane : ℕ) → s.ring lane ≡ []) →
             IfOk result (λ tables. tables ≡ tables_of all []) }
         ensures back { IfErr result (λ back. ShowsSame back.0 self) }
-        ensures shows { (all : List ReplayUnit) (s : LanesState) → Shows all self s → IfErr result (λ back. Shows all back.0 s) }
+        ensures shows { (all : List ReplayUnit) (s : LanesState) → Shows all self s →
+            IfErr result (λ back. Shows all back.0 s) }
     {
         let Lanes { undealt, lanes } = self;
         match collect_lanes(alloc, lanes, Vec::new(alloc)) {

@@ -31,7 +31,9 @@ pub struct Seats<M: PrefixMap<SharedRoute>> {
 
 /// Returns the position of this number's session, found by a linear scan.
 fn scan<M: PrefixMap<SharedRoute>>(seats: &[Seated<M>], number: usize) -> Option<usize>
-    ensures { MatchOption result (list_any (λ s. s.number == number) (map seat_of seats.now) ≡ false) (λ at. (at < length seats.now) × ((d : _) → (slice_index_or (map seat_of seats.now) at d).number ≡ number)) }
+    ensures { MatchOption result
+        (list_any (λ s. s.number == number) (map seat_of seats.now) ≡ false) (λ at. (at < length seats.now) ×
+        ((d : _) → (slice_index_or (map seat_of seats.now) at d).number ≡ number)) }
 {
     for (at, seat) in seats.iter().enumerate() {
         if seat.number == number {
@@ -43,7 +45,8 @@ fn scan<M: PrefixMap<SharedRoute>>(seats: &[Seated<M>], number: usize) -> Option
 
 /// Whether this number's session is at that position.
 fn stands_at<M: PrefixMap<SharedRoute>>(seats: &[Seated<M>], at: usize, number: usize) -> bool
-    ensures here { result ≡ true → (at < length seats.now) × ((d : _) → (slice_index_or (map seat_of seats.now) at d).number ≡ number) }
+    ensures here { result ≡ true → (at < length seats.now) ×
+        ((d : _) → (slice_index_or (map seat_of seats.now) at d).number ≡ number) }
     ensures elsewhere { slice_get (map (λ seat. seat.number) seats.now) at ≡ Some number → result ≡ true }
 {
     at < seats.len() && seats[at].number == number
@@ -51,7 +54,8 @@ fn stands_at<M: PrefixMap<SharedRoute>>(seats: &[Seated<M>], at: usize, number: 
 
 /// Records the position that this number's session will have.
 fn remember(positions: &mut Vec<Option<usize>>, number: usize, at: usize) -> Result<(), Memory>
-    ensures others { (other x : ℕ) → (other ≡ number → ⊥) → slice_get positions.old.items other ≡ Some (Some x) → slice_get positions.new.items other ≡ Some (Some x) }
+    ensures others { (other x : ℕ) → (other ≡ number → ⊥) → slice_get positions.old.items other ≡ Some (Some x) →
+        slice_get positions.new.items other ≡ Some (Some x) }
     ensures own { OnOk result (slice_get positions.new.items number ≡ Some (Some at)) }
 {
     while positions.len() < number {
@@ -94,8 +98,10 @@ impl<M: PrefixMap<SharedRoute> + Drop> Seats<M> {
 
     /// Returns the recorded position of this number's session, if the session is there.
     fn remembered(&self, number: usize) -> Option<usize>
-        ensures here { IfSome result (λ at. (at < length self.now.seats.items) × ((d : _) → (slice_index_or (map seat_of self.now.seats.items) at d).number ≡ number)) }
-        ensures all { (at : ℕ) → slice_get self.now.positions.items number ≡ Some (Some at) → slice_get (map (λ seat. seat.number) self.now.seats.items) at ≡ Some number → result ≡ Some at }
+        ensures here { IfSome result (λ at. (at < length self.now.seats.items) ×
+            ((d : _) → (slice_index_or (map seat_of self.now.seats.items) at d).number ≡ number)) }
+        ensures all { (at : ℕ) → slice_get self.now.positions.items number ≡ Some (Some at) →
+            slice_get (map (λ seat. seat.number) self.now.seats.items) at ≡ Some number → result ≡ Some at }
     {
         let at = self.position_of(number)?;
         if stands_at(&self.seats, at, number) {
@@ -107,7 +113,10 @@ impl<M: PrefixMap<SharedRoute> + Drop> Seats<M> {
 
     /// Returns the position of this number's session.
     fn find(&self, number: usize) -> Option<usize>
-        ensures { MatchOption result (list_any (λ s. s.number == number) (map seat_of self.now.seats.items) ≡ false) (λ at. (at < length self.now.seats.items) × ((d : _) → (slice_index_or (map seat_of self.now.seats.items) at d).number ≡ number)) }
+        ensures { MatchOption result
+            (list_any (λ s. s.number == number)
+            (map seat_of self.now.seats.items) ≡ false) (λ at. (at < length self.now.seats.items) ×
+            ((d : _) → (slice_index_or (map seat_of self.now.seats.items) at d).number ≡ number)) }
     {
         if let Some(at) = self.remembered(number) {
             return Some(at);
@@ -122,7 +131,8 @@ impl<M: PrefixMap<SharedRoute> + Drop> Seats<M> {
     fn add(&mut self, alloc: Global, number: usize, key: &PeerKey) -> Result<usize, Memory>
         requires { list_any (λ s. s.number == number) (map seat_of self.old.seats.items) ≡ false }
         ensures within { IfOk result (λ at. at < length self.new.seats.items) }
-        ensures seat { IfOk result (SeatFor (map seat_of self.old.seats.items) (map seat_of self.new.seats.items) number key.now) }
+        ensures seat { IfOk result
+            (SeatFor (map seat_of self.old.seats.items) (map seat_of self.new.seats.items) number key.now) }
     {
         let at = self.seats.len();
         remember(&mut self.positions, number, at)?;
@@ -138,7 +148,8 @@ impl<M: PrefixMap<SharedRoute> + Drop> Seats<M> {
     /// Returns the position of this number's session, which is made if there is none.
     fn position_for(&mut self, alloc: Global, number: usize, key: &PeerKey) -> Result<usize, Memory>
         ensures within { IfOk result (λ at. at < length self.new.seats.items) }
-        ensures seat { IfOk result (SeatFor (map seat_of self.old.seats.items) (map seat_of self.new.seats.items) number key.now) }
+        ensures seat { IfOk result
+            (SeatFor (map seat_of self.old.seats.items) (map seat_of self.new.seats.items) number key.now) }
     {
         if let Some(at) = self.find(number) {
             return Ok(at);

@@ -23,5 +23,6 @@ pub trait Sessions {
     /// Takes the next unit, with what was read ahead of it.
     fn take(&mut self, alloc: Global, item: &Numbered, ahead: &ReadAhead) -> Result<(), Memory>
         requires { IsAheadOf item.now.unit.payload ahead.now }
-        ensures { OnOk result ((taken : List Numbered) → stands_for self.old taken → stands_for self.new (taken ++ item.now ∷ [])) };
+        ensures { OnOk result ((taken : List Numbered) → stands_for self.old taken →
+            stands_for self.new (taken ++ item.now ∷ [])) };
 }

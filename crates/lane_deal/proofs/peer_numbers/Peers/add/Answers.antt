@@ -1,5 +1,5 @@
 use Rattle.std.proofs.Common.{ap, ◌∙◌, ◌++◌, ◌∷◌, [], arith}
-use Rattle.lane_deal.proofs.PeerPlaces.{number_new, apart_new, listed_new}
+use Rattle.lane_deal.proofs.PeerPositions.{number_new, apart_new, listed_new}
 use Rattle.lane_deal.proofs.peer_numbers.Peers.add.Goals as goal
 
 pub returns : goal.returns

@@ -1,5 +1,5 @@
 use Rattle.std.proofs.Common.{sym, ◌∙◌}
-use Rattle.lane_deal.proofs.PeerPlaces.{none_listed}
+use Rattle.lane_deal.proofs.PeerPositions.{none_listed}
 use Rattle.lane_deal.proofs.peer_numbers.Peers.find.Goals as goal
 
 pub returns-in-Some-copied : goal.returns-in-Some-copied

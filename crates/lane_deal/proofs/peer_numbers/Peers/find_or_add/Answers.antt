@@ -1,4 +1,4 @@
-use Rattle.lane_deal.proofs.PeerPlaces.{number_found}
+use Rattle.lane_deal.proofs.PeerPositions.{number_found}
 use Rattle.lane_deal.proofs.peer_numbers.Peers.find_or_add.Goals as goal
 
 pub returns-in-Some : goal.returns-in-Some

@@ -1,4 +1,4 @@
--- The places of peers among different ones.
+-- The positions of peers among different ones.
 use Rattle.std.proofs.Common.{◌≡◌, ℕ, zero, suc, ◌+◌, ◌||◌, ◌&&◌, ◌==◌, ◌⊎◌, inl, inr, not, Bool, true, false, cond, if◌then◌else◌, List, [], ◌∷◌, ◌++◌, length, Option, Some, None, refl, sym, ap, ◌∙◌, subst, arith}
 use Rattle.std.specs.Prelude.{slice_get, unwrap_or}
 use Rattle.std.specs.List.{list_any, position_or_len, prefix_len}
@@ -12,7 +12,7 @@ use Rattle.mrt_body.specs.contracts.unit.PeerKeyPartialEq.TheImpl as key_impl
 use Rattle.peer_tables.specs.Peers.{peer_eq, addr_eq}
 use Rattle.lane_deal.specs.Keys.{AreApart, AreListed}
 use Rattle.lane_deal.specs.Numbers.{NumbersPeer, number_in}
-use Rattle.lane_deal.proofs.Peers.{peer_itself, same_peer, first_place}
+use Rattle.lane_deal.proofs.Peers.{peer_itself, same_peer, first_position}
 use Rattle.lane_deal.proofs.Numbering.{place_behind}
 
 pub some_is : {A : Type 0} (x y : A) → Some x ≡ Some y → x ≡ y
@@ -32,14 +32,14 @@ listed_at [] n q e = cc
 listed_at (k ∷ keys) zero q e = ap (λ b. b || list_any (peer_eq q) keys) (ap (peer_eq q) (some_is k q e) ∙ peer_itself q)
 listed_at (k ∷ keys) (suc n) q e = ap (λ b. peer_eq q k || b) (listed_at keys n q e) ∙ or-true (peer_eq q k)
 
--- what passes somewhere stands at its first place
-pub place_gets : {X : Type 0} (p : X → Bool) (xs : List X) → list_any p xs ≡ true → (x : X) × (slice_get xs (position_or_len p xs) ≡ Some x) × (p x ≡ true)
-place_gets p [] e = absurd (cc)
-place_gets p (x ∷ xs) e =
+-- what passes somewhere stands at its first position
+pub position_gets : {X : Type 0} (p : X → Bool) (xs : List X) → list_any p xs ≡ true → (x : X) × (slice_get xs (position_or_len p xs) ≡ Some x) × (p x ≡ true)
+position_gets p [] e = absurd (cc)
+position_gets p (x ∷ xs) e =
     elim (p x) as (λ b. p x ≡ b → (b || list_any p xs) ≡ true → (y : _) × (slice_get (x ∷ xs) (cond (not b) (1 + prefix_len (λ z. not (p z)) xs) 0) ≡ Some y) × (p y ≡ true)) [
       | true ↦ λ here _. (x, refl, here)
       | false ↦ λ _ later.
-          let h = place_gets p xs later in (
+          let h = position_gets p xs later in (
             h.0,
             subst (λ n. slice_get (x ∷ xs) n ≡ Some h.0) {x = suc (prefix_len (λ z. not (p z)) xs)} {y = 1 + prefix_len (λ z. not (p z)) xs} (omega arith) h.1,
             h.2,
@@ -48,7 +48,7 @@ place_gets p (x ∷ xs) e =
 
 pub listed_gets : (keys : List PeerKey) (q : PeerKey) → list_any (peer_eq q) keys ≡ true → slice_get keys (number_in keys q) ≡ Some q
 listed_gets keys q e =
-    let h = place_gets (peer_eq q) keys e in
+    let h = position_gets (peer_eq q) keys e in
     h.1 ∙ ap (λ k. Some k) (sym (same_peer q h.0 h.2))
 
 pub number_found : (keys : List PeerKey) (q : PeerKey) (n : ℕ) → AreApart keys → slice_get keys n ≡ Some q → NumbersPeer keys keys q n
@@ -68,7 +68,7 @@ number_new keys after q n new e is =
 apart_more : (keys : List PeerKey) (q : PeerKey) → AreApart keys → list_any (peer_eq q) keys ≡ false → AreApart (keys ++ q ∷ [])
 apart_more keys q apart new n k at =
     elim (split_get keys q n k at) [
-      | inl h ↦ first_place (peer_eq k) keys (q ∷ []) (listed_at keys n k h) ∙ apart n k h
+      | inl h ↦ first_position (peer_eq k) keys (q ∷ []) (listed_at keys n k h) ∙ apart n k h
       | inr h ↦ subst (λ p. position_or_len (peer_eq p) (keys ++ q ∷ []) ≡ n) h.1 (place_behind keys q [] new ∙ sym h.0)
     ]
 
