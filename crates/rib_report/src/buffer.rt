@@ -1,6 +1,6 @@
 //! Text on its way to a writer, through a fixed buffer.
 
-ghost use Rattle.std.specs.Prelude.{◌≡◌, ℕ, ◌+◌, ◌<◌, ◌≤◌, ◌++◌, [], ◌∷◌, List, Option, OnOk, OnErr, length, decimal};
+ghost use Rattle.std.specs.Prelude.{◌≡◌, ℕ, ◌+◌, ◌<◌, ◌≤◌, [], ◌∷◌, List, Option, OnOk, OnErr, length, decimal};
 ghost use Rattle.rib_report.specs.Digits.{decimal_glyph, digits_in};
 ghost use Rattle.rib_report.specs.Lines.{peer_text, prefix_text, key_text, attributes_text};
 ghost use Rattle.rib_report.specs.Texts.{BufferState, empty_buffer, text_state, IsText, IsWritten, IsCutOff, Writes, Grows};

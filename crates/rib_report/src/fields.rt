@@ -1,9 +1,9 @@
 //! Fields that the lines of several reports have, and the line of a route.
 
-ghost use Rattle.std.specs.Prelude.{◌≡◌, ℕ, ◌+◌, ◌<◌, ◌≤◌, [], ◌∷◌, ◌++◌, List, codes, length};
-ghost use Rattle.rib_report.specs.Texts.{Writes, Grows};
+ghost use Rattle.std.specs.Prelude.{◌+◌, ◌<◌, [], ◌∷◌, ◌++◌, codes};
+ghost use Rattle.rib_report.specs.Texts.{Writes};
 ghost use Rattle.rib_report.specs.Digits.{field, numbers_text};
-ghost use Rattle.rib_report.specs.Lines.{peer_text, prefix_text, key_text, kind_text, path_text, attributes_text, route_text, route_line};
+ghost use Rattle.rib_report.specs.Lines.{peer_text, prefix_text, key_text, kind_text, path_text, route_text, route_line};
 
 use crate::buffer::TextBuffer;
 use bgp_prefix::{Prefix, RouteKey};

@@ -1,6 +1,6 @@
 //! Numbers and times in text.
 
-ghost use Rattle.std.specs.Prelude.{◌≡◌, ℕ, ◌+◌, ◌≤◌, ◌<◌, ◌^◌, ◌++◌, [], ◌∷◌, List, length, decimal};
+ghost use Rattle.std.specs.Prelude.{◌<◌, ◌∷◌, decimal};
 ghost use Rattle.rib_report.specs.Texts.{Writes};
 ghost use Rattle.rib_report.specs.Digits.{time_text, numbers_text};
 

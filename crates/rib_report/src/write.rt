@@ -1,11 +1,8 @@
 //! The lines of rows written to a sink.
 
-ghost use Rattle.std.specs.Prelude.{◌≡◌, ◌<◌, ℕ, List, OnOk, OnErr, IsErr, Err};
+ghost use Rattle.std.specs.Prelude.{◌<◌};
 ghost use Rattle.std.specs.List.{flat_map};
-ghost use Rattle.std.specs.Io.KnownBytes.{Appends};
-ghost use Rattle.mrt_frame.specs.Devices.{HasFailed};
-ghost use Rattle.mrt_frame.specs.Writes.{WritesFront};
-ghost use Rattle.mrt_frame.specs.declared.error.ReplayError.TheVariants as errors;
+ghost use Rattle.rib_report.specs.Texts.{IsOutput};
 
 use crate::buffer::TextBuffer;
 use crate::line::Line;
@@ -40,11 +37,8 @@ fn prefetch_rows<R: Line>(rows: &[R]) -> usize {
 
 /// Writes a line for each row.
 pub(crate) fn write_lines<W: Sink, R: Line>(out: &mut W, rows: &[R]) -> Result<(), ReplayError>
-    ensures ok { OnOk result (Appends (W.contents out.old) (W.contents out.new) (flat_map R.line rows.now)) }
-    ensures front { OnErr result (WritesFront (W.contents out.old) (W.contents out.new) (flat_map R.line rows.now)) }
-    ensures write { IsErr result → result ≡ Err errors.Write }
-    ensures sound { OnOk result (W.failure_count out.new ≡ W.failure_count out.old) }
-    ensures risen { OnErr result (HasFailed (W.failure_count out.old) (W.failure_count out.new)) }
+    ensures { IsOutput (W.contents out.old) (W.failure_count out.old) (W.contents out.new) (W.failure_count out.new)
+        (flat_map R.line rows.now) result }
 {
     let mut text = TextBuffer::new();
     let mut ahead = rows;

@@ -1,16 +1,12 @@
 //! The report `churn`: what each peer's units did to its table. A line holds a peer, eight counts, and the times of its
 //! first and last unit.
 
-ghost use Rattle.std.specs.Prelude.{◌≡◌, IfOk, OnOk, OnErr, IsErr, Err};
+ghost use Rattle.std.specs.Prelude.{◌≡◌, IfOk};
 ghost use Rattle.std.specs.List.{flat_map};
-ghost use Rattle.std.specs.Io.KnownBytes.{Appends};
-ghost use Rattle.mrt_frame.specs.Devices.{HasFailed};
-ghost use Rattle.mrt_frame.specs.Writes.{WritesFront};
-ghost use Rattle.mrt_frame.specs.declared.error.ReplayError.TheVariants as errors;
 ghost use Rattle.rib_report.specs.Reports.{churn_rows};
 ghost use Rattle.rib_report.specs.Digits.{field, time_text};
 ghost use Rattle.rib_report.specs.Lines.{churn_line};
-ghost use Rattle.rib_report.specs.Texts.{Writes};
+ghost use Rattle.rib_report.specs.Texts.{IsOutput, Writes};
 
 use crate::buffer::TextBuffer;
 use crate::fields::{put_absent, put_peer};
@@ -93,12 +89,8 @@ impl Line for ChurnRow {
 
 /// Writes the rows of `churn`. If it returns `Write`, a leading part of the text has been written.
 pub fn write_churn<W: Sink>(out: &mut W, rows: &[ChurnRow]) -> Result<(), ReplayError>
-    ensures ok { OnOk result (Appends (W.contents out.old) (W.contents out.new) (flat_map churn_line rows.now)) }
-    ensures front { OnErr result (WritesFront (W.contents out.old) (W.contents out.new)
-        (flat_map churn_line rows.now)) }
-    ensures write { IsErr result → result ≡ Err errors.Write }
-    ensures sound { OnOk result (W.failure_count out.new ≡ W.failure_count out.old) }
-    ensures risen { OnErr result (HasFailed (W.failure_count out.old) (W.failure_count out.new)) }
+    ensures { IsOutput (W.contents out.old) (W.failure_count out.old) (W.contents out.new) (W.failure_count out.new)
+        (flat_map churn_line rows.now) result }
 {
     write_lines(out, rows)
 }

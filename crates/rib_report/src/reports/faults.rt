@@ -1,18 +1,14 @@
 //! The report `faults`: the records and units that are damaged. A line holds the place of one, by file, offset and
 //! entry, and the number and name of its fault.
 
-ghost use Rattle.std.specs.Prelude.{◌≡◌, ◌+◌, ◌++◌, IfOk, OnOk, OnErr, IsErr, Err, codes, decimal};
+ghost use Rattle.std.specs.Prelude.{◌≡◌, ◌+◌, ◌++◌, IfOk, codes, decimal};
 ghost use Rattle.std.specs.List.{flat_map};
-ghost use Rattle.std.specs.Io.KnownBytes.{Appends};
-ghost use Rattle.mrt_frame.specs.Devices.{HasFailed};
 ghost use Rattle.mrt_frame.specs.Faults.{fault_number, fault_name};
-ghost use Rattle.mrt_frame.specs.Writes.{WritesFront};
-ghost use Rattle.mrt_frame.specs.declared.error.ReplayError.TheVariants as errors;
 ghost use Rattle.peer_tables.specs.Tables.{all_faults};
 ghost use Rattle.rib_report.specs.Reports.{fault_rows};
 ghost use Rattle.rib_report.specs.Digits.{field};
 ghost use Rattle.rib_report.specs.Lines.{fault_line};
-ghost use Rattle.rib_report.specs.Texts.{Writes};
+ghost use Rattle.rib_report.specs.Texts.{IsOutput, Writes};
 
 use crate::buffer::TextBuffer;
 use crate::fields::put_absent;
@@ -118,12 +114,8 @@ impl Line for Damage {
 
 /// Writes the rows of `faults`. If it returns `Write`, a leading part of the text has been written.
 pub fn write_faults<W: Sink>(out: &mut W, rows: &[Damage]) -> Result<(), ReplayError>
-    ensures ok { OnOk result (Appends (W.contents out.old) (W.contents out.new) (flat_map fault_line rows.now)) }
-    ensures front { OnErr result (WritesFront (W.contents out.old) (W.contents out.new)
-        (flat_map fault_line rows.now)) }
-    ensures write { IsErr result → result ≡ Err errors.Write }
-    ensures sound { OnOk result (W.failure_count out.new ≡ W.failure_count out.old) }
-    ensures risen { OnErr result (HasFailed (W.failure_count out.old) (W.failure_count out.new)) }
+    ensures { IsOutput (W.contents out.old) (W.failure_count out.old) (W.contents out.new) (W.failure_count out.new)
+        (flat_map fault_line rows.now) result }
 {
     write_lines(out, rows)
 }

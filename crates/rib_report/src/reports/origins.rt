@@ -1,16 +1,12 @@
 //! The report `origins`: the prefixes whose routes have two or more origin ASes. A line holds a prefix and these ASes.
 
-ghost use Rattle.std.specs.Prelude.{◌≡◌, ◌≢◌, ◌<◌, ◌≤◌, ◌++◌, [], ◌∷◌, IfOk, OnOk, OnErr, IsErr, Err, map, length};
+ghost use Rattle.std.specs.Prelude.{◌≡◌, ◌≢◌, ◌<◌, ◌≤◌, ◌++◌, [], ◌∷◌, IfOk, OnOk, map, length};
 ghost use Rattle.std.specs.List.{AllWithin, HoldsAt, filter, filter_map, flat_map};
 ghost use Rattle.std.specs.List.Sorted.{IsStrictlySortedBy};
-ghost use Rattle.std.specs.Io.KnownBytes.{Appends};
-ghost use Rattle.mrt_frame.specs.Devices.{HasFailed};
-ghost use Rattle.mrt_frame.specs.Writes.{WritesFront};
-ghost use Rattle.mrt_frame.specs.declared.error.ReplayError.TheVariants as errors;
 ghost use Rattle.rib_report.specs.Runs.{pair_cmp};
 ghost use Rattle.rib_report.specs.Reports.{route_origin, origin_pair, seat_origins, table_origins, has_several, grouped_origins, origin_rows};
 ghost use Rattle.rib_report.specs.Lines.{origin_line};
-ghost use Rattle.rib_report.specs.Texts.{Writes};
+ghost use Rattle.rib_report.specs.Texts.{IsOutput, Writes};
 ghost use Rattle.peer_tables.specs.Seats.{seat_of};
 
 use crate::buffer::TextBuffer;
@@ -158,12 +154,8 @@ impl Line for OriginRow {
 
 /// Writes the rows of `origins`. If it returns `Write`, a leading part of the text has been written.
 pub fn write_origins<W: Sink>(out: &mut W, rows: &[OriginRow]) -> Result<(), ReplayError>
-    ensures ok { OnOk result (Appends (W.contents out.old) (W.contents out.new) (flat_map origin_line rows.now)) }
-    ensures front { OnErr result (WritesFront (W.contents out.old) (W.contents out.new)
-        (flat_map origin_line rows.now)) }
-    ensures write { IsErr result → result ≡ Err errors.Write }
-    ensures sound { OnOk result (W.failure_count out.new ≡ W.failure_count out.old) }
-    ensures risen { OnErr result (HasFailed (W.failure_count out.old) (W.failure_count out.new)) }
+    ensures { IsOutput (W.contents out.old) (W.failure_count out.old) (W.contents out.new) (W.failure_count out.new)
+        (flat_map origin_line rows.now) result }
 {
     write_lines(out, rows)
 }

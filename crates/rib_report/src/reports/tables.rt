@@ -1,7 +1,7 @@
 //! The report `tables`: every entry of every peer's table. A line holds a peer, a key and its route: path, next hop,
 //! origin, MED, LOCAL_PREF, whether it is an atomic aggregate, and its aggregator.
 
-ghost use Rattle.std.specs.Prelude.{◌≡◌, ◌<◌, ◌≤◌, ◌⊎◌, ◌++◌, IfOk, IfErr, OnOk, OnErr, IsErr, Err, length, map, vec_capacity};
+ghost use Rattle.std.specs.Prelude.{◌≡◌, ◌<◌, ◌≤◌, ◌⊎◌, ◌++◌, IfOk, IfErr, OnOk, OnErr, Err, length, map, vec_capacity};
 ghost use Rattle.std.specs.List.{flat_map};
 ghost use Rattle.std.specs.Io.KnownBytes.{Appends};
 ghost use Rattle.mrt_frame.specs.Devices.{HasFailed};
@@ -12,7 +12,7 @@ ghost use Rattle.rib_report.specs.Rows.{table_row};
 ghost use Rattle.rib_report.specs.Reports.{rows_of_seat, route_rows};
 ghost use Rattle.rib_report.specs.Listings.{reached_lines, seat_lines, most_entries};
 ghost use Rattle.rib_report.specs.Lines.{route_line};
-ghost use Rattle.rib_report.specs.Texts.{Writes};
+ghost use Rattle.rib_report.specs.Texts.{IsOutput, Writes};
 
 use crate::buffer::TextBuffer;
 use crate::fields::put_row;
@@ -216,13 +216,8 @@ impl Line for TableRow<'_> {
 /// Writes the rows of `table_rows` or `matches`. If it returns `Write`, a leading part of the text has been
 /// written.
 pub fn write_rows<W: Sink>(out: &mut W, rows: &[TableRow<'_>]) -> Result<(), ReplayError>
-    ensures ok { OnOk result (Appends (W.contents out.old) (W.contents out.new)
-        (flat_map (λ row. route_line (table_row row)) rows.now)) }
-    ensures front { OnErr result (WritesFront (W.contents out.old) (W.contents out.new)
-        (flat_map (λ row. route_line (table_row row)) rows.now)) }
-    ensures write { IsErr result → result ≡ Err errors.Write }
-    ensures sound { OnOk result (W.failure_count out.new ≡ W.failure_count out.old) }
-    ensures risen { OnErr result (HasFailed (W.failure_count out.old) (W.failure_count out.new)) }
+    ensures { IsOutput (W.contents out.old) (W.failure_count out.old) (W.contents out.new) (W.failure_count out.new)
+        (flat_map (λ row. route_line (table_row row)) rows.now) result }
 {
     write_lines(out, rows)
 }

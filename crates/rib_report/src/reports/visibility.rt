@@ -1,19 +1,15 @@
 //! The report `visibility`: the prefixes that are in any table. A line holds a prefix and the number of peers at which
 //! it is visible.
 
-ghost use Rattle.std.specs.Prelude.{◌≡◌, ◌≢◌, ◌<◌, ◌≤◌, ◌++◌, IfOk, OnOk, OnErr, IsErr, Err, map, length};
+ghost use Rattle.std.specs.Prelude.{◌≡◌, ◌≢◌, ◌<◌, ◌≤◌, ◌++◌, IfOk, OnOk, map, length};
 ghost use Rattle.std.specs.List.{AllWithin, AllByRecursion, HoldsAt, flat_map};
 ghost use Rattle.std.specs.List.Sorted.{IsSorted};
-ghost use Rattle.std.specs.Io.KnownBytes.{Appends};
-ghost use Rattle.mrt_frame.specs.Devices.{HasFailed};
-ghost use Rattle.mrt_frame.specs.Writes.{WritesFront};
-ghost use Rattle.mrt_frame.specs.declared.error.ReplayError.TheVariants as errors;
 ghost use Rattle.bgp_prefix.specs.Prefixes.{prefix_cmp};
 ghost use Rattle.rib_report.specs.Rows.{seen_pair};
 ghost use Rattle.rib_report.specs.Runs.{counted, is_last, without_repeats};
 ghost use Rattle.rib_report.specs.Reports.{HasOrder, seat_prefixes, visibility_rows};
 ghost use Rattle.rib_report.specs.Lines.{visibility_line};
-ghost use Rattle.rib_report.specs.Texts.{Writes};
+ghost use Rattle.rib_report.specs.Texts.{IsOutput, Writes};
 ghost use Rattle.peer_tables.specs.Seats.{seat_of};
 
 use crate::buffer::TextBuffer;
@@ -144,12 +140,8 @@ impl Line for SeenRow {
 
 /// Writes the rows of `visibility`. If it returns `Write`, a leading part of the text has been written.
 pub fn write_visibility<W: Sink>(out: &mut W, rows: &[SeenRow]) -> Result<(), ReplayError>
-    ensures ok { OnOk result (Appends (W.contents out.old) (W.contents out.new) (flat_map visibility_line rows.now)) }
-    ensures front { OnErr result (WritesFront (W.contents out.old) (W.contents out.new)
-        (flat_map visibility_line rows.now)) }
-    ensures write { IsErr result → result ≡ Err errors.Write }
-    ensures sound { OnOk result (W.failure_count out.new ≡ W.failure_count out.old) }
-    ensures risen { OnErr result (HasFailed (W.failure_count out.old) (W.failure_count out.new)) }
+    ensures { IsOutput (W.contents out.old) (W.failure_count out.old) (W.contents out.new) (W.failure_count out.new)
+        (flat_map visibility_line rows.now) result }
 {
     write_lines(out, rows)
 }
