@@ -8,14 +8,14 @@
 # five times, so that a busy machine doesn't count), where 4 workers give other bytes or another status than one, or where a run holds
 # more than 64 MB and PER_BYTE (40) bytes a byte. Of each report ROUNDS (2) runs are made, of which the least time counts. Dumps of the
 # list `scattered` have the bound SCATTERED (3.0), since they don't keep to RATIO: each of their keys falls somewhere else in the tables, which
-# outgrow one cache after the other (docs/PERFORMANCE.md).
+# outgrow one cache after the other, as any map of scattered keys does (docs/PERFORMANCE.md).
 # Needs cc and awk. The last line is `N passed, M failed`.
 set -u
 program=$(realpath "$1"); shift; here=$(dirname "$(realpath "$0")"); work=$(mktemp -d); trap 'rm -rf "$work"' EXIT
 ratio=${RATIO:-2.3}; wide=${SCATTERED:-3.0}; per_byte=${PER_BYTE:-40}; rounds=${ROUNDS:-2}; seconds=${SECONDS_A_RUN:-60}
 for tool in gen_hostile measure; do cc -O2 -o "$work/$tool" "$here/$tool.c" || exit 2; done
 passed=0; failed=0
-scattered='ids-mixed nested far-peers'
+scattered='ids-mixed more-ids-mixed nested far-peers'
 is_over() {
   local most=$ratio; case " $scattered " in *" $name "*) most=$wide;; esac
   awk "BEGIN { exit !($took >= 0.1 && $before * $most < $took) }"
