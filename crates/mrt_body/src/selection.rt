@@ -10,7 +10,9 @@ use crate::unit::Unit;
 /// for each selection.
 ///
 /// A criterion is a field here and a definition in `specs/Selections.antt`, which `is_selected` joins with
-/// the others. Today the time is the only one; a peer or a prefix would stand beside it.
+/// the others. Today the time is the only one; a peer or a prefix would stand beside it. The entries of a
+/// RIB record all have its time, so they are skipped together, or else returned without a test of each: a
+/// criterion that tells them apart would have to be tested there as well.
 #[derive(Clone, Copy, Debug, PartialEq, Eq)]
 pub(crate) struct Selection {
     /// The last second of which units are returned, in seconds since 1970 UTC. A unit is skipped if the
