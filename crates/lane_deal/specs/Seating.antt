@@ -43,8 +43,7 @@ TakenAt old new position unit =
     → new ≡ slice_set old position
     (record {
       number = (slice_index_or old position d).number;
-      key = (slice_index_or old position
-          d).key;
+      key = (slice_index_or old position d).key;
       session = session_of (before ++ unit ∷ []);
     })
 

@@ -15,20 +15,11 @@ pub struct Popped {
 impl Popped {
     ghost use Rattle.std.specs.Prelude.{◌≡◌};
 
-    /// Reads nothing ahead of the item.
-    pub fn new(item: Numbered) -> Popped
+    /// Reads ahead of an item by way of a buffer, whose contents are replaced.
+    pub fn new(alloc: Global, buffer: &mut Vec<u8>, item: Numbered) -> Popped
         ensures { result.item ≡ item }
     {
-        Popped {
-            item,
-            ahead: ReadAhead::nothing(),
-        }
-    }
-
-    /// Reads ahead of the item by way of a buffer, whose contents are replaced.
-    pub fn read_ahead(&mut self, alloc: Global, buffer: &mut Vec<u8>)
-        ensures { self.new.item ≡ self.old.item }
-    {
-        self.ahead = ReadAhead::of(alloc, buffer, &self.item.unit);
+        let ahead = ReadAhead::of(alloc, buffer, &item.unit);
+        Popped { item, ahead }
     }
 }

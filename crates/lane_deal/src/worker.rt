@@ -46,9 +46,8 @@ fn pop_near(
     ensures pops { OnOk result (Pops consumer.old consumer.new (items_of popped.new.items)) }
 {
     for taken in 0..consumer.cached_slots().min(NEAR_UNITS) {
-        let mut near = Popped::new(consumer.pop_known());
-        near.read_ahead(alloc, buffer);
-        popped.push(near)?;
+        let item = consumer.pop_known();
+        popped.push(Popped::new(alloc, buffer, item))?;
     }
     Ok(())
 }

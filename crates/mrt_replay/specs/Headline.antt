@@ -46,10 +46,14 @@ Flushes run = OnOk run.result (run.flushed_after ≡ true)
 -- Why it stops, and what it leaves: nothing written, or a front of the report. What is said of the bytes is said of honest devices;
 -- that a device failed is said of all.
 abbrev pub IsStopped : RunState → ReplayError → Type 0
-IsStopped run (errors.Read file) = (file < length run.readers) × HasFailed (slice_index run.readers file) (slice_index run.readers_after file) × Keeps run.held run.held_after
-IsStopped run errors.Write = HasFailed run.writer run.writer_after × ((files : List (List ℕ)) → AreHonest run.told files → WritesFront run.held run.held_after (report run.request run.plan.until files))
+IsStopped run (errors.Read file) = (file < length run.readers) ×
+    HasFailed (slice_index run.readers file) (slice_index run.readers_after file) × Keeps run.held run.held_after
+IsStopped run errors.Write = HasFailed run.writer run.writer_after ×
+    ((files : List (List ℕ)) → AreHonest run.told files → WritesFront run.held run.held_after
+    (report run.request run.plan.until files))
 IsStopped run errors.Memory = Keeps run.held run.held_after
-IsStopped run errors.Records = ((files : List (List ℕ)) → AreHonest run.told files → AreWithin run.plan.max_records files → ⊥) × Keeps run.held run.held_after
+IsStopped run errors.Records = ((files : List (List ℕ)) → AreHonest run.told files →
+    AreWithin run.plan.max_records files → ⊥) × Keeps run.held run.held_after
 IsStopped run errors.Spent = ⊥
 
 -- A run that answers an error has its cause.
@@ -59,7 +63,8 @@ StopsWithCause run = IfErr run.result (IsStopped run)
 -- With sound devices and records within the limit a run completes, unless it wants memory.
 abbrev pub Completes : RunState → Type 0
 Completes run =
-    (files : List (List ℕ)) → AreHonest run.told files → AreSound run.readers run.readers_after run.writer run.writer_after → AreWithin run.plan.max_records files
+    (files : List (List ℕ)) → AreHonest run.told files →
+    AreSound run.readers run.readers_after run.writer run.writer_after → AreWithin run.plan.max_records files
     → IfErr run.result (λ error. error ≡ errors.Memory)
 
 -- ---- all of it

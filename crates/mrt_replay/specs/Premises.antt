@@ -9,7 +9,8 @@ use Rattle.mrt_body.specs.Units.{records_of}
 
 -- Sound devices: by the counts before a run and after it, no reader failed, nor did the writer
 pub record AreSound (readers readers_after : List ℕ) (writer writer_after : ℕ) : Type 0 where
-  pub readers_sound : (file : ℕ) → file < length readers → HasFailed (slice_index readers file) (slice_index readers_after file) → ⊥
+  pub readers_sound : (file : ℕ) → file < length readers →
+      HasFailed (slice_index readers file) (slice_index readers_after file) → ⊥
   pub writer_sound : HasFailed writer writer_after → ⊥
 
 -- Records within the limit: no more than that are cut

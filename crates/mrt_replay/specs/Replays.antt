@@ -19,19 +19,26 @@ use Rattle.mrt_replay.specs.declared.replayed.Replayed.{Replayed}
 
 -- These units and refusals came in between, and all of them were taken by what takes them. `Took` says which units and refusals
 -- it took in all.
-pub record HasTaken {T : Type 0} (Took : T → List ReplayUnit → List Damage → Type 0) (start now : UnitsState) (told left : List (Option (List ℕ))) (before after : T) : Type 0 where
+pub record HasTaken {T : Type 0} (Took : T → List ReplayUnit → List Damage → Type 0) (start now : UnitsState)
+    (told left : List (Option (List ℕ))) (before after : T) : Type 0 where
   pub items : List Found
   pub came : TakesFound start told now left items
-  pub took : (units : List ReplayUnit) (refused : List Damage) → Took before units refused → Took after (units ++ filter_map unit_of items) (refused ++ filter_map damage_of items)
+  pub took : (units : List ReplayUnit) (refused : List Damage) → Took before units refused →
+      Took after (units ++ filter_map unit_of items) (refused ++ filter_map damage_of items)
   pub few : length (filter_map unit_of items) + units_left now ≤ units_left start
 
 -- All that was to come was taken, and the records were counted.
-pub record HasTakenFiles {T : Type 0} (Took : T → List ReplayUnit → List Damage → Type 0) (start now : UnitsState) (told : List (Option (List ℕ))) (before after : T) : Type 0 where
+pub record HasTakenFiles {T : Type 0} (Took : T → List ReplayUnit → List Damage → Type 0) (start now : UnitsState)
+    (told : List (Option (List ℕ))) (before after : T) : Type 0 where
   pub items : List Found
-  pub came : (contents : List (List ℕ)) → drop start.file told ≡ map (λ bytes. Some bytes) contents → found_to_come start contents ≡ items
-  pub records : (contents : List (List ℕ)) → drop start.file told ≡ map (λ bytes. Some bytes) contents → start.records + count_by is_whole (cuts_to_come start contents) ≡ now.records
-  pub aside : (contents : List (List ℕ)) → drop start.file told ≡ map (λ bytes. Some bytes) contents → start.aside + count_by is_aside (cuts_to_come start contents) ≡ now.aside
-  pub took : (units : List ReplayUnit) (refused : List Damage) → Took before units refused → Took after (units ++ filter_map unit_of items) (refused ++ filter_map damage_of items)
+  pub came : (contents : List (List ℕ)) → drop start.file told ≡ map (λ bytes. Some bytes) contents →
+      found_to_come start contents ≡ items
+  pub records : (contents : List (List ℕ)) → drop start.file told ≡ map (λ bytes. Some bytes) contents →
+      start.records + count_by is_whole (cuts_to_come start contents) ≡ now.records
+  pub aside : (contents : List (List ℕ)) → drop start.file told ≡ map (λ bytes. Some bytes) contents →
+      start.aside + count_by is_aside (cuts_to_come start contents) ≡ now.aside
+  pub took : (units : List ReplayUnit) (refused : List Damage) → Took before units refused →
+      Took after (units ++ filter_map unit_of items) (refused ++ filter_map damage_of items)
   pub few : length (filter_map unit_of items) ≤ units_left start
 
 -- why the files can't be taken to their ends
@@ -45,16 +52,20 @@ StopsFiles start told before after errors.Spent = ⊥
 -- ---- rounds
 
 -- These units came: a replayer dealt all but the one that it keeps.
-pub record DealtAll (dealing : ℕ → ℕ → ℕ) (capacity : ℕ) (r : ReplayerState) (units : List ReplayUnit) (refused : List Damage) : Type 0 where
+pub record DealtAll (dealing : ℕ → ℕ → ℕ) (capacity : ℕ) (r : ReplayerState) (units : List ReplayUnit)
+    (refused : List Damage) : Type 0 where
   pub dealt : List ReplayUnit
   pub whole : units ≡ dealt ++ option_to_list r.kept
   pub stands : ReplayerStandsFor dealing capacity dealt refused r
 
 -- Rounds to the end: the replayer took all that was to come and keeps no unit, and there were few of them.
-pub record HasPlayed (dealing : ℕ → ℕ → ℕ) (plan : Plan) (before after : ReplayerState) (start now : UnitsState) (told : List (Option (List ℕ))) (rounds rounds' : ℕ) : Type 0 where
+pub record HasPlayed (dealing : ℕ → ℕ → ℕ) (plan : Plan) (before after : ReplayerState) (start now : UnitsState)
+    (told : List (Option (List ℕ))) (rounds rounds' : ℕ) : Type 0 where
   pub taken : HasTakenFiles (DealtAll dealing plan.ring) start now told before after
   pub none : after.kept ≡ None
-  pub few : IsSettled before → before.kept ≡ None → rounds' ≤ (rounds + 1) + (2 * length (filter_map unit_of taken.items) / plan.ring + length (filter_map unit_of taken.items) / plan.batch)
+  pub few : IsSettled before → before.kept ≡ None →
+      rounds' ≤ (rounds + 1)
+      + (2 * length (filter_map unit_of taken.items) / plan.ring + length (filter_map unit_of taken.items) / plan.batch)
 
 -- ---- the whole replay
 
@@ -68,8 +79,10 @@ pub record IsReplayOf {M : Type 0} (plan : Plan) (files : List (List ℕ)) (r : 
 
 -- Why a replay of files stops, of which these bytes are known: a reader failed, memory ran out, or there are more records than the limit.
 abbrev pub StopsReplay : ℕ → List (Option (List ℕ)) → List ℕ → List ℕ → ReplayError → Type 0
-StopsReplay max_records told before after (errors.Read file) = (file < length before) × HasFailed (slice_index before file) (slice_index after file)
+StopsReplay max_records told before after (errors.Read file) = (file < length before) ×
+    HasFailed (slice_index before file) (slice_index after file)
 StopsReplay max_records told before after errors.Write = ⊥
 StopsReplay max_records told before after errors.Memory = ⊤
-StopsReplay max_records told before after errors.Records = (files : List (List ℕ)) → told ≡ map (λ bytes. Some bytes) files → max_records < records_of files
+StopsReplay max_records told before after errors.Records = (files : List (List ℕ)) →
+    told ≡ map (λ bytes. Some bytes) files → max_records < records_of files
 StopsReplay max_records told before after errors.Spent = ⊥

@@ -42,5 +42,6 @@ pub record IsSummary (plan : Plan) (files : List (List ℕ)) (s : Summary) : Typ
   pub aside : s.aside ≡ aside_of files
   pub damaged : s.damaged ≡ stopped (length (listed_faults plan.until files))
   pub peers : s.peers ≡ length (peers_of (units_of plan.until files))
-  pub routes : s.routes ≡ stopped (length (all_routes (tables_of (units_of plan.until files) (refused_of plan.until files))))
+  pub routes : s.routes
+      ≡ stopped (length (all_routes (tables_of (units_of plan.until files) (refused_of plan.until files))))
   pub rounds : s.rounds ≤ 2 * s.units / plan.ring + s.units / plan.batch + 2

@@ -114,7 +114,8 @@ fn write_report<M: PrefixMap<SharedRoute> + Drop, W: Sink>(
     ensures sound { OnOk result (W.failure_count out.new ≡ W.failure_count out.old) }
     ensures errors { IfErr result (λ e. (e ≡ errors.Memory) ⊎ (e ≡ errors.Write)) }
     ensures untouched { result ≡ Err errors.Memory → out.new ≡ out.old }
-    ensures front { result ≡ Err errors.Write → WritesFront (W.contents out.old) (W.contents out.new) (lines_of request.now tables.now) }
+    ensures front { result ≡ Err errors.Write → WritesFront (W.contents out.old) (W.contents out.new)
+        (lines_of request.now tables.now) }
     ensures risen { result ≡ Err errors.Write → HasFailed (W.failure_count out.old) (W.failure_count out.new) }
 {
     match request {

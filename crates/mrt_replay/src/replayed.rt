@@ -57,9 +57,14 @@ where
     requires going { units.old.standing ≡ Going }
     requires running { replayer.old.state ≡ Running }
     requires plan { IsPlan replayer.old.plan }
-    ensures kept { OnOk result ((replayer.new.plan ≡ replayer.old.plan) × (replayer.new.dealer.dealing ≡ replayer.old.dealer.dealing) × (replayer.new.state ≡ Ended)) }
-    ensures played { OnOk result (HasPlayed (D.lane_of replayer.old.dealer.dealing) replayer.old.plan (shown replayer.old) (shown replayer.new) units.old units.new (map R.remaining files.old) replayer.old.rounds replayer.new.rounds) }
-    ensures cause { IfErr result (StopsFiles units.old (map R.remaining files.old) (map R.failure_count files.old) (map R.failure_count files.new)) }
+    ensures kept { OnOk result ((replayer.new.plan ≡ replayer.old.plan) ×
+        (replayer.new.dealer.dealing ≡ replayer.old.dealer.dealing) × (replayer.new.state ≡ Ended)) }
+    ensures played { OnOk result
+        (HasPlayed (D.lane_of replayer.old.dealer.dealing) replayer.old.plan (shown replayer.old) (shown replayer.new)
+        units.old units.new (map R.remaining files.old) replayer.old.rounds replayer.new.rounds) }
+    ensures cause { IfErr result
+        (StopsFiles units.old (map R.remaining files.old) (map R.failure_count files.old)
+        (map R.failure_count files.new)) }
 {
     'rounds: loop {
         replayer.lanes_are_below();
@@ -93,9 +98,12 @@ where
     G: Gate,
     requires { IsPlan plan.now }
     // If the readers state their bytes, the tables stand for the units and refusals of these.
-    ensures replayed { (contents : List (List ℕ)) → map R.remaining files.old ≡ map (λ bytes. Some bytes) contents → IfOk result (IsReplayOf plan.now contents) }
+    ensures replayed { (contents : List (List ℕ)) → map R.remaining files.old ≡ map (λ bytes. Some bytes) contents →
+        IfOk result (IsReplayOf plan.now contents) }
     // An error has its cause.
-    ensures cause { IfErr result (StopsReplay plan.now.max_records (map R.remaining files.old) (map R.failure_count files.old) (map R.failure_count files.new)) }
+    ensures cause { IfErr result
+        (StopsReplay plan.now.max_records (map R.remaining files.old) (map R.failure_count files.old)
+        (map R.failure_count files.new)) }
 {
     let mut units = Units::new(files.len(), plan.max_records, plan.until);
     let mut replayer = Replayer::<M, &D>::new(alloc, *plan, dealing)?;

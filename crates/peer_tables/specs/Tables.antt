@@ -29,7 +29,8 @@ pub record IsCollected (seats : List Seat) (refused : List Damage) (tables : Tab
 -- the tables that stand for units and refusals: of each peer, by number, what its own units make of a session
 unfoldable pub tables_of : List ReplayUnit → List Damage → TablesState
 tables_of units refused = record {
-  seats = map (λ e. record { number = e.0; key = e.1; session = session_of (units_of_peer units e.1) }) (enumerate_from 0 (peers_of units));
+  seats = map (λ e. record { number = e.0; key = e.1; session = session_of (units_of_peer units e.1) })
+      (enumerate_from 0 (peers_of units));
   refused = refused;
 }
 

@@ -130,7 +130,9 @@ pub fn collect<M: PrefixMap<SharedRoute> + Drop>(
 ) -> Result<Tables<M>, (Gathered<M>, Memory)>
     requires { IsDistinct nat_eq (map (λ seat. seat.number) (gathered_seats gathered)) }
     ensures ok { IfOk result (λ tables. IsCollected (gathered_seats gathered) gathered.refused tables) }
-    ensures only { (seats : List Seat) → IsPermutation (gathered_seats gathered) seats → IsStrictlyIncreasing (map (λ seat. seat.number) seats) → IfOk result (λ tables. tables ≡ record { seats = seats; refused = gathered.refused }) }
+    ensures only { (seats : List Seat) → IsPermutation (gathered_seats gathered) seats →
+        IsStrictlyIncreasing (map (λ seat. seat.number) seats) →
+        IfOk result (λ tables. tables ≡ record { seats = seats; refused = gathered.refused }) }
     ensures err { IfErr result (λ back. back.0 ≡ gathered) }
 {
     let Some(count) = count_of(gathered.lanes.as_slice()) else {
