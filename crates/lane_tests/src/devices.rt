@@ -3,7 +3,7 @@
 use crate::playing::{PLAN, Play};
 use adj_rib::SharedRoute;
 use bgp_prefix::Radix;
-use fixtures::{Dripping, dump};
+use fixtures::{Dripping, THREE_PEERS, bytes_of};
 use lane_deal::Plan;
 use mrt_frame::Counted;
 use std::alloc::Global;
@@ -11,8 +11,6 @@ use std::io::ErrorKind;
 use std::marker::Sync;
 use std::process::Abort;
 use std::thread::Threads;
-
-const THREE_PEERS: &str = "M MB M MC MB";
 
 /// The routes and the churn of the first units, by their number.
 const TABLES_OF_FRONTS: [&str; 6] = [
@@ -85,9 +83,9 @@ fn expect_salvage(rt: &(impl Threads + Abort + Sync), alloc: Global, rest: &[u8]
 }
 
 #[test]
-fn salvage_at_every_failed_read(rt: HostRuntime) {
+fn every_failed_read_leaves_the_units_before_it(rt: HostRuntime) {
     let alloc = rt.alloc();
-    let bytes = dump(alloc, THREE_PEERS).expect(&rt, "memory for a dump");
+    let bytes = bytes_of(alloc, THREE_PEERS).expect(&rt, "memory for a dump");
     for k in 0..=bytes.len() {
         expect_salvage(&rt, alloc, &bytes.as_slice()[..k], 1 + k % 4);
     }

@@ -5,7 +5,7 @@
 use crate::playing::{PLAN, Play};
 use adj_rib::SharedRoute;
 use bgp_prefix::{Memory, PrefixMap, Radix};
-use fixtures::dump;
+use fixtures::{THREE_PEERS, bytes_of};
 use lane_deal::Plan;
 use mrt_frame::{Counted, ReplayError};
 use prefix_shelf::Shelf;
@@ -14,8 +14,6 @@ use std::marker::Sync;
 use std::process::Abort;
 use std::test::Fail;
 use std::thread::Threads;
-
-const THREE_PEERS: &str = "M MB M MC MB";
 
 const THREE_TABLES: &str = "65000 192.0.2.1|10.0.0.0/8|65000|192.0.2.1|IGP|-|-|-|-
 65000 192.0.2.2|10.0.0.0/8|65000|192.0.2.1|IGP|-|-|-|-
@@ -70,7 +68,7 @@ fn play_to_the_end<M: PrefixMap<SharedRoute> + Send + Drop>(
     alloc: Global,
     plan: Plan,
 ) -> Result<(), Fail> {
-    let bytes = dump(alloc, THREE_PEERS)?;
+    let bytes = bytes_of(alloc, THREE_PEERS)?;
     let mut play = play_of::<M>(rt, alloc, bytes.as_slice(), plan)?;
     if plays_rounds(rt, alloc, &mut play) && play.settle(rt, alloc) == "Ok" {
         expect_tables(rt, alloc, play)?;
@@ -81,7 +79,7 @@ fn play_to_the_end<M: PrefixMap<SharedRoute> + Send + Drop>(
 }
 
 #[test]
-fn growths_of_rounds(rt: HostRuntime) -> Result<(), Fail> {
+fn rounds_give_the_tables_or_spend_the_replayer(rt: HostRuntime) -> Result<(), Fail> {
     let alloc = rt.alloc();
     let small = Plan {
         ring: 1,

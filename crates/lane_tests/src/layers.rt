@@ -4,7 +4,7 @@ ghost use Rattle.std.specs.Prelude.{◌≡◌, [], ◌∷◌, IfOk, map};
 
 use adj_rib::{Session, SharedRoute};
 use bgp_prefix::{Radix, Sequence};
-use fixtures::dump;
+use fixtures::bytes_of;
 use mrt_body::{Found, PeerAddr, PeerKey, Unit, Units};
 use mrt_frame::{Counted, ReplayError};
 use rib_report::{Gathered, Seated, Tables, collect, table_rows};
@@ -14,7 +14,7 @@ use std::test::Fail;
 
 /// What a file gives, to its end.
 pub fn found_in(rt: &impl Abort, alloc: Global, words: &str) -> Result<Vec<Found>, Fail> {
-    let bytes = dump(alloc, words)?;
+    let bytes = bytes_of(alloc, words)?;
     let mut all = Vec::new(alloc);
     push_found(rt, alloc, bytes.as_slice(), &mut all)?;
     Ok(all)
@@ -48,16 +48,16 @@ pub fn unit_in(rt: &impl Abort, alloc: Global, words: &str) -> Result<Unit, Fail
 }
 
 #[test]
-fn state_changes_of_a_new_session(rt: HostRuntime) -> Result<(), Fail> {
+fn a_session_is_up_in_the_state_established_alone(rt: HostRuntime) -> Result<(), Fail> {
     let alloc = rt.alloc();
     let mut session = Session::<Radix<SharedRoute>>::new(alloc);
     assert!(rt; session.is_up() && !session.is_spent());
     assert!(rt; session.churn().first.is_none() && session.faults().is_empty());
     for (record, is_up, resets) in [
-        ("S56", true, 1),
-        ("S66", true, 1),
-        ("S60", false, 2),
-        ("S00", false, 3),
+        ("open-confirm-to-established", true, 1),
+        ("established-to-established", true, 1),
+        ("established-to-zero", false, 2),
+        ("zero-to-zero", false, 3),
     ] {
         take(&rt, alloc, &mut session, record)?;
         assert!(rt; session.is_up() == is_up, "up after {record}");
@@ -80,7 +80,7 @@ fn take(
 /// A session that took the announcement of 10.0.0.0/8.
 fn session_of(rt: &impl Abort, alloc: Global) -> Result<Session<Radix<SharedRoute>>, Fail> {
     let mut session = Session::new(alloc);
-    take(rt, alloc, &mut session, "M")?;
+    take(rt, alloc, &mut session, "announcement")?;
     Ok(session)
 }
 
@@ -144,7 +144,7 @@ fn expect_two_peers(
 /// Where a growth is refused, what was handed in comes back, and the call is made again.
 #[tactic(auto, using(crate::proofs::Numbers::two_numbers))]
 #[test]
-fn collect_orders_by_number(rt: HostRuntime) -> Result<(), Fail> {
+fn collect_orders_peers_by_number(rt: HostRuntime) -> Result<(), Fail> {
     let alloc = rt.alloc();
     let later = lane_of(&rt, alloc, 1, 1)?;
     let earlier = lane_of(&rt, alloc, 0, 0)?;

@@ -11,9 +11,9 @@ const PLAN: Plan = Plan {
     until: None,
 };
 
-/// The row `plan-ranges`: each number at its greatest, one past it, and 0.
+/// Each number at its greatest, one past it, and 0.
 #[test]
-fn plan_ranges(rt: HostRuntime) {
+fn a_plan_is_checked_against_its_ranges(rt: HostRuntime) {
     assert!(rt; PLAN.check());
     for workers in [65, 0] {
         assert!(rt; !Plan { workers, ..PLAN }.check());
@@ -36,7 +36,7 @@ fn plan_ranges(rt: HostRuntime) {
 }
 
 #[test]
-fn peers_by_turns_blocks_and_lists(rt: HostRuntime) {
+fn each_dealing_gives_a_peer_its_lane(rt: HostRuntime) {
     let blocks = ByBlocks::new(2);
     for (peer, lane) in [(0, 0), (1, 0), (2, 1), (3, 1), (4, 2), (5, 2), (6, 0)] {
         assert!(rt; blocks.lane(peer, 3) == lane);
@@ -54,7 +54,7 @@ fn peers_by_turns_blocks_and_lists(rt: HostRuntime) {
 
 /// Both calls of the gate that does nothing return.
 #[test]
-fn no_gate(_rt: HostRuntime) {
+fn the_gate_that_does_nothing_returns(_rt: HostRuntime) {
     NoGate.before(0, 0);
     NoGate.dealt(0, 0);
 }

@@ -2,7 +2,7 @@
 //! answers it comes before.
 
 use crate::layers::unit_in;
-use crate::playing::play_rows;
+use crate::playing::rows::play_rows;
 use crate::schedules::scheduled;
 use adj_rib::Session;
 use fixtures::Refusing;
@@ -12,7 +12,7 @@ use std::test::Fail;
 /// lane is taken, and its route refused, in the second round or in the settling.
 const WANTS: &str = "
 row memory-before-read
-broken M
+broken announcement
 plan batch 1
 round FullBatch
 unspent
@@ -26,7 +26,7 @@ round Spent
 shows rounds 2
 into_tables Spent
 row memory-before-read-of-one-worker
-broken M
+broken announcement
 plan workers 1,batch 1
 round FullBatch
 round Memory
@@ -35,7 +35,7 @@ round Spent
 settle Spent
 into_tables Spent
 row memory-before-read-of-64-workers
-broken M
+broken announcement
 plan workers 64,batch 1
 round FullBatch
 round Memory
@@ -44,7 +44,7 @@ round Spent
 settle Spent
 into_tables Spent
 row memory-before-records
-file M M
+file announcement announcement
 plan batch 1,records 1
 round FullBatch
 round Memory
@@ -53,7 +53,7 @@ round Spent
 settle Spent
 into_tables Spent
 row memory-in-a-round
-file M MB M MC MB
+file announcement by-second announcement by-third by-second
 plan workers 4,batch 3
 round FullBatch
 shows dealt 3,waiting 3,took 0
@@ -63,7 +63,7 @@ round Spent
 settle Spent
 into_tables Spent
 row memory-after-an-end
-file M MB
+file announcement by-second
 round End
 unspent
 shows dealt 2,waiting 2,took 0
@@ -73,7 +73,7 @@ round Spent
 settle Spent
 into_tables Spent
 row memory-after-a-failed-read
-broken M
+broken announcement
 plan workers 64
 round Read 0
 unspent
@@ -83,7 +83,7 @@ round Spent
 settle Spent
 into_tables Spent
 row nothing-to-refuse
-file S61 M
+file established-to-idle announcement
 round End
 settle Ok
 unspent
@@ -92,18 +92,18 @@ into_tables Ok
 ";
 
 #[test]
-fn want_of_memory_in_rounds(rt: HostRuntime) {
+fn a_refused_growth_spends_the_replayer(rt: HostRuntime) {
     assert_eq!(rt; play_rows::<Refusing>(&rt, rt.alloc(), WANTS), 8);
 }
 
 /// A session is spent after a refused growth, and lanes on one thread aren't had.
 #[test]
-fn want_of_memory_in_sessions(rt: HostRuntime) -> Result<(), Fail> {
+fn a_refused_growth_spends_the_session_and_leaves_no_lanes(rt: HostRuntime) -> Result<(), Fail> {
     let alloc = rt.alloc();
     let mut session = Session::<Refusing>::new(alloc);
-    session.take(alloc, &unit_in(&rt, alloc, "W")?)?;
+    session.take(alloc, &unit_in(&rt, alloc, "withdrawal")?)?;
     assert!(rt; !session.is_spent() && session.churn().void == 1);
-    for record in ["M", "M", "S61"] {
+    for record in ["announcement", "announcement", "established-to-idle"] {
         let taken = session.take(alloc, &unit_in(&rt, alloc, record)?);
         assert!(rt; taken.is_err() && session.is_spent(), "{record}");
     }

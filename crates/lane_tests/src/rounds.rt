@@ -1,7 +1,7 @@
 //! Rows on replayers: rounds that are blocked, full or the last, settling, and what is left after
 //! a failure.
 
-use crate::playing::play_rows;
+use crate::playing::rows::play_rows;
 use adj_rib::SharedRoute;
 use bgp_prefix::{Flat, Radix};
 use prefix_shelf::Shelf;
@@ -19,7 +19,7 @@ settled
 unspent
 into_tables Ok
 row ring-of-one-then-settle
-file M M M
+file announcement announcement announcement
 plan workers 1,ring 1
 round Blocked
 shows rounds 1,dealt 1,waiting 1,took 0
@@ -31,14 +31,14 @@ into_tables Ok
 > 65000 192.0.2.1|10.0.0.0/8|65000|192.0.2.1|IGP|-|-|-|-
 > 65000 192.0.2.1|1|0|0|0|0|0|0|0|1.000000|1.000000
 row ring-of-one-second-round
-file M M M
+file announcement announcement announcement
 plan workers 1,ring 1
 round Blocked
 round Blocked
 shows rounds 2,took 1
 dealt 1 or 2
 row batch-of-two
-file M M M
+file announcement announcement announcement
 plan workers 1,batch 2
 round FullBatch
 shows rounds 1,dealt 2,waiting 2,took 0
@@ -49,14 +49,14 @@ shows rounds 2,dealt 3,took 2,waiting 1
 settle Ok
 shows rounds 3,dealt 3,took 3,waiting 0
 row batch-of-three
-file M M M
+file announcement announcement announcement
 plan workers 1,batch 3
 round FullBatch
 shows dealt 3
 round End
 shows rounds 2,dealt 3
 row blocked-unit-stays
-file M M M
+file announcement announcement announcement
 plan workers 1,ring 1
 round Blocked
 settle Ok
@@ -67,7 +67,7 @@ into_tables Ok
 > 65000 192.0.2.1|10.0.0.0/8|65000|192.0.2.1|IGP|-|-|-|-
 > 65000 192.0.2.1|1|0|2|0|0|0|0|0|1.000000|1.000000
 row spent-units
-file M M
+file announcement announcement
 plan records 1
 units until Records
 unspent
@@ -77,7 +77,7 @@ round Spent
 settle Spent
 into_tables Spent
 row too-many-records
-file M M
+file announcement announcement
 plan records 1
 round Records
 spent
@@ -89,7 +89,7 @@ into_tables Spent
 /// After a failed read the units before it are there.
 const SALVAGE: &str = "
 row reader-fails-inside-a-record
-broken M 00000001 0010 0004 00000041
+broken announcement 00000001 0010 0004 00000041
 round Read 0
 unspent
 shows rounds 1,dealt 1
@@ -102,7 +102,7 @@ into_tables Ok
 > 65000 192.0.2.1|10.0.0.0/8|65000|192.0.2.1|IGP|-|-|-|-
 > 65000 192.0.2.1|1|0|0|0|0|0|0|0|1.000000|1.000000
 row second-file-fails-at-once
-file M
+file announcement
 broken
 round Read 1
 settle Ok
@@ -119,11 +119,11 @@ fn play_each(rt: &(impl Threads + Abort + Sync), alloc: Global, table: &str, row
 }
 
 #[test]
-fn rounds_of_each_map(rt: HostRuntime) {
+fn rounds_end_blocked_full_or_at_the_end_of_the_files(rt: HostRuntime) {
     play_each(&rt, rt.alloc(), ROUNDS, 8);
 }
 
 #[test]
-fn salvage_after_a_failed_read(rt: HostRuntime) {
+fn after_a_failed_read_the_units_before_it_are_there(rt: HostRuntime) {
     play_each(&rt, rt.alloc(), SALVAGE, 2);
 }

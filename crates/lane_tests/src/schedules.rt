@@ -3,6 +3,7 @@
 use crate::layers::found_in;
 use adj_rib::SharedRoute;
 use bgp_prefix::{Flat, Memory, PrefixMap, Radix};
+use fixtures::THREE_PEERS;
 use lane_deal::{ByTurns, Lanes, Turn, run_schedule};
 use mrt_body::{Found, PeerAddr, Unit};
 use prefix_shelf::Shelf;
@@ -34,7 +35,7 @@ pub fn scheduled<M: PrefixMap<SharedRoute> + Drop>(
     rt: &impl Abort,
     alloc: Global,
 ) -> Result<Result<Lanes<M>, Memory>, Fail> {
-    let units = units_in(rt, alloc, "M MB M MC MB")?;
+    let units = units_in(rt, alloc, THREE_PEERS)?;
     assert!(rt; units.len() == 5);
     let turns = [
         Turn::Take(0),
@@ -113,7 +114,7 @@ fn check_turns<M: PrefixMap<SharedRoute> + Drop>(
 }
 
 #[test]
-fn turns_one_by_one(rt: HostRuntime) -> Result<(), Fail> {
+fn turns_that_find_nothing_change_nothing(rt: HostRuntime) -> Result<(), Fail> {
     check_turns::<Radix<SharedRoute>>(&rt, rt.alloc())?;
     check_turns::<Shelf<SharedRoute>>(&rt, rt.alloc())?;
     check_turns::<Flat<SharedRoute>>(&rt, rt.alloc())
