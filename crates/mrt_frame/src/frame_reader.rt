@@ -51,17 +51,23 @@ impl FrameReader {
         alloc: Global,
         reader: &mut R,
     ) -> Result<Option<Cut>, ReplayError>
-        ensures first { IfOk result (λ cut. TakesCuts self.old (R.remaining reader.old) self.new (R.remaining reader.new) (option_to_list cut)) }
+        ensures first { IfOk result
+            (λ cut. TakesCuts self.old (R.remaining reader.old) self.new (R.remaining reader.new)
+            (option_to_list cut)) }
         ensures phase { IfOk result (λ cut. self.new.phase ≡ phase_after cut) }
         ensures place { IfOk result (λ cut. IfSome cut (StandsAt self.old.offset)) }
-        ensures cause { IfErr result (HasCause self.old self.new (R.failure_count reader.old) (R.failure_count reader.new)) }
+        ensures cause { IfErr result
+            (HasCause self.old self.new (R.failure_count reader.old) (R.failure_count reader.new)) }
         ensures counted { OnOk result (R.failure_count reader.new ≡ R.failure_count reader.old) }
         // A failed read took no whole record, and the record's offset stays.
-        ensures part { self.old.phase ≡ Phase.Reading → IfErr result (λ e. (self.new.offset ≡ self.old.offset) × ReadsPart self.old.offset (R.remaining reader.old) (R.remaining reader.new) e) }
+        ensures part { self.old.phase ≡ Phase.Reading → IfErr result
+            (λ e. (self.new.offset ≡ self.old.offset) × ReadsPart self.old.offset (R.remaining reader.old)
+            (R.remaining reader.new) e) }
         // An error other than Read comes without a failure of the device.
         ensures unfailed { IfErr result (KeepsUnlessRead (R.failure_count reader.old) (R.failure_count reader.new)) }
         ensures reads { ReadsNoMoreThan (12 + 16777216) (R.remaining reader.old) (R.remaining reader.new) }
-        ensures repeats { self.old.phase ≢ Phase.Reading → (self.new ≡ self.old) × (reader.new ≡ reader.old) × Repeats self.old result }
+        ensures repeats { self.old.phase ≢ Phase.Reading → (self.new ≡ self.old) × (reader.new ≡ reader.old) ×
+            Repeats self.old result }
         ensures file { self.new.file ≡ self.old.file }
     {
         match self.phase {
@@ -78,11 +84,15 @@ impl FrameReader {
         reader: &mut R,
     ) -> Result<Option<Cut>, ReplayError>
         requires { self.old.phase ≡ Phase.Reading }
-        ensures part { IfErr result (λ e. (self.new.offset ≡ self.old.offset) × ReadsPart self.old.offset (R.remaining reader.old) (R.remaining reader.new) e) }
-        ensures first { IfOk result (λ cut. TakesCuts self.old (R.remaining reader.old) self.new (R.remaining reader.new) (option_to_list cut)) }
+        ensures part { IfErr result (λ e. (self.new.offset ≡ self.old.offset) ×
+            ReadsPart self.old.offset (R.remaining reader.old) (R.remaining reader.new) e) }
+        ensures first { IfOk result
+            (λ cut. TakesCuts self.old (R.remaining reader.old) self.new (R.remaining reader.new)
+            (option_to_list cut)) }
         ensures phase { IfOk result (λ cut. self.new.phase ≡ phase_after cut) }
         ensures place { IfOk result (λ cut. IfSome cut (StandsAt self.old.offset)) }
-        ensures cause { IfErr result (HasCause self.old self.new (R.failure_count reader.old) (R.failure_count reader.new)) }
+        ensures cause { IfErr result
+            (HasCause self.old self.new (R.failure_count reader.old) (R.failure_count reader.new)) }
         ensures counted { OnOk result (R.failure_count reader.new ≡ R.failure_count reader.old) }
         ensures unfailed { IfErr result (KeepsUnlessRead (R.failure_count reader.old) (R.failure_count reader.new)) }
         ensures reads { ReadsNoMoreThan (12 + 16777216) (R.remaining reader.old) (R.remaining reader.new) }
