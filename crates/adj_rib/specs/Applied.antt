@@ -79,25 +79,24 @@ pub record Kept : Type 0 where
   pub churn : Churn
   pub faults : List Damage
 
+-- the churn of no unit
+abbrev pub no_churn : Churn
+no_churn = record {
+  added = 0;
+  changed = 0;
+  same = 0;
+  gone = 0;
+  void = 0;
+  resets = 0;
+  idle = 0;
+  refused = 0;
+  first = None;
+  last = None;
+}
+
 -- before the first unit
 abbrev pub START : Kept
-START = record {
-  up = true;
-  table = finite.empty;
-  churn = record {
-    added = 0;
-    changed = 0;
-    same = 0;
-    gone = 0;
-    void = 0;
-    resets = 0;
-    idle = 0;
-    refused = 0;
-    first = None;
-    last = None;
-  };
-  faults = [];
-}
+START = record { up = true; table = finite.empty; churn = no_churn; faults = [] }
 
 -- after the steps of a reading
 unfoldable pub followed : Kept → Result Event Fault → Kept

@@ -30,23 +30,11 @@ pub struct Churn {
 
 impl Churn {
     ghost use Rattle.std.specs.Prelude.{◌≡◌, None};
-    ghost use Rattle.adj_rib.specs.Applied.{counted, timed};
+    ghost use Rattle.adj_rib.specs.Applied.{counted, no_churn, timed};
 
     /// Returns the churn of no unit.
     pub(crate) fn new() -> Churn
-        ensures { result
-            ≡ record {
-              added = 0;
-              changed = 0;
-              same = 0;
-              gone = 0;
-              void = 0;
-              resets = 0;
-              idle = 0;
-              refused = 0;
-              first = None;
-              last = None;
-            } }
+        ensures { result ≡ no_churn }
     {
         Churn {
             added: 0,

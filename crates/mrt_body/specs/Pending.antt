@@ -1,16 +1,15 @@
 -- The index in force, and the entries that are still to be given of the RIB record read beside it.
-use Rattle.std.specs.Prelude.{◌≤◌, ◌+◌, ℕ, List, [], ◌∷◌, map, drop, length, slice_index_or, Option, Some, None, ⊤}
+use Rattle.std.specs.Prelude.{◌≤◌, ◌+◌, ℕ, List, [], ◌∷◌, map, drop, length, Option, Some, None, ⊤}
 use Rattle.std.specs.List.{All}
 use Rattle.bgp_prefix.specs.Prefixes.{IpPrefix}
 use Rattle.mrt_body.specs.declared.at.RecordAt.{RecordAt}
 use Rattle.mrt_body.specs.declared.unit.PeerKey.{PeerKey}
-use Rattle.mrt_body.specs.declared.unit.Payload.TheVariants.{Entry}
 use Rattle.mrt_body.specs.declared.unit.Unit.{Unit as ReplayUnit}
 use Rattle.mrt_body.specs.declared.rib.ListedEntry.{ListedEntry}
 use Rattle.mrt_body.specs.declared.entries.RibRecord.{RibRecord}
 use Rattle.mrt_body.specs.RibRecords.{ReadEntry}
 use Rattle.mrt_body.specs.Listed.{IsListed, read_listed}
-use Rattle.mrt_body.specs.Units.{place_of, time_of, no_peer}
+use Rattle.mrt_body.specs.Units.{rib_unit}
 
 -- peers, and the units that are still to be given
 pub record IndexState : Type 0 where
@@ -22,12 +21,8 @@ without_pending index = record { peers = index.peers; pending = [] }
 
 -- the unit of the entry of this number
 abbrev pub read_unit : RecordAt → List PeerKey → IpPrefix → ℕ → ReadEntry → ReplayUnit
-read_unit at peers prefix number e = record {
-  place = place_of at (Some number);
-  time = time_of at 0;
-  peer = slice_index_or peers e.peer no_peer;
-  payload = Entry (record { prefix = prefix; id = e.identifier }) e.attributes;
-}
+read_unit at peers prefix number e =
+    rib_unit at peers number e.peer (record { prefix = prefix; id = e.identifier }) e.attributes
 
 -- the units of entries, the first of which has this number
 abbrev pub read_units : RecordAt → List PeerKey → IpPrefix → ℕ → List ReadEntry → List ReplayUnit

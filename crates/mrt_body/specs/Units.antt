@@ -3,6 +3,7 @@ use Rattle.std.specs.Prelude.{ℕ, ◌+◌, ◌*◌, Bool, true, false, List, []
 use Rattle.std.specs.List.{filter, filter_map, count_by, flat_map, last_or}
 use Rattle.std.specs.Option.{option_and_then}
 use Rattle.bgp_prefix.specs.Prefixes.{IpPrefix}
+use Rattle.bgp_prefix.specs.declared.key.RouteKey.{RouteKey}
 use Rattle.mrt_frame.specs.Positions.{flat_map_after}
 use Rattle.mrt_frame.specs.declared.fault.Fault.{Fault}
 use Rattle.mrt_frame.specs.declared.cut.Cut.{Cut}
@@ -70,14 +71,18 @@ time_of at microseconds = at.seconds * 1000000 + microseconds
 abbrev pub no_peer : PeerKey
 no_peer = record { asn = 0; addr = V4 0 }
 
--- the unit of the entry of this number
-abbrev pub entry_unit : RecordAt → List PeerKey → IpPrefix → ℕ → WrittenEntry → ReplayUnit
-entry_unit at peers prefix number e = record {
+-- the unit of the entry of this number, from this peer of the index
+abbrev pub rib_unit : RecordAt → List PeerKey → ℕ → ℕ → RouteKey → List ℕ → ReplayUnit
+rib_unit at peers number peer key attributes = record {
   place = place_of at (Some number);
   time = time_of at 0;
-  peer = slice_index_or peers e.peer no_peer;
-  payload = Entry (record { prefix = prefix; id = e.identifier }) e.attributes;
+  peer = slice_index_or peers peer no_peer;
+  payload = Entry key attributes;
 }
+
+abbrev pub entry_unit : RecordAt → List PeerKey → IpPrefix → ℕ → WrittenEntry → ReplayUnit
+entry_unit at peers prefix number e =
+    rib_unit at peers number e.peer (record { prefix = prefix; id = e.identifier }) e.attributes
 
 -- the units of entries, the first of which has this number
 abbrev pub entry_units : RecordAt → List PeerKey → IpPrefix → ℕ → List WrittenEntry → List ReplayUnit
