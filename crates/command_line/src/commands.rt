@@ -25,7 +25,11 @@ Status:
   3  a file could not be opened or read, the report could not be written, memory ran out, or there
      were too many records; standard error says which, and why";
 
-static TABLES_AFTER: &str = "Columns, split by '|', with '-' for what a route doesn't have:
+/// What the help of a command that prints routes says of its columns, and this text behind it.
+macro_rules! route_columns {
+    ($rest:literal) => {
+        concat!(
+            "Columns, split by '|', with '-' for what a route doesn't have:
   peer        the peer's AS, a space, its address
   prefix      ADDRESS/LENGTH, and #ID behind it where the route has a path identifier (ADD-PATH)
   as_path     AS numbers; a set is {1,2}, a confederation's sequence (1 2) and its set [1,2]
@@ -35,27 +39,27 @@ static TABLES_AFTER: &str = "Columns, split by '|', with '-' for what a route do
   local_pref  LOCAL_PREF
   atomic      `atomic` where the route has ATOMIC_AGGREGATE
   aggregator  its AS, a space, its address
-Peers come in the order in which the dumps first name them, and a peer's routes by prefix.
+",
+            $rest
+        )
+    };
+}
+
+static TABLES_AFTER: &str = route_columns!(
+    "Peers come in the order in which the dumps first name them, and a peer's routes by prefix.
 
 Examples:
   bgp_replay tables --header rib.mrt updates.mrt
-  bgp_replay tables --until 2024-01-01T01:00:00Z rib.mrt updates.mrt";
+  bgp_replay tables --until 2024-01-01T01:00:00Z rib.mrt updates.mrt"
+);
 
-static MATCH_AFTER: &str = "Columns, split by '|', with '-' for what a route doesn't have:
-  peer        the peer's AS, a space, its address
-  prefix      ADDRESS/LENGTH, and #ID behind it where the route has a path identifier (ADD-PATH)
-  as_path     AS numbers; a set is {1,2}, a confederation's sequence (1 2) and its set [1,2]
-  next_hop    an IPv4 or IPv6 address, or a global and a link-local IPv6 address
-  origin      IGP, EGP or INCOMPLETE
-  med         MULTI_EXIT_DISC
-  local_pref  LOCAL_PREF
-  atomic      `atomic` where the route has ATOMIC_AGGREGATE
-  aggregator  its AS, a space, its address
-Peers come in the order in which the dumps first name them; a peer without such a route has no line.
+static MATCH_AFTER: &str = route_columns!(
+    "Peers come in the order in which the dumps first name them; a peer without such a route has no line.
 
 Examples:
   bgp_replay match --address 192.0.2.1 rib.mrt
-  bgp_replay match --address 192.0.2.1 --until 1704070800 rib.mrt updates.mrt";
+  bgp_replay match --address 192.0.2.1 --until 1704070800 rib.mrt updates.mrt"
+);
 
 static VISIBILITY_AFTER: &str = "Columns, split by '|':
   prefix      ADDRESS/LENGTH

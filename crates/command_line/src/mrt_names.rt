@@ -63,62 +63,37 @@ impl RecordKind {
 
     /// The name of the subtype, if it has one.
     fn subtype_name(self) -> Option<&'static str> {
-        match self.kind {
-            TABLE_DUMP => afi_name(self.subtype),
-            TABLE_DUMP_V2 => table_name(self.subtype),
-            BGP4MP | BGP4MP_ET => message_name(self.subtype),
-            _ => None,
-        }
+        let name = match (self.kind, self.subtype) {
+            (TABLE_DUMP, 1) => "AFI_IPv4",
+            (TABLE_DUMP, 2) => "AFI_IPv6",
+            (TABLE_DUMP_V2, 1) => "PEER_INDEX_TABLE",
+            (TABLE_DUMP_V2, 2) => "RIB_IPV4_UNICAST",
+            (TABLE_DUMP_V2, 3) => "RIB_IPV4_MULTICAST",
+            (TABLE_DUMP_V2, 4) => "RIB_IPV6_UNICAST",
+            (TABLE_DUMP_V2, 5) => "RIB_IPV6_MULTICAST",
+            (TABLE_DUMP_V2, 6) => "RIB_GENERIC",
+            (TABLE_DUMP_V2, 7) => "GEO_PEER_TABLE",
+            (TABLE_DUMP_V2, 8) => "RIB_IPV4_UNICAST_ADDPATH",
+            (TABLE_DUMP_V2, 9) => "RIB_IPV4_MULTICAST_ADDPATH",
+            (TABLE_DUMP_V2, 10) => "RIB_IPV6_UNICAST_ADDPATH",
+            (TABLE_DUMP_V2, 11) => "RIB_IPV6_MULTICAST_ADDPATH",
+            (TABLE_DUMP_V2, 12) => "RIB_GENERIC_ADDPATH",
+            (BGP4MP | BGP4MP_ET, 0) => "BGP4MP_STATE_CHANGE",
+            (BGP4MP | BGP4MP_ET, 1) => "BGP4MP_MESSAGE",
+            (BGP4MP | BGP4MP_ET, 2) => "BGP4MP_ENTRY",
+            (BGP4MP | BGP4MP_ET, 3) => "BGP4MP_SNAPSHOT",
+            (BGP4MP | BGP4MP_ET, 4) => "BGP4MP_MESSAGE_AS4",
+            (BGP4MP | BGP4MP_ET, 5) => "BGP4MP_STATE_CHANGE_AS4",
+            (BGP4MP | BGP4MP_ET, 6) => "BGP4MP_MESSAGE_LOCAL",
+            (BGP4MP | BGP4MP_ET, 7) => "BGP4MP_MESSAGE_AS4_LOCAL",
+            (BGP4MP | BGP4MP_ET, 8) => "BGP4MP_MESSAGE_ADDPATH",
+            (BGP4MP | BGP4MP_ET, 9) => "BGP4MP_MESSAGE_AS4_ADDPATH",
+            (BGP4MP | BGP4MP_ET, 10) => "BGP4MP_MESSAGE_LOCAL_ADDPATH",
+            (BGP4MP | BGP4MP_ET, 11) => "BGP4MP_MESSAGE_AS4_LOCAL_ADDPATH",
+            _ => return None,
+        };
+        Some(name)
     }
-}
-
-/// The subtypes of TABLE_DUMP.
-fn afi_name(subtype: u16) -> Option<&'static str> {
-    match subtype {
-        1 => Some("AFI_IPv4"),
-        2 => Some("AFI_IPv6"),
-        _ => None,
-    }
-}
-
-/// The subtypes of TABLE_DUMP_V2.
-fn table_name(subtype: u16) -> Option<&'static str> {
-    let name = match subtype {
-        1 => "PEER_INDEX_TABLE",
-        2 => "RIB_IPV4_UNICAST",
-        3 => "RIB_IPV4_MULTICAST",
-        4 => "RIB_IPV6_UNICAST",
-        5 => "RIB_IPV6_MULTICAST",
-        6 => "RIB_GENERIC",
-        7 => "GEO_PEER_TABLE",
-        8 => "RIB_IPV4_UNICAST_ADDPATH",
-        9 => "RIB_IPV4_MULTICAST_ADDPATH",
-        10 => "RIB_IPV6_UNICAST_ADDPATH",
-        11 => "RIB_IPV6_MULTICAST_ADDPATH",
-        12 => "RIB_GENERIC_ADDPATH",
-        _ => return None,
-    };
-    Some(name)
-}
-
-/// The subtypes of BGP4MP and BGP4MP_ET.
-fn message_name(subtype: u16) -> Option<&'static str> {
-    let name = match subtype {
-        0 => "BGP4MP_STATE_CHANGE",
-        1 => "BGP4MP_MESSAGE",
-        2 => "BGP4MP_ENTRY",
-        3 => "BGP4MP_SNAPSHOT",
-        4 => "BGP4MP_MESSAGE_AS4",
-        5 => "BGP4MP_STATE_CHANGE_AS4",
-        6 => "BGP4MP_MESSAGE_LOCAL",
-        7 => "BGP4MP_MESSAGE_AS4_LOCAL",
-        8 => "BGP4MP_MESSAGE_ADDPATH",
-        9 => "BGP4MP_MESSAGE_AS4_ADDPATH",
-        10 => "BGP4MP_MESSAGE_LOCAL_ADDPATH",
-        11 => "BGP4MP_MESSAGE_AS4_LOCAL_ADDPATH",
-        _ => return None,
-    };
-    Some(name)
 }
 
 impl fmt::Display for RecordKind {
