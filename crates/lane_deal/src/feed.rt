@@ -12,6 +12,10 @@ use std::thread::yield_now;
 /// The maximum number of further looks for a free slot: a round's end costs no more than these.
 const MOST_LOOKS: u32 = 1_000;
 
+/// The maximum number of slots that a dealer waits for once a ring was full. It then deals as many units before it
+/// waits again, and doesn't give up its processor for each of them.
+const MOST_SLOTS: usize = 64;
+
 /// The dealing half of a lane.
 #[derive(Drop)]
 pub struct Feed {
@@ -22,22 +26,23 @@ pub struct Feed {
 impl Feed {
     ghost use Rattle.lane_deal.specs.Feeds.{Pushed};
 
-    /// Looks this many times for a free slot, and lets other threads run before each look. If the round is over because
-    /// a worker failed, it stops looking.
+    /// Looks this many times for an eighth of the slots to be free, and lets other threads run before each look. Returns
+    /// whether any is free at the end. If the round is over because a worker failed, it stops looking.
     fn look_again(&mut self, looks: u32, over: &AtomicBool) -> bool
         ensures looked { Pushed self.old self.new [] }
         ensures room { result ≡ true → 0 < known_free self.new.producer }
     {
+        let enough = (self.producer.capacity() / 8).min(MOST_SLOTS);
         for look in 0..looks {
             if over.load(Ordering::SeqCst) {
                 break;
             }
             yield_now();
-            if !self.producer.is_full() {
+            if self.producer.slots() > enough {
                 return true;
             }
         }
-        false
+        self.producer.cached_slots() > 0
     }
 
     /// Whether a slot is free, at once or at one of this many further looks, of which it takes at most `MOST_LOOKS`.

@@ -1,5 +1,5 @@
-ghost use Rattle.std.specs.Prelude.{◌≡◌, OnOk, [], length, ◌<◌};
-ghost use Rattle.rtrb.specs.Ring.{known_items};
+ghost use Rattle.std.specs.Prelude.{◌≡◌, OnOk, [], length, ◌<◌, true};
+ghost use Rattle.rtrb.specs.Ring.{known_items, ConsumerLooked};
 ghost use Rattle.std.specs.List.{AllZip};
 ghost use Rattle.std.specs.Thread.{IsSync, IsSend};
 ghost use Rattle.lane_deal.specs.LaneWorkers.{Pops, Worked, items_of};
@@ -32,6 +32,23 @@ pub struct Patience {
 
 /// The maximum number of units a worker pops before it takes them: what it will read of them is prefetched.
 const NEAR_UNITS: usize = 32;
+
+/// How often a worker lets other threads run where its ring has fewer items than it pops at once.
+const PAUSES: u32 = 4;
+
+/// Whether an item is pending. Where few are, it lets other threads run before it looks again, unless the round is over:
+/// what is popped together is prefetched together.
+fn has_items(consumer: &mut Consumer<Numbered, Global, Small>, is_over: bool) -> bool
+    ensures looked { ConsumerLooked consumer.old consumer.new }
+    ensures some { result ≡ true → 0 < length (known_items consumer.new) }
+{
+    if !is_over && consumer.slots() < NEAR_UNITS {
+        for pause in 0..PAUSES {
+            yield_now();
+        }
+    }
+    consumer.slots() > 0
+}
 
 /// Pops the first items of those known to be pending.
 fn pop_near(
@@ -102,7 +119,7 @@ impl<S: Sessions> Worker<S> {
         let mut further = 0u64;
         while empty < patience.looks && further < patience.batch {
             let last = over.load(Ordering::SeqCst);
-            if self.take_found(alloc, gate, buffer, popped)? {
+            if self.take_found(alloc, gate, last, buffer, popped)? {
                 further = further.saturating_add(popped.len() as u64).max(further + 1);
             } else if last {
                 break;
@@ -119,13 +136,14 @@ impl<S: Sessions> Worker<S> {
         &mut self,
         alloc: Global,
         gate: &G,
+        is_over: bool,
         buffer: &mut Vec<u8>,
         popped: &mut Vec<Popped>,
     ) -> Result<bool, Memory>
         ensures { OnOk result (TookSome S.stands_for self.old self.new) }
     {
         let _taken = self.taken;
-        if self.consumer.is_empty() {
+        if !has_items(&mut self.consumer, is_over) {
             return Ok(false);
         }
         self.take_near(alloc, gate, buffer, popped)?;
