@@ -18,7 +18,8 @@ tries() { # CRATE TEST..
   tries update_tests updates::paths::a_refused_push_leaves_the_path
   tries table_tests ribs::sessions::a_session_is_spent_after_a_refused_growth
   tries lane_tests growths::rounds_give_the_tables_or_spend_the_replayer layers::collect_orders_peers_by_number schedules::turns_that_find_nothing_change_nothing
-  tries replay_tests growths::growths_of_runs_by_each_dealing growths::growths_of_runs_of_each_request growths::growths_of_words
+  tries replay_tests growths::a_run_by_each_dealing_writes_its_report_or_wants_memory \
+    growths::a_run_of_each_request_writes_its_report_or_wants_memory growths::words_give_their_job_or_want_memory
 } > tries
 xargs -P "$(nproc)" -L 1 ./refusals < tries > lines
 grep -v '^tried ' lines

@@ -5,7 +5,7 @@ use std::test::Fail;
 
 const IDENTIFIERS: &str = "
 row two-paths-of-one-prefix
-file M AP
+file announcement with-identifier
 tables
 > 65000 192.0.2.1|10.0.0.0/8|65000|192.0.2.1|IGP|-|-|-|-
 > 65000 192.0.2.1|10.0.0.0/8#7|65000|192.0.2.1|IGP|-|-|-|-
@@ -17,22 +17,22 @@ visibility
 churn
 > 65000 192.0.2.1|2|0|0|0|0|0|0|0|1.000000|1.000000
 row withdraw-one-path
-file M AP WP
+file announcement with-identifier withdrawal-with-identifier
 tables
 > 65000 192.0.2.1|10.0.0.0/8|65000|192.0.2.1|IGP|-|-|-|-
 churn
 > 65000 192.0.2.1|2|0|0|1|0|0|0|0|1.000000|2.000000
 row add-path-rib-entry
-file P TP
+file peer-index-table rib-record-with-identifier
 tables
 > 65000 2001:0db8:0000:0000:0000:0000:0000:0001|10.0.0.0/8#7|65000|192.0.2.1|IGP|-|-|-|-
 row identifier-past-its-field
-file 00000001 0010 0009 00000042 H4 FF16 002E 02 0000 0014 A4 000007
+file cut-identifier
 faults
 > 1|0|-|9|BadPrefix
 damaged 1
 row add-path-local-aside
-file 00000001 0010 000B 00000045 H4 FF16 0031 02 0000 0014 A4 00000007 080A
+file local-with-identifier
 tables
 damaged 0
 counts aside 1
@@ -40,52 +40,55 @@ counts aside 1
 
 const MULTIPROTOCOL: &str = "
 row reached-by-ipv4-hop
-file XR
+file reached
 tables
 > 65000 192.0.2.1|10.0.0.0/8|65000|192.0.2.9|IGP|-|-|-|-
 row reached-by-ipv6-hop
-file X6
+file reached-by-ipv6
 tables
 > 65000 192.0.2.1|10.0.0.0/8|65000|2001:0db8:0000:0000:0000:0000:0000:0009|IGP|-|-|-|-
 row unreached
-file M U
+file announcement unreached
 tables
 churn
 > 65000 192.0.2.1|1|0|0|1|0|0|0|0|1.000000|2.000000
 row repeated-reach
-file 00000001 0010 0004 00000054 H4 FF16 0040 02 0000 0029 40010100 4002060201 0000FDE8 800E0B 0001 01 04 C0000209 00 080A 800E0B 0001 01 04 C0000209 00 080A
+file reached-twice
 faults
 > 1|0|-|14|BadAttribute(14)
 damaged 1
 row reach-of-another-family
-file 00000001 0010 0004 00000046 H4 FF16 0032 02 0000 001B 40010100 4002060201 0000FDE8 800E0B 0002 01 04 C0000209 00 080A
+file reached-in-another-family
 tables
 damaged 0
 faults
 damaged 0
 row reach-hop-of-five-bytes
-file 00000001 0010 0004 00000046 H4 FF16 0032 02 0000 001B 40010100 4002060201 0000FDE8 800E0B 0001 01 05 C0000209 00 080A
+file reached-by-five-bytes
 faults
 > 1|0|-|14|BadAttribute(14)
 damaged 1
 row reached-changes-a-route
-file M XR
+file announcement reached
 tables
 > 65000 192.0.2.1|10.0.0.0/8|65000|192.0.2.9|IGP|-|-|-|-
 churn
 > 65000 192.0.2.1|1|1|0|0|0|0|0|0|1.000000|1.000000
 row reached-while-down
-file M S61 XR
+file announcement established-to-idle reached
 tables
 churn
 > 65000 192.0.2.1|1|0|0|0|0|1|1|0|1.000000|1.000000
 ";
 
 #[test]
-fn identifiers_and_multiprotocol(rt: HostRuntime) -> Result<(), Fail> {
-    let alloc = rt.alloc();
-    for (table, rows) in [(IDENTIFIERS, 5), (MULTIPROTOCOL, 8)] {
-        assert!(rt; run_rows(&rt, alloc, table)? == rows);
-    }
+fn each_identifier_of_a_prefix_is_a_path_of_its_own(rt: HostRuntime) -> Result<(), Fail> {
+    assert_eq!(rt; run_rows(&rt, rt.alloc(), IDENTIFIERS)?, 5);
+    Ok(())
+}
+
+#[test]
+fn attributes_14_and_15_reach_and_withdraw_prefixes(rt: HostRuntime) -> Result<(), Fail> {
+    assert_eq!(rt; run_rows(&rt, rt.alloc(), MULTIPROTOCOL)?, 8);
     Ok(())
 }

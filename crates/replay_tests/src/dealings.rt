@@ -1,9 +1,9 @@
 //! Rows on dealings: whichever lane a peer has, the reports are the same.
 
-use crate::harness::PLAN;
+use crate::harness::{PLAN, THREE_ROUTES};
 use adj_rib::SharedRoute;
 use bgp_prefix::{Flat, PrefixMap, Radix};
-use fixtures::dump;
+use fixtures::{THREE_PEERS, bytes_of, message_of};
 use lane_deal::{ByBlocks, ByList, ByTurns, Dealing, NoGate, Plan};
 use mrt_frame::Counted;
 use mrt_replay::run;
@@ -99,24 +99,12 @@ fn check_plans<M: PrefixMap<SharedRoute> + Send + Drop>(
     Ok(())
 }
 
-/// The line of a peer's route.
-fn push_line(alloc: Global, text: &mut Vec<u8>, addr: &str) -> Result<(), Fail> {
-    let line = format!(in alloc; "65000 {addr}|10.0.0.0/8|65000|192.0.2.1|IGP|-|-|-|-\n")?;
-    text.extend_from_slice(line.as_bytes())?;
-    Ok(())
-}
-
-/// Five announcements by three peers.
 #[test]
-fn three_peers_by_every_dealing(rt: HostRuntime) -> Result<(), Fail> {
+fn three_peers_have_the_same_tables_by_every_dealing(rt: HostRuntime) -> Result<(), Fail> {
     let alloc = rt.alloc();
-    let mut text = Vec::new(alloc);
-    for addr in ["192.0.2.1", "192.0.2.2", "192.0.2.3"] {
-        push_line(alloc, &mut text, addr)?;
-    }
     let file = Dumped {
-        bytes: dump(alloc, "M MB M MC MB")?,
-        text,
+        bytes: bytes_of(alloc, THREE_PEERS)?,
+        text: Vec::from_slice(alloc, THREE_ROUTES.as_bytes())?,
         peers: 3,
     };
     let rings = [(1, 1, 17), (1, 8, 12), (4, 8, 4), (65_536, 1_048_576, 2)];
@@ -128,17 +116,21 @@ fn three_peers_by_every_dealing(rt: HostRuntime) -> Result<(), Fail> {
 
 /// 300 announcements, each by a peer of another address, 198.18.0.0 to 198.18.1.43.
 fn three_hundred(alloc: Global) -> Result<Dumped, Fail> {
+    let message = message_of(alloc, "announcement")?;
     let mut bytes = Vec::new(alloc);
     let mut text = Vec::new(alloc);
     for peer in 0..300u32 {
         let high = peer / 256;
         let low = peer % 256;
-        let words = format!(in alloc;
-            "00000001 0010 0004 00000041 0000FDE8 0000FDE9 0000 0001 C612{high:02X}{low:02X} C0000202 FF16 002D 02 0000 0014 A4 080A"
+        let fields = format!(in alloc;
+            "00000001 0010 0004 00000041 0000FDE8 0000FDE9 0000 0001 C612{high:02X}{low:02X} C0000202"
         )?;
-        bytes.extend_from_slice(dump(alloc, words.as_str())?.as_slice())?;
-        let addr = format!(in alloc; "198.18.{high}.{low}")?;
-        push_line(alloc, &mut text, addr.as_str())?;
+        bytes.extend_from_slice(bytes_of(alloc, fields.as_str())?.as_slice())?;
+        bytes.extend_from_slice(message.as_slice())?;
+        let line = format!(in alloc;
+            "65000 198.18.{high}.{low}|10.0.0.0/8|65000|192.0.2.1|IGP|-|-|-|-\n"
+        )?;
+        text.extend_from_slice(line.as_bytes())?;
     }
     Ok(Dumped {
         bytes,
@@ -146,9 +138,6 @@ fn three_hundred(alloc: Global) -> Result<Dumped, Fail> {
         peers: 300,
     })
 }
-
-/// Ring, batch and the greatest number of rounds for 300 units.
-const RINGS_OF_300: [(usize, u64, u64); 2] = [(1, 8, 639), (65_536, 1_048_576, 2)];
 
 /// Lanes of the first 290 peers, of which neighbours have different ones.
 fn long_list(alloc: Global) -> Result<ByList, Fail> {
@@ -159,26 +148,28 @@ fn long_list(alloc: Global) -> Result<ByList, Fail> {
     Ok(ByList::new(lanes))
 }
 
-#[test]
-fn three_hundred_peers_in_tries(rt: HostRuntime) -> Result<(), Fail> {
-    let alloc = rt.alloc();
+/// Replays 300 peers with this map.
+fn check_three_hundred<M: PrefixMap<SharedRoute> + Send + Drop>(
+    rt: &(impl Threads + Abort + Sync),
+    alloc: Global,
+) -> Result<(), Fail> {
     let file = three_hundred(alloc)?;
     let list = long_list(alloc)?;
-    check_plans::<Radix<SharedRoute>>(&rt, alloc, &file, &[1, 64], &RINGS_OF_300, &list)
+    let rings = [(1, 8, 639), (65_536, 1_048_576, 2)];
+    check_plans::<M>(rt, alloc, &file, &[1, 64], &rings, &list)
 }
 
 #[test]
-fn three_hundred_peers_in_shelves(rt: HostRuntime) -> Result<(), Fail> {
-    let alloc = rt.alloc();
-    let file = three_hundred(alloc)?;
-    let list = long_list(alloc)?;
-    check_plans::<Shelf<SharedRoute>>(&rt, alloc, &file, &[1, 64], &RINGS_OF_300, &list)
+fn three_hundred_peers_have_the_same_tables_in_tries(rt: HostRuntime) -> Result<(), Fail> {
+    check_three_hundred::<Radix<SharedRoute>>(&rt, rt.alloc())
 }
 
 #[test]
-fn three_hundred_peers_in_lists(rt: HostRuntime) -> Result<(), Fail> {
-    let alloc = rt.alloc();
-    let file = three_hundred(alloc)?;
-    let list = long_list(alloc)?;
-    check_plans::<Flat<SharedRoute>>(&rt, alloc, &file, &[1, 64], &RINGS_OF_300, &list)
+fn three_hundred_peers_have_the_same_tables_in_shelves(rt: HostRuntime) -> Result<(), Fail> {
+    check_three_hundred::<Shelf<SharedRoute>>(&rt, rt.alloc())
+}
+
+#[test]
+fn three_hundred_peers_have_the_same_tables_in_lists(rt: HostRuntime) -> Result<(), Fail> {
+    check_three_hundred::<Flat<SharedRoute>>(&rt, rt.alloc())
 }

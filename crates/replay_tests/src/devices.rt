@@ -1,26 +1,19 @@
 //! Rows on devices that fail: at each read, at each write, and past the limit on records.
 
-use crate::harness::{PLAN, replay};
+use crate::harness::{PLAN, THREE_ROUTES, replay, replay_readers};
 use adj_rib::SharedRoute;
 use bgp_prefix::Radix;
-use fixtures::{Dripping, dump};
+use fixtures::{Dripping, THREE_PEERS, bytes_of};
 use lane_deal::{ByTurns, NoGate, Plan};
 use mrt_frame::{Counted, ReplayError, Sink};
 use mrt_replay::{Summary, run, status};
 use rib_report::Request;
 use std::alloc::Global;
-use std::io::{self, ErrorKind, Read, Write};
+use std::io::{self, ErrorKind, Write};
 use std::marker::Sync;
 use std::process::Abort;
 use std::test::Fail;
 use std::thread::Threads;
-
-const THREE_PEERS: &str = "M MB M MC MB";
-
-const THREE_LINES: &str = "65000 192.0.2.1|10.0.0.0/8|65000|192.0.2.1|IGP|-|-|-|-
-65000 192.0.2.2|10.0.0.0/8|65000|192.0.2.1|IGP|-|-|-|-
-65000 192.0.2.3|10.0.0.0/8|65000|192.0.2.1|IGP|-|-|-|-
-";
 
 /// Takes so many bytes and no more: then it fails, or takes none.
 #[derive(Drop)]
@@ -60,29 +53,22 @@ fn expect_read(
     rest: &[u8],
     kind: ErrorKind,
     workers: usize,
-) {
+) -> Result<(), Fail> {
     let plan = Plan { workers, ..PLAN };
-    assert!(rt; plan.check());
     let mut readers = [Counted::new(Dripping::new(rest, Some(kind)))];
-    let mut out = Counted::new(Vec::<u8>::new(alloc));
-    let result = run::<Radix<SharedRoute>, _, _, _, _, _>(
+    let outcome = replay_readers::<Radix<SharedRoute>, _>(
         rt,
         alloc,
         &mut readers,
         &Request::Tables,
         &plan,
-        &ByTurns,
-        &NoGate,
-        &mut out,
-    );
+    )?;
     let k = rest.len();
-    let is_read = match &result {
-        Err(error) => *error == ReplayError::Read { file: 0 },
-        Ok(_) => false,
-    };
-    assert!(rt; is_read, "a read that fails at {k}, {workers} workers");
-    assert!(rt; out.device().is_empty(), "nothing written at {k}");
-    assert_eq!(rt; status(&result), 3);
+    assert!(rt;
+        outcome.failed_with(ReplayError::Read { file: 0 }),
+        "a read that fails at {k}, {workers} workers"
+    );
+    Ok(())
 }
 
 /// Fails the read of each byte, and of the end, in turn.
@@ -92,32 +78,36 @@ fn expect_every_read(
     kind: ErrorKind,
     workers: usize,
 ) -> Result<(), Fail> {
-    let bytes = dump(alloc, THREE_PEERS)?;
+    let bytes = bytes_of(alloc, THREE_PEERS)?;
     assert_eq!(rt; bytes.len(), 385);
     for k in 0..=bytes.len() {
-        expect_read(rt, alloc, &bytes.as_slice()[..k], kind, workers);
+        expect_read(rt, alloc, &bytes.as_slice()[..k], kind, workers)?;
     }
     Ok(())
 }
 
 #[test]
-fn every_read_failed_by_one_worker(rt: HostRuntime) -> Result<(), Fail> {
+fn every_failed_read_leaves_nothing_written_by_one_worker(rt: HostRuntime) -> Result<(), Fail> {
     expect_every_read(&rt, rt.alloc(), ErrorKind::Other, 1)
 }
 
 #[test]
-fn every_read_failed_by_four_workers(rt: HostRuntime) -> Result<(), Fail> {
+fn every_failed_read_leaves_nothing_written_by_four_workers(rt: HostRuntime) -> Result<(), Fail> {
     expect_every_read(&rt, rt.alloc(), ErrorKind::Other, 4)
 }
 
 /// An interrupted read is a failure like any other.
 #[test]
-fn every_read_interrupted_by_one_worker(rt: HostRuntime) -> Result<(), Fail> {
+fn every_interrupted_read_leaves_nothing_written_by_one_worker(
+    rt: HostRuntime,
+) -> Result<(), Fail> {
     expect_every_read(&rt, rt.alloc(), ErrorKind::Interrupted, 1)
 }
 
 #[test]
-fn every_read_interrupted_by_four_workers(rt: HostRuntime) -> Result<(), Fail> {
+fn every_interrupted_read_leaves_nothing_written_by_four_workers(
+    rt: HostRuntime,
+) -> Result<(), Fail> {
     expect_every_read(&rt, rt.alloc(), ErrorKind::Interrupted, 4)
 }
 
@@ -153,10 +143,10 @@ fn is_write_error(outcome: &Result<Summary, ReplayError>) -> bool {
 }
 
 #[test]
-fn every_write_failed(rt: HostRuntime) -> Result<(), Fail> {
+fn every_failed_write_leaves_the_front_before_it(rt: HostRuntime) -> Result<(), Fail> {
     let alloc = rt.alloc();
-    let bytes = dump(alloc, THREE_PEERS)?;
-    let text = THREE_LINES.as_bytes();
+    let bytes = bytes_of(alloc, THREE_PEERS)?;
+    let text = THREE_ROUTES.as_bytes();
     for k in 0..text.len() {
         for fails in [true, false] {
             let writer = Full {
@@ -191,67 +181,49 @@ fn every_write_failed(rt: HostRuntime) -> Result<(), Fail> {
     Ok(())
 }
 
-/// A reader that ends, or fails in place of its end.
-#[derive(Drop)]
-enum Ending<'a> {
-    Ends(&'a [u8]),
-    Fails,
-}
-
-impl Read for Ending<'_> {
-    fn read(&mut self, buf: &mut [u8]) -> io::Result<usize> {
-        match self {
-            Ending::Ends(rest) => rest.read(buf),
-            Ending::Fails => Err(io::Error::from(ErrorKind::Other)),
-        }
-    }
-}
-
 #[test]
-fn second_file_fails_at_once(rt: HostRuntime) -> Result<(), Fail> {
+fn a_second_file_that_fails_at_once_is_named(rt: HostRuntime) -> Result<(), Fail> {
     let alloc = rt.alloc();
-    let bytes = dump(alloc, "M")?;
+    let bytes = bytes_of(alloc, "announcement")?;
     let mut readers = [
-        Counted::new(Ending::Ends(bytes.as_slice())),
-        Counted::new(Ending::Fails),
+        Counted::new(Dripping::new(bytes.as_slice(), None)),
+        Counted::new(Dripping::new(&[], Some(ErrorKind::Other))),
     ];
-    let mut out = Counted::new(Vec::<u8>::new(alloc));
-    let result = run::<Radix<SharedRoute>, _, _, _, _, _>(
+    let outcome = replay_readers::<Radix<SharedRoute>, _>(
         &rt,
         alloc,
         &mut readers,
         &Request::Tables,
         &PLAN,
-        &ByTurns,
-        &NoGate,
-        &mut out,
-    );
-    match result {
-        Err(error) => assert!(rt; error == ReplayError::Read { file: 1 }),
-        Ok(_) => assert!(rt; false, "the second file"),
-    }
-    assert!(rt; out.device().is_empty());
+    )?;
+    assert!(rt; outcome.failed_with(ReplayError::Read { file: 1 }));
     Ok(())
 }
 
 /// Records, the limit on them, the report, and how many faults there are where the limit isn't passed.
 #[test]
-fn limits_on_records(rt: HostRuntime) -> Result<(), Fail> {
+fn one_record_past_the_limit_ends_the_run(rt: HostRuntime) -> Result<(), Fail> {
     let alloc = rt.alloc();
     let line = "65000 192.0.2.1|10.0.0.0/8|65000|192.0.2.1|IGP|-|-|-|-\n";
     for (words, max_records, request, text, damaged) in [
-        ("M M", 1, Request::Tables, "", None),
-        ("M M", 2, Request::Tables, line, Some(0)),
-        ("M 000000", 1, Request::Tables, line, Some(1)),
+        ("announcement announcement", 1, Request::Tables, "", None),
         (
-            "M 000000",
+            "announcement announcement",
+            2,
+            Request::Tables,
+            line,
+            Some(0),
+        ),
+        ("announcement 000000", 1, Request::Tables, line, Some(1)),
+        (
+            "announcement 000000",
             1,
             Request::Faults,
             "1|77|-|1|ShortHeader\n",
             Some(1),
         ),
     ] {
-        let files = [dump(alloc, words)?];
+        let files = [bytes_of(alloc, words)?];
         let plan = Plan {
             max_records,
             ..PLAN
@@ -259,13 +231,10 @@ fn limits_on_records(rt: HostRuntime) -> Result<(), Fail> {
         let outcome = replay::<Radix<SharedRoute>>(&rt, alloc, &files, &request, &plan)?;
         assert!(rt; outcome.text.as_slice() == text.as_bytes(), "{words}");
         match &outcome.result {
-            Err(error) => {
-                assert!(rt;
-                    *error == ReplayError::Records && damaged.is_none(),
-                    "{words}"
-                );
-                assert!(rt; status(&outcome.result) == 3, "{words}");
-            }
+            Err(_) => assert!(rt;
+                damaged.is_none() && outcome.failed_with(ReplayError::Records),
+                "{words}"
+            ),
             Ok(summary) => assert!(rt; Some(summary.damaged) == damaged, "{words}"),
         }
     }

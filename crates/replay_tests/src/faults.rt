@@ -1,169 +1,97 @@
 //! A row for each fault: the file, the line that lists it, and what the peer counts.
 
 use crate::harness::run_rows;
+use std::alloc::Global;
+use std::marker::Sync;
+use std::process::Abort;
 use std::test::Fail;
+use std::thread::Threads;
 
-/// Faults of files and records: no unit is found.
-const RECORDS: &str = "
-row short-header
-file 000000
-faults
-> 1|0|-|1|ShortHeader
-damaged 1
-churn
-row short-body
-file 00000001 0010 0004 00000041 H4 FF16 002D 02 0000 0014 A4 08
-faults
-> 1|0|-|2|ShortBody
-damaged 1
-churn
-row body-too-long
-file 00000001 0010 0004 01000001
-faults
-> 1|0|-|3|BodyTooLong
-damaged 1
-churn
-row short-record
-file 00000001 0010 0004 00000002 0000
-faults
-> 1|0|-|4|ShortRecord
-damaged 1
-churn
-row short-microseconds
-file 00000001 0011 0004 00000003 000000
-faults
-> 1|0|-|4|ShortRecord
-damaged 1
-churn
-row trailing-byte
-file 00000002 0010 0005 00000019 H4 0006 0001 00
-faults
-> 1|0|-|5|TrailingBytes
-damaged 1
-churn
-row bad-family
-file 00000001 0010 0004 00000041 0000FDE8 0000FDE9 0000 0003 C0000201 C0000202 FF16 002D 02 0000 0014 A4 080A
-faults
-> 1|0|-|6|BadFamily
-damaged 1
-churn
-row no-peer-index
-file T
-faults
-> 1|0|-|7|NoPeerIndex
-damaged 1
-churn
-row bad-peer-index
-file P 00000003 000D 0002 00000030 00000000 080A 0002 0000 00000001 0014 A4 0002 00000001 0004 40010103
-faults
-> 1|56|-|8|BadPeerIndex
-damaged 1
-churn
-row bad-prefix-in-rib
-file P 00000003 000D 0002 00000030 00000000 210A 0002 0000 00000001 0014 A4 0001 00000001 0004 40010103
-faults
-> 1|56|-|9|BadPrefix
-damaged 1
-churn
-";
+/// Faults of files and records: the row's name, its file and the line that lists the fault. No unit is found.
+const RECORDS: [(&str, &str, &str); 10] = [
+    ("short-header", "000000", "1|0|-|1|ShortHeader"),
+    ("short-body", "cut-announcement", "1|0|-|2|ShortBody"),
+    (
+        "body-too-long",
+        "header-of-too-long-body",
+        "1|0|-|3|BodyTooLong",
+    ),
+    ("short-record", "short-record", "1|0|-|4|ShortRecord"),
+    (
+        "short-microseconds",
+        "short-microseconds",
+        "1|0|-|4|ShortRecord",
+    ),
+    ("trailing-byte", "trailing-byte", "1|0|-|5|TrailingBytes"),
+    ("bad-family", "bad-family", "1|0|-|6|BadFamily"),
+    ("no-peer-index", "rib-record", "1|0|-|7|NoPeerIndex"),
+    (
+        "bad-peer-index",
+        "peer-index-table bad-peer-index",
+        "1|56|-|8|BadPeerIndex",
+    ),
+    (
+        "bad-prefix-in-rib",
+        "peer-index-table bad-prefix-in-rib",
+        "1|56|-|9|BadPrefix",
+    ),
+];
 
-/// The greatest body that a header may announce, of which nothing is there.
-const GREATEST: &str = "
-row greatest-length-short-body
-file 00000001 0010 0004 01000000
-faults
-> 1|0|-|2|ShortBody
-damaged 1
-churn
-";
+/// Faults of messages: the row's name, which is its record's, and the line that lists the fault. The unit is
+/// damaged, changes no route and is counted refused.
+const MESSAGES: [(&str, &str); 9] = [
+    ("bad-prefix-length", "1|0|-|9|BadPrefix"),
+    ("bad-prefix-past-field", "1|0|-|9|BadPrefix"),
+    ("bad-marker", "1|0|-|10|BadMarker"),
+    ("bad-length", "1|0|-|11|BadLength"),
+    ("bad-update", "1|0|-|12|BadUpdate"),
+    ("short-attribute", "1|0|-|13|ShortAttribute"),
+    ("bad-origin", "1|0|-|14|BadAttribute(1)"),
+    ("bad-segment-kind", "1|0|-|15|BadPath"),
+    ("empty-segment", "1|0|-|15|BadPath"),
+];
 
-/// Faults of messages: the unit is damaged, changes no route and is counted refused.
-const MESSAGES: &str = "
-row bad-prefix-length
-file 00000001 0010 0004 00000041 H4 FF16 002D 02 0000 0014 A4 210A
-faults
-> 1|0|-|9|BadPrefix
-damaged 1
-churn
-> 65000 192.0.2.1|0|0|0|0|0|0|0|1|1.000000|1.000000
-tables
-row bad-prefix-past-field
-file 00000001 0010 0004 00000041 H4 FF16 002D 02 0000 0014 A4 090A
-faults
-> 1|0|-|9|BadPrefix
-damaged 1
-churn
-> 65000 192.0.2.1|0|0|0|0|0|0|0|1|1.000000|1.000000
-tables
-row bad-marker
-file 00000001 0010 0004 00000041 H4 00FFFFFF FFFFFFFF FFFFFFFF FFFFFFFF 002D 02 0000 0014 A4 080A
-faults
-> 1|0|-|10|BadMarker
-damaged 1
-churn
-> 65000 192.0.2.1|0|0|0|0|0|0|0|1|1.000000|1.000000
-tables
-row bad-length
-file 00000001 0010 0004 00000041 H4 FF16 002C 02 0000 0014 A4 080A
-faults
-> 1|0|-|11|BadLength
-damaged 1
-churn
-> 65000 192.0.2.1|0|0|0|0|0|0|0|1|1.000000|1.000000
-tables
-row bad-update
-file 00000001 0010 0004 00000041 H4 FF16 002D 02 00FF 0014 A4 080A
-faults
-> 1|0|-|12|BadUpdate
-damaged 1
-churn
-> 65000 192.0.2.1|0|0|0|0|0|0|0|1|1.000000|1.000000
-tables
-row short-attribute
-file 00000001 0010 0004 00000041 H4 FF16 002D 02 0000 0014 40010100 4002060201 0000FDE8 400305 C0000201 080A
-faults
-> 1|0|-|13|ShortAttribute
-damaged 1
-churn
-> 65000 192.0.2.1|0|0|0|0|0|0|0|1|1.000000|1.000000
-tables
-row bad-origin
-file 00000001 0010 0004 00000041 H4 FF16 002D 02 0000 0014 40010103 4002060201 0000FDE8 400304 C0000201 080A
-faults
-> 1|0|-|14|BadAttribute(1)
-damaged 1
-churn
-> 65000 192.0.2.1|0|0|0|0|0|0|0|1|1.000000|1.000000
-tables
-row bad-segment-kind
-file 00000001 0010 0004 00000041 H4 FF16 002D 02 0000 0014 40010100 4002060501 0000FDE8 400304 C0000201 080A
-faults
-> 1|0|-|15|BadPath
-damaged 1
-churn
-> 65000 192.0.2.1|0|0|0|0|0|0|0|1|1.000000|1.000000
-tables
-row empty-segment
-file 00000001 0010 0004 00000041 H4 FF16 002D 02 0000 0014 40010100 4002060200 0000FDE8 400304 C0000201 080A
-faults
-> 1|0|-|15|BadPath
-damaged 1
-churn
-> 65000 192.0.2.1|0|0|0|0|0|0|0|1|1.000000|1.000000
-tables
-";
+/// What the peer counts after a damaged unit, and its table, which is empty.
+const REFUSED: &str = "> 65000 192.0.2.1|0|0|0|0|0|0|0|1|1.000000|1.000000
+tables";
 
-#[test]
-fn every_fault(rt: HostRuntime) -> Result<(), Fail> {
-    let alloc = rt.alloc();
-    for (table, rows) in [(RECORDS, 10), (MESSAGES, 9)] {
-        assert!(rt; run_rows(&rt, alloc, table)? == rows);
-    }
+/// Runs a row: a file of these records, the line that lists its fault, and what the peers count.
+fn run_fault(
+    rt: &(impl Threads + Abort + Sync),
+    alloc: Global,
+    name: &str,
+    records: &str,
+    line: &str,
+    counted: &str,
+) -> Result<(), Fail> {
+    let row = format!(in alloc;
+        "row {name}\nfile {records}\nfaults\n> {line}\ndamaged 1\nchurn\n{counted}"
+    )?;
+    assert_eq!(rt; run_rows(rt, alloc, row.as_str())?, 1);
     Ok(())
 }
 
 #[test]
-fn greatest_length_of_a_short_body(rt: HostRuntime) -> Result<(), Fail> {
-    assert_eq!(rt; run_rows(&rt, rt.alloc(), GREATEST)?, 1);
+fn every_fault_is_listed_and_counted(rt: HostRuntime) -> Result<(), Fail> {
+    let alloc = rt.alloc();
+    for (name, records, line) in RECORDS {
+        run_fault(&rt, alloc, name, records, line, "")?;
+    }
+    for (record, line) in MESSAGES {
+        run_fault(&rt, alloc, record, record, line, REFUSED)?;
+    }
     Ok(())
+}
+
+/// The greatest body that a header may announce, of which nothing is there.
+#[test]
+fn a_missing_body_of_the_greatest_length_is_short(rt: HostRuntime) -> Result<(), Fail> {
+    run_fault(
+        &rt,
+        rt.alloc(),
+        "greatest-length-short-body",
+        "header-of-longest-body",
+        "1|0|-|2|ShortBody",
+        "",
+    )
 }

@@ -3,7 +3,7 @@
 use crate::harness::PLAN;
 use adj_rib::SharedRoute;
 use bgp_prefix::Radix;
-use fixtures::dump;
+use fixtures::{THREE_PEERS, bytes_of};
 use lane_deal::{ByTurns, Gate, Plan};
 use mrt_frame::{Counted, ReplayError};
 use mrt_replay::{Summary, run};
@@ -39,7 +39,7 @@ fn run_with<G: Gate>(
     gate: &G,
 ) -> Result<Result<Summary, ReplayError>, Fail> {
     assert!(rt; plan.check());
-    let bytes = dump(alloc, words)?;
+    let bytes = bytes_of(alloc, words)?;
     let mut readers = [Counted::new(bytes.as_slice())];
     let mut out = Counted::new(Vec::<u8>::new(alloc));
     Ok(run::<Radix<SharedRoute>, _, _, _, _, _>(
@@ -91,7 +91,7 @@ fn workers_run_side_by_side(rt: HostRuntime) -> Result<(), Fail> {
             second_saw: AtomicBool::new(false),
         };
         let plan = Plan { batch, ..PLAN };
-        let summary = run_with(&rt, rt.alloc(), "M MB", &plan, &gate)??;
+        let summary = run_with(&rt, rt.alloc(), "announcement by-second", &plan, &gate)??;
         assert_eq!(rt; summary.peers, 2);
         assert!(rt;
             gate.first_saw.load(Ordering::SeqCst),
@@ -127,7 +127,7 @@ impl Gate for Waiting {
 }
 
 #[test]
-fn worker_runs_beside_dealer(rt: HostRuntime) -> Result<(), Fail> {
+fn a_worker_runs_beside_the_dealer(rt: HostRuntime) -> Result<(), Fail> {
     let gate = Waiting {
         worker: AtomicBool::new(false),
         dealer_saw: AtomicBool::new(false),
@@ -137,7 +137,13 @@ fn worker_runs_beside_dealer(rt: HostRuntime) -> Result<(), Fail> {
         looks: u32::MAX,
         ..PLAN
     };
-    let summary = run_with(&rt, rt.alloc(), "M M M", &plan, &gate)??;
+    let summary = run_with(
+        &rt,
+        rt.alloc(),
+        "announcement announcement announcement",
+        &plan,
+        &gate,
+    )??;
     assert_eq!(rt; summary.units, 3);
     assert!(rt; gate.dealer_saw.load(Ordering::SeqCst));
     Ok(())
@@ -186,7 +192,7 @@ fn gates_are_told_each_number(rt: HostRuntime) -> Result<(), Fail> {
             batch,
             ..PLAN
         };
-        let summary = run_with(&rt, rt.alloc(), "M MB M MC MB", &plan, &gate)??;
+        let summary = run_with(&rt, rt.alloc(), THREE_PEERS, &plan, &gate)??;
         assert_eq!(rt; summary.units, 5);
         assert!(rt;
             !gate.astray.load(Ordering::SeqCst),
@@ -242,7 +248,7 @@ fn gates_are_told_the_routes_after_rounds(rt: HostRuntime) -> Result<(), Fail> {
         looks: 0,
         ..PLAN
     };
-    let summary = run_with(&rt, rt.alloc(), "M MB M MC MB", &plan, &gate)??;
+    let summary = run_with(&rt, rt.alloc(), THREE_PEERS, &plan, &gate)??;
     assert!(rt; gate.told.load(Ordering::SeqCst) == 9023);
     assert!(rt; summary.routes == 3 && summary.rounds == 4);
     Ok(())

@@ -2,11 +2,11 @@
 //! leaves what it says. The gate runs them with ample memory; `make growths` refuses the Nth growth of each
 //! test, for N = 1, 2 and so on. A growth that is refused to a test itself ends it with an error.
 
-use crate::harness::PLAN;
+use crate::harness::{PLAN, THREE_ROUTES};
 use adj_rib::SharedRoute;
 use bgp_prefix::{Flat, PrefixMap, Radix};
 use command_line::{Usage, read_words};
-use fixtures::dump;
+use fixtures::{THREE_PEERS, bytes_of};
 use lane_deal::{ByBlocks, ByList, ByTurns, Dealing, NoGate, Plan};
 use mrt_frame::{Counted, ReplayError};
 use mrt_replay::run;
@@ -18,13 +18,6 @@ use std::process::Abort;
 use std::test::Fail;
 use std::thread::Threads;
 
-const THREE_PEERS: &str = "M MB M MC MB";
-
-const THREE_LINES: &str = "65000 192.0.2.1|10.0.0.0/8|65000|192.0.2.1|IGP|-|-|-|-
-65000 192.0.2.2|10.0.0.0/8|65000|192.0.2.1|IGP|-|-|-|-
-65000 192.0.2.3|10.0.0.0/8|65000|192.0.2.1|IGP|-|-|-|-
-";
-
 /// A run that is Ok wrote the report, and one that wants memory nothing. The writer has room for it.
 fn expect_report<M: PrefixMap<SharedRoute> + Send + Drop, D: Dealing + Sync>(
     rt: &(impl Threads + Abort + Sync),
@@ -34,7 +27,7 @@ fn expect_report<M: PrefixMap<SharedRoute> + Send + Drop, D: Dealing + Sync>(
     dealing: &D,
     expected: &str,
 ) -> Result<(), Fail> {
-    let bytes = dump(alloc, words)?;
+    let bytes = bytes_of(alloc, words)?;
     let mut readers = [Counted::new(bytes.as_slice())];
     let mut out = Counted::new(Vec::<u8>::with_capacity(alloc, 1000)?);
     let result = run::<M, _, _, _, _, _>(
@@ -56,20 +49,21 @@ fn expect_report<M: PrefixMap<SharedRoute> + Send + Drop, D: Dealing + Sync>(
 }
 
 #[test]
-fn growths_of_runs_by_each_dealing(rt: HostRuntime) -> Result<(), Fail> {
+fn a_run_by_each_dealing_writes_its_report_or_wants_memory(rt: HostRuntime) -> Result<(), Fail> {
     let alloc = rt.alloc();
     let tables = &Request::Tables;
     let list = ByList::new(vec![in alloc; 1, 1, 0]?);
     let blocks = ByBlocks::new(2);
-    expect_report::<Flat<_>, _>(&rt, alloc, THREE_PEERS, tables, &ByTurns, THREE_LINES)?;
-    expect_report::<Radix<_>, _>(&rt, alloc, THREE_PEERS, tables, &blocks, THREE_LINES)?;
-    expect_report::<Shelf<_>, _>(&rt, alloc, THREE_PEERS, tables, &list, THREE_LINES)
+    expect_report::<Flat<_>, _>(&rt, alloc, THREE_PEERS, tables, &ByTurns, THREE_ROUTES)?;
+    expect_report::<Radix<_>, _>(&rt, alloc, THREE_PEERS, tables, &blocks, THREE_ROUTES)?;
+    expect_report::<Shelf<_>, _>(&rt, alloc, THREE_PEERS, tables, &list, THREE_ROUTES)
 }
 
-/// An index, a RIB record whose second entry is damaged, and an update.
+/// An index, a RIB record whose second entry is damaged, and an announcement.
 #[test]
-fn growths_of_runs_of_each_request(rt: HostRuntime) -> Result<(), Fail> {
+fn a_run_of_each_request_writes_its_report_or_wants_memory(rt: HostRuntime) -> Result<(), Fail> {
     let alloc = rt.alloc();
+    let words = "peer-index-table rib-record announcement";
     let lines =
         "65000 2001:0db8:0000:0000:0000:0000:0000:0001|10.0.0.0/8|65000|192.0.2.1|IGP|-|-|-|-
 65000 192.0.2.1|10.0.0.0/8|65000|192.0.2.1|IGP|-|-|-|-
@@ -86,13 +80,13 @@ fn growths_of_runs_of_each_request(rt: HostRuntime) -> Result<(), Fail> {
         (Request::Match(0x0A00_0001), lines),
         (Request::Faults, "1|56|2|14|BadAttribute(1)\n"),
     ] {
-        expect_report::<Shelf<_>, _>(&rt, alloc, "P T M", &request, &ByTurns, expected)?;
+        expect_report::<Shelf<_>, _>(&rt, alloc, words, &request, &ByTurns, expected)?;
     }
     Ok(())
 }
 
 #[test]
-fn growths_of_words(rt: HostRuntime) -> Result<(), Fail> {
+fn words_give_their_job_or_want_memory(rt: HostRuntime) -> Result<(), Fail> {
     let alloc = rt.alloc();
     let mut words = Vec::new(alloc);
     for word in ["tables", "x"] {

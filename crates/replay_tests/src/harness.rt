@@ -3,9 +3,9 @@
 use adj_rib::SharedRoute;
 use bgp_prefix::{Flat, PrefixMap, Radix};
 use command_line::read_address;
-use fixtures::{Dripping, dump};
+use fixtures::{Dripping, bytes_of};
 use lane_deal::{ByTurns, NoGate, Plan};
-use mrt_frame::{Counted, ReplayError};
+use mrt_frame::{Counted, ReplayError, Source};
 use mrt_replay::{Summary, run, status};
 use prefix_shelf::Shelf;
 use rib_report::Request;
@@ -25,11 +25,45 @@ pub const PLAN: Plan = Plan {
     until: None,
 };
 
+/// The routes in the tables of `THREE_PEERS`.
+pub const THREE_ROUTES: &str = "65000 192.0.2.1|10.0.0.0/8|65000|192.0.2.1|IGP|-|-|-|-
+65000 192.0.2.2|10.0.0.0/8|65000|192.0.2.1|IGP|-|-|-|-
+65000 192.0.2.3|10.0.0.0/8|65000|192.0.2.1|IGP|-|-|-|-
+";
+
 /// What a run answered, and what it wrote.
 #[derive(Drop)]
 pub struct Outcome {
     pub result: Result<Summary, ReplayError>,
     pub text: Vec<u8>,
+}
+
+impl Outcome {
+    /// Whether the run failed with this error, and wrote nothing.
+    pub fn failed_with(&self, error: ReplayError) -> bool {
+        let is_so = match &self.result {
+            Err(found) => *found == error,
+            Ok(_) => false,
+        };
+        is_so && self.text.is_empty() && status(&self.result) == 3
+    }
+}
+
+/// Replays these readers by turns, into memory.
+pub fn replay_readers<M: PrefixMap<SharedRoute> + Send + Drop, R: Source + Send>(
+    rt: &(impl Threads + Abort + Sync),
+    alloc: Global,
+    readers: &mut [R],
+    request: &Request,
+    plan: &Plan,
+) -> Result<Outcome, Fail> {
+    assert!(rt; plan.check());
+    let mut out = Counted::new(Vec::<u8>::new(alloc));
+    let result = run::<M, _, _, _, _, _>(
+        rt, alloc, readers, request, plan, &ByTurns, &NoGate, &mut out,
+    );
+    let text = Vec::from_slice(alloc, out.device().as_slice())?;
+    Ok(Outcome { result, text })
 }
 
 /// Replays files in memory.
@@ -44,25 +78,12 @@ pub fn replay<M: PrefixMap<SharedRoute> + Send + Drop>(
     for file in files {
         readers.push(Counted::new(file.as_slice()))?;
     }
-    assert!(rt; plan.check());
-    let mut out = Counted::new(Vec::<u8>::new(alloc));
-    let result = run::<M, _, _, _, _, _>(
-        rt,
-        alloc,
-        readers.as_mut_slice(),
-        request,
-        plan,
-        &ByTurns,
-        &NoGate,
-        &mut out,
-    );
-    let text = Vec::from_slice(alloc, out.device().as_slice())?;
-    Ok(Outcome { result, text })
+    replay_readers::<M, _>(rt, alloc, readers.as_mut_slice(), request, plan)
 }
 
 /// Replays files from readers that give one byte a read.
 pub fn replay_slowly(
-    rt: &(impl Threads + Sync),
+    rt: &(impl Threads + Abort + Sync),
     alloc: Global,
     files: &[Vec<u8>],
     request: &Request,
@@ -71,19 +92,7 @@ pub fn replay_slowly(
     for file in files {
         readers.push(Counted::new(Dripping::new(file.as_slice(), None)))?;
     }
-    let mut out = Counted::new(Vec::<u8>::new(alloc));
-    let result = run::<Shelf<SharedRoute>, _, _, _, _, _>(
-        rt,
-        alloc,
-        readers.as_mut_slice(),
-        request,
-        &PLAN,
-        &ByTurns,
-        &NoGate,
-        &mut out,
-    );
-    let text = Vec::from_slice(alloc, out.device().as_slice())?;
-    Ok(Outcome { result, text })
+    replay_readers::<Shelf<SharedRoute>, _>(rt, alloc, readers.as_mut_slice(), request, &PLAN)
 }
 
 /// A row as far as it was read.
@@ -223,7 +232,7 @@ pub fn run_rows(
             row = Row::new(alloc, name);
             checked = checked.wrapping_add(1);
         } else if let Some(words) = line.strip_prefix("file") {
-            row.files.push(dump(alloc, words)?)?;
+            row.files.push(bytes_of(alloc, words)?)?;
         } else if let Some(text) = line.strip_prefix("> ") {
             row.expected.extend_from_slice(text.as_bytes())?;
             row.expected.push(b'\n')?;

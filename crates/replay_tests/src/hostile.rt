@@ -1,55 +1,54 @@
 //! Rows on truncated, malicious and endless input.
 
-use crate::harness::{PLAN, replay, run_rows};
+use crate::harness::{PLAN, replay, replay_readers, run_rows};
 use adj_rib::SharedRoute;
 use bgp_prefix::Radix;
-use fixtures::{Zeros, dump};
-use lane_deal::{ByTurns, NoGate, Plan};
+use fixtures::{Zeros, bytes_of};
+use lane_deal::Plan;
 use mrt_frame::{Counted, ReplayError};
-use mrt_replay::run;
 use rib_report::Request;
 use std::test::Fail;
 
 const COUNTS: &str = "
 row peer-count-too-large
-file 00000003 000D 0001 0000002C C0000263 0000 FFFF 01 C0000201 20010DB8000000000000000000000001 FDE8 02 C0000202 C0000202 00011170 T
+file peer-count-too-large rib-record
 faults
 > 1|0|-|4|ShortRecord
 > 1|56|-|7|NoPeerIndex
 damaged 2
 row entry-count-too-large
-file P 00000003 000D 0002 00000030 00000000 080A FFFF 0000 00000001 0014 A4 0001 00000001 0004 40010103
+file peer-index-table entry-count-too-large
 faults
 > 1|56|-|4|ShortRecord
 damaged 1
 row entry-count-too-small
-file P 00000003 000D 0002 00000030 00000000 080A 0001 0000 00000001 0014 A4 0001 00000001 0004 40010103
+file peer-index-table entry-count-too-small
 faults
 > 1|56|-|5|TrailingBytes
 damaged 1
 row segment-count-too-large
-file 00000001 0010 0004 00000041 H4 FF16 002D 02 0000 0014 40010100 4002060202 0000FDE8 400304 C0000201 080A
+file segment-count-too-large
 faults
 > 1|0|-|15|BadPath
 damaged 1
 row segment-count-255
-file 00000001 0010 0004 00000041 H4 FF16 002D 02 0000 0014 40010100 40020602FF 0000FDE8 400304 C0000201 080A
+file segment-count-255
 faults
 > 1|0|-|15|BadPath
 damaged 1
 ";
 
 #[test]
-fn wrong_counts(rt: HostRuntime) -> Result<(), Fail> {
+fn wrong_counts_are_refused(rt: HostRuntime) -> Result<(), Fail> {
     assert_eq!(rt; run_rows(&rt, rt.alloc(), COUNTS)?, 5);
     Ok(())
 }
 
-/// Each front of an index, a RIB record and a message.
+/// An index, a RIB record whose second entry is damaged, and an announcement.
 #[test]
-fn every_prefix_of_three_records(rt: HostRuntime) -> Result<(), Fail> {
+fn a_front_of_three_records_is_cut_unless_one_ends_there(rt: HostRuntime) -> Result<(), Fail> {
     let alloc = rt.alloc();
-    let bytes = dump(alloc, "P T M")?;
+    let bytes = bytes_of(alloc, "peer-index-table rib-record announcement")?;
     assert_eq!(rt; bytes.len(), 193);
     for k in 0..=bytes.len() {
         let front = [Vec::from_slice(alloc, &bytes.as_slice()[..k])?];
@@ -64,12 +63,9 @@ fn every_prefix_of_three_records(rt: HostRuntime) -> Result<(), Fail> {
 
 /// A message of 65,535 bytes, most of them a prefix of length 0 each.
 #[test]
-fn longest_message(rt: HostRuntime) -> Result<(), Fail> {
+fn each_prefix_of_the_longest_message_is_taken(rt: HostRuntime) -> Result<(), Fail> {
     let alloc = rt.alloc();
-    let mut bytes = dump(
-        alloc,
-        "00000001 0010 0004 00010013 H4 FF16 FFFF 02 0000 0014 A4",
-    )?;
+    let mut bytes = bytes_of(alloc, "longest-message-without-nlri")?;
     bytes.resize(bytes.len().saturating_add(65_492), 0)?;
     let file = [bytes];
     let outcome = replay::<Radix<SharedRoute>>(&rt, alloc, &file, &Request::Churn, &PLAN)?;
@@ -79,28 +75,19 @@ fn longest_message(rt: HostRuntime) -> Result<(), Fail> {
 }
 
 #[test]
-fn endless_zeros(rt: HostRuntime) -> Result<(), Fail> {
-    let alloc = rt.alloc();
+fn endless_zeros_end_at_the_limit_on_records(rt: HostRuntime) -> Result<(), Fail> {
     let mut readers = [Counted::new(Zeros)];
     let plan = Plan {
         max_records: 5,
         ..PLAN
     };
-    let mut out = Counted::new(Vec::<u8>::new(alloc));
-    let result = run::<Radix<SharedRoute>, _, _, _, _, _>(
+    let outcome = replay_readers::<Radix<SharedRoute>, _>(
         &rt,
-        alloc,
+        rt.alloc(),
         &mut readers,
         &Request::Tables,
         &plan,
-        &ByTurns,
-        &NoGate,
-        &mut out,
-    );
-    match result {
-        Err(error) => assert!(rt; error == ReplayError::Records),
-        Ok(_) => assert!(rt; false, "endless"),
-    }
-    assert!(rt; out.device().is_empty());
+    )?;
+    assert!(rt; outcome.failed_with(ReplayError::Records));
     Ok(())
 }

@@ -1,22 +1,17 @@
 //! Rows on the records that `--summary` counts.
 
 use command_line::{RecordKind, Records};
+use fixtures::bytes_of;
 use std::test::Fail;
 
 /// Five records and the header of a sixth, whose body is too long: RIB_IPV4_UNICAST at 7 with two bytes,
 /// RIB_IPV6_UNICAST at 8 with none and at 9 with three, OSPFv2 at 10 with one, BGP4MP_MESSAGE at 11 with
 /// none.
-static DUMP: [u8; 78] = [
-    0, 0, 0, 7, 0, 13, 0, 2, 0, 0, 0, 2, 0, 0, //
-    0, 0, 0, 8, 0, 13, 0, 4, 0, 0, 0, 0, //
-    0, 0, 0, 9, 0, 13, 0, 4, 0, 0, 0, 3, 0, 0, 0, //
-    0, 0, 0, 10, 0, 11, 0, 0, 0, 0, 0, 1, 0, //
-    0, 0, 0, 11, 0, 16, 0, 1, 0, 0, 0, 0, //
-    0, 0, 0, 12, 0, 13, 0, 2, 1, 0, 0, 1,
-];
+const RECORDS: &str =
+    "rib-ipv4-of-second-7 rib-ipv6-of-second-8 rib-ipv6-of-second-9 ospfv2-of-second-10 message-of-second-11 header-of-too-long-rib-record";
 
 #[test]
-fn counts(rt: HostRuntime) -> Result<(), Fail> {
+fn records_are_counted_whatever_pieces_they_come_in(rt: HostRuntime) -> Result<(), Fail> {
     let alloc = rt.alloc();
     let rib = RecordKind {
         kind: 13,
@@ -26,9 +21,11 @@ fn counts(rt: HostRuntime) -> Result<(), Fail> {
         kind: 11,
         subtype: 0,
     };
+    let dump = bytes_of(alloc, RECORDS)?;
+    assert_eq!(rt; dump.len(), 78);
     for piece in [1usize, 2, 5, 11, 12, 13, 64, 1000] {
         let mut records = Records::new(alloc);
-        for bytes in DUMP.as_slice().chunks(piece.max(1)) {
+        for bytes in dump.as_slice().chunks(piece.max(1)) {
             records.take(bytes);
         }
         assert!(rt; records.count() == 5 && records.aside() == 3, "{piece}");
@@ -49,7 +46,7 @@ fn counts(rt: HostRuntime) -> Result<(), Fail> {
 }
 
 #[test]
-fn kinds(rt: HostRuntime) -> Result<(), Fail> {
+fn kinds_that_are_not_interpreted_are_aside_and_named(rt: HostRuntime) -> Result<(), Fail> {
     let alloc = rt.alloc();
     for (kind, subtype, name) in [
         (12u16, 2u16, "TABLE_DUMP AFI_IPv6"),

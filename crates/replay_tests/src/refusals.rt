@@ -1,18 +1,17 @@
 //! Want of memory in runs, with a map that refuses each growth.
 
 use crate::harness::{PLAN, replay};
-use fixtures::{Refusing, dump};
+use fixtures::{Refusing, THREE_PEERS, bytes_of};
 use lane_deal::Plan;
 use mrt_frame::ReplayError;
-use mrt_replay::status;
 use rib_report::Request;
 use std::test::Fail;
 
-/// A run whose first route is refused writes nothing, by any number of workers.
+/// By any number of workers.
 #[test]
-fn want_of_memory_in_runs(rt: HostRuntime) -> Result<(), Fail> {
+fn a_run_whose_first_route_is_refused_writes_nothing(rt: HostRuntime) -> Result<(), Fail> {
     let alloc = rt.alloc();
-    let files = [dump(alloc, "M MB M MC MB")?];
+    let files = [bytes_of(alloc, THREE_PEERS)?];
     for workers in [1, 2, 4, 64] {
         let plan = Plan { workers, ..PLAN };
         for request in [
@@ -24,11 +23,10 @@ fn want_of_memory_in_runs(rt: HostRuntime) -> Result<(), Fail> {
             Request::Faults,
         ] {
             let outcome = replay::<Refusing>(&rt, alloc, &files, &request, &plan)?;
-            match &outcome.result {
-                Err(error) => assert!(rt; *error == ReplayError::Memory, "{workers} workers"),
-                Ok(_) => assert!(rt; false, "{workers} workers"),
-            }
-            assert!(rt; outcome.text.is_empty() && status(&outcome.result) == 3);
+            assert!(rt;
+                outcome.failed_with(ReplayError::Memory),
+                "{workers} workers"
+            );
         }
     }
     Ok(())

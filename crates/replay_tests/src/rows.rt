@@ -14,57 +14,57 @@ churn
 match 10.0.0.1
 faults
 row one-update
-file M
+file announcement
 tables
 > 65000 192.0.2.1|10.0.0.0/8|65000|192.0.2.1|IGP|-|-|-|-
 damaged 0
 counts records 1,units 1,aside 0,peers 1,routes 1
 rounds 2
 row host-bits-cleared
-file M3
+file of-host-bits
 tables
 > 65000 192.0.2.1|10.240.0.0/12|65000|192.0.2.1|IGP|-|-|-|-
 row same-update-twice
-file M M
+file announcement announcement
 churn
 > 65000 192.0.2.1|1|0|1|0|0|0|0|0|1.000000|1.000000
 row withdraw-twice
-file M W W
+file announcement withdrawal withdrawal
 tables
 churn
 > 65000 192.0.2.1|1|0|0|1|1|0|0|0|1.000000|2.000000
 row next-hop-changed
-file M MN
+file announcement by-other-hop
 tables
 > 65000 192.0.2.1|10.0.0.0/8|65000|192.0.2.3|IGP|-|-|-|-
 churn
 > 65000 192.0.2.1|1|1|0|0|0|0|0|0|1.000000|1.000000
 row withdraw-and-announce-in-one-update
-file MW
+file withdrawn-and-announced
 tables
 > 65000 192.0.2.1|10.0.0.0/8|65000|192.0.2.1|IGP|-|-|-|-
 churn
 > 65000 192.0.2.1|1|0|0|0|0|0|0|0|1.000000|1.000000
 row other-message
-file 00000001 0010 0004 00000041 H4 FF16 002D 04 0000 0014 A4 080A
+file keepalive
 tables
 damaged 0
 row table-dump-aside
-file 00000001 000C 0001 00000000 M
+file table-dump announcement
 tables
 > 65000 192.0.2.1|10.0.0.0/8|65000|192.0.2.1|IGP|-|-|-|-
 damaged 0
 counts records 2,aside 1
 row extended-time-table
-file E
+file extended-announcement
 tables
 > 65000 192.0.2.1|10.0.0.0/8|65000|192.0.2.1|IGP|-|-|-|-
 row extended-time
-file E
+file extended-announcement
 churn
 > 65000 192.0.2.1|1|0|0|0|0|0|0|0|2.000000|2.000000
 row until-leaves-out
-file E
+file extended-announcement
 until 1
 churn
 damaged 0
@@ -72,18 +72,18 @@ damaged 0
 
 const STATE_CHANGES: &str = "
 row state-change-empties-table
-file M S61 M
+file announcement established-to-idle announcement
 tables
 churn
 > 65000 192.0.2.1|1|0|0|0|0|1|1|0|1.000000|1.000000
 row session-comes-back
-file M S61 M S56 M
+file announcement established-to-idle announcement open-confirm-to-established announcement
 tables
 > 65000 192.0.2.1|10.0.0.0/8|65000|192.0.2.1|IGP|-|-|-|-
 churn
 > 65000 192.0.2.1|2|0|0|0|0|2|1|0|1.000000|1.000000
 row established-to-established
-file M S66
+file announcement established-to-established
 tables
 > 65000 192.0.2.1|10.0.0.0/8|65000|192.0.2.1|IGP|-|-|-|-
 churn
@@ -92,30 +92,30 @@ churn
 
 const ATTRIBUTES: &str = "
 row two-byte-path-merged
-file Q2
+file two-octet-path
 tables
 > 65000 192.0.2.1|10.0.0.0/8|100 70000 70001|192.0.2.1|IGP|-|-|-|-
 row longer-as4-path-ignored
-file Q4
+file longer-as4-path
 tables
 > 65000 192.0.2.1|10.0.0.0/8|100 23456 23456|192.0.2.1|IGP|-|-|-|-
 row aggregator-of-another-as
-file QA
+file aggregator-of-another-as
 tables
 > 65000 192.0.2.1|10.0.0.0/8|100 23456 23456|192.0.2.1|IGP|-|-|-|100 192.0.2.9
 row aggregator-23456
-file QT
+file aggregator-of-as-trans
 tables
 > 65000 192.0.2.1|10.0.0.0/8|100 70000 70001|192.0.2.1|IGP|-|-|-|70000 192.0.2.9
 row set-path
-file MS
+file by-as-set
 tables
 > 65000 192.0.2.2|10.0.0.0/8|{65001}|192.0.2.1|IGP|-|-|-|-
 ";
 
 const RIB_RECORDS: &str = "
 row rib-without-index
-file T M
+file rib-record announcement
 faults
 > 1|0|-|7|NoPeerIndex
 damaged 1
@@ -123,7 +123,7 @@ tables
 > 65000 192.0.2.1|10.0.0.0/8|65000|192.0.2.1|IGP|-|-|-|-
 damaged 1
 row rib-with-a-damaged-entry
-file P T
+file peer-index-table rib-record
 tables
 > 65000 2001:0db8:0000:0000:0000:0000:0000:0001|10.0.0.0/8|65000|192.0.2.1|IGP|-|-|-|-
 damaged 1
@@ -135,8 +135,8 @@ churn
 > 70000 192.0.2.2|0|0|0|0|0|0|0|1|3.000000|3.000000
 damaged 1
 row short-body-then-next-file
-file 00000001 0010 0004 00000041 H4 FF16 002D 02 0000 0014 A4 08
-file M
+file cut-announcement
+file announcement
 faults
 > 1|0|-|2|ShortBody
 damaged 1
@@ -147,32 +147,32 @@ damaged 1
 
 const SEVERAL_PEERS: &str = "
 row announce-three-lengths
-file MR
+file of-three-lengths
 tables
 > 65000 192.0.2.1|0.0.0.0/0|65000|192.0.2.1|IGP|-|-|-|-
 > 65000 192.0.2.1|10.0.0.0/8|65000|192.0.2.1|IGP|-|-|-|-
 > 65000 192.0.2.1|10.1.0.0/16|65000|192.0.2.1|IGP|-|-|-|-
 row match-longest
-file MR
+file of-three-lengths
 match 10.1.255.255
 > 65000 192.0.2.1|10.1.0.0/16|65000|192.0.2.1|IGP|-|-|-|-
 row match-default
-file MR
+file of-three-lengths
 match 11.0.0.0
 > 65000 192.0.2.1|0.0.0.0/0|65000|192.0.2.1|IGP|-|-|-|-
 row visible-at-two-peers
-file M MS
+file announcement by-as-set
 visibility
 > 10.0.0.0/8|2
 origins
 row two-origins
-file M MQ
+file announcement by-other-origin
 origins
 > 10.0.0.0/8|65000 65001
 ";
 
 #[test]
-fn reports_of_rows(rt: HostRuntime) -> Result<(), Fail> {
+fn each_row_gives_its_reports(rt: HostRuntime) -> Result<(), Fail> {
     let alloc = rt.alloc();
     for (table, rows) in [
         (ONE_FILE, 12),

@@ -26,7 +26,7 @@ fn answer_of(answer: &Result<Job, Usage>) -> &str {
 }
 
 #[test]
-fn refused_words(rt: HostRuntime) -> Result<(), Fail> {
+fn wrong_words_are_refused(rt: HostRuntime) -> Result<(), Fail> {
     let alloc = rt.alloc();
     for (text, expected) in [
         ("match --address 10.1.2 x", "10.1.2"),
@@ -52,7 +52,7 @@ const SEVERAL: &str =
 
 /// Requests, workers and the size of rings, seconds, and files.
 #[test]
-fn jobs(rt: HostRuntime) -> Result<(), Fail> {
+fn words_ask_for_a_job(rt: HostRuntime) -> Result<(), Fail> {
     let alloc = rt.alloc();
     for (text, request, numbers, until, files) in [
         (
@@ -131,7 +131,7 @@ fn jobs(rt: HostRuntime) -> Result<(), Fail> {
 
 /// Whether the words say how many workers, and ask for a header, a summary and the progress.
 #[test]
-fn switches(rt: HostRuntime) -> Result<(), Fail> {
+fn a_switch_is_on_where_its_word_stands(rt: HostRuntime) -> Result<(), Fail> {
     let alloc = rt.alloc();
     for (text, expected) in [
         (SEVERAL, [true, true, false, false]),
@@ -150,7 +150,7 @@ fn switches(rt: HostRuntime) -> Result<(), Fail> {
 }
 
 #[test]
-fn addresses(rt: HostRuntime) {
+fn an_address_is_four_numbers_of_a_byte(rt: HostRuntime) {
     for (text, expected) in [
         ("255.255.255.255", Some(4_294_967_295)),
         ("0.0.0.0", Some(0)),
@@ -169,7 +169,7 @@ fn addresses(rt: HostRuntime) {
 }
 
 #[test]
-fn moments(rt: HostRuntime) {
+fn a_moment_is_a_second_or_a_date_with_its_offset(rt: HostRuntime) {
     for (text, expected) in [
         ("0", Some(0)),
         ("18446744073709551615", Some(u64::MAX)),
@@ -189,7 +189,7 @@ fn moments(rt: HostRuntime) {
 }
 
 #[test]
-fn kinds(rt: HostRuntime) {
+fn the_first_bytes_tell_the_kind_of_a_file(rt: HostRuntime) {
     let rows: [(&[u8], Option<Kind>); 9] = [
         (
             b"\x1f\x8b\x08\x00\x00\x00\x00\x00\x00\x03",
@@ -214,7 +214,7 @@ fn kinds(rt: HostRuntime) {
 }
 
 #[test]
-fn names(rt: HostRuntime) -> Result<(), Fail> {
+fn a_file_name_is_quoted_where_it_must_be(rt: HostRuntime) -> Result<(), Fail> {
     let alloc = rt.alloc();
     for (name, expected) in [
         ("-", "standard input"),
