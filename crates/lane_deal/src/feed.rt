@@ -12,8 +12,8 @@ use std::thread::yield_now;
 /// The maximum number of further looks for a free slot: a round's end costs no more than these.
 const MOST_LOOKS: u32 = 1_000;
 
-/// The maximum number of slots that a dealer waits for once a ring was full. It then deals as many units before it
-/// waits again, and doesn't give up its processor for each of them.
+/// Once a ring was full, a dealer waits for no more than this number of free slots and one. It then deals as many units
+/// before it waits again, and doesn't give up its processor for each of them.
 const MOST_SLOTS: usize = 64;
 
 /// The dealing half of a lane.
@@ -26,8 +26,9 @@ pub struct Feed {
 impl Feed {
     ghost use Rattle.lane_deal.specs.Feeds.{Pushed};
 
-    /// Looks this many times for an eighth of the slots to be free, and lets other threads run before each look. Returns
-    /// whether any is free at the end. If the round is over because a worker failed, it stops looking.
+    /// Looks this many times, until more than an eighth of the slots are free, or more than `MOST_SLOTS`. Lets other
+    /// threads run before each look. Returns whether any is free at the end. If the round is over because a worker
+    /// failed, it stops looking.
     fn look_again(&mut self, looks: u32, over: &AtomicBool) -> bool
         ensures looked { Pushed self.old self.new [] }
         ensures room { result ≡ true → 0 < known_free self.new.producer }
