@@ -7,8 +7,8 @@ use Rattle.mrt_frame.proofs.FieldLaws.{IsBytes}
 use Rattle.bgp_update.specs.declared.attribute_type.AttributeType.{AttributeType}
 use Rattle.bgp_update.specs.declared.attribute_type.AttributeType.TheVariants as types
 use Rattle.bgp_update.specs.declared.width.Width.{Width}
-use Rattle.bgp_update.specs.declared.width.Carrier.{Carrier}
-use Rattle.bgp_update.specs.declared.width.Carrier.TheVariants.{RibEntry, Message}
+use Rattle.bgp_update.specs.declared.carrier.Carrier.{Carrier}
+use Rattle.bgp_update.specs.declared.carrier.Carrier.TheVariants.{RibEntry, Message}
 use Rattle.bgp_update.specs.declared.route.Origin.{Origin}
 use Rattle.bgp_update.specs.declared.route.Origin.TheVariants.{Igp, Egp, Incomplete}
 use Rattle.bgp_update.specs.Paths.{PathSegment}

@@ -11,7 +11,7 @@ use Rattle.mrt_frame.proofs.Items.{bind_ok, ok_is}
 use Rattle.mrt_frame.proofs.FieldLaws.{IsBytes, IsBytes-front, IsBytes-drop, big_bytes-number, bytes_at-takes, byte_at-takes, bytes_at-again, byte_at-again}
 use Rattle.bgp_prefix.specs.declared.key.RouteKey.{RouteKey}
 use Rattle.bgp_update.specs.declared.attribute_type.AttributeType.TheVariants.{MpReachNlri, MpUnreachNlri}
-use Rattle.bgp_update.specs.declared.width.AttrError.{AttrError}
+use Rattle.bgp_update.specs.declared.attr_error.AttrError.{AttrError}
 use Rattle.bgp_update.specs.declared.next_hop.NextHop.{NextHop}
 use Rattle.bgp_update.specs.declared.next_hop.NextHop.TheVariants.{V4, V6, V6Pair}
 use Rattle.bgp_update.specs.Answers.{Gives}

@@ -13,7 +13,7 @@ use Rattle.bgp_update.specs.declared.attribute_type.AttributeType.{AttributeType
 use Rattle.bgp_update.specs.declared.attribute_type.AttributeType.TheVariants as types
 use Rattle.bgp_update.specs.declared.width.Width.{Width}
 use Rattle.bgp_update.specs.declared.width.Width.TheVariants.{Two, Four}
-use Rattle.bgp_update.specs.declared.width.AttrError.{AttrError}
+use Rattle.bgp_update.specs.declared.attr_error.AttrError.{AttrError}
 use Rattle.bgp_update.specs.declared.route.Route.{Route}
 use Rattle.bgp_update.specs.Answers.{Gives}
 use Rattle.bgp_update.specs.Paths.{PathSegment, is_sequence, has_numbers, is_plain, part_of, part_front, longest_front, segment_length, path_length, merged}

@@ -7,7 +7,7 @@ use Rattle.bgp_update.specs.declared.attribute_type.AttributeType.{AttributeType
 use Rattle.bgp_update.specs.declared.attribute_type.AttributeType.TheVariants.{AsPath}
 use Rattle.bgp_update.specs.declared.width.Width.{Width}
 use Rattle.bgp_update.specs.declared.width.Width.TheVariants.{Four}
-use Rattle.bgp_update.specs.declared.width.Carrier.TheVariants.{RibEntry}
+use Rattle.bgp_update.specs.declared.carrier.Carrier.TheVariants.{RibEntry}
 use Rattle.bgp_update.specs.declared.values.FirstValues.{FirstValues}
 use Rattle.bgp_update.specs.declared.route.Route.{Route}
 use Rattle.bgp_update.specs.Paths.{PathSegment}

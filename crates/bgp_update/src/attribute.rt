@@ -10,11 +10,12 @@ ghost use Rattle.bgp_update.specs.Attributes as attributes;
 ghost use Rattle.bgp_update.specs.Attributes.{length_len, fault_of};
 
 use crate::attribute_type::AttributeType;
+use crate::carrier::Carrier;
 use crate::key::key_count;
 use crate::multiprotocol::{reach_in, unreach_in};
 use crate::route_fields::origin_of;
 use crate::segment::segment_count;
-use crate::width::{Carrier, Width};
+use crate::width::Width;
 use mrt_frame::{Fault, byte_at, bytes_at, u16_at};
 
 /// A path attribute as it appears in a field.

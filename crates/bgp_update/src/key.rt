@@ -7,8 +7,8 @@ ghost use Rattle.bgp_update.specs.Answers.{Gives};
 ghost use Rattle.bgp_update.specs.Keys as keys_spec;
 ghost use Rattle.bgp_update.specs.Keys.{route_keys_in, key_count_in};
 
+use crate::attr_error::AttrError;
 use crate::octets::leading_octets_number;
-use crate::width::AttrError;
 use bgp_prefix::{Prefix, RouteKey};
 use mrt_frame::{Fault, byte_at, bytes_at};
 use std::alloc::Global;

@@ -2,8 +2,10 @@
 #![tactic(auto)]
 
 mod agreement;
+mod attr_error;
 mod attribute;
 mod attribute_type;
+mod carrier;
 mod key;
 mod merge;
 mod multiprotocol;
@@ -24,6 +26,7 @@ mod values;
 mod width;
 
 pub use agreement::{merging_is_unique, updates_agree_with_their_forms};
+pub use attr_error::AttrError;
 pub use key::prefix_at;
 pub use next_hop::NextHop;
 pub use packed_path::{PackedSegment, PackedSegments};
@@ -31,4 +34,4 @@ pub use packed_route::PackedRoute;
 pub use path::{AsPath, Segment, SegmentKind};
 pub use route::{Aggregator, Origin, Route, Update};
 pub use update::{read_attrs, read_update};
-pub use width::{AttrError, Width};
+pub use width::Width;

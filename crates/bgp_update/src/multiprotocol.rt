@@ -7,10 +7,10 @@ ghost use Rattle.bgp_update.specs.Keys as keys_spec;
 ghost use Rattle.bgp_update.specs.Multiprotocol as multiprotocol;
 ghost use Rattle.bgp_update.specs.Multiprotocol.{is_hop_len, SaysReach, SaysUnreach, reached_keys, unreached_keys};
 
+use crate::attr_error::AttrError;
 use crate::attribute_type::AttributeType;
 use crate::key::{read_keys, with_keys};
 use crate::next_hop::NextHop;
-use crate::width::AttrError;
 use bgp_prefix::RouteKey;
 use byteorder::{BigEndian, ByteOrder};
 use mrt_frame::{Fault, byte_at, bytes_at};

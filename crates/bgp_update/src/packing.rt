@@ -9,7 +9,9 @@ ghost use Rattle.bgp_update.specs.Values.{kept_value};
 ghost use Rattle.bgp_update.specs.declared.attribute_type.AttributeType.TheVariants.{AsPath};
 ghost use Rattle.bgp_update.specs.declared.width.Width.TheVariants.{Four};
 
+use crate::attr_error::AttrError;
 use crate::attribute_type::AttributeType;
+use crate::carrier::Carrier;
 use crate::packed_route::PackedRoute;
 use crate::route::Route;
 use crate::route_fields::{
@@ -17,7 +19,7 @@ use crate::route_fields::{
 };
 use crate::route_writing::{push_fields, push_route};
 use crate::values::{FirstValues, keep_values};
-use crate::width::{AttrError, Carrier, Width};
+use crate::width::Width;
 use bgp_prefix::Memory;
 use std::alloc::Global;
 

@@ -8,8 +8,9 @@ ghost use Rattle.bgp_update.specs.Segments as segments_spec;
 ghost use Rattle.bgp_update.specs.Segments.{number_len, numbers_in, segment_count_in, path_in, path_bytes, IsPath};
 ghost use Rattle.bgp_update.specs.Paths.{PathSegment};
 
+use crate::attr_error::AttrError;
 use crate::path::{AsPath, Segment, SegmentKind};
-use crate::width::{AttrError, Width};
+use crate::width::Width;
 use bgp_prefix::Memory;
 use byteorder::{BigEndian, ByteOrder};
 use mrt_frame::{Fault, byte_at, bytes_at};

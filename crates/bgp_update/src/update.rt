@@ -9,13 +9,15 @@ ghost use Rattle.bgp_update.specs.Updates.{ReadsAsUpdate, said_update, update_in
 ghost use Rattle.bgp_update.specs.Packing.{IsWritable};
 ghost use Rattle.bgp_update.specs.Values.{kept_value};
 
+use crate::attr_error::AttrError;
 use crate::attribute_type::AttributeType;
+use crate::carrier::Carrier;
 use crate::key::read_keys;
 use crate::multiprotocol::{reached, with_unreached};
 use crate::route::{Route, Update};
 use crate::route_fields::route_from;
 use crate::values::{FirstValues, keep_values};
-use crate::width::{AttrError, Carrier, Width};
+use crate::width::Width;
 use bgp_prefix::{RouteKey, Sequence};
 use mrt_frame::{Fault, bytes_at, u16_at};
 use std::alloc::Global;

@@ -11,8 +11,8 @@ use Rattle.mrt_frame.specs.Fields.{◌>>=◌, byte_at, bytes_at, number_at}
 use Rattle.mrt_frame.proofs.Items.{bind_ok, guard_ok, ok_is}
 use Rattle.mrt_frame.proofs.FieldLaws.{bytes_at-takes, number_at-long}
 use Rattle.bgp_update.specs.Answers.{Fails}
-use Rattle.bgp_update.specs.declared.width.AttrError.{AttrError}
-use Rattle.bgp_update.specs.declared.width.AttrError.TheVariants as errors
+use Rattle.bgp_update.specs.declared.attr_error.AttrError.{AttrError}
+use Rattle.bgp_update.specs.declared.attr_error.AttrError.TheVariants as errors
 use Rattle.bgp_update.specs.Keys.{octets_at, prefix_of}
 use Rattle.mrt_body.specs.declared.unit.PeerKey.{PeerKey}
 use Rattle.mrt_body.specs.declared.unit.Unit.{Unit as ReplayUnit}

@@ -14,8 +14,8 @@ use Rattle.mrt_frame.proofs.Items.{ok_is}
 use Rattle.bgp_prefix.specs.declared.key.RouteKey.{RouteKey}
 use Rattle.bgp_update.specs.declared.width.Width.{Width}
 use Rattle.bgp_update.specs.declared.width.Width.TheVariants.{Four}
-use Rattle.bgp_update.specs.declared.width.AttrError.{AttrError}
-use Rattle.bgp_update.specs.declared.width.AttrError.TheVariants as errors
+use Rattle.bgp_update.specs.declared.attr_error.AttrError.{AttrError}
+use Rattle.bgp_update.specs.declared.attr_error.AttrError.TheVariants as errors
 use Rattle.bgp_update.specs.declared.route.Route.{Route}
 use Rattle.bgp_update.specs.declared.route.Update.{Update}
 use Rattle.bgp_update.specs.Answers.{Gives}

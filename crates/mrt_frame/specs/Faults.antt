@@ -3,40 +3,29 @@ use Rattle.std.specs.Prelude.{ℕ, List, ◌++◌, codes, decimal}
 use Rattle.mrt_frame.specs.declared.fault.Fault.{Fault}
 use Rattle.mrt_frame.specs.declared.fault.Fault.TheVariants.{ShortHeader, ShortBody, BodyTooLong, ShortRecord, TrailingBytes, BadFamily, NoPeerIndex, BadPeerIndex, BadPrefix, BadMarker, BadLength, BadUpdate, ShortAttribute, BadAttribute, BadPath}
 
-abbrev pub fault_number : Fault → ℕ
-fault_number ShortHeader = 1
-fault_number ShortBody = 2
-fault_number BodyTooLong = 3
-fault_number ShortRecord = 4
-fault_number TrailingBytes = 5
-fault_number BadFamily = 6
-fault_number NoPeerIndex = 7
-fault_number BadPeerIndex = 8
-fault_number BadPrefix = 9
-fault_number BadMarker = 10
-fault_number BadLength = 11
-fault_number BadUpdate = 12
-fault_number ShortAttribute = 13
-fault_number (BadAttribute code) = 14
-fault_number BadPath = 15
+-- the number, and the name without the type of an attribute
+abbrev pub number_and_name : Fault → ℕ × List ℕ
+number_and_name ShortHeader = (1, codes "ShortHeader")
+number_and_name ShortBody = (2, codes "ShortBody")
+number_and_name BodyTooLong = (3, codes "BodyTooLong")
+number_and_name ShortRecord = (4, codes "ShortRecord")
+number_and_name TrailingBytes = (5, codes "TrailingBytes")
+number_and_name BadFamily = (6, codes "BadFamily")
+number_and_name NoPeerIndex = (7, codes "NoPeerIndex")
+number_and_name BadPeerIndex = (8, codes "BadPeerIndex")
+number_and_name BadPrefix = (9, codes "BadPrefix")
+number_and_name BadMarker = (10, codes "BadMarker")
+number_and_name BadLength = (11, codes "BadLength")
+number_and_name BadUpdate = (12, codes "BadUpdate")
+number_and_name ShortAttribute = (13, codes "ShortAttribute")
+number_and_name (BadAttribute code) = (14, codes "BadAttribute")
+number_and_name BadPath = (15, codes "BadPath")
 
--- the name, without the type of an attribute
+abbrev pub fault_number : Fault → ℕ
+fault_number fault = (number_and_name fault).0
+
 abbrev pub kind_name : Fault → List ℕ
-kind_name ShortHeader = codes "ShortHeader"
-kind_name ShortBody = codes "ShortBody"
-kind_name BodyTooLong = codes "BodyTooLong"
-kind_name ShortRecord = codes "ShortRecord"
-kind_name TrailingBytes = codes "TrailingBytes"
-kind_name BadFamily = codes "BadFamily"
-kind_name NoPeerIndex = codes "NoPeerIndex"
-kind_name BadPeerIndex = codes "BadPeerIndex"
-kind_name BadPrefix = codes "BadPrefix"
-kind_name BadMarker = codes "BadMarker"
-kind_name BadLength = codes "BadLength"
-kind_name BadUpdate = codes "BadUpdate"
-kind_name ShortAttribute = codes "ShortAttribute"
-kind_name (BadAttribute code) = codes "BadAttribute"
-kind_name BadPath = codes "BadPath"
+kind_name fault = (number_and_name fault).1
 
 -- the name; that of an attribute's fault ends with the attribute's type
 abbrev pub fault_name : Fault → List ℕ

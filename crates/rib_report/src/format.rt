@@ -77,7 +77,7 @@ fn format_six(bytes: &mut [u8], at: usize, shorts: &ShortTexts, number: u32) -> 
 }
 
 /// Writes a number in decimal.
-pub(crate) fn format_number(bytes: &mut [u8], at: usize, shorts: &ShortTexts, number: u32) -> usize
+pub fn format_number(bytes: &mut [u8], at: usize, shorts: &ShortTexts, number: u32) -> usize
     requires { at + 13 ≤ length bytes.old }
     ensures { Formats bytes.old at bytes.new result 12 (decimal number) }
 {
@@ -90,7 +90,7 @@ pub(crate) fn format_number(bytes: &mut [u8], at: usize, shorts: &ShortTexts, nu
 }
 
 /// Writes a decimal point and the last six digits of a number.
-pub(crate) fn format_microseconds(bytes: &mut [u8], at: usize, number: u32) -> usize
+pub fn format_microseconds(bytes: &mut [u8], at: usize, number: u32) -> usize
     requires { at + 7 ≤ length bytes.old }
     ensures { Formats bytes.old at bytes.new result 7 (46 ∷ digits_in decimal_glyph 10 6 number) }
 {
@@ -171,7 +171,7 @@ fn format_addr(bytes: &mut [u8], at: usize, shorts: &ShortTexts, addr: PeerAddr)
 }
 
 /// Writes a peer.
-pub(crate) fn format_peer(bytes: &mut [u8], at: usize, shorts: &ShortTexts, peer: &PeerKey) -> usize
+pub fn format_peer(bytes: &mut [u8], at: usize, shorts: &ShortTexts, peer: &PeerKey) -> usize
     requires { at + 52 ≤ length bytes.old }
     ensures { Formats bytes.old at bytes.new result 52 (peer_text peer.now) }
 {
@@ -181,12 +181,7 @@ pub(crate) fn format_peer(bytes: &mut [u8], at: usize, shorts: &ShortTexts, peer
 }
 
 /// Writes a prefix.
-pub(crate) fn format_prefix(
-    bytes: &mut [u8],
-    at: usize,
-    shorts: &ShortTexts,
-    prefix: &Prefix,
-) -> usize
+pub fn format_prefix(bytes: &mut [u8], at: usize, shorts: &ShortTexts, prefix: &Prefix) -> usize
     requires { at + 20 ≤ length bytes.old }
     ensures { Formats bytes.old at bytes.new result 19 (prefix_text prefix.now) }
 {
@@ -209,7 +204,7 @@ fn format_identifier(bytes: &mut [u8], at: usize, shorts: &ShortTexts, id: u32) 
 }
 
 /// Writes a key.
-pub(crate) fn format_key(bytes: &mut [u8], at: usize, shorts: &ShortTexts, key: &RouteKey) -> usize
+pub fn format_key(bytes: &mut [u8], at: usize, shorts: &ShortTexts, key: &RouteKey) -> usize
     requires { at + 33 ≤ length bytes.old }
     ensures { Formats bytes.old at bytes.new result 32 (key_text key.now) }
 {
@@ -345,7 +340,7 @@ fn format_atomic(bytes: &mut [u8], at: usize, atomic: bool) -> usize
 }
 
 /// Writes the fields of a route that follow its path, and the end of the line.
-pub(crate) fn format_attributes(
+pub fn format_attributes(
     bytes: &mut [u8],
     at: usize,
     shorts: &ShortTexts,
@@ -369,7 +364,7 @@ pub(crate) fn format_attributes(
 }
 
 /// Writes a byte and a number in decimal.
-pub(crate) fn format_behind(
+pub fn format_behind(
     bytes: &mut [u8],
     at: usize,
     shorts: &ShortTexts,

@@ -1,6 +1,6 @@
 use Rattle.std.proofs.Common.{◌∙◌, ◌++◌, ap, subst, arith, List, ℕ}
 use Rattle.bgp_update.specs.declared.width.Width.{Width}
-use Rattle.bgp_update.specs.declared.width.Carrier.TheVariants.{RibEntry}
+use Rattle.bgp_update.specs.declared.carrier.Carrier.TheVariants.{RibEntry}
 use Rattle.bgp_update.specs.Values.{kept_value, KeepsFirst}
 use Rattle.bgp_update.specs.Attributes.{route_from}
 use Rattle.bgp_update.specs.Packing.{route_bytes}
