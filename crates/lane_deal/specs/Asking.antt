@@ -1,5 +1,5 @@
 -- What is asked of the files: refusals, which are listed, and then a unit.
-use Rattle.std.specs.Prelude.{◌≡◌, ◌⊎◌, ℕ, ◌+◌, ◌≤◌, ⊤, List, ◌++◌, map, drop, length, Option, Some, None, option_to_list, slice_index, Result, Ok, OnOk, IfErr}
+use Rattle.std.specs.Prelude.{◌≡◌, ◌⊎◌, ℕ, ◌+◌, ◌≤◌, ⊤, List, ◌++◌, map, drop, length, Option, Some, None, option_to_list, slice_index, Result, Ok, OnOk, IfOk, IfErr, IfSome}
 use Rattle.lane_deal.specs.declared.step.Step.{Step}
 use Rattle.lane_deal.specs.declared.step.Step.TheVariants.{End}
 use Rattle.std.specs.List.{filter_map}
@@ -7,7 +7,7 @@ use Rattle.mrt_frame.specs.Devices.{HasFailed}
 use Rattle.mrt_frame.specs.declared.error.ReplayError.{ReplayError}
 use Rattle.mrt_frame.specs.declared.error.ReplayError.TheVariants as errors
 use Rattle.mrt_body.specs.declared.standing.Standing.TheVariants as standings
-use Rattle.mrt_body.specs.Units.{unit_of}
+use Rattle.mrt_body.specs.Units.{unit_of, IsSmallUnit}
 use Rattle.mrt_body.specs.declared.unit.Damage.{Damage}
 use Rattle.mrt_body.specs.declared.unit.Found.{Found}
 use Rattle.mrt_body.specs.declared.unit.Found.TheVariants as found
@@ -52,6 +52,10 @@ pub record ReadsOn (u : UnitsState) (known : List (Option (List ℕ))) (before :
   pub sound : OnOk result (after ≡ before)
   pub cause : IfErr result (StopsReading u known before after)
   pub at_end : result ≡ Ok End → u'.file ≡ u'.count
+
+-- a unit that comes is small, and where none comes, the end is that of the last file
+abbrev pub YieldsNext : UnitsState → Result (Option ReplayUnit) ReplayError → Type 0
+YieldsNext u result = IfOk result (λ next. IfSome next IsSmallUnit × (next ≡ None → u.file ≡ u.count))
 
 -- these refusals were listed, and then came a unit or the end
 pub record Asked (r r' : List Damage) (u : UnitsState) (known : List (Option (List ℕ))) (u' : UnitsState)

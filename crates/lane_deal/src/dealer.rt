@@ -6,7 +6,7 @@ ghost use Rattle.rtrb.specs.Ring.{known_free};
 ghost use Rattle.std.specs.Prelude.{slice_index_or};
 ghost use Rattle.mrt_body.specs.Units.{IsSmallUnit};
 ghost use Rattle.mrt_frame.specs.declared.error.ReplayError.TheVariants.{Read};
-ghost use Rattle.lane_deal.specs.Asking.{Asked, AskedInVain, StopsReading};
+ghost use Rattle.lane_deal.specs.Asking.{Asked, AskedInVain, StopsReading, YieldsNext};
 ghost use Rattle.lane_deal.specs.Feeds.{Dealt};
 
 use crate::dealing::Dealing;
@@ -63,12 +63,11 @@ fn ask<R: Source>(
 ) -> Result<Option<Unit>, ReplayError>
     requires { length files.old ≡ units.old.count }
     ensures count { units.new.count ≡ units.old.count }
-    ensures small { IfOk result (λ next. IfSome next IsSmallUnit) }
+    ensures yields { YieldsNext units.new result }
     ensures sound { OnOk result (map R.failure_count files.new ≡ map R.failure_count files.old) }
     ensures cause { IfErr result
         (StopsReading units.old (map R.remaining files.old) (map R.failure_count files.old)
         (map R.failure_count files.new)) }
-    ensures at_end { IfOk result (λ next. next ≡ None → units.new.file ≡ units.new.count) }
     ensures asked { MatchResult result
         (λ next. Asked refused.old.items refused.new.items units.old (map R.remaining files.old) units.new
         (map R.remaining files.new) next)
@@ -118,12 +117,11 @@ impl<D: Dealing> Dealer<D> {
     ) -> Result<Option<Unit>, ReplayError>
         requires { length files.old ≡ units.old.count }
         ensures count { units.new.count ≡ units.old.count }
-        ensures small { IfOk result (λ next. IfSome next IsSmallUnit) }
+        ensures yields { YieldsNext units.new result }
         ensures sound { OnOk result (map R.failure_count files.new ≡ map R.failure_count files.old) }
         ensures cause { IfErr result
             (StopsReading units.old (map R.remaining files.old) (map R.failure_count files.old)
             (map R.failure_count files.new)) }
-        ensures at_end { IfOk result (λ next. next ≡ None → units.new.file ≡ units.new.count) }
         ensures next { MatchResult result
             (λ next. Next self.old self.new units.old (map R.remaining files.old) units.new (map R.remaining files.new)
             next)
