@@ -9,7 +9,7 @@ use Rattle.std.proofs.lemmas.List.Sorted.{IsPermutation-map, IsPermutation-sym}
 use Rattle.std.proofs.lemmas.Map.Keys.{IsDistinct-IsPermutation, IsDistinct-prop}
 use Rattle.std.proofs.lemmas.Cmp.{nat_eq_equiv}
 use Rattle.std.proofs.lemmas.Simd.{map-map}
-use Rattle.rtrb.specs.Ring.{sent, known_free, received, known_items, consumer_capacity, IsPair}
+use Rattle.lane_deal.specs.UnitRings.{sent, known_free, received, known_items, ring_capacity, IsPair}
 use Rattle.mrt_body.specs.declared.unit.Damage.{Damage}
 use Rattle.mrt_body.specs.declared.unit.Unit.{Unit as ReplayUnit}
 use Rattle.peer_tables.specs.Peers.{peers_of}
@@ -98,8 +98,8 @@ module _ {M : Type 0} {g : Ghosts M SharedRoute} where
     λ lane d x l.
         let same : worker_state (get_or ws' lane x) ≡ worker_state (get_or ws lane x) =
         sym (get_or-map worker_state ws' lane x) ∙ ap (λ ss. get_or ss lane (worker_state x)) e ∙ get_or-map worker_state ws lane x in
-        subst (λ c. IsPair (get_or fs lane d).producer c × (consumer_capacity c ≡ capacity) × (received c ≡ []) × (known_items c ≡ sent (get_or fs lane d).producer)
-        × (length (sent (get_or fs lane d).producer) ≤ capacity) × (capacity ≤ known_free (get_or fs lane d).producer + length (sent (get_or fs lane d).producer)))
+        subst (λ c. IsPair (get_or fs lane d).producer c × (ring_capacity (get_or fs lane d).producer ≡ capacity) × (received c ≡ []) × (known_items c ≡ sent (get_or fs lane d).producer)
+        × (length (sent (get_or fs lane d).producer) ≤ capacity) × (known_free (get_or fs lane d).producer + length (sent (get_or fs lane d).producer) ≡ capacity))
         (sym (ap (λ s. s.consumer) same)) (h.1 lane d x l),
   )
 

@@ -2,7 +2,7 @@
 use Rattle.std.proofs.Common.{◌≡◌, ℕ, ◌<◌, ◌≤◌, List, [], ◌++◌, length, slice_index_or, sym, ap, ◌∙◌, subst, append_assoc, arith, length-append}
 use Rattle.std.specs.List.{AllZip}
 use Rattle.std.proofs.lemmas.List.Elements.{length_all_zip, AllZip-get_or}
-use Rattle.rtrb.specs.Ring.{sent, received, known_items}
+use Rattle.lane_deal.specs.UnitRings.{sent, received, known_items}
 use Rattle.lane_deal.specs.declared.numbered.Numbered.{Numbered}
 use Rattle.lane_deal.specs.declared.feed.Feed.{Feed}
 use Rattle.lane_deal.specs.declared.worker.Worker.{Worker}
@@ -19,7 +19,7 @@ module _ {S : Type 0} (stands_for : S → List Numbered → Type 0) (capacity : 
   lane_stays f f₁ w w₁ xs r p q =
       let a = p.ring in
       let b = q.took.ring in
-      ((b.0.0 ∙ (r.0.0 ∙ sym a.0.0), b.0.1 ∙ (r.0.1 ∙ sym a.0.1), b.0.2 ∙ (r.0.2 ∙ sym a.0.2), b.0.3 ∙ (r.0.3 ∙ sym a.0.3)), b.1 ∙ r.1)
+      ((b.0.0 ∙ (r.0.0 ∙ sym a.0.0), b.0.1 ∙ (r.0.1 ∙ sym a.0.1), b.0.2 ∙ (r.0.2 ∙ sym a.0.2), b.0.3 ∙ (r.0.3 ∙ sym a.0.3)), a.1 ∙ r.1)
 
   -- what was taken in the round and what waits after it is what waited before it and what was pushed
   pub lane_order : (f f₁ f₂ : Feed) (w w₁ w₂ : Worker S) (xs : List Numbered) → IsReady capacity f w → Pushed f f₁ xs → (q : Worked stands_for w w₁) → Renewed capacity f₁ w₁ f₂ w₂ → q.items ++ sent f₂.producer ≡ sent f.producer ++ xs

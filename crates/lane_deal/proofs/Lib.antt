@@ -8,7 +8,8 @@ pub mod RoundLaws
 pub mod RouteCounts
 pub mod Examples
 pub mod PeerPositions
-pub mod Moves
+pub mod UnitLists
+pub mod MovedLists
 pub mod Pairs
 pub mod Working
 pub mod Renewals

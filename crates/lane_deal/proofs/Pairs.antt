@@ -1,5 +1,5 @@
 -- Two lists, position by position.
-use Rattle.std.proofs.Common.{List, [], ◌∷◌, ◌++◌, Result, Ok, Err, OnOk}
+use Rattle.std.proofs.Common.{ℕ, zero, suc, ◌<◌, List, [], ◌∷◌, ◌++◌, length, get_or, Result, Ok, Err, OnOk, arith}
 use Rattle.std.specs.List.{AllZip}
 
 module _ {A B : Type 0} (R : A → B → Type 0) where
@@ -14,3 +14,10 @@ module _ {A B : Type 0} (R : A → B → Type 0) where
   pub all_zip_both_ok : {T E : Type 0} (r : Result T E) (xs : List A) (ys : List B) (us : List A) (vs : List B) → OnOk r (AllZip R xs ys) → OnOk r (AllZip R us vs) → OnOk r (AllZip R (xs ++ us) (ys ++ vs))
   all_zip_both_ok (Ok x) xs ys us vs p q = all_zip_both xs ys us vs p q
   all_zip_both_ok (Err e) xs ys us vs p q = p
+
+  -- at one position
+  pub all_zip_at : (xs : List A) (ys : List B) (i : ℕ) (d : A) (e : B) → AllZip R xs ys → i < length xs → R (get_or xs i d) (get_or ys i e)
+  all_zip_at [] ys i d e p l = absurd (omega arith)
+  all_zip_at (x ∷ xs) [] i d e p l = absurd p
+  all_zip_at (x ∷ xs) (y ∷ ys) zero d e p l = p.0
+  all_zip_at (x ∷ xs) (y ∷ ys) (suc i) d e p l = all_zip_at xs ys i d e p.1 (omega arith)

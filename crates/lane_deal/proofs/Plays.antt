@@ -4,7 +4,7 @@ use Rattle.std.specs.Prelude.{slice_get, option_to_list, IfOk}
 use Rattle.std.specs.List.{filter, filter_map, count_by}
 use Rattle.std.proofs.lemmas.List.{length-map, nil_from_length, get_or_default}
 use Rattle.std.proofs.lemmas.List.Sums.{length-filter}
-use Rattle.rtrb.specs.Ring.{known_items}
+use Rattle.lane_deal.specs.UnitRings.{known_free, ring_capacity}
 use Rattle.mrt_frame.specs.declared.error.ReplayError.{ReplayError}
 use Rattle.mrt_frame.specs.declared.error.ReplayError.TheVariants.{Read, Write, Memory, Records, Spent as SpentBefore}
 use Rattle.mrt_body.specs.declared.unit.Damage.{Damage}
@@ -274,12 +274,14 @@ module _ {M D : Type 0} {g : Ghosts M SharedRoute} where
 -- ---- what waits
 
 module _ {M : Type 0} {g : Ghosts M SharedRoute} (capacity : ℕ) (fs : List Feed) (ws : List (Worker (Seats M g))) (ready : AreReady capacity fs ws) where
-  -- the worker knows all that waits
-  pub waits_at : (lane : ℕ) (state : LaneState) → slice_get (lane_states fs ws) lane ≡ Some state → (e : Worker (Seats M g)) → known_items (get_or ws lane e).consumer ≡ state.ring.sent
-  waits_at lane state is e =
+  -- the dealer knows how many units wait
+  pub waits_at : (lane : ℕ) (state : LaneState) → slice_get (lane_states fs ws) lane ≡ Some state → (d : Feed) (n : ℕ) → n + known_free (get_or fs lane d).producer ≡ ring_capacity (get_or fs lane d).producer → n ≡ length state.ring.sent
+  waits_at lane state is d n count =
       let at = lane_at fs ws lane state is in
-      let same : get_or ws lane e ≡ get_or ws lane at.worker = get_or_default ws lane e at.worker (let l = at.within in let c = ready.0 in omega arith) in
-      ap (λ w. known_items w.consumer) same ∙ (ready.1 lane at.feed at.worker at.within).3 ∙ sym (ap (λ s. s.ring.sent) at.state_is)
+      let same : get_or fs lane d ≡ get_or fs lane at.feed = get_or_default fs lane d at.feed at.within in
+      let counted = subst (λ f. n + known_free f.producer ≡ ring_capacity f.producer) same count in
+      let r = ready.1 lane at.feed at.worker at.within in
+      (let a = r.1 in let b = r.5 in omega arith) ∙ ap length (sym (ap (λ s. s.ring.sent) at.state_is))
 
   pub took_at : (lane : ℕ) (state : LaneState) → slice_get (lane_states fs ws) lane ≡ Some state → (e : Worker (Seats M g)) → (get_or ws lane e).taken ≡ state.took
   took_at lane state is e =
@@ -287,13 +289,14 @@ module _ {M : Type 0} {g : Ghosts M SharedRoute} (capacity : ℕ) (fs : List Fee
       let same : get_or ws lane e ≡ get_or ws lane at.worker = get_or_default ws lane e at.worker (let l = at.within in let c = ready.0 in omega arith) in
       ap (λ w. w.taken) same ∙ sym (ap (λ s. s.took) at.state_is)
 
-  pub known_none : ((lane : ℕ) (state : LaneState) → slice_get (lane_states fs ws) lane ≡ Some state → state.ring.sent ≡ []) → (lane : ℕ) (e : Worker (Seats M g)) → lane < length ws → known_items (get_or ws lane e).consumer ≡ []
-  known_none settled lane e l =
-      let within : lane < length fs = (let c = ready.0 in omega arith) in
-      let f = some_item fs lane within in
-      let is = lane_states-at fs ws lane f e ready.0 within in
-      waits_at lane (lane_state (get_or fs lane f) (get_or ws lane e)) is e ∙ settled lane (lane_state (get_or fs lane f) (get_or ws lane e)) is
+  pub all_free : ((lane : ℕ) (state : LaneState) → slice_get (lane_states fs ws) lane ≡ Some state → state.ring.sent ≡ []) → (lane : ℕ) (d : Feed) (n : ℕ) → lane < length fs → n + known_free (get_or fs lane d).producer ≡ ring_capacity (get_or fs lane d).producer → n ≡ 0
+  all_free settled lane d n l count =
+      let w = some_item ws lane (let c = ready.0 in omega arith) in
+      let is = lane_states-at fs ws lane d w ready.0 l in
+      waits_at lane (lane_state (get_or fs lane d) (get_or ws lane w)) is d n count ∙ ap length (settled lane (lane_state (get_or fs lane d) (get_or ws lane w)) is)
 
-  pub settled_known : ((lane : ℕ) (e : Worker (Seats M g)) → lane < length ws → known_items (get_or ws lane e).consumer ≡ []) → (lane : ℕ) (state : LaneState) → slice_get (lane_states fs ws) lane ≡ Some state → state.ring.sent ≡ []
-  settled_known none lane state is =
-      let at = lane_at fs ws lane state is in sym (waits_at lane state is at.worker) ∙ none lane at.worker (let l = at.within in let c = ready.0 in omega arith)
+  pub settled_free : ((lane : ℕ) (d : Feed) → lane < length fs → known_free (get_or fs lane d).producer ≡ ring_capacity (get_or fs lane d).producer) → (lane : ℕ) (state : LaneState) → slice_get (lane_states fs ws) lane ≡ Some state → state.ring.sent ≡ []
+  settled_free free lane state is =
+      let at = lane_at fs ws lane state is in
+      let none = free lane at.feed at.within in
+      nil_from_length state.ring.sent (sym (waits_at lane state is at.feed 0 (omega arith)))

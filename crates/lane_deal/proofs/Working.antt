@@ -1,10 +1,15 @@
 -- What a worker took, step by step.
 use Rattle.std.proofs.Common.{◌≡◌, ◌+◌, ◌-◌, ◌^◌, ◌<◌, min, List, [], ◌∷◌, ◌++◌, length, refl, sym, ap, ◌∙◌, subst, append_assoc, arith, length-append}
 use Rattle.std.proofs.lemmas.List.{append-nil, nil_from_length}
-use Rattle.rtrb.specs.Ring.{received, known_items, SameConsumer}
+use Rattle.rtrb.specs.Ring.{SameConsumer}
+use Rattle.rtrb.specs.Ring.{received as received_lists}
+use Rattle.lane_deal.specs.declared.unit_list.UnitList.{UnitList}
+use Rattle.lane_deal.specs.UnitLists.{IsUnitList, units_of, units_of_lists}
+use Rattle.lane_deal.specs.UnitRings.{received, known_items, known_lists}
+use Rattle.lane_deal.proofs.UnitLists.{units_pushed}
 use Rattle.lane_deal.specs.declared.numbered.Numbered.{Numbered}
 use Rattle.lane_deal.specs.declared.worker.Worker.{Worker}
-use Rattle.lane_deal.specs.LaneWorkers.{Pops, Took, TookFront, TookSome, Takes, Worked}
+use Rattle.lane_deal.specs.LaneWorkers.{Took, TookFront, TookSome, Takes, Worked}
 
 module _ {S : Type 0} (stands_for : S → List Numbered → Type 0) where
   pub Took-nil : (w : Worker S) → w.taken < 2 ^ 64 → Took stands_for w w []
@@ -38,20 +43,21 @@ module _ {S : Type 0} (stands_for : S → List Numbered → Type 0) where
   Worked-both a b c p q =
       record { items = known_items a.consumer ++ q.items; took = Took-append a b c (known_items a.consumer) q.items p q.took; known = (q.items, refl) }
 
-  -- what was popped, and then taken
-  pub TookFront-from : (a b c : Worker S) (items : List Numbered) → b.lane ≡ a.lane → b.taken ≡ a.taken → b.sessions ≡ a.sessions → 0 < length items → Pops a.consumer b.consumer items → Takes stands_for b c items → TookFront stands_for a c
-  TookFront-from a b c items lane count same some p q =
+  -- the units of the list that was popped, which were then taken
+  pub TookFront-from : (a b c : Worker S) (list : UnitList) → b.lane ≡ a.lane → b.taken ≡ a.taken → b.sessions ≡ a.sessions → IsUnitList list → SameConsumer a.consumer b.consumer
+      → received_lists b.consumer ≡ received_lists a.consumer ++ list ∷ [] → known_lists a.consumer ≡ list ∷ known_lists b.consumer → Takes stands_for b c (units_of list) → TookFront stands_for a c
+  TookFront-from a b c list lane count same some ring got left q =
       record {
-        items = items;
+        items = units_of list;
         took = record {
           lane = q.lane ∙ lane;
-          ring = subst (SameConsumer a.consumer) (sym q.ring) p.ring;
-          received = ap received q.ring ∙ p.received;
-          counted = q.counted ∙ ap (λ n. min (n + length items) (2 ^ 64 - 1)) count;
-          sessions = subst (λ s. (taken : List Numbered) → stands_for s taken → stands_for c.sessions (taken ++ items)) same q.sessions;
+          ring = subst (SameConsumer a.consumer) (sym q.ring) ring;
+          received = ap received q.ring ∙ (ap units_of_lists got ∙ units_pushed (received_lists a.consumer) list);
+          counted = q.counted ∙ ap (λ n. min (n + length (units_of list)) (2 ^ 64 - 1)) count;
+          sessions = subst (λ s. (taken : List Numbered) → stands_for s taken → stands_for c.sessions (taken ++ units_of list)) same q.sessions;
         };
-        some = some;
-        left = p.left ∙ ap (λ k. items ++ known_items k) (sym q.ring);
+        some = some.0;
+        left = ap units_of_lists left ∙ ap (λ k. units_of list ++ known_items k) (sym q.ring);
       }
 
   -- the first of the items that were known, and what is left of them
@@ -72,9 +78,9 @@ module _ {S : Type 0} (stands_for : S → List Numbered → Type 0) where
       }
 
   -- nothing is left of them
-  pub TookKnown-all : (a b : Worker S) → TookKnown a b → length (known_items b.consumer) ≡ 0 → Took stands_for a b (known_items a.consumer)
+  pub TookKnown-all : (a b : Worker S) → TookKnown a b → length (known_lists b.consumer) ≡ 0 → Took stands_for a b (known_items a.consumer)
   TookKnown-all a b p none =
-      let nil = nil_from_length (known_items b.consumer) none in
+      let nil = ap units_of_lists (nil_from_length (known_lists b.consumer) none) in
       subst (Took stands_for a b) (sym (p.left ∙ (ap (λ l. p.items ++ l) nil ∙ append-nil p.items))) p.took
 
   pub TookSome-front : (a b : Worker S) → TookFront stands_for a b → TookSome stands_for a b

@@ -1,15 +1,12 @@
 -- Sessions are handed in by the lanes, or given back.
 use Rattle.std.specs.Prelude.{◌≡◌, ℕ, ◌<◌, ◌≤◌, List, map, length, slice_index_or}
 use Rattle.std.specs.List.{flat_map}
-use Rattle.rtrb.specs.declared.consumer.Consumer.{Consumer}
-use Rattle.std.specs.declared.alloc.Global.{Global}
 use Rattle.peer_tables.specs.declared.tables.Seated.{Seated}
 use Rattle.peer_tables.specs.Seats.{seat_of}
 use Rattle.peer_tables.specs.Tables.{Seat}
 use Rattle.bgp_prefix.specs.declared.map.PrefixMap.{Ghosts}
 use Rattle.adj_rib.specs.declared.shared_route.SharedRoute.{SharedRoute}
-use Rattle.lane_deal.specs.declared.numbered.Small.{Small}
-use Rattle.lane_deal.specs.declared.numbered.Numbered.{Numbered}
+use Rattle.lane_deal.specs.UnitRings.{ListConsumer}
 use Rattle.lane_deal.specs.declared.seats.Seats.{Seats}
 use Rattle.lane_deal.specs.declared.worker.Worker.{Worker}
 
@@ -40,7 +37,7 @@ module _ {L S X : Type 0} (state : L → S) (held : S → List X) (with_held : S
 -- a worker, but for where it looks for its sessions
 pub record WorkerState (M : Type 0) : Type 0 where
   pub lane : ℕ
-  pub consumer : Consumer Numbered Global Small
+  pub consumer : ListConsumer
   pub seats : List (Seated M)
   pub taken : ℕ
 

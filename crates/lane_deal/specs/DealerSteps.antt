@@ -1,7 +1,7 @@
 -- What the dealer does in a round.
 use Rattle.std.specs.Prelude.{◌≡◌, ℕ, ◌+◌, ◌-◌, ◌^◌, ◌≤◌, min, List, [], ◌++◌, length, slice_index_or, Option, Some, None, option_to_list, Result, IfOk, OnOk, OnErr, true}
 use Rattle.std.specs.List.{AllByRecursion, filter_map, list_any}
-use Rattle.rtrb.specs.Ring.{known_free}
+use Rattle.lane_deal.specs.UnitRings.{known_free}
 use Rattle.mrt_frame.specs.declared.error.ReplayError.{ReplayError}
 use Rattle.mrt_body.specs.declared.unit.Damage.{Damage}
 use Rattle.mrt_body.specs.declared.unit.Found.{Found}
@@ -59,7 +59,7 @@ module _ {D : Type 0} where
     pub keys : (before : List ReplayUnit) → old.peers.keys.items ≡ peers_of (before ++ option_to_list old.kept) →
         new.peers.keys.items ≡ peers_of ((before ++ filter_map unit_of done) ++ option_to_list new.kept)
 
-  -- a unit is kept: at least as many as its lane's ring had free slots were pushed to it
+  -- a unit is kept: at least as many as its lane's ring had room for were dealt to it
   pub record IsFull (lane_of : ℕ → ℕ) (feeds : List Feed) (new : Dealer D) (dealt : List ReplayUnit) : Type 0 where
     pub unit : ReplayUnit
     pub kept : new.kept ≡ Some unit

@@ -1,6 +1,6 @@
 -- What the dealer does in a round.
 use Rattle.std.specs.Prelude.{◌≡◌, ℕ, ◌+◌, ◌<◌, ◌≤◌, List, ◌++◌, length, filter, ◌==◌, slice_index_or}
-use Rattle.rtrb.specs.Ring.{sent, known_free, SameProducer}
+use Rattle.lane_deal.specs.UnitRings.{sent, known_free, SameProducer}
 use Rattle.lane_deal.specs.declared.numbered.Numbered.{Numbered}
 use Rattle.lane_deal.specs.declared.feed.Feed.{Feed}
 

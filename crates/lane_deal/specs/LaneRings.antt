@@ -1,23 +1,20 @@
 -- A lane between two rounds, and its ring made anew.
 use Rattle.std.specs.Prelude.{◌≡◌, ℕ, ◌+◌, ◌-◌, ◌^◌, ◌<◌, ◌≤◌, min, List, [], ◌++◌, length, slice_index_or}
-use Rattle.rtrb.specs.Ring.{sent, known_free, received, known_items, consumer_capacity, IsPair, SameProducer}
-use Rattle.rtrb.specs.declared.producer.Producer.{Producer}
-use Rattle.std.specs.declared.alloc.Global.{Global}
-use Rattle.lane_deal.specs.declared.numbered.Small.{Small}
 use Rattle.lane_deal.specs.declared.numbered.Numbered.{Numbered}
 use Rattle.lane_deal.specs.declared.feed.Feed.{Feed}
 use Rattle.lane_deal.specs.declared.worker.Worker.{Worker}
 use Rattle.lane_deal.specs.Feeds.{in_lane}
+use Rattle.lane_deal.specs.UnitRings.{sent, known_free, received, known_items, ring_capacity, IsPair}
 
--- the two ends are those of one ring of this capacity, of which the worker knows all items and the dealer all free slots
+-- the two ends are those of one ring of this capacity, of which the worker knows all units and the dealer how many more may wait
 abbrev pub IsReady : {S : Type 0} → ℕ → Feed → Worker S → Type 0
 IsReady capacity feed worker =
     IsPair feed.producer worker.consumer
-    × (consumer_capacity worker.consumer ≡ capacity)
+    × (ring_capacity feed.producer ≡ capacity)
     × (received worker.consumer ≡ [])
     × (known_items worker.consumer ≡ sent feed.producer)
     × (length (sent feed.producer) ≤ capacity)
-    × (capacity ≤ known_free feed.producer + length (sent feed.producer))
+    × (known_free feed.producer + length (sent feed.producer) ≡ capacity)
 
 abbrev pub AreReady : {S : Type 0} → ℕ → List Feed → List (Worker S) → Type 0
 AreReady {S} capacity feeds workers =
@@ -49,18 +46,12 @@ pub record Renewed {S : Type 0} (capacity : ℕ) (feed : Feed) (worker : Worker 
   pub received : received worker'.consumer ≡ []
   pub known : known_items worker'.consumer ≡ sent feed'.producer
   pub room : length (sent feed'.producer) ≤ capacity
-  pub free : capacity ≤ known_free feed'.producer + length (sent feed'.producer)
-  pub fits : consumer_capacity worker'.consumer ≡ capacity
-
--- these items were pushed to slots that were known to be free
-pub record Moved (before after : Producer Numbered Global Small) (items : List Numbered) : Type 0 where
-  pub ring : SameProducer before after
-  pub sent : sent after ≡ sent before ++ items
-  pub free : known_free before ≡ known_free after + length items
+  pub free : known_free feed'.producer + length (sent feed'.producer) ≡ capacity
+  pub fits : ring_capacity feed'.producer ≡ capacity
 
 -- the two ends are those of one ring of this capacity
 abbrev pub IsLane : {S : Type 0} → ℕ → Feed → Worker S → Type 0
-IsLane capacity feed worker = IsPair feed.producer worker.consumer × (consumer_capacity worker.consumer ≡ capacity)
+IsLane capacity feed worker = IsPair feed.producer worker.consumer × (ring_capacity feed.producer ≡ capacity)
 
 -- each lane was renewed
 pub record RenewedAll {S : Type 0} (capacity : ℕ) (feeds : List Feed) (workers : List (Worker S)) (feeds' : List Feed)

@@ -1,7 +1,7 @@
 -- What one round does to all lanes.
 use Rattle.std.specs.Prelude.{◌≡◌, ℕ, ◌<◌, ◌≤◌, List, ◌++◌, length, slice_index_or, Option, Result}
 use Rattle.std.specs.List.{filter_map}
-use Rattle.rtrb.specs.Ring.{sent}
+use Rattle.lane_deal.specs.UnitRings.{sent}
 use Rattle.mrt_frame.specs.declared.error.ReplayError.{ReplayError}
 use Rattle.mrt_body.specs.Units.{unit_of}
 use Rattle.mrt_body.specs.ToCome.{UnitsState}

@@ -1,22 +1,17 @@
 -- What a worker does in a round.
-use Rattle.std.specs.Prelude.{◌≡◌, ◌+◌, ◌-◌, ◌^◌, ◌<◌, min, List, ◌++◌, map, length}
+use Rattle.std.specs.Prelude.{◌≡◌, ◌+◌, ◌-◌, ◌^◌, ◌<◌, min, List, ◌++◌, length}
+use Rattle.std.specs.List.{AllZip}
 use mathlib.Core.List.{IsPrefix}
-use Rattle.rtrb.specs.Ring.{received, known_items, SameConsumer}
+use Rattle.rtrb.specs.Ring.{SameConsumer}
+use Rattle.adj_rib.specs.RouteSets.{IsAheadOf}
+use Rattle.adj_rib.specs.declared.read_ahead.ReadAhead.{ReadAhead}
 use Rattle.lane_deal.specs.declared.numbered.Numbered.{Numbered}
-use Rattle.lane_deal.specs.declared.popped.Popped.{Popped}
 use Rattle.lane_deal.specs.declared.worker.Worker.{Worker}
-use Rattle.rtrb.specs.declared.consumer.Consumer.{Consumer}
-use Rattle.std.specs.declared.alloc.Global.{Global}
-use Rattle.lane_deal.specs.declared.numbered.Small.{Small}
+use Rattle.lane_deal.specs.UnitRings.{received, known_items}
 
-abbrev pub items_of : List Popped → List Numbered
-items_of popped = map (λ near. near.item) popped
-
--- these items were popped, the first of those that were known
-pub record Pops (before after : Consumer Numbered Global Small) (items : List Numbered) : Type 0 where
-  pub ring : SameConsumer before after
-  pub received : received after ≡ received before ++ items
-  pub left : known_items before ≡ items ++ known_items after
+-- each of these was read ahead of the unit at its index
+abbrev pub AreReadAhead : List Numbered → List ReadAhead → Type 0
+AreReadAhead items ahead = AllZip (λ item read. IsAheadOf item.unit.payload read) items ahead
 
 module _ {S : Type 0} (stands_for : S → List Numbered → Type 0) where
   -- the worker took these items, in order, into its sessions

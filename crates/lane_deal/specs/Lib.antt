@@ -6,6 +6,8 @@ pub mod Replayers
 pub mod Rounds
 pub mod Numbers
 pub mod Keys
+pub mod UnitLists
+pub mod UnitRings
 pub mod Feeds
 pub mod LaneRings
 pub mod LaneWorkers

@@ -12,7 +12,7 @@ use Rattle.lane_deal.specs.declared.numbered.Numbered.{Numbered}
 use Rattle.lane_deal.specs.Lanes.{lane_units, seats_of_lane}
 use Rattle.lane_deal.specs.Numbers.{numbered}
 
--- What the ends of a lane's ring tell: the producer's, what it sent and how many slots it knows as free; the consumer's, what it
+-- What the ends of a lane's ring tell: the producer's, what it sent and how many more units may wait; the consumer's, what it
 -- received and what it knows to be waiting. Each unit goes with its peer's number.
 pub record RingState : Type 0 where
   pub sent : List Numbered
@@ -39,8 +39,8 @@ pub record ReplayerState : Type 0 where
 abbrev pub held_routes : ReplayerState → List (RouteKey × Route)
 held_routes r = flat_map (λ lane. seat_routes lane.seats) r.lanes
 
--- These units wait in a ring of this capacity: all that was sent, none of it received and all of it known to wait. All other slots are
--- known as free.
+-- These units wait in a ring of this capacity: all that was sent, none of it received and all of it known to wait. That as many more
+-- may wait as it has room for is known.
 pub record WaitIn (capacity : ℕ) (waiting : List Numbered) (ring : RingState) : Type 0 where
   pub sent : ring.sent ≡ waiting
   pub received : ring.received ≡ []

@@ -33,7 +33,7 @@ pub record PlaysRound (dealing : ℕ → ℕ → ℕ) (capacity : ℕ) (old new 
 
 -- ---- why it stopped
 
--- a unit is kept, and those that waited in its lane and those dealt there would leave no slot
+-- a unit is kept, and those that waited in its lane and those dealt there would fill its ring
 abbrev pub IsBlocked : (ℕ → ℕ → ℕ) → ℕ → ReplayerState → ReplayerState → List ReplayUnit → Type 0
 IsBlocked dealing capacity old new dealt =
     (unit : ReplayUnit) × (state : LaneState) × (new.kept ≡ Some unit) ×

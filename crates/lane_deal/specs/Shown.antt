@@ -1,6 +1,6 @@
 -- What the halves of lanes show.
 use Rattle.std.specs.Prelude.{Bool, List, [], ◌∷◌, map}
-use Rattle.rtrb.specs.Ring.{sent, known_free, received, known_items}
+use Rattle.lane_deal.specs.UnitRings.{sent, known_free, received, known_items}
 use Rattle.peer_tables.specs.Seats.{seat_of}
 use Rattle.bgp_prefix.specs.declared.map.PrefixMap.{Ghosts}
 use Rattle.adj_rib.specs.declared.shared_route.SharedRoute.{SharedRoute}

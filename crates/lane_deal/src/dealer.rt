@@ -2,7 +2,7 @@
 
 ghost use Rattle.std.specs.Prelude.{◌≡◌, ℕ, ◌<◌, ◌∷◌, [], length, map, true, false, IfErr, IfSome, IfOk, MatchResult, OnOk, None};
 ghost use Rattle.std.specs.Option.{ForSome};
-ghost use Rattle.rtrb.specs.Ring.{known_free};
+ghost use Rattle.lane_deal.specs.UnitRings.{known_free};
 ghost use Rattle.std.specs.Prelude.{slice_index_or};
 ghost use Rattle.mrt_body.specs.Units.{IsSmallUnit};
 ghost use Rattle.mrt_frame.specs.declared.error.ReplayError.TheVariants.{Read};
@@ -34,7 +34,7 @@ pub struct Dealer<D> {
     ghost small: { ForSome kept IsSmallUnit },
 }
 
-/// Whether the lane's ring has a free slot, at once or at one of this many further looks.
+/// Whether the lane's ring has room for another unit, at once or at one of this many further looks.
 fn has_room(feeds: &mut [Feed], lane: usize, looks: u32, over: &AtomicBool) -> bool
     requires { lane < length feeds.old }
     ensures looked { (lane_of : ℕ → ℕ) → Dealt lane_of feeds.old feeds.new [] }
@@ -44,14 +44,21 @@ fn has_room(feeds: &mut [Feed], lane: usize, looks: u32, over: &AtomicBool) -> b
     feeds[lane].has_room(looks, over)
 }
 
-/// Pushes the item to its lane's ring, which has a free slot.
-fn deal_one<G: Gate>(gate: &G, lane: usize, item: Numbered, feeds: &mut [Feed])
+/// Deals the unit to its lane's ring, which has room for it.
+fn deal_one<G: Gate>(
+    alloc: Global,
+    gate: &G,
+    lane: usize,
+    item: Numbered,
+    feeds: &mut [Feed],
+) -> Result<(), Memory>
     requires lane { lane < length feeds.old }
     requires small { IsSmallUnit item.unit }
     requires room { (d : _) → 0 < known_free (slice_index_or feeds.old lane d).producer }
-    ensures { (lane_of : ℕ → ℕ) → lane_of item.number ≡ lane → Dealt lane_of feeds.old feeds.new (item ∷ []) }
+    ensures { OnOk result
+        ((lane_of : ℕ → ℕ) → lane_of item.number ≡ lane → Dealt lane_of feeds.old feeds.new (item ∷ [])) }
 {
-    feeds[lane].push(gate, lane, item);
+    feeds[lane].push(alloc, gate, lane, item)
 }
 
 /// Lists what the files refuse, until they yield a unit or end.
@@ -168,7 +175,7 @@ impl<D: Dealing> Dealer<D> {
                 self.kept = Some(unit);
                 return Ok(Step::Blocked);
             }
-            deal_one(gate, lane, Numbered { number, unit }, feeds);
+            deal_one(alloc, gate, lane, Numbered { number, unit }, feeds)?;
             self.dealt = self.dealt.saturating_add(1);
         }
         Ok(Step::FullBatch)

@@ -1,13 +1,12 @@
 ghost use Rattle.std.specs.Prelude.{◌≡◌, ◌≤◌, OnOk, IfOk, length, [], ℕ, ◌<◌, slice_index_or};
-ghost use Rattle.rtrb.specs.Ring.{IsPair, consumer_capacity, known_items, known_free, sent};
-ghost use Rattle.lane_deal.specs.LaneRings.{Moved, Renewed, RenewedAll, IsLane, AreFresh};
+ghost use Rattle.lane_deal.specs.UnitRings.{IsPair, ring_capacity};
+ghost use Rattle.lane_deal.specs.LaneRings.{Renewed, RenewedAll, IsLane, AreFresh};
 
 use crate::feed::Feed;
-use crate::numbered::{Numbered, Small};
 use crate::sessions::Sessions;
+use crate::unit_producer::UnitProducer;
 use crate::worker::Worker;
 use bgp_prefix::Memory;
-use rtrb::{Consumer, Producer, RingBuffer};
 use std::alloc::Global;
 
 /// Compares both ends of the lane's ring, and moves the pending items to a new ring.
@@ -18,29 +17,17 @@ pub fn renew<S>(
     worker: &mut Worker<S>,
 ) -> Result<(), Memory>
     requires pair { IsPair feed.old.producer worker.old.consumer }
-    requires capacity { consumer_capacity worker.old.consumer ≡ capacity }
+    requires capacity { ring_capacity feed.old.producer ≡ capacity }
     ensures { OnOk result (Renewed capacity feed.old worker.old feed.new worker.new) }
 {
-    worker.consumer.slots_beside(&mut feed.producer);
-    let (mut producer, mut consumer) = RingBuffer::with_protocol::<Global, Small>(alloc, capacity)?;
-    move_waiting(&mut worker.consumer, &mut producer);
-    consumer.slots_beside(&mut producer);
+    feed.producer.compare(&mut worker.consumer);
+    let (mut producer, mut consumer) = UnitProducer::new(alloc, capacity)?;
+    producer.move_lists(&mut worker.consumer)?;
+    producer.move_filling(alloc, &mut feed.producer)?;
+    producer.compare(&mut consumer);
     feed.producer = producer;
     worker.consumer = consumer;
     Ok(())
-}
-
-// Moves all items that are known to be pending.
-fn move_waiting(
-    from: &mut Consumer<Numbered, Global, Small>,
-    to: &mut Producer<Numbered, Global, Small>,
-)
-    requires { length (known_items from.old) ≤ known_free to.old }
-    ensures { Moved to.old to.new (known_items from.old) }
-{
-    for moved in 0..from.cached_slots() {
-        to.push_reserved(from.pop_known());
-    }
 }
 
 /// Renews each lane.
@@ -72,7 +59,7 @@ pub fn make_lanes<S: Sessions + Drop>(
     let mut feeds = Vec::new(alloc);
     let mut workers = Vec::new(alloc);
     for lane in 0..count {
-        let (producer, consumer) = RingBuffer::with_protocol::<Global, Small>(alloc, capacity)?;
+        let (producer, consumer) = UnitProducer::new(alloc, capacity)?;
         feeds.push(Feed { producer, dealt: 0 })?;
         workers.push(Worker {
             lane,

@@ -12,7 +12,6 @@ mod lanes;
 mod numbered;
 mod peer_numbers;
 mod plan;
-mod popped;
 mod replayer;
 mod round;
 mod schedule;
@@ -22,6 +21,8 @@ mod sessions;
 mod state;
 mod step;
 mod turn;
+mod unit_list;
+mod unit_producer;
 mod worker;
 
 pub use dealing::{ByBlocks, ByList, ByTurns, Dealing};

@@ -1,5 +1,6 @@
-ghost use Rattle.mrt_body.specs.Units.{IsSmallUnit};
+ghost use Rattle.lane_deal.specs.UnitLists.{IsUnitList};
 
+use crate::unit_list::UnitList;
 use mrt_body::Unit;
 use rtrb::Protocol;
 
@@ -10,10 +11,10 @@ pub struct Numbered {
     pub unit: Unit,
 }
 
-/// A ring takes only units whose bytes number at most 16,777,216.
+/// A ring takes only lists of units whose bytes number at most 16,777,216, and no empty list.
 #[derive(Clone, Copy)]
 pub struct Small;
 
-impl Protocol<Numbered> for Small {
-    ghost allows = { λ _ item. IsSmallUnit item.unit };
+impl Protocol<UnitList> for Small {
+    ghost allows = { λ _ list. IsUnitList list };
 }

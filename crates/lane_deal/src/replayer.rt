@@ -301,11 +301,11 @@ impl<M: PrefixMap<SharedRoute>, D: Dealing> Replayer<M, D> {
         ensures waiting { self.now.state ≢ Spent → (state : LaneState) →
             slice_get (shown self.now).lanes lane ≡ Some state → result ≡ length state.ring.sent }
     {
-        let workers = self.workers.as_slice();
-        if lane >= workers.len() {
+        let feeds = self.feeds.as_slice();
+        if lane >= feeds.len() {
             return 0;
         }
-        workers[lane].consumer.cached_slots()
+        feeds[lane].producer.waiting()
     }
 
     /// Whether all rings are empty.
@@ -313,8 +313,8 @@ impl<M: PrefixMap<SharedRoute>, D: Dealing> Replayer<M, D> {
         ensures settled { self.now.state ≢ Spent → result ≡ true → IsSettled (shown self.now) }
         ensures waits { self.now.state ≢ Spent → IsSettled (shown self.now) → result ≡ true }
     {
-        for worker in &self.workers {
-            if worker.consumer.cached_slots() > 0 {
+        for feed in &self.feeds {
+            if feed.producer.waiting() > 0 {
                 return false;
             }
         }

@@ -7,7 +7,6 @@ ghost use Rattle.peer_tables.specs.Seats.{seat_of};
 ghost use Rattle.lane_deal.specs.Seating.{AreIndexed, SeatFor, TakenAt};
 
 use crate::numbered::Numbered;
-use crate::popped::Popped;
 use crate::sessions::Sessions;
 use adj_rib::{ReadAhead, Session, SharedRoute};
 use bgp_prefix::{Memory, PrefixMap};
@@ -166,24 +165,24 @@ impl<M: PrefixMap<SharedRoute> + Drop> Seats<M> {
         mem::replace(&mut self.seats, given)
     }
 
-    /// Returns the session that probably takes a popped unit.
-    fn session_near(&self, near: &Popped) -> Option<&Session<M>> {
-        let at = self.position_of(near.item.number)?;
+    /// Returns the session that probably takes a unit.
+    fn session_near(&self, item: &Numbered) -> Option<&Session<M>> {
+        let at = self.position_of(item.number)?;
         let seat = self.seats.get(at)?;
         Some(&seat.session)
     }
 
-    /// Prefetches the slots where the routes of all popped units would be, and then these routes. The returned number has no meaning.
-    fn touch(&self, popped: &[Popped]) -> usize {
+    /// Prefetches the slots where the routes of all these units would be, and then these routes. The returned number has no meaning.
+    fn touch(&self, items: &[Numbered], ahead: &[ReadAhead]) -> usize {
         let mut touched = 0usize;
-        for near in popped {
-            if let Some(session) = self.session_near(near) {
-                touched = touched.saturating_add(session.prefetch_slot(&near.ahead));
+        for (item, read) in items.iter().zip(ahead) {
+            if let Some(session) = self.session_near(item) {
+                touched = touched.saturating_add(session.prefetch_slot(read));
             }
         }
-        for near in popped {
-            if let Some(session) = self.session_near(near) {
-                touched = touched.saturating_add(session.prefetch_route(&near.ahead));
+        for (item, read) in items.iter().zip(ahead) {
+            if let Some(session) = self.session_near(item) {
+                touched = touched.saturating_add(session.prefetch_route(read));
             }
         }
         touched
@@ -206,8 +205,8 @@ impl<M: PrefixMap<SharedRoute> + Drop> Sessions for Seats<M> {
         }
     }
 
-    fn prefetch(&mut self, popped: &[Popped]) {
-        self.prefetched = self.touch(popped);
+    fn prefetch(&mut self, items: &[Numbered], ahead: &[ReadAhead]) {
+        self.prefetched = self.touch(items, ahead);
     }
 
     fn take(&mut self, alloc: Global, item: &Numbered, ahead: &ReadAhead) -> Result<(), Memory> {

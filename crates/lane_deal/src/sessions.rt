@@ -1,5 +1,4 @@
 use crate::numbered::Numbered;
-use crate::popped::Popped;
 use adj_rib::ReadAhead;
 use bgp_prefix::Memory;
 use std::alloc::Global;
@@ -17,7 +16,7 @@ pub trait Sessions {
         ensures { stands_for result [] };
 
     /// Prefetches a little of what the sessions will need to take these, so that the cache misses overlap.
-    fn prefetch(&mut self, popped: &[Popped])
+    fn prefetch(&mut self, items: &[Numbered], ahead: &[ReadAhead])
         ensures { (taken : List Numbered) → stands_for self.old taken → stands_for self.new taken };
 
     /// Takes the next unit, with what was read ahead of it.

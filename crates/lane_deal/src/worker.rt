@@ -1,13 +1,13 @@
 ghost use Rattle.std.specs.Prelude.{◌≡◌, OnOk, [], length, ◌<◌, true};
-ghost use Rattle.rtrb.specs.Ring.{known_items, ConsumerLooked};
 ghost use Rattle.std.specs.List.{AllZip};
 ghost use Rattle.std.specs.Thread.{IsSync, IsSend};
-ghost use Rattle.lane_deal.specs.LaneWorkers.{Pops, Worked, items_of};
+ghost use Rattle.lane_deal.specs.LaneWorkers.{Worked, AreReadAhead};
 
 use crate::gate::Gate;
 use crate::numbered::{Numbered, Small};
-use crate::popped::Popped;
 use crate::sessions::Sessions;
+use crate::unit_list::UnitList;
+use adj_rib::ReadAhead;
 use bgp_prefix::Memory;
 use rtrb::Consumer;
 use std::alloc::Global;
@@ -18,7 +18,7 @@ use std::thread::{Threads, join_mut, yield_now};
 #[derive(Drop)]
 pub struct Worker<S> {
     pub lane: usize,
-    pub consumer: Consumer<Numbered, Global, Small>,
+    pub consumer: Consumer<UnitList, Global, Small>,
     pub sessions: S,
     pub taken: u64,
 }
@@ -30,47 +30,25 @@ pub struct Patience {
     pub batch: u64,
 }
 
-/// The maximum number of units a worker pops before it takes them: what it will read of them is prefetched.
-const NEAR_UNITS: usize = 32;
-
-/// How often a worker lets other threads run where its ring has fewer items than it pops at once.
-const PAUSES: u32 = 4;
-
-/// Whether an item is pending. Where few are, it lets other threads run before it looks again, unless the round is over:
-/// what is popped together is prefetched together.
-fn has_items(consumer: &mut Consumer<Numbered, Global, Small>, is_over: bool) -> bool
-    ensures looked { ConsumerLooked consumer.old consumer.new }
-    ensures some { result ≡ true → 0 < length (known_items consumer.new) }
-{
-    if !is_over && consumer.slots() < NEAR_UNITS {
-        for pause in 0..PAUSES {
-            yield_now();
-        }
-    }
-    consumer.slots() > 0
-}
-
-/// Pops the first items of those known to be pending.
-fn pop_near(
+/// Reads ahead of each unit of a list, by way of a buffer, whose contents are replaced.
+fn read_ahead(
     alloc: Global,
-    consumer: &mut Consumer<Numbered, Global, Small>,
     buffer: &mut Vec<u8>,
-    popped: &mut Vec<Popped>,
+    items: &[Numbered],
+    ahead: &mut Vec<ReadAhead>,
 ) -> Result<(), Memory>
-    requires known { 0 < length (known_items consumer.old) }
-    requires empty { popped.old.items ≡ [] }
-    ensures some { OnOk result (0 < length popped.new.items) }
-    ensures pops { OnOk result (Pops consumer.old consumer.new (items_of popped.new.items)) }
+    ensures { OnOk result (AreReadAhead items.now ahead.new.items) }
 {
-    for taken in 0..consumer.cached_slots().min(NEAR_UNITS) {
-        let item = consumer.pop_known();
-        popped.push(Popped::new(alloc, buffer, item))?;
+    ahead.clear();
+    for item in items {
+        ahead.push(ReadAhead::of(alloc, buffer, &item.unit))?;
     }
     Ok(())
 }
 
 impl<S: Sessions> Worker<S> {
     ghost use Rattle.lane_deal.specs.LaneWorkers.{Took, TookFront, TookSome, Takes, Worked};
+    ghost use Rattle.lane_deal.specs.UnitRings.{known_items, known_lists};
 
     /// Takes what it knows to be in its ring, and then what it finds by looking again.
     pub fn run<G: Gate>(
@@ -82,10 +60,10 @@ impl<S: Sessions> Worker<S> {
     ) -> Result<(), Memory>
         ensures { OnOk result (Worked S.stands_for self.old self.new) }
     {
-        let mut popped = Vec::with_capacity(alloc, NEAR_UNITS)?;
+        let mut ahead = Vec::new(alloc);
         let mut buffer = Vec::new(alloc);
-        self.take_all_known(alloc, gate, &mut buffer, &mut popped)?;
-        self.look_again(alloc, gate, over, patience, &mut buffer, &mut popped)
+        self.take_all_known(alloc, gate, &mut buffer, &mut ahead)?;
+        self.look_again(alloc, gate, over, patience, &mut buffer, &mut ahead)
     }
 
     fn take_all_known<G: Gate>(
@@ -93,13 +71,13 @@ impl<S: Sessions> Worker<S> {
         alloc: Global,
         gate: &G,
         buffer: &mut Vec<u8>,
-        popped: &mut Vec<Popped>,
+        ahead: &mut Vec<ReadAhead>,
     ) -> Result<(), Memory>
         ensures { OnOk result (Took S.stands_for self.old self.new (known_items self.old.consumer)) }
     {
         let _taken = self.taken;
         while self.consumer.cached_slots() > 0 {
-            self.take_near(alloc, gate, buffer, popped)?;
+            self.take_list(alloc, gate, buffer, ahead)?;
         }
         Ok(())
     }
@@ -111,7 +89,7 @@ impl<S: Sessions> Worker<S> {
         over: &AtomicBool,
         patience: Patience,
         buffer: &mut Vec<u8>,
-        popped: &mut Vec<Popped>,
+        ahead: &mut Vec<ReadAhead>,
     ) -> Result<(), Memory>
         ensures { OnOk result (TookSome S.stands_for self.old self.new) }
     {
@@ -119,8 +97,8 @@ impl<S: Sessions> Worker<S> {
         let mut further = 0u64;
         while empty < patience.looks && further < patience.batch {
             let last = over.load(Ordering::SeqCst);
-            if self.take_found(alloc, gate, last, buffer, popped)? {
-                further = further.saturating_add(popped.len() as u64).max(further + 1);
+            if self.take_found(alloc, gate, buffer, ahead)? {
+                further = further.saturating_add(ahead.len() as u64).max(further + 1);
             } else if last {
                 break;
             } else {
@@ -131,55 +109,56 @@ impl<S: Sessions> Worker<S> {
         Ok(())
     }
 
-    /// Looks at the ring again, and takes the first items of what it finds. Returns whether it found any.
+    /// Looks at the ring again, and takes the first list of what it finds. Returns whether it found any.
     fn take_found<G: Gate>(
         &mut self,
         alloc: Global,
         gate: &G,
-        is_over: bool,
         buffer: &mut Vec<u8>,
-        popped: &mut Vec<Popped>,
+        ahead: &mut Vec<ReadAhead>,
     ) -> Result<bool, Memory>
         ensures { OnOk result (TookSome S.stands_for self.old self.new) }
     {
         let _taken = self.taken;
-        if !has_items(&mut self.consumer, is_over) {
+        if self.consumer.is_empty() {
             return Ok(false);
         }
-        self.take_near(alloc, gate, buffer, popped)?;
+        self.take_list(alloc, gate, buffer, ahead)?;
         Ok(true)
     }
 
-    /// Takes the first items of what it knows to be in its ring.
-    fn take_near<G: Gate>(
+    /// Takes the units of the first list that it knows to be in its ring.
+    fn take_list<G: Gate>(
         &mut self,
         alloc: Global,
         gate: &G,
         buffer: &mut Vec<u8>,
-        popped: &mut Vec<Popped>,
+        ahead: &mut Vec<ReadAhead>,
     ) -> Result<(), Memory>
-        requires { 0 < length (known_items self.old.consumer) }
+        requires { 0 < length (known_lists self.old.consumer) }
         ensures { OnOk result (TookFront S.stands_for self.old self.new) }
     {
-        popped.clear();
-        pop_near(alloc, &mut self.consumer, buffer, popped)?;
-        self.take_popped(alloc, gate, popped)?;
-        Ok(())
+        let list = self.consumer.pop_known();
+        let items = list.items.as_slice();
+        read_ahead(alloc, buffer, items, ahead)?;
+        self.take_items(alloc, gate, items, ahead.as_slice())
     }
 
-    /// Takes what was popped, in order.
-    fn take_popped<G: Gate>(
+    /// Takes the units in order.
+    fn take_items<G: Gate>(
         &mut self,
         alloc: Global,
         gate: &G,
-        popped: &[Popped],
+        items: &[Numbered],
+        ahead: &[ReadAhead],
     ) -> Result<(), Memory>
-        ensures { OnOk result (Takes S.stands_for self.old self.new (items_of popped.now)) }
+        requires { AreReadAhead items.now ahead.now }
+        ensures { OnOk result (Takes S.stands_for self.old self.new items.now) }
     {
-        self.sessions.prefetch(popped);
-        for near in popped {
+        self.sessions.prefetch(items, ahead);
+        for (at, item) in items.iter().enumerate() {
             gate.before(self.lane, self.taken);
-            self.sessions.take(alloc, &near.item, &near.ahead)?;
+            self.sessions.take(alloc, item, &ahead[at])?;
             self.taken = self.taken.saturating_add(1);
         }
         Ok(())

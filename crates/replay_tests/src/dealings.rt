@@ -155,7 +155,12 @@ fn check_three_hundred<M: PrefixMap<SharedRoute> + Send + Drop>(
 ) -> Result<(), Fail> {
     let file = three_hundred(alloc)?;
     let list = long_list(alloc)?;
-    let rings = [(1, 8, 639), (65_536, 1_048_576, 2)];
+    let rings = [
+        (1, 8, 639),
+        (40, 1_048_576, 17),
+        (256, 100, 7),
+        (65_536, 1_048_576, 2),
+    ];
     check_plans::<M>(rt, alloc, &file, &[1, 64], &rings, &list)
 }
 

@@ -181,7 +181,7 @@ impl Gate for Counting {
 /// Numbers count from 0 in each lane, through all rounds.
 #[test]
 fn gates_are_told_each_number(rt: HostRuntime) -> Result<(), Fail> {
-    for (ring, batch) in [(4, 8), (1, 8), (4, 1)] {
+    for (ring, batch) in [(4, 8), (1, 8), (4, 1), (64, 8)] {
         let gate = Counting {
             dealt: [AtomicU64::new(0), AtomicU64::new(0)],
             taken: [AtomicU64::new(0), AtomicU64::new(0)],

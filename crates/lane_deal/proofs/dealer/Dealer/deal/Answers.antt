@@ -50,5 +50,5 @@ loop-dealt-preserved g c =
     let lane : lane_of c.in_ok-number.number ≡ c.lane-lane.result = cc in record {
       count = c.next_unit.ensures.count ∙ c.loop-dealt.invariant.count;
       sound = c.in_ok-unit.ensures.sound ∙ c.loop-dealt.invariant.sound;
-      far = SoFar-more lane_of _ _ _ _ _ c.next_unit.new.self _ _ _ _ _ _ _ _ c.loop-dealt.invariant.far c.in-Some.unit c.in_ok-number.number next c.in_ok-number.ensures refl refl refl (omega arith) (Dealt-append lane_of _ _ _ [] (record { number = c.in_ok-number.number; unit = c.in-Some.unit } ∷ []) (c.if-not-has_room.ensures.looked lane_of) (c.deal_one.ensures lane_of lane));
+      far = SoFar-more lane_of _ _ _ _ _ c.next_unit.new.self _ _ _ _ _ _ _ _ c.loop-dealt.invariant.far c.in-Some.unit c.in_ok-number.number next c.in_ok-number.ensures refl refl refl (omega arith) (Dealt-append lane_of _ _ _ [] (record { number = c.in_ok-number.number; unit = c.in-Some.unit } ∷ []) (c.if-not-has_room.ensures.looked lane_of) (c.in_ok-deal_one.ensures lane_of lane));
     }

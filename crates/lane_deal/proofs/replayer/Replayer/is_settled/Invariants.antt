@@ -1,8 +1,7 @@
-use Rattle.std.proofs.Common.{◌≡◌, ℕ, ◌<◌, [], get_or}
-use Rattle.rtrb.specs.Ring.{known_items}
-use Rattle.lane_deal.specs.declared.seats.Seats.{Seats}
-use Rattle.lane_deal.specs.declared.worker.Worker.{Worker}
+use Rattle.std.proofs.Common.{◌≡◌, ℕ, ◌<◌, get_or}
+use Rattle.lane_deal.specs.declared.feed.Feed.{Feed}
+use Rattle.lane_deal.specs.UnitRings.{known_free, ring_capacity}
 use Rattle.lane_deal.proofs.replayer.Replayer.is_settled.Given as goal
 
-abbrev pub invariant-loop-worker : goal.invariant-loop-worker
-invariant-loop-worker g l = (lane : ℕ) (d : Worker (Seats g.row.M.Denot g.M.PrefixMap)) → lane < l.worker-index → known_items (get_or l.worker-items lane d).consumer ≡ []
+abbrev pub invariant-loop-feed : goal.invariant-loop-feed
+invariant-loop-feed g l = (lane : ℕ) (d : Feed) → lane < l.feed-index → known_free (get_or l.feed-items lane d).producer ≡ ring_capacity (get_or l.feed-items lane d).producer

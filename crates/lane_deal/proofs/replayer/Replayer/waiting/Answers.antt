@@ -1,24 +1,20 @@
-use Rattle.std.proofs.Common.{length, ap, ◌∙◌, arith}
+use Rattle.std.proofs.Common.{length, ap, arith}
 use Rattle.lane_deal.proofs.Bridges.{lane_at, length-lane_states}
 use Rattle.lane_deal.proofs.Plays.{waits_at}
 use Rattle.lane_deal.proofs.replayer.Replayer.waiting.Goals as goal
 
 pub returns-clause-waiting : goal.returns-clause-waiting
 returns-clause-waiting g c unspent state is =
-    let known = rw c.as_slice-workers.ensures.value at c.cached_slots.ensures in
-    let same = waits_at _ _ _ (c.args.self.now.ready unspent) c.args.lane state is c.index-workers-lane.result in
-    known ∙ ap length same
+    waits_at _ _ _ (c.args.self.now.ready unspent) c.args.lane state is c.index-feeds-lane.result c.waiting.result (rw c.as_slice-feeds.ensures.value at c.waiting.ensures)
 
-pub returns-then-lane-workers-clause-waiting : goal.returns-then-lane-workers-clause-waiting
-returns-then-lane-workers-clause-waiting g c unspent state is =
+pub returns-then-lane-feeds-clause-waiting : goal.returns-then-lane-feeds-clause-waiting
+returns-then-lane-feeds-clause-waiting g c unspent state is =
     let within = (lane_at _ _ c.args.lane state is).within in
-    let count = (c.args.self.now.ready unspent).0 in
-    let past = c.if-lane-workers.true in
-    let same = ap length c.as_slice-workers.ensures.value in absurd (omega arith)
+    let past = c.if-lane-feeds.true in
+    let same = ap length c.as_slice-feeds.ensures.value in absurd (omega arith)
 
 pub returns-clause-past : goal.returns-clause-past
 returns-clause-past g c unspent past =
     let count = length-lane_states c.args.self.now.feeds.items c.args.self.now.workers.items (c.args.self.now.ready unspent).0 in
-    let same = ap length c.as_slice-workers.ensures.value in
-    let ready = (c.args.self.now.ready unspent).0 in
+    let same = ap length c.as_slice-feeds.ensures.value in
     absurd (omega arith)

@@ -1,0 +1,31 @@
+-- Lists of units, and how many units wait in a ring of lists.
+use Rattle.std.specs.Prelude.{◌≡◌, ℕ, ◌-◌, ◌<◌, List, length, map, drop}
+use Rattle.std.specs.List.{AllByRecursion, flat_map, sum_by}
+use Rattle.mrt_body.specs.Units.{IsSmallUnit}
+use Rattle.lane_deal.specs.declared.numbered.Numbered.{Numbered}
+use Rattle.lane_deal.specs.declared.unit_list.UnitList.{UnitList}
+
+abbrev pub units_of : UnitList → List Numbered
+units_of list = list.items.items
+
+-- the units of these lists, one list after the other
+abbrev pub units_of_lists : List UnitList → List Numbered
+units_of_lists lists = flat_map (λ list. units_of list) lists
+
+abbrev pub AreSmall : List Numbered → Type 0
+AreSmall items = AllByRecursion (λ item. IsSmallUnit item.unit) items
+
+-- a list that may pass through a ring
+abbrev pub IsUnitList : UnitList → Type 0
+IsUnitList list = (0 < length (units_of list)) × AreSmall (units_of list)
+
+abbrev pub list_length : UnitList → ℕ
+list_length list = length (units_of list)
+
+-- these are the lengths of the last of these lists
+abbrev pub AreLastLengths : List ℕ → List UnitList → Type 0
+AreLastLengths lengths lists =
+    map (λ list. list_length list) (drop (length lists - length lengths) lists) ≡ lengths
+
+abbrev pub total : List ℕ → ℕ
+total lengths = sum_by (λ n. n) lengths

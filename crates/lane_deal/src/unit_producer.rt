@@ -1,0 +1,232 @@
+//! The dealer's end of a lane's ring. Units pass through the ring in lists, so that the dealer's and the worker's
+//! processors exchange its positions once for each list, and a worker can read a list where it lies.
+
+ghost use Rattle.std.specs.Prelude.{◌≡◌, ◌+◌, ◌^◌, ◌<◌, ◌≤◌, length, drop};
+ghost use Rattle.std.proofs.Props.{props};
+ghost use Rattle.std.specs.List.{AllByRecursion};
+ghost use Rattle.rtrb.specs.Ring.{known_free as free_slots, sent as sent_lists, producer_capacity};
+ghost use Rattle.lane_deal.specs.UnitLists.{units_of, AreSmall, AreLastLengths, total};
+
+use crate::numbered::{Numbered, Small};
+use crate::unit_list::UnitList;
+use bgp_prefix::Memory;
+use rtrb::{Consumer, Producer, RingBuffer};
+use std::alloc::Global;
+use std::collections::VecDeque;
+use std::mem;
+
+/// The maximum number of units in a list that the dealer pushes.
+const MOST_UNITS: usize = 32;
+
+/// The dealer's end of a ring.
+#[derive(Drop)]
+pub struct UnitProducer {
+    lists: Producer<UnitList, Global, Small>,
+    /// The list that is being filled.
+    filling: UnitList,
+    /// How many units each list has that isn't known to be popped, the oldest first.
+    lengths: VecDeque<usize>,
+    /// How many more units may wait.
+    free: usize,
+    /// How many units may wait in the ring.
+    capacity: usize,
+    ghost slots: { (capacity ≤ length lengths.items + free_slots lists) × (producer_capacity lists ≡ capacity) },
+    ghost waiting: { AreLastLengths lengths.items (sent_lists lists) },
+    ghost some: { AllByRecursion (λ n. 0 < n) lengths.items } by { Prim.hlevel props },
+    ghost room: { free + total lengths.items + length (units_of filling) ≡ capacity },
+    ghost small: { AreSmall (units_of filling) } by { Prim.hlevel props },
+}
+
+/// Returns how many units fill a list in a ring of so many units: an eighth of them, within bounds.
+fn list_size(capacity: usize) -> usize {
+    (capacity / 8).min(MOST_UNITS).max(1)
+}
+
+/// Takes out the first numbers, and returns their sum.
+fn take_sum(lengths: &mut VecDeque<usize>, count: usize) -> usize
+    requires count { count ≤ length lengths.old.items }
+    requires sum { total lengths.old.items < 2 ^ 64 }
+    ensures left { lengths.new.items ≡ drop count lengths.old.items }
+    ensures sum { result + total lengths.new.items ≡ total lengths.old.items }
+{
+    let mut sum = 0;
+    for taken in 0..count {
+        if let Some(length) = lengths.pop_front() {
+            sum += length;
+        }
+    }
+    sum
+}
+
+impl UnitProducer {
+    ghost use Rattle.std.specs.Prelude.{◌≡◌, ◌+◌, ◌<◌, ◌≤◌, [], ◌∷◌, ◌++◌, length, IfOk, OnOk, IsTrue, ◌↔◌};
+    ghost use Rattle.rtrb.specs.Ring.{ConsumerLooked};
+    ghost use Rattle.mrt_body.specs.Units.{IsSmallUnit};
+    ghost use Rattle.lane_deal.specs.UnitLists.{IsUnitList};
+    ghost use Rattle.lane_deal.specs.UnitRings.{sent, known_free, ring_capacity, received, known_items, IsPair, SameProducer, ProducerLooked};
+
+    /// Makes an empty ring, in which so many units may wait, and returns its two ends.
+    pub fn new(
+        alloc: Global,
+        capacity: usize,
+    ) -> Result<(UnitProducer, Consumer<UnitList, Global, Small>), Memory>
+        ensures pair { IfOk result (λ r. IsPair r.0 r.1) }
+        ensures producer { IfOk result (λ r. (sent r.0 ≡ []) × (known_free r.0 ≡ capacity) ×
+            (ring_capacity r.0 ≡ capacity)) }
+        ensures consumer { IfOk result (λ r. (received r.1 ≡ []) × (known_items r.1 ≡ [])) }
+        ensures filling { IfOk result (λ r. units_of r.0.filling ≡ []) }
+    {
+        let (lists, consumer) = RingBuffer::with_protocol::<Global, Small>(alloc, capacity)?;
+        let producer = UnitProducer {
+            lists,
+            filling: UnitList {
+                items: Vec::new(alloc),
+            },
+            lengths: VecDeque::new(alloc),
+            free: capacity,
+            capacity,
+        };
+        Ok((producer, consumer))
+    }
+
+    /// How many units may wait in the ring.
+    pub fn capacity(&self) -> usize
+        ensures { result ≡ ring_capacity self.now }
+    {
+        self.capacity
+    }
+
+    /// How many more units may wait, as far as is known.
+    pub fn free(&self) -> usize
+        ensures { result ≡ known_free self.now }
+    {
+        self.free
+    }
+
+    /// How many units wait, as far as is known.
+    pub fn waiting(&self) -> usize
+        ensures { result + known_free self.now ≡ ring_capacity self.now }
+    {
+        self.capacity - self.free
+    }
+
+    /// Looks which lists were popped, and returns how many more units may wait.
+    pub fn look(&mut self) -> usize
+        ensures looked { ProducerLooked self.old self.new }
+        ensures value { result ≡ known_free self.new }
+    {
+        let waiting = self.capacity - self.lists.slots();
+        let popped = self.lengths.len() - waiting;
+        self.free += take_sum(&mut self.lengths, popped);
+        self.free
+    }
+
+    /// Whether no more units may wait. The worker may pop some at any time.
+    pub fn is_full(&mut self) -> bool
+        ensures looked { ProducerLooked self.old self.new }
+        ensures value { IsTrue result ↔ (known_free self.new ≡ 0) }
+    {
+        self.free == 0 && self.look() == 0
+    }
+
+    /// Takes out the list that is being filled.
+    fn take_filling(&mut self, alloc: Global) -> UnitList
+        ensures ring { SameProducer self.old self.new }
+        ensures sent { sent self.old ≡ sent self.new ++ units_of result }
+        ensures free { known_free self.new ≡ known_free self.old + length (units_of result) }
+        ensures small { AreSmall (units_of result) }
+        ensures value { units_of result ≡ units_of self.old.filling }
+        ensures filling { units_of self.new.filling ≡ [] }
+    {
+        self.free += self.filling.items.len();
+        UnitList {
+            items: mem::replace(&mut self.filling.items, Vec::new(alloc)),
+        }
+    }
+
+    /// Pushes a list, after which no list is being filled.
+    fn push_list(&mut self, list: UnitList) -> Result<(), Memory>
+        requires list { IsUnitList list }
+        requires room { length (units_of list) ≤ known_free self.old }
+        requires filling { units_of self.old.filling ≡ [] }
+        ensures ring { SameProducer self.old self.new }
+        ensures sent { OnOk result (sent self.new ≡ sent self.old ++ units_of list) }
+        ensures free { OnOk result (known_free self.old ≡ known_free self.new + length (units_of list)) }
+        ensures filling { units_of self.new.filling ≡ [] }
+    {
+        let length = list.items.len();
+        self.lengths.push_back(length)?;
+        self.lists.push_reserved(list);
+        self.free -= length;
+        Ok(())
+    }
+
+    /// Adds a unit to the list that is being filled, and pushes the list if it is then full.
+    pub fn push(&mut self, alloc: Global, item: Numbered) -> Result<(), Memory>
+        requires small { IsSmallUnit item.unit }
+        requires room { 0 < known_free self.old }
+        ensures ring { SameProducer self.old self.new }
+        ensures sent { OnOk result (sent self.new ≡ sent self.old ++ item ∷ []) }
+        ensures free { OnOk result (known_free self.old ≡ known_free self.new + 1) }
+    {
+        let size = list_size(self.capacity);
+        if self.filling.items.is_empty() {
+            self.filling.items.reserve_exact(size)?;
+        }
+        self.filling.items.push(item)?;
+        self.free -= 1;
+        if self.filling.items.len() < size {
+            return Ok(());
+        }
+        let list = self.take_filling(alloc);
+        self.push_list(list)
+    }
+
+    /// Compares both ends, which are in one thread: the dealer then knows how many units wait, and the worker all lists
+    /// that wait.
+    pub fn compare(&mut self, consumer: &mut Consumer<UnitList, Global, Small>)
+        requires { IsPair self.old consumer.old }
+        ensures producer { ProducerLooked self.old self.new }
+        ensures consumer { ConsumerLooked consumer.old consumer.new }
+        ensures fifo { received consumer.new ++ known_items consumer.new ++ units_of self.new.filling ≡ sent self.new }
+        ensures exact { known_free self.new + length (known_items consumer.new ++ units_of self.new.filling) ≡
+            ring_capacity self.new }
+        ensures filling { units_of self.new.filling ≡ units_of self.old.filling }
+    {
+        let waiting = self.capacity - self.lists.slots_beside(consumer);
+        let popped = self.lengths.len() - waiting;
+        self.free += take_sum(&mut self.lengths, popped);
+        consumer.slots_beside(&mut self.lists);
+    }
+
+    /// Moves all lists that the worker knows to wait to this ring.
+    pub fn move_lists(&mut self, from: &mut Consumer<UnitList, Global, Small>) -> Result<(), Memory>
+        requires room { length (known_items from.old) ≤ known_free self.old }
+        requires filling { units_of self.old.filling ≡ [] }
+        ensures ring { SameProducer self.old self.new }
+        ensures sent { OnOk result (sent self.new ≡ sent self.old ++ known_items from.old) }
+        ensures free { OnOk result (known_free self.old ≡ known_free self.new + length (known_items from.old)) }
+        ensures filling { units_of self.new.filling ≡ [] }
+    {
+        for moved in 0..from.cached_slots() {
+            self.push_list(from.pop_known())?;
+        }
+        Ok(())
+    }
+
+    /// Moves the units that wait to be pushed to this ring, as a list.
+    pub fn move_filling(&mut self, alloc: Global, from: &mut UnitProducer) -> Result<(), Memory>
+        requires room { length (units_of from.old.filling) ≤ known_free self.old }
+        requires filling { units_of self.old.filling ≡ [] }
+        ensures ring { SameProducer self.old self.new }
+        ensures sent { OnOk result (sent self.new ≡ sent self.old ++ units_of from.old.filling) }
+        ensures free { OnOk result (known_free self.old ≡ known_free self.new + length (units_of from.old.filling)) }
+        ensures filling { units_of self.new.filling ≡ [] }
+    {
+        let list = from.take_filling(alloc);
+        if list.items.is_empty() {
+            return Ok(());
+        }
+        self.push_list(list)
+    }
+}
