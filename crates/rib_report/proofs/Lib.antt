@@ -3,9 +3,9 @@ pub mod JoinLaws
 pub mod RowLines
 pub mod PieceLaws
 pub mod RunLaws
-pub mod SortedRuns
 pub mod StableSort
 pub mod ListedLaws
+pub mod MergeLaws
 pub mod SeenLaws
 pub mod OriginLaws
 pub mod MatchLaws

@@ -14,8 +14,9 @@ use Rattle.bgp_prefix.proofs.KeyLaws.{key_cmp_total, same_prefix, tied_same}
 use Rattle.bgp_update.specs.declared.route.Route.{Route}
 use Rattle.mrt_body.specs.declared.unit.PeerKey.{PeerKey}
 use Rattle.rib_report.specs.Reports.{entry_row, path_row, matches_entry, yields, is_longest}
-use Rattle.rib_report.proofs.OriginLaws.{any_map, own_itself}
-use Rattle.rib_report.proofs.SortedRuns.{all_from_index}
+use Rattle.rib_report.proofs.OriginLaws.{any_map}
+use Rattle.rib_report.proofs.SeenLaws.{own_itself}
+use Rattle.rib_report.proofs.RunLaws.{all_from_index}
 
 -- ---- tests of lists
 

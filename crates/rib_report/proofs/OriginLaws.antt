@@ -1,11 +1,14 @@
 -- Pairs of prefixes and origin ASes, by prefix.
-use Rattle.std.proofs.Common.{◌≡◌, ◌≢◌, ℕ, zero, suc, ◌+◌, ◌<◌, ◌≤◌, Bool, true, false, cond, ◌&&◌, ◌||◌, eqb, ltb, List, [], ◌∷◌, ◌++◌, refl, sym, ap, ◌∙◌, append-nil, append_assoc, length, get_or, take, drop, take-append-drop, length-drop, length-take-le, map, arith}
+use Rattle.std.proofs.Common.{◌≡◌, ◌≢◌, ℕ, zero, suc, ◌+◌, ◌<◌, ◌≤◌, Bool, true, false, cond, ◌&&◌, ◌||◌, eqb, ltb, List, [], ◌∷◌, ◌++◌, Some, T, refl, sym, ap, ◌∙◌, append-nil, append_assoc, length, get_or, take, drop, take-append-drop, length-drop, length-take-le, map, arith}
 use Rattle.std.specs.declared.cmp.Ordering.{Ordering}
 use Rattle.std.specs.declared.cmp.Ordering.TheVariants.{Less, Equal, Greater}
-use Rattle.std.specs.Ordering.{nat_cmp, is_eq, eq_by_cmp, ordering_then, ordering_reverse}
+use Rattle.std.specs.Ordering.{nat_cmp, is_eq, is_lt, eq_by_cmp, ordering_then, ordering_reverse}
 use Rattle.std.specs.Cmp.{IsTotalOrder}
 use Rattle.std.specs.List.{AllByRecursion, AllWithin, dedup, dedup_from, filter, list_any}
-use Rattle.std.specs.List.Sorted.{IsStrictlySortedBy}
+use Rattle.std.specs.List.Sorted.{IsSorted, IsStrictlySortedBy, IsPermutation}
+use Rattle.std.specs.FinMap.Entries.{by_order, put, is_sorted, below_all}
+use Rattle.std.proofs.lemmas.List.Kept.{IsStrictlySortedBy-dedup}
+use Rattle.std.proofs.lemmas.List.Sorted.{list_any-IsPermutation}
 use Rattle.std.proofs.lemmas.Bool.{ltb-true, eqb-true, le-leb, lt-leb}
 use Rattle.std.proofs.lemmas.Cmp.{on_total, then_total, nat_cmp_total, tied_itself}
 use Rattle.std.proofs.lemmas.List.{length-map, map-append, get_or-take, get_or-drop}
@@ -13,13 +16,14 @@ use Rattle.std.proofs.lemmas.List.Elements.{filter-append}
 use Rattle.std.proofs.lemmas.Map.Lookups.{exact_pairs, exact_unsigned}
 use Rattle.bgp_prefix.specs.Prefixes.{IpPrefix, prefix_cmp, prefix_eq}
 use Rattle.bgp_prefix.specs.Ordered.{in_order}
+use Rattle.bgp_prefix.proofs.OrderedLaws.{is_sorted-tabulated}
 use Rattle.bgp_prefix.proofs.KeyLaws.{prefix_cmp_total, prefix_cmp_exact, prefix_tied}
 use Rattle.rib_report.specs.declared.reports.origins.OriginRow.{OriginRow}
 use Rattle.rib_report.specs.Runs.{pair_cmp, pair_eq}
 use Rattle.rib_report.specs.Reports.{has_several, origins_among, grouped_origins}
-use Rattle.rib_report.proofs.RunLaws.{set_of, set_same, set_run, below_set, put_front, map_same, all_of, all_mapped}
-use Rattle.rib_report.proofs.SortedRuns.{all_from_index}
-use Rattle.rib_report.proofs.SeenLaws.{twice}
+use Rattle.rib_report.proofs.RunLaws.{set_of, set_same, set_run, below_set, put_front, map_same, all_of, all_mapped, all_from_index}
+use Rattle.rib_report.proofs.MergeLaws.{first_of, second_of}
+use Rattle.rib_report.proofs.SeenLaws.{twice, own_itself, is_less}
 
 -- ---- the order of pairs
 
@@ -104,6 +108,45 @@ module _ (xs ys : List (IpPrefix × ℕ)) (same : (f : IpPrefix × ℕ → Bool)
       ∙ ap (λ es. map (origins_among ys) (map (λ (e : IpPrefix × Unit {0}). e.0) es)) (set_same prefix_cmp_total prefix_cmp_exact (prefixes xs) (prefixes ys)
       (λ q. any_map (eq_by_cmp prefix_cmp q) (λ (e : IpPrefix × ℕ). e.0) xs ∙ same (λ e. eq_by_cmp prefix_cmp q e.0) ∙ sym (any_map (eq_by_cmp prefix_cmp q) (λ (e : IpPrefix × ℕ). e.0) ys)))
 
+-- ---- pairs in order
+
+either_way : (a b c : Bool) → (a || (b || c)) ≡ (b || (a || c))
+either_way true true c = refl
+either_way true false c = refl
+either_way false b c = refl
+
+abbrev keys_of : List ((IpPrefix × ℕ) × Unit {0}) → List (IpPrefix × ℕ)
+keys_of es = map (λ e. e.0) es
+
+any_put : (f : IpPrefix × ℕ → Bool) (k : IpPrefix × ℕ) (es : List ((IpPrefix × ℕ) × Unit {0})) → list_any f (keys_of (put pair_cmp k tt es)) ≡ (f k || list_any f (keys_of es))
+any_put f k [] = refl
+any_put f k (e ∷ es) =
+    elim (pair_cmp k e.0) as (λ r. pair_cmp k e.0 ≡ r → list_any f (keys_of (by_order r ((k, tt) ∷ e ∷ es) ((e.0, tt) ∷ es) (e ∷ put pair_cmp k tt es))) ≡ (f k || (f e.0 || list_any f (keys_of es)))) [
+      | Less ↦ λ _. refl
+      | Equal ↦ λ same. twice (f e.0) (list_any f (keys_of es)) ∙ ap (λ x. f x || (f e.0 || list_any f (keys_of es))) (sym (pair_cmp_exact k e.0 same))
+      | Greater ↦ λ _. ap (λ b. f e.0 || b) (any_put f k es) ∙ either_way (f e.0) (f k) (list_any f (keys_of es))
+    ] refl
+
+any_in_order : (f : IpPrefix × ℕ → Bool) (xs : List (IpPrefix × ℕ)) → list_any f (in_order pair_cmp xs) ≡ list_any f xs
+any_in_order f [] = refl
+any_in_order f (x ∷ xs) = any_put f x (set_of pair_cmp xs) ∙ ap (λ b. f x || b) (any_in_order f xs)
+
+-- in order they are grouped as before
+pub grouped_in_order : (xs : List (IpPrefix × ℕ)) → grouped_origins (in_order pair_cmp xs) ≡ grouped_origins xs
+grouped_in_order xs = grouped_same (in_order pair_cmp xs) xs (λ f. any_in_order f xs)
+
+above_all : (x : IpPrefix × ℕ) (es : List ((IpPrefix × ℕ) × Unit {0})) → T (below_all pair_cmp x es) → AllByRecursion (λ y. pair_cmp x y ≡ Less) (keys_of es)
+above_all x [] h = tt
+above_all x (e ∷ es) h = (is_less (pair_cmp x e.0) (first_of _ (below_all pair_cmp x es) h), above_all x es (second_of (is_lt (pair_cmp x e.0)) _ h))
+
+keys_rise : (es : List ((IpPrefix × ℕ) × Unit {0})) → T (is_sorted pair_cmp es) → IsStrictlySortedBy pair_cmp (keys_of es)
+unfolding IsStrictlySortedBy
+keys_rise [] h = tt
+keys_rise (e ∷ es) h = (above_all e.0 es (first_of _ (is_sorted pair_cmp es) h), keys_rise es (second_of (below_all pair_cmp e.0 es) _ h))
+
+pub pairs_rise : (xs : List (IpPrefix × ℕ)) → IsStrictlySortedBy pair_cmp (in_order pair_cmp xs)
+pairs_rise xs = keys_rise (set_of pair_cmp xs) (is_sorted-tabulated pair_cmp_total (λ _. Some tt) xs)
+
 -- ---- a run of one prefix
 
 rising : {K : Type 0} {cmp : K → K → Ordering} (o : IsTotalOrder cmp) (xs : List K) → IsStrictlySortedBy cmp xs → in_order cmp xs ≡ xs
@@ -111,8 +154,11 @@ unfolding IsStrictlySortedBy
 rising o [] h = refl
 rising {cmp = cmp} o (x ∷ xs) h = ap (λ es. map (λ (e : _ × Unit {0}). e.0) es) (put_front o x (set_of cmp xs) (below_set o x xs h.0)) ∙ ap (λ l. x ∷ l) (rising o xs h.1)
 
-pub own_itself : (p : IpPrefix) → prefix_eq p p ≡ true
-own_itself p = sym (prefix_tied p p) ∙ ap is_eq (tied_itself prefix_cmp_total p)
+-- a sorted list without repeats has the pairs of another list in order
+pub deduped_in_order : (sorted xs : List (IpPrefix × ℕ)) → IsSorted pair_cmp sorted → IsPermutation xs sorted → dedup pair_eq sorted ≡ in_order pair_cmp xs
+deduped_in_order sorted xs up moved =
+    sym (rising pair_cmp_total (dedup pair_eq sorted) (IsStrictlySortedBy-dedup pair_cmp_total pair_tied sorted up))
+    ∙ ap keys_of (set_same pair_cmp_total pair_cmp_exact (dedup pair_eq sorted) xs (λ q. any_dedup (eq_by_cmp pair_cmp q) sorted ∙ sym (list_any-IsPermutation (eq_by_cmp pair_cmp q) xs sorted moved)))
 
 keep_own : (p : IpPrefix) (xs : List (IpPrefix × ℕ)) → AllByRecursion (λ e. e.0 ≡ p) xs → filter (own p) xs ≡ xs
 keep_own p [] h = refl

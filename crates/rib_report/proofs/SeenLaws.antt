@@ -1,39 +1,33 @@
 -- The prefixes of tables, each once for each table that has it.
-use Rattle.std.proofs.Common.{◌≡◌, ℕ, ◌+◌, Bool, true, false, cond, ◌&&◌, ◌||◌, List, [], ◌∷◌, Some, refl, sym, ap, ◌∙◌, subst, map, T, arith}
+use Rattle.std.proofs.Common.{◌≡◌, ℕ, ◌+◌, ◌<◌, ◌≤◌, ◌^◌, get_or, Bool, true, false, cond, ◌||◌, List, [], ◌∷◌, ◌++◌, Some, None, refl, sym, ap, ◌∙◌, subst, map, length, T, arith, append-nil, add-zero, take, drop, take-append-drop}
 use Rattle.std.specs.declared.cmp.Ordering.{Ordering}
 use Rattle.std.specs.declared.cmp.Ordering.TheVariants.{Less, Equal, Greater}
 use Rattle.std.specs.Ordering.{eq_by_cmp, is_eq, is_lt, ordering_then, ordering_reverse, nat_cmp}
 use Rattle.std.specs.List.{AllByRecursion, flat_map, count_by, list_any}
-use Rattle.std.specs.FinMap.Entries.{is_sorted, below_all}
+use Rattle.std.specs.FinMap.Entries.{find, is_sorted, below_all, same_entries}
 use Rattle.std.proofs.lemmas.Bool.{false≢true}
-use Rattle.std.proofs.lemmas.List.{map-id}
+use Rattle.std.proofs.lemmas.Cmp.{tied_itself}
+use Rattle.std.proofs.lemmas.Grind.{flat_map-append}
+use Rattle.std.proofs.lemmas.List.{map-append}
 use Rattle.std.proofs.lemmas.List.Folds.{list_any-append}
-use Rattle.std.proofs.lemmas.List.Sums.{sum_by-cons, sum_by-append}
+use Rattle.std.proofs.lemmas.List.Sums.{sum_by-cons, sum_by-append, count_by-le-length}
 use Rattle.bgp_prefix.specs.Prefixes.{IpPrefix, prefix_cmp, prefix_eq}
 use Rattle.bgp_prefix.specs.Keys.{key_cmp}
 use Rattle.bgp_prefix.specs.Ordered.{in_order}
 use Rattle.bgp_prefix.specs.declared.key.RouteKey.{RouteKey}
+use Rattle.bgp_prefix.proofs.OrderedLaws.{is_sorted-tabulated}
 use Rattle.bgp_prefix.proofs.KeyLaws.{prefix_cmp_total, prefix_cmp_exact, prefix_tied, same_prefix}
 use Rattle.bgp_update.specs.declared.route.Route.{Route}
-use Rattle.rib_report.specs.declared.reports.visibility.SeenRow.{SeenRow}
 use Rattle.peer_tables.specs.Tables.{Seat, TablesState}
-use Rattle.rib_report.specs.Reports.{HasOrder, seat_prefixes, is_visible_at, table_prefixes, visibility_of, visibility_rows}
-use Rattle.rib_report.specs.Rows.{seen_pair}
-use Rattle.rib_report.specs.Runs.{counted, new_after, without_repeats}
-use Rattle.rib_report.proofs.StableSort.{Ascends}
-use Rattle.rib_report.proofs.SortedRuns.{above_first, above_later}
-use Rattle.rib_report.proofs.RunLaws.{hit, map_same, all_of, set_same}
 use Rattle.peer_tables.proofs.RowLaws.{map_twice}
+use Rattle.rib_report.specs.Merges.{add_counts, merged}
+use Rattle.rib_report.specs.Reports.{HasOrder, seat_prefixes, is_visible_at, seen_among, visibility_rows}
+use Rattle.rib_report.specs.Runs.{new_after, without_repeats}
+use Rattle.rib_report.proofs.MergeLaws.{both_of, first_of, second_of, lower_of, below_less, tallied, find_tallied, merged_tallied, counted_in_order}
+use Rattle.rib_report.proofs.StableSort.{Ascends}
+use Rattle.rib_report.proofs.RunLaws.{hit, above_first}
 
-first_of : (a b : Bool) → T (a && b) → T a
-first_of true b p = tt
-first_of false b p = p
-
-second_of : (a b : Bool) → T (a && b) → T b
-second_of true b p = p
-second_of false b p = absurd p
-
-is_less : (r : Ordering) → T (is_lt r) → r ≡ Less
+pub is_less : (r : Ordering) → T (is_lt r) → r ≡ Less
 is_less Less h = refl
 is_less Equal h = absurd h
 is_less Greater h = absurd h
@@ -41,6 +35,9 @@ is_less Greater h = absurd h
 pub true_of : (b : Bool) → T b → b ≡ true
 true_of true h = refl
 true_of false h = absurd h
+
+pub own_itself : (p : IpPrefix) → prefix_eq p p ≡ true
+own_itself p = sym (prefix_tied p p) ∙ ap is_eq (tied_itself prefix_cmp_total p)
 
 pub test_of : (b : Bool) → b ≡ true → T b
 test_of b e = subst T (sym e) tt
@@ -66,66 +63,7 @@ pub ascending_prefixes : (es : List (RouteKey × Route)) → T (is_sorted key_cm
 ascending_prefixes [] h = tt
 ascending_prefixes (e ∷ es) h = (above_keys e.0 es (first_of _ (is_sorted key_cmp es) h), ascending_prefixes es (second_of (below_all key_cmp e.0 es) _ h))
 
--- ---- each prefix of a table is kept once
-
-none_above : (l p : IpPrefix) (ps : List IpPrefix) → prefix_cmp l p ≡ Less → AllByRecursion (λ r. lower r p ≡ false) ps → list_any (prefix_eq l) ps ≡ false
-none_above l p [] less h = refl
-none_above l p (r ∷ ps) less h =
-    let apart : prefix_eq l r ≡ false = sym (prefix_tied l r) ∙ ap is_eq (above_later prefix_cmp_total prefix_cmp_exact l p r less h.0) in
-    ap (λ b. b || list_any (prefix_eq l) ps) apart ∙ none_above l p ps less h.1
-
-kept_once : (b c : Bool) → hit b + cond b 0 (hit c) ≡ hit (b || c)
-kept_once true c = refl
-kept_once false c = omega arith
-
-still_kept : (b c : Bool) → cond b 0 (hit c) ≡ cond b 0 (hit (b || c))
-still_kept true c = refl
-still_kept false c = refl
-
-nothing : (b : Bool) → hit false ≡ cond b 0 (hit false)
-nothing true = refl
-nothing false = refl
-
-abbrev count_of : IpPrefix → List IpPrefix → ℕ
-count_of q ps = count_by (eq_by_cmp prefix_cmp q) ps
-
-count_cons : (q p : IpPrefix) (ps : List IpPrefix) → count_of q (p ∷ ps) ≡ hit (prefix_eq q p) + count_of q ps
-count_cons q p ps = sum_by-cons (λ k. hit (eq_by_cmp prefix_cmp q k)) p ps ∙ ap (λ b. hit b + count_of q ps) (prefix_tied q p)
-
-count_new : (q l : IpPrefix) (ps : List IpPrefix) → Ascends lower (l ∷ ps) → count_of q (new_after (Some l) ps) ≡ cond (prefix_eq q l) 0 (hit (list_any (prefix_eq q) ps))
-count_new q l [] h = nothing (prefix_eq q l)
-count_new q l (p ∷ ps) h =
-    let later = count_new q p ps h.1 in
-    elim (prefix_eq p l) as (λ b. prefix_eq p l ≡ b → count_of q (cond b (new_after (Some p) ps) (p ∷ new_after (Some p) ps)) ≡ cond (prefix_eq q l) 0 (hit (prefix_eq q p || list_any (prefix_eq q) ps))) [
-      | true ↦ λ same. later ∙ still_kept (prefix_eq q p) (list_any (prefix_eq q) ps) ∙ ap (λ k. cond (prefix_eq q k) 0 (hit (prefix_eq q p || list_any (prefix_eq q) ps))) (same_prefix p l same)
-      | false ↦ λ other.
-          let whole = count_cons q p (new_after (Some p) ps) ∙ ap (λ n. hit (prefix_eq q p) + n) later ∙ kept_once (prefix_eq q p) (list_any (prefix_eq q) ps) in
-          elim (prefix_eq q l) as (λ b. prefix_eq q l ≡ b → count_of q (p ∷ new_after (Some p) ps) ≡ cond b 0 (hit (prefix_eq q p || list_any (prefix_eq q) ps))) [
-            | true ↦ λ is_l.
-                let is : q ≡ l = same_prefix q l is_l in
-                let less : prefix_cmp l p ≡ Less = above_first prefix_cmp_total prefix_cmp_exact l p h.0.0 (λ e. false≢true (sym other ∙ ap (λ k. prefix_eq k l) (e ∙ sym is) ∙ is_l)) in
-                let none : list_any (prefix_eq l) (p ∷ ps) ≡ false = ap (λ b. b || list_any (prefix_eq l) ps) (sym (prefix_tied l p) ∙ ap is_eq less) ∙ none_above l p ps less h.1.0 in
-                whole ∙ ap (λ k. hit (list_any (prefix_eq k) (p ∷ ps))) is ∙ ap hit none
-            | false ↦ λ _. whole
-          ] refl
-    ] refl
-
--- a table in order gives a prefix once, or not at all
-pub count_in_table : (q : IpPrefix) (ps : List IpPrefix) → Ascends lower ps → count_of q (without_repeats ps) ≡ hit (list_any (prefix_eq q) ps)
-count_in_table q [] h = refl
-count_in_table q (p ∷ ps) h = count_cons q p (new_after (Some p) ps) ∙ ap (λ n. hit (prefix_eq q p) + n) (count_new q p ps h) ∙ kept_once (prefix_eq q p) (list_any (prefix_eq q) ps)
-
--- over all tables together it stands as often as there are tables that have it
-count_in_tables : (q : IpPrefix) (seats : List Seat) → AllByRecursion HasOrder seats → count_of q (flat_map (λ s. without_repeats (seat_prefixes s)) seats) ≡ count_by (is_visible_at q) seats
-count_in_tables q [] h = refl
-count_in_tables q (s ∷ seats) h =
-    let here = count_in_table q (seat_prefixes s) (ascending_prefixes s.session.table (test_of _ h.0)) in
-    let later = count_in_tables q seats h.1 in
-    let split = sum_by-append (λ k. hit (eq_by_cmp prefix_cmp q k)) (without_repeats (seat_prefixes s)) (flat_map (λ t. without_repeats (seat_prefixes t)) seats) in
-    let counts = sum_by-cons (λ t. hit (is_visible_at q t)) s seats in
-    omega (arith, here, later, split, counts)
-
--- ---- no prefix is lost
+-- ---- each prefix of a table is kept once, and none is lost
 
 pub twice : (b c : Bool) → (b || c) ≡ (b || (b || c))
 twice true c = refl
@@ -145,25 +83,102 @@ any_without_repeats : (f : IpPrefix → Bool) (ps : List IpPrefix) → list_any 
 any_without_repeats f [] = refl
 any_without_repeats f (p ∷ ps) = any_new f p ps
 
-any_in_tables : (f : IpPrefix → Bool) (seats : List Seat) → list_any f (flat_map (λ s. without_repeats (seat_prefixes s)) seats) ≡ list_any f (flat_map seat_prefixes seats)
-any_in_tables f [] = refl
-any_in_tables f (s ∷ seats) =
-    let once = flat_map (λ t. without_repeats (seat_prefixes t)) seats in
-    list_any-append f (without_repeats (seat_prefixes s)) once
-    ∙ ap (λ b. b || list_any f once) (any_without_repeats f (seat_prefixes s))
-    ∙ ap (λ b. list_any f (seat_prefixes s) || b) (any_in_tables f seats)
-    ∙ sym (list_any-append f (seat_prefixes s) (flat_map seat_prefixes seats))
+-- a prefix with a count of 1
+abbrev once : IpPrefix → IpPrefix × ℕ
+once p = (p, 1)
 
-abbrev row_of : IpPrefix × ℕ → SeenRow
-row_of e = record { prefix = e.0; peers = e.1 }
+below_later : (x y : IpPrefix) (es : List (IpPrefix × ℕ)) → prefix_cmp x y ≡ Less → T (below_all prefix_cmp y es) → T (below_all prefix_cmp x ((y, 1) ∷ es))
+below_later x y es less h = both_of _ (below_all prefix_cmp x es) (lower_of prefix_cmp_total x y less) (below_less prefix_cmp_total x y es less h)
 
--- the counts of all prefixes are the rows of the report
-pub seen_rows : (tables : TablesState) (rows : List SeenRow) → AllByRecursion HasOrder tables.seats
-    → map seen_pair rows ≡ counted prefix_cmp (flat_map (λ s. without_repeats (seat_prefixes s)) tables.seats) → rows ≡ visibility_rows tables
-seen_rows tables rows ordered e =
-    let once = flat_map (λ s. without_repeats (seat_prefixes s)) tables.seats in
-    let count : IpPrefix → ℕ = λ p. count_of p once in
-    sym (map-id rows) ∙ map_twice seen_pair row_of rows ∙ ap (map row_of) e ∙ sym (map_twice (λ p. (p, count p)) row_of (in_order prefix_cmp once))
-    ∙ map_same (λ p. row_of (p, count p)) (λ p. row_of (p, visibility_of tables p)) (in_order prefix_cmp once)
-    (all_of (λ p. ap (λ n. row_of (p, n)) (count_in_tables p tables.seats ordered)) (in_order prefix_cmp once))
-    ∙ ap (λ es. map (λ p. row_of (p, visibility_of tables p)) (map (λ (e : IpPrefix × Unit {0}). e.0) es)) (set_same prefix_cmp_total prefix_cmp_exact once (table_prefixes tables) (λ q. any_in_tables (eq_by_cmp prefix_cmp q) tables.seats))
+-- what is new after a prefix in an ascending list rises, above that prefix
+new_rises : (l : IpPrefix) (ps : List IpPrefix) → Ascends lower (l ∷ ps) → T (below_all prefix_cmp l (map once (new_after (Some l) ps))) × T (is_sorted prefix_cmp (map once (new_after (Some l) ps)))
+new_rises l [] h = (tt, tt)
+new_rises l (p ∷ ps) h =
+    let later = new_rises p ps h.1 in
+    let kept = map once (new_after (Some p) ps) in
+    elim (prefix_eq p l) as (λ b. prefix_eq p l ≡ b → T (below_all prefix_cmp l (map once (cond b (new_after (Some p) ps) (p ∷ new_after (Some p) ps)))) × T (is_sorted prefix_cmp (map once (cond b (new_after (Some p) ps) (p ∷ new_after (Some p) ps))))) [
+      | true ↦ λ same. (subst (λ k. T (below_all prefix_cmp k kept)) (same_prefix p l same) later.0, later.1)
+      | false ↦ λ other.
+          let less : prefix_cmp l p ≡ Less = above_first prefix_cmp_total prefix_cmp_exact l p h.0.0 (λ e. false≢true (sym other ∙ ap (λ k. prefix_eq k l) e ∙ own_itself l)) in
+          (below_later l p kept less later.0, both_of _ (is_sorted prefix_cmp kept) later.0 later.1)
+    ] refl
+
+once_rises : (ps : List IpPrefix) → Ascends lower ps → T (is_sorted prefix_cmp (map once (without_repeats ps)))
+once_rises [] h = tt
+once_rises (p ∷ ps) h = let later = new_rises p ps h in both_of _ (is_sorted prefix_cmp (map once (new_after (Some p) ps))) later.0 later.1
+
+find_once : (q : IpPrefix) (ps : List IpPrefix) → find prefix_cmp q (map once ps) ≡ cond (list_any (eq_by_cmp prefix_cmp q) ps) (Some 1) None
+find_once q [] = refl
+find_once q (p ∷ ps) = elim (eq_by_cmp prefix_cmp q p) as (λ b. cond b (Some 1) (find prefix_cmp q (map once ps)) ≡ cond (b || list_any (eq_by_cmp prefix_cmp q) ps) (Some 1) None) [ true ↦ refl | false ↦ find_once q ps ]
+
+-- ---- at how many peers a prefix is visible
+
+abbrev count_in : List Seat → IpPrefix → ℕ
+count_in seats q = count_by (is_visible_at q) seats
+
+any_tied : (q : IpPrefix) (ps : List IpPrefix) → list_any (eq_by_cmp prefix_cmp q) ps ≡ list_any (prefix_eq q) ps
+any_tied q [] = refl
+any_tied q (p ∷ ps) = ap (λ b. b || list_any (eq_by_cmp prefix_cmp q) ps) (prefix_tied q p) ∙ ap (λ b. prefix_eq q p || b) (any_tied q ps)
+
+where_any : (a b : Bool) (n : ℕ) → a ≡ b → n ≡ hit b → cond a (Some 1) None ≡ cond a (Some n) None
+where_any true true n e is = ap Some (sym is)
+where_any true false n e is = absurd (false≢true (sym e))
+where_any false b n e is = refl
+
+abbrev tally : List Seat → List (IpPrefix × ℕ)
+tally seats = tallied prefix_cmp (count_in seats) (flat_map seat_prefixes seats)
+
+seen_tally : (seats : List Seat) → seen_among seats ≡ tally seats
+seen_tally seats = counted_in_order prefix_cmp_exact (count_in seats) (flat_map seat_prefixes seats)
+
+-- the prefixes of one peer
+pub seen_at_one : (s : Seat) → HasOrder s → map (λ p. (p, 1)) (without_repeats (seat_prefixes s)) ≡ seen_among (s ∷ [])
+seen_at_one s ordered =
+    let ps = seat_prefixes s in
+    let all = flat_map seat_prefixes (s ∷ []) in
+    let same : all ≡ ps = append-nil ps in
+    let count : (q : IpPrefix) → count_in (s ∷ []) q ≡ hit (list_any (prefix_eq q) ps) = λ q. sum_by-cons (λ t. hit (is_visible_at q t)) s [] ∙ add-zero _ in
+    same_entries prefix_cmp prefix_cmp_total prefix_cmp_exact (map once (without_repeats ps)) (tally (s ∷ [])) (once_rises ps (ascending_prefixes s.session.table (test_of _ ordered)))
+    (is_sorted-tabulated prefix_cmp_total (λ k. Some (count_in (s ∷ []) k)) all)
+    (λ q. find_once q (without_repeats ps) ∙ ap (λ b. cond b (Some 1) None) (any_without_repeats (eq_by_cmp prefix_cmp q) ps)
+    ∙ where_any (list_any (eq_by_cmp prefix_cmp q) ps) (list_any (prefix_eq q) ps) (count_in (s ∷ []) q) (any_tied q ps) (count q)
+    ∙ ap (λ l. cond (list_any (eq_by_cmp prefix_cmp q) l) (Some (count_in (s ∷ []) q)) None) (sym same)
+    ∙ sym (find_tallied prefix_cmp_total prefix_cmp_exact (count_in (s ∷ [])) q all))
+    ∙ sym (seen_tally (s ∷ []))
+
+either_false : (a b : Bool) → (a || b) ≡ false → (a ≡ false) × (b ≡ false)
+either_false true b e = absurd (false≢true (sym e))
+either_false false b e = (refl, e)
+
+-- a prefix of no table is visible at no peer
+none_seen : (q : IpPrefix) (seats : List Seat) → list_any (eq_by_cmp prefix_cmp q) (flat_map seat_prefixes seats) ≡ false → count_in seats q ≡ 0
+none_seen q [] e = refl
+none_seen q (s ∷ seats) e =
+    let parts = either_false (list_any (eq_by_cmp prefix_cmp q) (seat_prefixes s)) (list_any (eq_by_cmp prefix_cmp q) (flat_map seat_prefixes seats)) (sym (list_any-append (eq_by_cmp prefix_cmp q) (seat_prefixes s) (flat_map seat_prefixes seats)) ∙ e) in
+    let here : hit (is_visible_at q s) ≡ 0 = ap hit (sym (any_tied q (seat_prefixes s)) ∙ parts.0) in
+    let later : count_in seats q ≡ 0 = none_seen q seats parts.1 in
+    omega (arith, here, later, sum_by-cons (λ t. hit (is_visible_at q t)) s seats)
+
+-- the prefixes of two lists of peers are those of all of them
+pub merged_seen : (xs ys : List Seat) → length xs + length ys < 2 ^ 64 → merged prefix_cmp (seen_among xs) (seen_among ys) ≡ seen_among (xs ++ ys)
+merged_seen xs ys few =
+    let count : (q : IpPrefix) → count_in xs q + count_in ys q ≡ count_in (xs ++ ys) q = λ q. sym (sum_by-append (λ t. hit (is_visible_at q t)) xs ys) in
+    let fits : (q : IpPrefix) → add_counts (count_in xs q) (count_in ys q) ≡ count_in xs q + count_in ys q =
+    λ q. omega (arith, few, count_by-le-length (is_visible_at q) xs, count_by-le-length (is_visible_at q) ys) in
+    ap (λ l. merged prefix_cmp l (seen_among ys)) (seen_tally xs) ∙ ap (merged prefix_cmp (tally xs)) (seen_tally ys)
+    ∙ merged_tallied prefix_cmp_total prefix_cmp_exact (count_in xs) (count_in ys) (flat_map seat_prefixes xs) (flat_map seat_prefixes ys) (λ q. none_seen q xs) (λ q. none_seen q ys) fits
+    ∙ ap (λ n. tallied prefix_cmp n (flat_map seat_prefixes xs ++ flat_map seat_prefixes ys)) (λ i q. count q i)
+    ∙ ap (tallied prefix_cmp (count_in (xs ++ ys))) (sym (flat_map-append seat_prefixes xs ys))
+    ∙ sym (seen_tally (xs ++ ys))
+
+pub single : {X : Type 0} (xs : List X) (x : X) → 1 ≤ length xs → length xs < 2 → x ≡ get_or xs 0 x → xs ≡ x ∷ []
+single [] x some few is = absurd (omega (arith, some))
+single (y ∷ []) x some few is = ap (λ z. z ∷ []) (sym is)
+single (y ∷ z ∷ xs) x some few is = absurd (omega (arith, few))
+
+pub halves : {X Y : Type 0} (f : X → Y) (n : ℕ) (xs front back : List X) → front ≡ take n xs → back ≡ drop n xs → map f front ++ map f back ≡ map f xs
+halves f n xs front back first second = ap (λ l. map f l ++ map f back) first ∙ ap (λ l. map f (take n xs) ++ map f l) second ∙ sym (map-append f (take n xs) (drop n xs)) ∙ ap (map f) (take-append-drop n xs)
+
+-- the rows of the report
+pub seen_rows : (tables : TablesState) → map (λ (e : IpPrefix × ℕ). record { prefix = e.0; peers = e.1 }) (seen_among tables.seats) ≡ visibility_rows tables
+seen_rows tables = sym (map_twice (λ p. (p, count_in tables.seats p)) (λ (e : IpPrefix × ℕ). record { prefix = e.0; peers = e.1 }) (in_order prefix_cmp (flat_map seat_prefixes tables.seats)))

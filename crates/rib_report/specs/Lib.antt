@@ -1,6 +1,7 @@
 pub mod Texts
 pub mod Digits
 pub mod Runs
+pub mod Merges
 pub mod Rows
 pub mod Reports
 pub mod Listings

@@ -85,6 +85,10 @@ is_visible_at p seat = list_any (prefix_eq p) (seat_prefixes seat)
 abbrev pub visibility_of : TablesState → IpPrefix → ℕ
 visibility_of tables p = count_by (is_visible_at p) tables.seats
 
+-- every prefix of these peers' tables, in order, and at how many of them it is visible
+abbrev pub seen_among : List Seat → List (IpPrefix × ℕ)
+seen_among seats = map (λ p. (p, count_by (is_visible_at p) seats)) (in_order prefix_cmp (flat_map seat_prefixes seats))
+
 abbrev pub visibility_rows : TablesState → List SeenRow
 visibility_rows tables = map (λ p. record { prefix = p; peers = visibility_of tables p }) (prefixes_in_tables tables)
 

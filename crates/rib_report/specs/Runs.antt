@@ -1,14 +1,8 @@
--- Runs of equal keys in a list, and how often each key stands in it.
-use Rattle.std.specs.Prelude.{ℕ, ◌&&◌, ◌==◌, Bool, false, List, [], ◌∷◌, map, Option, Some, None, if◌then◌else◌}
-use Rattle.std.specs.List.{count_by}
+-- Prefixes without repeats, and pairs of a prefix and a number in order.
+use Rattle.std.specs.Prelude.{ℕ, ◌&&◌, ◌==◌, Bool, false, List, [], ◌∷◌, Option, Some, None, if◌then◌else◌}
 use Rattle.std.specs.declared.cmp.Ordering.{Ordering}
-use Rattle.std.specs.Ordering.{eq_by_cmp, nat_cmp, ordering_then}
+use Rattle.std.specs.Ordering.{nat_cmp, ordering_then}
 use Rattle.bgp_prefix.specs.Prefixes.{IpPrefix, prefix_cmp, prefix_eq}
-use Rattle.bgp_prefix.specs.Ordered.{in_order}
-
--- each key once, in order, and how often it stands there
-abbrev pub counted : {K : Type 0} → (K → K → Ordering) → List K → List (K × ℕ)
-counted cmp ks = map (λ k. (k, count_by (eq_by_cmp cmp k) ks)) (in_order cmp ks)
 
 abbrev pub is_last : Option IpPrefix → IpPrefix → Bool
 is_last None p = false

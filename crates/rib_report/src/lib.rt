@@ -6,6 +6,7 @@ mod defined;
 mod fields;
 mod format;
 mod line;
+mod merge;
 mod numbers;
 mod reports;
 mod request;

@@ -3,6 +3,7 @@
 ghost use Rattle.std.specs.Prelude.{◌≡◌, ◌≢◌, ◌<◌, ◌≤◌, ◌++◌, [], ◌∷◌, IfOk, OnOk, map, length};
 ghost use Rattle.std.specs.List.{AllWithin, HoldsAt, filter, filter_map, flat_map};
 ghost use Rattle.std.specs.List.Sorted.{IsStrictlySortedBy};
+ghost use Rattle.bgp_prefix.specs.Ordered.{in_order};
 ghost use Rattle.rib_report.specs.Runs.{pair_cmp};
 ghost use Rattle.rib_report.specs.Reports.{route_origin, origin_pair, seat_origins, table_origins, has_several, grouped_origins, origin_rows};
 ghost use Rattle.rib_report.specs.Lines.{origin_line};
@@ -12,6 +13,7 @@ ghost use Rattle.peer_tables.specs.Seats.{seat_of};
 use crate::buffer::TextBuffer;
 use crate::fields::put_prefix;
 use crate::line::Line;
+use crate::merge::merge_counts;
 use crate::write::write_lines;
 use adj_rib::SharedRoute;
 use bgp_prefix::{Memory, Prefix, PrefixMap, RouteKey, Sequence};
@@ -64,16 +66,63 @@ fn add_origins<M: PrefixMap<SharedRoute>>(
     Ok(())
 }
 
-/// Returns the prefix and the origin AS of each route that has an origin AS.
+/// Returns the pairs with a count of 1 each.
+fn counted(alloc: Global, pairs: &[(Prefix, u32)]) -> Result<Vec<((Prefix, u32), usize)>, Memory>
+    ensures { IfOk result (λ counts. map (λ e. e.0) counts.items ≡ pairs.now) }
+{
+    let mut counts = Vec::with_capacity(alloc, pairs.len())?;
+    for pair in pairs {
+        counts.push((*pair, 1))?;
+    }
+    Ok(counts)
+}
+
+/// Returns the prefixes and origin ASes of one peer's routes in order, each pair once.
+fn pairs_of_seat<M: PrefixMap<SharedRoute>>(
+    alloc: Global,
+    seat: &Seated<M>,
+) -> Result<Vec<((Prefix, u32), usize)>, Memory>
+    ensures { IfOk result (λ counts. map (λ e. e.0) counts.items ≡ in_order pair_cmp (seat_origins (seat_of seat.now))) }
+{
+    let mut pairs = Vec::new(alloc);
+    add_origins(alloc, &mut pairs, seat)?;
+    pairs.sort()?;
+    pairs.dedup();
+    counted(alloc, pairs.as_slice())
+}
+
+/// Returns the prefixes and origin ASes of these peers' routes in order, each pair once and with the number of peers
+/// that have it. The peers are halved until each is alone.
+fn pairs_of<M: PrefixMap<SharedRoute>>(
+    alloc: Global,
+    seats: &[Seated<M>],
+) -> Result<Vec<((Prefix, u32), usize)>, Memory>
+    ensures { IfOk result (λ counts. map (λ e. e.0) counts.items ≡
+        in_order pair_cmp (flat_map seat_origins (map seat_of seats.now))) }
+{
+    match seats {
+        [] => Ok(Vec::new(alloc)),
+        [seat] => pairs_of_seat(alloc, seat),
+        _ => {
+            let (front, back) = seats.split_at(seats.len() / 2);
+            let first = pairs_of(alloc, front)?;
+            let second = pairs_of(alloc, back)?;
+            merge_counts(alloc, first.as_slice(), second.as_slice())
+        }
+    }
+}
+
+/// Returns the prefix and the origin AS of each route that has an origin AS, in order, each pair once.
 fn all_origins<M: PrefixMap<SharedRoute>>(
     alloc: Global,
     tables: &Tables<M>,
 ) -> Result<Vec<(Prefix, u32)>, Memory>
-    ensures { IfOk result (λ pairs. pairs.items ≡ table_origins tables.now) }
+    ensures { IfOk result (λ pairs. pairs.items ≡ in_order pair_cmp (table_origins tables.now)) }
 {
-    let mut pairs = Vec::new(alloc);
-    for seat in tables.seats() {
-        add_origins(alloc, &mut pairs, seat)?;
+    let counts = pairs_of(alloc, tables.seats())?;
+    let mut pairs = Vec::with_capacity(alloc, counts.len())?;
+    for count in counts.as_slice() {
+        pairs.push(count.0)?;
     }
     Ok(pairs)
 }
@@ -131,9 +180,7 @@ pub fn origins<M: PrefixMap<SharedRoute>>(
 ) -> Result<Vec<OriginRow>, Memory>
     ensures { IfOk result (λ rows. rows.items ≡ origin_rows tables.now) }
 {
-    let mut pairs = all_origins(alloc, tables)?;
-    pairs.sort()?;
-    pairs.dedup();
+    let pairs = all_origins(alloc, tables)?;
     group_runs(alloc, pairs.as_slice())
 }
 

@@ -1,13 +1,10 @@
 //! The report `visibility`: the prefixes that are in any table. A line holds a prefix and the number of peers at which
 //! it is visible.
 
-ghost use Rattle.std.specs.Prelude.{◌≡◌, ◌≢◌, ◌<◌, ◌≤◌, ◌++◌, IfOk, OnOk, map, length};
-ghost use Rattle.std.specs.List.{AllWithin, AllByRecursion, HoldsAt, flat_map};
-ghost use Rattle.std.specs.List.Sorted.{IsSorted};
-ghost use Rattle.bgp_prefix.specs.Prefixes.{prefix_cmp};
-ghost use Rattle.rib_report.specs.Rows.{seen_pair};
-ghost use Rattle.rib_report.specs.Runs.{counted, is_last, without_repeats};
-ghost use Rattle.rib_report.specs.Reports.{HasOrder, seat_prefixes, visibility_rows};
+ghost use Rattle.std.specs.Prelude.{◌≡◌, [], ◌∷◌, IfOk, map};
+ghost use Rattle.std.specs.List.{flat_map};
+ghost use Rattle.rib_report.specs.Runs.{is_last};
+ghost use Rattle.rib_report.specs.Reports.{seen_among, visibility_rows};
 ghost use Rattle.rib_report.specs.Lines.{visibility_line};
 ghost use Rattle.rib_report.specs.Texts.{IsOutput, Writes};
 ghost use Rattle.peer_tables.specs.Seats.{seat_of};
@@ -15,6 +12,7 @@ ghost use Rattle.peer_tables.specs.Seats.{seat_of};
 use crate::buffer::TextBuffer;
 use crate::fields::put_prefix;
 use crate::line::Line;
+use crate::merge::merge_counts;
 use crate::write::write_lines;
 use adj_rib::SharedRoute;
 use bgp_prefix::{Memory, Prefix, PrefixMap};
@@ -39,75 +37,44 @@ fn is_repeat(last: Option<Prefix>, prefix: Prefix) -> bool
     }
 }
 
-/// Adds the prefixes of one peer's table, each once, whatever its path identifiers.
-fn add_prefixes<M: PrefixMap<SharedRoute>>(
+/// Returns the prefixes of one peer's table in order, each once and with a count of 1, whatever its path identifiers.
+fn prefixes_of_seat<M: PrefixMap<SharedRoute>>(
     alloc: Global,
-    prefixes: &mut Vec<Prefix>,
     seat: &Seated<M>,
-) -> Result<(), Memory>
-    ensures prefixes { OnOk result
-        (prefixes.new.items ≡ prefixes.old.items ++ without_repeats (seat_prefixes (seat_of seat.now))) }
-    ensures ordered { OnOk result (HasOrder (seat_of seat.now)) }
+) -> Result<Vec<(Prefix, usize)>, Memory>
+    ensures { IfOk result (λ counts. counts.items ≡ seen_among (seat_of seat.now ∷ [])) }
 {
     let entries = seat.session.table().entries(alloc)?;
+    let mut counts = Vec::new(alloc);
     let mut last = None;
     for entry in entries.as_slice() {
         let prefix = entry.0.prefix;
         if !is_repeat(last, prefix) {
-            prefixes.push(prefix)?;
+            counts.push((prefix, 1))?;
         }
         last = Some(prefix);
     }
-    Ok(())
+    Ok(counts)
 }
 
-/// Returns the prefixes of all tables, table by table.
-fn all_prefixes<M: PrefixMap<SharedRoute>>(
+/// Returns the prefixes of these peers' tables in order, each with the number of peers at which it is visible. The
+/// peers are halved until each is alone, so that hardly more than a few lists of prefixes are held at a time.
+fn prefixes_of<M: PrefixMap<SharedRoute>>(
     alloc: Global,
-    tables: &Tables<M>,
-) -> Result<Vec<Prefix>, Memory>
-    ensures prefixes { IfOk result
-        (λ prefixes. prefixes.items ≡ flat_map (λ seat. without_repeats (seat_prefixes seat)) tables.now.seats) }
-    ensures ordered { OnOk result (AllByRecursion HasOrder tables.now.seats) }
+    seats: &[Seated<M>],
+) -> Result<Vec<(Prefix, usize)>, Memory>
+    ensures { IfOk result (λ counts. counts.items ≡ seen_among (map seat_of seats.now)) }
 {
-    let mut prefixes = Vec::new(alloc);
-    for seat in tables.seats() {
-        add_prefixes(alloc, &mut prefixes, seat)?;
-    }
-    Ok(prefixes)
-}
-
-/// Returns how many prefixes at the front equal this one.
-fn run_length(prefixes: &[Prefix], first: Prefix) -> usize
-    ensures within { result ≤ length prefixes.now }
-    ensures same { AllWithin (λ p. p ≡ first) prefixes.now 0 result }
-    ensures other { result < length prefixes.now → HoldsAt (λ p. p ≢ first) prefixes.now result }
-{
-    for i in 0..prefixes.len() {
-        if prefixes[i] != first {
-            return i;
+    match seats {
+        [] => Ok(Vec::new(alloc)),
+        [seat] => prefixes_of_seat(alloc, seat),
+        _ => {
+            let (front, back) = seats.split_at(seats.len() / 2);
+            let front = prefixes_of(alloc, front)?;
+            let back = prefixes_of(alloc, back)?;
+            merge_counts(alloc, front.as_slice(), back.as_slice())
         }
     }
-    prefixes.len()
-}
-
-/// Makes a row for each run of equal prefixes.
-fn count_runs(alloc: Global, prefixes: &[Prefix]) -> Result<Vec<SeenRow>, Memory>
-    requires { IsSorted prefix_cmp prefixes.now }
-    ensures { IfOk result (λ rows. map seen_pair rows.items ≡ counted prefix_cmp prefixes.now) }
-{
-    let mut rows = Vec::new(alloc);
-    let mut rest = prefixes;
-    while let [first, ..] = rest {
-        let peers = run_length(rest, *first);
-        rows.push(SeenRow {
-            prefix: *first,
-            peers,
-        })?;
-        let (_, later) = rest.split_at(peers);
-        rest = later;
-    }
-    Ok(rows)
 }
 
 /// Returns, for each prefix visible at any peer, the number of peers at which it is visible, by prefix. A peer
@@ -118,9 +85,13 @@ pub fn visibility<M: PrefixMap<SharedRoute>>(
 ) -> Result<Vec<SeenRow>, Memory>
     ensures { IfOk result (λ rows. rows.items ≡ visibility_rows tables.now) }
 {
-    let mut prefixes = all_prefixes(alloc, tables)?;
-    prefixes.sort()?;
-    count_runs(alloc, prefixes.as_slice())
+    let counts = prefixes_of(alloc, tables.seats())?;
+    let mut rows = Vec::with_capacity(alloc, counts.len())?;
+    for count in counts.as_slice() {
+        let (prefix, peers) = *count;
+        rows.push(SeenRow { prefix, peers })?;
+    }
+    Ok(rows)
 }
 
 impl Line for SeenRow {

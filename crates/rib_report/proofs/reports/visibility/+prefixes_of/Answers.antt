@@ -1,0 +1,31 @@
+use Rattle.std.proofs.Common.{◌≡◌, ◌∙◌, ◌++◌, [], ◌∷◌, ap, sym, map, ◌+◌, ◌<◌, ◌^◌, ◌/◌, length, arith}
+use Rattle.std.proofs.lemmas.List.{length-map}
+use Rattle.std.proofs.lemmas.Result.{IfOk-weaker}
+use Rattle.bgp_prefix.specs.Prefixes.{prefix_cmp}
+use Rattle.peer_tables.specs.Seats.{seat_of}
+use Rattle.rib_report.specs.Merges.{merged}
+use Rattle.rib_report.specs.Reports.{seen_among}
+use Rattle.rib_report.proofs.SeenLaws.{single, halves, merged_seen}
+use Rattle.rib_report.proofs.reports.visibility.+prefixes_of.Goals as goal
+
+pub returns-in-len1 : goal.returns-in-len1
+returns-in-len1 g t c =
+    let seats = c.args.seats.now in
+    let alone = single seats c.seat-item.result c.in-len1.len_at_least c.in-len1.len_below c.seat-item.is in
+    IfOk-weaker c.prefixes_of_seat.result (λ counts. counts.items ≡ seen_among (seat_of {M = g.row.M.Denot} c.seat-item.result ∷ [])) (λ counts. counts.items ≡ seen_among (map (seat_of {M = g.row.M.Denot}) seats))
+    (λ counts h. h ∙ ap (λ l. seen_among (map (seat_of {M = g.row.M.Denot}) l)) (sym alone)) c.prefixes_of_seat.ensures
+
+pub returns-in_ok-back-in_default : goal.returns-in_ok-back-in_default
+returns-in_ok-back-in_default g t c =
+    let seats = c.args.seats.now in
+    let front = c.split_at.result.0.now in
+    let back = c.split_at.result.1.now in
+    let seen = seat_of {M = g.row.M.Denot} in
+    let counts_front = c.as_slice.result.now in
+    let counts_back = c.as_slice-in_default.result.now in
+    let first : counts_front ≡ seen_among (map seen front) = c.as_slice.ensures.value ∙ c.in_ok-front-in_default.ensures in
+    let second : counts_back ≡ seen_among (map seen back) = c.as_slice-in_default.ensures.value ∙ c.in_ok-back-in_default.ensures in
+    let whole : map seen front ++ map seen back ≡ map seen seats = halves seen (length seats / 2) seats front back c.split_at.ensures.front c.split_at.ensures.back in
+    let few : length (map seen front) + length (map seen back) < 2 ^ 64 = omega (arith, length-map front seen, length-map back seen, c.split_at.ensures.front_len, c.split_at.ensures.back_len) in
+    IfOk-weaker c.merge_counts.result (λ counts. counts.items ≡ merged prefix_cmp counts_front counts_back) (λ counts. counts.items ≡ seen_among (map seen seats))
+    (λ counts h. h ∙ ap (λ l. merged prefix_cmp l counts_back) first ∙ ap (merged prefix_cmp (seen_among (map seen front))) second ∙ merged_seen (map seen front) (map seen back) few ∙ ap seen_among whole) c.merge_counts.ensures
