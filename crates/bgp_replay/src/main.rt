@@ -237,6 +237,7 @@ fn replay_job(rt: &HostRuntime, threads: &(impl Threads + Sync), job: &Job) -> u
         &plan_of(job, workers),
         &ByTurns,
         &Counter {
+            rt: *rt,
             board: board.as_ref(),
             counts: counts.as_ref(),
         },

@@ -6,10 +6,18 @@ use lane_deal::Gate;
 use mrt_body::Damage;
 use std::alloc::{AllocError, Global};
 use std::sync::atomic::{AtomicU64, Ordering};
-use std::time::Instant;
+use std::thread::{sleep, yield_now};
+use std::time::{Duration, Instant};
 
 /// The minimum time between two lines.
 const PAUSE_MILLIS: u64 = 250;
+
+/// After this many looks in vain a thread no longer yields its processor before the next one, but sleeps: a thread that
+/// only yields is still ready to run, and the system keeps it on a processor that another thread could use.
+const YIELDS: u32 = 10;
+
+/// How long it sleeps. Linux adds some 50 microseconds to so short a sleep.
+const NAP_MICROS: u64 = 20;
 
 /// How many bytes are read between two looks at the clock.
 pub const LOOK: u64 = 1 << 20;
@@ -117,10 +125,11 @@ impl Board {
     }
 }
 
-/// The gate of the program. A board, if there is one, is notified of the number of routes, as often as it shows it, and
-/// counts, if there are any, are notified of units and faults.
+/// The gate of the program, at which threads that find nothing to do sleep. A board, if there is one, is notified of
+/// the number of routes, as often as it shows it, and counts, if there are any, are notified of units and faults.
 #[derive(Clone, Copy)]
 pub struct Counter<'a> {
+    pub rt: HostRuntime,
     pub board: Option<&'a Board>,
     pub counts: Option<&'a Counts>,
 }
@@ -131,6 +140,14 @@ impl Gate for Counter<'_> {
     fn dealt(&self, _lane: usize, _number: u64) {
         if let Some(counts) = self.counts {
             counts.add_unit();
+        }
+    }
+
+    fn pause(&self, looks: u32) {
+        if looks <= YIELDS {
+            yield_now();
+        } else {
+            sleep(&self.rt, Duration::from_micros(NAP_MICROS));
         }
     }
 

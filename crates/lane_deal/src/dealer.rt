@@ -35,13 +35,19 @@ pub struct Dealer<D> {
 }
 
 /// Whether the lane's ring has room for another unit, at once or at one of this many further looks.
-fn has_room(feeds: &mut [Feed], lane: usize, looks: u32, over: &AtomicBool) -> bool
+fn has_room<G: Gate>(
+    gate: &G,
+    feeds: &mut [Feed],
+    lane: usize,
+    looks: u32,
+    over: &AtomicBool,
+) -> bool
     requires { lane < length feeds.old }
     ensures looked { (lane_of : ℕ → ℕ) → Dealt lane_of feeds.old feeds.new [] }
     ensures room { result ≡ true → (d : _) → 0 < known_free (slice_index_or feeds.new lane d).producer }
     ensures full { result ≡ false → (d : _) → known_free (slice_index_or feeds.old lane d).producer ≡ 0 }
 {
-    feeds[lane].has_room(looks, over)
+    feeds[lane].has_room(gate, looks, over)
 }
 
 /// Deals the unit to its lane's ring, which has room for it.
@@ -171,7 +177,7 @@ impl<D: Dealing> Dealer<D> {
             };
             let number = self.peers.number_of(&unit.peer)?;
             let lane = self.dealing.lane(number, feeds.len());
-            if !has_room(feeds, lane, looks, over) {
+            if !has_room(gate, feeds, lane, looks, over) {
                 self.kept = Some(unit);
                 return Ok(Step::Blocked);
             }

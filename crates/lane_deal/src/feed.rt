@@ -7,7 +7,6 @@ use crate::unit_producer::UnitProducer;
 use bgp_prefix::Memory;
 use std::alloc::Global;
 use std::sync::atomic::{AtomicBool, Ordering};
-use std::thread::yield_now;
 
 /// The maximum number of further looks for room: a round's end costs no more than these.
 const MOST_LOOKS: u32 = 1_000;
@@ -28,9 +27,9 @@ impl Feed {
     ghost use Rattle.lane_deal.specs.UnitRings.{known_free};
 
     /// Looks this many times, until there is room for more than an eighth of the ring, or for more than `MOST_ROOM`
-    /// units. Lets other threads run before each look. Returns whether there is any room at the end. If the round is
+    /// units. Pauses before each look. Returns whether there is any room at the end. If the round is
     /// over because a worker failed, it stops looking.
-    fn look_again(&mut self, looks: u32, over: &AtomicBool) -> bool
+    fn look_again<G: Gate>(&mut self, gate: &G, looks: u32, over: &AtomicBool) -> bool
         ensures looked { Pushed self.old self.new [] }
         ensures room { result ≡ true → 0 < known_free self.new.producer }
     {
@@ -39,7 +38,7 @@ impl Feed {
             if over.load(Ordering::SeqCst) {
                 break;
             }
-            yield_now();
+            gate.pause(look + 1);
             if self.producer.look() > enough {
                 return true;
             }
@@ -49,13 +48,13 @@ impl Feed {
 
     /// Whether there is room for a unit, at once or at one of this many further looks, of which it takes at most
     /// `MOST_LOOKS`.
-    pub fn has_room(&mut self, looks: u32, over: &AtomicBool) -> bool
+    pub fn has_room<G: Gate>(&mut self, gate: &G, looks: u32, over: &AtomicBool) -> bool
         ensures looked { Pushed self.old self.new [] }
         ensures room { result ≡ true → 0 < known_free self.new.producer }
         ensures full { result ≡ false → known_free self.old.producer ≡ 0 }
     {
         if self.producer.is_full() {
-            return self.look_again(looks.min(MOST_LOOKS), over);
+            return self.look_again(gate, looks.min(MOST_LOOKS), over);
         }
         true
     }

@@ -2,6 +2,7 @@
 
 use mrt_body::Damage;
 use std::marker::Sync;
+use std::thread::yield_now;
 
 /// Is notified when units are dealt and taken, and returns. Numbers count from 0 in each lane.
 pub trait Gate: Sync {
@@ -10,6 +11,12 @@ pub trait Gate: Sync {
 
     /// Called by the dealer just after its push of the unit with this number to a lane.
     fn dealt(&self, lane: usize, number: u64);
+
+    /// Called by a worker that finds no unit, and by the dealer that finds no room, before it looks again: it has looked
+    /// in vain this many times in a row. Lets other threads run. A gate that has a clock may sleep here.
+    fn pause(&self, _looks: u32) {
+        yield_now();
+    }
 
     /// Whether it wants to be notified of the current number of routes. Asked after each round of a replay.
     fn is_counting(&self) -> bool {

@@ -12,7 +12,7 @@ use bgp_prefix::Memory;
 use rtrb::Consumer;
 use std::alloc::Global;
 use std::sync::atomic::{AtomicBool, Ordering};
-use std::thread::{Threads, join_mut, yield_now};
+use std::thread::{Threads, join_mut};
 
 /// The taking half of a lane.
 #[derive(Drop)]
@@ -103,7 +103,7 @@ impl<S: Sessions> Worker<S> {
                 break;
             } else {
                 empty += 1;
-                yield_now();
+                gate.pause(empty);
             }
         }
         Ok(())

@@ -3,4 +3,4 @@ use Rattle.lane_deal.specs.Feeds.{Pushed}
 use Rattle.lane_deal.proofs.feed.Feed.look_again.Given as goal
 
 abbrev pub invariant-loop-look : goal.invariant-loop-look
-invariant-loop-look l = Pushed l.initial.self l.self []
+invariant-loop-look g l = Pushed l.initial.self l.self []
