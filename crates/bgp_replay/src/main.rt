@@ -31,9 +31,9 @@ use telling::{tell, tell_memory, tell_open, tell_summary, tell_write};
 /// The maximum number of units dealt in a round.
 const BATCH: u64 = 65_536;
 
-/// Empty looks at its ring after which a worker ends its round. They take some 30 ms, longer than the dealer loses its
-/// core to another thread: a worker that left sooner would end the round for all.
-const LOOKS: u32 = 100_000;
+/// Empty looks at its ring after which a worker ends its round. The gate sleeps between them, so they take some 70 ms,
+/// longer than the dealer loses its core to another thread: a worker that left sooner would end the round for all.
+const LOOKS: u32 = 1_000;
 
 /// A single worker runs in the calling thread: it looks once more at its ring when the round's dealing is over.
 const LOOKS_ALONE: u32 = 1;
