@@ -9,7 +9,7 @@ use Rattle.std.specs.Io.KnownBytes.{Appends}
 use Rattle.std.proofs.KnownBytes.{Appends-trans, Appends-nil}
 use Rattle.mrt_frame.specs.Devices.{HasFailed, one_more, greatest_count}
 use Rattle.mrt_frame.specs.Writes.{WritesFront}
-use Rattle.rib_report.specs.Texts.{TextState, empty_buffer, IsText, IsWritten, IsCutOff, Adds, Grows, Formats}
+use Rattle.rib_report.specs.Texts.{TextState, empty_buffer, IsText, IsWritten, IsCutOff, Adds, Formats}
 
 pub Adds_trans : {s t u : TextState} {p q : List ℕ} → Adds s t p → Adds t u q → Adds s u (p ++ q)
 Adds_trans {p = p} {q = q} f g = record { adds = λ contents failures text h. subst (IsText contents failures _) (append_assoc text p q) (g.adds contents failures (text ++ p) (f.adds contents failures text h)) }
@@ -106,12 +106,6 @@ text_begun {s = s} fresh f = f.adds s.contents s.failures [] (record {
   risen = λ e. absurd (false≢true (sym (ap (λ b. b.failed) fresh) ∙ e));
 })
 
--- ---- pieces that join those that wait
-
--- with the same writer
-pub Adds_of_growth : {s t : TextState} {m : ℕ} {p : List ℕ} → t.contents ≡ s.contents → t.failures ≡ s.failures → Grows s.buffer t.buffer m p → Adds s t p
-Adds_of_growth same count f = Adds_grown same count f.waiting f.still
-
 -- ---- pieces in a block
 
 pub Formats_trans : {a b c : List ℕ} {i j k m n : ℕ} {p q : List ℕ} → Formats a i b j m p → Formats b j c k n q → Formats a i c k (m + n) (p ++ q)
@@ -131,3 +125,8 @@ pub take-front_put : (a k n : ℕ) (xs ys : List ℕ) → a ≤ length xs → n 
 take-front_put a k n xs ys within fits =
     sym (take-take (a + n) (a + length ys) (put_mid a k xs ys) (omega arith)) ∙ ap (take (a + n)) (take-put_mid a k xs ys (a + length ys) refl within)
     ∙ ap (λ m. take (m + n) (take a xs ++ ys)) (sym (length-take-le a xs within)) ∙ take-append-add (take a xs) ys n
+
+-- a field behind the bytes that wait, in the same block
+pub Adds_formatted : {s t u : TextState} {old new : List ℕ} {at end most : ℕ} {p : List ℕ} → Adds s t [] → Formats old at new end most p → t.buffer.waiting ≡ take at old
+    → u.contents ≡ t.contents → u.failures ≡ t.failures → u.buffer.waiting ≡ take end new → u.buffer.failed ≡ t.buffer.failed → Adds s u p
+Adds_formatted {p = p} f text before same count after failed = Adds_trans f (Adds_grown same count (after ∙ text.text ∙ ap (λ l. l ++ p) (sym before)) failed)

@@ -9,7 +9,6 @@ use Rattle.bgp_update.specs.declared.path.SegmentKind.{SegmentKind}
 use Rattle.bgp_update.specs.declared.path.SegmentKind.TheVariants.{AsSet, AsSequence, ConfedSequence, ConfedSet}
 use Rattle.bgp_update.specs.declared.next_hop.NextHop.{NextHop}
 use Rattle.bgp_update.specs.declared.next_hop.NextHop.TheVariants as next_hop
-use Rattle.bgp_update.specs.declared.route.Route.{Route}
 use Rattle.bgp_update.specs.declared.route.Origin.{Origin}
 use Rattle.bgp_update.specs.declared.route.Origin.TheVariants.{Igp, Egp, Incomplete}
 use Rattle.bgp_update.specs.declared.route.Aggregator.{Aggregator}
@@ -77,16 +76,6 @@ route_line row = line (peer_text row.peer ∷ key_text row.key
     ∷ field path_text row.route.path ∷ field next_hop_text row.route.next_hop ∷ field origin_text row.route.origin
     ∷ field decimal row.route.med ∷ field decimal row.route.local_pref
     ∷ atomic_text row.route.atomic ∷ field aggregator_text row.route.aggregator ∷ [])
-
--- what stands behind a route's path, and the end of the line
-abbrev pub attributes_text : Route → List ℕ
-attributes_text route = line (field next_hop_text route.next_hop ∷ field origin_text route.origin
-    ∷ field decimal route.med ∷ field decimal route.local_pref
-    ∷ atomic_text route.atomic ∷ field aggregator_text route.aggregator ∷ [])
-
--- what stands behind a route's peer, and the end of the line
-abbrev pub route_text : RouteKey → Route → List ℕ
-route_text key route = key_text key ++ 124 ∷ (field path_text route.path ++ 124 ∷ attributes_text route)
 
 abbrev pub visibility_line : SeenRow → List ℕ
 visibility_line row = line (prefix_text row.prefix ∷ decimal row.peers ∷ [])

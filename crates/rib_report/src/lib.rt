@@ -3,13 +3,14 @@
 
 mod buffer;
 mod defined;
-mod fields;
+mod field;
 mod format;
 mod line;
 mod merge;
 mod numbers;
 mod reports;
 mod request;
+mod route_line;
 mod short;
 mod standing;
 mod write;

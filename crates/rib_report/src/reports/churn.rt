@@ -9,7 +9,7 @@ ghost use Rattle.rib_report.specs.Lines.{churn_line};
 ghost use Rattle.rib_report.specs.Texts.{IsOutput, Writes};
 
 use crate::buffer::TextBuffer;
-use crate::fields::{put_absent, put_peer};
+use crate::field::{Ended, Microseconds};
 use crate::line::Line;
 use crate::write::write_lines;
 use adj_rib::{Churn, SharedRoute};
@@ -43,13 +43,13 @@ pub fn churn<M: PrefixMap<SharedRoute>>(
     Ok(rows)
 }
 
-/// Adds a time, if there is one.
-fn put_optional_time<W: Sink>(text: &mut TextBuffer, out: &mut W, time: Option<u64>)
-    ensures { Writes W.contents W.failure_count out.old text.old out.new text.new (field time_text time) }
+/// Returns a time as a field.
+fn time_field(time: Option<u64>) -> Option<Microseconds>
+    ensures { field (λ t. time_text t.0) result ≡ field time_text time }
 {
     match time {
-        Some(time) => text.put_time(out, time),
-        None => put_absent(text, out),
+        Some(time) => Some(Microseconds(time)),
+        None => None,
     }
 }
 
@@ -62,28 +62,20 @@ impl Line for ChurnRow {
 
     fn put<W: Sink>(&self, text: &mut TextBuffer, out: &mut W) {
         let churn = self.churn;
-        put_peer(text, out, &self.peer);
-        text.put_byte(out, b'|');
-        text.put_number(out, churn.added);
-        text.put_byte(out, b'|');
-        text.put_number(out, churn.changed);
-        text.put_byte(out, b'|');
-        text.put_number(out, churn.same);
-        text.put_byte(out, b'|');
-        text.put_number(out, churn.gone);
-        text.put_byte(out, b'|');
-        text.put_number(out, churn.void);
-        text.put_byte(out, b'|');
-        text.put_number(out, churn.resets);
-        text.put_byte(out, b'|');
-        text.put_number(out, churn.idle);
-        text.put_byte(out, b'|');
-        text.put_number(out, churn.refused);
-        text.put_byte(out, b'|');
-        put_optional_time(text, out, churn.first);
-        text.put_byte(out, b'|');
-        put_optional_time(text, out, churn.last);
-        text.put_byte(out, b'\n');
+        let times = (time_field(churn.first), time_field(churn.last));
+        let refused = (churn.refused as u128, times);
+        let changes = (
+            churn.gone as u128,
+            (
+                churn.void as u128,
+                (churn.resets as u128, (churn.idle as u128, refused)),
+            ),
+        );
+        let counts = (
+            churn.added as u128,
+            (churn.changed as u128, (churn.same as u128, changes)),
+        );
+        text.put(out, Ended((self.peer, counts)));
     }
 }
 

@@ -11,7 +11,6 @@ ghost use Rattle.rib_report.specs.Lines.{fault_line};
 ghost use Rattle.rib_report.specs.Texts.{IsOutput, Writes};
 
 use crate::buffer::TextBuffer;
-use crate::fields::put_absent;
 use crate::line::Line;
 use crate::write::write_lines;
 use adj_rib::SharedRoute;
@@ -47,28 +46,14 @@ pub fn faults<M: PrefixMap<SharedRoute>>(
     Ok(rows)
 }
 
-/// Adds the number of a file, counted from 1.
-fn put_file<W: Sink>(text: &mut TextBuffer, out: &mut W, file: usize)
-    ensures { Writes W.contents W.failure_count out.old text.old out.new text.new (decimal (file + 1)) }
-{
-    text.put_long_number(out, file as u128 + 1);
-}
-
-/// Adds the number of an entry, if there is one.
-fn put_entry<W: Sink>(text: &mut TextBuffer, out: &mut W, entry: Option<u16>)
-    ensures { Writes W.contents W.failure_count out.old text.old out.new text.new (field decimal entry) }
+/// Returns the number of an entry as a field.
+fn entry_field(entry: Option<u16>) -> Option<u32>
+    ensures { result ≡ entry }
 {
     match entry {
-        Some(number) => text.put_number(out, number as u64),
-        None => put_absent(text, out),
+        Some(number) => Some(number as u32),
+        None => None,
     }
-}
-
-/// Adds the number of a fault.
-fn put_fault_number<W: Sink>(text: &mut TextBuffer, out: &mut W, fault: Fault)
-    ensures { Writes W.contents W.failure_count out.old text.old out.new text.new (decimal (fault_number fault)) }
-{
-    text.put_number(out, fault.number() as u64);
 }
 
 /// Adds the type of an attribute, in parentheses.
@@ -77,7 +62,7 @@ fn put_attribute_type<W: Sink>(text: &mut TextBuffer, out: &mut W, code: u8)
         (codes "(" ++ decimal code ++ codes ")") }
 {
     text.put_byte(out, b'(');
-    text.put_number(out, code as u64);
+    text.put(out, code as u32);
     text.put_byte(out, b')');
 }
 
@@ -85,7 +70,7 @@ fn put_attribute_type<W: Sink>(text: &mut TextBuffer, out: &mut W, code: u8)
 fn put_fault<W: Sink>(text: &mut TextBuffer, out: &mut W, fault: Fault)
     ensures { Writes W.contents W.failure_count out.old text.old out.new text.new (fault_name fault) }
 {
-    text.put(out, fault.name().as_bytes());
+    text.put_text(out, fault.name().as_bytes());
     if let Fault::BadAttribute(code) = fault {
         put_attribute_type(text, out, code);
     }
@@ -99,13 +84,13 @@ impl Line for Damage {
     }
 
     fn put<W: Sink>(&self, text: &mut TextBuffer, out: &mut W) {
-        put_file(text, out, self.place.file);
-        text.put_byte(out, b'|');
-        text.put_number(out, self.place.offset);
-        text.put_byte(out, b'|');
-        put_entry(text, out, self.place.entry);
-        text.put_byte(out, b'|');
-        put_fault_number(text, out, self.fault);
+        let file = self.place.file as u128 + 1;
+        let offset = self.place.offset as u128;
+        let number = self.fault.number() as u32;
+        text.put(
+            out,
+            (file, (offset, (entry_field(self.place.entry), number))),
+        );
         text.put_byte(out, b'|');
         put_fault(text, out, self.fault);
         text.put_byte(out, b'\n');

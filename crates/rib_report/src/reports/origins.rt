@@ -11,7 +11,6 @@ ghost use Rattle.rib_report.specs.Texts.{IsOutput, Writes};
 ghost use Rattle.peer_tables.specs.Seats.{seat_of};
 
 use crate::buffer::TextBuffer;
-use crate::fields::put_prefix;
 use crate::line::Line;
 use crate::merge::merge_counts;
 use crate::write::write_lines;
@@ -192,7 +191,7 @@ impl Line for OriginRow {
     }
 
     fn put<W: Sink>(&self, text: &mut TextBuffer, out: &mut W) {
-        put_prefix(text, out, &self.prefix);
+        text.put(out, self.prefix);
         text.put_byte(out, b'|');
         text.put_numbers(out, b' ', self.origins.as_slice());
         text.put_byte(out, b'\n');

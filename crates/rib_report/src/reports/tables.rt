@@ -15,8 +15,8 @@ ghost use Rattle.rib_report.specs.Lines.{route_line};
 ghost use Rattle.rib_report.specs.Texts.{IsOutput, Writes};
 
 use crate::buffer::TextBuffer;
-use crate::fields::put_row;
 use crate::line::Line;
+use crate::route_line::put_row;
 use crate::write::{NEAR_ROWS, next_rows, write_lines};
 use adj_rib::SharedRoute;
 use bgp_prefix::{Memory, PrefixMap, RouteKey};

@@ -10,7 +10,7 @@ ghost use Rattle.rib_report.specs.Texts.{IsOutput, Writes};
 ghost use Rattle.peer_tables.specs.Seats.{seat_of};
 
 use crate::buffer::TextBuffer;
-use crate::fields::put_prefix;
+use crate::field::Ended;
 use crate::line::Line;
 use crate::merge::merge_counts;
 use crate::write::write_lines;
@@ -102,10 +102,7 @@ impl Line for SeenRow {
     }
 
     fn put<W: Sink>(&self, text: &mut TextBuffer, out: &mut W) {
-        put_prefix(text, out, &self.prefix);
-        text.put_byte(out, b'|');
-        text.put_number(out, self.peers as u64);
-        text.put_byte(out, b'\n');
+        text.put(out, Ended((self.prefix, self.peers as u128)));
     }
 }
 

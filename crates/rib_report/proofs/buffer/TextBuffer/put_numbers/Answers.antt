@@ -1,8 +1,8 @@
-use Rattle.std.proofs.Common.{refl, decimal, subst, arith}
+use Rattle.std.proofs.Common.{decimal, subst, arith}
 use Rattle.rib_report.specs.Texts.{Adds}
-use Rattle.rib_report.proofs.TextLaws.{Adds_trans, Adds_of_growth}
+use Rattle.rib_report.proofs.TextLaws.{Adds_trans}
 use Rattle.rib_report.proofs.JoinLaws.{join_first_rest}
 use Rattle.rib_report.proofs.buffer.TextBuffer.put_numbers.Goals as goal
 
 pub returns : goal.returns
-returns g c = subst (Adds _ _) (join_first_rest c.args.separator decimal c.args.numbers.now 0 c.loop-number.number-index (omega arith) c.loop-number-test.false) (Adds_trans (Adds_trans c.make_room.ensures.writes (Adds_of_growth refl refl c.append_number.ensures)) c.loop-number.invariant)
+returns g c = subst (Adds _ _) (join_first_rest c.args.separator decimal c.args.numbers.now 0 c.loop-number.number-index (omega arith) c.loop-number-test.false) (Adds_trans c.put.ensures c.loop-number.invariant)

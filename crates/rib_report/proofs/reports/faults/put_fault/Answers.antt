@@ -8,4 +8,4 @@ pub returns-in-BadAttribute : goal.returns-in-BadAttribute
 returns-in-BadAttribute g c =
     let behind = codes "(" ++ decimal c.in-BadAttribute.code ++ codes ")" in
     let name = ap (λ l. l ++ behind) (c.as_bytes.ensures.value ∙ c.name.ensures) ∙ ap (λ f. kind_name f ++ behind) c.in-BadAttribute.is ∙ ap fault_name (sym c.in-BadAttribute.is) in
-    Adds_as name (Adds_trans c.put.ensures c.put_attribute_type.ensures)
+    Adds_as name (Adds_trans c.put_text.ensures c.put_attribute_type.ensures)

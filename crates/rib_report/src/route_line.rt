@@ -1,36 +1,16 @@
-//! Fields that the lines of several reports have, and the line of a route.
+//! The line of a route.
 
-ghost use Rattle.std.specs.Prelude.{◌+◌, ◌<◌, [], ◌∷◌, ◌++◌, codes};
+ghost use Rattle.std.specs.Prelude.{◌+◌, ◌<◌, [], ◌∷◌, ◌++◌};
 ghost use Rattle.rib_report.specs.Texts.{Writes};
 ghost use Rattle.rib_report.specs.Digits.{field, numbers_text};
-ghost use Rattle.rib_report.specs.Lines.{peer_text, prefix_text, key_text, kind_text, path_text, route_text, route_line};
+ghost use Rattle.rib_report.specs.Lines.{kind_text, path_text, route_line};
 
 use crate::buffer::TextBuffer;
-use bgp_prefix::{Prefix, RouteKey};
+use crate::field::{Atomic, Ended};
+use bgp_prefix::RouteKey;
 use bgp_update::{PackedRoute, PackedSegment, PackedSegments, SegmentKind};
 use mrt_body::PeerKey;
 use mrt_frame::Sink;
-
-pub(crate) fn put_peer<W: Sink>(text: &mut TextBuffer, out: &mut W, peer: &PeerKey)
-    ensures { Writes W.contents W.failure_count out.old text.old out.new text.new (peer_text peer.now) }
-{
-    text.make_room(out, 52);
-    text.append_peer(peer);
-}
-
-pub(crate) fn put_prefix<W: Sink>(text: &mut TextBuffer, out: &mut W, prefix: &Prefix)
-    ensures { Writes W.contents W.failure_count out.old text.old out.new text.new (prefix_text prefix.now) }
-{
-    text.make_room(out, 20);
-    text.append_prefix(prefix);
-}
-
-fn put_key<W: Sink>(text: &mut TextBuffer, out: &mut W, key: &RouteKey)
-    ensures { Writes W.contents W.failure_count out.old text.old out.new text.new (key_text key.now) }
-{
-    text.make_room(out, 33);
-    text.append_key(key);
-}
 
 fn put_enclosed<W: Sink>(
     text: &mut TextBuffer,
@@ -74,31 +54,13 @@ fn put_segments<W: Sink>(text: &mut TextBuffer, out: &mut W, path: PackedSegment
     }
 }
 
-pub(crate) fn put_absent<W: Sink>(text: &mut TextBuffer, out: &mut W)
-    ensures { Writes W.contents W.failure_count out.old text.old out.new text.new (codes "-") }
-{
-    text.put_byte(out, b'-');
-}
-
 fn put_path<W: Sink>(text: &mut TextBuffer, out: &mut W, path: Option<PackedSegments<'_>>)
     ensures { Writes W.contents W.failure_count out.old text.old out.new text.new (field path_text path.entry) }
 {
     match path {
         Some(path) => put_segments(text, out, path),
-        None => put_absent(text, out),
+        None => text.put_byte(out, b'-'),
     }
-}
-
-/// Adds a route, which follows its peer, and the end of the line.
-fn put_route<W: Sink>(text: &mut TextBuffer, out: &mut W, key: &RouteKey, route: &PackedRoute)
-    ensures { Writes W.contents W.failure_count out.old text.old out.new text.new (route_text key.now route.now) }
-{
-    put_key(text, out, key);
-    text.put_byte(out, b'|');
-    put_path(text, out, route.path());
-    text.put_byte(out, b'|');
-    text.make_room(out, 153);
-    text.append_attributes(route);
 }
 
 /// Adds the line of a route.
@@ -112,7 +74,12 @@ pub(crate) fn put_row<W: Sink>(
     ensures { Writes W.contents W.failure_count out.old text.old out.new text.new
         (route_line (record { peer = peer.now; key = key.now; route = route.now })) }
 {
-    put_peer(text, out, peer);
+    text.put(out, (*peer, *key));
     text.put_byte(out, b'|');
-    put_route(text, out, key, route);
+    put_path(text, out, route.path());
+    text.put_byte(out, b'|');
+    let (origin, next_hop) = (route.origin(), route.next_hop());
+    let (med, local_pref) = (route.med(), route.local_pref());
+    let rest = (Atomic(route.atomic()), route.aggregator());
+    text.put(out, Ended((next_hop, (origin, (med, (local_pref, rest))))));
 }

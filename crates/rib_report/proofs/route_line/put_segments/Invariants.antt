@@ -4,7 +4,7 @@ use Rattle.std.specs.List.{flat_map}
 use Rattle.rib_report.specs.Texts.{TextState, Adds, text_state}
 use Rattle.bgp_update.specs.Paths.{PathSegment}
 use Rattle.rib_report.specs.Lines.{kind_text}
-use Rattle.rib_report.proofs.fields.put_segments.Given as goal
+use Rattle.rib_report.proofs.route_line.put_segments.Given as goal
 
 abbrev pub invariant-loop-segment : goal.invariant-loop-segment
 invariant-loop-segment g l =

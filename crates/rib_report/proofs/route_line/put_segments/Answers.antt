@@ -4,7 +4,7 @@ use Rattle.rib_report.proofs.TextLaws.{Adds_trans, Adds_as, Adds_grown}
 use Rattle.rib_report.proofs.JoinLaws.{join-cons}
 use Rattle.bgp_update.specs.Paths.{PathSegment}
 use Rattle.rib_report.specs.Lines.{kind_text, path_text}
-use Rattle.rib_report.proofs.fields.put_segments.Goals as goal
+use Rattle.rib_report.proofs.route_line.put_segments.Goals as goal
 
 abbrev text : PathSegment → List ℕ
 text s = kind_text s.kind s.numbers

@@ -1,5 +1,0 @@
-use Rattle.rib_report.proofs.TextLaws.{Adds_trans}
-use Rattle.rib_report.proofs.reports.visibility.SeenRowLine.put.Goals as goal
-
-pub returns : goal.returns
-returns g c = Adds_trans (Adds_trans c.put_prefix.ensures (Adds_trans c.put_byte.ensures c.put_number.ensures)) c.put_byte-2.ensures

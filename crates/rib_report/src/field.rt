@@ -1,0 +1,366 @@
+//! What lines are made of: values with a text of limited length.
+
+ghost use Rattle.std.specs.Prelude.{◌≡◌, ℕ, ◌+◌, ◌-◌, ◌^◌, ◌<◌, ◌++◌, [], ◌∷◌, List, decimal, length, min};
+ghost use Rattle.rib_report.specs.Texts.{Formats};
+ghost use Rattle.rib_report.specs.Digits.{field, time_text, ipv6_text};
+ghost use Rattle.rib_report.specs.Lines.{addr_text, peer_text, prefix_text, identifier_text, key_text, next_hop_text, origin_text, aggregator_text, atomic_text};
+
+use crate::format::{
+    format_byte, format_ipv4, format_ipv6, format_number, format_short, format_six, format_text,
+    format_three,
+};
+use crate::short::ShortTexts;
+use bgp_prefix::{Prefix, RouteKey};
+use bgp_update::{Aggregator, NextHop, Origin};
+use itoa::Buffer;
+use mrt_body::{PeerAddr, PeerKey};
+
+/// A value with a text of limited length: a field of a line, several of them, or a part of one.
+pub(crate) trait Field: Copy {
+    /// Its text.
+    ghost text_of: { Self → List ℕ };
+
+    /// The greatest length of its text.
+    ghost longest: { ℕ };
+
+    /// The greatest length of its text.
+    fn longest() -> usize
+        ensures { result ≡ min longest (2 ^ 64 - 1) };
+
+    /// Writes the text, and returns the position after it. There has to be room for one byte more than the longest text.
+    fn format(self, bytes: &mut [u8], at: usize, shorts: &ShortTexts) -> usize
+        requires { at + longest < length bytes.old }
+        ensures { Formats bytes.old at bytes.new result longest (text_of self) };
+}
+
+/// A byte as it is.
+#[derive(Clone, Copy)]
+pub(crate) struct Byte(pub(crate) u8);
+
+impl Field for Byte {
+    ghost text_of = { λ b. b.0 ∷ [] };
+
+    ghost longest = { 1 };
+
+    fn longest() -> usize {
+        1
+    }
+
+    #[inline]
+    fn format(self, bytes: &mut [u8], at: usize, _shorts: &ShortTexts) -> usize {
+        format_byte(bytes, at, self.0)
+    }
+}
+
+// ---- fields, one behind the other
+
+/// Fields, separated by `|`.
+impl<A: Field, B: Field> Field for (A, B) {
+    ghost text_of = { λ f. A.text_of f.0 ++ 124 ∷ B.text_of f.1 };
+
+    ghost longest = { A.longest + (1 + B.longest) };
+
+    fn longest() -> usize {
+        A::longest().saturating_add(B::longest().saturating_add(1))
+    }
+
+    #[inline]
+    #[tactic(auto, using(crate::proofs::TextLaws::Formats_trans))]
+    fn format(self, bytes: &mut [u8], at: usize, shorts: &ShortTexts) -> usize {
+        let at = self.0.format(bytes, at, shorts);
+        let at = format_byte(bytes, at, b'|');
+        self.1.format(bytes, at, shorts)
+    }
+}
+
+/// The last fields of a line, and its end.
+#[derive(Clone, Copy)]
+pub(crate) struct Ended<F>(pub(crate) F);
+
+impl<F: Field> Field for Ended<F> {
+    ghost text_of = { λ e. F.text_of e.0 ++ 10 ∷ [] };
+
+    ghost longest = { F.longest + 1 };
+
+    fn longest() -> usize {
+        F::longest().saturating_add(1)
+    }
+
+    #[inline]
+    #[tactic(auto, using(crate::proofs::TextLaws::Formats_trans))]
+    fn format(self, bytes: &mut [u8], at: usize, shorts: &ShortTexts) -> usize {
+        let at = self.0.format(bytes, at, shorts);
+        format_byte(bytes, at, b'\n')
+    }
+}
+
+/// `-` where there is none.
+impl<F: Field> Field for Option<F> {
+    ghost text_of = { field F.text_of };
+
+    ghost longest = { 1 + F.longest };
+
+    fn longest() -> usize {
+        F::longest().saturating_add(1)
+    }
+
+    #[inline]
+    fn format(self, bytes: &mut [u8], at: usize, shorts: &ShortTexts) -> usize {
+        match self {
+            Some(value) => value.format(bytes, at, shorts),
+            None => format_byte(bytes, at, b'-'),
+        }
+    }
+}
+
+// ---- numbers and times
+
+impl Field for u32 {
+    ghost text_of = { decimal };
+
+    ghost longest = { 12 };
+
+    fn longest() -> usize {
+        12
+    }
+
+    #[inline]
+    fn format(self, bytes: &mut [u8], at: usize, shorts: &ShortTexts) -> usize {
+        format_number(bytes, at, shorts, self)
+    }
+}
+
+impl Field for u128 {
+    ghost text_of = { decimal };
+
+    ghost longest = { 39 };
+
+    fn longest() -> usize {
+        39
+    }
+
+    fn format(self, bytes: &mut [u8], at: usize, shorts: &ShortTexts) -> usize {
+        if self < 1_000_000 {
+            return format_six(bytes, at, shorts, self as u32);
+        }
+        let mut digits = Buffer::new();
+        format_text(bytes, at, digits.format(self).as_bytes())
+    }
+}
+
+/// A byte and a number.
+#[derive(Clone, Copy)]
+pub(crate) struct Behind(pub(crate) u8, pub(crate) u32);
+
+impl Field for Behind {
+    ghost text_of = { λ b. b.0 ∷ decimal b.1 };
+
+    ghost longest = { 13 };
+
+    fn longest() -> usize {
+        13
+    }
+
+    #[inline]
+    #[tactic(auto, using(crate::proofs::TextLaws::Formats_trans))]
+    fn format(self, bytes: &mut [u8], at: usize, shorts: &ShortTexts) -> usize {
+        let at = format_byte(bytes, at, self.0);
+        format_number(bytes, at, shorts, self.1)
+    }
+}
+
+/// A time in microseconds: seconds, a decimal point and six digits.
+#[derive(Clone, Copy)]
+pub(crate) struct Microseconds(pub(crate) u64);
+
+impl Field for Microseconds {
+    ghost text_of = { λ t. time_text t.0 };
+
+    ghost longest = { 46 };
+
+    fn longest() -> usize {
+        46
+    }
+
+    fn format(self, bytes: &mut [u8], at: usize, shorts: &ShortTexts) -> usize {
+        let seconds = (self.0 / 1_000_000) as u128;
+        let rest = (self.0 % 1_000_000) as u32;
+        let at = seconds.format(bytes, at, shorts);
+        let at = format_byte(bytes, at, b'.');
+        let at = format_three(bytes, at, rest / 1_000);
+        format_three(bytes, at, rest)
+    }
+}
+
+// ---- peers and keys
+
+impl Field for PeerAddr {
+    ghost text_of = { addr_text };
+
+    ghost longest = { 39 };
+
+    fn longest() -> usize {
+        39
+    }
+
+    #[inline]
+    fn format(self, bytes: &mut [u8], at: usize, shorts: &ShortTexts) -> usize {
+        match self {
+            PeerAddr::V4(addr) => format_ipv4(bytes, at, shorts, addr),
+            PeerAddr::V6(addr) => format_ipv6(bytes, at, addr),
+        }
+    }
+}
+
+impl Field for PeerKey {
+    ghost text_of = { peer_text };
+
+    ghost longest = { 52 };
+
+    fn longest() -> usize {
+        52
+    }
+
+    #[tactic(auto, using(crate::proofs::TextLaws::Formats_trans))]
+    fn format(self, bytes: &mut [u8], at: usize, shorts: &ShortTexts) -> usize {
+        let at = format_number(bytes, at, shorts, self.asn);
+        let at = format_byte(bytes, at, b' ');
+        self.addr.format(bytes, at, shorts)
+    }
+}
+
+impl Field for Prefix {
+    ghost text_of = { prefix_text };
+
+    ghost longest = { 19 };
+
+    fn longest() -> usize {
+        19
+    }
+
+    #[tactic(auto, using(crate::proofs::TextLaws::Formats_trans))]
+    fn format(self, bytes: &mut [u8], at: usize, shorts: &ShortTexts) -> usize {
+        let at = format_ipv4(bytes, at, shorts, self.addr());
+        let at = format_byte(bytes, at, b'/');
+        format_short(bytes, at, shorts, self.len() as u32)
+    }
+}
+
+/// Writes `#` and the identifier, where there is one.
+fn format_identifier(bytes: &mut [u8], at: usize, shorts: &ShortTexts, id: u32) -> usize
+    requires { at + 13 < length bytes.old }
+    ensures { Formats bytes.old at bytes.new result 13 (identifier_text id) }
+{
+    if id != 0 {
+        Behind(b'#', id).format(bytes, at, shorts)
+    } else {
+        at
+    }
+}
+
+impl Field for RouteKey {
+    ghost text_of = { key_text };
+
+    ghost longest = { 32 };
+
+    fn longest() -> usize {
+        32
+    }
+
+    #[tactic(auto, using(crate::proofs::TextLaws::Formats_trans))]
+    fn format(self, bytes: &mut [u8], at: usize, shorts: &ShortTexts) -> usize {
+        let at = self.prefix.format(bytes, at, shorts);
+        format_identifier(bytes, at, shorts, self.id)
+    }
+}
+
+// ---- path attributes
+
+/// Writes two addresses, separated by a space.
+#[tactic(auto, using(crate::proofs::TextLaws::Formats_trans))]
+fn format_ipv6_pair(bytes: &mut [u8], at: usize, global: u128, local: u128) -> usize
+    requires { at + 79 < length bytes.old }
+    ensures { Formats bytes.old at bytes.new result 79 (ipv6_text global ++ 32 ∷ ipv6_text local) }
+{
+    let at = format_ipv6(bytes, at, global);
+    let at = format_byte(bytes, at, b' ');
+    format_ipv6(bytes, at, local)
+}
+
+impl Field for NextHop {
+    ghost text_of = { next_hop_text };
+
+    ghost longest = { 79 };
+
+    fn longest() -> usize {
+        79
+    }
+
+    #[inline]
+    fn format(self, bytes: &mut [u8], at: usize, shorts: &ShortTexts) -> usize {
+        match self {
+            NextHop::V4(addr) => format_ipv4(bytes, at, shorts, addr),
+            NextHop::V6(addr) => format_ipv6(bytes, at, addr),
+            NextHop::V6Pair(global, local) => format_ipv6_pair(bytes, at, global, local),
+        }
+    }
+}
+
+impl Field for Origin {
+    ghost text_of = { origin_text };
+
+    ghost longest = { 10 };
+
+    fn longest() -> usize {
+        10
+    }
+
+    #[inline]
+    fn format(self, bytes: &mut [u8], at: usize, _shorts: &ShortTexts) -> usize {
+        match self {
+            Origin::Igp => format_text(bytes, at, b"IGP"),
+            Origin::Egp => format_text(bytes, at, b"EGP"),
+            Origin::Incomplete => format_text(bytes, at, b"INCOMPLETE"),
+        }
+    }
+}
+
+impl Field for Aggregator {
+    ghost text_of = { aggregator_text };
+
+    ghost longest = { 28 };
+
+    fn longest() -> usize {
+        28
+    }
+
+    #[tactic(auto, using(crate::proofs::TextLaws::Formats_trans))]
+    fn format(self, bytes: &mut [u8], at: usize, shorts: &ShortTexts) -> usize {
+        let at = format_number(bytes, at, shorts, self.asn);
+        let at = format_byte(bytes, at, b' ');
+        format_ipv4(bytes, at, shorts, self.addr)
+    }
+}
+
+/// Whether a route is an atomic aggregate.
+#[derive(Clone, Copy)]
+pub(crate) struct Atomic(pub(crate) bool);
+
+impl Field for Atomic {
+    ghost text_of = { λ a. atomic_text a.0 };
+
+    ghost longest = { 6 };
+
+    fn longest() -> usize {
+        6
+    }
+
+    #[inline]
+    fn format(self, bytes: &mut [u8], at: usize, _shorts: &ShortTexts) -> usize {
+        if self.0 {
+            format_text(bytes, at, b"atomic")
+        } else {
+            format_byte(bytes, at, b'-')
+        }
+    }
+}
