@@ -70,7 +70,7 @@ where
         Ok(replayed) => replayed,
         Err(error) => return Err(error),
     };
-    if let Err(error) = write_report(alloc, request, &replayed.tables, out) {
+    if let Err(error) = write_report(rt, alloc, plan.workers, request, &replayed.tables, out) {
         return Err(error);
     }
     if out.flush_all().is_err() {
@@ -103,9 +103,11 @@ fn tell_faults<M: PrefixMap<SharedRoute>, G: Gate>(gate: &G, tables: &Tables<M>)
     }
 }
 
-/// Writes the report that is asked for.
-fn write_report<M: PrefixMap<SharedRoute> + Drop, W: Sink>(
+/// Writes the report that is asked for. As many threads as there are workers make the lines of large tables.
+fn write_report<M: PrefixMap<SharedRoute> + Drop, T: Threads + Sync, W: Sink>(
+    rt: &T,
     alloc: Global,
+    workers: usize,
     request: &Request,
     tables: &Tables<M>,
     out: &mut W,
@@ -119,7 +121,7 @@ fn write_report<M: PrefixMap<SharedRoute> + Drop, W: Sink>(
     ensures risen { result ≡ Err errors.Write → HasFailed (W.failure_count out.old) (W.failure_count out.new) }
 {
     match request {
-        Request::Tables => list_tables(alloc, out, tables),
+        Request::Tables => list_tables(rt, alloc, workers, out, tables),
         Request::Visibility => write_visibility(out, visibility(alloc, tables)?.as_slice()),
         Request::Origins => write_origins(out, origins(alloc, tables)?.as_slice()),
         Request::Churn => write_churn(out, churn(alloc, tables)?.as_slice()),

@@ -2,6 +2,7 @@ pub mod TextLaws
 pub mod JoinLaws
 pub mod RowLines
 pub mod PieceLaws
+pub mod PieceLists
 pub mod RunLaws
 pub mod StableSort
 pub mod ListedLaws

@@ -63,6 +63,18 @@ Adds_lost {s = s} {t = t} well front count lost = record {
   };
 }
 
+-- a piece was written of which nothing waits
+pub Adds_written : {s t : TextState} {p : List ℕ} → s.buffer.waiting ≡ [] → s.buffer.failed ≡ false → Appends s.contents t.contents p → t.failures ≡ s.failures → t.buffer.waiting ≡ [] → t.buffer.failed ≡ false → Adds s t p
+Adds_written {s = s} {t = t} {p = p} before well held count none still =
+    let waits : TextState = record { contents = s.contents; failures = s.failures; buffer = record { waiting = p; failed = false } } in
+    Adds_as (append-nil p) (Adds_trans (Adds_grown {t = waits} refl refl (ap (λ l. l ++ p) (sym before)) (sym well)) (Adds_handed {s = waits} refl held count none still))
+
+-- the write of that piece failed
+pub Adds_unwritten : {s t : TextState} {p : List ℕ} → s.buffer.waiting ≡ [] → s.buffer.failed ≡ false → WritesFront s.contents t.contents p → t.failures ≡ one_more s.failures → t.buffer.failed ≡ true → Adds s t p
+Adds_unwritten {s = s} {t = t} {p = p} before well front count lost =
+    let waits : TextState = record { contents = s.contents; failures = s.failures; buffer = record { waiting = p; failed = false } } in
+    Adds_as (append-nil p) (Adds_trans (Adds_grown {t = waits} refl refl (ap (λ l. l ++ p) (sym before)) (sym well)) (Adds_lost {s = waits} refl front count lost))
+
 -- after a failure what waits is dropped
 pub Adds_dropped : {s t : TextState} {p : List ℕ} → s.buffer.failed ≡ true → t.contents ≡ s.contents → t.failures ≡ s.failures → t.buffer.failed ≡ true → Adds s t p
 Adds_dropped {s = s} {t = t} {p = p} lost same count still = record {

@@ -5,6 +5,8 @@ pub mod Merges
 pub mod Rows
 pub mod Reports
 pub mod Listings
+pub mod Pieces
+pub mod Nowhere
 pub mod Lines
 pub mod UnitReports
 pub mod ShortTexts

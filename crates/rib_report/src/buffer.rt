@@ -44,9 +44,24 @@ impl TextBuffer {
         }
     }
 
+    /// Drops the pending bytes, and forgets that a write failed.
+    pub(crate) fn clear(&mut self)
+        ensures { self.new ≡ empty_buffer }
+    {
+        self.len = 0;
+        self.failed = false;
+    }
+
+    /// The pending bytes.
+    pub(crate) fn as_slice(&self) -> &[u8]
+        ensures { result.now ≡ self.now.waiting }
+    {
+        &self.bytes[..self.len]
+    }
+
     /// The number of bytes that may still be appended.
     #[inline]
-    fn room(&self) -> usize
+    pub(crate) fn room(&self) -> usize
         ensures { result + length self.now.waiting ≡ 65536 }
     {
         CAPACITY - self.len
@@ -72,6 +87,20 @@ impl TextBuffer {
             return;
         }
         match write_full(out, &self.bytes[..len]) {
+            Ok(()) => {}
+            Err(Failed) => self.failed = true,
+        }
+    }
+
+    /// Passes on all pending bytes, and then these.
+    pub(crate) fn pass_on<W: Sink>(&mut self, out: &mut W, bytes: &[u8])
+        ensures { Writes W.contents W.failure_count out.old self.old out.new self.new bytes.now }
+    {
+        self.hand_on(out);
+        if self.failed {
+            return;
+        }
+        match write_full(out, bytes) {
             Ok(()) => {}
             Err(Failed) => self.failed = true,
         }

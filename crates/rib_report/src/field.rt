@@ -20,10 +20,10 @@ pub(crate) trait Field: Copy {
     /// Its text.
     ghost text_of: { Self → List ℕ };
 
-    /// The greatest length of its text.
+    /// An upper bound of the length of its text.
     ghost longest: { ℕ };
 
-    /// The greatest length of its text.
+    /// An upper bound of the length of its text, in bytes.
     fn longest() -> usize
         ensures { result ≡ min longest (2 ^ 64 - 1) };
 

@@ -7,6 +7,7 @@ mod field;
 mod format;
 mod line;
 mod merge;
+mod nowhere;
 mod numbers;
 mod reports;
 mod request;

@@ -3,4 +3,5 @@
 mod lines;
 mod peers;
 mod reports;
+mod threads;
 mod writers;

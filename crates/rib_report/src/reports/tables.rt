@@ -1,6 +1,9 @@
 //! The report `tables`: every entry of every peer's table. A line holds a peer, a key and its route: path, next hop,
 //! origin, MED, LOCAL_PREF, whether it is an atomic aggregate, and its aggregator.
 
+mod piece;
+mod side_by_side;
+
 ghost use Rattle.std.specs.Prelude.{◌≡◌, ◌<◌, ◌≤◌, ◌⊎◌, ◌++◌, IfOk, IfErr, OnOk, OnErr, Err, length, map, vec_capacity};
 ghost use Rattle.std.specs.List.{flat_map};
 ghost use Rattle.std.specs.Io.KnownBytes.{Appends};
@@ -24,7 +27,9 @@ use bgp_update::PackedRoute;
 use mrt_body::PeerKey;
 use mrt_frame::{Failed, ReplayError, Sink};
 use peer_tables::{Seated, Tables};
+use side_by_side::{Pieces, put_all_entries};
 use std::alloc::Global;
+use std::thread::Threads;
 
 /// An entry of a peer's table.
 #[derive(Drop)]
@@ -82,7 +87,7 @@ fn max_entries<M: PrefixMap<SharedRoute>>(seats: &[Seated<M>]) -> usize
 }
 
 /// Prefetches a little of what each entry refers to, and returns how many entries to prefetch next.
-fn prefetch_entries(entries: &[(RouteKey, &SharedRoute)]) -> usize
+pub(crate) fn prefetch_entries(entries: &[(RouteKey, &SharedRoute)]) -> usize
     ensures { 0 < result }
 {
     let mut bytes = 0usize;
@@ -107,7 +112,7 @@ fn put_block<W: Sink>(
 }
 
 /// Adds the lines of the entries of one peer. After a failed write, no more lines are made.
-fn put_entries<W: Sink>(
+pub(crate) fn put_entries<W: Sink>(
     text: &mut TextBuffer,
     out: &mut W,
     peer: PeerKey,
@@ -130,7 +135,9 @@ fn put_entries<W: Sink>(
 }
 
 /// Adds the lines of one peer's table. Its entries replace the contents of a list that has room for them.
-fn put_table<'a, M: PrefixMap<SharedRoute>, W: Sink>(
+fn put_table<'a, M: PrefixMap<SharedRoute>, T: Threads + Sync, W: Sink>(
+    rt: &T,
+    pieces: &mut Pieces,
     text: &mut TextBuffer,
     out: &mut W,
     all: &mut Vec<(RouteKey, &'a SharedRoute)>,
@@ -143,11 +150,13 @@ fn put_table<'a, M: PrefixMap<SharedRoute>, W: Sink>(
 {
     all.clear();
     seat.session.table().list(all);
-    put_entries(text, out, seat.key, all.as_slice());
+    put_all_entries(rt, pieces, text, out, seat.key, all.as_slice());
 }
 
 /// Adds the lines of every table, in order, by way of one list that has room for the entries of any of them.
-fn put_tables<'a, M: PrefixMap<SharedRoute>, W: Sink>(
+fn put_tables<'a, M: PrefixMap<SharedRoute>, T: Threads + Sync, W: Sink>(
+    rt: &T,
+    pieces: &mut Pieces,
     text: &mut TextBuffer,
     out: &mut W,
     mut all: Vec<(RouteKey, &'a SharedRoute)>,
@@ -158,15 +167,17 @@ fn put_tables<'a, M: PrefixMap<SharedRoute>, W: Sink>(
         (flat_map seat_lines (map seat_of seats.now)) }
 {
     for seat in seats {
-        put_table(text, out, &mut all, seat);
+        put_table(rt, pieces, text, out, &mut all, seat);
     }
 }
 
-/// Writes what `write_rows` writes of `table_rows`, without a list of all rows. All memory is allocated
-/// before anything is written: if it returns `Memory`, nothing has been written. If it returns `Write`, a
-/// leading part of the text has been written.
-pub fn list_tables<M: PrefixMap<SharedRoute>, W: Sink>(
+/// Writes what `write_rows` writes of `table_rows`, without a list of all rows. So many threads make the lines of large
+/// tables, while the calling one writes them. All memory is allocated before anything is written: if it returns
+/// `Memory`, nothing has been written. If it returns `Write`, a leading part of the text has been written.
+pub fn list_tables<M: PrefixMap<SharedRoute>, T: Threads + Sync, W: Sink>(
+    rt: &T,
     alloc: Global,
+    threads: usize,
     out: &mut W,
     tables: &Tables<M>,
 ) -> Result<(), ReplayError>
@@ -180,9 +191,11 @@ pub fn list_tables<M: PrefixMap<SharedRoute>, W: Sink>(
     ensures risen { result ≡ Err errors.Write → HasFailed (W.failure_count out.old) (W.failure_count out.new) }
 {
     let seats = tables.seats();
-    let all = Vec::with_capacity(alloc, max_entries(seats))?;
+    let most = max_entries(seats);
+    let all = Vec::with_capacity(alloc, most)?;
+    let mut pieces = Pieces::new(alloc, threads, most)?;
     let mut text = TextBuffer::new();
-    put_tables(&mut text, out, all, seats);
+    put_tables(rt, &mut pieces, &mut text, out, all, seats);
     match text.finish(out) {
         Ok(()) => Ok(()),
         Err(Failed) => Err(ReplayError::Write),

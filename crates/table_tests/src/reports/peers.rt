@@ -113,3 +113,33 @@ pub fn tables_of<M: PrefixMap<SharedRoute> + Drop>(
         Err(_) => panic!(rt; "no memory"),
     }
 }
+
+/// The tables of three peers with these sessions.
+pub fn tables_of_sessions<M: PrefixMap<SharedRoute> + Drop>(
+    rt: &impl Abort,
+    alloc: Global,
+    first: Session<M>,
+    second: Session<M>,
+    third: Session<M>,
+) -> Tables<M> {
+    let first = Seated {
+        number: 0,
+        key: peer_of(0),
+        session: first,
+    };
+    let second = Seated {
+        number: 1,
+        key: peer_of(1),
+        session: second,
+    };
+    let third = Seated {
+        number: 2,
+        key: peer_of(2),
+        session: third,
+    };
+    let gathered = two_lanes(rt, alloc, first, second, third, &[]);
+    match collect(alloc, gathered) {
+        Ok(tables) => tables,
+        Err(_) => panic!(rt; "no memory"),
+    }
+}

@@ -11,6 +11,7 @@ use rib_report::{
 };
 use std::alloc::Global;
 use std::process::Abort;
+use std::thread::Threads;
 
 #[derive(Clone, Copy)]
 pub enum Report {
@@ -240,14 +241,15 @@ const DAMAGED: Case<'static> = Case {
 };
 
 /// Writes a report on tables.
-pub fn write_report<M: PrefixMap<SharedRoute>, W: Sink>(
+pub fn write_report<M: PrefixMap<SharedRoute>, T: Threads + Sync, W: Sink>(
+    rt: &T,
     alloc: Global,
     out: &mut W,
     tables: &Tables<M>,
     report: Report,
 ) -> Result<(), ReplayError> {
     match report {
-        Report::Tables => list_tables(alloc, out, tables),
+        Report::Tables => list_tables(rt, alloc, 1, out, tables),
         Report::Visibility => write_visibility(out, visibility(alloc, tables)?.as_slice()),
         Report::Origins => write_origins(out, origins(alloc, tables)?.as_slice()),
         Report::Churn => write_churn(out, churn(alloc, tables)?.as_slice()),
@@ -269,8 +271,8 @@ fn expect_rows<M: PrefixMap<SharedRoute>>(
     assert!(rt; all.device().as_slice() == text.as_bytes());
 }
 
-fn expect_report<M: PrefixMap<SharedRoute>>(
-    rt: &impl Abort,
+fn expect_report<M: PrefixMap<SharedRoute>, T: Abort + Threads + Sync>(
+    rt: &T,
     alloc: Global,
     tables: &Tables<M>,
     name: &str,
@@ -279,15 +281,15 @@ fn expect_report<M: PrefixMap<SharedRoute>>(
 ) {
     let mut out = Counted::new(Vec::<u8>::new(alloc));
     assert!(rt;
-        write_report(alloc, &mut out, tables, report).is_ok(),
+        write_report(rt, alloc, &mut out, tables, report).is_ok(),
         "{name}"
     );
     assert!(rt; out.device().as_slice() == text.as_bytes(), "{name}");
 }
 
 /// Runs a case by one map, with the seats in this order.
-fn expect_order<M: PrefixMap<SharedRoute> + Drop>(
-    rt: &impl Abort,
+fn expect_order<M: PrefixMap<SharedRoute> + Drop, T: Abort + Threads + Sync>(
+    rt: &T,
     alloc: Global,
     order: [usize; 3],
     case: &Case<'_>,
@@ -308,7 +310,7 @@ fn expect_order<M: PrefixMap<SharedRoute> + Drop>(
 }
 
 /// Runs a case with the seats in every order, by each map.
-fn expect_case(rt: &impl Abort, alloc: Global, case: &Case<'_>) {
+fn expect_case<T: Abort + Threads + Sync>(rt: &T, alloc: Global, case: &Case<'_>) {
     let orders = [
         [0, 1, 2],
         [0, 2, 1],
@@ -318,8 +320,8 @@ fn expect_case(rt: &impl Abort, alloc: Global, case: &Case<'_>) {
         [2, 1, 0],
     ];
     for order in orders {
-        expect_order::<Radix<SharedRoute>>(rt, alloc, order, case);
-        expect_order::<Flat<SharedRoute>>(rt, alloc, order, case);
+        expect_order::<Radix<SharedRoute>, T>(rt, alloc, order, case);
+        expect_order::<Flat<SharedRoute>, T>(rt, alloc, order, case);
     }
 }
 

@@ -9,19 +9,20 @@ use rib_report::{SeenRow, Tables, write_visibility};
 use std::alloc::{AllocError, Global};
 use std::io::{self, ErrorKind, Write};
 use std::process::Abort;
+use std::thread::Threads;
 
 /// Takes so many bytes a write, and so many in all: then it fails, or takes none. It can't be flushed.
 #[derive(Drop)]
-struct Narrow {
+pub struct Narrow {
     most: usize,
     room: usize,
     fails: bool,
     writes: u32,
-    written: Vec<u8>,
+    pub written: Vec<u8>,
 }
 
 impl Narrow {
-    fn new(alloc: Global, most: usize, room: usize, fails: bool) -> Counted<Narrow> {
+    pub fn new(alloc: Global, most: usize, room: usize, fails: bool) -> Counted<Narrow> {
         Counted::new(Narrow {
             most,
             room,
@@ -67,15 +68,15 @@ const REPORTS: [Report; 6] = [
 ];
 
 /// A writer that stops after so many bytes holds so many of the report.
-fn expect_stop(
-    rt: &impl Abort,
+fn expect_stop<T: Abort + Threads + Sync>(
+    rt: &T,
     alloc: Global,
     tables: &Tables<Radix<SharedRoute>>,
     report: Report,
     mut out: Counted<Narrow>,
     front: &[u8],
 ) {
-    let answer = write_report(alloc, &mut out, tables, report);
+    let answer = write_report(rt, alloc, &mut out, tables, report);
     let room = front.len();
     assert!(rt;
         answer == Err(ReplayError::Write) && out.failures() == 1,
@@ -85,8 +86,8 @@ fn expect_stop(
 }
 
 /// Room for each number of bytes below the report's.
-fn stop_everywhere(
-    rt: &impl Abort,
+fn stop_everywhere<T: Abort + Threads + Sync>(
+    rt: &T,
     alloc: Global,
     tables: &Tables<Radix<SharedRoute>>,
     report: Report,
@@ -101,15 +102,15 @@ fn stop_everywhere(
 }
 
 /// A writer that takes one byte a write, and has room for all, takes the whole report. Nobody flushes.
-fn expect_by_bytes(
-    rt: &impl Abort,
+fn expect_by_bytes<T: Abort + Threads + Sync>(
+    rt: &T,
     alloc: Global,
     tables: &Tables<Radix<SharedRoute>>,
     report: Report,
     whole: &[u8],
 ) {
     let mut out = Narrow::new(alloc, 1, whole.len(), true);
-    assert!(rt; write_report(alloc, &mut out, tables, report).is_ok());
+    assert!(rt; write_report(rt, alloc, &mut out, tables, report).is_ok());
     assert!(rt; out.device().written.as_slice() == whole && out.failures() == 0);
 }
 
@@ -119,7 +120,7 @@ fn each_report_stops_at_the_write_that_fails(rt: HostRuntime) {
     let tables = tables_of::<Radix<SharedRoute>>(&rt, alloc, [2, 0, 1], &PEERS, &REFUSED);
     for report in REPORTS {
         let mut whole = Counted::new(Vec::<u8>::new(alloc));
-        assert!(rt; write_report(alloc, &mut whole, &tables, report).is_ok());
+        assert!(rt; write_report(&rt, alloc, &mut whole, &tables, report).is_ok());
         let text = whole.device().as_slice();
         assert!(rt; !text.is_empty());
         expect_by_bytes(&rt, alloc, &tables, report, text);

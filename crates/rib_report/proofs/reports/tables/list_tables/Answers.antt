@@ -13,10 +13,10 @@ returns-in-Ok-clause-ok g c =
 pub returns-in-Ok-clause-sound : goal.returns-in-Ok-clause-sound
 returns-in-Ok-clause-sound g c = (c.in-Ok.ensures.ok _ _ _ (text_begun c.new-text.ensures c.put_tables.ensures)).sound
 
-pub returns-in-Err-clause-front : goal.returns-in-Err-clause-front
-returns-in-Err-clause-front g c =
+pub returns-clause-front : goal.returns-clause-front
+returns-clause-front g c =
     let lines = ap (flat_map seat_lines) c.seats-seats.ensures ∙ lines_of_seats c.args.tables.now.seats in
     (c.in-Err.ensures.err _ _ _ (text_begun c.new-text.ensures (Adds_as lines c.put_tables.ensures))).held
 
-pub returns-in-Err-clause-risen : goal.returns-in-Err-clause-risen
-returns-in-Err-clause-risen g c = λ _. (c.in-Err.ensures.err _ _ _ (text_begun c.new-text.ensures c.put_tables.ensures)).risen
+pub returns-clause-risen : goal.returns-clause-risen
+returns-clause-risen g c = λ _. (c.in-Err.ensures.err _ _ _ (text_begun c.new-text.ensures c.put_tables.ensures)).risen

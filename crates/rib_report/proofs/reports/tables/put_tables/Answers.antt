@@ -10,7 +10,7 @@ use Rattle.rib_report.proofs.reports.tables.put_tables.Goals as goal
 pub put_table-requires : goal.put_table-requires
 put_table-requires g c =
     let most = most_at c.args.seats.now c.loop-seat.seat-index c.seat-item.result c.loop-seat-test.true c.seat-item.is in
-    omega (arith, most, c.loop-seat.invariant.room)
+    (c.type_bounds.sync-T, omega (arith, most, c.loop-seat.invariant.room))
 
 pub loop-seat-preserved : goal.loop-seat-preserved
 loop-seat-preserved g c = record {

@@ -1,0 +1,12 @@
+use Rattle.std.proofs.Common.{ap}
+use Rattle.rib_report.specs.Lines.{route_line}
+use Rattle.rib_report.specs.Listings.{reached_row}
+use Rattle.rib_report.proofs.TextLaws.{Adds_as}
+use Rattle.rib_report.proofs.JoinLaws.{Adds_item}
+use Rattle.rib_report.proofs.reports.tables.piece.put_fitting.Goals as goal
+
+pub loop-at-preserved : goal.loop-at-preserved
+loop-at-preserved c =
+    let e = c.index-entries-at.result in
+    Adds_item (λ e. route_line (reached_row c.args.peer e)) c.args.entries.now c.loop-at.at e c.loop-at-test.true c.index-entries-at.is c.loop-at.invariant
+    (Adds_as (ap (λ r. route_line (record { peer = c.args.peer; key = e.0; route = r })) c.route-route.ensures) c.put_row.ensures)

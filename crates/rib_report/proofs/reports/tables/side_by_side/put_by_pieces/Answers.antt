@@ -1,0 +1,38 @@
+use Rattle.std.proofs.Common.{◌∙◌, sym, arith, rules, ap, subst, map, length, take_all}
+use Rattle.std.proofs.lemmas.Slice.{between_from_start}
+use Rattle.std.specs.List.{All}
+use Rattle.rib_report.specs.Lines.{route_line}
+use Rattle.rib_report.specs.Listings.{reached_row, reached_lines}
+use Rattle.rib_report.proofs.TextLaws.{Adds_as}
+use Rattle.rib_report.proofs.JoinLaws.{Adds_failed}
+use Rattle.rib_report.specs.Pieces.{AreSuccessive, IsFilled, range_of}
+use Rattle.rib_report.proofs.PieceLists.{Adds_next, written_back}
+use Rattle.rib_report.proofs.reports.tables.side_by_side.put_by_pieces.Goals as goal
+
+pub returns-then-has_failed : goal.returns-then-has_failed
+returns-then-has_failed g c =
+    let entries = c.args.entries.now in
+    Adds_failed (λ e. route_line (reached_row c.args.peer e)) entries c.loop-end.start
+    (Adds_as (ap (reached_lines c.args.peer) (between_from_start entries c.loop-end.start)) c.loop-end.invariant.written) (sym c.has_failed.ensures ∙ c.if-has_failed.true)
+
+pub loop-end-preserved : goal.loop-end-preserved
+loop-end-preserved g c =
+    let dealt = written_back c.loop-end.far.len c.loop-end.far.items c.deal_entries-next.new.pieces (search rules) (search rules) in
+    let filled = written_back c.loop-end.far.len _ c.fill_and_put.new.far (ap length dealt ∙ search rules) (search rules) in
+    record {
+      size = c.next_size-size.ensures;
+      near = search rules;
+      far = search rules;
+      order = search rules;
+      within = c.deal_entries-next.ensures.within;
+      filled = rw c.swap.ensures.x_after (subst (All (IsFilled c.args.peer c.args.entries.now)) (sym filled) c.fill_and_put.ensures.filled);
+      successive = rw c.swap.ensures.x_after (subst (λ l. AreSuccessive c.loop-end.end (map range_of l) c.deal_entries-next.result) (sym filled)
+          (subst (λ l. AreSuccessive c.loop-end.end l c.deal_entries-next.result) (sym (c.fill_and_put.ensures.ranges ∙ ap (map range_of) (c.as_mut_slice-in-loop-end-2.ensures.value ∙ dealt))) c.deal_entries-next.ensures.successive));
+      written = Adds_next c.args.peer c.args.entries.now 0 c.loop-end.start c.loop-end.end (omega arith) c.loop-end.invariant.order c.loop-end.invariant.written c.fill_and_put.ensures.put;
+    }
+
+pub returns : goal.returns
+returns g c =
+    let entries = c.args.entries.now in
+    let last = Adds_next c.args.peer entries 0 c.loop-end.start c.loop-end.end (omega arith) c.loop-end.invariant.order c.loop-end.invariant.written c.put_pieces.ensures in
+    Adds_as (ap (reached_lines c.args.peer) (between_from_start entries c.loop-end.end ∙ take_all c.loop-end.end entries c.loop-end-test.false)) last

@@ -1,0 +1,148 @@
+//! The lines of some successive entries of one peer, which a thread makes while another one writes.
+
+ghost use Rattle.std.specs.Prelude.{◌≡◌, ◌<◌, ◌≤◌, ℕ, length, take};
+ghost use Rattle.rib_report.specs.Texts.{empty_buffer, Writes};
+ghost use Rattle.rib_report.specs.Listings.{reached_lines};
+ghost use Rattle.rib_report.specs.Nowhere.{nowhere_contents, nowhere_failures};
+ghost use Rattle.rib_report.specs.Pieces.{IsFilled, lines_between, range_of};
+
+use super::{prefetch_entries, put_entries};
+use crate::buffer::TextBuffer;
+use crate::nowhere::Nowhere;
+use crate::route_line::put_row;
+use crate::write::NEAR_ROWS;
+use adj_rib::SharedRoute;
+use bgp_prefix::RouteKey;
+use bgp_update::PackedRoute;
+use mrt_body::PeerKey;
+use mrt_frame::Sink;
+
+/// The most bytes of a line without the numbers of its path, and some more.
+const MOST_WITHOUT_PATH: usize = 320;
+
+/// Lines of successive entries.
+#[derive(Drop)]
+pub(crate) struct Piece {
+    /// The first of its entries.
+    pub(crate) start: usize,
+    /// The first entry whose line isn't in the text.
+    pub(crate) done: usize,
+    /// The first entry after its entries.
+    pub(crate) end: usize,
+    pub(crate) text: TextBuffer,
+}
+
+/// Returns about how many bytes the line of a route takes at most. A line that takes more costs time, and nothing else.
+fn most_bytes(route: &PackedRoute) -> usize {
+    route
+        .as_bytes()
+        .len()
+        .saturating_mul(4)
+        .saturating_add(MOST_WITHOUT_PATH)
+}
+
+/// Adds the lines of these entries, in order, while there should be room for one more. Returns how many.
+fn put_fitting(
+    text: &mut TextBuffer,
+    nowhere: &mut Nowhere,
+    peer: PeerKey,
+    entries: &[(RouteKey, &SharedRoute)],
+) -> usize
+    ensures few { result ≤ length entries.now }
+    ensures lines { Writes nowhere_contents nowhere_failures nowhere.old text.old nowhere.new text.new
+        (reached_lines peer (take result entries.now)) }
+{
+    for at in 0..entries.len() {
+        let entry = &entries[at];
+        let route = entry.1.route();
+        if text.room() < most_bytes(route) {
+            return at;
+        }
+        put_row(text, nowhere, &peer, &entry.0, route);
+    }
+    entries.len()
+}
+
+/// Adds the lines of entries from one to before another, while there should be room for one more. Returns the first entry
+/// whose line wasn't added.
+fn put_while_fitting(
+    text: &mut TextBuffer,
+    nowhere: &mut Nowhere,
+    peer: PeerKey,
+    entries: &[(RouteKey, &SharedRoute)],
+    start: usize,
+    end: usize,
+) -> usize
+    requires { (start ≤ end) × (end ≤ length entries.now) }
+    ensures within { (start ≤ result) × (result ≤ end) }
+    ensures lines { Writes nowhere_contents nowhere_failures nowhere.old text.old nowhere.new text.new
+        (lines_between peer start result entries.now) }
+{
+    let mut done = start;
+    let mut near = NEAR_ROWS;
+    while done < end {
+        let next = end.min(done.saturating_add(near));
+        let block = &entries[done..next];
+        near = prefetch_entries(block);
+        let count = put_fitting(text, nowhere, peer, block);
+        done += count;
+        if done < next {
+            return done;
+        }
+    }
+    done
+}
+
+impl Piece {
+    pub(crate) fn new() -> Piece {
+        Piece {
+            start: 0,
+            done: 0,
+            end: 0,
+            text: TextBuffer::new(),
+        }
+    }
+
+    /// Makes the lines of its entries: of all, or of the first ones, as many as there is room for.
+    pub(crate) fn fill(&mut self, peer: PeerKey, entries: &[(RouteKey, &SharedRoute)])
+        requires { (self.old.start ≤ self.old.end) × (self.old.end ≤ length entries.now) }
+        ensures range { range_of self.new ≡ range_of self.old }
+        ensures filled { IsFilled peer entries.now self.new }
+    {
+        let mut nowhere = Nowhere::new();
+        self.text.clear();
+        self.done = put_while_fitting(
+            &mut self.text,
+            &mut nowhere,
+            peer,
+            entries,
+            self.start,
+            self.end,
+        );
+        if self.text.has_failed() {
+            self.text.clear();
+            self.done = self.start;
+        }
+    }
+
+    /// Whether the lines of all its entries are in the text.
+    pub(crate) fn is_whole(&self) -> bool {
+        self.done == self.end
+    }
+}
+
+/// Adds the lines of a piece: its text, and then those that it had no room for.
+pub(crate) fn put_piece<W: Sink>(
+    text: &mut TextBuffer,
+    out: &mut W,
+    peer: PeerKey,
+    entries: &[(RouteKey, &SharedRoute)],
+    piece: &Piece,
+)
+    requires { IsFilled peer entries.now piece.now }
+    ensures { Writes W.contents W.failure_count out.old text.old out.new text.new
+        (lines_between peer piece.now.start piece.now.end entries.now) }
+{
+    text.pass_on(out, piece.text.as_slice());
+    put_entries(text, out, peer, &entries[piece.done..piece.end]);
+}

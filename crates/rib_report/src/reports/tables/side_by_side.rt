@@ -1,0 +1,279 @@
+//! The lines of a large table, made by several threads. They fill pieces while the calling thread writes those before.
+
+ghost use Rattle.std.specs.Prelude.{◌≡◌, ◌<◌, ◌≤◌, length, map};
+ghost use Rattle.std.specs.List.{All};
+ghost use Rattle.std.specs.Thread.{IsSync};
+ghost use Rattle.rib_report.specs.Texts.{Writes};
+ghost use Rattle.rib_report.specs.Listings.{reached_lines};
+ghost use Rattle.rib_report.specs.Pieces.{AreRanges, IsFilled, AreSuccessive, lines_between, range_of};
+
+use super::piece::{Piece, put_piece};
+use super::put_entries;
+use crate::buffer::TextBuffer;
+use adj_rib::SharedRoute;
+use bgp_prefix::{Memory, RouteKey};
+use mrt_body::PeerKey;
+use mrt_frame::Sink;
+use std::alloc::Global;
+use std::mem;
+use std::thread::{Threads, join_mut};
+
+/// The maximum number of threads that make lines: more would wait for the one that writes.
+const MOST_THREADS: usize = 8;
+
+/// How many pieces a thread fills before it waits for the others.
+const PIECES: usize = 16;
+
+/// How many entries a piece has at first: usually there is room for their lines.
+const MOST_ENTRIES: usize = 448;
+
+/// How many entries a piece has if lines are very long.
+const LEAST_ENTRIES: usize = 14;
+
+/// The number of entries from which on it pays to start threads.
+const LARGE: usize = 16_384;
+
+/// Pieces that are filled, and as many that are written meanwhile.
+#[derive(Drop)]
+pub(crate) struct Pieces {
+    near: Vec<Piece>,
+    far: Vec<Piece>,
+}
+
+/// Returns so many pieces.
+fn make_pieces(alloc: Global, count: usize) -> Result<Vec<Piece>, Memory> {
+    let mut pieces = Vec::with_capacity(alloc, count)?;
+    for _ in 0..count {
+        pieces.push(Piece::new())?;
+    }
+    Ok(pieces)
+}
+
+impl Pieces {
+    /// Returns the pieces with which so many threads make the lines of tables of at most so many entries; none if it
+    /// doesn't pay.
+    pub(crate) fn new(alloc: Global, threads: usize, most: usize) -> Result<Pieces, Memory> {
+        let wanted = threads.min(MOST_THREADS) * PIECES;
+        let count = if threads < 2 || most < LARGE {
+            0
+        } else {
+            wanted.min(most / MOST_ENTRIES)
+        };
+        Ok(Pieces {
+            near: make_pieces(alloc, count)?,
+            far: make_pieces(alloc, count)?,
+        })
+    }
+}
+
+/// Gives each piece its entries: at most so many, and from one of them on. Returns the first entry that is left.
+fn deal_entries(pieces: &mut [Piece], start: usize, size: usize, count: usize) -> usize
+    requires { (start ≤ count) × (0 < size) }
+    ensures ranges { AreRanges count pieces.new }
+    ensures successive { AreSuccessive start (map range_of pieces.new) result }
+    ensures within { result ≤ count }
+    ensures some { 0 < length pieces.old → start < count → start < result }
+    ensures len { length pieces.new ≡ length pieces.old }
+{
+    let mut next = start;
+    for at in 0..pieces.len() {
+        let end = next.saturating_add(size).min(count);
+        let piece = &mut pieces[at];
+        piece.start = next;
+        piece.end = end;
+        next = end;
+    }
+    next
+}
+
+/// Returns how many entries to give to each piece after these: fewer if there was no room for the lines of some.
+fn next_size(size: usize, pieces: &[Piece]) -> usize
+    requires { 0 < size }
+    ensures { 0 < result }
+{
+    for piece in pieces {
+        if !piece.is_whole() {
+            return (size / 2).max(LEAST_ENTRIES);
+        }
+    }
+    size
+}
+
+/// Fills pieces in the calling thread.
+fn fill_each(peer: PeerKey, entries: &[(RouteKey, &SharedRoute)], pieces: &mut [Piece])
+    requires { AreRanges (length entries.now) pieces.old }
+    ensures ranges { map range_of pieces.new ≡ map range_of pieces.old }
+    ensures filled { All (IsFilled peer entries.now) pieces.new }
+{
+    for at in 0..pieces.len() {
+        pieces[at].fill(peer, entries);
+    }
+}
+
+/// Fills pieces, in several threads if these can be started.
+#[cycle(halves)]
+fn fill_all<T: Threads + Sync>(
+    rt: &T,
+    peer: PeerKey,
+    entries: &[(RouteKey, &SharedRoute)],
+    pieces: &mut [Piece],
+)
+    requires { AreRanges (length entries.now) pieces.old }
+    ensures ranges { map range_of pieces.new ≡ map range_of pieces.old }
+    ensures filled { All (IsFilled peer entries.now) pieces.new }
+{
+    if pieces.len() <= PIECES {
+        return fill_each(peer, entries, pieces);
+    }
+    let half = pieces.len() / 2;
+    let (front, back) = pieces.split_at_mut(half);
+    fill_both(rt, peer, entries, front, back);
+}
+
+#[cycle(halves)]
+fn fill_both<T: Threads + Sync>(
+    rt: &T,
+    peer: PeerKey,
+    entries: &[(RouteKey, &SharedRoute)],
+    front: &mut [Piece],
+    back: &mut [Piece],
+)
+    requires some { (0 < length front.old) × (0 < length back.old) }
+    requires ranges { AreRanges (length entries.now) front.old × AreRanges (length entries.now) back.old }
+    ensures front { (map range_of front.new ≡ map range_of front.old) × All (IsFilled peer entries.now) front.new }
+    ensures back { (map range_of back.new ≡ map range_of back.old) × All (IsFilled peer entries.now) back.new }
+{
+    let mut fill_front = || -> ()
+        requires { IsSync T.row × AreRanges (length entries.now) front.now }
+        ensures { (map range_of front.exit.now ≡ map range_of front.entry.now) ×
+            All (IsFilled peer entries.entry.now) front.exit.now }
+    { fill_all(rt, peer, entries, front) };
+    let mut fill_back = || -> ()
+        requires { IsSync T.row × AreRanges (length entries.now) back.now }
+        ensures { (map range_of back.exit.now ≡ map range_of back.entry.now) ×
+            All (IsFilled peer entries.entry.now) back.exit.now }
+    { fill_all(rt, peer, entries, back) };
+    join_mut(rt, &mut fill_front, &mut fill_back);
+}
+
+/// Adds the lines of pieces, in order.
+fn put_pieces<W: Sink>(
+    text: &mut TextBuffer,
+    out: &mut W,
+    peer: PeerKey,
+    entries: &[(RouteKey, &SharedRoute)],
+    pieces: &[Piece],
+    start: usize,
+    end: usize,
+)
+    requires filled { All (IsFilled peer entries.now) pieces.now }
+    requires successive { AreSuccessive start (map range_of pieces.now) end }
+    ensures { Writes W.contents W.failure_count out.old text.old out.new text.new
+        (lines_between peer start end entries.now) }
+{
+    for piece in pieces {
+        put_piece(text, out, peer, entries, piece);
+    }
+}
+
+/// Fills the one half of the pieces, and adds the lines of the other one meanwhile.
+fn fill_and_put<T: Threads + Sync, W: Sink>(
+    rt: &T,
+    text: &mut TextBuffer,
+    out: &mut W,
+    peer: PeerKey,
+    entries: &[(RouteKey, &SharedRoute)],
+    near: &[Piece],
+    far: &mut [Piece],
+    start: usize,
+    end: usize,
+)
+    requires filled { All (IsFilled peer entries.now) near.now }
+    requires successive { AreSuccessive start (map range_of near.now) end }
+    requires next { AreRanges (length entries.now) far.old }
+    ensures put { Writes W.contents W.failure_count out.old text.old out.new text.new
+        (lines_between peer start end entries.now) }
+    ensures ranges { map range_of far.new ≡ map range_of far.old }
+    ensures filled { All (IsFilled peer entries.now) far.new }
+{
+    let mut fill = || -> ()
+        requires { IsSync T.row × AreRanges (length entries.now) far.now }
+        ensures { (map range_of far.exit.now ≡ map range_of far.entry.now) ×
+            All (IsFilled peer entries.entry.now) far.exit.now }
+    { fill_all(rt, peer, entries, far) };
+    let mut put = || -> ()
+        requires { All (IsFilled peer entries.now) near.now × AreSuccessive start (map range_of near.now) end }
+        ensures { Writes W.contents W.failure_count out.entry.now text.entry.now out.exit.now text.exit.now
+            (lines_between peer start end entries.entry.now) }
+    { put_pieces(text, out, peer, entries, near, start, end) };
+    join_mut(rt, &mut fill, &mut put);
+}
+
+/// Adds the lines of the entries of one peer. After a failed write, no more lines are made.
+fn put_by_pieces<T: Threads + Sync, W: Sink>(
+    rt: &T,
+    near: &mut Vec<Piece>,
+    far: &mut Vec<Piece>,
+    text: &mut TextBuffer,
+    out: &mut W,
+    peer: PeerKey,
+    entries: &[(RouteKey, &SharedRoute)],
+)
+    requires { (0 < length near.old.items) × (0 < length far.old.items) }
+    ensures { Writes W.contents W.failure_count out.old text.old out.new text.new
+        (reached_lines peer entries.now) }
+{
+    let mut size = MOST_ENTRIES;
+    let mut start = 0;
+    let mut end = deal_entries(near.as_mut_slice(), 0, size, entries.len());
+    fill_all(rt, peer, entries, near.as_mut_slice());
+    while end < entries.len() {
+        if text.has_failed() {
+            return;
+        }
+        let next = deal_entries(far.as_mut_slice(), end, size, entries.len());
+        fill_and_put(
+            rt,
+            text,
+            out,
+            peer,
+            entries,
+            near.as_slice(),
+            far.as_mut_slice(),
+            start,
+            end,
+        );
+        mem::swap(near, far);
+        size = next_size(size, near.as_slice());
+        start = end;
+        end = next;
+    }
+    put_pieces(text, out, peer, entries, near.as_slice(), start, end);
+}
+
+/// Adds the lines of the entries of one peer, by several threads where there are pieces and it pays.
+pub(crate) fn put_all_entries<T: Threads + Sync, W: Sink>(
+    rt: &T,
+    pieces: &mut Pieces,
+    text: &mut TextBuffer,
+    out: &mut W,
+    peer: PeerKey,
+    entries: &[(RouteKey, &SharedRoute)],
+)
+    ensures { Writes W.contents W.failure_count out.old text.old out.new text.new
+        (reached_lines peer entries.now) }
+{
+    if pieces.near.is_empty() || pieces.far.is_empty() || entries.len() < LARGE {
+        put_entries(text, out, peer, entries);
+    } else {
+        put_by_pieces(
+            rt,
+            &mut pieces.near,
+            &mut pieces.far,
+            text,
+            out,
+            peer,
+            entries,
+        );
+    }
+}
