@@ -11,7 +11,7 @@
 # requests and those that the C library makes of its allocator for it, as for a thread's locals. The memory of a thread's stack is mapped
 # by pthread_create itself: its want is the start of a thread that fails. Where a growth isn't needed, as a thread's, the answer is as with
 # ample memory. A kind of failure that reached no run of a line has failed too. Dumps: UPDATEs of three peers; an index, a RIB record and an UPDATE; both
-# as files of one run; and the sample. Needs cc. The last line is `N passed, M failed`, counted in runs.
+# as files of one run; the sample; and a large RIB of one peer, whose lines are made by several threads. Needs cc. The last line is `N passed, M failed`, counted in runs.
 set -u
 program=$(realpath "$1"); here=$(dirname "$(realpath "$0")"); work=$(mktemp -d); trap 'rm -rf "$work"' EXIT
 cc -O2 -shared -fPIC -o "$work/refuse.so" "$here/refuse.c" && cc -O2 -o "$work/refusals" "$here/refusals.c" || exit 2
@@ -25,6 +25,9 @@ table() { bytes 00000003 000D 0002 00000030 00000000 080A 0002 0000 00000001 001
 cd "$work" && ln -s "$program" program || exit 2
 { update C0000201; update C0000202; update C0000201; update C0000203; update C0000202; } > three-peers
 { index; table; update C0000201; } > table-and-update
+# 17,000 prefixes of one peer: as many lines as several threads make
+routes() { awk -v attributes=$attributes 'BEGIN { for (i = 0; i < 17000; i++) printf "00000003000D00020000002600000000180A%04X00010000000000010014%s", i, attributes }'; }
+{ index; bytes "$(routes)"; } > large
 cp "$here/../examples/sample.mrt" sample
 
 tries() {
@@ -45,6 +48,9 @@ tries() {
     echo thread $step 1 sample tables $by sample; echo thread-on $step 1 sample tables $by sample
     echo short-reads 1 1 sample tables $by sample
   done
+  for kind in memory thread thread-on short-writes; do echo $kind 1 1 large tables --workers 4 --ring 1024 large; done
+  echo memory-on 7 1 large tables --workers 4 --ring 1024 large
+  for kind in write-EIO write-none; do echo $kind 997 1 large tables --workers 4 --ring 1024 large; done
   for kind in write-EIO write-ENOSPC write-EINTR write-EPIPE write-none; do
     for request in tables visibility origins churn 'match --address 17.150.214.7'; do echo $kind 1 1 sample $request sample; done
     echo $kind 1 1 table-and-update faults table-and-update

@@ -1,13 +1,11 @@
 //! Attributes that are read ahead: before the session takes their RIB entry.
 
-ghost use Rattle.std.specs.Prelude.{◌≡◌, None, Ok};
-ghost use Rattle.std.specs.Option.{ForSome};
-ghost use Rattle.bgp_update.specs.Attributes.{route_in};
-ghost use Rattle.bgp_update.specs.declared.width.Width.TheVariants.{Four};
+ghost use Rattle.std.specs.Prelude.{◌≡◌, None};
+ghost use Rattle.bgp_prefix.specs.declared.key.RouteKey.{RouteKey};
+ghost use Rattle.mrt_body.specs.declared.unit.Payload.TheVariants as payloads;
 ghost use Rattle.adj_rib.specs.RouteSets.{IsAheadOf};
 
 use crate::route_set::HashedRoute;
-use mrt_body::{Payload, Unit};
 use std::alloc::Global;
 
 /// The route of a RIB entry, read before its session takes the entry, so that a caller can prefetch
@@ -25,19 +23,10 @@ impl ReadAhead {
         ReadAhead { read: None }
     }
 
-    /// Reads the attributes of a RIB entry by way of a buffer, whose contents are replaced. Reads nothing of other
-    /// units, nor where an attribute is damaged or an allocation fails: `Session::take_ahead` reads again.
-    pub fn of(alloc: Global, buffer: &mut Vec<u8>, unit: &Unit) -> ReadAhead
-        ensures { IsAheadOf unit.now.payload result }
-    {
-        match &unit.payload {
-            Payload::Entry { attrs, .. } => ReadAhead::of_entry(alloc, buffer, attrs.as_slice()),
-            _ => ReadAhead::nothing(),
-        }
-    }
-
-    fn of_entry(alloc: Global, buffer: &mut Vec<u8>, attrs: &[u8]) -> ReadAhead
-        ensures { ForSome result.read (λ hashed. route_in Four attrs.now ≡ Ok hashed.route) }
+    /// Reads the attributes of a RIB entry by way of a buffer, whose contents are replaced. Reads nothing where an
+    /// attribute is damaged or an allocation fails: `Session::take_ahead` reads again.
+    pub fn of_entry(alloc: Global, buffer: &mut Vec<u8>, attrs: &[u8]) -> ReadAhead
+        ensures { (key : RouteKey) → IsAheadOf (payloads.Entry key attrs.now) result }
     {
         match HashedRoute::read(alloc, buffer, attrs) {
             Ok(hashed) => ReadAhead { read: Some(hashed) },

@@ -9,7 +9,7 @@ use crate::table::announce_route;
 use crate::update::apply_update;
 use bgp_prefix::{Memory, PrefixMap, RouteKey};
 use bgp_update::{AttrError, Update};
-use mrt_body::{Damage, Event, Payload, Place, Unit, event};
+use mrt_body::{Damage, Event, LentPayload, LentUnit, Place, lent_event};
 use std::alloc::Global;
 
 /// The state Established (RFC 4271, 8.2.2).
@@ -28,6 +28,7 @@ pub(crate) struct RibIn<M: PrefixMap<SharedRoute>> {
 impl<M: PrefixMap<SharedRoute>> RibIn<M> {
     ghost use Rattle.std.specs.Prelude.{◌≡◌, true, Ok, OnOk};
     ghost use Rattle.mrt_body.specs.Events.{event_in};
+    ghost use Rattle.mrt_body.specs.Lent.{lent_payload, lent_unit};
     ghost use Rattle.mrt_body.specs.declared.meaning.Event.TheVariants as events;
     ghost use Rattle.mrt_body.specs.declared.unit.Payload.TheVariants as payloads;
     ghost use Rattle.adj_rib.specs.Applied.{START, counted_if, followed, refused, IsNoEntry, read_as, taken};
@@ -148,12 +149,17 @@ impl<M: PrefixMap<SharedRoute>> RibIn<M> {
 
     /// Takes a message or a state change.
     #[tactic(auto, unfolding(crate::specs::Applied::followed, crate::specs::Applied::noted))]
-    fn take_message(&mut self, alloc: Global, place: Place, payload: &Payload) -> Result<(), Memory>
-        requires { IsNoEntry payload.now }
+    fn take_message(
+        &mut self,
+        alloc: Global,
+        place: Place,
+        payload: &LentPayload<'_>,
+    ) -> Result<(), Memory>
+        requires { IsNoEntry (lent_payload payload.now) }
         ensures { OnOk result (kept_in M.contents self.new
-            ≡ read_as (kept_in M.contents self.old) place (event_in payload.now)) }
+            ≡ read_as (kept_in M.contents self.old) place (event_in (lent_payload payload.now))) }
     {
-        match event(alloc, payload) {
+        match lent_event(alloc, payload) {
             Ok(Event::State(old, new)) => {
                 self.change_state(old, new);
                 Ok(())
@@ -186,16 +192,17 @@ impl<M: PrefixMap<SharedRoute>> RibIn<M> {
     pub(crate) fn take(
         &mut self,
         alloc: Global,
-        unit: &Unit,
+        unit: &LentUnit<'_>,
         ahead: &ReadAhead,
     ) -> Result<(), Memory>
-        requires { IsAheadOf unit.now.payload ahead.now }
-        ensures { OnOk result (kept_in M.contents self.new ≡ taken (kept_in M.contents self.old) unit.now) }
+        requires { IsAheadOf (lent_payload unit.now.payload) ahead.now }
+        ensures { OnOk result
+            (kept_in M.contents self.new ≡ taken (kept_in M.contents self.old) (lent_unit unit.now)) }
     {
         self.churn.note_time(unit.time);
         match &unit.payload {
-            Payload::Entry { key, attrs } => {
-                self.take_entry(alloc, unit.place, *key, attrs.as_slice(), ahead)
+            LentPayload::Entry { key, attrs } => {
+                self.take_entry(alloc, unit.place, *key, attrs, ahead)
             }
             payload => self.take_message(alloc, unit.place, payload),
         }

@@ -4,6 +4,7 @@ ghost use Rattle.std.specs.Prelude.{◌≡◌, [], ◌∷◌, ◌++◌, List, On
 ghost use Rattle.std.specs.FinMap as finite;
 ghost use Rattle.adj_rib.specs.RouteSets.{IsAheadOf};
 ghost use Rattle.adj_rib.specs.Sessions.{StandsFor};
+ghost use Rattle.mrt_body.specs.Lent.{lent_payload, lent_unit};
 ghost use Rattle.mrt_body.specs.declared.unit.Unit.{Unit as ReplayUnit};
 
 use crate::churn::Churn;
@@ -11,7 +12,7 @@ use crate::read_ahead::ReadAhead;
 use crate::rib_in::RibIn;
 use crate::shared_route::SharedRoute;
 use bgp_prefix::{Memory, PrefixMap};
-use mrt_body::{Damage, Unit};
+use mrt_body::{Damage, LentUnit, Unit};
 use std::alloc::Global;
 use std::marker::Model;
 
@@ -57,19 +58,19 @@ impl<M: PrefixMap<SharedRoute>> Session<M> {
         ensures spent { self.new.spent ≡ is_err result }
         ensures stays_spent { IsTrue self.old.spent → IsErr result }
     {
-        self.take_ahead(alloc, unit, &ReadAhead::nothing())
+        self.take_ahead(alloc, &unit.lend(), &ReadAhead::nothing())
     }
 
-    /// Takes the next unit as `take` does, with what was read ahead of it.
+    /// Takes the next unit, whose bytes are lent, as `take` does, with what was read ahead of it.
     pub fn take_ahead(
         &mut self,
         alloc: Global,
-        unit: &Unit,
+        unit: &LentUnit<'_>,
         ahead: &ReadAhead,
     ) -> Result<(), Memory>
-        requires { IsAheadOf unit.now.payload ahead.now }
+        requires { IsAheadOf (lent_payload unit.now.payload) ahead.now }
         ensures stands { (before : List ReplayUnit) → StandsFor self.old before →
-            OnOk result (StandsFor self.new (before ++ unit.now ∷ [])) }
+            OnOk result (StandsFor self.new (before ++ lent_unit unit.now ∷ [])) }
         ensures spent { self.new.spent ≡ is_err result }
         ensures stays_spent { IsTrue self.old.spent → IsErr result }
     {

@@ -1,5 +1,5 @@
 -- What the dealer did, unit by unit.
-use Rattle.std.proofs.Common.{◌≡◌, ℕ, ◌+◌, ◌-◌, ◌^◌, ◌≤◌, ◌<◌, ◌||◌, true, false, if◌then◌else◌, List, [], ◌∷◌, ◌++◌, length, map, slice_index_or, Option, Some, None, Result, Ok, Err, refl, sym, ap, ◌∙◌, subst, append_assoc, arith, length-append}
+use Rattle.std.proofs.Common.{◌≡◌, ℕ, ◌+◌, ◌-◌, ◌^◌, ◌≤◌, ◌<◌, ◌||◌, true, false, if◌then◌else◌, List, [], ◌∷◌, ◌++◌, length, map, take, drop, slice_index_or, Option, Some, None, Result, Ok, Err, refl, sym, ap, ◌∙◌, subst, append_assoc, arith, length-append}
 use Rattle.std.specs.Prelude.{option_to_list, is_some, min, MatchResult}
 use Rattle.std.specs.List.{list_any, filter_map, AllByRecursion}
 use Rattle.std.proofs.lemmas.List.{append-nil, map-append}
@@ -15,7 +15,7 @@ use Rattle.mrt_body.specs.declared.unit.Found.TheVariants as found
 use Rattle.mrt_body.specs.declared.unit.PeerKey.{PeerKey}
 use Rattle.mrt_body.specs.declared.unit.Unit.{Unit as ReplayUnit}
 use Rattle.mrt_body.specs.Units.{unit_of, damage_of}
-use Rattle.mrt_body.specs.ToCome.{UnitsState, as_found}
+use Rattle.mrt_body.specs.ToCome.{UnitsState, GivesPending, KeepsPlan, TakesFound, as_found, units_left}
 use Rattle.peer_tables.specs.Peers.{peer_eq, peers_of}
 use Rattle.lane_deal.specs.declared.dealer.Dealer.{Dealer}
 use Rattle.lane_deal.specs.declared.feed.Feed.{Feed}
@@ -137,6 +137,28 @@ module _ {D : Type 0} where
   pub Next-taken : (old new : Dealer D) (u : UnitsState) (k : Known) (next : Option ReplayUnit) → next ≡ old.kept → is_some old.kept ≡ true → Asks old new → new.refused.items ≡ old.refused.items → Next old new u k u k next
   Next-taken old new u k (Some unit) e some asks same = Next-kept old new u k unit (sym e) asks same
   Next-taken old new u k None e some asks same = let clash : false ≡ true = ap is_some e ∙ some in absurd (cc)
+
+  -- the entry that was lent and passed over is next
+  pub Next-lent : (old new : Dealer D) (u u' : UnitsState) (k : Known) (unit : ReplayUnit) → old.kept ≡ None → Asks old new → new.refused.items ≡ old.refused.items → u.pending ≡ unit ∷ drop 1 u.pending → GivesPending u u' (take 1 u.pending)
+      → ((known : Known) → TakesFound u known u' known (as_found (take 1 u.pending))) → units_left u' + length (take 1 u.pending) ≡ units_left u → KeepsPlan u u' → Next old new u k u' k (Some unit)
+  Next-lent old new u u' k unit none asks same lent passes taken units plan =
+      let one : take 1 u.pending ≡ unit ∷ [] = ap (take 1) lent in
+      let standing = ap (λ (v : UnitsState). v.standing) passes.0 in
+      record {
+        given = found.Unit unit ∷ [];
+        listed = [];
+        takes = record {
+          found = subst (λ l. TakesFound u k u' k (as_found l)) one (taken k);
+          few = (let n = ap length one in omega arith);
+          plan = plan;
+          failed = λ e. sym standing ∙ e;
+          spent = λ e. sym standing ∙ e;
+        };
+        asks = asks;
+        order = ap (λ o. to_deal o (found.Unit unit ∷ [])) none;
+        refused = same ∙ sym (append-nil old.refused.items);
+        ended = λ clash. absurd (cc);
+      }
 
   abbrev NextOr : Dealer D → Dealer D → UnitsState → Known → UnitsState → Known → Result (Option ReplayUnit) ReplayError → Type 0
   NextOr old new u k u' k' result = MatchResult result (λ next. Next old new u k u' k' next) (λ e. (file : ℕ) → e ≡ Read file → NextInVain old new u k)

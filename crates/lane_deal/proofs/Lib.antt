@@ -8,6 +8,7 @@ pub mod RoundLaws
 pub mod RouteCounts
 pub mod Examples
 pub mod PeerPositions
+pub mod ListedLaws
 pub mod UnitLists
 pub mod MovedLists
 pub mod Pairs

@@ -6,6 +6,7 @@ pub mod Replayers
 pub mod Rounds
 pub mod Numbers
 pub mod Keys
+pub mod ListedUnits
 pub mod UnitLists
 pub mod UnitRings
 pub mod Feeds

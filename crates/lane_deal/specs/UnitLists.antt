@@ -4,9 +4,10 @@ use Rattle.std.specs.List.{AllByRecursion, flat_map, sum_by}
 use Rattle.mrt_body.specs.Units.{IsSmallUnit}
 use Rattle.lane_deal.specs.declared.numbered.Numbered.{Numbered}
 use Rattle.lane_deal.specs.declared.unit_list.UnitList.{UnitList}
+use Rattle.lane_deal.specs.ListedUnits.{unit_in}
 
 abbrev pub units_of : UnitList → List Numbered
-units_of list = list.items.items
+units_of list = map (unit_in list.bytes.items) list.listed.items
 
 -- the units of these lists, one list after the other
 abbrev pub units_of_lists : List UnitList → List Numbered

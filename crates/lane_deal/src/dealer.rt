@@ -1,9 +1,10 @@
 //! The dealing of what files give to the lanes.
 
-ghost use Rattle.std.specs.Prelude.{◌≡◌, ℕ, ◌<◌, ◌∷◌, [], length, map, true, false, IfErr, IfSome, IfOk, MatchResult, OnOk, None};
+ghost use Rattle.std.specs.Prelude.{◌≡◌, ℕ, ◌<◌, ◌∷◌, [], length, map, drop, true, false, IfErr, IfSome, IfOk, MatchResult, OnOk, None};
 ghost use Rattle.std.specs.Option.{ForSome};
 ghost use Rattle.lane_deal.specs.UnitRings.{known_free};
 ghost use Rattle.std.specs.Prelude.{slice_index_or};
+ghost use Rattle.mrt_body.specs.Lent.{lent_unit};
 ghost use Rattle.mrt_body.specs.Units.{IsSmallUnit};
 ghost use Rattle.mrt_frame.specs.declared.error.ReplayError.TheVariants.{Read};
 ghost use Rattle.lane_deal.specs.Asking.{Asked, AskedInVain, StopsReading, YieldsNext};
@@ -12,11 +13,10 @@ ghost use Rattle.lane_deal.specs.Feeds.{Dealt};
 use crate::dealing::Dealing;
 use crate::feed::Feed;
 use crate::gate::Gate;
-use crate::numbered::Numbered;
 use crate::peer_numbers::Peers;
 use crate::step::Step;
 use bgp_prefix::Memory;
-use mrt_body::{Damage, Found, Unit, Units};
+use mrt_body::{Damage, Found, LentUnit, PeerKey, Unit, Units};
 use mrt_frame::{ReplayError, Source};
 use std::alloc::Global;
 use std::sync::atomic::AtomicBool;
@@ -50,21 +50,23 @@ fn has_room<G: Gate>(
     feeds[lane].has_room(gate, looks, over)
 }
 
-/// Deals the unit to its lane's ring, which has room for it.
+/// Deals a copy of this unit of the peer with this number to its lane's ring, which has room for it.
 fn deal_one<G: Gate>(
     alloc: Global,
     gate: &G,
     lane: usize,
-    item: Numbered,
+    number: usize,
+    unit: &LentUnit<'_>,
     feeds: &mut [Feed],
 ) -> Result<(), Memory>
     requires lane { lane < length feeds.old }
-    requires small { IsSmallUnit item.unit }
+    requires small { IsSmallUnit (lent_unit unit.now) }
     requires room { (d : _) → 0 < known_free (slice_index_or feeds.old lane d).producer }
     ensures { OnOk result
-        ((lane_of : ℕ → ℕ) → lane_of item.number ≡ lane → Dealt lane_of feeds.old feeds.new (item ∷ [])) }
+        ((lane_of : ℕ → ℕ) → lane_of number ≡ lane →
+        Dealt lane_of feeds.old feeds.new (record { number = number; unit = lent_unit unit.now } ∷ [])) }
 {
-    feeds[lane].push(alloc, gate, lane, item)
+    feeds[lane].push(alloc, gate, lane, number, unit)
 }
 
 /// Lists what the files refuse, until they yield a unit or end.
@@ -99,6 +101,8 @@ fn ask<R: Source>(
 impl<D: Dealing> Dealer<D> {
     ghost use Rattle.lane_deal.specs.DealerSteps.{Next, NextInVain, Deals};
     ghost use Rattle.lane_deal.specs.Answers.{IfAnswered};
+    ghost use Rattle.lane_deal.specs.Numbers.{NumbersPeer};
+    ghost use Rattle.mrt_body.specs.declared.standing.Standing.TheVariants as standings;
 
     pub fn new(alloc: Global, dealing: D) -> Result<Dealer<D>, Memory>
     where
@@ -146,6 +150,31 @@ impl<D: Dealing> Dealer<D> {
         Ok(self.kept.take())
     }
 
+    /// Lends the next entry of the RIB record that was cut last, unless a unit is kept, which comes before it.
+    fn lent_entry<'a>(&self, units: &'a Units) -> Option<LentUnit<'a>>
+        ensures kept { IfSome result (λ _. self.now.kept ≡ None) }
+        ensures going { IfSome result (λ _. units.now.standing ≡ standings.Going) }
+        ensures lends { IfSome result (λ unit. units.now.pending ≡ lent_unit unit ∷ drop 1 units.now.pending) }
+        ensures small { IfSome result (λ unit. IsSmallUnit (lent_unit unit)) }
+    {
+        if self.kept.is_some() {
+            return None;
+        }
+        units.lend_entry()
+    }
+
+    /// Returns the number of this peer, which gets the next one if it has none, and the number of its lane.
+    fn lane_for(&mut self, peer: &PeerKey, lanes: usize) -> Result<(usize, usize), Memory>
+        requires { 0 < lanes }
+        ensures numbers { IfOk result
+            (λ found. NumbersPeer self.old.peers.keys.items self.new.peers.keys.items peer.now found.0) }
+        ensures lane { IfOk result (λ found. found.1 ≡ D.lane_of self.old.dealing found.0 lanes) }
+        ensures same { self.new ≡ record self.old { peers = self.new.peers } }
+    {
+        let number = self.peers.number_of(peer)?;
+        Ok((number, self.dealing.lane(number, lanes)))
+    }
+
     /// Deals until a ring is full and stays full for this many further looks, a batch is dealt or the files end.
     pub fn deal<R: Source, G: Gate>(
         &mut self,
@@ -172,16 +201,27 @@ impl<D: Dealing> Dealer<D> {
     {
         let _dealt = self.dealt;
         for dealt in 0..batch {
+            if let Some(entry) = self.lent_entry(units) {
+                let (number, lane) = self.lane_for(&entry.peer, feeds.len())?;
+                if !has_room(gate, feeds, lane, looks, over) {
+                    self.kept = Some(entry.to_unit(alloc)?);
+                    units.pass_entry();
+                    return Ok(Step::Blocked);
+                }
+                deal_one(alloc, gate, lane, number, &entry, feeds)?;
+                units.pass_entry();
+                self.dealt = self.dealt.saturating_add(1);
+                continue;
+            }
             let Some(unit) = self.next_unit(alloc, units, files)? else {
                 return Ok(Step::End);
             };
-            let number = self.peers.number_of(&unit.peer)?;
-            let lane = self.dealing.lane(number, feeds.len());
+            let (number, lane) = self.lane_for(&unit.peer, feeds.len())?;
             if !has_room(gate, feeds, lane, looks, over) {
                 self.kept = Some(unit);
                 return Ok(Step::Blocked);
             }
-            deal_one(alloc, gate, lane, Numbered { number, unit }, feeds)?;
+            deal_one(alloc, gate, lane, number, &unit.lend(), feeds)?;
             self.dealt = self.dealt.saturating_add(1);
         }
         Ok(Step::FullBatch)

@@ -1,10 +1,11 @@
 ghost use Rattle.std.specs.Prelude.{◌≡◌, ◌<◌, true, false, [], ◌∷◌, OnOk};
+ghost use Rattle.mrt_body.specs.Lent.{lent_unit};
 ghost use Rattle.mrt_body.specs.Units.{IsSmallUnit};
 
 use crate::gate::Gate;
-use crate::numbered::Numbered;
 use crate::unit_producer::UnitProducer;
 use bgp_prefix::Memory;
+use mrt_body::LentUnit;
 use std::alloc::Global;
 use std::sync::atomic::{AtomicBool, Ordering};
 
@@ -59,19 +60,21 @@ impl Feed {
         true
     }
 
-    /// Deals the unit to the ring, which has room for it.
+    /// Deals a copy of this unit of the peer with this number to the ring, which has room for it.
     pub fn push<G: Gate>(
         &mut self,
         alloc: Global,
         gate: &G,
         lane: usize,
-        item: Numbered,
+        number: usize,
+        unit: &LentUnit<'_>,
     ) -> Result<(), Memory>
-        requires small { IsSmallUnit item.unit }
+        requires small { IsSmallUnit (lent_unit unit.now) }
         requires room { 0 < known_free self.old.producer }
-        ensures { OnOk result (Pushed self.old self.new (item ∷ [])) }
+        ensures { OnOk result
+            (Pushed self.old self.new (record { number = number; unit = lent_unit unit.now } ∷ [])) }
     {
-        self.producer.push(alloc, item)?;
+        self.producer.push(alloc, number, unit)?;
         gate.dealt(lane, self.dealt);
         self.dealt = self.dealt.saturating_add(1);
         Ok(())

@@ -1,6 +1,6 @@
 //! The numbers of peers.
 
-ghost use Rattle.std.specs.Prelude.{◌≡◌, ℕ, [], IfOk, false, MatchOption, slice_get, slice_index_or, length, ◌<◌, Some, true};
+ghost use Rattle.std.specs.Prelude.{◌≡◌, ℕ, [], IfOk, IfSome, false, MatchOption, slice_get, slice_index_or, length, ◌<◌, Some, true};
 ghost use Rattle.std.specs.HashMap as hash;
 ghost use Rattle.std.specs.List.{list_any};
 ghost use Rattle.mrt_body.specs.contracts.unit.PeerKeyPartialEq.TheImpl as key_impl;
@@ -83,17 +83,24 @@ impl Peers {
         })
     }
 
+    /// Returns the number of this peer if the slot holds it.
+    fn recent_at(&self, slot: usize, peer: &PeerKey) -> Option<usize>
+        ensures { IfSome result (λ number. slice_get self.now.keys.items number ≡ Some peer.now) }
+    {
+        let number = *self.recent.get(slot)?;
+        if seen_at(&self.keys, number, peer) {
+            Some(number)
+        } else {
+            None
+        }
+    }
+
     /// Returns the number of a peer seen before.
     fn find(&self, peer: &PeerKey) -> Option<usize>
         ensures { MatchOption result
             (list_any (peer_eq peer.now) self.now.keys.items ≡ false) (λ number. slice_get self.now.keys.items
             number ≡ Some peer.now) }
     {
-        if let Some(number) = self.recent.get(recent_slot(peer)) {
-            if seen_at(&self.keys, *number, peer) {
-                return Some(*number);
-            }
-        }
         match self.numbers.get(peer).copied() {
             Some(number) => Some(number),
             None => None,
@@ -125,8 +132,12 @@ impl Peers {
     pub fn number_of(&mut self, peer: &PeerKey) -> Result<usize, Memory>
         ensures { IfOk result (NumbersPeer self.old.keys.items self.new.keys.items peer.now) }
     {
+        let slot = recent_slot(peer);
+        if let Some(number) = self.recent_at(slot, peer) {
+            return Ok(number);
+        }
         let number = self.find_or_add(peer)?;
-        if let Some(recent) = self.recent.get_mut(recent_slot(peer)) {
+        if let Some(recent) = self.recent.get_mut(slot) {
             *recent = number;
         }
         Ok(number)

@@ -16,6 +16,7 @@ use crate::scheduled::Lanes;
 use crate::seats::Seats;
 use crate::sessions::Sessions;
 use crate::turn::Turn;
+use crate::unit_list::LentItem;
 use adj_rib::{ReadAhead, SharedRoute};
 use bgp_prefix::{Memory, PrefixMap, Sequence};
 use mrt_body::Unit;
@@ -113,7 +114,11 @@ fn take_one<M: PrefixMap<SharedRoute> + Drop>(
     let Some(item) = lane.ring.pop_front() else {
         return Ok(());
     };
-    lane.seats.take(alloc, &item, &ReadAhead::nothing())?;
+    let lent = LentItem {
+        number: item.number,
+        unit: item.unit.lend(),
+    };
+    lane.seats.take(alloc, &lent, &ReadAhead::nothing())?;
     lane.took = lane.took.saturating_add(1);
     Ok(())
 }

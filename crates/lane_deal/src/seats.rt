@@ -2,15 +2,16 @@
 
 ghost use Rattle.std.specs.Prelude.{◌≡◌, ◌<◌, ℕ, Some, false, length, map, slice_get, slice_index_or, IfOk, IfSome, OnOk, IsTrue, MatchOption, true, ◌==◌};
 ghost use Rattle.std.specs.List.{list_any};
+ghost use Rattle.mrt_body.specs.Lent.{lent_payload, lent_unit};
 ghost use Rattle.adj_rib.specs.RouteSets.{IsAheadOf};
 ghost use Rattle.peer_tables.specs.Seats.{seat_of};
 ghost use Rattle.lane_deal.specs.Seating.{AreIndexed, SeatFor, TakenAt};
 
-use crate::numbered::Numbered;
 use crate::sessions::Sessions;
+use crate::unit_list::{LentItem, UnitList};
 use adj_rib::{ReadAhead, Session, SharedRoute};
 use bgp_prefix::{Memory, PrefixMap};
-use mrt_body::{PeerKey, Unit};
+use mrt_body::{LentUnit, PeerKey};
 use peer_tables::Seated;
 use std::alloc::Global;
 use std::mem;
@@ -73,12 +74,12 @@ fn take_at<M: PrefixMap<SharedRoute>>(
     alloc: Global,
     seats: &mut [Seated<M>],
     at: usize,
-    unit: &Unit,
+    unit: &LentUnit<'_>,
     ahead: &ReadAhead,
 ) -> Result<(), Memory>
     requires within { at < length seats.old }
-    requires ahead { IsAheadOf unit.now.payload ahead.now }
-    ensures taken { OnOk result (TakenAt (map seat_of seats.old) (map seat_of seats.new) at unit.now) }
+    requires ahead { IsAheadOf (lent_payload unit.now.payload) ahead.now }
+    ensures taken { OnOk result (TakenAt (map seat_of seats.old) (map seat_of seats.new) at (lent_unit unit.now)) }
     ensures numbers { map (λ seat. seat.number) seats.new ≡ map (λ seat. seat.number) seats.old }
 {
     seats[at].session.take_ahead(alloc, unit, ahead)
@@ -165,23 +166,23 @@ impl<M: PrefixMap<SharedRoute> + Drop> Seats<M> {
         mem::replace(&mut self.seats, given)
     }
 
-    /// Returns the session that probably takes a unit.
-    fn session_near(&self, item: &Numbered) -> Option<&Session<M>> {
-        let at = self.position_of(item.number)?;
+    /// Returns the session that probably takes a unit of the peer with this number.
+    fn session_near(&self, number: Option<usize>) -> Option<&Session<M>> {
+        let at = self.position_of(number?)?;
         let seat = self.seats.get(at)?;
         Some(&seat.session)
     }
 
     /// Prefetches the slots where the routes of all these units would be, and then these routes. The returned number has no meaning.
-    fn touch(&self, items: &[Numbered], ahead: &[ReadAhead]) -> usize {
+    fn touch(&self, items: &UnitList, ahead: &[ReadAhead]) -> usize {
         let mut touched = 0usize;
-        for (item, read) in items.iter().zip(ahead) {
-            if let Some(session) = self.session_near(item) {
+        for (at, read) in ahead.iter().enumerate() {
+            if let Some(session) = self.session_near(items.number_at(at)) {
                 touched = touched.saturating_add(session.prefetch_slot(read));
             }
         }
-        for (item, read) in items.iter().zip(ahead) {
-            if let Some(session) = self.session_near(item) {
+        for (at, read) in ahead.iter().enumerate() {
+            if let Some(session) = self.session_near(items.number_at(at)) {
                 touched = touched.saturating_add(session.prefetch_route(read));
             }
         }
@@ -205,11 +206,16 @@ impl<M: PrefixMap<SharedRoute> + Drop> Sessions for Seats<M> {
         }
     }
 
-    fn prefetch(&mut self, items: &[Numbered], ahead: &[ReadAhead]) {
+    fn prefetch(&mut self, items: &UnitList, ahead: &[ReadAhead]) {
         self.prefetched = self.touch(items, ahead);
     }
 
-    fn take(&mut self, alloc: Global, item: &Numbered, ahead: &ReadAhead) -> Result<(), Memory> {
+    fn take(
+        &mut self,
+        alloc: Global,
+        item: &LentItem<'_>,
+        ahead: &ReadAhead,
+    ) -> Result<(), Memory> {
         let at = self.position_for(alloc, item.number, &item.unit.peer)?;
         take_at(alloc, &mut self.seats, at, &item.unit, ahead)
     }

@@ -1,4 +1,4 @@
-use crate::numbered::Numbered;
+use crate::unit_list::{LentItem, UnitList};
 use adj_rib::ReadAhead;
 use bgp_prefix::Memory;
 use std::alloc::Global;
@@ -7,7 +7,9 @@ use std::alloc::Global;
 pub trait Sessions {
     ghost use Rattle.std.specs.Prelude.{List, [], ◌∷◌, ◌++◌, OnOk};
     ghost use Rattle.adj_rib.specs.RouteSets.{IsAheadOf};
+    ghost use Rattle.mrt_body.specs.Lent.{lent_payload};
     ghost use Rattle.lane_deal.specs.declared.numbered.Numbered.{Numbered};
+    ghost use Rattle.lane_deal.specs.ListedUnits.{lent_item};
 
     /// The sessions are in the state that these units lead to.
     ghost stands_for: { Self → List Numbered → Type 0 };
@@ -16,12 +18,12 @@ pub trait Sessions {
         ensures { stands_for result [] };
 
     /// Prefetches a little of what the sessions will need to take these, so that the cache misses overlap.
-    fn prefetch(&mut self, items: &[Numbered], ahead: &[ReadAhead])
+    fn prefetch(&mut self, items: &UnitList, ahead: &[ReadAhead])
         ensures { (taken : List Numbered) → stands_for self.old taken → stands_for self.new taken };
 
     /// Takes the next unit, with what was read ahead of it.
-    fn take(&mut self, alloc: Global, item: &Numbered, ahead: &ReadAhead) -> Result<(), Memory>
-        requires { IsAheadOf item.now.unit.payload ahead.now }
+    fn take(&mut self, alloc: Global, item: &LentItem<'_>, ahead: &ReadAhead) -> Result<(), Memory>
+        requires { IsAheadOf (lent_payload item.now.unit.payload) ahead.now }
         ensures { OnOk result ((taken : List Numbered) → stands_for self.old taken →
-            stands_for self.new (taken ++ item.now ∷ [])) };
+            stands_for self.new (taken ++ lent_item item.now ∷ [])) };
 }

@@ -1,9 +1,192 @@
 //! Lists of units, which pass through a ring as one item.
 
-use crate::numbered::Numbered;
+ghost use Rattle.std.specs.Prelude.{◌≡◌, ◌+◌, ◌≤◌, length, take, drop};
+ghost use Rattle.std.proofs.Props.{props};
+ghost use Rattle.std.specs.List.{AllByRecursion};
+ghost use Rattle.mrt_body.specs.Lent.{lent_payload};
+ghost use Rattle.adj_rib.specs.RouteSets.{IsAheadOf};
+ghost use Rattle.lane_deal.specs.ListedUnits.{IsWithin, payload_with};
 
-/// Units that were dealt to one lane, in order.
+use adj_rib::ReadAhead;
+use bgp_prefix::{Memory, RouteKey};
+use bgp_update::Width;
+use mrt_body::{LentPayload, LentUnit, PeerKey, Place};
+use std::alloc::Global;
+
+/// A payload without its bytes.
+#[derive(Clone, Copy)]
+pub enum PayloadKind {
+    State { from: u16, to: u16 },
+    Message { width: Width, add_path: bool },
+    Entry { key: RouteKey },
+}
+
+/// A unit of a list, and where its bytes are in those of the list.
+#[derive(Clone, Copy)]
+pub struct ListedUnit {
+    pub number: usize,
+    pub place: Place,
+    pub time: u64,
+    pub peer: PeerKey,
+    pub kind: PayloadKind,
+    pub start: usize,
+    pub len: usize,
+}
+
+/// A unit that its list lends, with its peer's number.
+#[derive(Clone, Copy)]
+pub struct LentItem<'a> {
+    pub number: usize,
+    pub unit: LentUnit<'a>,
+}
+
+/// Units that were dealt to one lane, in order. Their bytes are in one block of memory, so a list takes two
+/// allocations, however many units it has.
 #[derive(Drop)]
 pub struct UnitList {
-    pub items: Vec<Numbered>,
+    listed: Vec<ListedUnit>,
+    bytes: Vec<u8>,
+    ghost within: { AllByRecursion (λ unit. IsWithin (length bytes.items) unit) listed.items } by { Prim.hlevel props },
+}
+
+/// How many bytes there is room for at first for each unit of a list. More are made room for as they come.
+const BYTES_EACH: usize = 64;
+
+/// Returns a payload's kind and its bytes.
+fn parts_of<'a>(payload: &LentPayload<'a>) -> (PayloadKind, &'a [u8])
+    ensures { payload_with result.0 result.1.now ≡ lent_payload payload.now }
+{
+    match *payload {
+        LentPayload::State { from, to } => (PayloadKind::State { from, to }, &[]),
+        LentPayload::Message {
+            bytes,
+            width,
+            add_path,
+        } => (PayloadKind::Message { width, add_path }, bytes),
+        LentPayload::Entry { key, attrs } => (PayloadKind::Entry { key }, attrs),
+    }
+}
+
+/// Returns the payload of this kind with these bytes.
+fn with_bytes(kind: PayloadKind, bytes: &[u8]) -> LentPayload<'_>
+    ensures { lent_payload result ≡ payload_with kind bytes.now }
+{
+    match kind {
+        PayloadKind::State { from, to } => LentPayload::State { from, to },
+        PayloadKind::Message { width, add_path } => LentPayload::Message {
+            bytes,
+            width,
+            add_path,
+        },
+        PayloadKind::Entry { key } => LentPayload::Entry { key, attrs: bytes },
+    }
+}
+
+/// Returns this many bytes from a position on.
+fn bytes_from(bytes: &[u8], start: usize, len: usize) -> &[u8]
+    requires { start + len ≤ length bytes.now }
+    ensures { result.now ≡ take len (drop start bytes.now) }
+{
+    &bytes[start..start + len]
+}
+
+impl UnitList {
+    ghost use Rattle.std.specs.Prelude.{◌<◌, [], ◌∷◌, ◌++◌, MatchOption, OnOk, OnErr, slice_index_or};
+    ghost use Rattle.mrt_body.specs.Lent.{lent_unit};
+    ghost use Rattle.lane_deal.specs.ListedUnits.{lent_item};
+    ghost use Rattle.lane_deal.specs.UnitLists.{units_of};
+    ghost use Rattle.lane_deal.specs.declared.numbered.Numbered.{Numbered};
+
+    /// Returns a list without units. Allocates nothing.
+    pub fn new(alloc: Global) -> UnitList
+        ensures { units_of result ≡ [] }
+    {
+        UnitList {
+            listed: Vec::new(alloc),
+            bytes: Vec::new(alloc),
+        }
+    }
+
+    /// How many units there are.
+    pub fn len(&self) -> usize
+        ensures { result ≡ length (units_of self.now) }
+    {
+        self.listed.len()
+    }
+
+    /// Makes room for so many units, and for some bytes of each.
+    pub fn reserve(&mut self, count: usize) -> Result<(), Memory>
+        ensures { units_of self.new ≡ units_of self.old }
+    {
+        self.listed.reserve_exact(count)?;
+        self.bytes.reserve_exact(count.saturating_mul(BYTES_EACH))?;
+        Ok(())
+    }
+
+    /// Adds a copy of this unit of the peer with this number.
+    pub fn push(&mut self, number: usize, unit: &LentUnit<'_>) -> Result<(), Memory>
+        ensures pushed { OnOk result
+            (units_of self.new ≡ units_of self.old ++ record { number = number; unit = lent_unit unit.now } ∷ []) }
+        ensures failed { OnErr result (units_of self.new ≡ units_of self.old) }
+    {
+        let (kind, bytes) = parts_of(&unit.payload);
+        let start = self.bytes.len();
+        self.listed.reserve(1)?;
+        self.bytes.extend_from_slice(bytes)?;
+        self.listed.push_reserved(ListedUnit {
+            number,
+            place: unit.place,
+            time: unit.time,
+            peer: unit.peer,
+            kind,
+            start,
+            len: bytes.len(),
+        });
+        Ok(())
+    }
+
+    /// Returns the number of the peer of the unit at this index, if there is one.
+    pub fn number_at(&self, at: usize) -> Option<usize>
+        ensures { MatchOption result
+            (length (units_of self.now) ≤ at)
+            (λ number. (d : Numbered) → (slice_index_or (units_of self.now) at d).number ≡ number) }
+    {
+        match self.listed.get(at) {
+            Some(unit) => Some(unit.number),
+            None => None,
+        }
+    }
+
+    /// Lends the unit at this index.
+    pub fn at(&self, at: usize) -> LentItem<'_>
+        requires { at < length (units_of self.now) }
+        ensures { (d : _) → slice_index_or (units_of self.now) at d ≡ lent_item result }
+    {
+        let unit = self.listed[at];
+        let bytes = bytes_from(self.bytes.as_slice(), unit.start, unit.len);
+        LentItem {
+            number: unit.number,
+            unit: LentUnit {
+                place: unit.place,
+                time: unit.time,
+                peer: unit.peer,
+                payload: with_bytes(unit.kind, bytes),
+            },
+        }
+    }
+
+    /// Reads the attributes of the unit at this index ahead, by way of a buffer, whose contents are replaced.
+    pub fn read_ahead(&self, alloc: Global, buffer: &mut Vec<u8>, at: usize) -> ReadAhead
+        requires { at < length (units_of self.now) }
+        ensures { (d : Numbered) → IsAheadOf (slice_index_or (units_of self.now) at d).unit.payload result }
+    {
+        let unit = self.listed[at];
+        match unit.kind {
+            PayloadKind::Entry { .. } => {
+                let attrs = bytes_from(self.bytes.as_slice(), unit.start, unit.len);
+                ReadAhead::of_entry(alloc, buffer, attrs)
+            }
+            _ => ReadAhead::nothing(),
+        }
+    }
 }

@@ -7,9 +7,10 @@ ghost use Rattle.std.specs.List.{AllByRecursion};
 ghost use Rattle.rtrb.specs.Ring.{known_free as free_slots, sent as sent_lists, producer_capacity};
 ghost use Rattle.lane_deal.specs.UnitLists.{units_of, AreSmall, AreLastLengths, total};
 
-use crate::numbered::{Numbered, Small};
+use crate::numbered::Small;
 use crate::unit_list::UnitList;
 use bgp_prefix::Memory;
+use mrt_body::LentUnit;
 use rtrb::{Consumer, Producer, RingBuffer};
 use std::alloc::Global;
 use std::collections::VecDeque;
@@ -61,6 +62,7 @@ fn take_sum(lengths: &mut VecDeque<usize>, count: usize) -> usize
 impl UnitProducer {
     ghost use Rattle.std.specs.Prelude.{◌≡◌, ◌+◌, ◌<◌, ◌≤◌, [], ◌∷◌, ◌++◌, length, IfOk, OnOk, IsTrue, ◌↔◌};
     ghost use Rattle.rtrb.specs.Ring.{ConsumerLooked};
+    ghost use Rattle.mrt_body.specs.Lent.{lent_unit};
     ghost use Rattle.mrt_body.specs.Units.{IsSmallUnit};
     ghost use Rattle.lane_deal.specs.UnitLists.{IsUnitList};
     ghost use Rattle.lane_deal.specs.UnitRings.{sent, known_free, ring_capacity, received, known_items, IsPair, SameProducer, ProducerLooked};
@@ -79,9 +81,7 @@ impl UnitProducer {
         let (lists, consumer) = RingBuffer::with_protocol::<Global, Small>(alloc, capacity)?;
         let producer = UnitProducer {
             lists,
-            filling: UnitList {
-                items: Vec::new(alloc),
-            },
+            filling: UnitList::new(alloc),
             lengths: VecDeque::new(alloc),
             free: capacity,
             capacity,
@@ -138,10 +138,8 @@ impl UnitProducer {
         ensures value { units_of result ≡ units_of self.old.filling }
         ensures filling { units_of self.new.filling ≡ [] }
     {
-        self.free += self.filling.items.len();
-        UnitList {
-            items: mem::replace(&mut self.filling.items, Vec::new(alloc)),
-        }
+        self.free += self.filling.len();
+        mem::replace(&mut self.filling, UnitList::new(alloc))
     }
 
     /// Pushes a list, after which no list is being filled.
@@ -154,28 +152,30 @@ impl UnitProducer {
         ensures free { OnOk result (known_free self.old ≡ known_free self.new + length (units_of list)) }
         ensures filling { units_of self.new.filling ≡ [] }
     {
-        let length = list.items.len();
+        let length = list.len();
         self.lengths.push_back(length)?;
         self.lists.push_reserved(list);
         self.free -= length;
         Ok(())
     }
 
-    /// Adds a unit to the list that is being filled, and pushes the list if it is then full.
-    pub fn push(&mut self, alloc: Global, item: Numbered) -> Result<(), Memory>
-        requires small { IsSmallUnit item.unit }
+    /// Adds a copy of this unit of the peer with this number to the list that is being filled, and pushes the list if
+    /// it is then full.
+    pub fn push(&mut self, alloc: Global, number: usize, unit: &LentUnit<'_>) -> Result<(), Memory>
+        requires small { IsSmallUnit (lent_unit unit.now) }
         requires room { 0 < known_free self.old }
         ensures ring { SameProducer self.old self.new }
-        ensures sent { OnOk result (sent self.new ≡ sent self.old ++ item ∷ []) }
+        ensures sent { OnOk result
+            (sent self.new ≡ sent self.old ++ record { number = number; unit = lent_unit unit.now } ∷ []) }
         ensures free { OnOk result (known_free self.old ≡ known_free self.new + 1) }
     {
         let size = list_size(self.capacity);
-        if self.filling.items.is_empty() {
-            self.filling.items.reserve_exact(size)?;
+        if self.filling.len() == 0 {
+            self.filling.reserve(size)?;
         }
-        self.filling.items.push(item)?;
+        self.filling.push(number, unit)?;
         self.free -= 1;
-        if self.filling.items.len() < size {
+        if self.filling.len() < size {
             return Ok(());
         }
         let list = self.take_filling(alloc);
@@ -224,7 +224,7 @@ impl UnitProducer {
         ensures filling { units_of self.new.filling ≡ [] }
     {
         let list = from.take_filling(alloc);
-        if list.items.is_empty() {
+        if list.len() == 0 {
             return Ok(());
         }
         self.push_list(list)

@@ -1,10 +1,11 @@
-ghost use Rattle.std.specs.Prelude.{◌≡◌, OnOk, [], length, ◌<◌, true};
+ghost use Rattle.std.specs.Prelude.{◌≡◌, Ok, OnOk, [], length, ◌<◌, true, false};
 ghost use Rattle.std.specs.List.{AllZip};
 ghost use Rattle.std.specs.Thread.{IsSync, IsSend};
 ghost use Rattle.lane_deal.specs.LaneWorkers.{Worked, AreReadAhead};
+ghost use Rattle.lane_deal.specs.UnitLists.{units_of};
 
 use crate::gate::Gate;
-use crate::numbered::{Numbered, Small};
+use crate::numbered::Small;
 use crate::sessions::Sessions;
 use crate::unit_list::UnitList;
 use adj_rib::ReadAhead;
@@ -34,21 +35,21 @@ pub struct Patience {
 fn read_ahead(
     alloc: Global,
     buffer: &mut Vec<u8>,
-    items: &[Numbered],
+    items: &UnitList,
     ahead: &mut Vec<ReadAhead>,
 ) -> Result<(), Memory>
-    ensures { OnOk result (AreReadAhead items.now ahead.new.items) }
+    ensures { OnOk result (AreReadAhead (units_of items.now) ahead.new.items) }
 {
     ahead.clear();
-    for item in items {
-        ahead.push(ReadAhead::of(alloc, buffer, &item.unit))?;
+    for at in 0..items.len() {
+        ahead.push(items.read_ahead(alloc, buffer, at))?;
     }
     Ok(())
 }
 
 impl<S: Sessions> Worker<S> {
     ghost use Rattle.lane_deal.specs.LaneWorkers.{Took, TookFront, TookSome, Takes, Worked};
-    ghost use Rattle.lane_deal.specs.UnitRings.{known_items, known_lists};
+    ghost use Rattle.lane_deal.specs.UnitRings.{known_items, known_lists, received};
 
     /// Takes what it knows to be in its ring, and then what it finds by looking again.
     pub fn run<G: Gate>(
@@ -117,7 +118,9 @@ impl<S: Sessions> Worker<S> {
         buffer: &mut Vec<u8>,
         ahead: &mut Vec<ReadAhead>,
     ) -> Result<bool, Memory>
-        ensures { OnOk result (TookSome S.stands_for self.old self.new) }
+        ensures took { OnOk result (TookSome S.stands_for self.old self.new) }
+        ensures none { result ≡ Ok false → received self.new.consumer ≡ received self.old.consumer }
+        ensures some { result ≡ Ok true → length (received self.old.consumer) < length (received self.new.consumer) }
     {
         let _taken = self.taken;
         if self.consumer.is_empty() {
@@ -138,10 +141,9 @@ impl<S: Sessions> Worker<S> {
         requires { 0 < length (known_lists self.old.consumer) }
         ensures { OnOk result (TookFront S.stands_for self.old self.new) }
     {
-        let list = self.consumer.pop_known();
-        let items = list.items.as_slice();
-        read_ahead(alloc, buffer, items, ahead)?;
-        self.take_items(alloc, gate, items, ahead.as_slice())
+        let items = self.consumer.pop_known();
+        read_ahead(alloc, buffer, &items, ahead)?;
+        self.take_items(alloc, gate, &items, ahead.as_slice())
     }
 
     /// Takes the units in order.
@@ -149,16 +151,16 @@ impl<S: Sessions> Worker<S> {
         &mut self,
         alloc: Global,
         gate: &G,
-        items: &[Numbered],
+        items: &UnitList,
         ahead: &[ReadAhead],
     ) -> Result<(), Memory>
-        requires { AreReadAhead items.now ahead.now }
-        ensures { OnOk result (Takes S.stands_for self.old self.new items.now) }
+        requires { AreReadAhead (units_of items.now) ahead.now }
+        ensures { OnOk result (Takes S.stands_for self.old self.new (units_of items.now)) }
     {
         self.sessions.prefetch(items, ahead);
-        for (at, item) in items.iter().enumerate() {
+        for (at, read) in ahead.iter().enumerate() {
             gate.before(self.lane, self.taken);
-            self.sessions.take(alloc, item, &ahead[at])?;
+            self.sessions.take(alloc, &items.at(at), read)?;
             self.taken = self.taken.saturating_add(1);
         }
         Ok(())

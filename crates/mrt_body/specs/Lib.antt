@@ -5,6 +5,7 @@ pub mod RibRecords
 pub mod Bgp4mp
 pub mod Selections
 pub mod Units
+pub mod Lent
 pub mod Agreement
 pub mod Refusals
 pub mod Listed

@@ -1,17 +1,17 @@
 //! The entries of a RIB record that are still to be returned.
 
-ghost use Rattle.std.specs.Prelude.{◌≡◌, ◌≤◌, ◌++◌, ◌+◌, ◌/◌, [], length, take, drop, max, vec_capacity, Some, None, Ok, IfOk, IfSome, option_to_list};
+ghost use Rattle.std.specs.Prelude.{◌≡◌, ◌≤◌, ◌+◌, ◌/◌, ◌∷◌, [], length, take, drop, max, vec_capacity, Some, None, IfOk, IfSome};
 ghost use Rattle.bgp_update.specs.Answers.{Gives};
-ghost use Rattle.mrt_body.specs.Units.{IsSmallUnit, rib_units_in, time_of};
+ghost use Rattle.mrt_body.specs.Lent.{lent_unit};
+ghost use Rattle.mrt_body.specs.Units.{IsSmallUnit, rib_units_in};
 ghost use Rattle.mrt_body.specs.Pending.{AreListed, units_left};
 
 use crate::at::RecordAt;
-use crate::payload_bytes::PayloadBytes;
+use crate::lent::{LentPayload, LentUnit};
 use crate::rib::{ListedEntry, list_entries, rib_head_at};
-use crate::unit::{Payload, PeerKey, Unit};
-use bgp_prefix::{Memory, Prefix, RouteKey, Sequence};
+use crate::unit::PeerKey;
+use bgp_prefix::{Prefix, RouteKey, Sequence};
 use bgp_update::AttrError;
-use std::alloc::Global;
 
 /// A RIB record along with the list of its entries, which are returned one by one.
 #[derive(Drop)]
@@ -21,32 +21,6 @@ pub(crate) struct RibRecord {
     pub(crate) body: Sequence<u8>,
     /// How many entries have been returned.
     pub(crate) given: u16,
-}
-
-/// Returns the unit of an entry.
-fn entry_unit(
-    alloc: Global,
-    at: RecordAt,
-    key: RouteKey,
-    number: u16,
-    peer: PeerKey,
-    attributes: &[u8],
-) -> Result<Unit, Memory>
-    ensures { IfOk result
-        (λ unit. unit ≡ record {
-          place = record { file = at.file; offset = at.offset; entry = Some number };
-          time = time_of at 0;
-          peer = peer;
-          payload = Payload.Entry key attributes.now;
-        }) }
-{
-    let attrs = PayloadBytes::from_slice(alloc, attributes)?;
-    Ok(Unit {
-        place: at.place(Some(number)),
-        time: at.time(0),
-        peer,
-        payload: Payload::Entry { key, attrs },
-    })
 }
 
 /// Returns this many bytes from a position on.
@@ -92,39 +66,45 @@ impl RibRecord {
         }
     }
 
-    /// Returns the next entry as a unit of its peer, or `None` at the end.
-    pub(crate) fn next(
-        &mut self,
-        alloc: Global,
-        peers: &[PeerKey],
-        list: &[ListedEntry],
-    ) -> Result<Option<Unit>, Memory>
-        requires { AreListed peers.now list.now self.old }
-        ensures gives { IfOk result
-            (λ unit. units_left peers.now list.now self.old
-            ≡ option_to_list unit ++ units_left peers.now list.now self.new) }
-        ensures ended { IfOk result (λ unit. unit ≡ None → units_left peers.now list.now self.old ≡ []) }
-        ensures none { units_left peers.now list.now self.old ≡ [] → result ≡ Ok None }
-        ensures listed { AreListed peers.now list.now self.new }
-        ensures small { IfOk result (λ unit. IfSome unit IsSmallUnit) }
+    /// Lends the unit of the next entry, or returns `None` at the end.
+    pub(crate) fn lend(&self, peers: &[PeerKey], list: &[ListedEntry]) -> Option<LentUnit<'_>>
+        requires { AreListed peers.now list.now self.now }
+        ensures lends { IfSome result
+            (λ unit. units_left peers.now list.now self.now
+            ≡ lent_unit unit ∷ drop 1 (units_left peers.now list.now self.now)) }
+        ensures none { (result ≡ None → units_left peers.now list.now self.now ≡ [])
+            × (units_left peers.now list.now self.now ≡ [] → result ≡ None) }
+        ensures small { IfSome result (λ unit. IsSmallUnit (lent_unit unit)) }
     {
         if self.given as usize == list.len() {
-            return Ok(None);
+            return None;
         }
         let entry = list[self.given as usize];
-        let number = self.given + 1;
-        let key = RouteKey {
-            prefix: self.prefix,
-            id: entry.identifier,
-        };
-        let attributes = bytes_from(
+        let attrs = bytes_from(
             self.body.as_slice(),
             entry.start as usize,
             entry.len as usize,
         );
-        let peer = peers[entry.peer as usize];
-        let unit = entry_unit(alloc, self.at, key, number, peer, attributes)?;
-        self.given = number;
-        Ok(Some(unit))
+        let key = RouteKey {
+            prefix: self.prefix,
+            id: entry.identifier,
+        };
+        Some(LentUnit {
+            place: self.at.place(Some(self.given + 1)),
+            time: self.at.time(0),
+            peer: peers[entry.peer as usize],
+            payload: LentPayload::Entry { key, attrs },
+        })
+    }
+
+    /// Passes over the next entry, which was returned.
+    pub(crate) fn pass(&mut self, peers: &[PeerKey], list: &[ListedEntry])
+        requires { AreListed peers.now list.now self.old }
+        ensures passes { units_left peers.now list.now self.new ≡ drop 1 (units_left peers.now list.now self.old) }
+        ensures listed { AreListed peers.now list.now self.new }
+    {
+        if (self.given as usize) < list.len() {
+            self.given += 1;
+        }
     }
 }

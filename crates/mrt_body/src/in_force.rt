@@ -1,12 +1,14 @@
 //! The index in force, and what it is still needed for.
 
-ghost use Rattle.std.specs.Prelude.{◌≡◌, ◌≤◌, ◌++◌, [], length, Some, None, Ok, OnErr, IfOk, IfSome, option_to_list};
+ghost use Rattle.std.specs.Prelude.{◌≡◌, ◌≤◌, ◌∷◌, ◌++◌, [], drop, length, Some, None, Ok, OnErr, IfOk, IfSome, option_to_list};
 ghost use Rattle.bgp_update.specs.Answers.{Gives};
+ghost use Rattle.mrt_body.specs.Lent.{lent_unit};
 ghost use Rattle.mrt_body.specs.Units.{IsSmallUnit, rib_units_in};
 ghost use Rattle.mrt_body.specs.Pending.{without_pending};
 
 use crate::at::RecordAt;
 use crate::entries::RibRecord;
+use crate::lent::LentUnit;
 use crate::rib::ListedEntry;
 use crate::unit::{PeerKey, Unit};
 use bgp_prefix::{Memory, Sequence};
@@ -71,6 +73,27 @@ impl Index {
         self.last = None;
     }
 
+    /// Lends the unit of the next entry, or returns `None` at the end.
+    pub(crate) fn lend(&self) -> Option<LentUnit<'_>>
+        ensures lends { IfSome result (λ unit. self.now.pending ≡ lent_unit unit ∷ drop 1 self.now.pending) }
+        ensures none { (result ≡ None → self.now.pending ≡ []) × (self.now.pending ≡ [] → result ≡ None) }
+        ensures small { IfSome result (λ unit. IsSmallUnit (lent_unit unit)) }
+    {
+        match &self.last {
+            Some(record) => record.lend(self.peers.as_slice(), self.list.as_slice()),
+            None => None,
+        }
+    }
+
+    /// Passes over the next entry, which was returned.
+    pub(crate) fn pass(&mut self)
+        ensures { self.new ≡ record { peers = self.old.peers; pending = drop 1 self.old.pending } }
+    {
+        if let Some(record) = &mut self.last {
+            record.pass(self.peers.as_slice(), self.list.as_slice());
+        }
+    }
+
     /// Returns the unit of the next entry, or `None` at the end.
     pub(crate) fn next(&mut self, alloc: Global) -> Result<Option<Unit>, Memory>
         ensures gives { IfOk result (λ unit. self.old.pending ≡ option_to_list unit ++ self.new.pending) }
@@ -80,14 +103,13 @@ impl Index {
         ensures peers { self.new.peers ≡ self.old.peers }
         ensures small { IfOk result (λ unit. IfSome unit IsSmallUnit) }
     {
-        let Some(record) = &mut self.last else {
+        let Some(lent) = self.lend() else {
+            // The record's body is freed before the next one is read.
+            self.leave_out();
             return Ok(None);
         };
-        let unit = record.next(alloc, self.peers.as_slice(), self.list.as_slice())?;
-        if unit.is_none() {
-            // The record's body is freed before the next one is read.
-            self.last = None;
-        }
-        Ok(unit)
+        let unit = lent.to_unit(alloc)?;
+        self.pass();
+        Ok(Some(unit))
     }
 }

@@ -3,7 +3,9 @@
 ghost use Rattle.std.specs.Prelude.{◌≡◌, IfOk, Ok};
 ghost use Rattle.bgp_update.specs.Answers.{Gives};
 ghost use Rattle.mrt_body.specs.Events.{IsEvent, IsMessageEvent, IsWritableEvent, event_in, message_event_in};
+ghost use Rattle.mrt_body.specs.Lent.{lent_payload};
 
+use crate::lent::LentPayload;
 use crate::meaning::Event;
 use crate::message::message_in;
 use crate::unit::Payload;
@@ -41,7 +43,6 @@ fn message_event(
 
 /// Returns the one event of a payload, or its first fault in the order of checks. A fault means that the
 /// unit is damaged and changes no route.
-#[tactic(auto, unfolding(crate::specs::Events::event_in))]
 pub fn event(alloc: Global, payload: &Payload) -> Result<Event, AttrError>
     // What is returned is what the payload means.
     ensures found { IfOk result (IsEvent payload.now) }
@@ -52,15 +53,26 @@ pub fn event(alloc: Global, payload: &Payload) -> Result<Event, AttrError>
     // Its route can be packed.
     ensures writable { IfOk result IsWritableEvent }
 {
-    match payload {
-        Payload::State { from, to } => Ok(Event::State(*from, *to)),
-        Payload::Message {
+    lent_event(alloc, &payload.lend())
+}
+
+/// Returns the event of a payload whose bytes are lent, as `event` does.
+#[tactic(auto, unfolding(crate::specs::Events::event_in))]
+pub fn lent_event(alloc: Global, payload: &LentPayload<'_>) -> Result<Event, AttrError>
+    ensures found { IfOk result (IsEvent (lent_payload payload.now)) }
+    ensures only { (e : Event) → IsEvent (lent_payload payload.now) e → Gives (λ e. e) result (Ok e) }
+    ensures exact { Gives (λ e. e) result (event_in (lent_payload payload.now)) }
+    ensures writable { IfOk result IsWritableEvent }
+{
+    match *payload {
+        LentPayload::State { from, to } => Ok(Event::State(from, to)),
+        LentPayload::Message {
             bytes,
             width,
             add_path,
-        } => message_event(alloc, bytes.as_slice(), *width, *add_path),
-        Payload::Entry { key, attrs } => match read_attrs(alloc, attrs.as_slice(), Width::Four) {
-            Ok(route) => Ok(Event::Rib(*key, route)),
+        } => message_event(alloc, bytes, width, add_path),
+        LentPayload::Entry { key, attrs } => match read_attrs(alloc, attrs, Width::Four) {
+            Ok(route) => Ok(Event::Rib(key, route)),
             Err(error) => Err(error),
         },
     }

@@ -8,6 +8,7 @@ mod entries;
 mod in_force;
 mod index;
 mod interpret;
+mod lent;
 mod meaning;
 mod message;
 mod payload;
@@ -22,7 +23,8 @@ mod units;
 
 pub use agreement::{bodies_agree_with_their_forms, events_agree_with_their_payloads};
 pub use content::{Content, content_of};
-pub use interpret::event;
+pub use interpret::{event, lent_event};
+pub use lent::{LentPayload, LentUnit};
 pub use meaning::Event;
 pub use payload_bytes::PayloadBytes;
 pub use reading::readings_give_all_found;

@@ -2,15 +2,17 @@
 
 mod record;
 
-ghost use Rattle.std.specs.Prelude.{◌≡◌, ℕ, List, ◌<◌, ◌≤◌, ◌+◌, ◌^◌, None, [], map, drop, Ok, Err, IfOk, IfErr, IfSome, OnOk, length, option_to_list};
+ghost use Rattle.std.specs.Prelude.{◌≡◌, ℕ, List, Option, ◌<◌, ◌≤◌, ◌+◌, ◌^◌, ◌∷◌, None, [], map, take, drop, Ok, Err, IfOk, IfErr, IfSome, OnOk, length, option_to_list};
+ghost use Rattle.mrt_body.specs.Lent.{lent_unit};
 ghost use Rattle.mrt_body.specs.Units.{IsSmall, IsSmallUnit, all_cuts, found_in};
 ghost use Rattle.mrt_frame.specs.Frames.{StandsAt, KeepsUnlessRead};
-ghost use Rattle.mrt_body.specs.ToCome.{UnitsState, GivesPending, CutsOne, TakesFound, NothingToCome, HasEnded, FailsInRecord, GivesAllBefore, Steps, StopsAt, Stops, KeepsPlan, answers_left, units_left, unit_count, cuts_to_come, found_to_come, steps_left, fresh_units, standing_after};
+ghost use Rattle.mrt_body.specs.ToCome.{UnitsState, GivesPending, CutsOne, TakesFound, NothingToCome, HasEnded, FailsInRecord, GivesAllBefore, Steps, StopsAt, Stops, KeepsPlan, as_found, answers_left, units_left, unit_count, cuts_to_come, found_to_come, steps_left, fresh_units, standing_after};
 ghost use Rattle.mrt_body.specs.declared.standing.Standing.TheVariants as standings;
 
 use crate::at::RecordAt;
 use crate::content::{content_of, is_extended};
 use crate::in_force::Index;
+use crate::lent::LentUnit;
 use crate::selection::Selection;
 use crate::standing::Standing;
 use crate::unit::{Found, Unit};
@@ -162,6 +164,38 @@ impl Units {
                     Err(error) => return Err(error),
                 }
             },
+        }
+    }
+
+    /// Lends the unit of the next entry of the RIB record that was cut last, which is what `next` would return.
+    /// Returns `None` if all of its entries were returned, or after an error. Whoever is done with the entry calls
+    /// `pass_entry`, and needs no unit of its own.
+    pub fn lend_entry(&self) -> Option<LentUnit<'_>>
+        ensures lends { IfSome result
+            (λ unit. (self.now.standing ≡ standings.Going)
+            × (self.now.pending ≡ lent_unit unit ∷ drop 1 self.now.pending)) }
+        ensures none { result ≡ None → self.now.standing ≡ standings.Going → self.now.pending ≡ [] }
+        ensures small { IfSome result (λ unit. IsSmallUnit (lent_unit unit)) }
+    {
+        let Standing::Going = self.standing else {
+            return None;
+        };
+        match &self.index {
+            Some(index) => index.lend(),
+            None => None,
+        }
+    }
+
+    /// Passes over the entry that `lend_entry` lent, if there is one: `next` returns what comes after it.
+    pub fn pass_entry(&mut self)
+        ensures passes { GivesPending self.old self.new (take 1 self.old.pending) }
+        ensures found { (known : List (Option (List ℕ))) →
+            TakesFound self.old known self.new known (as_found (take 1 self.old.pending)) }
+        ensures units { units_left self.new + length (take 1 self.old.pending) ≡ units_left self.old }
+        ensures plan { KeepsPlan self.old self.new }
+    {
+        if let Some(index) = &mut self.index {
+            index.pass();
         }
     }
 

@@ -1,6 +1,7 @@
 //! Tests on records in memory.
 
 mod devices;
+mod lent;
 mod lines;
 mod rows;
 mod sizes;

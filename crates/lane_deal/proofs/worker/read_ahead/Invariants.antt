@@ -1,6 +1,7 @@
 use Rattle.std.proofs.Common.{take}
 use Rattle.lane_deal.specs.LaneWorkers.{AreReadAhead}
+use Rattle.lane_deal.specs.UnitLists.{units_of}
 use Rattle.lane_deal.proofs.worker.read_ahead.Given as goal
 
-abbrev pub invariant-loop-item : goal.invariant-loop-item
-invariant-loop-item l = AreReadAhead (take l.item-index l.items) l.ahead.items
+abbrev pub invariant-loop-at : goal.invariant-loop-at
+invariant-loop-at l = AreReadAhead (take l.at (units_of l.items)) l.ahead.items

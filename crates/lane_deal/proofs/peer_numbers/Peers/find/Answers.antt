@@ -2,8 +2,8 @@ use Rattle.std.proofs.Common.{sym, ◌∙◌}
 use Rattle.lane_deal.proofs.PeerPositions.{none_listed}
 use Rattle.lane_deal.proofs.peer_numbers.Peers.find.Goals as goal
 
-pub returns-in-Some-copied : goal.returns-in-Some-copied
-returns-in-Some-copied c = (c.args.self.now.listed c.args.peer.now c.in-Some-copied.number).0 (sym c.get-2.ensures.value ∙ sym c.in-Some-copied.ensures)
+pub returns-in-Some : goal.returns-in-Some
+returns-in-Some c = (c.args.self.now.listed c.args.peer.now c.in-Some.number).0 (sym c.get.ensures.value ∙ sym c.in-Some.ensures)
 
 pub returns-in-None : goal.returns-in-None
-returns-in-None c = none_listed _ _ c.args.peer.now c.args.self.now.listed (sym c.get-2.ensures.value ∙ sym c.in-None.ensures)
+returns-in-None c = none_listed _ _ c.args.peer.now c.args.self.now.listed (sym c.get.ensures.value ∙ sym c.in-None.ensures)

@@ -1,5 +1,6 @@
 use Rattle.std.proofs.Common.{map, ap, arith}
 use Rattle.std.proofs.lemmas.List.{with_items_is}
+use Rattle.mrt_body.specs.Lent.{lent_unit}
 use Rattle.peer_tables.specs.Seats.{seat_of}
 use Rattle.lane_deal.proofs.SeatLists.{HoldsUnits-taken}
 use Rattle.lane_deal.proofs.seats.SeatsSessions.take.Goals as goal
@@ -8,4 +9,4 @@ pub returns : goal.returns
 returns g c =
     let took = rw c.deref_mut.ensures.value at c.take_at.ensures.taken in
     let is = with_items_is c.position_for.new.self.seats c.take_at.new.seats (omega arith) in
-    HoldsUnits-taken c.take_at.result _ _ (map seat_of c.take_at.new.seats) _ c.args.item.now.number c.in_ok-at.at c.args.item.now.unit c.in_ok-at.ensures.seat (ap (map seat_of) is) took
+    HoldsUnits-taken c.take_at.result _ _ (map seat_of c.take_at.new.seats) _ c.args.item.now.number c.in_ok-at.at (lent_unit c.args.item.now.unit) c.in_ok-at.ensures.seat (ap (map seat_of) is) took

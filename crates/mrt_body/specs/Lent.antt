@@ -1,0 +1,15 @@
+-- Units whose bytes are lent, as the units that they are.
+use Rattle.mrt_body.specs.declared.lent.LentPayload.{LentPayload}
+use Rattle.mrt_body.specs.declared.lent.LentPayload.TheVariants as lent
+use Rattle.mrt_body.specs.declared.lent.LentUnit.{LentUnit}
+use Rattle.mrt_body.specs.declared.unit.Payload.{Payload}
+use Rattle.mrt_body.specs.declared.unit.Payload.TheVariants.{State, Message, Entry}
+use Rattle.mrt_body.specs.declared.unit.Unit.{Unit as ReplayUnit}
+
+abbrev pub lent_payload : LentPayload → Payload
+lent_payload (lent.State from to) = State from to
+lent_payload (lent.Message bytes width add_path) = Message bytes.now width add_path
+lent_payload (lent.Entry key attrs) = Entry key attrs.now
+
+abbrev pub lent_unit : LentUnit → ReplayUnit
+lent_unit u = record { place = u.place; time = u.time; peer = u.peer; payload = lent_payload u.payload }

@@ -1,0 +1,122 @@
+//! Units whose bytes are lent.
+
+ghost use Rattle.std.specs.Prelude.{◌≡◌, ◌≤◌, IfOk, IsOk, length};
+ghost use Rattle.mrt_body.specs.Lent.{lent_payload, lent_unit};
+ghost use Rattle.mrt_body.specs.Units.{payload_bytes};
+
+use crate::payload_bytes::PayloadBytes;
+use crate::unit::{Payload, PeerKey, Place, Unit};
+use bgp_prefix::{Memory, RouteKey};
+use bgp_update::Width;
+use std::alloc::Global;
+
+/// A payload whose bytes are lent: those of a message, or of the attributes of a RIB entry.
+#[derive(Clone, Copy, Debug)]
+pub enum LentPayload<'a> {
+    /// A state change (RFC 6396, 4.4.1): the old and the new state, any numbers.
+    State {
+        from: u16,
+        to: u16,
+    },
+    /// A BGP message (RFC 6396, 4.4.2 and 4.4.3; with identifiers RFC 8050, 3).
+    Message {
+        bytes: &'a [u8],
+        width: Width,
+        add_path: bool,
+    },
+    /// An entry of a RIB record (RFC 6396, 4.3.4; with an identifier RFC 8050, 4.1).
+    Entry {
+        key: RouteKey,
+        attrs: &'a [u8],
+    },
+}
+
+/// A unit whose bytes are lent. Its time is in microseconds since 1970 UTC.
+#[derive(Clone, Copy, Debug)]
+pub struct LentUnit<'a> {
+    pub place: Place,
+    pub time: u64,
+    pub peer: PeerKey,
+    pub payload: LentPayload<'a>,
+}
+
+impl LentPayload<'_> {
+    /// Returns the payload with a copy of its bytes. Up to 112 of them allocate nothing.
+    pub fn to_payload(&self, alloc: Global) -> Result<Payload, Memory>
+        ensures copies { IfOk result (λ payload. payload ≡ lent_payload self.now) }
+        ensures short { length (payload_bytes (lent_payload self.now)) ≤ 112 → IsOk result }
+    {
+        Ok(match *self {
+            LentPayload::State { from, to } => Payload::State { from, to },
+            LentPayload::Message {
+                bytes,
+                width,
+                add_path,
+            } => Payload::Message {
+                bytes: PayloadBytes::from_slice(alloc, bytes)?,
+                width,
+                add_path,
+            },
+            LentPayload::Entry { key, attrs } => Payload::Entry {
+                key,
+                attrs: PayloadBytes::from_slice(alloc, attrs)?,
+            },
+        })
+    }
+}
+
+impl LentUnit<'_> {
+    /// Returns the unit with a copy of its bytes. Up to 112 of them allocate nothing.
+    pub fn to_unit(&self, alloc: Global) -> Result<Unit, Memory>
+        ensures copies { IfOk result (λ unit. unit ≡ lent_unit self.now) }
+        ensures short { length (payload_bytes (lent_payload self.now.payload)) ≤ 112 → IsOk result }
+    {
+        Ok(Unit {
+            place: self.place,
+            time: self.time,
+            peer: self.peer,
+            payload: self.payload.to_payload(alloc)?,
+        })
+    }
+}
+
+impl Payload {
+    /// Lends the payload's bytes.
+    pub fn lend(&self) -> LentPayload<'_>
+        ensures { lent_payload result ≡ self.now }
+    {
+        match self {
+            Payload::State { from, to } => LentPayload::State {
+                from: *from,
+                to: *to,
+            },
+            Payload::Message {
+                bytes,
+                width,
+                add_path,
+            } => LentPayload::Message {
+                bytes: bytes.as_slice(),
+                width: *width,
+                add_path: *add_path,
+            },
+            Payload::Entry { key, attrs } => LentPayload::Entry {
+                key: *key,
+                attrs: attrs.as_slice(),
+            },
+        }
+    }
+}
+
+impl Unit {
+    /// Lends the unit's bytes.
+    pub fn lend(&self) -> LentUnit<'_>
+        ensures { lent_unit result ≡ self.now }
+    {
+        LentUnit {
+            place: self.place,
+            time: self.time,
+            peer: self.peer,
+            payload: self.payload.lend(),
+        }
+    }
+}
