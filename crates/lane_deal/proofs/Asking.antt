@@ -1,6 +1,6 @@
 -- What the files gave, step by step.
-use Rattle.std.proofs.Common.{◌≡◌, ℕ, ◌+◌, ◌≤◌, List, [], ◌∷◌, ◌++◌, length, Option, Some, None, refl, sym, ap, ◌∙◌, subst, append_assoc, length-append, arith, inl, inr}
-use Rattle.std.specs.Prelude.{option_to_list, slice_index}
+use Rattle.std.proofs.Common.{◌≡◌, ℕ, ◌≤◌, List, [], ◌∷◌, ◌++◌, length, Option, Some, None, refl, sym, ap, ◌∙◌, subst, append_assoc, length-append, arith, inl, inr}
+use Rattle.std.specs.Prelude.{slice_index}
 use Rattle.std.specs.List.{filter_map}
 use Rattle.std.proofs.lemmas.List.Elements.{filter_map-append}
 use Rattle.mrt_frame.specs.Devices.{HasFailed}
@@ -12,8 +12,7 @@ use Rattle.std.proofs.lemmas.List.{append-nil, map-append}
 use Rattle.mrt_body.specs.declared.unit.Damage.{Damage}
 use Rattle.mrt_body.specs.declared.unit.Found.{Found}
 use Rattle.mrt_body.specs.declared.unit.Found.TheVariants as found
-use Rattle.mrt_body.specs.declared.unit.Unit.{Unit as ReplayUnit}
-use Rattle.mrt_body.specs.ToCome.{UnitsState, TakesFound, KeepsPlan, NothingToCome, found_to_come, units_left, unit_count, Stops}
+use Rattle.mrt_body.specs.ToCome.{UnitsState, TakesFound, KeepsPlan, NothingToCome, found_to_come, refusals, units_left, Stops}
 use Rattle.lane_deal.specs.Asking.{TakesUnits, StopsReading, as_refused, GivesFront, GivesAll, Asked, AskedInVain}
 
 abbrev Known : Type 0
@@ -49,16 +48,15 @@ TakesUnits-more a b c first second third taken more p q =
       spent = λ e. p.spent (q.spent e);
     }
 
-count_of_one : (item : Option Found) → length (filter_map unit_of (option_to_list item)) ≡ unit_count item
-count_of_one None = refl
-count_of_one (Some (found.Unit unit)) = refl
-count_of_one (Some (found.Refused damage)) = refl
+no_unit : (refused : Option Damage) → filter_map unit_of (refusals refused) ≡ []
+no_unit None = refl
+no_unit (Some damage) = refl
 
--- one answer of the files
-pub TakesUnits-one : (u u' : UnitsState) (k k' : Known) (item : Option Found) → TakesFound u k u' k' (option_to_list item) → units_left u' + unit_count item ≤ units_left u → KeepsPlan u u' → u'.standing ≡ standings.Going → TakesUnits u k u' k' (option_to_list item)
-TakesUnits-one u u' k k' item f few plan going = record {
+-- the refusal that came, if one did
+pub TakesUnits-refused : (u u' : UnitsState) (k k' : Known) (refused : Option Damage) → TakesFound u k u' k' (refusals refused) → units_left u' ≤ units_left u → KeepsPlan u u' → u'.standing ≡ standings.Going → TakesUnits u k u' k' (refusals refused)
+TakesUnits-refused u u' k k' refused f few plan going = record {
   found = f;
-  few = (let n = count_of_one item in omega arith);
+  few = (let n = ap length (no_unit refused) in omega arith);
   plan = plan;
   failed = λ e. absurd (cc);
   spent = λ e. absurd (cc);
@@ -119,13 +117,14 @@ Listed-more r r' r'' a b c k k' k'' damage p q e =
       takes = subst (TakesUnits a k c k'') (sym (map-append (λ d. found.Refused d) p.listed (damage ∷ []))) (TakesUnits-more a b c k k' k'' (as_refused p.listed) (found.Refused damage ∷ []) p.takes q);
     }
 
-pub Asked-unit : (r r' : List Damage) (a b c : UnitsState) (k k' k'' : Known) (unit : ReplayUnit) → Listed r r' a k b k' → TakesUnits b k' c k'' (found.Unit unit ∷ []) → Asked r r' a k c k'' (Some unit)
-Asked-unit r r' a b c k k' k'' unit p q =
-    record { listed = p.listed; refused = p.refused; takes = TakesUnits-more a b c k k' k'' _ _ p.takes q; ended = λ e. absurd (cc) }
-
-pub Asked-end : (r r' : List Damage) (a b c : UnitsState) (k k' k'' : Known) → Listed r r' a k b k' → TakesUnits b k' c k'' [] → NothingToCome b k' → Asked r r' a k c k'' None
-Asked-end r r' a b c k k' k'' p q none =
-    record { listed = p.listed; refused = p.refused; takes = TakesUnits-more a b c k k' k'' _ _ p.takes q; ended = λ _. all_given a b k k' _ p.takes none }
+pub Asked-listed : (r r' : List Damage) (a b c : UnitsState) (k k' k'' : Known) → Listed r r' a k b k' → TakesUnits b k' c k'' [] → (c.pending ≡ [] → NothingToCome b k') → Asked r r' a k c k''
+Asked-listed r r' a b c k k' k'' p q none =
+    record {
+      listed = p.listed;
+      refused = p.refused;
+      takes = subst (TakesUnits a k c k'') (append-nil (as_refused p.listed)) (TakesUnits-more a b c k k' k'' _ _ p.takes q);
+      ended = λ e. all_given a b k k' _ p.takes (none e);
+    }
 
 pub AskedInVain-from : (r r' : List Damage) (a b : UnitsState) (k k' : Known) → Listed r r' a k b k' → AskedInVain r r' a k
 AskedInVain-from r r' a b k k' p = record { listed = p.listed; refused = p.refused; gives = front_from_takes a b k k' _ p.takes }

@@ -1,6 +1,6 @@
 -- What the dealer did, unit by unit.
-use Rattle.std.proofs.Common.{◌≡◌, ℕ, ◌+◌, ◌-◌, ◌^◌, ◌≤◌, ◌<◌, ◌||◌, true, false, if◌then◌else◌, List, [], ◌∷◌, ◌++◌, length, map, take, drop, slice_index_or, Option, Some, None, Result, Ok, Err, refl, sym, ap, ◌∙◌, subst, append_assoc, arith, length-append}
-use Rattle.std.specs.Prelude.{option_to_list, is_some, min, MatchResult}
+use Rattle.std.proofs.Common.{◌≡◌, ℕ, ◌+◌, ◌-◌, ◌^◌, ◌≤◌, ◌<◌, ◌||◌, true, false, if◌then◌else◌, List, [], ◌∷◌, ◌++◌, length, map, take, drop, slice_index_or, Option, Some, None, Ok, Err, refl, sym, ap, ◌∙◌, subst, append_assoc, arith, length-append}
+use Rattle.std.specs.Prelude.{option_to_list, is_some, min}
 use Rattle.std.specs.List.{list_any, filter_map, AllByRecursion}
 use Rattle.std.proofs.lemmas.List.{append-nil, map-append}
 use Rattle.std.proofs.lemmas.List.Elements.{filter_map-append}
@@ -8,7 +8,6 @@ use Rattle.std.proofs.lemmas.List.Folds.{list_any-append}
 use Rattle.std.proofs.Math.Bool.{or-true}
 use Rattle.lane_deal.specs.UnitRings.{known_free}
 use Rattle.mrt_frame.specs.declared.error.ReplayError.{ReplayError}
-use Rattle.mrt_frame.specs.declared.error.ReplayError.TheVariants.{Read}
 use Rattle.mrt_body.specs.declared.unit.Damage.{Damage}
 use Rattle.mrt_body.specs.declared.unit.Found.{Found}
 use Rattle.mrt_body.specs.declared.unit.Found.TheVariants as found
@@ -20,7 +19,7 @@ use Rattle.peer_tables.specs.Peers.{peer_eq, peers_of}
 use Rattle.lane_deal.specs.declared.dealer.Dealer.{Dealer}
 use Rattle.lane_deal.specs.declared.feed.Feed.{Feed}
 use Rattle.lane_deal.specs.declared.step.Step.TheVariants.{Blocked, End}
-use Rattle.lane_deal.specs.Asking.{TakesUnits, GivesAll, as_refused, Asked, AskedInVain}
+use Rattle.lane_deal.specs.Asking.{TakesUnits, as_refused, Asked, AskedInVain}
 use Rattle.lane_deal.specs.DealerSteps.{Asks, Next, NextInVain, Handles, Deals}
 use Rattle.lane_deal.specs.Feeds.{Dealt, in_lane}
 use Rattle.lane_deal.specs.Kept.{to_deal}
@@ -121,70 +120,64 @@ numbered_stay keys more (u ∷ units) h =
 -- ---- the dealer's steps
 
 module _ {D : Type 0} where
-  pub Next-kept : (old new : Dealer D) (u : UnitsState) (k : Known) (unit : ReplayUnit) → old.kept ≡ Some unit → Asks old new → new.refused.items ≡ old.refused.items → Next old new u k u k (Some unit)
-  Next-kept old new u k unit e asks same =
+  pub Next-kept : (old new : Dealer D) (u u' : UnitsState) (k k' : Known) (unit : ReplayUnit) → old.kept ≡ Some unit → Asks old new → new.refused.items ≡ old.refused.items → TakesUnits u k u' k' [] → Next old new u k u' k' (Some unit)
+  Next-kept old new u u' k k' unit e asks same takes =
       record {
         given = [];
         listed = [];
-        takes = TakesUnits-none u k;
+        takes = takes;
         asks = asks;
         order = ap (λ o. to_deal o []) e;
         refused = same ∙ sym (append-nil old.refused.items);
         ended = λ clash. absurd (cc);
       }
 
-  -- what was kept is next
-  pub Next-taken : (old new : Dealer D) (u : UnitsState) (k : Known) (next : Option ReplayUnit) → next ≡ old.kept → is_some old.kept ≡ true → Asks old new → new.refused.items ≡ old.refused.items → Next old new u k u k next
-  Next-taken old new u k (Some unit) e some asks same = Next-kept old new u k unit (sym e) asks same
-  Next-taken old new u k None e some asks same = let clash : false ≡ true = ap is_some e ∙ some in absurd (cc)
-
-  -- the entry that was lent and passed over is next
-  pub Next-lent : (old new : Dealer D) (u u' : UnitsState) (k : Known) (unit : ReplayUnit) → old.kept ≡ None → Asks old new → new.refused.items ≡ old.refused.items → u.pending ≡ unit ∷ drop 1 u.pending → GivesPending u u' (take 1 u.pending)
-      → ((known : Known) → TakesFound u known u' known (as_found (take 1 u.pending))) → units_left u' + length (take 1 u.pending) ≡ units_left u → KeepsPlan u u' → Next old new u k u' k (Some unit)
-  Next-lent old new u u' k unit none asks same lent passes taken units plan =
-      let one : take 1 u.pending ≡ unit ∷ [] = ap (take 1) lent in
+  -- the unit that was lent and passed over is next
+  pub Next-lent : (old asked : Dealer D) (u u₁ u' : UnitsState) (k k₁ : Known) (unit : ReplayUnit) → old.kept ≡ None → Asks old asked → Asked old.refused.items asked.refused.items u k u₁ k₁ → u₁.pending ≡ unit ∷ drop 1 u₁.pending → GivesPending u₁ u' (take 1 u₁.pending)
+      → ((known : Known) → TakesFound u₁ known u' known (as_found (take 1 u₁.pending))) → units_left u' + length (take 1 u₁.pending) ≡ units_left u₁ → KeepsPlan u₁ u' → Next old asked u k u' k₁ (Some unit)
+  Next-lent old asked u u₁ u' k k₁ unit none asks p lent passes taken units plan =
+      let one : take 1 u₁.pending ≡ unit ∷ [] = ap (take 1) lent in
       let standing = ap (λ (v : UnitsState). v.standing) passes.0 in
+      let given = as_refused p.listed ++ found.Unit unit ∷ [] in
       record {
-        given = found.Unit unit ∷ [];
-        listed = [];
-        takes = record {
-          found = subst (λ l. TakesFound u k u' k (as_found l)) one (taken k);
+        given = given;
+        listed = p.listed;
+        takes = TakesUnits-more u u₁ u' k k₁ k₁ (as_refused p.listed) (found.Unit unit ∷ []) p.takes record {
+          found = subst (λ l. TakesFound u₁ k₁ u' k₁ (as_found l)) one (taken k₁);
           few = (let n = ap length one in omega arith);
           plan = plan;
           failed = λ e. sym standing ∙ e;
           spent = λ e. sym standing ∙ e;
         };
         asks = asks;
-        order = ap (λ o. to_deal o (found.Unit unit ∷ [])) none;
-        refused = same ∙ sym (append-nil old.refused.items);
+        order = ap (λ o. to_deal o given) none;
+        refused = p.refused;
         ended = λ clash. absurd (cc);
       }
 
-  abbrev NextOr : Dealer D → Dealer D → UnitsState → Known → UnitsState → Known → Result (Option ReplayUnit) ReplayError → Type 0
-  NextOr old new u k u' k' result = MatchResult result (λ next. Next old new u k u' k' next) (λ e. (file : ℕ) → e ≡ Read file → NextInVain old new u k)
-
-  pub Next-asked : (old new : Dealer D) (u u' : UnitsState) (k k' : Known) (result : Result (Option ReplayUnit) ReplayError) → old.kept ≡ None → Asks old new
-      → MatchResult result (λ next. Asked old.refused.items new.refused.items u k u' k' next) (λ e. (file : ℕ) → e ≡ Read file → AskedInVain old.refused.items new.refused.items u k) → NextOr old new u k u' k' result
-  Next-asked old new u u' k k' (Ok next) none asks p =
+  -- nothing is left
+  pub Next-ended : (old asked : Dealer D) (u u' : UnitsState) (k k' : Known) → old.kept ≡ None → Asks old asked → Asked old.refused.items asked.refused.items u k u' k' → u'.pending ≡ [] → Next old asked u k u' k' None
+  Next-ended old asked u u' k k' none asks p empty =
       record {
-        given = as_refused p.listed ++ as_found (option_to_list next);
+        given = as_refused p.listed;
         listed = p.listed;
         takes = p.takes;
         asks = asks;
-        order = ap (λ o. to_deal o (as_refused p.listed ++ as_found (option_to_list next))) none;
+        order = ap (λ o. to_deal o (as_refused p.listed)) none ∙ sym (append-nil (as_refused p.listed));
         refused = p.refused;
-        ended = λ e.
-            subst (λ o. GivesAll u k (as_refused p.listed ++ as_found (option_to_list o))) (sym e) (subst (GivesAll u k) (sym (append-nil (as_refused p.listed))) (p.ended e));
+        ended = λ _. p.ended empty;
       }
-  Next-asked old new u u' k k' (Err error) none asks p = λ file e.
-      let h = p file e in
+
+  -- no more came
+  pub NextInVain-asked : (old asked : Dealer D) (u : UnitsState) (k : Known) → old.kept ≡ None → Asks old asked → AskedInVain old.refused.items asked.refused.items u k → NextInVain old asked u k
+  NextInVain-asked old asked u k none asks p =
       record {
-        given = as_refused h.listed;
-        listed = h.listed;
-        gives = h.gives;
+        given = as_refused p.listed;
+        listed = p.listed;
+        gives = p.gives;
         asks = asks;
-        order = ap (λ o. to_deal o (as_refused h.listed)) none;
-        refused = h.refused;
+        order = ap (λ o. to_deal o (as_refused p.listed)) none;
+        refused = p.refused;
       }
 
   -- so far

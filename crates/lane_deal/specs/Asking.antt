@@ -1,5 +1,5 @@
--- What is asked of the files: refusals, which are listed, and then a unit.
-use Rattle.std.specs.Prelude.{◌≡◌, ◌⊎◌, ℕ, ◌+◌, ◌≤◌, ⊤, List, ◌++◌, map, drop, length, Option, Some, None, option_to_list, slice_index, Result, Ok, OnOk, IfOk, IfErr, IfSome}
+-- What is asked of the files: refusals, which are listed, and then units.
+use Rattle.std.specs.Prelude.{◌≡◌, ◌⊎◌, ℕ, ◌+◌, ◌≤◌, ⊤, List, [], ◌++◌, map, drop, length, Option, Some, slice_index, Result, Ok, OnOk, IfErr}
 use Rattle.lane_deal.specs.declared.step.Step.{Step}
 use Rattle.lane_deal.specs.declared.step.Step.TheVariants.{End}
 use Rattle.std.specs.List.{filter_map}
@@ -7,12 +7,11 @@ use Rattle.mrt_frame.specs.Devices.{HasFailed}
 use Rattle.mrt_frame.specs.declared.error.ReplayError.{ReplayError}
 use Rattle.mrt_frame.specs.declared.error.ReplayError.TheVariants as errors
 use Rattle.mrt_body.specs.declared.standing.Standing.TheVariants as standings
-use Rattle.mrt_body.specs.Units.{unit_of, IsSmallUnit}
+use Rattle.mrt_body.specs.Units.{unit_of}
 use Rattle.mrt_body.specs.declared.unit.Damage.{Damage}
 use Rattle.mrt_body.specs.declared.unit.Found.{Found}
 use Rattle.mrt_body.specs.declared.unit.Found.TheVariants as found
-use Rattle.mrt_body.specs.declared.unit.Unit.{Unit as ReplayUnit}
-use Rattle.mrt_body.specs.ToCome.{UnitsState, TakesFound, KeepsPlan, HasMoreRecords, found_to_come, units_left, as_found}
+use Rattle.mrt_body.specs.ToCome.{UnitsState, TakesFound, KeepsPlan, HasMoreRecords, found_to_come, units_left}
 
 abbrev pub as_refused : List Damage → List Found
 as_refused listed = map (λ damage. found.Refused damage) listed
@@ -53,17 +52,13 @@ pub record ReadsOn (u : UnitsState) (known : List (Option (List ℕ))) (before :
   pub cause : IfErr result (StopsReading u known before after)
   pub at_end : result ≡ Ok End → u'.file ≡ u'.count
 
--- a unit that comes is small, and where none comes, the end is that of the last file
-abbrev pub YieldsNext : UnitsState → Result (Option ReplayUnit) ReplayError → Type 0
-YieldsNext u result = IfOk result (λ next. IfSome next IsSmallUnit × (next ≡ None → u.file ≡ u.count))
-
--- these refusals were listed, and then came a unit or the end
+-- These refusals were listed. Where no unit pends then, they were all that was to come.
 pub record Asked (r r' : List Damage) (u : UnitsState) (known : List (Option (List ℕ))) (u' : UnitsState)
-    (known' : List (Option (List ℕ))) (next : Option ReplayUnit) : Type 0 where
+    (known' : List (Option (List ℕ))) : Type 0 where
   pub listed : List Damage
   pub refused : r' ≡ r ++ listed
-  pub takes : TakesUnits u known u' known' (as_refused listed ++ as_found (option_to_list next))
-  pub ended : next ≡ None → GivesAll u known (as_refused listed)
+  pub takes : TakesUnits u known u' known' (as_refused listed)
+  pub ended : u'.pending ≡ [] → GivesAll u known (as_refused listed)
 
 -- these refusals were listed, and no more came
 pub record AskedInVain (r r' : List Damage) (u : UnitsState) (known : List (Option (List ℕ))) : Type 0 where

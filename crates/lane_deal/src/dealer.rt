@@ -1,13 +1,14 @@
 //! The dealing of what files give to the lanes.
 
-ghost use Rattle.std.specs.Prelude.{◌≡◌, ℕ, ◌<◌, ◌∷◌, [], length, map, drop, true, false, IfErr, IfSome, IfOk, MatchResult, OnOk, None};
+ghost use Rattle.std.specs.Prelude.{◌≡◌, ℕ, ◌<◌, ◌∷◌, [], length, map, drop, true, false, IfErr, IfSome, IfOk, MatchResult, OnErr, OnOk, None};
 ghost use Rattle.std.specs.Option.{ForSome};
 ghost use Rattle.lane_deal.specs.UnitRings.{known_free};
 ghost use Rattle.std.specs.Prelude.{slice_index_or};
 ghost use Rattle.mrt_body.specs.Lent.{lent_unit};
 ghost use Rattle.mrt_body.specs.Units.{IsSmallUnit};
+ghost use Rattle.mrt_body.specs.declared.standing.Standing.TheVariants as standings;
 ghost use Rattle.mrt_frame.specs.declared.error.ReplayError.TheVariants.{Read};
-ghost use Rattle.lane_deal.specs.Asking.{Asked, AskedInVain, StopsReading, YieldsNext};
+ghost use Rattle.lane_deal.specs.Asking.{Asked, AskedInVain, StopsReading, TakesUnits};
 ghost use Rattle.lane_deal.specs.Feeds.{Dealt};
 
 use crate::dealing::Dealing;
@@ -16,7 +17,7 @@ use crate::gate::Gate;
 use crate::peer_numbers::Peers;
 use crate::step::Step;
 use bgp_prefix::Memory;
-use mrt_body::{Damage, Found, LentUnit, PeerKey, Unit, Units};
+use mrt_body::{Damage, LentUnit, PeerKey, Unit, Units};
 use mrt_frame::{ReplayError, Source};
 use std::alloc::Global;
 use std::sync::atomic::AtomicBool;
@@ -69,40 +70,37 @@ fn deal_one<G: Gate>(
     feeds[lane].push(alloc, gate, lane, number, unit)
 }
 
-/// Lists what the files refuse, until they yield a unit or end.
-fn ask<R: Source>(
+/// Lists what the files refuse, until a unit of theirs is to be dealt or they end.
+fn list_refusals<R: Source>(
     alloc: Global,
     units: &mut Units,
     files: &mut [R],
     refused: &mut Vec<Damage>,
-) -> Result<Option<Unit>, ReplayError>
+) -> Result<(), ReplayError>
     requires { length files.old ≡ units.old.count }
     ensures count { units.new.count ≡ units.old.count }
-    ensures yields { YieldsNext units.new result }
+    ensures going { OnOk result (units.new.standing ≡ standings.Going) }
+    ensures at_end { OnOk result (units.new.pending ≡ [] → units.new.file ≡ units.new.count) }
     ensures sound { OnOk result (map R.failure_count files.new ≡ map R.failure_count files.old) }
     ensures cause { IfErr result
         (StopsReading units.old (map R.remaining files.old) (map R.failure_count files.old)
         (map R.failure_count files.new)) }
     ensures asked { MatchResult result
-        (λ next. Asked refused.old.items refused.new.items units.old (map R.remaining files.old) units.new
-        (map R.remaining files.new) next)
+        (λ _. Asked refused.old.items refused.new.items units.old (map R.remaining files.old) units.new
+        (map R.remaining files.new))
         (λ e. (file : ℕ) → e ≡ Read file → AskedInVain refused.old.items refused.new.items units.old
         (map R.remaining files.old)) }
 {
-    while let Some(found) = units.next(alloc, files)? {
-        match found {
-            Found::Unit(unit) => return Ok(Some(unit)),
-            Found::Refused(damage) => refused.push(damage)?,
-        }
+    while let Some(damage) = units.advance(alloc, files)? {
+        refused.push(damage)?;
     }
-    Ok(None)
+    Ok(())
 }
 
 impl<D: Dealing> Dealer<D> {
-    ghost use Rattle.lane_deal.specs.DealerSteps.{Next, NextInVain, Deals};
+    ghost use Rattle.lane_deal.specs.DealerSteps.{Deals};
     ghost use Rattle.lane_deal.specs.Answers.{IfAnswered};
     ghost use Rattle.lane_deal.specs.Numbers.{NumbersPeer};
-    ghost use Rattle.mrt_body.specs.declared.standing.Standing.TheVariants as standings;
 
     pub fn new(alloc: Global, dealing: D) -> Result<Dealer<D>, Memory>
     where
@@ -125,42 +123,51 @@ impl<D: Dealing> Dealer<D> {
         ensures { (number : ℕ) → D.lane_of self.now.dealing number workers < workers }
     {}
 
-    /// Returns the kept unit, if there is one, and otherwise the next one from the files.
-    fn next_unit<R: Source>(
+    /// Lists what the files refuse, until a unit is to be dealt or they end. A kept unit is to be dealt at once.
+    fn ask<R: Source>(
         &mut self,
         alloc: Global,
         units: &mut Units,
         files: &mut [R],
-    ) -> Result<Option<Unit>, ReplayError>
+    ) -> Result<(), ReplayError>
         requires { length files.old ≡ units.old.count }
         ensures count { units.new.count ≡ units.old.count }
-        ensures yields { YieldsNext units.new result }
         ensures sound { OnOk result (map R.failure_count files.new ≡ map R.failure_count files.old) }
         ensures cause { IfErr result
             (StopsReading units.old (map R.remaining files.old) (map R.failure_count files.old)
             (map R.failure_count files.new)) }
-        ensures next { MatchResult result
-            (λ next. Next self.old self.new units.old (map R.remaining files.old) units.new (map R.remaining files.new)
-            next)
-            (λ e. (file : ℕ) → e ≡ Read file → NextInVain self.old self.new units.old (map R.remaining files.old)) }
-    {
-        if self.kept.is_none() {
-            return ask(alloc, units, files, &mut self.refused);
-        }
-        Ok(self.kept.take())
-    }
-
-    /// Lends the next entry of the RIB record that was cut last, unless a unit is kept, which comes before it.
-    fn lent_entry<'a>(&self, units: &'a Units) -> Option<LentUnit<'a>>
-        ensures kept { IfSome result (λ _. self.now.kept ≡ None) }
-        ensures going { IfSome result (λ _. units.now.standing ≡ standings.Going) }
-        ensures lends { IfSome result (λ unit. units.now.pending ≡ lent_unit unit ∷ drop 1 units.now.pending) }
-        ensures small { IfSome result (λ unit. IsSmallUnit (lent_unit unit)) }
+        ensures same { self.new ≡ record self.old { refused = self.new.refused } }
+        ensures waits { IfSome self.old.kept
+            (λ _. (self.new.refused.items ≡ self.old.refused.items)
+            × TakesUnits units.old (map R.remaining files.old) units.new (map R.remaining files.new) []) }
+        ensures going { OnOk result (self.old.kept ≡ None → units.new.standing ≡ standings.Going) }
+        ensures at_end { OnOk result
+            (self.old.kept ≡ None → units.new.pending ≡ [] → units.new.file ≡ units.new.count) }
+        ensures failed { OnErr result (self.old.kept ≡ None) }
+        ensures asked { self.old.kept ≡ None → MatchResult result
+            (λ _. Asked self.old.refused.items self.new.refused.items units.old (map R.remaining files.old) units.new
+            (map R.remaining files.new))
+            (λ e. (file : ℕ) → e ≡ Read file → AskedInVain self.old.refused.items self.new.refused.items units.old
+            (map R.remaining files.old)) }
     {
         if self.kept.is_some() {
-            return None;
+            return Ok(());
         }
-        units.lend_entry()
+        list_refusals(alloc, units, files, &mut self.refused)
+    }
+
+    /// Lends the next unit of the record that was cut last, unless a unit is kept, which comes before it.
+    fn lent<'a>(&self, units: &'a Units) -> Option<LentUnit<'a>>
+        ensures kept { IfSome result (λ _. self.now.kept ≡ None) }
+        ensures lends { IfSome result (λ unit. units.now.pending ≡ lent_unit unit ∷ drop 1 units.now.pending) }
+        ensures none { result ≡ None → self.now.kept ≡ None → units.now.standing ≡ standings.Going →
+            units.now.pending ≡ [] }
+        ensures small { IfSome result (λ unit. IsSmallUnit (lent_unit unit)) }
+    {
+        match &self.kept {
+            Some(_) => None,
+            None => units.lend(),
+        }
     }
 
     /// Returns the number of this peer, which gets the next one if it has none, and the number of its lane.
@@ -201,19 +208,20 @@ impl<D: Dealing> Dealer<D> {
     {
         let _dealt = self.dealt;
         for dealt in 0..batch {
-            if let Some(entry) = self.lent_entry(units) {
-                let (number, lane) = self.lane_for(&entry.peer, feeds.len())?;
+            self.ask(alloc, units, files)?;
+            if let Some(unit) = self.lent(units) {
+                let (number, lane) = self.lane_for(&unit.peer, feeds.len())?;
                 if !has_room(gate, feeds, lane, looks, over) {
-                    self.kept = Some(entry.to_unit(alloc)?);
-                    units.pass_entry();
+                    self.kept = Some(unit.to_unit(alloc)?);
+                    units.pass();
                     return Ok(Step::Blocked);
                 }
-                deal_one(alloc, gate, lane, number, &entry, feeds)?;
-                units.pass_entry();
+                deal_one(alloc, gate, lane, number, &unit, feeds)?;
+                units.pass();
                 self.dealt = self.dealt.saturating_add(1);
                 continue;
             }
-            let Some(unit) = self.next_unit(alloc, units, files)? else {
+            let Some(unit) = self.kept.take() else {
                 return Ok(Step::End);
             };
             let (number, lane) = self.lane_for(&unit.peer, feeds.len())?;

@@ -95,16 +95,20 @@ impl<S: Sessions> Worker<S> {
         ensures { OnOk result (TookSome S.stands_for self.old self.new) }
     {
         let mut empty = 0;
+        // How many of them came since the worker last found a unit.
+        let mut in_a_row = 0u32;
         let mut further = 0u64;
         while empty < patience.looks && further < patience.batch {
             let last = over.load(Ordering::SeqCst);
             if self.take_found(alloc, gate, buffer, ahead)? {
                 further = further.saturating_add(ahead.len() as u64).max(further + 1);
+                in_a_row = 0;
             } else if last {
                 break;
             } else {
                 empty += 1;
-                gate.pause(empty);
+                in_a_row = in_a_row.saturating_add(1);
+                gate.pause(in_a_row);
             }
         }
         Ok(())

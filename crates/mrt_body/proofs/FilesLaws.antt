@@ -1,7 +1,6 @@
 -- Steps of a reading of files, one after the other.
 use Rattle.std.proofs.Common.{suc, ◌≡◌, inl, inr, ℕ, ◌+◌, ◌<◌, Bool, cond, List, [], ◌∷◌, ◌++◌, length, map, drop, get_or, set, Option, Some, None, refl, sym, ap, subst, ◌∙◌, arith, append_assoc, add-one, ◌≤◌, ◌*◌, ◌-◌}
 use Rattle.std.specs.List.{count_by}
-use Rattle.std.specs.Prelude.{option_to_list}
 use Rattle.std.proofs.Math.Seq.{drop-cons, map-set_same}
 use Rattle.std.proofs.lemmas.List.{map-set, map-append, drop-drop, drop-set, drop-set-lt, length-map, get_or-map, get_or-set_same}
 use Rattle.std.proofs.lemmas.List.Sums.{sum_by-append}
@@ -20,7 +19,7 @@ use Rattle.mrt_body.specs.declared.unit.Found.{Found}
 use Rattle.mrt_body.specs.declared.unit.Found.TheVariants as found
 use Rattle.mrt_body.specs.Selections.{up_to}
 use Rattle.mrt_body.specs.Units.{found_in, found_in_files, all_cuts, is_whole, is_aside}
-use Rattle.mrt_body.specs.ToCome.{UnitsState, in_next_file, as_found, found_here, found_left, found_to_come, cuts_to_come, Passes, TakesFound, GivesPending, StaysInFile, LeavesFile, Steps, HasRecord, HasMoreRecords, StopsAt, Stops, before_failure, FailsInRecord, FailsBehind, GivesAllBefore, answers_left, units_left, unit_count, fresh_units}
+use Rattle.mrt_body.specs.ToCome.{UnitsState, in_next_file, as_found, found_here, found_left, found_to_come, cuts_to_come, Passes, TakesFound, GivesPending, StaysInFile, LeavesFile, Steps, HasRecord, HasMoreRecords, StopsAt, Stops, before_failure, FailsInRecord, FailsBehind, GivesAllBefore, answers_left, units_left, fresh_units}
 use Rattle.mrt_body.proofs.IndexLaws.{found_in_file-is}
 
 abbrev Bytes : Type 0
@@ -277,15 +276,10 @@ fewer_than a b u v h gives step =
     let same : answers_left u ≡ answers_left b = ap answers_left gives.0 ∙ ap (λ (l : List ReplayUnit). (b.max_records - b.records) * 65535 + length l + (b.count - b.file)) (sym gives.1) in
     omega (arith, h, same, step)
 
-pub units_than : (a b u v : UnitsState) → units_left b ≤ units_left a → GivesPending b u [] → units_left v + 0 ≤ units_left u → units_left v ≤ units_left a
+pub units_than : (a b u v : UnitsState) → units_left b ≤ units_left a → GivesPending b u [] → units_left v ≤ units_left u → units_left v ≤ units_left a
 units_than a b u v h gives step =
     let same : units_left u ≡ units_left b = ap units_left gives.0 ∙ ap (λ (l : List ReplayUnit). (b.max_records - b.records) * 65535 + length l) (sym gives.1) in
     omega (arith, h, same, step)
-
-pub few_units : (given : Option Found) → unit_count given ≤ length (option_to_list given)
-few_units None = omega arith
-few_units (Some (found.Unit unit)) = omega arith
-few_units (Some (found.Refused damage)) = omega arith
 
 -- ---- a reading that begins
 

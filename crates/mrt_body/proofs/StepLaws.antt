@@ -1,6 +1,5 @@
 -- One cut of a file, and what comes of it.
 use Rattle.std.proofs.Common.{◌≡◌, inl, inr, ℕ, ◌+◌, cond, List, [], ◌∷◌, ◌++◌, Option, Some, None, Result, Ok, Err, IfOk, refl, sym, ap, subst, ◌∙◌, arith, append_assoc}
-use Rattle.std.specs.Prelude.{option_to_list}
 use Rattle.std.specs.List.{count_by}
 use Rattle.mrt_frame.specs.declared.fault.Fault.{Fault}
 use Rattle.mrt_frame.specs.declared.cut.Cut.{Cut}
@@ -9,10 +8,11 @@ use Rattle.mrt_frame.specs.declared.cut.Cut.TheVariants.{Whole, Broken}
 use Rattle.mrt_frame.specs.Frames.{Position, to_come, TakesCuts}
 use Rattle.std.proofs.lemmas.List.Sums.{sum_by-cons}
 use Rattle.mrt_body.specs.declared.unit.Unit.{Unit as ReplayUnit}
+use Rattle.mrt_body.specs.declared.unit.Damage.{Damage}
 use Rattle.mrt_body.specs.declared.unit.Found.{Found}
 use Rattle.mrt_body.specs.declared.content.Content.{Content}
 use Rattle.mrt_body.specs.Units.{found_from, found_at, found_units, units_in, content_of, is_extended, index_with, refused_at, at_record, is_whole, is_aside, aside_count}
-use Rattle.mrt_body.specs.ToCome.{UnitsState, as_found, CutsOne, TakesRecord, StaysInFile, Steps}
+use Rattle.mrt_body.specs.ToCome.{UnitsState, as_found, refusals, CutsOne, TakesRecord, StaysInFile, Steps}
 
 -- at the end of a file nothing comes
 pub step_end : (old new : UnitsState) (known left : Option (List ℕ)) → CutsOne old known new left None → Steps old known new left []
@@ -63,9 +63,9 @@ module _ (old : UnitsState) (file : ℕ) (r : Record) where
   abbrev new_of : Position → List ReplayUnit → UnitsState
   new_of frames pending = record (mid_of frames) { index = index_with old.index held r.body; pending = pending; aside = old.aside + aside_count held }
 
-  stays : (frames : Position) (pending : List ReplayUnit) (given : Option Found) (bytes rest : List ℕ) → file ≡ old.file → to_come old.frames bytes ≡ whole ∷ to_come frames rest
-      → option_to_list given ++ as_found pending ≡ found_units old.selection (at_record file r.offset r.seconds) (units_in (at_record file r.offset r.seconds) (is_extended r.kind) old.index held r.body)
-      → StaysInFile old bytes (new_of frames pending) rest (option_to_list given)
+  stays : (frames : Position) (pending : List ReplayUnit) (given : Option Damage) (bytes rest : List ℕ) → file ≡ old.file → to_come old.frames bytes ≡ whole ∷ to_come frames rest
+      → refusals given ++ as_found pending ≡ found_units old.selection (at_record file r.offset r.seconds) (units_in (at_record file r.offset r.seconds) (is_extended r.kind) old.index held r.body)
+      → StaysInFile old bytes (new_of frames pending) rest (refusals given)
   unfolding found_at
   stays frames pending given bytes rest file_is cuts_are found_is =
       let others = to_come frames rest in
@@ -74,7 +74,7 @@ module _ (old : UnitsState) (file : ℕ) (r : Record) where
         found = ap (found_from old.file old.selection old.index) cuts_are
             ∙ ap (λ (f : ℕ). found_units old.selection (at_record f r.offset r.seconds) (units_in (at_record f r.offset r.seconds) (is_extended r.kind) old.index held r.body) ++ found_from old.file old.selection (index_with old.index held r.body) others) (sym file_is)
             ∙ ap (λ (l : List Found). l ++ found_from old.file old.selection (index_with old.index held r.body) others) (sym found_is)
-            ∙ append_assoc (option_to_list given) (as_found pending) (found_from old.file old.selection (index_with old.index held r.body) others);
+            ∙ append_assoc (refusals given) (as_found pending) (found_from old.file old.selection (index_with old.index held r.body) others);
         records = ap (λ (cs : List Cut). old.records + count_by is_whole cs) cuts_are ∙ ap (λ (n : ℕ). old.records + n) (sum_by-cons (λ (c : Cut). cond (is_whole c) 1 0) whole others) ∙ one_more old.records 1 (count_by is_whole others);
         aside = ap (λ (cs : List Cut). old.aside + count_by is_aside cs) cuts_are ∙ ap (λ (n : ℕ). old.aside + n) (sum_by-cons (λ (c : Cut). cond (is_aside c) 1 0) whole others) ∙ one_more old.aside (aside_count held) (count_by is_aside others);
       }
@@ -89,15 +89,15 @@ module _ (old : UnitsState) (file : ℕ) (r : Record) where
       → l ≡ found_units old.selection (at_record file r.offset r.seconds) (units_in (at_record file r.offset r.seconds) (is_extended r.kind) old.index held r.body)
   found_as mid l m h = h ∙ ap (λ (u : UnitsState). found_units u.selection (at_record file r.offset r.seconds) (units_in (at_record file r.offset r.seconds) (is_extended r.kind) u.index held r.body)) m
 
-  pub step_record : (mid new : UnitsState) (known left : Option (List ℕ)) (given : Option Found) → file ≡ old.file → CutsOne old known mid left (Some whole) → TakesRecord mid (at_record file r.offset r.seconds) (is_extended r.kind) held r.body new given → Steps old known new left (option_to_list given)
+  pub step_record : (mid new : UnitsState) (known left : Option (List ℕ)) (given : Option Damage) → file ≡ old.file → CutsOne old known mid left (Some whole) → TakesRecord mid (at_record file r.offset r.seconds) (is_extended r.kind) held r.body new given → Steps old known new left (refusals given)
   step_record mid new known left given file_is cut t bytes is =
       let k = takes_known old.frames mid.frames known left (whole ∷ []) bytes is cut.2 in (
         k.0,
         k.1,
-        inl (subst (λ (n : UnitsState). StaysInFile old bytes n k.0 (option_to_list given)) (sym (new_is mid new cut.0 t.state))
-            (stays mid.frames new.pending given bytes k.0 file_is k.2 (found_as mid (option_to_list given ++ as_found new.pending) cut.0 t.found))),
+        inl (subst (λ (n : UnitsState). StaysInFile old bytes n k.0 (refusals given)) (sym (new_is mid new cut.0 t.state))
+            (stays mid.frames new.pending given bytes k.0 file_is k.2 (found_as mid (refusals given ++ as_found new.pending) cut.0 t.found))),
       )
 
-  pub step_records : {E : Type 0} (mid new : UnitsState) (known left : Option (List ℕ)) (answer : Result (Option Found) E) (cut : Option Cut) → file ≡ old.file → cut ≡ Some whole → CutsOne old known mid left cut → IfOk answer (TakesRecord mid (at_record file r.offset r.seconds) (is_extended r.kind) held r.body new) → IfOk answer (λ given. Steps old known new left (option_to_list given))
+  pub step_records : {E : Type 0} (mid new : UnitsState) (known left : Option (List ℕ)) (answer : Result (Option Damage) E) (cut : Option Cut) → file ≡ old.file → cut ≡ Some whole → CutsOne old known mid left cut → IfOk answer (TakesRecord mid (at_record file r.offset r.seconds) (is_extended r.kind) held r.body new) → IfOk answer (λ given. Steps old known new left (refusals given))
   step_records mid new known left (Ok given) cut file_is cut_is of_cut t = step_record mid new known left given file_is (subst (λ (c : Option Cut). CutsOne old known mid left c) cut_is of_cut) t
   step_records mid new known left (Err e) cut file_is cut_is of_cut t = tt

@@ -1,5 +1,5 @@
 -- What comes of one record.
-use Rattle.std.proofs.Common.{◌≡◌, ℕ, ◌+◌, Bool, true, false, List, [], ◌∷◌, length, Option, Some, None, Ok, refl, sym, ap, ◌∙◌, arith}
+use Rattle.std.proofs.Common.{◌≡◌, ℕ, ◌+◌, Bool, true, false, List, [], ◌∷◌, ◌++◌, length, Option, Some, None, Ok, refl, sym, ap, ◌∙◌, arith}
 use Rattle.std.specs.List.{filter}
 use Rattle.bgp_prefix.specs.Prefixes.{IpPrefix}
 use Rattle.mrt_frame.proofs.Items.{bind_ok, ok_is}
@@ -42,28 +42,38 @@ module _ (selection : Selection) (at : RecordAt) (add_path : Bool) (peers : List
 
 -- ---- a reading with an index in force
 
-abbrev pub with_index : UnitsState → Option IndexState → UnitsState
-with_index u index = record u { index = index_peers index; pending = index_pending index }
+-- these units pend before the entries
+abbrev pub with_index : UnitsState → List ReplayUnit → Option IndexState → UnitsState
+with_index u held index = record u { index = index_peers index; pending = held ++ index_pending index }
 
-module _ (u : UnitsState) (at : RecordAt) (extended add_path : Bool) (body : List ℕ) (index read : IndexState) where
-  by_index : with_index u (Some index) ≡ u → found_units u.selection at (rib_units_in at add_path u.index body) ≡ found_units u.selection at (rib_units_in at add_path (Some index.peers) body)
+pub none_held : (held others : List ReplayUnit) → held ++ others ≡ [] → held ≡ []
+none_held [] others e = refl
+none_held (x ∷ held) others e = absurd cc
+
+module _ (u : UnitsState) (at : RecordAt) (extended add_path : Bool) (body : List ℕ) (held : List ReplayUnit) (index read : IndexState) where
+  by_index : with_index u held (Some index) ≡ u → found_units u.selection at (rib_units_in at add_path u.index body) ≡ found_units u.selection at (rib_units_in at add_path (Some index.peers) body)
   by_index same = ap (λ (i : Option (List PeerKey)). found_units u.selection at (rib_units_in at add_path i body)) (sym (ap (λ (n : UnitsState). n.index) same))
 
   -- where the peers stay, all else stays
-  stays : (pending : List ReplayUnit) → with_index u (Some index) ≡ u → read.peers ≡ index.peers → record u { index = Some read.peers; pending = pending } ≡ record u { pending = pending; aside = u.aside + 0 }
+  stays : (pending : List ReplayUnit) → with_index u held (Some index) ≡ u → read.peers ≡ index.peers → record u { index = Some read.peers; pending = pending } ≡ record u { pending = pending; aside = u.aside + 0 }
   stays pending same peers =
       ap (λ (i : Option (List PeerKey)). record u { index = i; pending = pending }) (ap (λ (p : List PeerKey). Some p) peers ∙ ap (λ (n : UnitsState). n.index) same) ∙ ap (λ (n : ℕ). record u { pending = pending; aside = n }) (omega arith)
 
-  pub rib_taken : with_index u (Some index) ≡ u → read.peers ≡ index.peers → is_past u.selection.until (time_of at 0) ≡ false → rib_units_in at add_path (Some index.peers) body ≡ Ok read.pending
-      → TakesRecord u at extended (content.Rib add_path) body (with_index u (Some read)) None
-  rib_taken same peers within units = record {
-    state = stays read.pending same peers;
-    found = sym (by_index same ∙ ap (found_units u.selection at) units ∙ ap as_found (kept u.selection at add_path index.peers body read.pending units within));
+  -- nothing pended before the record
+  entries_alone : (entries : List ReplayUnit) → u.pending ≡ [] → with_index u held (Some index) ≡ u → as_found entries ≡ as_found (held ++ entries)
+  entries_alone entries given same =
+      ap (λ (h : List ReplayUnit). as_found (h ++ entries)) (sym (none_held held index.pending (ap (λ (n : UnitsState). n.pending) same ∙ given)))
+
+  pub rib_taken : u.pending ≡ [] → with_index u held (Some index) ≡ u → read.peers ≡ index.peers → is_past u.selection.until (time_of at 0) ≡ false → rib_units_in at add_path (Some index.peers) body ≡ Ok read.pending
+      → TakesRecord u at extended (content.Rib add_path) body (with_index u held (Some read)) None
+  rib_taken given same peers within units = record {
+    state = stays (held ++ read.pending) same peers;
+    found = sym (by_index same ∙ ap (found_units u.selection at) units ∙ ap as_found (kept u.selection at add_path index.peers body read.pending units within) ∙ entries_alone read.pending given same);
   }
 
-  pub rib_left_out : with_index u (Some index) ≡ u → read.peers ≡ index.peers → is_past u.selection.until (time_of at 0) ≡ true → rib_units_in at add_path (Some index.peers) body ≡ Ok read.pending
-      → TakesRecord u at extended (content.Rib add_path) body (with_index u (Some (without_pending read))) None
-  rib_left_out same peers past units = record {
-    state = stays [] same peers;
-    found = sym (by_index same ∙ ap (found_units u.selection at) units ∙ ap as_found (left_out u.selection at add_path index.peers body read.pending units past));
+  pub rib_left_out : u.pending ≡ [] → with_index u held (Some index) ≡ u → read.peers ≡ index.peers → is_past u.selection.until (time_of at 0) ≡ true → rib_units_in at add_path (Some index.peers) body ≡ Ok read.pending
+      → TakesRecord u at extended (content.Rib add_path) body (with_index u held (Some (without_pending read))) None
+  rib_left_out given same peers past units = record {
+    state = stays (held ++ []) same peers;
+    found = sym (by_index same ∙ ap (found_units u.selection at) units ∙ ap as_found (left_out u.selection at add_path index.peers body read.pending units past) ∙ entries_alone [] given same);
   }

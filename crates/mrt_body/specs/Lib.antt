@@ -6,6 +6,7 @@ pub mod Bgp4mp
 pub mod Selections
 pub mod Units
 pub mod Lent
+pub mod SessionUnits
 pub mod Agreement
 pub mod Refusals
 pub mod Listed

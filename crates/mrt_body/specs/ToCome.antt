@@ -17,6 +17,7 @@ use Rattle.mrt_body.specs.declared.standing.Standing.{Standing}
 use Rattle.mrt_body.specs.declared.standing.Standing.TheVariants.{Going, Failed as FailedRead, Spent as SpentAll}
 use Rattle.mrt_body.specs.declared.unit.PeerKey.{PeerKey}
 use Rattle.mrt_body.specs.declared.unit.Unit.{Unit as ReplayUnit}
+use Rattle.mrt_body.specs.declared.unit.Damage.{Damage}
 use Rattle.mrt_body.specs.declared.unit.Found.{Found}
 use Rattle.mrt_body.specs.declared.unit.Found.TheVariants as found
 use Rattle.mrt_body.specs.Pending.{IndexState}
@@ -59,6 +60,9 @@ in_next_file u = record u { file = u.file + 1; frames = start_of (u.file + 1); i
 
 abbrev pub as_found : List ReplayUnit → List Found
 as_found units = map (λ u. found.Unit u) units
+
+abbrev pub refusals : Option Damage → List Found
+refusals refused = map (λ damage. found.Refused damage) (option_to_list refused)
 
 -- of the current file behind the pending units, where it still gives these bytes
 abbrev pub found_here : UnitsState → List ℕ → List Found
@@ -177,17 +181,17 @@ CutsOne old known new left (Some (Whole r)) =
     × (new.frames.phase ≡ Reading)
     × TakesCuts old.frames known new.frames left (Whole r ∷ [])
 
--- what comes of a whole record: what was given, and what pends
+-- what comes of a whole record: its refusal, if it is refused, and what pends
 pub record TakesRecord
     (old : UnitsState) (at : RecordAt) (extended : Bool) (content : Content) (body : List ℕ)
-    (new : UnitsState) (given : Option Found)
+    (new : UnitsState) (refused : Option Damage)
     : Type 0 where
   pub state : new ≡ record old {
     index = index_with old.index content body;
     pending = new.pending;
     aside = old.aside + aside_count content;
   }
-  pub found : option_to_list given ++ as_found new.pending
+  pub found : refusals refused ++ as_found new.pending
       ≡ found_units old.selection at (units_in at extended old.index content body)
 
 -- more of the current file is to come, where it gave these bytes before and gives those now

@@ -1,6 +1,6 @@
 //! The entries of a RIB record that are still to be returned.
 
-ghost use Rattle.std.specs.Prelude.{◌≡◌, ◌≤◌, ◌+◌, ◌/◌, ◌∷◌, [], length, take, drop, max, vec_capacity, Some, None, IfOk, IfSome};
+ghost use Rattle.std.specs.Prelude.{◌≡◌, ◌≤◌, ◌+◌, ◌/◌, ◌∷◌, [], length, take, drop, max, vec_capacity, false, ◌↔◌, Some, None, IfOk, IfSome};
 ghost use Rattle.bgp_update.specs.Answers.{Gives};
 ghost use Rattle.mrt_body.specs.Lent.{lent_unit};
 ghost use Rattle.mrt_body.specs.Units.{IsSmallUnit, rib_units_in};
@@ -64,6 +64,17 @@ impl RibRecord {
             }
             Err(fault) => Err(AttrError::Bad(fault)),
         }
+    }
+
+    /// Whether an entry is to be returned.
+    pub(crate) fn is_pending(&self, peers: &[PeerKey], list: &[ListedEntry]) -> bool
+        requires { AreListed peers.now list.now self.now }
+        ensures { result ≡ false ↔ (units_left peers.now list.now self.now ≡ []) }
+    {
+        if self.given as usize == list.len() {
+            return false;
+        }
+        true
     }
 
     /// Lends the unit of the next entry, or returns `None` at the end.

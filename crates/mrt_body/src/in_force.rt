@@ -1,6 +1,6 @@
 //! The index in force, and what it is still needed for.
 
-ghost use Rattle.std.specs.Prelude.{◌≡◌, ◌≤◌, ◌∷◌, ◌++◌, [], drop, length, Some, None, Ok, OnErr, IfOk, IfSome, option_to_list};
+ghost use Rattle.std.specs.Prelude.{◌≡◌, ◌≤◌, ◌∷◌, ◌++◌, [], drop, length, false, ◌↔◌, Some, None, Ok, OnErr, IfOk, IfSome, option_to_list};
 ghost use Rattle.bgp_update.specs.Answers.{Gives};
 ghost use Rattle.mrt_body.specs.Lent.{lent_unit};
 ghost use Rattle.mrt_body.specs.Units.{IsSmallUnit, rib_units_in};
@@ -71,6 +71,16 @@ impl Index {
         ensures { self.new ≡ without_pending self.old }
     {
         self.last = None;
+    }
+
+    /// Whether an entry is to be returned.
+    pub(crate) fn is_pending(&self) -> bool
+        ensures { result ≡ false ↔ (self.now.pending ≡ []) }
+    {
+        match &self.last {
+            Some(record) => record.is_pending(self.peers.as_slice(), self.list.as_slice()),
+            None => false,
+        }
     }
 
     /// Lends the unit of the next entry, or returns `None` at the end.

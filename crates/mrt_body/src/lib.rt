@@ -17,6 +17,7 @@ mod reading;
 mod rib;
 mod selection;
 mod session;
+mod session_unit;
 mod standing;
 mod unit;
 mod units;

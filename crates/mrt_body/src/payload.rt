@@ -6,9 +6,8 @@ ghost use Rattle.mrt_body.specs.Units as units_spec;
 ghost use Rattle.mrt_body.specs.Units.{payload_bytes};
 
 use crate::at::RecordAt;
-use crate::payload_bytes::PayloadBytes;
 use crate::session::{microseconds_at, session_peer_at, states_in};
-use crate::unit::{Payload, Unit};
+use crate::session_unit::{SessionKind, SessionUnit};
 use bgp_prefix::Sequence;
 use bgp_update::Width;
 use mrt_frame::Fault;
@@ -21,24 +20,22 @@ pub(crate) fn message_unit(
     width: Width,
     add_path: bool,
     body: Sequence<u8>,
-) -> Result<Unit, Fault>
+) -> Result<SessionUnit, Fault>
+    requires { length body ≤ 16777216 }
     ensures reads { Reads (λ unit. unit) result (units_spec.message_unit at is_extended width add_path body) }
     ensures small { IfOk result (λ unit. length (payload_bytes unit.payload) ≤ length body) }
 {
     let bytes = body.as_slice();
     let (microseconds, after) = microseconds_at(bytes, is_extended)?;
     let (peer, rest) = session_peer_at(after, width)?;
-    let front = bytes.len() - rest.len();
-    let message = PayloadBytes::from_end(body.into_vec(), front);
-    Ok(Unit {
+    let start = bytes.len() - rest.len();
+    Ok(SessionUnit {
         place: at.place(None),
         time: at.time(microseconds),
         peer,
-        payload: Payload::Message {
-            bytes: message,
-            width,
-            add_path,
-        },
+        kind: SessionKind::Message { width, add_path },
+        body,
+        start,
     })
 }
 
@@ -48,18 +45,21 @@ pub(crate) fn states_unit(
     at: RecordAt,
     is_extended: bool,
     width: Width,
-    body: &[u8],
-) -> Result<Unit, Fault>
-    ensures reads { Reads (λ unit. unit) result (units_spec.states_unit at is_extended width body.now) }
+    body: Sequence<u8>,
+) -> Result<SessionUnit, Fault>
+    requires { length body ≤ 16777216 }
+    ensures reads { Reads (λ unit. unit) result (units_spec.states_unit at is_extended width body) }
     ensures small { IfOk result (λ unit. payload_bytes unit.payload ≡ []) }
 {
-    let (microseconds, rest) = microseconds_at(body, is_extended)?;
+    let (microseconds, rest) = microseconds_at(body.as_slice(), is_extended)?;
     let (peer, rest) = session_peer_at(rest, width)?;
     let (from, to) = states_in(rest)?;
-    Ok(Unit {
+    Ok(SessionUnit {
         place: at.place(None),
         time: at.time(microseconds),
         peer,
-        payload: Payload::State { from, to },
+        kind: SessionKind::State { from, to },
+        body,
+        start: 0,
     })
 }

@@ -1,6 +1,6 @@
 //! The bytes of payloads.
 
-ghost use Rattle.std.specs.Prelude.{◌≤◌, ◌≡◌, IfOk, IsOk, drop, length, vec_len};
+ghost use Rattle.std.specs.Prelude.{◌≤◌, ◌≡◌, IfOk, IsOk, length};
 
 use bgp_prefix::Memory;
 use smallvec::SmallVec;
@@ -41,22 +41,14 @@ impl PayloadBytes {
     pub fn from_vec(bytes: Vec<u8>) -> PayloadBytes
         ensures { result ≡ bytes.items }
     {
-        PayloadBytes::from_end(bytes, 0)
-    }
-
-    /// Returns the bytes after the first n. More than 112 keep their memory.
-    pub(crate) fn from_end(bytes: Vec<u8>, n: usize) -> PayloadBytes
-        requires { n ≤ vec_len bytes }
-        ensures { result ≡ drop n bytes.items }
-    {
-        if bytes.len() - n <= IN_PLACE {
-            let copy = SmallVec::from_slice(*bytes.allocator(), &bytes[n..]);
+        if bytes.len() <= IN_PLACE {
+            let copy = SmallVec::from_slice(*bytes.allocator(), bytes.as_slice());
             return PayloadBytes {
                 bytes: copy.unwrap(),
             };
         }
         PayloadBytes {
-            bytes: SmallVec::from_vec(without_front(bytes, n)),
+            bytes: SmallVec::from_vec(bytes),
         }
     }
 
@@ -66,16 +58,4 @@ impl PayloadBytes {
     {
         self.bytes.as_slice()
     }
-}
-
-/// Returns the bytes after the first n, in the same memory.
-fn without_front(bytes: Vec<u8>, n: usize) -> Vec<u8>
-    requires { n ≤ vec_len bytes }
-    ensures { result.items ≡ drop n bytes.items }
-{
-    let mut bytes = bytes;
-    let left = bytes.len() - n;
-    bytes.copy_within(n.., 0);
-    bytes.truncate(left);
-    bytes
 }

@@ -3,7 +3,7 @@
 ghost use Rattle.std.specs.Prelude.{◌≡◌};
 ghost use Rattle.mrt_body.specs.Selections.{is_past, is_selected};
 
-use crate::unit::Unit;
+use crate::session_unit::SessionUnit;
 
 /// Which of the units that records give are returned: those that meet each criterion. Any other unit is
 /// skipped, as if no record gave it. Refused records, index tables and the counts of records are the same
@@ -22,7 +22,7 @@ pub(crate) struct Selection {
 
 impl Selection {
     /// Returns whether a unit is selected.
-    pub(crate) fn selects(&self, unit: &Unit) -> bool
+    pub(crate) fn selects(&self, unit: &SessionUnit) -> bool
         ensures { result ≡ is_selected self.now unit.now }
     {
         !self.is_past(unit.time)

@@ -2,11 +2,11 @@
 
 mod record;
 
-ghost use Rattle.std.specs.Prelude.{◌≡◌, ℕ, List, Option, ◌<◌, ◌≤◌, ◌+◌, ◌^◌, ◌∷◌, None, [], map, take, drop, Ok, Err, IfOk, IfErr, IfSome, OnOk, length, option_to_list};
+ghost use Rattle.std.specs.Prelude.{◌≡◌, ℕ, List, Option, ◌<◌, ◌≤◌, ◌+◌, ◌^◌, ◌∷◌, None, [], map, take, drop, false, ◌↔◌, Ok, Err, IfOk, IfErr, IfSome, OnOk, length, option_to_list};
 ghost use Rattle.mrt_body.specs.Lent.{lent_unit};
 ghost use Rattle.mrt_body.specs.Units.{IsSmall, IsSmallUnit, all_cuts, found_in};
 ghost use Rattle.mrt_frame.specs.Frames.{StandsAt, KeepsUnlessRead};
-ghost use Rattle.mrt_body.specs.ToCome.{UnitsState, GivesPending, CutsOne, TakesFound, NothingToCome, HasEnded, FailsInRecord, GivesAllBefore, Steps, StopsAt, Stops, KeepsPlan, as_found, answers_left, units_left, unit_count, cuts_to_come, found_to_come, steps_left, fresh_units, standing_after};
+ghost use Rattle.mrt_body.specs.ToCome.{UnitsState, GivesPending, CutsOne, TakesFound, NothingToCome, HasEnded, FailsInRecord, GivesAllBefore, Steps, StopsAt, Stops, KeepsPlan, as_found, answers_left, refusals, units_left, unit_count, cuts_to_come, found_to_come, steps_left, fresh_units, standing_after};
 ghost use Rattle.mrt_body.specs.declared.standing.Standing.TheVariants as standings;
 
 use crate::at::RecordAt;
@@ -14,8 +14,9 @@ use crate::content::{content_of, is_extended};
 use crate::in_force::Index;
 use crate::lent::LentUnit;
 use crate::selection::Selection;
+use crate::session_unit::SessionUnit;
 use crate::standing::Standing;
-use crate::unit::{Found, Unit};
+use crate::unit::{Damage, Found, Unit};
 use mrt_frame::{Cut, FrameReader, ReplayError, Source};
 use record::refused;
 use std::alloc::Global;
@@ -28,6 +29,8 @@ pub struct Units {
     file: usize,
     frames: FrameReader,
     index: Option<Index>,
+    /// The unit of the BGP4MP record cut last, if it is still to be returned.
+    session: Option<SessionUnit>,
     selection: Selection,
     max_records: u64,
     records: u64,
@@ -36,6 +39,7 @@ pub struct Units {
 }
 
 impl Model for Units {
+    ghost use Rattle.std.specs.Prelude.{◌++◌, option_to_list};
     ghost use Rattle.mrt_body.specs.ToCome.{UnitsState, StandsWithin, index_peers, index_pending};
 
     ghost Value = { UnitsState };
@@ -46,7 +50,7 @@ impl Model for Units {
       frames = u.frames;
       selection = u.selection;
       index = index_peers u.index;
-      pending = index_pending u.index;
+      pending = option_to_list u.session ++ index_pending u.index;
       max_records = u.max_records;
       records = u.records;
       aside = u.aside;
@@ -71,6 +75,7 @@ impl Units {
             file: 0,
             frames: FrameReader::new(0),
             index: None,
+            session: None,
             selection: Selection { until },
             max_records,
             records: 0,
@@ -148,18 +153,64 @@ impl Units {
         // A unit has at most 16,777,216 bytes.
         ensures small { IfOk result (λ found. IfSome found IsSmall) }
     {
+        match self.advance(alloc, files) {
+            Ok(Some(damage)) => Ok(Some(Found::Refused(damage))),
+            Ok(None) => match self.next_pending(alloc)? {
+                Some(unit) => Ok(Some(Found::Unit(unit))),
+                None => Ok(None),
+            },
+            Err(error) => Err(error),
+        }
+    }
+
+    /// Reads on to the next unit, which `lend` then lends, or to the next record that is refused, which it returns.
+    /// Returns `None` where a unit is to be returned: at once while one is left. At the end of the last file it returns
+    /// `None` as well, and no unit is left. Errors are those of `next`.
+    pub fn advance<R: Source>(
+        &mut self,
+        alloc: Global,
+        files: &mut [R],
+    ) -> Result<Option<Damage>, ReplayError>
+        requires { length files.old ≡ self.old.count }
+        ensures found { IfOk result
+            (λ refused. TakesFound self.old (map R.remaining files.old) self.new (map R.remaining files.new)
+            (refusals refused)) }
+        ensures ended { IfOk result
+            (λ refused. refused ≡ None → self.new.pending ≡ [] → NothingToCome self.old (map R.remaining files.old)) }
+        ensures at_end { IfOk result
+            (λ refused. refused ≡ None → self.new.pending ≡ [] → self.new.file ≡ self.new.count) }
+        ensures ends { IfOk result (λ refused. refused ≡ None → self.new.pending ≡ [] → HasEnded self.new) }
+        ensures stays_ended { HasEnded self.old → (result ≡ Ok None) × (self.new ≡ self.old) × (files.new ≡ files.old) }
+        ensures fewer { IfOk result
+            (λ refused. answers_left self.new + length (option_to_list refused) ≤ answers_left self.old) }
+        ensures units { IfOk result (λ _. units_left self.new ≤ units_left self.old) }
+        ensures going { IfOk result (λ _. self.new.standing ≡ standings.Going) }
+        ensures cause { IfErr result
+            (Stops self.old (map R.remaining files.old) self.new
+            (map R.failure_count files.old) (map R.failure_count files.new)) }
+        ensures spent { self.old.standing ≡ standings.Spent → (result ≡ Err ReplayError.Spent) × (self.new ≡ self.old) }
+        ensures again { self.old.standing ≡ standings.Failed →
+            (result ≡ Err (ReplayError.Read self.old.file)) × (self.new ≡ self.old) × (files.new ≡ files.old) }
+        ensures sound { OnOk result (map R.failure_count files.new ≡ map R.failure_count files.old) }
+        ensures before { self.old.standing ≡ standings.Going → IfErr result
+            (GivesAllBefore self.old (map R.remaining files.old) self.new (map R.remaining files.new)) }
+        ensures unfailed { IfErr result
+            (KeepsUnlessRead (map R.failure_count files.old) (map R.failure_count files.new)) }
+        ensures later { drop (self.new.file + 1) files.new ≡ drop (self.new.file + 1) files.old }
+        ensures plan { KeepsPlan self.old self.new }
+    {
         match self.standing {
             Standing::Failed => Err(ReplayError::Read { file: self.file }),
             Standing::Spent => Err(ReplayError::Spent),
             Standing::Going => 'files: loop {
-                if let Some(unit) = self.next_entry(alloc)? {
-                    return Ok(Some(Found::Unit(unit)));
+                if self.is_pending() {
+                    return Ok(None);
                 }
                 if self.file == self.count {
                     return Ok(None);
                 }
                 match self.step(alloc, &mut files[self.file]) {
-                    Ok(Some(found)) => return Ok(Some(found)),
+                    Ok(Some(damage)) => return Ok(Some(damage)),
                     Ok(None) => {}
                     Err(error) => return Err(error),
                 }
@@ -167,10 +218,22 @@ impl Units {
         }
     }
 
-    /// Lends the unit of the next entry of the RIB record that was cut last, which is what `next` would return.
-    /// Returns `None` if all of its entries were returned, or after an error. Whoever is done with the entry calls
-    /// `pass_entry`, and needs no unit of its own.
-    pub fn lend_entry(&self) -> Option<LentUnit<'_>>
+    /// Whether a unit of the record that was cut last is to be returned.
+    fn is_pending(&self) -> bool
+        ensures { result ≡ false ↔ (self.now.pending ≡ []) }
+    {
+        if self.session.is_some() {
+            return true;
+        }
+        match &self.index {
+            Some(index) => index.is_pending(),
+            None => false,
+        }
+    }
+
+    /// Lends the next unit of the record that was cut last, which is what `next` would return. Returns `None` if all of
+    /// them were returned, or after an error. Whoever is done with the unit calls `pass`, and needs no unit of their own.
+    pub fn lend(&self) -> Option<LentUnit<'_>>
         ensures lends { IfSome result
             (λ unit. (self.now.standing ≡ standings.Going)
             × (self.now.pending ≡ lent_unit unit ∷ drop 1 self.now.pending)) }
@@ -180,27 +243,32 @@ impl Units {
         let Standing::Going = self.standing else {
             return None;
         };
+        if let Some(unit) = &self.session {
+            return Some(unit.lend());
+        }
         match &self.index {
             Some(index) => index.lend(),
             None => None,
         }
     }
 
-    /// Passes over the entry that `lend_entry` lent, if there is one: `next` returns what comes after it.
-    pub fn pass_entry(&mut self)
+    /// Passes over the unit that `lend` lent, if there is one: `next` returns what comes after it.
+    pub fn pass(&mut self)
         ensures passes { GivesPending self.old self.new (take 1 self.old.pending) }
         ensures found { (known : List (Option (List ℕ))) →
             TakesFound self.old known self.new known (as_found (take 1 self.old.pending)) }
         ensures units { units_left self.new + length (take 1 self.old.pending) ≡ units_left self.old }
         ensures plan { KeepsPlan self.old self.new }
     {
-        if let Some(index) = &mut self.index {
+        if self.session.is_some() {
+            self.session = None;
+        } else if let Some(index) = &mut self.index {
             index.pass();
         }
     }
 
-    /// Returns the unit of the next entry of the RIB record that was cut last.
-    fn next_entry(&mut self, alloc: Global) -> Result<Option<Unit>, ReplayError>
+    /// Returns the next unit of the record that was cut last.
+    fn next_pending(&mut self, alloc: Global) -> Result<Option<Unit>, ReplayError>
         ensures gives { IfOk result (λ unit. GivesPending self.old self.new (option_to_list unit)) }
         ensures ended { IfOk result (λ unit. unit ≡ None → self.old.pending ≡ []) }
         ensures none { self.old.pending ≡ [] → result ≡ Ok None }
@@ -209,6 +277,18 @@ impl Units {
         ensures plan { KeepsPlan self.old self.new }
         ensures small { IfOk result (λ unit. IfSome unit IsSmallUnit) }
     {
+        if let Some(unit) = &self.session {
+            return match unit.to_unit(alloc) {
+                Ok(unit) => {
+                    self.session = None;
+                    Ok(Some(unit))
+                }
+                Err(_) => {
+                    self.standing = Standing::Spent;
+                    Err(ReplayError::Memory)
+                }
+            };
+        }
         let Some(index) = &mut self.index else {
             return Ok(None);
         };
@@ -252,6 +332,7 @@ impl Units {
                 self.file += 1;
                 self.frames = FrameReader::new(self.file);
                 self.index = None;
+                self.session = None;
                 Ok(end)
             }
             Err(error) => {
@@ -262,21 +343,20 @@ impl Units {
     }
 
     /// Cuts the current file once, and returns what comes of it first, if anything but entries does.
-    #[tactic(auto, using(crate::proofs::FilesLaws::few_units))]
     fn step<R: Source>(
         &mut self,
         alloc: Global,
         reader: &mut R,
-    ) -> Result<Option<Found>, ReplayError>
+    ) -> Result<Option<Damage>, ReplayError>
         requires going { self.old.standing ≡ standings.Going }
         requires within { self.old.file < self.old.count }
         requires given { self.old.pending ≡ [] }
-        ensures units { IfOk result (λ found. units_left self.new + unit_count found ≤ units_left self.old) }
+        ensures units { IfOk result (λ _. units_left self.new ≤ units_left self.old) }
         ensures fewer_answers { IfOk result
-            (λ found. answers_left self.new + length (option_to_list found) ≤ answers_left self.old) }
+            (λ refused. answers_left self.new + length (option_to_list refused) ≤ answers_left self.old) }
         ensures steps { IfOk result
-            (λ found. Steps self.old (R.remaining reader.old) self.new (R.remaining reader.new)
-            (option_to_list found)) }
+            (λ refused. Steps self.old (R.remaining reader.old) self.new (R.remaining reader.new)
+            (refusals refused)) }
         ensures fewer { IfOk result (λ _. steps_left self.new < steps_left self.old) }
         ensures going { IfOk result (λ _. self.new.standing ≡ standings.Going) }
         ensures onward { self.old.file ≤ self.new.file }
@@ -288,7 +368,6 @@ impl Units {
         ensures sound { OnOk result (R.failure_count reader.new ≡ R.failure_count reader.old) }
         ensures unfailed { IfErr result (KeepsUnlessRead (R.failure_count reader.old) (R.failure_count reader.new)) }
         ensures plan { KeepsPlan self.old self.new }
-        ensures small { IfOk result (λ found. IfSome found IsSmall) }
     {
         let file = self.file;
         match self.cut(alloc, reader)? {

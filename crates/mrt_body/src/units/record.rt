@@ -1,8 +1,9 @@
 //! What comes of a whole record: an index in force, its unit, its entries or its refusal.
 
-ghost use Rattle.std.specs.Prelude.{◌≡◌, ◌<◌, ◌≤◌, ◌+◌, Bool, [], IfOk, IfErr, IfSome, length, option_to_list};
-ghost use Rattle.mrt_body.specs.Units.{IsSmall, IsSmallUnit, alone, found_units, refused_at};
-ghost use Rattle.mrt_body.specs.ToCome.{TakesRecord, KeepsPlan};
+ghost use Rattle.std.specs.Prelude.{◌≡◌, ◌<◌, ◌≤◌, ◌+◌, ◌++◌, Bool, [], IfOk, IfErr, length, option_to_list};
+ghost use Rattle.mrt_body.specs.declared.unit.Found.TheVariants as found_spec;
+ghost use Rattle.mrt_body.specs.Units.{IsSmallUnit, alone, found_units, refused_at};
+ghost use Rattle.mrt_body.specs.ToCome.{TakesRecord, KeepsPlan, as_found, refusals};
 ghost use Rattle.mrt_body.specs.declared.content.Content.TheVariants as content_spec;
 ghost use Rattle.mrt_body.specs.declared.standing.Standing.TheVariants as standings;
 
@@ -12,8 +13,9 @@ use crate::content::Content;
 use crate::in_force::Index;
 use crate::index::peers_in;
 use crate::payload::{message_unit, states_unit};
+use crate::session_unit::SessionUnit;
 use crate::standing::Standing;
-use crate::unit::{Damage, Found, Unit};
+use crate::unit::Damage;
 use bgp_prefix::Sequence;
 use bgp_update::AttrError;
 use mrt_frame::{Fault, ReplayError};
@@ -28,16 +30,16 @@ impl Units {
         is_extended: bool,
         content: Content,
         body: Sequence<u8>,
-    ) -> Result<Option<Found>, ReplayError>
+    ) -> Result<Option<Damage>, ReplayError>
         requires given { self.old.pending ≡ [] }
         requires counted { self.old.aside < self.old.records }
         requires small { length body ≤ 16777216 }
         ensures takes { IfOk result (TakesRecord self.old at is_extended content body self.new) }
-        ensures few { IfOk result (λ found. length (option_to_list found) + length self.new.pending ≤ 65535) }
+        ensures few { IfOk result
+            (λ refused. length (option_to_list refused) + length self.new.pending ≤ 65535) }
         ensures want { IfErr result (λ e. (e ≡ ReplayError.Memory) × (self.new.standing ≡ standings.Spent)) }
         ensures here { self.new.file ≡ self.old.file }
         ensures plan { KeepsPlan self.old self.new }
-        ensures small { IfOk result (λ found. IfSome found IsSmall) }
     {
         match content {
             Content::IndexTable => self.take_index(alloc, at, body.as_slice()),
@@ -47,7 +49,7 @@ impl Units {
                 Ok(self.found(at, unit))
             }
             Content::States { width } => {
-                let unit = states_unit(at, is_extended, width, body.as_slice());
+                let unit = states_unit(at, is_extended, width, body);
                 Ok(self.found(at, unit))
             }
             Content::Aside => {
@@ -57,18 +59,21 @@ impl Units {
         }
     }
 
-    /// Returns a unit if it is selected, or the refusal of its record.
-    fn found(&self, at: RecordAt, unit: Result<Unit, Fault>) -> Option<Found>
-        ensures found { option_to_list result ≡ found_units self.now.selection at (alone unit) }
-        ensures small { IfOk unit IsSmallUnit → IfSome result IsSmall }
+    /// Keeps a unit to be returned if it is selected, or returns the refusal of its record.
+    fn found(&mut self, at: RecordAt, unit: Result<SessionUnit, Fault>) -> Option<Damage>
+        requires given { self.old.pending ≡ [] }
+        requires small { IfOk unit IsSmallUnit }
+        ensures found { refusals result ++ as_found self.new.pending
+            ≡ found_units self.old.selection at (alone unit) }
+        ensures few { length (option_to_list result) + length self.new.pending ≤ 1 }
+        ensures same { self.new ≡ record self.old { pending = self.new.pending } }
     {
         match unit {
             Ok(unit) => {
                 if self.selection.selects(&unit) {
-                    Some(Found::Unit(unit))
-                } else {
-                    None
+                    self.session = Some(unit);
                 }
+                None
             }
             Err(fault) => Some(refused(at, fault)),
         }
@@ -80,15 +85,15 @@ impl Units {
         alloc: Global,
         at: RecordAt,
         body: &[u8],
-    ) -> Result<Option<Found>, ReplayError>
+    ) -> Result<Option<Damage>, ReplayError>
         requires { self.old.pending ≡ [] }
         ensures takes { (extended : Bool) → IfOk result
             (TakesRecord self.old at extended content_spec.IndexTable body.now self.new) }
-        ensures few { IfOk result (λ found. length (option_to_list found) + length self.new.pending ≤ 65535) }
+        ensures few { IfOk result
+            (λ refused. length (option_to_list refused) + length self.new.pending ≤ 65535) }
         ensures want { IfErr result (λ e. (e ≡ ReplayError.Memory) × (self.new.standing ≡ standings.Spent)) }
         ensures here { self.new.file ≡ self.old.file }
         ensures plan { KeepsPlan self.old self.new }
-        ensures small { IfOk result (λ found. IfSome found IsSmall) }
     {
         self.index = None;
         match peers_in(alloc, body) {
@@ -110,16 +115,16 @@ impl Units {
         at: RecordAt,
         add_path: bool,
         body: Sequence<u8>,
-    ) -> Result<Option<Found>, ReplayError>
+    ) -> Result<Option<Damage>, ReplayError>
         requires given { self.old.pending ≡ [] }
         requires small { length body ≤ 16777216 }
         ensures takes { (extended : Bool) → IfOk result
             (TakesRecord self.old at extended (content_spec.Rib add_path) body self.new) }
-        ensures few { IfOk result (λ found. length (option_to_list found) + length self.new.pending ≤ 65535) }
+        ensures few { IfOk result
+            (λ refused. length (option_to_list refused) + length self.new.pending ≤ 65535) }
         ensures want { IfErr result (λ e. (e ≡ ReplayError.Memory) × (self.new.standing ≡ standings.Spent)) }
         ensures here { self.new.file ≡ self.old.file }
         ensures plan { KeepsPlan self.old self.new }
-        ensures small { IfOk result (λ found. IfSome found IsSmall) }
     {
         let is_past = self.selection.is_past(at.time(0));
         let Some(index) = &mut self.index else {
@@ -141,11 +146,11 @@ impl Units {
 }
 
 /// Returns the refusal of a record.
-pub(super) fn refused(at: RecordAt, fault: Fault) -> Found
-    ensures { result ≡ refused_at at fault }
+pub(super) fn refused(at: RecordAt, fault: Fault) -> Damage
+    ensures { found_spec.Refused result ≡ refused_at at fault }
 {
-    Found::Refused(Damage {
+    Damage {
         place: at.place(None),
         fault,
-    })
+    }
 }

@@ -1,19 +1,19 @@
-//! What a RIB record lends.
+//! What the record that was cut last lends.
 
 use super::lines::next_of;
-use super::{expect_entry, expect_message};
+use super::{announcement_of_subtype, expect_entry, expect_message, expect_refused, expect_states};
 use fixtures::{bytes_of, message_of};
 use mrt_body::{Found, Units};
-use mrt_frame::Counted;
+use mrt_frame::{Counted, Fault};
 use std::alloc::Global;
 use std::process::Abort;
 
-/// The entry that is lent, as what is found.
+/// The unit that is lent, as what is found.
 fn lent_in(rt: &impl Abort, alloc: Global, units: &Units) -> Found {
-    let Some(entry) = units.lend_entry() else {
-        panic!(rt; "no entry is lent")
+    let Some(unit) = units.lend() else {
+        panic!(rt; "no unit is lent")
     };
-    Found::Unit(entry.to_unit(alloc).expect(rt, "memory for a unit"))
+    Found::Unit(unit.to_unit(alloc).expect(rt, "memory for a unit"))
 }
 
 /// What comes next in a file.
@@ -28,6 +28,20 @@ fn found_next(
         .expect(rt, "a unit")
 }
 
+/// Reads on in a file, until a unit pends, a record is refused or the file ends. What is refused is returned.
+fn advance(
+    rt: &impl Abort,
+    alloc: Global,
+    units: &mut Units,
+    files: &mut [Counted<&[u8]>],
+) -> Option<Found> {
+    assert!(rt; units.count() == files.len());
+    match units.advance(alloc, files).expect(rt, "no error") {
+        Some(damage) => Some(Found::Refused(damage)),
+        None => None,
+    }
+}
+
 #[test]
 fn a_rib_record_lends_what_comes_next(rt: HostRuntime) {
     let alloc = rt.alloc();
@@ -37,10 +51,7 @@ fn a_rib_record_lends_what_comes_next(rt: HostRuntime) {
     let message = message_of(alloc, "announcement").expect(&rt, "memory for a message");
     let mut files = [Counted::new(bytes.as_slice())];
     let mut units = Units::new(1, 1000, None);
-    assert!(rt;
-        units.lend_entry().is_none(),
-        "an entry before the first record"
-    );
+    assert!(rt; units.lend().is_none(), "a unit before the first record");
     let first = found_next(&rt, alloc, &mut units, &mut files);
     expect_entry(&rt, &first, 56, 1, 0, attributes.as_slice());
     // It lends the same entry until one passes it.
@@ -54,12 +65,52 @@ fn a_rib_record_lends_what_comes_next(rt: HostRuntime) {
             &[0x40, 1, 1, 3],
         );
     }
-    units.pass_entry();
-    assert!(rt; units.lend_entry().is_none(), "a third entry");
-    units.pass_entry();
+    units.pass();
+    assert!(rt; units.lend().is_none(), "a third entry");
+    units.pass();
     let third = found_next(&rt, alloc, &mut units, &mut files);
     expect_entry(&rt, &third, 116, 1, 7, attributes.as_slice());
     let last = found_next(&rt, alloc, &mut units, &mut files);
     expect_message(&rt, &last, message.as_slice(), false);
-    assert!(rt; units.lend_entry().is_none(), "an entry behind a message");
+    assert!(rt; units.lend().is_none(), "a message that was returned");
+}
+
+#[test]
+fn messages_and_state_changes_are_lent_between_refusals(rt: HostRuntime) {
+    let alloc = rt.alloc();
+    let mut bytes = bytes_of(alloc, "announcement established-to-idle").expect(
+        &rt,
+        "memory for a file",
+    );
+    let damaged = announcement_of_subtype(&rt, alloc, 1);
+    bytes
+        .extend_from_slice(damaged.as_slice())
+        .expect(&rt, "memory for a record");
+    let message = message_of(alloc, "announcement").expect(&rt, "memory for a message");
+    let mut files = [Counted::new(bytes.as_slice())];
+    let mut units = Units::new(1, 1000, None);
+    // Nothing is read while a unit is left.
+    for _ in 0..2 {
+        assert!(rt; advance(&rt, alloc, &mut units, &mut files).is_none());
+        assert!(rt; units.records() == 1);
+        expect_message(&rt, &lent_in(&rt, alloc, &units), message.as_slice(), false);
+    }
+    units.pass();
+    assert!(rt; units.lend().is_none(), "a message that was passed over");
+    assert!(rt; advance(&rt, alloc, &mut units, &mut files).is_none());
+    expect_states(&rt, &lent_in(&rt, alloc, &units));
+    let states = found_next(&rt, alloc, &mut units, &mut files);
+    expect_states(&rt, &states);
+    // 65000 is read as two AS numbers, and the address family is the second half of 65001.
+    let refused = advance(&rt, alloc, &mut units, &mut files).expect(&rt, "a refusal");
+    expect_refused(&rt, &refused, 77 + 36, Fault::BadFamily);
+    assert!(rt;
+        units.lend().is_none(),
+        "a unit of a record that is refused"
+    );
+    for _ in 0..2 {
+        assert!(rt; advance(&rt, alloc, &mut units, &mut files).is_none());
+        assert!(rt; units.lend().is_none(), "a unit behind the end");
+        assert!(rt; units.records() == 3);
+    }
 }

@@ -1,7 +1,7 @@
 use Rattle.std.proofs.Common.{◌≡◌, ◌+◌, ◌≤◌, [], map, drop, length}
 use Rattle.mrt_body.specs.declared.standing.Standing.TheVariants.{Going}
 use Rattle.mrt_body.specs.ToCome.{TakesFound, KeepsPlan, HasEnded, answers_left, units_left, steps_left}
-use Rattle.mrt_body.proofs.units.Units.next.Given as goal
+use Rattle.mrt_body.proofs.units.Units.advance.Given as goal
 
 abbrev pub invariant-files : goal.invariant-files
 invariant-files g l = record {

@@ -1,0 +1,19 @@
+-- The units of BGP4MP records, with the bodies of their records.
+use Rattle.std.specs.Prelude.{ℕ, List, drop}
+use Rattle.mrt_body.specs.declared.unit.PeerKey.{PeerKey}
+use Rattle.mrt_body.specs.declared.unit.Place.{Place}
+use Rattle.mrt_body.specs.declared.unit.Payload.{Payload}
+use Rattle.mrt_body.specs.declared.unit.Payload.TheVariants.{State, Message}
+use Rattle.mrt_body.specs.declared.unit.Unit.{Unit as ReplayUnit}
+use Rattle.mrt_body.specs.declared.session_unit.SessionKind.{SessionKind}
+use Rattle.mrt_body.specs.declared.session_unit.SessionKind.TheVariants as kinds
+
+-- the payload of this kind with these bytes
+abbrev pub session_payload : SessionKind → List ℕ → Payload
+session_payload (kinds.State from to) bytes = State from to
+session_payload (kinds.Message width add_path) bytes = Message bytes width add_path
+
+-- the unit whose bytes are those of a body from this position on
+abbrev pub session_unit_of : Place → ℕ → PeerKey → SessionKind → List ℕ → ℕ → ReplayUnit
+session_unit_of place time peer kind body start =
+    record { place = place; time = time; peer = peer; payload = session_payload kind (drop start body) }

@@ -1,0 +1,87 @@
+//! The unit of a BGP4MP record, which keeps the record's body.
+
+use crate::lent::{LentPayload, LentUnit};
+use crate::payload_bytes::PayloadBytes;
+use crate::unit::{Payload, PeerKey, Place, Unit};
+use bgp_prefix::{Memory, Sequence};
+use bgp_update::Width;
+use std::alloc::Global;
+use std::marker::Model;
+
+/// A payload without its bytes.
+#[derive(Clone, Copy)]
+pub(crate) enum SessionKind {
+    State { from: u16, to: u16 },
+    Message { width: Width, add_path: bool },
+}
+
+/// A message or a state change, as the record has it: a message is the end of the body.
+#[derive(Drop)]
+pub(crate) struct SessionUnit {
+    pub(crate) place: Place,
+    pub(crate) time: u64,
+    pub(crate) peer: PeerKey,
+    pub(crate) kind: SessionKind,
+    pub(crate) body: Sequence<u8>,
+    /// Where the message begins in the body.
+    pub(crate) start: usize,
+}
+
+impl Model for SessionUnit {
+    ghost use Rattle.std.specs.Prelude.{◌≤◌, length};
+    ghost use Rattle.mrt_body.specs.declared.unit.Unit.{Unit as ReplayUnit};
+    ghost use Rattle.mrt_body.specs.SessionUnits.{session_unit_of};
+
+    ghost Value = { ReplayUnit };
+
+    ghost view = { λ u. session_unit_of u.place u.time u.peer u.kind u.body u.start };
+
+    ghost invariant = { λ u. (u.start ≤ length u.body) × (length u.body ≤ 16777216) };
+}
+
+impl SessionUnit {
+    ghost use Rattle.std.specs.Prelude.{◌≡◌, IfOk};
+    ghost use Rattle.mrt_body.specs.Lent.{lent_unit};
+    ghost use Rattle.mrt_body.specs.Units.{IsSmallUnit};
+
+    /// Returns the unit with a copy of its bytes.
+    pub(crate) fn to_unit(&self, alloc: Global) -> Result<Unit, Memory>
+        ensures copies { IfOk result (λ unit. unit ≡ self.now) }
+        ensures small { IfOk result IsSmallUnit }
+    {
+        let payload = match self.kind {
+            SessionKind::State { from, to } => Payload::State { from, to },
+            SessionKind::Message { width, add_path } => Payload::Message {
+                bytes: PayloadBytes::from_slice(alloc, &self.body.as_slice()[self.start..])?,
+                width,
+                add_path,
+            },
+        };
+        Ok(Unit {
+            place: self.place,
+            time: self.time,
+            peer: self.peer,
+            payload,
+        })
+    }
+
+    /// Lends the unit's bytes.
+    pub(crate) fn lend(&self) -> LentUnit<'_>
+        ensures lends { lent_unit result ≡ self.now }
+        ensures small { IsSmallUnit (lent_unit result) }
+    {
+        LentUnit {
+            place: self.place,
+            time: self.time,
+            peer: self.peer,
+            payload: match self.kind {
+                SessionKind::State { from, to } => LentPayload::State { from, to },
+                SessionKind::Message { width, add_path } => LentPayload::Message {
+                    bytes: &self.body.as_slice()[self.start..],
+                    width,
+                    add_path,
+                },
+            },
+        }
+    }
+}
