@@ -28,12 +28,16 @@ use std::thread::{Threads, available_parallelism};
 use std::time::{Duration, Instant};
 use telling::{tell, tell_memory, tell_open, tell_summary, tell_write};
 
-/// The maximum number of units dealt in a round.
-const BATCH: u64 = 65_536;
+/// The minimum number of units dealt in a round that isn't blocked. Routes are counted between rounds.
+const LEAST_BATCH: u64 = 65_536;
 
-/// Empty looks at its ring after which a worker ends its round. The gate sleeps between them, so they take some 70 ms,
-/// longer than the dealer loses its core to another thread: a worker that left sooner would end the round for all.
-const LOOKS: u32 = 1_000;
+/// How many units are dealt in a round for each worker. Each round starts its threads anew.
+const BATCH_EACH: u64 = 16_384;
+
+/// Empty looks at its ring after which a worker ends its round. The gate sleeps between them, so they take more than a
+/// minute: only a round whose input is very slow takes longer. A worker that leaves ends the round for all, since nobody
+/// empties its ring.
+const LOOKS: u32 = 1_000_000;
 
 /// A single worker runs in the calling thread: it looks once more at its ring when the round's dealing is over.
 const LOOKS_ALONE: u32 = 1;
@@ -74,6 +78,15 @@ fn looks_of(workers: usize) -> u32 {
     if workers < 2 { LOOKS_ALONE } else { LOOKS }
 }
 
+/// Returns the maximum number of units that are dealt to this many workers in a round.
+fn batch_of(workers: usize) -> u64
+    requires { workers ≤ 64 }
+    ensures least { 65536 ≤ result }
+    ensures most { result ≤ 1048576 }
+{
+    (BATCH_EACH * workers as u64).max(LEAST_BATCH)
+}
+
 fn plan_of(job: &Job, workers: usize) -> Plan
     requires least { 1 ≤ workers }
     requires most { workers ≤ 64 }
@@ -85,7 +98,7 @@ fn plan_of(job: &Job, workers: usize) -> Plan
     Plan {
         workers,
         ring: job.ring,
-        batch: BATCH,
+        batch: batch_of(workers),
         looks: looks_of(workers),
         max_records: MAX_RECORDS,
         until: job.until,

@@ -16,8 +16,15 @@ const PAUSE_MILLIS: u64 = 250;
 /// only yields is still ready to run, and the system keeps it on a processor that another thread could use.
 const YIELDS: u32 = 10;
 
-/// How long it sleeps. Linux adds some 50 microseconds to so short a sleep.
-const NAP_MICROS: u64 = 20;
+/// How long it sleeps at first. Linux adds some 50 microseconds to so short a sleep.
+const FIRST_NAP_MICROS: u64 = 20;
+
+/// After this many naps it sleeps twice as long, and so on: a worker that has had nothing to do for long wakes less
+/// often. With more workers than peers or processors many would otherwise keep a processor busy with waking up.
+const NAPS_ALIKE: u32 = 8;
+
+/// How often the nap doubles at most. A dealer that waits in vain takes a thousand naps, some 130 milliseconds.
+const MOST_DOUBLINGS: u32 = 2;
 
 /// How many bytes are read between two looks at the clock.
 pub const LOOK: u64 = 1 << 20;
@@ -32,8 +39,9 @@ pub struct Board {
     start: Instant,
     files: usize,
     bytes: AtomicU64,
-    /// How many routes there were when they were last counted, and at what time in milliseconds.
+    /// How many routes there were when they were last counted.
     routes: AtomicU64,
+    /// Milliseconds from the start to that count, at least 1; 0 before the first one.
     counted: AtomicU64,
     /// Milliseconds from the start to the last line.
     told: AtomicU64,
@@ -125,6 +133,12 @@ impl Board {
     }
 }
 
+/// Returns how many microseconds a thread sleeps that has looked this many times in vain.
+fn nap_micros(looks: u32) -> u64 {
+    let doublings = (looks.saturating_sub(YIELDS) / NAPS_ALIKE).min(MOST_DOUBLINGS);
+    FIRST_NAP_MICROS << doublings
+}
+
 /// The gate of the program, at which threads that find nothing to do sleep. A board, if there is one, is notified of
 /// the number of routes, as often as it shows it, and counts, if there are any, are notified of units and faults.
 #[derive(Clone, Copy)]
@@ -147,7 +161,7 @@ impl Gate for Counter<'_> {
         if looks <= YIELDS {
             yield_now();
         } else {
-            sleep(&self.rt, Duration::from_micros(NAP_MICROS));
+            sleep(&self.rt, Duration::from_micros(nap_micros(looks)));
         }
     }
 
@@ -156,16 +170,18 @@ impl Gate for Counter<'_> {
             return false;
         };
         let counted = board.counted.load(Ordering::Relaxed);
-        board
-            .millis()
-            .is_some_and(|now| now >= counted.saturating_add(PAUSE_MILLIS))
+        // The first round is counted however short it was: the input may stall after it.
+        counted == 0
+            || board
+                .millis()
+                .is_some_and(|now| now >= counted.saturating_add(PAUSE_MILLIS))
     }
 
     fn counted(&self, routes: u64) {
         if let Some(board) = self.board {
             board.routes.store(routes, Ordering::Relaxed);
             if let Some(now) = board.millis() {
-                board.counted.store(now, Ordering::Relaxed);
+                board.counted.store(now.max(1), Ordering::Relaxed);
             }
         }
     }
