@@ -4,4 +4,5 @@ pub mod HeldPairs
 pub mod Stepping
 pub mod Taking
 pub mod SourceLaws
+pub mod Reached
 mod Examples

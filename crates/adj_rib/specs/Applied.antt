@@ -6,8 +6,6 @@ use Rattle.bgp_prefix.specs.Keys.{key_cmp}
 use Rattle.mrt_frame.specs.declared.fault.Fault.{Fault}
 use Rattle.bgp_update.specs.declared.route.Route.{Route}
 use Rattle.mrt_body.specs.declared.unit.Unit.{Unit as ReplayUnit}
-use Rattle.mrt_body.specs.declared.unit.Payload.{Payload}
-use Rattle.mrt_body.specs.declared.unit.Payload.TheVariants.{State, Message, Entry}
 use Rattle.mrt_body.specs.declared.unit.Place.{Place}
 use Rattle.mrt_body.specs.declared.unit.Damage.{Damage}
 use Rattle.mrt_body.specs.declared.meaning.Event.{Event}
@@ -117,12 +115,6 @@ refused k damage = record (followed k (Err damage.fault)) { faults = k.faults ++
 abbrev pub read_as : Kept → Place → Result Event Fault → Kept
 read_as k place (Ok e) = followed k (Ok e)
 read_as k place (Err fault) = refused k (record { place = place; fault = fault })
-
--- a message or a state change
-abbrev pub IsNoEntry : Payload → Type 0
-IsNoEntry (State from to) = Unit {0}
-IsNoEntry (Message bytes width add_path) = Unit {0}
-IsNoEntry (Entry key attrs) = ⊥
 
 -- after one more unit
 unfoldable pub taken : Kept → ReplayUnit → Kept

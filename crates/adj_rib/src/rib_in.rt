@@ -8,8 +8,8 @@ use crate::shared_route::SharedRoute;
 use crate::table::announce_route;
 use crate::update::apply_update;
 use bgp_prefix::{Memory, PrefixMap, RouteKey};
-use bgp_update::{AttrError, Update};
-use mrt_body::{Damage, Event, LentPayload, LentUnit, Place, lent_event};
+use bgp_update::{AttrError, PackedUpdate};
+use mrt_body::{Damage, LentPayload, LentUnit, PackedEvent, Place, packed_event};
 use std::alloc::Global;
 
 /// The state Established (RFC 4271, 8.2.2).
@@ -30,14 +30,10 @@ impl<M: PrefixMap<SharedRoute>> RibIn<M> {
     ghost use Rattle.mrt_body.specs.Events.{event_in};
     ghost use Rattle.mrt_body.specs.Lent.{lent_payload, lent_unit};
     ghost use Rattle.mrt_body.specs.declared.meaning.Event.TheVariants as events;
-    ghost use Rattle.mrt_body.specs.declared.unit.Payload.TheVariants as payloads;
-    ghost use Rattle.adj_rib.specs.Applied.{START, counted_if, followed, refused, IsNoEntry, read_as, taken};
+    ghost use Rattle.adj_rib.specs.Applied.{START, counted_if, followed, refused, read_as, taken};
     ghost use Rattle.adj_rib.specs.Keeping.{kept_in};
-    ghost use Rattle.std.specs.Option.{ForSome};
     ghost use Rattle.adj_rib.specs.RouteSets.{IsAheadOf};
-    ghost use Rattle.bgp_update.specs.Attributes.{route_in};
-    ghost use Rattle.bgp_update.specs.Packing.{IsWritable};
-    ghost use Rattle.bgp_update.specs.declared.width.Width.TheVariants.{Four};
+    ghost use Rattle.bgp_update.specs.PackedUpdates.{plain_update};
 
     /// Returns that of a peer without units, which is up.
     pub(crate) fn new(alloc: Global) -> RibIn<M>
@@ -74,10 +70,9 @@ impl<M: PrefixMap<SharedRoute>> RibIn<M> {
 
     /// Takes the steps of an UPDATE.
     #[tactic(auto, unfolding(crate::specs::Applied::followed, crate::specs::Applied::noted))]
-    fn take_update(&mut self, alloc: Global, update: Update) -> Result<(), Memory>
-        requires { IsWritable update.route.path }
+    fn take_update(&mut self, alloc: Global, update: PackedUpdate) -> Result<(), Memory>
         ensures { OnOk result (kept_in M.contents self.new
-            ≡ followed (kept_in M.contents self.old) (Ok (events.Change update))) }
+            ≡ followed (kept_in M.contents self.old) (Ok (events.Change (plain_update update)))) }
     {
         if !self.up {
             self.count_idle();
@@ -122,54 +117,53 @@ impl<M: PrefixMap<SharedRoute>> RibIn<M> {
         Ok(())
     }
 
-    /// Takes a RIB entry.
-    #[tactic(auto, unfolding(mrt_body::specs::Events::event_in))]
-    fn take_entry(
+    /// Takes a unit that wasn't read ahead.
+    #[tactic(auto, unfolding(crate::specs::Applied::followed, crate::specs::Applied::noted))]
+    fn read_and_take(
         &mut self,
         alloc: Global,
+        buffer: &mut Vec<u8>,
         place: Place,
-        key: RouteKey,
-        attrs: &[u8],
-        ahead: &ReadAhead,
+        payload: &LentPayload<'_>,
     ) -> Result<(), Memory>
-        requires { ForSome ahead.now.read (λ hashed. route_in Four attrs.now ≡ Ok hashed.route) }
         ensures { OnOk result (kept_in M.contents self.new
-            ≡ read_as (kept_in M.contents self.old) place (event_in (payloads.Entry key attrs.now))) }
+            ≡ read_as (kept_in M.contents self.old) place (event_in (lent_payload payload.now))) }
     {
-        if let Some(hashed) = &ahead.read {
-            return self.announce_entry(alloc, key, hashed);
-        }
-        let mut buffer = Vec::new(alloc);
-        match HashedRoute::read(alloc, &mut buffer, attrs) {
-            Ok(hashed) => self.announce_entry(alloc, key, &hashed),
+        match packed_event(alloc, buffer, payload) {
+            Ok(PackedEvent::State(old, new)) => {
+                self.change_state(old, new);
+                Ok(())
+            }
+            Ok(PackedEvent::Change(update)) => self.take_update(alloc, update),
+            Ok(PackedEvent::Rib(key, route)) => {
+                self.announce_entry(alloc, key, &HashedRoute::new(route))
+            }
+            Ok(PackedEvent::Other) => Ok(()),
             Err(AttrError::Bad(fault)) => self.list_damage(Damage { place, fault }),
             Err(AttrError::Memory) => Err(Memory),
         }
     }
 
-    /// Takes a message or a state change.
-    #[tactic(auto, unfolding(crate::specs::Applied::followed, crate::specs::Applied::noted))]
-    fn take_message(
+    /// Takes a unit, with what was read ahead of it.
+    #[tactic(auto, unfolding(mrt_body::specs::Events::event_in))]
+    fn take_payload(
         &mut self,
         alloc: Global,
+        buffer: &mut Vec<u8>,
         place: Place,
         payload: &LentPayload<'_>,
+        ahead: &ReadAhead,
     ) -> Result<(), Memory>
-        requires { IsNoEntry (lent_payload payload.now) }
+        requires { IsAheadOf (lent_payload payload.now) ahead.now }
         ensures { OnOk result (kept_in M.contents self.new
             ≡ read_as (kept_in M.contents self.old) place (event_in (lent_payload payload.now))) }
     {
-        match lent_event(alloc, payload) {
-            Ok(Event::State(old, new)) => {
-                self.change_state(old, new);
-                Ok(())
+        if let LentPayload::Entry { key, .. } = payload {
+            if let Some(hashed) = &ahead.read {
+                return self.announce_entry(alloc, *key, hashed);
             }
-            Ok(Event::Change(update)) => self.take_update(alloc, update),
-            Ok(Event::Other) => Ok(()),
-            Ok(Event::Rib(_, _)) => unreachable!(),
-            Err(AttrError::Bad(fault)) => self.list_damage(Damage { place, fault }),
-            Err(AttrError::Memory) => Err(Memory),
         }
+        self.read_and_take(alloc, buffer, place, payload)
     }
 
     /// Prefetches the slot where `take` will look.
@@ -188,10 +182,11 @@ impl<M: PrefixMap<SharedRoute>> RibIn<M> {
         }
     }
 
-    /// Takes the next unit.
+    /// Takes the next unit. What isn't read ahead is read by way of the buffer, whose contents are replaced.
     pub(crate) fn take(
         &mut self,
         alloc: Global,
+        buffer: &mut Vec<u8>,
         unit: &LentUnit<'_>,
         ahead: &ReadAhead,
     ) -> Result<(), Memory>
@@ -200,11 +195,6 @@ impl<M: PrefixMap<SharedRoute>> RibIn<M> {
             (kept_in M.contents self.new ≡ taken (kept_in M.contents self.old) (lent_unit unit.now)) }
     {
         self.churn.note_time(unit.time);
-        match &unit.payload {
-            LentPayload::Entry { key, attrs } => {
-                self.take_entry(alloc, unit.place, *key, attrs, ahead)
-            }
-            payload => self.take_message(alloc, unit.place, payload),
-        }
+        self.take_payload(alloc, buffer, unit.place, &unit.payload, ahead)
     }
 }

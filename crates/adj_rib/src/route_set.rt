@@ -4,12 +4,11 @@
 ghost use Rattle.std.specs.Prelude.{◌≡◌, ◌<◌, Some, IfOk, IfSome, IsTrue, OnOk, is_some, slice_get, true, vec_len};
 ghost use Rattle.bgp_update.specs.Answers.{Gives};
 ghost use Rattle.bgp_update.specs.Attributes.{route_in};
-ghost use Rattle.bgp_update.specs.Packing.{IsWritable};
 ghost use Rattle.bgp_update.specs.declared.width.Width.TheVariants.{Four};
 
 use crate::shared_route::SharedRoute;
 use bgp_prefix::Memory;
-use bgp_update::{AttrError, PackedRoute, Route, Width};
+use bgp_update::{AttrError, PackedRoute, Width};
 use std::alloc::Global;
 use std::mem;
 
@@ -63,14 +62,6 @@ impl HashedRoute {
             Ok(route) => Ok(HashedRoute::new(route)),
             Err(error) => Err(error),
         }
-    }
-
-    /// Packs a route.
-    pub(crate) fn pack(alloc: Global, route: &Route) -> Result<HashedRoute, Memory>
-        requires { IsWritable route.now.path }
-        ensures { IfOk result (λ hashed. hashed.route ≡ route.now) }
-    {
-        Ok(HashedRoute::new(PackedRoute::pack(alloc, route)?))
     }
 }
 

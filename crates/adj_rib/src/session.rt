@@ -58,13 +58,20 @@ impl<M: PrefixMap<SharedRoute>> Session<M> {
         ensures spent { self.new.spent ≡ is_err result }
         ensures stays_spent { IsTrue self.old.spent → IsErr result }
     {
-        self.take_ahead(alloc, &unit.lend(), &ReadAhead::nothing())
+        self.take_ahead(
+            alloc,
+            &mut Vec::new(alloc),
+            &unit.lend(),
+            &ReadAhead::nothing(),
+        )
     }
 
-    /// Takes the next unit, whose bytes are lent, as `take` does, with what was read ahead of it.
+    /// Takes the next unit, whose bytes are lent, as `take` does, with what was read ahead of it. What isn't read ahead
+    /// is read by way of a buffer, whose contents are replaced.
     pub fn take_ahead(
         &mut self,
         alloc: Global,
+        buffer: &mut Vec<u8>,
         unit: &LentUnit<'_>,
         ahead: &ReadAhead,
     ) -> Result<(), Memory>
@@ -77,7 +84,7 @@ impl<M: PrefixMap<SharedRoute>> Session<M> {
         if self.spent {
             return Err(Memory);
         }
-        match self.rib.take(alloc, unit, ahead) {
+        match self.rib.take(alloc, buffer, unit, ahead) {
             Ok(()) => Ok(()),
             Err(memory) => {
                 self.spent = true;

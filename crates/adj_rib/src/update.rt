@@ -1,10 +1,11 @@
 //! The changes of a table by an UPDATE.
 
-ghost use Rattle.std.specs.Prelude.{◌≡◌, ◌||◌, ◌++◌, map, not, OnOk};
+ghost use Rattle.std.specs.Prelude.{◌≡◌, ◌≢◌, ◌||◌, ◌++◌, [], Some, map, not, OnOk};
 ghost use Rattle.std.specs.List.{fold, filter};
 ghost use Rattle.bgp_prefix.specs.Keys.{among};
-ghost use Rattle.bgp_update.specs.Packing.{IsWritable};
-ghost use Rattle.adj_rib.specs.Steps.{announce, withdraw, withdrawals, announcements, reachings, update_steps};
+ghost use Rattle.bgp_update.specs.PackedUpdates.{plain_update};
+ghost use Rattle.bgp_update.specs.declared.route.Route.{Route};
+ghost use Rattle.adj_rib.specs.Steps.{announce, withdraw, announcements, reachings, update_steps};
 ghost use Rattle.adj_rib.specs.Applied.{applied};
 
 use crate::churn::Churn;
@@ -12,7 +13,7 @@ use crate::route_set::{HashedRoute, RouteSet};
 use crate::shared_route::SharedRoute;
 use crate::table::{announce_route, withdraw_key};
 use bgp_prefix::{KeySet, Memory, PrefixMap, RouteKey};
-use bgp_update::{Route, Update};
+use bgp_update::{PackedRoute, PackedUpdate};
 use std::alloc::Global;
 
 /// Withdraws the keys that are neither announced nor reached.
@@ -58,17 +59,35 @@ fn announce_keys<M: PrefixMap<SharedRoute>>(
     table: &mut M,
     churn: &mut Churn,
     keys: &[RouteKey],
-    route: &Route,
+    route: PackedRoute,
 ) -> Result<(), Memory>
-    requires { IsWritable route.now.path }
     ensures { OnOk result ((M.contents table.new, churn.new)
-        ≡ fold applied (M.contents table.old, churn.old) (map (λ key. announce key route.now) keys.now)) }
+        ≡ fold applied (M.contents table.old, churn.old) (map (λ key. announce key route) keys.now)) }
 {
     if keys.is_empty() {
         return Ok(());
     }
-    let slot = routes.slot_of(alloc, &HashedRoute::pack(alloc, route)?)?;
+    let slot = routes.slot_of(alloc, &HashedRoute::new(route))?;
     announce_all(alloc, table, churn, keys, routes.route_at(slot))
+}
+
+/// Announces each key that MP_REACH_NLRI has with their route, which is there if there are keys.
+#[tactic(auto, using(crate::proofs::Reached::reached_by))]
+fn announce_reached<M: PrefixMap<SharedRoute>>(
+    alloc: Global,
+    routes: &mut RouteSet,
+    table: &mut M,
+    churn: &mut Churn,
+    keys: &[RouteKey],
+    route: Option<PackedRoute>,
+) -> Result<(), Memory>
+    ensures { OnOk result ((by : Route) → (keys.now ≢ [] → route ≡ Some by) → (M.contents table.new, churn.new)
+        ≡ fold applied (M.contents table.old, churn.old) (map (λ key. announce key by) keys.now)) }
+{
+    match route {
+        Some(route) => announce_keys(alloc, routes, table, churn, keys, route),
+        None => Ok(()),
+    }
 }
 
 /// Withdraws what an UPDATE withdraws but neither announces nor reaches.
@@ -76,15 +95,17 @@ fn withdraw_update<M: PrefixMap<SharedRoute>>(
     alloc: Global,
     table: &mut M,
     churn: &mut Churn,
-    update: &Update,
+    withdrawn: &[RouteKey],
+    announced: &[RouteKey],
+    reached: &[RouteKey],
 ) -> Result<(), Memory>
     ensures { OnOk result ((M.contents table.new, churn.new)
-        ≡ fold applied (M.contents table.old, churn.old) (withdrawals update.now)) }
+        ≡ fold applied (M.contents table.old, churn.old)
+        (map withdraw (filter (λ key. not (among announced.now key || among reached.now key)) withdrawn.now))) }
 {
-    let withdrawn = update.withdrawn.as_slice();
     if !withdrawn.is_empty() {
-        let announced = KeySet::from_slice(alloc, update.announced.as_slice())?;
-        let reached = KeySet::from_slice(alloc, update.reached.as_slice())?;
+        let announced = KeySet::from_slice(alloc, announced)?;
+        let reached = KeySet::from_slice(alloc, reached)?;
         withdraw_others(table, churn, withdrawn, &announced, &reached);
     }
     Ok(())
@@ -96,23 +117,24 @@ fn announce_update<M: PrefixMap<SharedRoute>>(
     routes: &mut RouteSet,
     table: &mut M,
     churn: &mut Churn,
-    update: Update,
+    update: PackedUpdate,
 ) -> Result<(), Memory>
-    requires { IsWritable update.route.path }
     ensures { OnOk result ((M.contents table.new, churn.new)
-        ≡ fold applied (M.contents table.old, churn.old) (announcements update ++ reachings update)) }
+        ≡ fold applied (M.contents table.old, churn.old)
+        (announcements (plain_update update) ++ reachings (plain_update update))) }
 {
-    let Update {
+    let PackedUpdate {
         withdrawn: _,
         announced,
         reached,
         route,
-        reached_hop,
+        reached_hop: _,
+        reached_route,
     } = update;
     let (announced, reached) = (announced.as_slice(), reached.as_slice());
-    announce_keys(alloc, routes, table, churn, announced, &route)?;
-    let route = route.with_next_hop(reached_hop);
-    announce_keys(alloc, routes, table, churn, reached, &route)
+    announce_keys(alloc, routes, table, churn, announced, route)?;
+    announce_reached(alloc, routes, table, churn, reached, reached_route)?;
+    Ok(())
 }
 
 /// Takes the steps of an UPDATE.
@@ -121,12 +143,19 @@ pub(crate) fn apply_update<M: PrefixMap<SharedRoute>>(
     routes: &mut RouteSet,
     table: &mut M,
     churn: &mut Churn,
-    update: Update,
+    update: PackedUpdate,
 ) -> Result<(), Memory>
-    requires { IsWritable update.route.path }
     ensures { OnOk result ((M.contents table.new, churn.new)
-        ≡ fold applied (M.contents table.old, churn.old) (update_steps update)) }
+        ≡ fold applied (M.contents table.old, churn.old) (update_steps (plain_update update))) }
 {
-    withdraw_update(alloc, table, churn, &update)?;
-    announce_update(alloc, routes, table, churn, update)
+    withdraw_update(
+        alloc,
+        table,
+        churn,
+        update.withdrawn.as_slice(),
+        update.announced.as_slice(),
+        update.reached.as_slice(),
+    )?;
+    announce_update(alloc, routes, table, churn, update)?;
+    Ok(())
 }

@@ -158,7 +158,7 @@ one_of_two : (b : Bool) (x : List ℕ) (o : Option (List ℕ)) → IsBytes x →
 one_of_two true x o h k = h
 one_of_two false x o h k = k
 
-values_fine : (t : AttributeType) (attributes : List WrittenAttribute) → IsBytes (attributes_bytes attributes) → IfSome (value_of t attributes) IsBytes
+pub values_fine : (t : AttributeType) (attributes : List WrittenAttribute) → IsBytes (attributes_bytes attributes) → IfSome (value_of t attributes) IsBytes
 values_fine t [] fine = tt
 values_fine t (a ∷ attributes) fine =
     let both : IsBytes (attribute_bytes a ++ attributes_bytes attributes) = subst IsBytes (flat_map-cons attribute_bytes a attributes) fine in

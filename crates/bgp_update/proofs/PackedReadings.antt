@@ -1,5 +1,5 @@
 -- Attributes are packed as they stand, where their numbers have four bytes.
-use Rattle.std.proofs.Common.{◌≡◌, ℕ, Bool, List, ◌++◌, Option, Some, None, Ok, refl, sym, ap, subst, ◌∙◌, append_assoc}
+use Rattle.std.proofs.Common.{◌≡◌, ℕ, Bool, List, ◌++◌, Option, Some, None, refl, sym, ap, subst, ◌∙◌, append_assoc}
 use Rattle.std.specs.Prelude.{IfSome, is_some}
 use Rattle.std.specs.Option.{option_and_then}
 use Rattle.mrt_frame.proofs.FieldLaws.{IsBytes}
@@ -7,29 +7,36 @@ use Rattle.bgp_update.specs.declared.attribute_type.AttributeType.{AttributeType
 use Rattle.bgp_update.specs.declared.attribute_type.AttributeType.TheVariants.{AsPath}
 use Rattle.bgp_update.specs.declared.width.Width.{Width}
 use Rattle.bgp_update.specs.declared.width.Width.TheVariants.{Four}
-use Rattle.bgp_update.specs.declared.carrier.Carrier.TheVariants.{RibEntry}
+use Rattle.bgp_update.specs.declared.carrier.Carrier.{Carrier}
 use Rattle.bgp_update.specs.declared.values.FirstValues.{FirstValues}
 use Rattle.bgp_update.specs.declared.route.Route.{Route}
 use Rattle.bgp_update.specs.Paths.{PathSegment}
 use Rattle.bgp_update.specs.Segments.{path_of_value, well_formed}
-use Rattle.bgp_update.specs.Attributes.{value_of, IsFormed, route_from, route_in}
+use Rattle.bgp_update.specs.Attributes.{value_of, IsFormed, route_from}
 use Rattle.bgp_update.specs.Values.{kept_value, KeepsFirst}
-use Rattle.bgp_update.specs.Packing.{IsSpelled, spelled_path, IsWritable, HaveWidths, CanPack, without_path, fields_bytes, path_part, bytes_or_none, route_bytes, unpacked, ArePacked}
+use Rattle.bgp_update.specs.Packing.{IsSpelled, spelled_path, IsWritable, HaveWidths, without_path, fields_bytes, path_part, bytes_or_none, route_bytes}
 use Rattle.bgp_update.proofs.SegmentLaws.{path_in-bytes}
 use Rattle.bgp_update.proofs.AttributeLaws.{attributes_in-is}
-use Rattle.bgp_update.proofs.FromFirstValues.{route_of_first_values}
-use Rattle.bgp_update.proofs.Packings.{route_bytes-fields, packed-bytes, unpacked-bytes}
+use Rattle.bgp_update.proofs.FromFirstValues.{route_from_same}
+use Rattle.bgp_update.proofs.Packings.{route_bytes-fields}
 use Rattle.bgp_update.proofs.PackedPaths.{spelled-bytes}
-use Rattle.bgp_update.proofs.Packable.{route_writable}
+use Rattle.bgp_update.proofs.Packable.{said_writable, values_fine}
 
-spelled_if : (o : Option (List ℕ)) → IfSome o (IsFormed RibEntry Four AsPath) → IfSome o IsSpelled
-spelled_if None h = tt
-spelled_if (Some value) h = subst IsSpelled (sym h.2) (spelled-bytes h.0 h.1)
+spelled_if : (carrier : Carrier) (o : Option (List ℕ)) → IfSome o (IsFormed carrier Four AsPath) → IfSome o IsSpelled
+spelled_if carrier None h = tt
+spelled_if carrier (Some value) h = subst IsSpelled (sym h.2) (spelled-bytes h.0 h.1)
 
-pub keeps_spelled : (bytes : List ℕ) (first : FirstValues) → IsBytes bytes → KeepsFirst RibEntry Four bytes first → IfSome (kept_value first AsPath) IsSpelled
-keeps_spelled bytes first fine keeps =
-    let law = attributes_in-is RibEntry Four bytes keeps.0 fine keeps.1 in
-    subst (λ (o : Option (List ℕ)). IfSome o IsSpelled) (sym (keeps.2 AsPath)) (spelled_if (value_of AsPath keeps.0) (law.1.formed AsPath))
+pub keeps_spelled : (carrier : Carrier) (width : Width) (bytes : List ℕ) (first : FirstValues) → IsBytes bytes → KeepsFirst carrier width bytes first → width ≡ Four → IfSome (kept_value first AsPath) IsSpelled
+keeps_spelled carrier width bytes first fine keeps e =
+    let four : KeepsFirst carrier Four bytes first = subst (λ (w : Width). KeepsFirst carrier w bytes first) e keeps in
+    let law = attributes_in-is carrier Four bytes four.0 fine four.1 in
+    subst (λ (o : Option (List ℕ)). IfSome o IsSpelled) (sym (four.2 AsPath)) (spelled_if carrier (value_of AsPath four.0) (law.1.formed AsPath))
+
+pub keeps_writable : (carrier : Carrier) (width : Width) (bytes : List ℕ) (first : FirstValues) → IsBytes bytes → KeepsFirst carrier width bytes first → IsWritable (route_from width (kept_value first)).path
+keeps_writable carrier width bytes first fine keeps =
+    let law = attributes_in-is carrier width bytes keeps.0 fine keeps.1 in
+    let written : IsWritable (route_from width (λ t. value_of t keeps.0)).path = said_writable width (λ t. value_of t keeps.0) (λ t. values_fine t keeps.0 (subst IsBytes law.0 fine)) in
+    subst (λ (r : Route). IsWritable r.path) (sym (route_from_same width (kept_value first) (λ t. value_of t keeps.0) keeps.2)) written
 
 spelled_is : (value : List ℕ) → IsSpelled value → path_of_value 4 value ≡ Some (spelled_path value)
 spelled_is value h = ap (λ (v : List ℕ). path_of_value 4 v) h.written ∙ ap well_formed (path_in-bytes Four (spelled_path value) h.fits)
@@ -60,14 +67,3 @@ four_route value_at fields o b old mid new h fields_are o-is b-is first second =
 
 pub widths_without : (fields r : Route) → fields ≡ without_path r → HaveWidths fields → HaveWidths r
 widths_without fields r e h = let w = subst HaveWidths e h in record { next_hop = w.next_hop; med = w.med; local_pref = w.local_pref; aggregator = w.aggregator }
-
--- what was written is what was read
-pub reading_is_packed : (width : Width) (bytes new : List ℕ) (first : FirstValues) → IsBytes bytes → KeepsFirst RibEntry width bytes first → HaveWidths (route_from width (kept_value first)) → new ≡ route_bytes (route_from width (kept_value first)) → ArePacked (route_in width bytes) new
-reading_is_packed width bytes new first fine keeps widths e =
-    let r : Route = route_from width (kept_value first) in
-    let said : route_in width bytes ≡ Ok r = route_of_first_values width bytes first r keeps refl in
-    let packs : CanPack r = record { fields = widths; path = route_writable width bytes r fine said } in
-    record { packed = packed-bytes r new packs e; read_so = said ∙ ap (λ (x : Route). Ok x) (sym (ap unpacked e ∙ unpacked-bytes r packs)) }
-
-pub said_path_writable : (width : Width) (bytes : List ℕ) (first : FirstValues) → IsBytes bytes → KeepsFirst RibEntry width bytes first → IsWritable (route_from width (kept_value first)).path
-said_path_writable width bytes first fine keeps = route_writable width bytes (route_from width (kept_value first)) fine (route_of_first_values width bytes first (route_from width (kept_value first)) keeps refl)

@@ -175,8 +175,3 @@ without_path r = record r { path = None }
 abbrev pub bytes_or_none : Option (List ℕ) → List ℕ
 bytes_or_none None = []
 bytes_or_none (Some bytes) = bytes
-
--- these bytes are those of the route that was read
-pub record ArePacked (read : Result Route Fault) (bytes : List ℕ) : Type 0 where
-  pub packed : IsPacked bytes
-  pub read_so : read ≡ Ok (unpacked bytes)

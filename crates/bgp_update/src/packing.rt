@@ -1,10 +1,10 @@
 //! Attributes, packed as they are read.
 
-ghost use Rattle.std.specs.Prelude.{◌≡◌, ◌++◌, IfErr, IfSome, OnOk};
-ghost use Rattle.bgp_update.specs.Answers.{Fails, Gives};
+ghost use Rattle.std.specs.Prelude.{◌≡◌, ◌++◌, IfOk, IfSome, OnOk};
+ghost use Rattle.bgp_update.specs.Answers.{Gives};
 ghost use Rattle.bgp_update.specs.Attributes as attributes;
 ghost use Rattle.bgp_update.specs.Attributes.{route_in};
-ghost use Rattle.bgp_update.specs.Packing.{IsSpelled, IsWritable, HaveWidths, ArePacked, without_path, route_bytes};
+ghost use Rattle.bgp_update.specs.Packing.{IsSpelled, IsWritable, HaveWidths, without_path, route_bytes};
 ghost use Rattle.bgp_update.specs.Values.{kept_value};
 ghost use Rattle.bgp_update.specs.declared.attribute_type.AttributeType.TheVariants.{AsPath};
 ghost use Rattle.bgp_update.specs.declared.width.Width.TheVariants.{Four};
@@ -83,28 +83,27 @@ fn push_attrs(
     }
 }
 
-/// Replaces the contents of a buffer by the route that the attributes of a RIB entry encode. With four-octet AS numbers
-/// it allocates nothing except to enlarge the buffer.
-#[tactic(auto, unfolding(crate::specs::Attributes::route_in))]
-fn pack_attrs(
+/// Packs the route of these values by way of a buffer, whose contents are replaced.
+pub(crate) fn pack_values(
     alloc: Global,
     buffer: &mut Vec<u8>,
-    bytes: &[u8],
+    first: &FirstValues<'_>,
     width: Width,
-) -> Result<(), AttrError>
-    ensures ok { OnOk result (ArePacked (route_in width bytes.now) buffer.new.items) }
-    ensures err { IfErr result (λ e. Fails e (route_in width bytes.now)) }
+) -> Result<PackedRoute, Memory>
+    requires four { width ≡ Four → IfSome (kept_value first.now AsPath) IsSpelled }
+    requires writable { IsWritable (attributes.route_from width (kept_value first.now)).path }
+    ensures { IfOk result (λ route. route ≡ attributes.route_from width (kept_value first.now)) }
 {
     buffer.clear();
-    let mut first = FirstValues::new();
-    keep_values(&mut first, bytes, Carrier::RibEntry, width)?;
-    push_attrs(alloc, buffer, &first, width)?;
-    Ok(())
+    push_attrs(alloc, buffer, first, width)?;
+    PackedRoute::of_bytes(alloc, buffer.as_slice())
 }
 
 impl PackedRoute {
     /// Reads the route that the attributes of a RIB entry encode (RFC 6396, 4.3.4), like `read_attrs`, by way of a
-    /// buffer, whose contents are replaced. `Bad` has the first fault from left to right.
+    /// buffer, whose contents are replaced. With four-octet AS numbers it allocates nothing except to enlarge the buffer
+    /// and for a route of more bytes than it stores inline. `Bad` has the first fault from left to right.
+    #[tactic(auto, unfolding(crate::specs::Attributes::route_in))]
     pub fn read(
         alloc: Global,
         buffer: &mut Vec<u8>,
@@ -113,7 +112,9 @@ impl PackedRoute {
     ) -> Result<PackedRoute, AttrError>
         ensures { Gives (λ route. route) result (route_in width bytes.now) }
     {
-        pack_attrs(alloc, buffer, bytes, width)?;
-        Ok(PackedRoute::of_bytes(alloc, buffer.as_slice())?)
+        let mut first = FirstValues::new();
+        keep_values(&mut first, bytes, Carrier::RibEntry, width)?;
+        let route = pack_values(alloc, buffer, &first, width)?;
+        Ok(route)
     }
 }

@@ -1,13 +1,17 @@
 //! UPDATE messages and the attributes of RIB entries.
 
-ghost use Rattle.std.specs.Prelude.{◌≡◌, Ok, IfOk};
+ghost use Rattle.std.specs.Prelude.{◌≡◌, Ok, None, IfOk, IfErr, IfSome, OnOk, length};
 ghost use Rattle.mrt_frame.specs.Fields.{Reads};
-ghost use Rattle.bgp_update.specs.Answers.{Gives};
+ghost use Rattle.bgp_update.specs.Answers.{Fails, Gives};
+ghost use Rattle.bgp_update.specs.Attributes as attributes;
 ghost use Rattle.bgp_update.specs.Attributes.{ReadsAsRoute, route_in};
 ghost use Rattle.bgp_update.specs.Updates as updates;
 ghost use Rattle.bgp_update.specs.Updates.{ReadsAsUpdate, said_update, update_in};
-ghost use Rattle.bgp_update.specs.Packing.{IsWritable};
-ghost use Rattle.bgp_update.specs.Values.{kept_value};
+ghost use Rattle.bgp_update.specs.Packing.{IsSpelled, IsWritable};
+ghost use Rattle.bgp_update.specs.Values.{kept_value, value_count};
+ghost use Rattle.bgp_update.specs.declared.attribute_type.AttributeType.{AttributeType};
+ghost use Rattle.bgp_update.specs.declared.attribute_type.AttributeType.TheVariants.{AsPath};
+ghost use Rattle.bgp_update.specs.declared.width.Width.TheVariants.{Four};
 
 use crate::attr_error::AttrError;
 use crate::attribute_type::AttributeType;
@@ -77,7 +81,36 @@ fn update_from(
     })
 }
 
+/// Reads the keys of an UPDATE's own fields, those withdrawn and those announced, and keeps the values of its
+/// attributes where none are kept yet.
 #[tactic(auto, unfolding(crate::specs::Updates::update_in))]
+pub(crate) fn read_fields<'a>(
+    alloc: Global,
+    body: &'a [u8],
+    width: Width,
+    add_path: bool,
+    first: &mut FirstValues<'a>,
+) -> Result<(Vec<RouteKey>, Vec<RouteKey>), AttrError>
+    requires whole { length first.old.values ≡ value_count }
+    requires none { (t : AttributeType) → kept_value first.old t ≡ None }
+    ensures said { IfOk result (λ keys.
+        said_update width add_path keys.0.items (kept_value first.new) keys.1.items ≡ update_in width add_path body.now) }
+    ensures fault { IfErr result (λ e. Fails e (update_in width add_path body.now)) }
+    ensures spelled { OnOk result (width ≡ Four → IfSome (kept_value first.new AsPath) IsSpelled) }
+    ensures writable { OnOk result (IsWritable (attributes.route_from width (kept_value first.new)).path) }
+{
+    let fields = fields_in(body)?;
+    let withdrawn = read_keys(alloc, fields.withdrawn, add_path)?;
+    keep_values(
+        first,
+        fields.attributes,
+        Carrier::Message { add_path },
+        width,
+    )?;
+    let announced = read_keys(alloc, fields.announced, add_path)?;
+    Ok((withdrawn, announced))
+}
+
 fn whole_update(
     alloc: Global,
     body: &[u8],
@@ -86,16 +119,8 @@ fn whole_update(
 ) -> Result<Update, AttrError>
     ensures { Gives (λ update. update) result (update_in width add_path body.now) }
 {
-    let fields = fields_in(body)?;
-    let withdrawn = read_keys(alloc, fields.withdrawn, add_path)?;
     let mut first = FirstValues::new();
-    keep_values(
-        &mut first,
-        fields.attributes,
-        Carrier::Message { add_path },
-        width,
-    )?;
-    let announced = read_keys(alloc, fields.announced, add_path)?;
+    let (withdrawn, announced) = read_fields(alloc, body, width, add_path, &mut first)?;
     update_from(alloc, withdrawn, &first, announced, width, add_path)
 }
 

@@ -1,6 +1,6 @@
 -- What the dealer did, unit by unit.
 use Rattle.std.proofs.Common.{◌≡◌, ℕ, ◌+◌, ◌-◌, ◌^◌, ◌≤◌, ◌<◌, ◌||◌, true, false, if◌then◌else◌, List, [], ◌∷◌, ◌++◌, length, map, take, drop, slice_index_or, Option, Some, None, Ok, Err, refl, sym, ap, ◌∙◌, subst, append_assoc, arith, length-append}
-use Rattle.std.specs.Prelude.{option_to_list, is_some, min}
+use Rattle.std.specs.Prelude.{option_to_list, min}
 use Rattle.std.specs.List.{list_any, filter_map, AllByRecursion}
 use Rattle.std.proofs.lemmas.List.{append-nil, map-append}
 use Rattle.std.proofs.lemmas.List.Elements.{filter_map-append}
@@ -56,11 +56,6 @@ pub none_kept : (kept : Option ReplayUnit) (given : List Found) (listed : List D
 none_kept None given listed e = refl
 none_kept (Some k) given [] e = absurd (cc)
 none_kept (Some k) given (d ∷ listed) e = absurd (cc)
-
--- nothing is kept where there is no unit
-pub kept_is_none : (kept : Option ReplayUnit) → is_some kept ≡ false → kept ≡ None
-kept_is_none None e = refl
-kept_is_none (Some k) e = absurd (cc)
 
 -- ---- numbers
 
@@ -120,13 +115,19 @@ numbered_stay keys more (u ∷ units) h =
 -- ---- the dealer's steps
 
 module _ {D : Type 0} where
-  pub Next-kept : (old new : Dealer D) (u u' : UnitsState) (k k' : Known) (unit : ReplayUnit) → old.kept ≡ Some unit → Asks old new → new.refused.items ≡ old.refused.items → TakesUnits u k u' k' [] → Next old new u k u' k' (Some unit)
-  Next-kept old new u u' k k' unit e asks same takes =
+  -- the dealer without its kept unit
+  abbrev pub emptied : Dealer D → Dealer D
+  emptied d = record { dealing = d.dealing; peers = d.peers; kept = None; refused = d.refused; dealt = d.dealt; small = λ x e. absurd (cc) }
+
+  -- the unit that was kept and taken out is next
+  pub Next-kept : (old asked : Dealer D) (u u' : UnitsState) (k k' : Known) (unit : ReplayUnit) → old.kept ≡ Some unit → asked.dealing ≡ old.dealing → asked.peers ≡ old.peers → asked.dealt ≡ old.dealt → asked.refused.items ≡ old.refused.items
+      → TakesUnits u k u' k' [] → Next old (emptied asked) u k u' k' (Some unit)
+  Next-kept old asked u u' k k' unit e dealing peers dealt same takes =
       record {
         given = [];
         listed = [];
         takes = takes;
-        asks = asks;
+        asks = record { dealing = dealing; peers = peers; kept = refl; dealt = dealt };
         order = ap (λ o. to_deal o []) e;
         refused = same ∙ sym (append-nil old.refused.items);
         ended = λ clash. absurd (cc);

@@ -1,4 +1,4 @@
-ghost use Rattle.std.specs.Prelude.{◌≡◌, ◌<◌, true, false, [], ◌∷◌, OnOk};
+ghost use Rattle.std.specs.Prelude.{◌≡◌, ◌+◌, ◌-◌, ◌^◌, ◌<◌, min, true, false, [], ◌∷◌, OnOk};
 ghost use Rattle.mrt_body.specs.Lent.{lent_unit};
 ghost use Rattle.mrt_body.specs.Units.{IsSmallUnit};
 
@@ -20,6 +20,7 @@ const MOST_ROOM: usize = 64;
 #[derive(Drop)]
 pub struct Feed {
     pub producer: UnitProducer,
+    /// The number of units dealt to the lane, in all rounds. Saturates at `u64::MAX`.
     pub dealt: u64,
 }
 
@@ -32,6 +33,7 @@ impl Feed {
     /// over because a worker failed, it stops looking.
     fn look_again<G: Gate>(&mut self, gate: &G, looks: u32, over: &AtomicBool) -> bool
         ensures looked { Pushed self.old self.new [] }
+        ensures counted { self.new.dealt ≡ self.old.dealt }
         ensures room { result ≡ true → 0 < known_free self.new.producer }
     {
         let enough = (self.producer.capacity() / 8).min(MOST_ROOM);
@@ -51,6 +53,7 @@ impl Feed {
     /// `MOST_LOOKS`.
     pub fn has_room<G: Gate>(&mut self, gate: &G, looks: u32, over: &AtomicBool) -> bool
         ensures looked { Pushed self.old self.new [] }
+        ensures counted { self.new.dealt ≡ self.old.dealt }
         ensures room { result ≡ true → 0 < known_free self.new.producer }
         ensures full { result ≡ false → known_free self.old.producer ≡ 0 }
     {
@@ -71,8 +74,9 @@ impl Feed {
     ) -> Result<(), Memory>
         requires small { IsSmallUnit (lent_unit unit.now) }
         requires room { 0 < known_free self.old.producer }
-        ensures { OnOk result
+        ensures pushed { OnOk result
             (Pushed self.old self.new (record { number = number; unit = lent_unit unit.now } ∷ [])) }
+        ensures counted { OnOk result (self.new.dealt ≡ min (self.old.dealt + 1) (2 ^ 64 - 1)) }
     {
         self.producer.push(alloc, number, unit)?;
         gate.dealt(lane, self.dealt);

@@ -26,6 +26,8 @@ pub struct Seats<M: PrefixMap<SharedRoute>> {
     is_indexed: bool,
     /// The last value that prefetching read. It has no meaning.
     prefetched: usize,
+    /// By way of which the sessions read what isn't read ahead. Its contents have no meaning.
+    buffer: Vec<u8>,
     ghost indexed: { IsTrue is_indexed → AreIndexed positions.items (map (λ seat. seat.number) seats.items) },
 }
 
@@ -72,6 +74,7 @@ fn remember(positions: &mut Vec<Option<usize>>, number: usize, at: usize) -> Res
 /// Passes the unit to the session at that position.
 fn take_at<M: PrefixMap<SharedRoute>>(
     alloc: Global,
+    buffer: &mut Vec<u8>,
     seats: &mut [Seated<M>],
     at: usize,
     unit: &LentUnit<'_>,
@@ -82,7 +85,7 @@ fn take_at<M: PrefixMap<SharedRoute>>(
     ensures taken { OnOk result (TakenAt (map seat_of seats.old) (map seat_of seats.new) at (lent_unit unit.now)) }
     ensures numbers { map (λ seat. seat.number) seats.new ≡ map (λ seat. seat.number) seats.old }
 {
-    seats[at].session.take_ahead(alloc, unit, ahead)
+    seats[at].session.take_ahead(alloc, buffer, unit, ahead)
 }
 
 impl<M: PrefixMap<SharedRoute> + Drop> Seats<M> {
@@ -203,6 +206,7 @@ impl<M: PrefixMap<SharedRoute> + Drop> Sessions for Seats<M> {
             positions: Vec::new(alloc),
             is_indexed: true,
             prefetched: 0,
+            buffer: Vec::new(alloc),
         }
     }
 
@@ -217,6 +221,7 @@ impl<M: PrefixMap<SharedRoute> + Drop> Sessions for Seats<M> {
         ahead: &ReadAhead,
     ) -> Result<(), Memory> {
         let at = self.position_for(alloc, item.number, &item.unit.peer)?;
-        take_at(alloc, &mut self.seats, at, &item.unit, ahead)
+        let buffer = &mut self.buffer;
+        take_at(alloc, buffer, &mut self.seats, at, &item.unit, ahead)
     }
 }

@@ -41,7 +41,7 @@ pub struct LentItem<'a> {
 }
 
 /// Units that were dealt to one lane, in order. Their bytes are in one block of memory, so a list takes two
-/// allocations, however many units it has.
+/// allocations, and one more each time its bytes outgrow their block.
 #[derive(Drop)]
 pub struct UnitList {
     listed: Vec<ListedUnit>,

@@ -1,4 +1,5 @@
 pub mod Events
+pub mod PackedEvents
 pub mod Many
 pub mod Indexes
 pub mod RibRecords

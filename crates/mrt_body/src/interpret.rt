@@ -13,7 +13,7 @@ use bgp_update::{AttrError, Width, read_attrs, read_update};
 use std::alloc::Global;
 
 /// The type of an UPDATE message.
-const UPDATE: u8 = 2;
+pub(crate) const UPDATE: u8 = 2;
 
 /// Returns the event of a message.
 #[tactic(auto, unfolding(crate::specs::Events::message_event_in))]
@@ -56,9 +56,8 @@ pub fn event(alloc: Global, payload: &Payload) -> Result<Event, AttrError>
     lent_event(alloc, &payload.lend())
 }
 
-/// Returns the event of a payload whose bytes are lent, as `event` does.
 #[tactic(auto, unfolding(crate::specs::Events::event_in))]
-pub fn lent_event(alloc: Global, payload: &LentPayload<'_>) -> Result<Event, AttrError>
+fn lent_event(alloc: Global, payload: &LentPayload<'_>) -> Result<Event, AttrError>
     ensures found { IfOk result (IsEvent (lent_payload payload.now)) }
     ensures only { (e : Event) → IsEvent (lent_payload payload.now) e → Gives (λ e. e) result (Ok e) }
     ensures exact { Gives (λ e. e) result (event_in (lent_payload payload.now)) }

@@ -11,8 +11,7 @@ use std::marker::Model;
 const IN_PLACE: usize = 112;
 
 /// The bytes of a message, or of the attributes of a RIB entry, which contracts see as their list. Up to 112 of
-/// them are stored in the value itself, so few units that pass between threads carry an allocation that another
-/// thread frees.
+/// them are stored in the value itself, so few units need an allocation of their own.
 #[derive(Debug, Drop)]
 pub struct PayloadBytes {
     bytes: SmallVec<u8, IN_PLACE>,

@@ -14,6 +14,14 @@ fn expect_reached(rt: &impl Abort, update: &Update, hop: NextHop) {
     assert!(rt; update.withdrawn.as_slice().is_empty() && update.announced.as_slice().is_empty());
 }
 
+/// With packed routes, 10.0.0.0/8 has one with this hop, and the UPDATE's own route has no hop.
+fn expect_reached_packed(rt: &impl Abort, update: PackedUpdate, hop: NextHop) {
+    expect_keys(rt, update.reached.as_slice(), &[(0x0A000000, 8, 0)]);
+    assert!(rt; update.reached_hop == Some(hop) && update.route.next_hop().is_none());
+    let route = update.reached_route.expect(rt, "a route");
+    assert!(rt; route.next_hop() == Some(hop));
+}
+
 #[test]
 fn attribute_14_reaches_keys_by_each_form_of_next_hop(rt: HostRuntime) {
     let addr = 0x20010DB8000000000000000000000009;
@@ -25,6 +33,8 @@ fn attribute_14_reaches_keys_by_each_form_of_next_hop(rt: HostRuntime) {
     ] {
         let update = reading_of(&rt, rt.alloc(), text, Width::Four, false);
         expect_reached(&rt, &update, hop);
+        let packed = packed_reading_of(&rt, rt.alloc(), text, Width::Four);
+        expect_reached_packed(&rt, packed, hop);
     }
 }
 

@@ -4,6 +4,7 @@ use Rattle.std.proofs.lemmas.Result.{err_from_is_err_and}
 use Rattle.bgp_update.specs.Attributes.{attributes_in}
 use Rattle.bgp_update.specs.Values.{as_written}
 use Rattle.bgp_update.proofs.AttributeLoop.{attribute_at_shorter, starts, goes_on, fails, refuses, ends}
+use Rattle.bgp_update.proofs.PackedReadings.{keeps_spelled, keeps_writable}
 use Rattle.bgp_update.proofs.values.keep_values.Goals as goal
 
 pub loop-rest-init : goal.loop-rest-init
@@ -39,3 +40,13 @@ pub returns-clause-values : goal.returns-clause-values
 returns-clause-values c =
     let none : length c.loop-rest.rest.now ≡ 0 = grind (arith, nat_tests) in
     ends c.args.carrier c.args.width c.loop-rest.first c.args.bytes.now c.loop-rest.rest.now none c.loop-rest.invariant.reads
+
+pub returns-clause-spelled : goal.returns-clause-spelled
+returns-clause-spelled c =
+    let none : length c.loop-rest.rest.now ≡ 0 = grind (arith, nat_tests) in
+    keeps_spelled c.args.carrier c.args.width c.args.bytes.now c.loop-rest.first (λ i. omega (arith, c.type_inv.bytes i)) (ends c.args.carrier c.args.width c.loop-rest.first c.args.bytes.now c.loop-rest.rest.now none c.loop-rest.invariant.reads)
+
+pub returns-clause-writable : goal.returns-clause-writable
+returns-clause-writable c =
+    let none : length c.loop-rest.rest.now ≡ 0 = grind (arith, nat_tests) in
+    keeps_writable c.args.carrier c.args.width c.args.bytes.now c.loop-rest.first (λ i. omega (arith, c.type_inv.bytes i)) (ends c.args.carrier c.args.width c.loop-rest.first c.args.bytes.now c.loop-rest.rest.now none c.loop-rest.invariant.reads)

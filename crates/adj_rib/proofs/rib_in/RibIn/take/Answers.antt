@@ -5,8 +5,5 @@ use Rattle.adj_rib.specs.Keeping.{kept_in}
 use Rattle.adj_rib.proofs.Taking.{taken_as}
 use Rattle.adj_rib.proofs.rib_in.RibIn.take.Goals as goal
 
-pub returns-in-Entry : goal.returns-in-Entry
-returns-in-Entry g c = rw (← taken_as (kept_in g.M.PrefixMap.contents c.args.self.now) (lent_unit c.args.unit.now), ap (λ p. event_in (lent_payload p)) c.in-Entry.is, ← c.note_time.ensures) c.take_entry.ensures
-
-pub returns-in_default : goal.returns-in_default
-returns-in_default g c = rw (← taken_as (kept_in g.M.PrefixMap.contents c.args.self.now) (lent_unit c.args.unit.now), ← c.note_time.ensures) c.take_message.ensures
+pub returns : goal.returns
+returns g c = rw (← taken_as (kept_in g.M.PrefixMap.contents c.args.self.now) (lent_unit c.args.unit.now), ← c.note_time.ensures) c.take_payload.ensures

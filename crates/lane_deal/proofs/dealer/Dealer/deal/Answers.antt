@@ -1,8 +1,7 @@
 use Rattle.std.proofs.Common.{◌≡◌, ℕ, [], ◌∷◌, length, ◌∙◌, refl, sym, ap, arith}
 use Rattle.std.proofs.lemmas.Result.{err_from_is_err_and}
 use Rattle.mrt_body.specs.Lent.{lent_unit}
-use Rattle.lane_deal.specs.declared.dealer.Dealer.{Dealer}
-use Rattle.lane_deal.proofs.DealerLaws.{Next-lent, Next-kept, Next-ended, NextInVain-asked, SoFar-none, SoFar-more, Deals-blocked, Deals-end, Deals-failed}
+use Rattle.lane_deal.proofs.DealerLaws.{emptied, Next-lent, Next-kept, Next-ended, NextInVain-asked, SoFar-none, SoFar-more, Deals-blocked, Deals-end, Deals-failed}
 use Rattle.lane_deal.proofs.Asking.{stops_later}
 use Rattle.lane_deal.proofs.Deals.{Dealt-append}
 use Rattle.lane_deal.proofs.dealer.Dealer.deal.Goals as goal
@@ -98,16 +97,8 @@ returns-then-not-has_room-2-clause-deals g c =
     let kept = sym (ap (λ o. o.kept) asking) ∙ sym c.take.ensures.value ∙ c.in-Some-take.is in
     let waits = rw kept at c.ask.ensures.waits in
     let same = c.lane_for-in-loop-dealt.ensures.same in
-    let asked : Dealer g.row.D.Denot = record {
-      dealing = c.ask.new.self.dealing;
-      peers = c.ask.new.self.peers;
-      kept = c.take.new.self;
-      refused = c.ask.new.self.refused;
-      dealt = c.ask.new.self.dealt;
-      small = λ x e. absurd (let after = c.take.ensures.after in cc);
-    } in
-    let next =
-    Next-kept c.loop-dealt.self asked _ _ _ _ unit kept (record { dealing = ap (λ o. o.dealing) asking; peers = ap (λ o. o.peers) asking; kept = c.take.ensures.after; dealt = ap (λ o. o.dealt) asking }) waits.0 waits.1 in
+    let asked = emptied c.ask.new.self in
+    let next = Next-kept c.loop-dealt.self c.ask.new.self _ _ _ _ unit kept (ap (λ o. o.dealing) asking) (ap (λ o. o.peers) asking) (ap (λ o. o.dealt) asking) waits.0 waits.1 in
     let lane : lane_of c.in_ok-number-2.number ≡ c.in_ok-number-2.lane = (let e = ap (λ o. o.dealing) asking in let d = i.far.handles.dealing in let f = i.far.handles.pushed.lanes in let l = c.in_ok-number-2.ensures.lane in cc) in
     let below = g.met.D.Dealing.is_below c.args.self.now.dealing c.in_ok-number-2.number (length c.args.feeds.now) c.requires.lanes in
     Deals-blocked lane_of _ _ _ _ _ asked _ _ _ _ _ _ _ _ i.far _ unit unit c.in_ok-number-2.number c.in_ok-number-2.lane next c.in_ok-number-2.ensures.numbers (ap (λ o. o.dealing) same) refl refl (ap (λ o. o.refused) same) (ap (λ o. o.dealt) same)
@@ -122,19 +113,11 @@ loop-dealt-preserved g c =
     let kept = sym (ap (λ o. o.kept) asking) ∙ sym c.take.ensures.value ∙ c.in-Some-take.is in
     let waits = rw kept at c.ask.ensures.waits in
     let same = c.lane_for-in-loop-dealt.ensures.same in
-    let asked : Dealer g.row.D.Denot = record {
-      dealing = c.ask.new.self.dealing;
-      peers = c.ask.new.self.peers;
-      kept = c.take.new.self;
-      refused = c.ask.new.self.refused;
-      dealt = c.ask.new.self.dealt;
-      small = λ x e. absurd (let after = c.take.ensures.after in cc);
-    } in
-    let next =
-    Next-kept c.loop-dealt.self asked _ _ _ _ unit kept (record { dealing = ap (λ o. o.dealing) asking; peers = ap (λ o. o.peers) asking; kept = c.take.ensures.after; dealt = ap (λ o. o.dealt) asking }) waits.0 waits.1 in
+    let asked = emptied c.ask.new.self in
+    let next = Next-kept c.loop-dealt.self c.ask.new.self _ _ _ _ unit kept (ap (λ o. o.dealing) asking) (ap (λ o. o.peers) asking) (ap (λ o. o.dealt) asking) waits.0 waits.1 in
     let lane : lane_of c.in_ok-number-2.number ≡ c.in_ok-number-2.lane = (let e = ap (λ o. o.dealing) asking in let d = i.far.handles.dealing in let f = i.far.handles.pushed.lanes in let l = c.in_ok-number-2.ensures.lane in cc) in record {
       count = c.ask.ensures.count ∙ i.count;
       sound = c.in_ok-ask.ensures.sound ∙ i.sound;
-      far = SoFar-more lane_of _ _ _ _ _ asked _ _ _ _ _ _ _ _ i.far unit c.in_ok-number-2.number next c.in_ok-number-2.ensures.numbers (ap (λ o. o.dealing) same) (ap (λ o. o.kept) same) (ap (λ o. o.refused) same) (let n = ap (λ o. o.dealt) same in omega arith)
+      far = SoFar-more lane_of _ _ _ _ _ asked _ _ _ _ _ _ _ _ i.far unit c.in_ok-number-2.number next c.in_ok-number-2.ensures.numbers (ap (λ o. o.dealing) same) (ap (λ o. o.kept) same ∙ c.take.ensures.after) (ap (λ o. o.refused) same) (let n = ap (λ o. o.dealt) same in omega arith)
           (Dealt-append lane_of _ _ _ [] (record { number = c.in_ok-number-2.number; unit = unit } ∷ []) (c.if-not-has_room-2.ensures.looked lane_of) (rw c.lend.ensures at (c.in_ok-deal_one-2.ensures lane_of lane)));
     }

@@ -1,0 +1,91 @@
+//! UPDATE messages, their routes packed as they are read.
+
+ghost use Rattle.std.specs.Prelude.{◌≡◌, IfOk, IfSome};
+ghost use Rattle.bgp_update.specs.Answers.{Gives};
+ghost use Rattle.bgp_update.specs.Attributes as attributes;
+ghost use Rattle.bgp_update.specs.Hops.{by_hop};
+ghost use Rattle.bgp_update.specs.PackedUpdates.{plain_update};
+ghost use Rattle.bgp_update.specs.Packing.{IsSpelled, IsWritable};
+ghost use Rattle.bgp_update.specs.Updates.{said_update, update_in};
+ghost use Rattle.bgp_update.specs.Values.{kept_value};
+ghost use Rattle.bgp_update.specs.declared.attribute_type.AttributeType.TheVariants.{AsPath};
+ghost use Rattle.bgp_update.specs.declared.width.Width.TheVariants.{Four};
+
+use crate::attr_error::AttrError;
+use crate::attribute_type::AttributeType;
+use crate::multiprotocol::{reached, with_unreached};
+use crate::next_hop::NextHop;
+use crate::packed_route::PackedRoute;
+use crate::packed_update::PackedUpdate;
+use crate::packing::pack_values;
+use crate::route_fields::route_from;
+use crate::update::read_fields;
+use crate::values::FirstValues;
+use crate::width::Width;
+use bgp_prefix::{Memory, RouteKey, Sequence};
+use std::alloc::Global;
+
+/// Packs the route of these values with another next hop.
+fn pack_reached(
+    alloc: Global,
+    first: &FirstValues<'_>,
+    width: Width,
+    hop: Option<NextHop>,
+) -> Result<PackedRoute, Memory>
+    requires { IsWritable (attributes.route_from width (kept_value first.now)).path }
+    ensures { IfOk result (λ route. route ≡ by_hop (attributes.route_from width (kept_value first.now)) hop) }
+{
+    let route = route_from(alloc, first, width)?.with_next_hop(hop);
+    PackedRoute::pack(alloc, &route)
+}
+
+/// Returns the update of these keys and of what the attributes say.
+#[tactic(auto, unfolding(crate::specs::Updates::said_update))]
+fn packed_from(
+    alloc: Global,
+    buffer: &mut Vec<u8>,
+    withdrawn: Vec<RouteKey>,
+    first: &FirstValues<'_>,
+    announced: Vec<RouteKey>,
+    width: Width,
+    add_path: bool,
+) -> Result<PackedUpdate, AttrError>
+    requires four { width ≡ Four → IfSome (kept_value first.now AsPath) IsSpelled }
+    requires writable { IsWritable (attributes.route_from width (kept_value first.now)).path }
+    ensures { Gives plain_update result
+        (said_update width add_path withdrawn.items (kept_value first.now) announced.items) }
+{
+    let unreached = first.value(AttributeType::MpUnreachNlri);
+    let withdrawn = with_unreached(withdrawn, unreached, add_path)?;
+    let (reached_hop, reached) = reached(alloc, first.value(AttributeType::MpReachNlri), add_path)?;
+    let route = pack_values(alloc, buffer, first, width)?;
+    let reached_route = if reached.is_empty() {
+        None
+    } else {
+        Some(pack_reached(alloc, first, width, reached_hop)?)
+    };
+    Ok(PackedUpdate {
+        withdrawn: Sequence::from_vec(withdrawn),
+        announced: Sequence::from_vec(announced),
+        reached: Sequence::from_vec(reached),
+        route,
+        reached_hop,
+        reached_route,
+    })
+}
+
+/// Reads an UPDATE as `read_update` does, and packs its routes by way of a buffer, whose contents are replaced. Paths
+/// with four-octet AS numbers are packed as they are written, without a copy of each number.
+pub fn read_packed_update(
+    alloc: Global,
+    buffer: &mut Vec<u8>,
+    body: &[u8],
+    width: Width,
+    add_path: bool,
+) -> Result<PackedUpdate, AttrError>
+    ensures { Gives plain_update result (update_in width add_path body.now) }
+{
+    let mut first = FirstValues::new();
+    let (withdrawn, announced) = read_fields(alloc, body, width, add_path, &mut first)?;
+    packed_from(alloc, buffer, withdrawn, &first, announced, width, add_path)
+}

@@ -1,0 +1,13 @@
+-- What payloads mean, with packed routes.
+use Rattle.bgp_update.specs.PackedUpdates.{plain_update}
+use Rattle.mrt_body.specs.declared.meaning.Event.{Event}
+use Rattle.mrt_body.specs.declared.meaning.Event.TheVariants as events
+use Rattle.mrt_body.specs.declared.packed_meaning.PackedEvent.{PackedEvent}
+use Rattle.mrt_body.specs.declared.packed_meaning.PackedEvent.TheVariants as packed
+
+-- the same with routes of fields
+abbrev pub plain_event : PackedEvent → Event
+plain_event (packed.State old new) = events.State old new
+plain_event (packed.Change update) = events.Change (plain_update update)
+plain_event (packed.Rib key route) = events.Rib key route
+plain_event packed.Other = events.Other

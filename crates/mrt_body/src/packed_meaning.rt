@@ -1,0 +1,76 @@
+//! What payloads mean, with packed routes.
+
+ghost use Rattle.bgp_update.specs.Answers.{Gives};
+ghost use Rattle.mrt_body.specs.Events.{event_in, message_event_in};
+ghost use Rattle.mrt_body.specs.Lent.{lent_payload};
+ghost use Rattle.mrt_body.specs.PackedEvents.{plain_event};
+
+use crate::interpret::UPDATE;
+use crate::lent::LentPayload;
+use crate::message::message_in;
+use bgp_prefix::RouteKey;
+use bgp_update::{AttrError, PackedRoute, PackedUpdate, Width, read_packed_update};
+use std::alloc::Global;
+
+/// What a payload means, as `Event` has it, with packed routes.
+#[derive(Drop)]
+pub enum PackedEvent {
+    /// A state change: the old and the new state.
+    State(u16, u16),
+    /// An UPDATE.
+    Change(PackedUpdate),
+    /// A RIB entry, which announces its key.
+    Rib(RouteKey, PackedRoute),
+    /// A message of another type, which is not read.
+    Other,
+}
+
+/// Returns the event of a message.
+#[tactic(auto, unfolding(crate::specs::Events::message_event_in))]
+fn packed_message_event(
+    alloc: Global,
+    buffer: &mut Vec<u8>,
+    bytes: &[u8],
+    width: Width,
+    add_path: bool,
+) -> Result<PackedEvent, AttrError>
+    ensures { Gives plain_event result (message_event_in width add_path bytes.now) }
+{
+    let (kind, body) = match message_in(bytes) {
+        Ok(message) => message,
+        Err(fault) => return Err(AttrError::Bad(fault)),
+    };
+    if kind != UPDATE {
+        return Ok(PackedEvent::Other);
+    }
+    match read_packed_update(alloc, buffer, body, width, add_path) {
+        Ok(update) => Ok(PackedEvent::Change(update)),
+        Err(error) => Err(error),
+    }
+}
+
+/// Returns the event of a payload whose bytes are lent, or its first fault, as `event` does. Its routes are packed by
+/// way of a buffer, whose contents are replaced. A session calls it for each unit that isn't read ahead.
+#[tactic(auto, unfolding(crate::specs::Events::event_in))]
+pub fn packed_event(
+    alloc: Global,
+    buffer: &mut Vec<u8>,
+    payload: &LentPayload<'_>,
+) -> Result<PackedEvent, AttrError>
+    ensures { Gives plain_event result (event_in (lent_payload payload.now)) }
+{
+    match *payload {
+        LentPayload::State { from, to } => Ok(PackedEvent::State(from, to)),
+        LentPayload::Message {
+            bytes,
+            width,
+            add_path,
+        } => packed_message_event(alloc, buffer, bytes, width, add_path),
+        LentPayload::Entry { key, attrs } => {
+            match PackedRoute::read(alloc, buffer, attrs, Width::Four) {
+                Ok(route) => Ok(PackedEvent::Rib(key, route)),
+                Err(error) => Err(error),
+            }
+        }
+    }
+}
