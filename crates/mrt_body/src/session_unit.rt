@@ -84,4 +84,9 @@ impl SessionUnit {
             },
         }
     }
+
+    /// Returns the record's body. Allocates nothing.
+    pub(crate) fn into_body(self) -> Sequence<u8> {
+        self.body
+    }
 }

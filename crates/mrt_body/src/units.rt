@@ -2,7 +2,7 @@
 
 mod record;
 
-ghost use Rattle.std.specs.Prelude.{◌≡◌, ℕ, List, Option, ◌<◌, ◌≤◌, ◌+◌, ◌^◌, ◌∷◌, None, [], map, take, drop, false, ◌↔◌, Ok, Err, IfOk, IfErr, IfSome, OnOk, length, option_to_list};
+ghost use Rattle.std.specs.Prelude.{◌≡◌, ℕ, List, Option, ◌<◌, ◌≤◌, ◌+◌, ◌^◌, ◌∷◌, None, [], map, take, drop, true, false, ◌≢◌, ◌↔◌, Ok, Err, IfOk, IfErr, IfSome, OnOk, length, option_to_list};
 ghost use Rattle.mrt_body.specs.Lent.{lent_unit};
 ghost use Rattle.mrt_body.specs.Units.{IsSmall, IsSmallUnit, all_cuts, found_in};
 ghost use Rattle.mrt_frame.specs.Frames.{StandsAt, KeepsUnlessRead};
@@ -17,6 +17,7 @@ use crate::selection::Selection;
 use crate::session_unit::SessionUnit;
 use crate::standing::Standing;
 use crate::unit::{Damage, Found, Unit};
+use bgp_prefix::Sequence;
 use mrt_frame::{Cut, FrameReader, ReplayError, Source};
 use record::refused;
 use std::alloc::Global;
@@ -31,6 +32,8 @@ pub struct Units {
     index: Option<Index>,
     /// The unit of the BGP4MP record cut last, if it is still to be returned.
     session: Option<SessionUnit>,
+    /// The memory of a message that was passed over, into which the next record is read.
+    spare: Option<Vec<u8>>,
     selection: Selection,
     max_records: u64,
     records: u64,
@@ -76,6 +79,7 @@ impl Units {
             frames: FrameReader::new(0),
             index: None,
             session: None,
+            spare: None,
             selection: Selection { until },
             max_records,
             records: 0,
@@ -231,6 +235,17 @@ impl Units {
         }
     }
 
+    /// Whether `lend` lends a unit, and `advance` reads nothing.
+    pub fn has_unit(&self) -> bool
+        ensures some { result ≡ true → (self.now.standing ≡ standings.Going) × (self.now.pending ≢ []) }
+        ensures none { result ≡ false → self.now.standing ≡ standings.Going → self.now.pending ≡ [] }
+    {
+        match self.standing {
+            Standing::Going => self.is_pending(),
+            _ => false,
+        }
+    }
+
     /// Lends the next unit of the record that was cut last, which is what `next` would return. Returns `None` if all of
     /// them were returned, or after an error. Whoever is done with the unit calls `pass`, and needs no unit of their own.
     pub fn lend(&self) -> Option<LentUnit<'_>>
@@ -260,8 +275,8 @@ impl Units {
         ensures units { units_left self.new + length (take 1 self.old.pending) ≡ units_left self.old }
         ensures plan { KeepsPlan self.old self.new }
     {
-        if self.session.is_some() {
-            self.session = None;
+        if let Some(unit) = self.session.take() {
+            self.spare = kept_block(unit.into_body());
         } else if let Some(index) = &mut self.index {
             index.pass();
         }
@@ -319,7 +334,11 @@ impl Units {
         ensures fewer { IfOk result (λ _. steps_left self.new < steps_left self.old) }
         ensures place { IfOk result (λ cut. IfSome cut (StandsAt self.old.frames.offset)) }
     {
-        match self.frames.next(alloc, reader) {
+        let block = match self.spare.take() {
+            Some(block) => block,
+            None => Vec::new(alloc),
+        };
+        match self.frames.next_into(block, reader) {
             Ok(Some(Cut::Whole(record))) => {
                 if self.records == self.max_records {
                     self.standing = Standing::Spent;
@@ -391,6 +410,19 @@ impl Units {
             }
         }
     }
+}
+
+/// How many bytes the memory may have that is kept for the next record. A record of the longest BGP message has
+/// 65,535 and some more (RFC 8654).
+const MOST_KEPT: usize = 1 << 17;
+
+/// Returns the memory of this body, unless it is larger than what is kept.
+fn kept_block(body: Sequence<u8>) -> Option<Vec<u8>> {
+    let block = body.into_vec();
+    if MOST_KEPT < block.capacity() {
+        return None;
+    }
+    Some(block)
 }
 
 /// Returns the state of a reading after this error.

@@ -70,8 +70,38 @@ impl FrameReader {
             Repeats self.old result }
         ensures file { self.new.file ≡ self.old.file }
     {
+        self.next_into(Vec::new(alloc), reader)
+    }
+
+    /// Returns what `next` returns. The body of a whole record is read into this block of memory, whose contents are
+    /// replaced, and which grows if it is too small. Whoever is done with a record has its body's memory for the next
+    /// one.
+    pub fn next_into<R: Source>(
+        &mut self,
+        block: Vec<u8>,
+        reader: &mut R,
+    ) -> Result<Option<Cut>, ReplayError>
+        ensures first { IfOk result
+            (λ cut. TakesCuts self.old (R.remaining reader.old) self.new (R.remaining reader.new)
+            (option_to_list cut)) }
+        ensures phase { IfOk result (λ cut. self.new.phase ≡ phase_after cut) }
+        ensures place { IfOk result (λ cut. IfSome cut (StandsAt self.old.offset)) }
+        ensures cause { IfErr result
+            (HasCause self.old self.new (R.failure_count reader.old) (R.failure_count reader.new)) }
+        ensures counted { OnOk result (R.failure_count reader.new ≡ R.failure_count reader.old) }
+        // A failed read took no whole record, and the record's offset stays.
+        ensures part { self.old.phase ≡ Phase.Reading → IfErr result
+            (λ e. (self.new.offset ≡ self.old.offset) × ReadsPart self.old.offset (R.remaining reader.old)
+            (R.remaining reader.new) e) }
+        // An error other than Read comes without a failure of the device.
+        ensures unfailed { IfErr result (KeepsUnlessRead (R.failure_count reader.old) (R.failure_count reader.new)) }
+        ensures reads { ReadsNoMoreThan (12 + 16777216) (R.remaining reader.old) (R.remaining reader.new) }
+        ensures repeats { self.old.phase ≢ Phase.Reading → (self.new ≡ self.old) × (reader.new ≡ reader.old) ×
+            Repeats self.old result }
+        ensures file { self.new.file ≡ self.old.file }
+    {
         match self.phase {
-            Phase::Reading => self.advance(alloc, reader),
+            Phase::Reading => self.advance(block, reader),
             Phase::Ended => Ok(None),
             Phase::Failed => Err(ReplayError::Read { file: self.file }),
             Phase::Spent => Err(ReplayError::Spent),
@@ -80,7 +110,7 @@ impl FrameReader {
 
     fn advance<R: Source>(
         &mut self,
-        alloc: Global,
+        block: Vec<u8>,
         reader: &mut R,
     ) -> Result<Option<Cut>, ReplayError>
         requires { self.old.phase ≡ Phase.Reading }
@@ -98,7 +128,7 @@ impl FrameReader {
         ensures reads { ReadsNoMoreThan (12 + 16777216) (R.remaining reader.old) (R.remaining reader.new) }
         ensures file { self.new.file ≡ self.old.file }
     {
-        let result = read_cut(alloc, self.file, self.offset, reader);
+        let result = read_cut(block, self.file, self.offset, reader);
         match &result {
             Ok(Some(Cut::Whole(record))) => {
                 self.offset += u64::from(HEADER_SIZE) + record.body.as_slice().len() as u64;
@@ -111,9 +141,10 @@ impl FrameReader {
     }
 }
 
-/// Returns the first cut of what the reader will still return, which is at this offset of the file.
+/// Returns the first cut of what the reader will still return, which is at this offset of the file. A body is read into
+/// this block of memory.
 fn read_cut<R: Source>(
-    alloc: Global,
+    block: Vec<u8>,
     file: usize,
     offset: u64,
     reader: &mut R,
@@ -145,7 +176,7 @@ fn read_cut<R: Source>(
             fault: Fault::BodyTooLong,
         }));
     }
-    let bytes = read_body(alloc, file, header.length, reader)?;
+    let bytes = read_body(block, file, header.length, reader)?;
     if bytes.len() < header.length as usize {
         return Ok(Some(Cut::Broken {
             offset,
@@ -161,9 +192,9 @@ fn read_cut<R: Source>(
     })))
 }
 
-/// Reads the next bytes of the reader: this many, or all of them if it ends earlier.
+/// Reads the next bytes of the reader: this many, or all of them if it ends earlier. They replace what the block holds.
 fn read_body<R: Source>(
-    alloc: Global,
+    block: Vec<u8>,
     file: usize,
     length: u32,
     reader: &mut R,
@@ -176,7 +207,7 @@ fn read_body<R: Source>(
     ensures part { IfErr result (ReadsFewer length (R.remaining reader.old) (R.remaining reader.new)) }
     ensures err { OnErr result (ReadsNoMoreThan length (R.remaining reader.old) (R.remaining reader.new)) }
 {
-    let mut bytes = Vec::new(alloc);
+    let mut bytes = block;
     bytes.resize(length as usize, 0)?;
     let Ok(count) = read_full(reader, bytes.as_mut_slice()) else {
         return Err(ReplayError::Read { file });

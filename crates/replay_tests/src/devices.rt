@@ -1,9 +1,9 @@
 //! Rows on devices that fail: at each read, at each write, and past the limit on records.
 
-use crate::harness::{PLAN, THREE_ROUTES, replay, replay_readers};
+use crate::harness::{PLAN, replay, replay_readers};
 use adj_rib::SharedRoute;
 use bgp_prefix::Radix;
-use fixtures::{Dripping, THREE_PEERS, bytes_of};
+use fixtures::{Dripping, THREE_PEERS, THREE_ROUTES, bytes_of};
 use lane_deal::{ByTurns, NoGate, Plan};
 use mrt_frame::{Counted, ReplayError, Sink};
 use mrt_replay::{Summary, run, status};

@@ -2,11 +2,11 @@
 //! leaves what it says. The gate runs them with ample memory; `make growths` refuses the Nth growth of each
 //! test, for N = 1, 2 and so on. A growth that is refused to a test itself ends it with an error.
 
-use crate::harness::{PLAN, THREE_ROUTES};
+use crate::harness::PLAN;
 use adj_rib::SharedRoute;
 use bgp_prefix::{Flat, PrefixMap, Radix};
 use command_line::{Usage, read_words};
-use fixtures::{THREE_PEERS, bytes_of};
+use fixtures::{THREE_PEERS, THREE_ROUTES, bytes_of};
 use lane_deal::{ByBlocks, ByList, ByTurns, Dealing, NoGate, Plan};
 use mrt_frame::{Counted, ReplayError};
 use mrt_replay::run;

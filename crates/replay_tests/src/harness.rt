@@ -25,12 +25,6 @@ pub const PLAN: Plan = Plan {
     until: None,
 };
 
-/// The routes in the tables of `THREE_PEERS`.
-pub const THREE_ROUTES: &str = "65000 192.0.2.1|10.0.0.0/8|65000|192.0.2.1|IGP|-|-|-|-
-65000 192.0.2.2|10.0.0.0/8|65000|192.0.2.1|IGP|-|-|-|-
-65000 192.0.2.3|10.0.0.0/8|65000|192.0.2.1|IGP|-|-|-|-
-";
-
 /// What a run answered, and what it wrote.
 #[derive(Drop)]
 pub struct Outcome {

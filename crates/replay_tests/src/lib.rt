@@ -1,16 +1,12 @@
-//! Tests of whole replays and of the command line: worked rows, dumps as bytes and what a replay of them reports.
+//! Tests of whole replays: worked rows, dumps as bytes and what a replay of them reports.
 #![tactic(auto)]
 
 #[cfg(test)]
 mod addpath;
 #[cfg(test)]
-mod dealings;
-#[cfg(test)]
 mod devices;
 #[cfg(test)]
 mod faults;
-#[cfg(test)]
-mod gates;
 #[cfg(test)]
 mod growths;
 #[cfg(test)]
@@ -18,10 +14,6 @@ mod harness;
 #[cfg(test)]
 mod hostile;
 #[cfg(test)]
-mod records;
-#[cfg(test)]
 mod refusals;
 #[cfg(test)]
 mod rows;
-#[cfg(test)]
-mod words;

@@ -84,6 +84,21 @@ fn a_short_header_is_refused_behind_a_whole_record(rt: HostRuntime) {
     assert!(rt; next_cut(&rt, alloc, &mut frames, &mut reader).is_none());
 }
 
+/// A record is the same in memory that was used for a shorter or a longer one.
+#[test]
+fn a_record_is_read_into_used_memory(rt: HostRuntime) {
+    let alloc = rt.alloc();
+    let bytes = records(&rt, alloc, "announcement");
+    for used in [0, 3, 300] {
+        let mut block = Vec::new(alloc);
+        block.resize(used, 255).expect(&rt, "memory for a block");
+        let mut reader = Counted::new(bytes.as_slice());
+        let mut frames = FrameReader::new(0);
+        let cut = frames.next_into(block, &mut reader).expect(&rt, "a read");
+        expect_announcement(&rt, alloc, &cut, 0);
+    }
+}
+
 /// The error of a read that fails.
 fn next_error(
     rt: &impl Abort,

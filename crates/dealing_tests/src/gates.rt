@@ -1,6 +1,6 @@
 //! Gates of the tests: who runs beside whom, and what gates are told.
 
-use crate::harness::PLAN;
+use crate::plans::PLAN;
 use adj_rib::SharedRoute;
 use bgp_prefix::Radix;
 use fixtures::{THREE_PEERS, bytes_of};

@@ -1,9 +1,9 @@
 //! Rows on dealings: whichever lane a peer has, the reports are the same.
 
-use crate::harness::{PLAN, THREE_ROUTES};
+use crate::plans::PLAN;
 use adj_rib::SharedRoute;
 use bgp_prefix::{Flat, PrefixMap, Radix};
-use fixtures::{THREE_PEERS, bytes_of, message_of};
+use fixtures::{THREE_PEERS, THREE_ROUTES, bytes_of, message_of};
 use lane_deal::{ByBlocks, ByList, ByTurns, Dealing, NoGate, Plan};
 use mrt_frame::Counted;
 use mrt_replay::run;
