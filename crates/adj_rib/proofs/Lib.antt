@@ -5,4 +5,5 @@ pub mod Stepping
 pub mod Taking
 pub mod SourceLaws
 pub mod Reached
+pub mod Announcements
 mod Examples

@@ -2,11 +2,11 @@
 
 use crate::churn::Churn;
 use crate::outcome::Outcome;
-use crate::read_ahead::ReadAhead;
+use crate::read_ahead::{ReadAhead, Reading};
 use crate::route_set::{HashedRoute, RouteSet};
 use crate::shared_route::SharedRoute;
 use crate::table::announce_route;
-use crate::update::apply_update;
+use crate::update::{apply_announcement, apply_update};
 use bgp_prefix::{Memory, PrefixMap, RouteKey};
 use bgp_update::{AttrError, PackedUpdate};
 use mrt_body::{Damage, LentPayload, LentUnit, PackedEvent, Place, packed_event};
@@ -32,7 +32,8 @@ impl<M: PrefixMap<SharedRoute>> RibIn<M> {
     ghost use Rattle.mrt_body.specs.declared.meaning.Event.TheVariants as events;
     ghost use Rattle.adj_rib.specs.Applied.{START, counted_if, followed, refused, read_as, taken};
     ghost use Rattle.adj_rib.specs.Keeping.{kept_in};
-    ghost use Rattle.adj_rib.specs.RouteSets.{IsAheadOf};
+    ghost use Rattle.adj_rib.specs.RouteSets.{IsAheadOf, IsAnnouncement};
+    ghost use Rattle.bgp_update.specs.declared.route.Update.{Update};
     ghost use Rattle.bgp_update.specs.PackedUpdates.{plain_update};
 
     /// Returns that of a peer without units, which is up.
@@ -84,6 +85,31 @@ impl<M: PrefixMap<SharedRoute>> RibIn<M> {
             &mut self.table,
             &mut self.churn,
             update,
+        )
+    }
+
+    /// Takes the steps of an UPDATE that announces these keys with this route, and does nothing else.
+    #[tactic(auto, unfolding(crate::specs::Applied::followed, crate::specs::Applied::noted))]
+    fn take_announcement(
+        &mut self,
+        alloc: Global,
+        keys: &[RouteKey],
+        route: &HashedRoute,
+    ) -> Result<(), Memory>
+        ensures { OnOk result ((update : Update) → IsAnnouncement keys.now route.now.route update →
+            kept_in M.contents self.new ≡ followed (kept_in M.contents self.old) (Ok (events.Change update))) }
+    {
+        if !self.up {
+            self.count_idle();
+            return Ok(());
+        }
+        apply_announcement(
+            alloc,
+            &mut self.routes,
+            &mut self.table,
+            &mut self.churn,
+            keys,
+            route,
         )
     }
 
@@ -158,8 +184,11 @@ impl<M: PrefixMap<SharedRoute>> RibIn<M> {
         ensures { OnOk result (kept_in M.contents self.new
             ≡ read_as (kept_in M.contents self.old) place (event_in (lent_payload payload.now))) }
     {
+        if let Reading::Announcement(keys, route) = &ahead.read {
+            return self.take_announcement(alloc, keys.as_slice(), route);
+        }
         if let LentPayload::Entry { key, .. } = payload {
-            if let Some(hashed) = &ahead.read {
+            if let Reading::Entry(hashed) = &ahead.read {
                 return self.announce_entry(alloc, *key, hashed);
             }
         }
@@ -168,7 +197,7 @@ impl<M: PrefixMap<SharedRoute>> RibIn<M> {
 
     /// Prefetches the slot where `take` will look.
     pub(crate) fn prefetch_slot(&self, ahead: &ReadAhead) -> usize {
-        match &ahead.read {
+        match ahead.route() {
             Some(hashed) => self.routes.prefetch_slot(hashed),
             None => 0,
         }
@@ -176,7 +205,7 @@ impl<M: PrefixMap<SharedRoute>> RibIn<M> {
 
     /// Prefetches the route that `take` will find.
     pub(crate) fn prefetch_route(&self, ahead: &ReadAhead) -> usize {
-        match &ahead.read {
+        match ahead.route() {
             Some(hashed) => self.routes.prefetch_route(hashed),
             None => 0,
         }

@@ -5,8 +5,10 @@ ghost use Rattle.std.specs.List.{fold, filter};
 ghost use Rattle.bgp_prefix.specs.Keys.{among};
 ghost use Rattle.bgp_update.specs.PackedUpdates.{plain_update};
 ghost use Rattle.bgp_update.specs.declared.route.Route.{Route};
+ghost use Rattle.bgp_update.specs.declared.route.Update.{Update};
 ghost use Rattle.adj_rib.specs.Steps.{announce, withdraw, announcements, reachings, update_steps};
 ghost use Rattle.adj_rib.specs.Applied.{applied};
+ghost use Rattle.adj_rib.specs.RouteSets.{IsAnnouncement};
 
 use crate::churn::Churn;
 use crate::route_set::{HashedRoute, RouteSet};
@@ -53,6 +55,25 @@ fn announce_all<M: PrefixMap<SharedRoute>>(
 }
 
 /// Announces each key, if any, with the one route that they share.
+fn announce_hashed<M: PrefixMap<SharedRoute>>(
+    alloc: Global,
+    routes: &mut RouteSet,
+    table: &mut M,
+    churn: &mut Churn,
+    keys: &[RouteKey],
+    route: &HashedRoute,
+) -> Result<(), Memory>
+    ensures { OnOk result ((M.contents table.new, churn.new)
+        ≡ fold applied (M.contents table.old, churn.old) (map (λ key. announce key route.now.route) keys.now)) }
+{
+    if keys.is_empty() {
+        return Ok(());
+    }
+    let slot = routes.slot_of(alloc, route)?;
+    announce_all(alloc, table, churn, keys, routes.route_at(slot))
+}
+
+/// Announces each key, if any, with this route.
 fn announce_keys<M: PrefixMap<SharedRoute>>(
     alloc: Global,
     routes: &mut RouteSet,
@@ -64,11 +85,9 @@ fn announce_keys<M: PrefixMap<SharedRoute>>(
     ensures { OnOk result ((M.contents table.new, churn.new)
         ≡ fold applied (M.contents table.old, churn.old) (map (λ key. announce key route) keys.now)) }
 {
-    if keys.is_empty() {
-        return Ok(());
-    }
-    let slot = routes.slot_of(alloc, &HashedRoute::new(route))?;
-    announce_all(alloc, table, churn, keys, routes.route_at(slot))
+    let hashed = HashedRoute::new(route);
+    announce_hashed(alloc, routes, table, churn, keys, &hashed)?;
+    Ok(())
 }
 
 /// Announces each key that MP_REACH_NLRI has with their route, which is there if there are keys.
@@ -157,5 +176,22 @@ pub(crate) fn apply_update<M: PrefixMap<SharedRoute>>(
         update.reached.as_slice(),
     )?;
     announce_update(alloc, routes, table, churn, update)?;
+    Ok(())
+}
+
+/// Takes the steps of an UPDATE that announces these keys with this route, and does nothing else.
+pub(crate) fn apply_announcement<M: PrefixMap<SharedRoute>>(
+    alloc: Global,
+    routes: &mut RouteSet,
+    table: &mut M,
+    churn: &mut Churn,
+    keys: &[RouteKey],
+    route: &HashedRoute,
+) -> Result<(), Memory>
+    ensures { OnOk result ((update : Update) → IsAnnouncement keys.now route.now.route update →
+        (M.contents table.new, churn.new)
+        ≡ fold applied (M.contents table.old, churn.old) (update_steps update)) }
+{
+    announce_hashed(alloc, routes, table, churn, keys, route)?;
     Ok(())
 }

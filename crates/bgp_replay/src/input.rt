@@ -109,6 +109,8 @@ pub struct Dump<'a> {
     /// Its size in bytes, if known.
     size: Option<u64>,
     state: State,
+    /// Whether it was opened to be read, or couldn't be.
+    is_begun: bool,
     bytes: u64,
     /// Whether its end has been read.
     is_at_end: bool,
@@ -141,6 +143,7 @@ impl<'a> Dump<'a> {
             number,
             size,
             state,
+            is_begun: false,
             bytes: 0,
             is_at_end: false,
             first: FirstBytes::new(),
@@ -204,6 +207,7 @@ impl<'a> Dump<'a> {
 
     /// Makes it ready to be read.
     fn begin(&mut self) -> io::Result<()> {
+        self.is_begun = true;
         let device = match mem::replace(&mut self.state, State::Ended) {
             State::Closed => Device::Named(std::fs::open(&self.rt, self.name)?),
             State::Open(device) => device,
@@ -223,7 +227,9 @@ impl<'a> Dump<'a> {
     fn read_on(&mut self, buf: &mut [u8]) -> io::Result<usize>
         ensures { ReadsAtMost result buf.new }
     {
-        self.begin()?;
+        if !self.is_begun {
+            self.begin()?;
+        }
         match &mut self.state {
             State::Reading(reader) => reader.read(buf),
             _ => Ok(0),

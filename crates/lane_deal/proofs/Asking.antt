@@ -1,5 +1,5 @@
 -- What the files gave, step by step.
-use Rattle.std.proofs.Common.{◌≡◌, ◌≢◌, ℕ, ◌≤◌, List, [], ◌∷◌, ◌++◌, length, Option, Some, None, refl, sym, ap, ◌∙◌, subst, append_assoc, length-append, arith, inl, inr}
+use Rattle.std.proofs.Common.{◌≡◌, ℕ, ◌≤◌, List, [], ◌∷◌, ◌++◌, length, Option, Some, None, refl, sym, ap, ◌∙◌, subst, append_assoc, length-append, arith, inl, inr}
 use Rattle.std.specs.Prelude.{slice_index}
 use Rattle.std.specs.List.{filter_map}
 use Rattle.std.proofs.lemmas.List.Elements.{filter_map-append}
@@ -128,12 +128,3 @@ Asked-listed r r' a b c k k' k'' p q none =
 
 pub AskedInVain-from : (r r' : List Damage) (a b : UnitsState) (k k' : Known) → Listed r r' a k b k' → AskedInVain r r' a k
 AskedInVain-from r r' a b k k' p = record { listed = p.listed; refused = p.refused; gives = front_from_takes a b k k' _ p.takes }
-
--- nothing is asked of the files while a unit is left
-pub Asked-none : (r : List Damage) (u : UnitsState) (k : Known) → (u.pending ≢ []) → Asked r r u k u k
-Asked-none r u k some = record {
-  listed = [];
-  refused = sym (append-nil r);
-  takes = TakesUnits-none u k;
-  ended = λ none. absurd (some none);
-}

@@ -91,9 +91,6 @@ fn list_refusals<R: Source>(
         (λ e. (file : ℕ) → e ≡ Read file → AskedInVain refused.old.items refused.new.items units.old
         (map R.remaining files.old)) }
 {
-    if units.has_unit() {
-        return Ok(());
-    }
     while let Some(damage) = units.advance(alloc, files)? {
         refused.push(damage)?;
     }

@@ -175,7 +175,7 @@ impl UnitList {
         }
     }
 
-    /// Reads the attributes of the unit at this index ahead, by way of a buffer, whose contents are replaced.
+    /// Reads the route of the unit at this index ahead, by way of a buffer, whose contents are replaced.
     pub fn read_ahead(&self, alloc: Global, buffer: &mut Vec<u8>, at: usize) -> ReadAhead
         requires { at < length (units_of self.now) }
         ensures { (d : Numbered) → IsAheadOf (slice_index_or (units_of self.now) at d).unit.payload result }
@@ -186,7 +186,11 @@ impl UnitList {
                 let attrs = bytes_from(self.bytes.as_slice(), unit.start, unit.len);
                 ReadAhead::of_entry(alloc, buffer, attrs)
             }
-            _ => ReadAhead::nothing(),
+            PayloadKind::Message { width, add_path } => {
+                let bytes = bytes_from(self.bytes.as_slice(), unit.start, unit.len);
+                ReadAhead::of_message(alloc, buffer, bytes, width, add_path)
+            }
+            PayloadKind::State { .. } => ReadAhead::nothing(),
         }
     }
 }

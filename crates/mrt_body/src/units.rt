@@ -2,7 +2,7 @@
 
 mod record;
 
-ghost use Rattle.std.specs.Prelude.{◌≡◌, ℕ, List, Option, ◌<◌, ◌≤◌, ◌+◌, ◌^◌, ◌∷◌, None, [], map, take, drop, true, false, ◌≢◌, ◌↔◌, Ok, Err, IfOk, IfErr, IfSome, OnOk, length, option_to_list};
+ghost use Rattle.std.specs.Prelude.{◌≡◌, ℕ, List, Option, ◌<◌, ◌≤◌, ◌+◌, ◌^◌, ◌∷◌, None, [], map, take, drop, false, ◌↔◌, Ok, Err, IfOk, IfErr, IfSome, OnOk, length, option_to_list};
 ghost use Rattle.mrt_body.specs.Lent.{lent_unit};
 ghost use Rattle.mrt_body.specs.Units.{IsSmall, IsSmallUnit, all_cuts, found_in};
 ghost use Rattle.mrt_frame.specs.Frames.{StandsAt, KeepsUnlessRead};
@@ -232,17 +232,6 @@ impl Units {
         match &self.index {
             Some(index) => index.is_pending(),
             None => false,
-        }
-    }
-
-    /// Whether `lend` lends a unit, and `advance` reads nothing.
-    pub fn has_unit(&self) -> bool
-        ensures some { result ≡ true → (self.now.standing ≡ standings.Going) × (self.now.pending ≢ []) }
-        ensures none { result ≡ false → self.now.standing ≡ standings.Going → self.now.pending ≡ [] }
-    {
-        match self.standing {
-            Standing::Going => self.is_pending(),
-            _ => false,
         }
     }
 

@@ -10,16 +10,10 @@ use std::process::Abort;
 
 /// The unit that is lent, as what is found.
 fn lent_in(rt: &impl Abort, alloc: Global, units: &Units) -> Found {
-    assert!(rt; units.has_unit());
     let Some(unit) = units.lend() else {
         panic!(rt; "no unit is lent")
     };
     Found::Unit(unit.to_unit(alloc).expect(rt, "memory for a unit"))
-}
-
-/// Whether no unit is lent.
-fn lends_nothing(units: &Units) -> bool {
-    !units.has_unit() && units.lend().is_none()
 }
 
 /// What comes next in a file.
@@ -57,7 +51,7 @@ fn a_rib_record_lends_what_comes_next(rt: HostRuntime) {
     let message = message_of(alloc, "announcement").expect(&rt, "memory for a message");
     let mut files = [Counted::new(bytes.as_slice())];
     let mut units = Units::new(1, 1000, None);
-    assert!(rt; lends_nothing(&units), "a unit before the first record");
+    assert!(rt; units.lend().is_none(), "a unit before the first record");
     let first = found_next(&rt, alloc, &mut units, &mut files);
     expect_entry(&rt, &first, 56, 1, 0, attributes.as_slice());
     // It lends the same entry until one passes it.
@@ -72,13 +66,13 @@ fn a_rib_record_lends_what_comes_next(rt: HostRuntime) {
         );
     }
     units.pass();
-    assert!(rt; lends_nothing(&units), "a third entry");
+    assert!(rt; units.lend().is_none(), "a third entry");
     units.pass();
     let third = found_next(&rt, alloc, &mut units, &mut files);
     expect_entry(&rt, &third, 116, 1, 7, attributes.as_slice());
     let last = found_next(&rt, alloc, &mut units, &mut files);
     expect_message(&rt, &last, message.as_slice(), false);
-    assert!(rt; lends_nothing(&units), "a message that was returned");
+    assert!(rt; units.lend().is_none(), "a message that was returned");
 }
 
 #[test]
@@ -102,7 +96,7 @@ fn messages_and_state_changes_are_lent_between_refusals(rt: HostRuntime) {
         expect_message(&rt, &lent_in(&rt, alloc, &units), message.as_slice(), false);
     }
     units.pass();
-    assert!(rt; lends_nothing(&units), "a message that was passed over");
+    assert!(rt; units.lend().is_none(), "a message that was passed over");
     assert!(rt; advance(&rt, alloc, &mut units, &mut files).is_none());
     expect_states(&rt, &lent_in(&rt, alloc, &units));
     let states = found_next(&rt, alloc, &mut units, &mut files);
@@ -110,10 +104,13 @@ fn messages_and_state_changes_are_lent_between_refusals(rt: HostRuntime) {
     // 65000 is read as two AS numbers, and the address family is the second half of 65001.
     let refused = advance(&rt, alloc, &mut units, &mut files).expect(&rt, "a refusal");
     expect_refused(&rt, &refused, 77 + 36, Fault::BadFamily);
-    assert!(rt; lends_nothing(&units), "a unit of a record that is refused");
+    assert!(rt;
+        units.lend().is_none(),
+        "a unit of a record that is refused"
+    );
     for _ in 0..2 {
         assert!(rt; advance(&rt, alloc, &mut units, &mut files).is_none());
-        assert!(rt; lends_nothing(&units), "a unit behind the end");
+        assert!(rt; units.lend().is_none(), "a unit behind the end");
         assert!(rt; units.records() == 3);
     }
 }

@@ -1,5 +1,5 @@
 use Rattle.std.proofs.Common.{◌∙◌, refl}
-use Rattle.lane_deal.proofs.Asking.{Listed-none, Listed-more, Asked-none, TakesUnits-refused}
+use Rattle.lane_deal.proofs.Asking.{Listed-none, Listed-more, TakesUnits-refused}
 use Rattle.lane_deal.proofs.dealer.list_refusals.Goals as goal
 
 pub loop-damage-init : goal.loop-damage-init
@@ -13,6 +13,3 @@ loop-damage-preserved g c =
       listed = Listed-more _ _ _ _ _ _ _ _ _ _ c.loop-damage.invariant.listed (rw c.in-Some.is at one) c.in_ok-push.ensures.items;
       sound = c.in_ok-damage.ensures.sound ∙ c.loop-damage.invariant.sound;
     }
-
-pub returns-then-has_unit-clause-asked : goal.returns-then-has_unit-clause-asked
-returns-then-has_unit-clause-asked g c = Asked-none _ _ _ (c.has_unit.ensures.some c.if-has_unit.true).1
