@@ -233,9 +233,9 @@ if grep -qE '^standard input \(1 of 1\): [0-9]+ MB, [0-9]+ MB/s, 0 routes *$' li
 holds '--progress: blanks at last' "$(tail -n 1 lines | tr -d ' ')" ''
 tr -d '\r' < lines > said; grep -vE '^standard input \(1 of 1\): [0-9]+ MB, [0-9]+ MB/s, [0-9]+ routes *$|^ *$' said > others; : > said; judge '--progress' 0 '' nothing $status
 holds '--progress: nothing else' "$(wc -c < others)" 0
-for _ in {1..2000}; do cat sample; done > many
-for pause in 0.6 2 5; do # routes are counted at the end of the first round, of 65,536 units, which a busy machine may not reach within the first pause
-  { head -c 9000000 many; sleep $pause; tail -c +9000001 many; } | ./bgp_replay tables --workers 4 --progress - > out 2> said; tr '\r' '\n' < said > lines
+for _ in {1..5000}; do cat sample; done > many
+for pause in 0.6 2 5; do # routes are counted at the end of the first round, of 262,144 units, which a busy machine may not reach within the first pause
+  { head -c 24000000 many; sleep $pause; tail -c +24000001 many; } | ./bgp_replay tables --workers 4 --progress - > out 2> said; tr '\r' '\n' < said > lines
   routes=$(grep -oE '[0-9]+ routes' lines | sort -u | tail -n 1); [ "$routes" != "$(wc -l < whole-tables) routes" ] || break
 done
 holds '--progress: routes' "$routes" "$(wc -l < whole-tables) routes"

@@ -1,7 +1,7 @@
 //! `bgp_replay`: the replay of MRT route-collector dumps into one table per peer, and reports on it.
 #![tactic(auto)]
 
-ghost use Rattle.std.specs.Prelude.{◌≡◌, ◌≤◌, IsTrue};
+ghost use Rattle.std.specs.Prelude.{◌≡◌, ◌≤◌, ◌*◌, min, IsTrue};
 ghost use Rattle.lane_deal.specs.Plans.{IsPlan};
 
 mod counts;
@@ -28,11 +28,12 @@ use std::thread::{Threads, available_parallelism};
 use std::time::{Duration, Instant};
 use telling::{tell, tell_memory, tell_open, tell_summary, tell_write};
 
-/// The minimum number of units dealt in a round that isn't blocked. Routes are counted between rounds.
-const LEAST_BATCH: u64 = 65_536;
+/// How many units are dealt in a round for each worker. Each round starts its threads anew, and at its end the dealer
+/// waits for the slowest worker. Routes are counted between rounds.
+const BATCH_EACH: u64 = 65_536;
 
-/// How many units are dealt in a round for each worker. Each round starts its threads anew.
-const BATCH_EACH: u64 = 16_384;
+/// The maximum number of units dealt in a round.
+const MOST_BATCH: u64 = 1_048_576;
 
 /// Empty looks at its ring after which a worker ends its round. The gate sleeps between them, so they take more than a
 /// minute: only a round whose input is very slow takes longer. A worker that leaves ends the round for all, since nobody
@@ -81,10 +82,9 @@ fn looks_of(workers: usize) -> u32 {
 /// Returns the maximum number of units that are dealt to this many workers in a round.
 fn batch_of(workers: usize) -> u64
     requires { workers ≤ 64 }
-    ensures least { 65536 ≤ result }
-    ensures most { result ≤ 1048576 }
+    ensures { result ≡ min (65536 * workers) 1048576 }
 {
-    (BATCH_EACH * workers as u64).max(LEAST_BATCH)
+    (BATCH_EACH * workers as u64).min(MOST_BATCH)
 }
 
 fn plan_of(job: &Job, workers: usize) -> Plan

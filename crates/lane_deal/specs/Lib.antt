@@ -6,6 +6,7 @@ pub mod Replayers
 pub mod Rounds
 pub mod Numbers
 pub mod Keys
+pub mod ListedPeers
 pub mod ListedUnits
 pub mod UnitLists
 pub mod UnitRings

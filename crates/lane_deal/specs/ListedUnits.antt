@@ -1,5 +1,5 @@
 -- The units of a list, whose bytes stand in one block.
-use Rattle.std.specs.Prelude.{ℕ, ◌+◌, ◌≤◌, List, take, drop}
+use Rattle.std.specs.Prelude.{ℕ, ◌+◌, ◌≤◌, ◌%◌, List, take, drop}
 use Rattle.mrt_body.specs.declared.unit.Payload.{Payload}
 use Rattle.mrt_body.specs.declared.unit.Payload.TheVariants.{State, Message, Entry}
 use Rattle.mrt_body.specs.Lent.{lent_unit}
@@ -11,7 +11,7 @@ use Rattle.lane_deal.specs.declared.unit_list.LentItem.{LentItem}
 
 -- the payload of this kind with these bytes
 abbrev pub payload_with : PayloadKind → List ℕ → Payload
-payload_with (kinds.State from to) bytes = State from to
+payload_with (kinds.State from to) bytes = State (from % 65536) (to % 65536)
 payload_with (kinds.Message width add_path) bytes = Message bytes width add_path
 payload_with (kinds.Entry key) bytes = Entry key bytes
 

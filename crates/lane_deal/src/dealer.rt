@@ -36,6 +36,7 @@ pub struct Dealer<D> {
 }
 
 /// Whether the lane's ring has room for another unit, at once or at one of this many further looks.
+#[inline(always)]
 fn has_room<G: Gate>(
     gate: &G,
     feeds: &mut [Feed],
@@ -52,6 +53,7 @@ fn has_room<G: Gate>(
 }
 
 /// Deals a copy of this unit of the peer with this number to its lane's ring, which has room for it.
+#[inline(always)]
 fn deal_one<G: Gate>(
     alloc: Global,
     gate: &G,
@@ -157,6 +159,7 @@ impl<D: Dealing> Dealer<D> {
     }
 
     /// Lends the next unit of the record that was cut last, unless a unit is kept, which comes before it.
+    #[inline(always)]
     fn lent<'a>(&self, units: &'a Units) -> Option<LentUnit<'a>>
         ensures kept { IfSome result (λ _. self.now.kept ≡ None) }
         ensures lends { IfSome result (λ unit. units.now.pending ≡ lent_unit unit ∷ drop 1 units.now.pending) }
@@ -171,6 +174,7 @@ impl<D: Dealing> Dealer<D> {
     }
 
     /// Returns the number of this peer, which gets the next one if it has none, and the number of its lane.
+    #[inline(always)]
     fn lane_for(&mut self, peer: &PeerKey, lanes: usize) -> Result<(usize, usize), Memory>
         requires { 0 < lanes }
         ensures numbers { IfOk result
@@ -212,7 +216,9 @@ impl<D: Dealing> Dealer<D> {
             if let Some(unit) = self.lent(units) {
                 let (number, lane) = self.lane_for(&unit.peer, feeds.len())?;
                 if !has_room(gate, feeds, lane, looks, over) {
-                    self.kept = Some(unit.to_unit(alloc)?);
+                    // A copy is lent, so that the unit itself needs no place in memory.
+                    let blocked = unit;
+                    self.kept = Some(blocked.to_unit(alloc)?);
                     units.pass();
                     return Ok(Step::Blocked);
                 }

@@ -3,9 +3,11 @@ ghost use Rattle.mrt_body.specs.Lent.{lent_unit};
 ghost use Rattle.mrt_body.specs.Units.{IsSmallUnit};
 
 use crate::gate::Gate;
+use crate::unit_list::UnitList;
 use crate::unit_producer::UnitProducer;
 use bgp_prefix::Memory;
 use mrt_body::LentUnit;
+use rtrb::Consumer;
 use std::alloc::Global;
 use std::sync::atomic::{AtomicBool, Ordering};
 
@@ -22,15 +24,32 @@ pub struct Feed {
     pub producer: UnitProducer,
     /// The number of units dealt to the lane, in all rounds. Saturates at `u64::MAX`.
     pub dealt: u64,
+    /// The lists that the worker emptied, whose memory is used again: a thread that frees what another one allocated, and
+    /// one that allocates meanwhile, would wait for each other.
+    pub emptied: Consumer<UnitList, Global>,
 }
 
 impl Feed {
     ghost use Rattle.lane_deal.specs.Feeds.{Pushed};
-    ghost use Rattle.lane_deal.specs.UnitRings.{known_free};
+    ghost use Rattle.lane_deal.specs.UnitRings.{known_free, sent, SameProducer};
+
+    /// Fills a list next that the worker emptied, if there is one and no list is being filled.
+    #[inline(never)]
+    fn fill_emptied(&mut self)
+        ensures ring { SameProducer self.old.producer self.new.producer }
+        ensures sent { sent self.new.producer ≡ sent self.old.producer }
+        ensures free { known_free self.new.producer ≡ known_free self.old.producer }
+        ensures counted { self.new.dealt ≡ self.old.dealt }
+    {
+        if let Ok(list) = self.emptied.pop() {
+            self.producer.fill_next(list);
+        }
+    }
 
     /// Looks this many times, until there is room for more than an eighth of the ring, or for more than `MOST_ROOM`
     /// units. Pauses before each look. Returns whether there is any room at the end. If the round is
     /// over because a worker failed, it stops looking.
+    #[inline(never)]
     fn look_again<G: Gate>(&mut self, gate: &G, looks: u32, over: &AtomicBool) -> bool
         ensures looked { Pushed self.old self.new [] }
         ensures counted { self.new.dealt ≡ self.old.dealt }
@@ -51,6 +70,7 @@ impl Feed {
 
     /// Whether there is room for a unit, at once or at one of this many further looks, of which it takes at most
     /// `MOST_LOOKS`.
+    #[inline(always)]
     pub fn has_room<G: Gate>(&mut self, gate: &G, looks: u32, over: &AtomicBool) -> bool
         ensures looked { Pushed self.old self.new [] }
         ensures counted { self.new.dealt ≡ self.old.dealt }
@@ -64,6 +84,7 @@ impl Feed {
     }
 
     /// Deals a copy of this unit of the peer with this number to the ring, which has room for it.
+    #[inline(always)]
     pub fn push<G: Gate>(
         &mut self,
         alloc: Global,
@@ -78,6 +99,9 @@ impl Feed {
             (Pushed self.old self.new (record { number = number; unit = lent_unit unit.now } ∷ [])) }
         ensures counted { OnOk result (self.new.dealt ≡ min (self.old.dealt + 1) (2 ^ 64 - 1)) }
     {
+        if !self.producer.is_filling() {
+            self.fill_emptied();
+        }
         self.producer.push(alloc, number, unit)?;
         gate.dealt(lane, self.dealt);
         self.dealt = self.dealt.saturating_add(1);

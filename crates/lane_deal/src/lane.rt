@@ -4,9 +4,10 @@ ghost use Rattle.lane_deal.specs.LaneRings.{Renewed, RenewedAll, IsLane, AreFres
 
 use crate::feed::Feed;
 use crate::sessions::Sessions;
-use crate::unit_producer::UnitProducer;
+use crate::unit_producer::{UnitProducer, emptied_room};
 use crate::worker::Worker;
 use bgp_prefix::Memory;
+use rtrb::RingBuffer;
 use std::alloc::Global;
 
 /// Compares both ends of the lane's ring, and moves the pending items to a new ring.
@@ -60,12 +61,18 @@ pub fn make_lanes<S: Sessions + Drop>(
     let mut workers = Vec::new(alloc);
     for lane in 0..count {
         let (producer, consumer) = UnitProducer::new(alloc, capacity)?;
-        feeds.push(Feed { producer, dealt: 0 })?;
+        let (gives_back, emptied) = RingBuffer::new(alloc, emptied_room(capacity))?;
+        feeds.push(Feed {
+            producer,
+            dealt: 0,
+            emptied,
+        })?;
         workers.push(Worker {
             lane,
             consumer,
             sessions: S::fresh(alloc),
             taken: 0,
+            emptied: gives_back,
         })?;
     }
     Ok((feeds, workers))

@@ -9,6 +9,7 @@ mod gate;
 mod holding;
 mod lane;
 mod lanes;
+mod listed_peer;
 mod numbered;
 mod peer_numbers;
 mod plan;

@@ -84,6 +84,7 @@ impl Peers {
     }
 
     /// Returns the number of this peer if the slot holds it.
+    #[inline(always)]
     fn recent_at(&self, slot: usize, peer: &PeerKey) -> Option<usize>
         ensures { IfSome result (λ number. slice_get self.now.keys.items number ≡ Some peer.now) }
     {
@@ -119,16 +120,20 @@ impl Peers {
         Ok(number)
     }
 
-    fn find_or_add(&mut self, peer: &PeerKey) -> Result<usize, Memory>
-        ensures { IfOk result (NumbersPeer self.old.keys.items self.new.keys.items peer.now) }
+    /// Returns the number of a peer whose slot holds another one. It is seldom needed, and its locals are no part of the
+    /// dealer's loop.
+    #[inline(never)]
+    fn find_or_add(&mut self, peer: PeerKey) -> Result<usize, Memory>
+        ensures { IfOk result (NumbersPeer self.old.keys.items self.new.keys.items peer) }
     {
-        if let Some(number) = self.find(peer) {
+        if let Some(number) = self.find(&peer) {
             return Ok(number);
         }
-        self.add(peer)
+        self.add(&peer)
     }
 
     /// Returns the number of a peer. A peer is numbered when it first appears.
+    #[inline(always)]
     pub fn number_of(&mut self, peer: &PeerKey) -> Result<usize, Memory>
         ensures { IfOk result (NumbersPeer self.old.keys.items self.new.keys.items peer.now) }
     {
@@ -136,7 +141,7 @@ impl Peers {
         if let Some(number) = self.recent_at(slot, peer) {
             return Ok(number);
         }
-        let number = self.find_or_add(peer)?;
+        let number = self.find_or_add(*peer)?;
         if let Some(recent) = self.recent.get_mut(slot) {
             *recent = number;
         }

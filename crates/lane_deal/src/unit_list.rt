@@ -7,27 +7,29 @@ ghost use Rattle.mrt_body.specs.Lent.{lent_payload};
 ghost use Rattle.adj_rib.specs.RouteSets.{IsAheadOf};
 ghost use Rattle.lane_deal.specs.ListedUnits.{IsWithin, payload_with};
 
+use crate::listed_peer::ListedPeer;
 use adj_rib::ReadAhead;
 use bgp_prefix::{Memory, RouteKey};
 use bgp_update::Width;
-use mrt_body::{LentPayload, LentUnit, PeerKey, Place};
+use mrt_body::{LentPayload, LentUnit, Place};
 use std::alloc::Global;
 
 /// A payload without its bytes.
 #[derive(Clone, Copy)]
 pub enum PayloadKind {
-    State { from: u16, to: u16 },
+    /// Numbers below 65,536. As long as the fields of a key, they are copied together with these.
+    State { from: u32, to: u32 },
     Message { width: Width, add_path: bool },
     Entry { key: RouteKey },
 }
 
 /// A unit of a list, and where its bytes are in those of the list.
-#[derive(Clone, Copy)]
+#[derive(Drop)]
 pub struct ListedUnit {
     pub number: usize,
     pub place: Place,
     pub time: u64,
-    pub peer: PeerKey,
+    pub peer: ListedPeer,
     pub kind: PayloadKind,
     pub start: usize,
     pub len: usize,
@@ -52,12 +54,25 @@ pub struct UnitList {
 /// How many bytes there is room for at first for each unit of a list. More are made room for as they come.
 const BYTES_EACH: usize = 64;
 
+/// How many bytes a list that is filled again may have room for. One that long messages enlarged is freed.
+const MOST_KEPT: usize = 16_384;
+
+/// How many numbers a state may have.
+const STATES: u32 = 65_536;
+
 /// Returns a payload's kind and its bytes.
+#[inline(always)]
 fn parts_of<'a>(payload: &LentPayload<'a>) -> (PayloadKind, &'a [u8])
     ensures { payload_with result.0 result.1.now ≡ lent_payload payload.now }
 {
     match *payload {
-        LentPayload::State { from, to } => (PayloadKind::State { from, to }, &[]),
+        LentPayload::State { from, to } => (
+            PayloadKind::State {
+                from: from as u32,
+                to: to as u32,
+            },
+            &[],
+        ),
         LentPayload::Message {
             bytes,
             width,
@@ -72,7 +87,10 @@ fn with_bytes(kind: PayloadKind, bytes: &[u8]) -> LentPayload<'_>
     ensures { lent_payload result ≡ payload_with kind bytes.now }
 {
     match kind {
-        PayloadKind::State { from, to } => LentPayload::State { from, to },
+        PayloadKind::State { from, to } => LentPayload::State {
+            from: (from % STATES) as u16,
+            to: (to % STATES) as u16,
+        },
         PayloadKind::Message { width, add_path } => LentPayload::Message {
             bytes,
             width,
@@ -114,7 +132,21 @@ impl UnitList {
         self.listed.len()
     }
 
+    /// Takes out all units. Their memory stays for other ones.
+    pub fn clear(&mut self)
+        ensures { units_of self.new ≡ [] }
+    {
+        self.listed.clear();
+        self.bytes.clear();
+    }
+
+    /// Whether its memory should be kept for other units.
+    pub fn is_worth_keeping(&self) -> bool {
+        self.bytes.capacity() <= MOST_KEPT
+    }
+
     /// Makes room for so many units, and for some bytes of each.
+    #[inline(never)]
     pub fn reserve(&mut self, count: usize) -> Result<(), Memory>
         ensures { units_of self.new ≡ units_of self.old }
     {
@@ -124,6 +156,7 @@ impl UnitList {
     }
 
     /// Adds a copy of this unit of the peer with this number.
+    #[inline(always)]
     pub fn push(&mut self, number: usize, unit: &LentUnit<'_>) -> Result<(), Memory>
         ensures pushed { OnOk result
             (units_of self.new ≡ units_of self.old ++ record { number = number; unit = lent_unit unit.now } ∷ []) }
@@ -137,7 +170,7 @@ impl UnitList {
             number,
             place: unit.place,
             time: unit.time,
-            peer: unit.peer,
+            peer: ListedPeer::new(&unit.peer),
             kind,
             start,
             len: bytes.len(),
@@ -162,14 +195,14 @@ impl UnitList {
         requires { at < length (units_of self.now) }
         ensures { (d : _) → slice_index_or (units_of self.now) at d ≡ lent_item result }
     {
-        let unit = self.listed[at];
+        let unit = &self.listed[at];
         let bytes = bytes_from(self.bytes.as_slice(), unit.start, unit.len);
         LentItem {
             number: unit.number,
             unit: LentUnit {
                 place: unit.place,
                 time: unit.time,
-                peer: unit.peer,
+                peer: unit.peer.key(),
                 payload: with_bytes(unit.kind, bytes),
             },
         }
@@ -180,7 +213,7 @@ impl UnitList {
         requires { at < length (units_of self.now) }
         ensures { (d : Numbered) → IsAheadOf (slice_index_or (units_of self.now) at d).unit.payload result }
     {
-        let unit = self.listed[at];
+        let unit = &self.listed[at];
         match unit.kind {
             PayloadKind::Entry { .. } => {
                 let attrs = bytes_from(self.bytes.as_slice(), unit.start, unit.len);

@@ -31,6 +31,8 @@ pub struct UnitProducer {
     free: usize,
     /// How many units may wait in the ring.
     capacity: usize,
+    /// How many units fill a list.
+    size: usize,
     ghost slots: { (capacity ≤ length lengths.items + free_slots lists) × (producer_capacity lists ≡ capacity) },
     ghost waiting: { AreLastLengths lengths.items (sent_lists lists) },
     ghost some: { AllByRecursion (λ n. 0 < n) lengths.items } by { Prim.hlevel props },
@@ -39,8 +41,21 @@ pub struct UnitProducer {
 }
 
 /// Returns how many units fill a list in a ring of so many units: an eighth of them, within bounds.
-fn list_size(capacity: usize) -> usize {
+fn list_size(capacity: usize) -> usize
+    ensures { 0 < result }
+{
     (capacity / 8).min(MOST_UNITS).max(1)
+}
+
+/// The maximum number of emptied lists that wait to be filled again.
+const MOST_EMPTIED: usize = 64;
+
+/// Returns how many emptied lists may wait to be filled again, for a ring of so many units: as many as the ring holds,
+/// and one that is being filled, within bounds.
+pub fn emptied_room(capacity: usize) -> usize {
+    (capacity / list_size(capacity))
+        .saturating_add(1)
+        .min(MOST_EMPTIED)
 }
 
 /// Takes out the first numbers, and returns their sum.
@@ -60,7 +75,7 @@ fn take_sum(lengths: &mut VecDeque<usize>, count: usize) -> usize
 }
 
 impl UnitProducer {
-    ghost use Rattle.std.specs.Prelude.{◌≡◌, ◌+◌, ◌<◌, ◌≤◌, [], ◌∷◌, ◌++◌, length, IfOk, OnOk, IsTrue, ◌↔◌};
+    ghost use Rattle.std.specs.Prelude.{◌≡◌, ◌+◌, ◌<◌, ◌≤◌, [], ◌∷◌, ◌++◌, length, IfOk, OnOk, IsTrue, ◌↔◌, false};
     ghost use Rattle.rtrb.specs.Ring.{ConsumerLooked};
     ghost use Rattle.mrt_body.specs.Lent.{lent_unit};
     ghost use Rattle.mrt_body.specs.Units.{IsSmallUnit};
@@ -85,6 +100,7 @@ impl UnitProducer {
             lengths: VecDeque::new(alloc),
             free: capacity,
             capacity,
+            size: list_size(capacity),
         };
         Ok((producer, consumer))
     }
@@ -111,6 +127,7 @@ impl UnitProducer {
     }
 
     /// Looks which lists were popped, and returns how many more units may wait.
+    #[inline(never)]
     pub fn look(&mut self) -> usize
         ensures looked { ProducerLooked self.old self.new }
         ensures value { result ≡ known_free self.new }
@@ -122,6 +139,7 @@ impl UnitProducer {
     }
 
     /// Whether no more units may wait. The worker may pop some at any time.
+    #[inline(always)]
     pub fn is_full(&mut self) -> bool
         ensures looked { ProducerLooked self.old self.new }
         ensures value { IsTrue result ↔ (known_free self.new ≡ 0) }
@@ -142,6 +160,27 @@ impl UnitProducer {
         mem::replace(&mut self.filling, UnitList::new(alloc))
     }
 
+    /// Whether a list is being filled that has units.
+    pub fn is_filling(&self) -> bool
+        ensures { result ≡ false → units_of self.now.filling ≡ [] }
+    {
+        self.filling.len() > 0
+    }
+
+    /// Fills this list next, whose own units are taken out, unless units of another one wait to be pushed.
+    pub fn fill_next(&mut self, list: UnitList)
+        ensures ring { SameProducer self.old self.new }
+        ensures sent { sent self.new ≡ sent self.old }
+        ensures free { known_free self.new ≡ known_free self.old }
+    {
+        if self.is_filling() {
+            return;
+        }
+        let mut next = list;
+        next.clear();
+        self.filling = next;
+    }
+
     /// Pushes a list, after which no list is being filled.
     fn push_list(&mut self, list: UnitList) -> Result<(), Memory>
         requires list { IsUnitList list }
@@ -159,8 +198,21 @@ impl UnitProducer {
         Ok(())
     }
 
+    /// Pushes the list that is being filled.
+    #[inline(never)]
+    fn push_filling(&mut self, alloc: Global) -> Result<(), Memory>
+        requires { 0 < length (units_of self.old.filling) }
+        ensures ring { SameProducer self.old self.new }
+        ensures sent { OnOk result (sent self.new ≡ sent self.old) }
+        ensures free { OnOk result (known_free self.new ≡ known_free self.old) }
+    {
+        let list = self.take_filling(alloc);
+        self.push_list(list)
+    }
+
     /// Adds a copy of this unit of the peer with this number to the list that is being filled, and pushes the list if
     /// it is then full.
+    #[inline(always)]
     pub fn push(&mut self, alloc: Global, number: usize, unit: &LentUnit<'_>) -> Result<(), Memory>
         requires small { IsSmallUnit (lent_unit unit.now) }
         requires room { 0 < known_free self.old }
@@ -169,17 +221,15 @@ impl UnitProducer {
             (sent self.new ≡ sent self.old ++ record { number = number; unit = lent_unit unit.now } ∷ []) }
         ensures free { OnOk result (known_free self.old ≡ known_free self.new + 1) }
     {
-        let size = list_size(self.capacity);
         if self.filling.len() == 0 {
-            self.filling.reserve(size)?;
+            self.filling.reserve(self.size)?;
         }
         self.filling.push(number, unit)?;
         self.free -= 1;
-        if self.filling.len() < size {
+        if self.filling.len() < self.size {
             return Ok(());
         }
-        let list = self.take_filling(alloc);
-        self.push_list(list)
+        self.push_filling(alloc)
     }
 
     /// Compares both ends, which are in one thread: the dealer then knows how many units wait, and the worker all lists

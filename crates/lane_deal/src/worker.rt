@@ -10,7 +10,7 @@ use crate::sessions::Sessions;
 use crate::unit_list::UnitList;
 use adj_rib::ReadAhead;
 use bgp_prefix::Memory;
-use rtrb::Consumer;
+use rtrb::{Consumer, Producer};
 use std::alloc::Global;
 use std::sync::atomic::{AtomicBool, Ordering};
 use std::thread::{Threads, join_mut};
@@ -22,6 +22,8 @@ pub struct Worker<S> {
     pub consumer: Consumer<UnitList, Global, Small>,
     pub sessions: S,
     pub taken: u64,
+    /// Where the lists go whose units were taken: the dealer fills them again.
+    pub emptied: Producer<UnitList, Global>,
 }
 
 /// How long a worker keeps looking in one round.
@@ -147,7 +149,19 @@ impl<S: Sessions> Worker<S> {
     {
         let items = self.consumer.pop_known();
         read_ahead(alloc, buffer, &items, ahead)?;
-        self.take_items(alloc, gate, &items, ahead.as_slice())
+        self.take_items(alloc, gate, &items, ahead.as_slice())?;
+        self.give_back(items);
+        Ok(())
+    }
+
+    /// Gives a list whose units were taken back to the dealer. It is freed if its memory is large, or if as many wait
+    /// there as may.
+    fn give_back(&mut self, list: UnitList)
+        ensures { self.new ≡ record self.old { emptied = self.new.emptied } }
+    {
+        if list.is_worth_keeping() {
+            let _ = self.emptied.push(list);
+        }
     }
 
     /// Takes the units in order.

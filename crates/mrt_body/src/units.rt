@@ -264,8 +264,11 @@ impl Units {
         ensures units { units_left self.new + length (take 1 self.old.pending) ≡ units_left self.old }
         ensures plan { KeepsPlan self.old self.new }
     {
-        if let Some(unit) = self.session.take() {
-            self.spare = kept_block(unit.into_body());
+        // An entry is the usual case, and `take` would clear the place of a message each time.
+        if self.session.is_some() {
+            if let Some(unit) = self.session.take() {
+                self.spare = kept_block(unit.into_body());
+            }
         } else if let Some(index) = &mut self.index {
             index.pass();
         }

@@ -166,9 +166,9 @@ impl<V: Drop> Part for Chunk<V> {
 
     ghost routes = { λ c. c };
 
-    fn single(alloc: Global, key: &RouteKey, value: V) -> Result<Chunk<V>, Memory> {
-        let mut keys = Vec::with_capacity(alloc, 1)?;
-        let mut values = Vec::with_capacity(alloc, 1)?;
+    fn single(alloc: Global, room: usize, key: &RouteKey, value: V) -> Result<Chunk<V>, Memory> {
+        let mut keys = Vec::with_capacity(alloc, room)?;
+        let mut values = Vec::with_capacity(alloc, room)?;
         let mut ids = Vec::new(alloc);
         put_id(alloc, &mut ids, 0, 0, key.id)?;
         put(&mut keys, 0, key.prefix);

@@ -31,9 +31,15 @@ pub(crate) trait Part: Drop {
     /// The routes, in order.
     ghost routes: { Self → List (RouteKey × Self.Value) };
 
-    /// Returns a part of one route.
-    fn single(alloc: Global, key: &RouteKey, value: Self::Value) -> Result<Self, Memory>
-        requires { IsIpPrefix key.now.prefix }
+    /// Returns a part of one route, in a chunk with room for so many.
+    fn single(
+        alloc: Global,
+        room: usize,
+        key: &RouteKey,
+        value: Self::Value,
+    ) -> Result<Self, Memory>
+        requires known { IsIpPrefix key.now.prefix }
+        requires room { 0 < room }
         ensures { IfOk result (λ one. routes one ≡ (key.now, value) ∷ []) };
 
     /// Whether it has no routes.

@@ -26,15 +26,21 @@ pub(crate) struct Parts<P> {
 }
 
 impl<P: Part> Parts<P> {
-    /// Returns one part of one route.
-    pub(crate) fn single(alloc: Global, key: &RouteKey, value: P::Value) -> Result<Parts<P>, Memory>
-        requires { IsIpPrefix key.now.prefix }
+    /// Returns one part of one route, in a chunk with room for so many.
+    pub(crate) fn single(
+        alloc: Global,
+        room: usize,
+        key: &RouteKey,
+        value: P::Value,
+    ) -> Result<Parts<P>, Memory>
+        requires known { IsIpPrefix key.now.prefix }
+        requires room { 0 < room }
         ensures routes { IfOk result (λ one. routes_of P.routes one.parts.items ≡ (key.now, value) ∷ []) }
         ensures parts { IfOk result (λ one. AreParts one.firsts.items (map P.routes one.parts.items)) }
     {
         let mut firsts = Vec::with_capacity(alloc, 1)?;
         let mut parts = Vec::with_capacity(alloc, 1)?;
-        let part = P::single(alloc, key, value)?;
+        let part = P::single(alloc, room, key, value)?;
         put(&mut firsts, 0, *key);
         put(&mut parts, 0, part);
         Ok(Parts { firsts, parts })
@@ -129,8 +135,15 @@ impl<P: Part> Parts<P> {
         Ok(before)
     }
 
-    // Adds a new part of one route after the others.
-    fn push_single(&mut self, alloc: Global, key: &RouteKey, value: P::Value) -> Result<(), Memory>
+    // Adds a new part of one route after the others, in a chunk with room for so many.
+    fn push_single(
+        &mut self,
+        alloc: Global,
+        room: usize,
+        key: &RouteKey,
+        value: P::Value,
+    ) -> Result<(), Memory>
+        requires room { 0 < room }
         requires parts { AreParts self.old.firsts.items (map P.routes self.old.parts.items) }
         requires known { IsIpPrefix key.now.prefix }
         requires last { EachKey (λ k. key_cmp k key.now ≡ Less) (routes_of P.routes self.old.parts.items) }
@@ -141,7 +154,7 @@ impl<P: Part> Parts<P> {
     {
         make_room(&mut self.firsts)?;
         make_room(&mut self.parts)?;
-        let part = P::single(alloc, key, value)?;
+        let part = P::single(alloc, room, key, value)?;
         let len = self.firsts.len();
         put(&mut self.firsts, len, *key);
         let len = self.parts.len();
@@ -190,12 +203,13 @@ impl<P: Part> Parts<P> {
         ensures parts { AreParts self.new.firsts.items (map P.routes self.new.parts.items) }
     {
         if self.parts.is_empty() {
-            self.push_single(alloc, key, value)?;
+            self.push_single(alloc, 1, key, value)?;
             return Ok(None);
         }
         let index = self.index_of_key(key);
         if index + 1 == self.parts.len() && self.parts[index].ends_below(key) {
-            self.push_single(alloc, key, value)?;
+            // The keys come in order, as those of a RIB dump do, so the new chunk is likely to be filled.
+            self.push_single(alloc, FULL_LEN, key, value)?;
             return Ok(None);
         }
         let before = self.insert_in_part(alloc, index, key, value)?;

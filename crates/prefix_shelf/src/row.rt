@@ -30,8 +30,8 @@ impl<V: Drop> Part for Row<V> {
 
     ghost routes = { λ r. r };
 
-    fn single(alloc: Global, key: &RouteKey, value: V) -> Result<Row<V>, Memory> {
-        let chunks = Parts::single(alloc, key, value)?;
+    fn single(alloc: Global, room: usize, key: &RouteKey, value: V) -> Result<Row<V>, Memory> {
+        let chunks = Parts::single(alloc, room, key, value)?;
         Ok(Row { chunks })
     }
 

@@ -10,4 +10,4 @@ returns-clause-routes g c =
 
 pub returns-clause-parts : goal.returns-clause-parts
 returns-clause-parts g c =
-    rw (c.put.ensures, c.put-2.ensures, c.in_ok-firsts.ensures.items, c.in_ok-parts.ensures.items, c.in_ok-part.ensures) (parts_one c.args.key.now c.args.value c.requires)
+    rw (c.put.ensures, c.put-2.ensures, c.in_ok-firsts.ensures.items, c.in_ok-parts.ensures.items, c.in_ok-part.ensures) (parts_one c.args.key.now c.args.value c.requires.known)
