@@ -66,7 +66,13 @@ impl RibRecord {
         }
     }
 
+    /// Returns the memory of the body.
+    pub(crate) fn into_block(self) -> Vec<u8> {
+        self.body.into_vec()
+    }
+
     /// Whether an entry is to be returned.
+    #[inline(always)]
     pub(crate) fn is_pending(&self, peers: &[PeerKey], list: &[ListedEntry]) -> bool
         requires { AreListed peers.now list.now self.now }
         ensures { result ≡ false ↔ (units_left peers.now list.now self.now ≡ []) }
@@ -78,6 +84,7 @@ impl RibRecord {
     }
 
     /// Lends the unit of the next entry, or returns `None` at the end.
+    #[inline(always)]
     pub(crate) fn lend(&self, peers: &[PeerKey], list: &[ListedEntry]) -> Option<LentUnit<'_>>
         requires { AreListed peers.now list.now self.now }
         ensures lends { IfSome result
@@ -109,6 +116,7 @@ impl RibRecord {
     }
 
     /// Passes over the next entry, which was returned.
+    #[inline(always)]
     pub(crate) fn pass(&mut self, peers: &[PeerKey], list: &[ListedEntry])
         requires { AreListed peers.now list.now self.old }
         ensures passes { units_left peers.now list.now self.new ≡ drop 1 (units_left peers.now list.now self.old) }

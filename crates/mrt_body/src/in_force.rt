@@ -73,7 +73,18 @@ impl Index {
         self.last = None;
     }
 
+    /// Takes out the memory of the last record, and skips what is still to be returned of it.
+    pub(crate) fn take_block(&mut self) -> Option<Vec<u8>>
+        ensures { self.new ≡ without_pending self.old }
+    {
+        match self.last.take() {
+            Some(record) => Some(record.into_block()),
+            None => None,
+        }
+    }
+
     /// Whether an entry is to be returned.
+    #[inline(always)]
     pub(crate) fn is_pending(&self) -> bool
         ensures { result ≡ false ↔ (self.now.pending ≡ []) }
     {
@@ -84,6 +95,7 @@ impl Index {
     }
 
     /// Lends the unit of the next entry, or returns `None` at the end.
+    #[inline(always)]
     pub(crate) fn lend(&self) -> Option<LentUnit<'_>>
         ensures lends { IfSome result (λ unit. self.now.pending ≡ lent_unit unit ∷ drop 1 self.now.pending) }
         ensures none { (result ≡ None → self.now.pending ≡ []) × (self.now.pending ≡ [] → result ≡ None) }
@@ -96,6 +108,7 @@ impl Index {
     }
 
     /// Passes over the next entry, which was returned.
+    #[inline(always)]
     pub(crate) fn pass(&mut self)
         ensures { self.new ≡ record { peers = self.old.peers; pending = drop 1 self.old.pending } }
     {

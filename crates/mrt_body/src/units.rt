@@ -17,7 +17,6 @@ use crate::selection::Selection;
 use crate::session_unit::SessionUnit;
 use crate::standing::Standing;
 use crate::unit::{Damage, Found, Unit};
-use bgp_prefix::Sequence;
 use mrt_frame::{Cut, FrameReader, ReplayError, Source};
 use record::refused;
 use std::alloc::Global;
@@ -32,7 +31,7 @@ pub struct Units {
     index: Option<Index>,
     /// The unit of the BGP4MP record cut last, if it is still to be returned.
     session: Option<SessionUnit>,
-    /// The memory of a message that was passed over, into which the next record is read.
+    /// The memory of a record whose units were passed over, into which the next one is read.
     spare: Option<Vec<u8>>,
     selection: Selection,
     max_records: u64,
@@ -237,6 +236,7 @@ impl Units {
 
     /// Lends the next unit of the record that was cut last, which is what `next` would return. Returns `None` if all of
     /// them were returned, or after an error. Whoever is done with the unit calls `pass`, and needs no unit of their own.
+    #[inline(always)]
     pub fn lend(&self) -> Option<LentUnit<'_>>
         ensures lends { IfSome result
             (λ unit. (self.now.standing ≡ standings.Going)
@@ -257,6 +257,7 @@ impl Units {
     }
 
     /// Passes over the unit that `lend` lent, if there is one: `next` returns what comes after it.
+    #[inline(always)]
     pub fn pass(&mut self)
         ensures passes { GivesPending self.old self.new (take 1 self.old.pending) }
         ensures found { (known : List (Option (List ℕ))) →
@@ -267,10 +268,22 @@ impl Units {
         // An entry is the usual case, and `take` would clear the place of a message each time.
         if self.session.is_some() {
             if let Some(unit) = self.session.take() {
-                self.spare = kept_block(unit.into_body());
+                self.spare = kept_block(unit.into_body().into_vec());
             }
         } else if let Some(index) = &mut self.index {
             index.pass();
+        }
+    }
+
+    /// Keeps the memory of the last RIB record, whose entries were returned, for the next record.
+    fn reuse_record(&mut self)
+        requires { self.old.pending ≡ [] }
+        ensures { self.new ≡ self.old }
+    {
+        if let Some(index) = &mut self.index {
+            if let Some(block) = index.take_block() {
+                self.spare = kept_block(block);
+            }
         }
     }
 
@@ -354,6 +367,7 @@ impl Units {
     }
 
     /// Cuts the current file once, and returns what comes of it first, if anything but entries does.
+    #[inline(never)]
     fn step<R: Source>(
         &mut self,
         alloc: Global,
@@ -381,6 +395,7 @@ impl Units {
         ensures plan { KeepsPlan self.old self.new }
     {
         let file = self.file;
+        self.reuse_record();
         match self.cut(alloc, reader)? {
             None => Ok(None),
             Some(Cut::Broken { offset, fault }) => {
@@ -408,9 +423,8 @@ impl Units {
 /// 65,535 and some more (RFC 8654).
 const MOST_KEPT: usize = 1 << 17;
 
-/// Returns the memory of this body, unless it is larger than what is kept.
-fn kept_block(body: Sequence<u8>) -> Option<Vec<u8>> {
-    let block = body.into_vec();
+/// Returns this memory, unless it is larger than what is kept.
+fn kept_block(block: Vec<u8>) -> Option<Vec<u8>> {
     if MOST_KEPT < block.capacity() {
         return None;
     }

@@ -9,12 +9,12 @@ returns-in-Some-Broken-clause-steps g c =
     rw c.refused.ensures (step_broken c.args.self.now c.cut.new.self (g.R.Source.remaining c.args.reader.now) (g.R.Source.remaining c.cut.new.reader) c.self.inside.file c.in-Some-Broken.offset c.in-Some-Broken.fault c.in_ok-cut.field-0
     (ap (λ (u : UnitsState). u.file) c.self.view_is)
     (c.in-Some-Broken.is ∙ ap (λ (x : Cut). Some x) c.in-Some-Broken.field-0-is)
-    c.in_ok-cut.ensures.cuts)
+    (rw c.reuse_record.ensures at c.in_ok-cut.ensures.cuts))
 
 pub returns-in-Some-Whole-clause-steps : goal.returns-in-Some-Whole-clause-steps
 returns-in-Some-Whole-clause-steps g c =
     step_records c.args.self.now c.self.inside.file c.in-Some-Whole.record c.cut.new.self c.take.new.self (g.R.Source.remaining c.args.reader.now) (g.R.Source.remaining c.cut.new.reader) c.take.result c.in_ok-cut.field-0
     (ap (λ (u : UnitsState). u.file) c.self.view_is)
     (c.in-Some-Whole.is ∙ ap (λ (x : Cut). Some x) c.in-Some-Whole.field-0-is)
-    c.in_ok-cut.ensures.cuts
+    (rw c.reuse_record.ensures at c.in_ok-cut.ensures.cuts)
     (rw (c.is_extended.ensures, c.content_of-content.ensures) at c.take.ensures.takes)
