@@ -1,5 +1,8 @@
 //! A peer's Adj-RIB-In (RFC 4271, 3.2), and how each unit changes it.
 
+ghost use Rattle.std.specs.Prelude.{◌≡◌};
+ghost use Rattle.mrt_body.specs.Lent.{lent_payload};
+
 use crate::churn::Churn;
 use crate::outcome::Outcome;
 use crate::read_ahead::{ReadAhead, Reading};
@@ -23,6 +26,29 @@ pub(crate) struct RibIn<M: PrefixMap<SharedRoute>> {
     pub(crate) churn: Churn,
     pub(crate) faults: Vec<Damage>,
     routes: RouteSet,
+}
+
+/// Returns this payload.
+#[inline(always)]
+fn same_payload<'a>(payload: &LentPayload<'a>) -> LentPayload<'a>
+    ensures { lent_payload result ≡ lent_payload payload.now }
+{
+    match payload {
+        LentPayload::State { from, to } => LentPayload::State {
+            from: *from,
+            to: *to,
+        },
+        LentPayload::Message {
+            bytes,
+            width,
+            add_path,
+        } => LentPayload::Message {
+            bytes,
+            width: *width,
+            add_path: *add_path,
+        },
+        LentPayload::Entry { key, attrs } => LentPayload::Entry { key: *key, attrs },
+    }
 }
 
 impl<M: PrefixMap<SharedRoute>> RibIn<M> {
@@ -144,6 +170,7 @@ impl<M: PrefixMap<SharedRoute>> RibIn<M> {
     }
 
     /// Takes a unit that wasn't read ahead.
+    #[inline(never)]
     #[tactic(auto, unfolding(crate::specs::Applied::followed, crate::specs::Applied::noted))]
     fn read_and_take(
         &mut self,
@@ -171,6 +198,7 @@ impl<M: PrefixMap<SharedRoute>> RibIn<M> {
     }
 
     /// Takes a unit, with what was read ahead of it.
+    #[inline(always)]
     #[tactic(auto, unfolding(mrt_body::specs::Events::event_in))]
     fn take_payload(
         &mut self,
@@ -192,7 +220,9 @@ impl<M: PrefixMap<SharedRoute>> RibIn<M> {
                 return self.announce_entry(alloc, *key, hashed);
             }
         }
-        self.read_and_take(alloc, buffer, place, payload)
+        // A copy is read, so that the unit itself needs no place in memory.
+        let unread = same_payload(payload);
+        self.read_and_take(alloc, buffer, place, &unread)
     }
 
     /// Prefetches the slot where `take` will look.
@@ -212,6 +242,7 @@ impl<M: PrefixMap<SharedRoute>> RibIn<M> {
     }
 
     /// Takes the next unit. What isn't read ahead is read by way of the buffer, whose contents are replaced.
+    #[inline(always)]
     pub(crate) fn take(
         &mut self,
         alloc: Global,

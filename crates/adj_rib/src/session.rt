@@ -68,6 +68,7 @@ impl<M: PrefixMap<SharedRoute>> Session<M> {
 
     /// Takes the next unit, whose bytes are lent, as `take` does, with what was read ahead of it. What isn't read ahead
     /// is read by way of a buffer, whose contents are replaced.
+    #[inline(always)]
     pub fn take_ahead(
         &mut self,
         alloc: Global,

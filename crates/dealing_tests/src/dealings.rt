@@ -24,7 +24,7 @@ struct Dumped {
 }
 
 /// Replays the file by this dealing, which takes at most so many rounds.
-fn check_dealing<M: PrefixMap<SharedRoute> + Send + Drop, D: Dealing + Sync>(
+fn check_dealing<M: PrefixMap<SharedRoute> + Send + Sync + Drop, D: Dealing + Sync>(
     rt: &(impl Threads + Abort + Sync),
     alloc: Global,
     file: &Dumped,
@@ -63,7 +63,7 @@ fn check_dealing<M: PrefixMap<SharedRoute> + Send + Drop, D: Dealing + Sync>(
 }
 
 /// Replays the file by turns, by blocks and by this list.
-fn check_dealings<M: PrefixMap<SharedRoute> + Send + Drop>(
+fn check_dealings<M: PrefixMap<SharedRoute> + Send + Sync + Drop>(
     rt: &(impl Threads + Abort + Sync),
     alloc: Global,
     file: &Dumped,
@@ -77,7 +77,7 @@ fn check_dealings<M: PrefixMap<SharedRoute> + Send + Drop>(
 }
 
 /// Replays the file by each number of workers, and each ring, batch and greatest number of rounds.
-fn check_plans<M: PrefixMap<SharedRoute> + Send + Drop>(
+fn check_plans<M: PrefixMap<SharedRoute> + Send + Sync + Drop>(
     rt: &(impl Threads + Abort + Sync),
     alloc: Global,
     file: &Dumped,
@@ -149,7 +149,7 @@ fn long_list(alloc: Global) -> Result<ByList, Fail> {
 }
 
 /// Replays 300 peers with this map.
-fn check_three_hundred<M: PrefixMap<SharedRoute> + Send + Drop>(
+fn check_three_hundred<M: PrefixMap<SharedRoute> + Send + Sync + Drop>(
     rt: &(impl Threads + Abort + Sync),
     alloc: Global,
 ) -> Result<(), Fail> {

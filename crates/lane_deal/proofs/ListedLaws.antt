@@ -1,11 +1,20 @@
 -- The units of a list, as units are added to it.
-use Rattle.std.proofs.Common.{◌≡◌, ℕ, ◌+◌, ◌≤◌, List, [], ◌∷◌, ◌++◌, length, map, take, drop, refl, sym, ap, ◌∙◌, subst, arith, length-append, length-drop}
+use Rattle.std.proofs.Common.{◌≡◌, ℕ, ◌+◌, ◌<◌, ◌≤◌, List, [], ◌∷◌, ◌++◌, length, map, take, drop, refl, sym, ap, ◌∙◌, subst, arith, length-append, length-drop, slice_index_or}
 use Rattle.std.specs.List.{AllByRecursion}
-use Rattle.std.proofs.lemmas.List.{map-append, append-nil, drop-append-le, take-append-le}
+use Rattle.std.proofs.lemmas.List.{map-append, append-nil, drop-append-le, take-append-le, get_or-map, length-map}
 use Rattle.std.proofs.Math.Seq.{drop-append_seam, take-append_seam}
 use Rattle.lane_deal.specs.declared.unit_list.ListedUnit.{ListedUnit}
+use Rattle.lane_deal.specs.declared.unit_list.UnitList.{UnitList}
+use Rattle.lane_deal.specs.declared.numbered.Numbered.{Numbered}
 use Rattle.lane_deal.specs.ListedUnits.{IsWithin, unit_in, unit_with}
+use Rattle.lane_deal.specs.UnitLists.{units_of}
 use Rattle.lane_deal.proofs.DealerLaws.{all_push}
+
+-- the unit at an index
+pub unit_at : (list : UnitList) (at : ℕ) (u : ListedUnit) (d : Numbered) → at < length (units_of list) → u ≡ slice_index_or list.listed.items at u → slice_index_or (units_of list) at d ≡ unit_in list.bytes.items u
+unit_at list at u d within is =
+    let n = length-map list.listed.items (unit_in list.bytes.items) in
+    get_or-map (unit_in list.bytes.items) list.listed.items at u d (omega (arith, within, n)) ∙ ap (unit_in list.bytes.items) (sym is)
 
 -- bytes stay where they stand when others come behind them
 stays : (bytes more : List ℕ) (start len : ℕ) → start + len ≤ length bytes → take len (drop start (bytes ++ more)) ≡ take len (drop start bytes)

@@ -24,27 +24,13 @@ pub struct Feed {
     pub producer: UnitProducer,
     /// The number of units dealt to the lane, in all rounds. Saturates at `u64::MAX`.
     pub dealt: u64,
-    /// The lists that the worker emptied, whose memory is used again: a thread that frees what another one allocated, and
-    /// one that allocates meanwhile, would wait for each other.
+    /// The lists that the worker emptied, whose memory is used again.
     pub emptied: Consumer<UnitList, Global>,
 }
 
 impl Feed {
     ghost use Rattle.lane_deal.specs.Feeds.{Pushed};
-    ghost use Rattle.lane_deal.specs.UnitRings.{known_free, sent, SameProducer};
-
-    /// Fills a list next that the worker emptied, if there is one and no list is being filled.
-    #[inline(never)]
-    fn fill_emptied(&mut self)
-        ensures ring { SameProducer self.old.producer self.new.producer }
-        ensures sent { sent self.new.producer ≡ sent self.old.producer }
-        ensures free { known_free self.new.producer ≡ known_free self.old.producer }
-        ensures counted { self.new.dealt ≡ self.old.dealt }
-    {
-        if let Ok(list) = self.emptied.pop() {
-            self.producer.fill_next(list);
-        }
-    }
+    ghost use Rattle.lane_deal.specs.UnitRings.{known_free};
 
     /// Looks this many times, until there is room for more than an eighth of the ring, or for more than `MOST_ROOM`
     /// units. Pauses before each look. Returns whether there is any room at the end. If the round is
@@ -99,10 +85,7 @@ impl Feed {
             (Pushed self.old self.new (record { number = number; unit = lent_unit unit.now } ∷ [])) }
         ensures counted { OnOk result (self.new.dealt ≡ min (self.old.dealt + 1) (2 ^ 64 - 1)) }
     {
-        if !self.producer.is_filling() {
-            self.fill_emptied();
-        }
-        self.producer.push(alloc, number, unit)?;
+        self.producer.push(alloc, &mut self.emptied, number, unit)?;
         gate.dealt(lane, self.dealt);
         self.dealt = self.dealt.saturating_add(1);
         Ok(())

@@ -32,6 +32,7 @@ pub struct Seats<M: PrefixMap<SharedRoute>> {
 }
 
 /// Returns the position of this number's session, found by a linear scan.
+#[inline(never)]
 fn scan<M: PrefixMap<SharedRoute>>(seats: &[Seated<M>], number: usize) -> Option<usize>
     ensures { MatchOption result
         (list_any (λ s. s.number == number) (map seat_of seats.now) ≡ false) (λ at. (at < length seats.now) ×
@@ -46,6 +47,7 @@ fn scan<M: PrefixMap<SharedRoute>>(seats: &[Seated<M>], number: usize) -> Option
 }
 
 /// Whether this number's session is at that position.
+#[inline(always)]
 fn stands_at<M: PrefixMap<SharedRoute>>(seats: &[Seated<M>], at: usize, number: usize) -> bool
     ensures here { result ≡ true → (at < length seats.now) ×
         ((d : _) → (slice_index_or (map seat_of seats.now) at d).number ≡ number) }
@@ -72,6 +74,7 @@ fn remember(positions: &mut Vec<Option<usize>>, number: usize, at: usize) -> Res
 }
 
 /// Passes the unit to the session at that position.
+#[inline(always)]
 fn take_at<M: PrefixMap<SharedRoute>>(
     alloc: Global,
     buffer: &mut Vec<u8>,
@@ -90,6 +93,7 @@ fn take_at<M: PrefixMap<SharedRoute>>(
 
 impl<M: PrefixMap<SharedRoute> + Drop> Seats<M> {
     /// Returns the position recorded for this number.
+    #[inline(always)]
     fn position_of(&self, number: usize) -> Option<usize>
         ensures { (at : ℕ) → slice_get self.now.positions.items number ≡ Some (Some at) → result ≡ Some at }
     {
@@ -100,6 +104,7 @@ impl<M: PrefixMap<SharedRoute> + Drop> Seats<M> {
     }
 
     /// Returns the recorded position of this number's session, if the session is there.
+    #[inline(always)]
     fn remembered(&self, number: usize) -> Option<usize>
         ensures here { IfSome result (λ at. (at < length self.now.seats.items) ×
             ((d : _) → (slice_index_or (map seat_of self.now.seats.items) at d).number ≡ number)) }
@@ -115,6 +120,7 @@ impl<M: PrefixMap<SharedRoute> + Drop> Seats<M> {
     }
 
     /// Returns the position of this number's session.
+    #[inline(always)]
     fn find(&self, number: usize) -> Option<usize>
         ensures { MatchOption result
             (list_any (λ s. s.number == number)
@@ -130,25 +136,28 @@ impl<M: PrefixMap<SharedRoute> + Drop> Seats<M> {
         scan(&self.seats, number)
     }
 
-    /// Makes a session for this number, after the others.
-    fn add(&mut self, alloc: Global, number: usize, key: &PeerKey) -> Result<usize, Memory>
+    /// Makes a session for this number, after the others. It is seldom needed, and its locals are no part of the worker's
+    /// loop.
+    #[inline(never)]
+    fn add(&mut self, alloc: Global, number: usize, key: PeerKey) -> Result<usize, Memory>
         requires { list_any (λ s. s.number == number) (map seat_of self.old.seats.items) ≡ false }
         ensures within { IfOk result (λ at. at < length self.new.seats.items) }
         ensures seat { IfOk result
-            (SeatFor (map seat_of self.old.seats.items) (map seat_of self.new.seats.items) number key.now) }
+            (SeatFor (map seat_of self.old.seats.items) (map seat_of self.new.seats.items) number key) }
     {
         let at = self.seats.len();
         remember(&mut self.positions, number, at)?;
         self.seats.reserve(1)?;
         self.seats.push_reserved(Seated {
             number,
-            key: *key,
+            key,
             session: Session::new(alloc),
         });
         Ok(at)
     }
 
     /// Returns the position of this number's session, which is made if there is none.
+    #[inline(always)]
     fn position_for(&mut self, alloc: Global, number: usize, key: &PeerKey) -> Result<usize, Memory>
         ensures within { IfOk result (λ at. at < length self.new.seats.items) }
         ensures seat { IfOk result
@@ -157,7 +166,7 @@ impl<M: PrefixMap<SharedRoute> + Drop> Seats<M> {
         if let Some(at) = self.find(number) {
             return Ok(at);
         }
-        self.add(alloc, number, key)
+        self.add(alloc, number, *key)
     }
 
     /// Exchanges the sessions for these.
@@ -176,7 +185,8 @@ impl<M: PrefixMap<SharedRoute> + Drop> Seats<M> {
         Some(&seat.session)
     }
 
-    /// Prefetches the slots where the routes of all these units would be, and then these routes. The returned number has no meaning.
+    /// Prefetches the slots where the routes of all these units would be, and then these routes. The returned number has
+    /// no meaning.
     fn touch(&self, items: &UnitList, ahead: &[ReadAhead]) -> usize {
         let mut touched = 0usize;
         for (at, read) in ahead.iter().enumerate() {
@@ -214,6 +224,7 @@ impl<M: PrefixMap<SharedRoute> + Drop> Sessions for Seats<M> {
         self.prefetched = self.touch(items, ahead);
     }
 
+    #[inline(always)]
     fn take(
         &mut self,
         alloc: Global,

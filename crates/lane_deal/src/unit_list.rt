@@ -83,6 +83,7 @@ fn parts_of<'a>(payload: &LentPayload<'a>) -> (PayloadKind, &'a [u8])
 }
 
 /// Returns the payload of this kind with these bytes.
+#[inline(always)]
 fn with_bytes(kind: PayloadKind, bytes: &[u8]) -> LentPayload<'_>
     ensures { lent_payload result ≡ payload_with kind bytes.now }
 {
@@ -101,6 +102,7 @@ fn with_bytes(kind: PayloadKind, bytes: &[u8]) -> LentPayload<'_>
 }
 
 /// Returns this many bytes from a position on.
+#[inline(always)]
 fn bytes_from(bytes: &[u8], start: usize, len: usize) -> &[u8]
     requires { start + len ≤ length bytes.now }
     ensures { result.now ≡ take len (drop start bytes.now) }
@@ -191,6 +193,7 @@ impl UnitList {
     }
 
     /// Lends the unit at this index.
+    #[inline(always)]
     pub fn at(&self, at: usize) -> LentItem<'_>
         requires { at < length (units_of self.now) }
         ensures { (d : _) → slice_index_or (units_of self.now) at d ≡ lent_item result }

@@ -160,25 +160,22 @@ impl UnitProducer {
         mem::replace(&mut self.filling, UnitList::new(alloc))
     }
 
-    /// Whether a list is being filled that has units.
-    pub fn is_filling(&self) -> bool
-        ensures { result ≡ false → units_of self.now.filling ≡ [] }
-    {
-        self.filling.len() > 0
-    }
-
-    /// Fills this list next, whose own units are taken out, unless units of another one wait to be pushed.
-    pub fn fill_next(&mut self, list: UnitList)
+    /// Begins a list, in the memory of one that the worker emptied if there is one: a thread that frees what another one
+    /// allocated, and one that allocates meanwhile, wait for each other.
+    #[inline(never)]
+    fn begin_list(&mut self, emptied: &mut Consumer<UnitList, Global>) -> Result<(), Memory>
+        requires { units_of self.old.filling ≡ [] }
         ensures ring { SameProducer self.old self.new }
         ensures sent { sent self.new ≡ sent self.old }
         ensures free { known_free self.new ≡ known_free self.old }
+        ensures filling { units_of self.new.filling ≡ [] }
     {
-        if self.is_filling() {
-            return;
+        if let Ok(list) = emptied.pop() {
+            let mut next = list;
+            next.clear();
+            self.filling = next;
         }
-        let mut next = list;
-        next.clear();
-        self.filling = next;
+        self.filling.reserve(self.size)
     }
 
     /// Pushes a list, after which no list is being filled.
@@ -211,9 +208,15 @@ impl UnitProducer {
     }
 
     /// Adds a copy of this unit of the peer with this number to the list that is being filled, and pushes the list if
-    /// it is then full.
+    /// it is then full. A list is begun in the memory of one that was emptied.
     #[inline(always)]
-    pub fn push(&mut self, alloc: Global, number: usize, unit: &LentUnit<'_>) -> Result<(), Memory>
+    pub fn push(
+        &mut self,
+        alloc: Global,
+        emptied: &mut Consumer<UnitList, Global>,
+        number: usize,
+        unit: &LentUnit<'_>,
+    ) -> Result<(), Memory>
         requires small { IsSmallUnit (lent_unit unit.now) }
         requires room { 0 < known_free self.old }
         ensures ring { SameProducer self.old self.new }
@@ -222,7 +225,7 @@ impl UnitProducer {
         ensures free { OnOk result (known_free self.old ≡ known_free self.new + 1) }
     {
         if self.filling.len() == 0 {
-            self.filling.reserve(self.size)?;
+            self.begin_list(emptied)?;
         }
         self.filling.push(number, unit)?;
         self.free -= 1;

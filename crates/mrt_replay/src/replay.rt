@@ -16,8 +16,9 @@ use bgp_prefix::PrefixMap;
 use lane_deal::{Dealing, Gate, Plan};
 use mrt_frame::{ReplayError, Sink, Source};
 use rib_report::{
-    Request, Tables, churn, faults, list_tables, matches, origins, visibility, write_churn,
-    write_faults, write_origins, write_rows, write_visibility,
+    Request, Tables, churn, faults, list_tables, matches, origins_with_threads,
+    visibility_with_threads, write_churn, write_faults, write_origins, write_rows,
+    write_visibility,
 };
 use std::alloc::Global;
 use std::marker::Sync;
@@ -40,7 +41,7 @@ pub fn run<M, T, R, W, D, G>(
     out: &mut W,
 ) -> Result<Summary, ReplayError>
 where
-    M: PrefixMap<SharedRoute> + Send + Drop,
+    M: PrefixMap<SharedRoute> + Send + Sync + Drop,
     T: Threads + Sync,
     R: Source + Send,
     W: Sink,
@@ -103,8 +104,9 @@ fn tell_faults<M: PrefixMap<SharedRoute>, G: Gate>(gate: &G, tables: &Tables<M>)
     }
 }
 
-/// Writes the report that is asked for. As many threads as there are workers make the lines of large tables.
-fn write_report<M: PrefixMap<SharedRoute> + Drop, T: Threads + Sync, W: Sink>(
+/// Writes the report that is asked for. As many threads as there are workers make the lines of large tables, and two, if
+/// there are so many workers, the rows of `visibility` and `origins`.
+fn write_report<M: PrefixMap<SharedRoute> + Sync + Drop, T: Threads + Sync, W: Sink>(
     rt: &T,
     alloc: Global,
     workers: usize,
@@ -122,8 +124,14 @@ fn write_report<M: PrefixMap<SharedRoute> + Drop, T: Threads + Sync, W: Sink>(
 {
     match request {
         Request::Tables => list_tables(rt, alloc, workers, out, tables),
-        Request::Visibility => write_visibility(out, visibility(alloc, tables)?.as_slice()),
-        Request::Origins => write_origins(out, origins(alloc, tables)?.as_slice()),
+        Request::Visibility => {
+            let rows = visibility_with_threads(rt, alloc, workers, tables)?;
+            write_visibility(out, rows.as_slice())
+        }
+        Request::Origins => {
+            let rows = origins_with_threads(rt, alloc, workers, tables)?;
+            write_origins(out, rows.as_slice())
+        }
         Request::Churn => write_churn(out, churn(alloc, tables)?.as_slice()),
         Request::Match(addr) => write_rows(out, matches(alloc, tables, *addr)?.as_slice()),
         Request::Faults => write_faults(out, faults(alloc, tables)?.as_slice()),

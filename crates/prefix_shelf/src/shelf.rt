@@ -17,8 +17,9 @@ use std::marker::Model;
 /// and keys in order leave full chunks. An insertion or a removal moves no more than a part of a chunk,
 /// of a row's list of chunks and of the list of rows. `longest` searches at most 33 times.
 ///
-/// An entry takes the 8 bytes of its prefix, its value, and a share of the free room, which
-/// grows by 16 routes; while keys come in order, each chunk after the first has room for all its routes at once. Identifiers are stored only in a chunk with one that isn't 0, at 4 bytes each.
+/// An entry takes the 8 bytes of its prefix, its value, and a share of the free room, which grows by 16 routes; while
+/// keys come in order, each chunk after the first has room for all its routes at once. Identifiers are stored only in a
+/// chunk with one that isn't 0, at 4 bytes each.
 ///
 /// It suits many keys that come in order, or that should take little memory. Chunks that removals have
 /// shortened are not merged. `Radix` counts its steps; `Flat` serves a few keys.

@@ -19,7 +19,7 @@ use std::test::Fail;
 use std::thread::Threads;
 
 /// A run that is Ok wrote the report, and one that wants memory nothing. The writer has room for it.
-fn expect_report<M: PrefixMap<SharedRoute> + Send + Drop, D: Dealing + Sync>(
+fn expect_report<M: PrefixMap<SharedRoute> + Send + Sync + Drop, D: Dealing + Sync>(
     rt: &(impl Threads + Abort + Sync),
     alloc: Global,
     words: &str,

@@ -44,7 +44,7 @@ impl Outcome {
 }
 
 /// Replays these readers by turns, into memory.
-pub fn replay_readers<M: PrefixMap<SharedRoute> + Send + Drop, R: Source + Send>(
+pub fn replay_readers<M: PrefixMap<SharedRoute> + Send + Sync + Drop, R: Source + Send>(
     rt: &(impl Threads + Abort + Sync),
     alloc: Global,
     readers: &mut [R],
@@ -61,7 +61,7 @@ pub fn replay_readers<M: PrefixMap<SharedRoute> + Send + Drop, R: Source + Send>
 }
 
 /// Replays files in memory.
-pub fn replay<M: PrefixMap<SharedRoute> + Send + Drop>(
+pub fn replay<M: PrefixMap<SharedRoute> + Send + Sync + Drop>(
     rt: &(impl Threads + Abort + Sync),
     alloc: Global,
     files: &[Vec<u8>],

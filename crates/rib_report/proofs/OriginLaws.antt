@@ -4,7 +4,7 @@ use Rattle.std.specs.declared.cmp.Ordering.{Ordering}
 use Rattle.std.specs.declared.cmp.Ordering.TheVariants.{Less, Equal, Greater}
 use Rattle.std.specs.Ordering.{nat_cmp, is_eq, is_lt, eq_by_cmp, ordering_then, ordering_reverse}
 use Rattle.std.specs.Cmp.{IsTotalOrder}
-use Rattle.std.specs.List.{AllByRecursion, AllWithin, dedup, dedup_from, filter, list_any}
+use Rattle.std.specs.List.{AllByRecursion, AllWithin, dedup, dedup_from, filter, flat_map, list_any}
 use Rattle.std.specs.List.Sorted.{IsSorted, IsStrictlySortedBy, IsPermutation}
 use Rattle.std.specs.FinMap.Entries.{by_order, put, is_sorted, below_all}
 use Rattle.std.proofs.lemmas.List.Kept.{IsStrictlySortedBy-dedup}
@@ -12,18 +12,21 @@ use Rattle.std.proofs.lemmas.List.Sorted.{list_any-IsPermutation}
 use Rattle.std.proofs.lemmas.Bool.{ltb-true, eqb-true, le-leb, lt-leb}
 use Rattle.std.proofs.lemmas.Cmp.{on_total, then_total, nat_cmp_total, tied_itself}
 use Rattle.std.proofs.lemmas.List.{length-map, map-append, get_or-take, get_or-drop}
+use Rattle.std.proofs.lemmas.Grind.{flat_map-append}
 use Rattle.std.proofs.lemmas.List.Elements.{filter-append}
 use Rattle.std.proofs.lemmas.Map.Lookups.{exact_pairs, exact_unsigned}
 use Rattle.bgp_prefix.specs.Prefixes.{IpPrefix, prefix_cmp, prefix_eq}
 use Rattle.bgp_prefix.specs.Ordered.{in_order}
+use Rattle.peer_tables.specs.Tables.{Seat}
 use Rattle.bgp_prefix.proofs.OrderedLaws.{is_sorted-tabulated}
 use Rattle.bgp_prefix.proofs.KeyLaws.{prefix_cmp_total, prefix_cmp_exact, prefix_tied}
 use Rattle.rib_report.specs.declared.reports.origins.OriginRow.{OriginRow}
 use Rattle.rib_report.specs.Runs.{pair_cmp, pair_eq}
-use Rattle.rib_report.specs.Reports.{has_several, origins_among, grouped_origins}
+use Rattle.rib_report.specs.Merges.{joined}
+use Rattle.rib_report.specs.Reports.{seat_origins, has_several, origins_among, grouped_origins}
 use Rattle.rib_report.proofs.RunLaws.{set_of, set_same, set_run, below_set, put_front, map_same, all_of, all_mapped, all_from_index}
-use Rattle.rib_report.proofs.MergeLaws.{first_of, second_of}
-use Rattle.rib_report.proofs.SeenLaws.{twice, own_itself, is_less}
+use Rattle.rib_report.proofs.MergeLaws.{first_of, second_of, joined_in_order}
+use Rattle.rib_report.proofs.SeenLaws.{twice, own_itself, is_less, halves}
 
 -- ---- the order of pairs
 
@@ -301,3 +304,9 @@ single_run xs run later p rows all single groups before =
     let kept : filter has_several (grouped_origins xs) ≡ filter has_several (grouped_origins later) =
     ap (filter has_several) groups ∙ ap (λ b. cond b (row ∷ filter has_several (grouped_origins later)) (filter has_several (grouped_origins later))) fails in
     ap (λ l. rows ++ l) (sym kept) ∙ before
+
+-- the pairs of halves, joined, are those of all
+pub joined_pairs : {X : Type 0} (seen : X → Seat) (m : ℕ) (seats front back : List X) (first second : List (IpPrefix × ℕ)) → front ≡ take m seats → back ≡ drop m seats → first ≡ in_order pair_cmp (flat_map seat_origins (map seen front)) → second ≡ in_order pair_cmp (flat_map seat_origins (map seen back)) → joined pair_cmp first second ≡ in_order pair_cmp (flat_map seat_origins (map seen seats))
+joined_pairs seen m seats front back first second is_front is_back in_first in_second =
+    joined_in_order pair_cmp_total pair_cmp_exact (flat_map seat_origins (map seen front)) (flat_map seat_origins (map seen back)) first second in_first in_second
+    ∙ ap (in_order pair_cmp) (sym (flat_map-append seat_origins (map seen front) (map seen back)) ∙ ap (flat_map seat_origins) (halves seen m seats front back is_front is_back))

@@ -8,7 +8,7 @@ use Rattle.std.specs.FinMap.Entries.{find, is_sorted, below_all, same_entries}
 use Rattle.std.proofs.lemmas.Bool.{false≢true}
 use Rattle.std.proofs.lemmas.Cmp.{tied_itself}
 use Rattle.std.proofs.lemmas.Grind.{flat_map-append}
-use Rattle.std.proofs.lemmas.List.{map-append}
+use Rattle.std.proofs.lemmas.List.{map-append, length-map}
 use Rattle.std.proofs.lemmas.List.Folds.{list_any-append}
 use Rattle.std.proofs.lemmas.List.Sums.{sum_by-cons, sum_by-append, count_by-le-length}
 use Rattle.bgp_prefix.specs.Prefixes.{IpPrefix, prefix_cmp, prefix_eq}
@@ -178,6 +178,13 @@ single (y ∷ z ∷ xs) x some few is = absurd (omega (arith, few))
 
 pub halves : {X Y : Type 0} (f : X → Y) (n : ℕ) (xs front back : List X) → front ≡ take n xs → back ≡ drop n xs → map f front ++ map f back ≡ map f xs
 halves f n xs front back first second = ap (λ l. map f l ++ map f back) first ∙ ap (λ l. map f (take n xs) ++ map f l) second ∙ sym (map-append f (take n xs) (drop n xs)) ∙ ap (map f) (take-append-drop n xs)
+
+-- the counts of halves, merged, are those of all
+pub merged_counts : {X : Type 0} (seen : X → Seat) (m : ℕ) (seats front back : List X) (first second : List (IpPrefix × ℕ)) → length front + length back < 2 ^ 64 → front ≡ take m seats → back ≡ drop m seats → first ≡ seen_among (map seen front) → second ≡ seen_among (map seen back) → merged prefix_cmp first second ≡ seen_among (map seen seats)
+merged_counts seen m seats front back first second few is_front is_back in_first in_second =
+    let fits : length (map seen front) + length (map seen back) < 2 ^ 64 = omega (arith, few, length-map front seen, length-map back seen) in
+    ap (λ l. merged prefix_cmp l second) in_first ∙ ap (merged prefix_cmp (seen_among (map seen front))) in_second
+    ∙ merged_seen (map seen front) (map seen back) fits ∙ ap seen_among (halves seen m seats front back is_front is_back)
 
 -- the rows of the report
 pub seen_rows : (tables : TablesState) → map (λ (e : IpPrefix × ℕ). record { prefix = e.0; peers = e.1 }) (seen_among tables.seats) ≡ visibility_rows tables

@@ -44,8 +44,11 @@ decimal_millions n lo hi =
     decimal_thousands n (omega arith) hi ∙ ap (λ l. l ++ digits_in decimal_glyph 10 3 (n % 1000)) front ∙ append_assoc (decimal (n / 1000000)) (digits_in decimal_glyph 10 3 (n / 1000 % 1000)) (digits_in decimal_glyph 10 3 (n % 1000))
 
 -- six digits are three and three
-pub digits_six : (n : ℕ) → digits_in decimal_glyph 10 6 n ≡ digits_in decimal_glyph 10 3 (n / 1000) ++ digits_in decimal_glyph 10 3 n
+pub digits_six : (n : ℕ) → digits_in decimal_glyph 10 6 n ≡ digits_in decimal_glyph 10 3 (n / 1000) ++ digits_in decimal_glyph 10 3 (n % 1000)
 digits_six n =
     let a : n / 1000 / 100 ≡ n / 100000 = omega arith in
     let b : n / 1000 / 10 ≡ n / 10000 = omega arith in
-    rw (div-one (n / 1000), a, b)
+    let d : n % 1000 / 100 % 10 ≡ n / 100 % 10 = omega arith in
+    let e : n % 1000 / 10 % 10 ≡ n / 10 % 10 = omega arith in
+    let f : n % 1000 / 1 % 10 ≡ n / 1 % 10 = rw (div-one (n % 1000), div-one n) (omega arith) in
+    rw (div-one (n / 1000), a, b, d, e, f)

@@ -1,10 +1,12 @@
 //! Text on its way to a writer, through a fixed buffer.
 
 ghost use Rattle.std.specs.Prelude.{◌≡◌, ℕ, ◌+◌, ◌<◌, ◌≤◌, [], ◌∷◌, ◌++◌, List, Option, OnOk, OnErr, length};
+ghost use Rattle.rib_report.specs.Lines.{peer_text};
 ghost use Rattle.rib_report.specs.Texts.{BufferState, empty_buffer, text_state, IsText, IsWritten, IsCutOff, Writes};
 
-use crate::field::{Byte, Field};
+use crate::field::{Byte, Field, PEER_BYTES, PeerText};
 use crate::short::ShortTexts;
+use mrt_body::PeerKey;
 use mrt_frame::{Failed, Sink, write_full};
 use std::marker::Model;
 
@@ -126,6 +128,21 @@ impl TextBuffer {
     {
         self.make_room(out, F::longest() + 1);
         self.len = field.format(&mut self.bytes, self.len, &self.shorts);
+    }
+
+    /// Makes a peer's text, which `put_peer` then adds to many lines.
+    pub(crate) fn peer_text(&self, peer: PeerKey) -> PeerText
+        ensures { result ≡ peer }
+    {
+        PeerText::new(peer, &self.shorts)
+    }
+
+    /// Adds a peer's text and a bar.
+    pub(crate) fn put_peer<W: Sink>(&mut self, out: &mut W, peer: &PeerText)
+        ensures { Writes W.contents W.failure_count out.old self.old out.new self.new (peer_text peer.now ++ 124 ∷ []) }
+    {
+        self.make_room(out, PEER_BYTES);
+        self.len = peer.format(&mut self.bytes, self.len);
     }
 
     /// Adds a byte.

@@ -1,19 +1,20 @@
 //! What lines are made of: values with a text of limited length.
 
-ghost use Rattle.std.specs.Prelude.{◌≡◌, ℕ, ◌+◌, ◌-◌, ◌^◌, ◌<◌, ◌++◌, [], ◌∷◌, List, decimal, length, min};
+ghost use Rattle.std.specs.Prelude.{◌≡◌, ℕ, ◌+◌, ◌-◌, ◌^◌, ◌<◌, ◌≤◌, ◌++◌, [], ◌∷◌, List, decimal, length, min};
 ghost use Rattle.rib_report.specs.Texts.{Formats};
 ghost use Rattle.rib_report.specs.Digits.{field, time_text, ipv6_text};
 ghost use Rattle.rib_report.specs.Lines.{addr_text, peer_text, prefix_text, identifier_text, key_text, next_hop_text, origin_text, aggregator_text, atomic_text};
 
 use crate::format::{
-    format_byte, format_ipv4, format_ipv6, format_number, format_short, format_six, format_text,
-    format_three,
+    format_byte, format_front, format_ipv4, format_ipv6, format_number, format_short, format_six,
+    format_text, format_three,
 };
 use crate::short::ShortTexts;
 use bgp_prefix::{Prefix, RouteKey};
 use bgp_update::{Aggregator, NextHop, Origin};
 use itoa::Buffer;
 use mrt_body::{PeerAddr, PeerKey};
+use std::marker::Model;
 
 /// A value with a text of limited length: a field of a line, several of them, or a part of one.
 pub(crate) trait Field: Copy {
@@ -46,7 +47,7 @@ impl Field for Byte {
         1
     }
 
-    #[inline]
+    #[inline(always)]
     fn format(self, bytes: &mut [u8], at: usize, _shorts: &ShortTexts) -> usize {
         format_byte(bytes, at, self.0)
     }
@@ -64,7 +65,7 @@ impl<A: Field, B: Field> Field for (A, B) {
         A::longest().saturating_add(B::longest().saturating_add(1))
     }
 
-    #[inline]
+    #[inline(always)]
     #[tactic(auto, using(crate::proofs::TextLaws::Formats_trans))]
     fn format(self, bytes: &mut [u8], at: usize, shorts: &ShortTexts) -> usize {
         let at = self.0.format(bytes, at, shorts);
@@ -86,7 +87,7 @@ impl<F: Field> Field for Ended<F> {
         F::longest().saturating_add(1)
     }
 
-    #[inline]
+    #[inline(always)]
     #[tactic(auto, using(crate::proofs::TextLaws::Formats_trans))]
     fn format(self, bytes: &mut [u8], at: usize, shorts: &ShortTexts) -> usize {
         let at = self.0.format(bytes, at, shorts);
@@ -104,7 +105,7 @@ impl<F: Field> Field for Option<F> {
         F::longest().saturating_add(1)
     }
 
-    #[inline]
+    #[inline(always)]
     fn format(self, bytes: &mut [u8], at: usize, shorts: &ShortTexts) -> usize {
         match self {
             Some(value) => value.format(bytes, at, shorts),
@@ -124,7 +125,7 @@ impl Field for u32 {
         12
     }
 
-    #[inline]
+    #[inline(always)]
     fn format(self, bytes: &mut [u8], at: usize, shorts: &ShortTexts) -> usize {
         format_number(bytes, at, shorts, self)
     }
@@ -161,7 +162,7 @@ impl Field for Behind {
         13
     }
 
-    #[inline]
+    #[inline(always)]
     #[tactic(auto, using(crate::proofs::TextLaws::Formats_trans))]
     fn format(self, bytes: &mut [u8], at: usize, shorts: &ShortTexts) -> usize {
         let at = format_byte(bytes, at, self.0);
@@ -187,8 +188,8 @@ impl Field for Microseconds {
         let rest = (self.0 % 1_000_000) as u32;
         let at = seconds.format(bytes, at, shorts);
         let at = format_byte(bytes, at, b'.');
-        let at = format_three(bytes, at, rest / 1_000);
-        format_three(bytes, at, rest)
+        let at = format_three(bytes, at, shorts, rest / 1_000);
+        format_three(bytes, at, shorts, rest % 1_000)
     }
 }
 
@@ -203,7 +204,7 @@ impl Field for PeerAddr {
         39
     }
 
-    #[inline]
+    #[inline(always)]
     fn format(self, bytes: &mut [u8], at: usize, shorts: &ShortTexts) -> usize {
         match self {
             PeerAddr::V4(addr) => format_ipv4(bytes, at, shorts, addr),
@@ -226,6 +227,53 @@ impl Field for PeerKey {
         let at = format_number(bytes, at, shorts, self.asn);
         let at = format_byte(bytes, at, b' ');
         self.addr.format(bytes, at, shorts)
+    }
+}
+
+/// The most bytes of a peer's text and a bar, and one more.
+pub(crate) const PEER_BYTES: usize = 54;
+
+/// A peer's text with a bar behind it, made once for the lines of many of its routes. Contracts see it as the peer.
+#[derive(Drop)]
+pub(crate) struct PeerText {
+    key: PeerKey,
+    bytes: [u8; PEER_BYTES],
+    len: usize,
+}
+
+impl Model for PeerText {
+    ghost use Rattle.std.specs.Prelude.{◌≡◌, ◌≤◌, ◌++◌, ◌∷◌, [], take};
+    ghost use Rattle.mrt_body.specs.declared.unit.PeerKey.{PeerKey as Peer};
+    ghost use Rattle.rib_report.specs.Lines.{peer_text};
+
+    ghost Value = { Peer };
+
+    ghost view = { λ p. p.key };
+
+    ghost invariant = { λ p. record {
+      len : p.len ≤ 54;
+      text : take p.len p.bytes ≡ peer_text p.key ++ 124 ∷ [];
+    } };
+}
+
+impl PeerText {
+    #[tactic(auto, using(crate::proofs::TextLaws::Formats_trans))]
+    pub(crate) fn new(key: PeerKey, shorts: &ShortTexts) -> PeerText
+        ensures { result ≡ key }
+    {
+        let mut bytes = [0; PEER_BYTES];
+        let at = key.format(&mut bytes, 0, shorts);
+        let len = format_byte(&mut bytes, at, b'|');
+        PeerText { key, bytes, len }
+    }
+
+    /// Writes the text and the bar.
+    #[inline(always)]
+    pub(crate) fn format(&self, bytes: &mut [u8], at: usize) -> usize
+        requires { at + 54 ≤ length bytes.old }
+        ensures { Formats bytes.old at bytes.new result 54 (peer_text self.now ++ 124 ∷ []) }
+    {
+        format_front(bytes, at, &self.bytes, self.len)
     }
 }
 
@@ -277,6 +325,7 @@ impl Field for RouteKey {
 // ---- path attributes
 
 /// Writes two addresses, separated by a space.
+#[inline(never)]
 #[tactic(auto, using(crate::proofs::TextLaws::Formats_trans))]
 fn format_ipv6_pair(bytes: &mut [u8], at: usize, global: u128, local: u128) -> usize
     requires { at + 79 < length bytes.old }
@@ -296,7 +345,7 @@ impl Field for NextHop {
         79
     }
 
-    #[inline]
+    #[inline(always)]
     fn format(self, bytes: &mut [u8], at: usize, shorts: &ShortTexts) -> usize {
         match self {
             NextHop::V4(addr) => format_ipv4(bytes, at, shorts, addr),
@@ -315,7 +364,7 @@ impl Field for Origin {
         10
     }
 
-    #[inline]
+    #[inline(always)]
     fn format(self, bytes: &mut [u8], at: usize, _shorts: &ShortTexts) -> usize {
         match self {
             Origin::Igp => format_text(bytes, at, b"IGP"),
@@ -355,7 +404,7 @@ impl Field for Atomic {
         6
     }
 
-    #[inline]
+    #[inline(always)]
     fn format(self, bytes: &mut [u8], at: usize, _shorts: &ShortTexts) -> usize {
         if self.0 {
             format_text(bytes, at, b"atomic")

@@ -5,7 +5,7 @@ ghost use Rattle.std.specs.Prelude.{◌≡◌, ◌+◌, ◌<◌, ◌≤◌, [], 
 ghost use Rattle.rib_report.specs.Texts.{Formats};
 ghost use Rattle.rib_report.specs.Digits.{hexadecimal_glyph, decimal_glyph, digits_in, ipv4_text, ipv6_text};
 
-use crate::short::{ShortTexts, three_digits};
+use crate::short::ShortTexts;
 
 /// Writes a byte.
 #[inline]
@@ -31,7 +31,7 @@ pub(crate) fn format_text(bytes: &mut [u8], at: usize, text: &[u8]) -> usize
 /// Writes the first bytes of a block, where the whole block fits. Copying a block of known length is faster
 /// than copying its leading part.
 #[inline]
-fn format_front(bytes: &mut [u8], at: usize, block: &[u8], count: usize) -> usize
+pub(crate) fn format_front(bytes: &mut [u8], at: usize, block: &[u8], count: usize) -> usize
     requires { (count ≤ length block.now) × (at + length block.now ≤ length bytes.old) }
     ensures { Formats bytes.old at bytes.new result count (take count block.now) }
 {
@@ -50,13 +50,14 @@ pub(crate) fn format_short(bytes: &mut [u8], at: usize, shorts: &ShortTexts, num
     format_front(bytes, at, &text.bytes, text.len as usize)
 }
 
-/// Writes the last three digits of a number.
+/// Writes the three digits of a number that has no more.
 #[inline]
-pub(crate) fn format_three(bytes: &mut [u8], at: usize, number: u32) -> usize
-    requires { at + 3 ≤ length bytes.old }
+pub(crate) fn format_three(bytes: &mut [u8], at: usize, shorts: &ShortTexts, number: u32) -> usize
+    requires { (number < 1000) × (at + 3 ≤ length bytes.old) }
     ensures { Formats bytes.old at bytes.new result 3 (digits_in decimal_glyph 10 3 number) }
 {
-    format_text(bytes, at, &three_digits(number))
+    let text = shorts.text(number);
+    format_text(bytes, at, &text.digits)
 }
 
 /// Writes a number of at most six digits.
@@ -69,7 +70,7 @@ pub(crate) fn format_six(bytes: &mut [u8], at: usize, shorts: &ShortTexts, numbe
         return format_short(bytes, at, shorts, number);
     }
     let high = format_short(bytes, at, shorts, number / 1_000);
-    format_three(bytes, high, number % 1_000)
+    format_three(bytes, high, shorts, number % 1_000)
 }
 
 /// Writes a number in decimal.
@@ -81,8 +82,8 @@ pub(crate) fn format_number(bytes: &mut [u8], at: usize, shorts: &ShortTexts, nu
         return format_six(bytes, at, shorts, number);
     }
     let high = format_six(bytes, at, shorts, number / 1_000_000);
-    let middle = format_three(bytes, high, number / 1_000 % 1_000);
-    format_three(bytes, middle, number % 1_000)
+    let middle = format_three(bytes, high, shorts, number / 1_000 % 1_000);
+    format_three(bytes, middle, shorts, number % 1_000)
 }
 
 /// Writes an address in dotted decimal.
@@ -125,6 +126,7 @@ fn format_group(bytes: &mut [u8], at: usize, group: u16) -> usize
 }
 
 /// Writes an address as eight groups of four digits.
+#[inline(never)]
 pub(crate) fn format_ipv6(bytes: &mut [u8], at: usize, addr: u128) -> usize
     requires { at + 39 ≤ length bytes.old }
     ensures { Formats bytes.old at bytes.new result 39 (ipv6_text addr) }

@@ -24,8 +24,8 @@ pub use peer_tables::{
 pub use reports::churn::{ChurnRow, churn, write_churn};
 pub use reports::faults::{faults, write_faults};
 pub use reports::matches::matches;
-pub use reports::origins::{OriginRow, origins, write_origins};
+pub use reports::origins::{OriginRow, origins, origins_with_threads, write_origins};
 pub use reports::tables::{TableRow, list_tables, table_rows, write_rows};
-pub use reports::visibility::{SeenRow, visibility, write_visibility};
+pub use reports::visibility::{SeenRow, visibility, visibility_with_threads, write_visibility};
 pub use request::Request;
 pub use standing::reports_are_of_units;

@@ -6,10 +6,9 @@ ghost use Rattle.rib_report.specs.Digits.{field, numbers_text};
 ghost use Rattle.rib_report.specs.Lines.{kind_text, path_text, route_line};
 
 use crate::buffer::TextBuffer;
-use crate::field::{Atomic, Ended};
+use crate::field::{Atomic, Ended, PeerText};
 use bgp_prefix::RouteKey;
 use bgp_update::{PackedRoute, PackedSegment, PackedSegments, SegmentKind};
-use mrt_body::PeerKey;
 use mrt_frame::Sink;
 
 fn put_enclosed<W: Sink>(
@@ -67,14 +66,15 @@ fn put_path<W: Sink>(text: &mut TextBuffer, out: &mut W, path: Option<PackedSegm
 pub(crate) fn put_row<W: Sink>(
     text: &mut TextBuffer,
     out: &mut W,
-    peer: &PeerKey,
+    peer: &PeerText,
     key: &RouteKey,
     route: &PackedRoute,
 )
     ensures { Writes W.contents W.failure_count out.old text.old out.new text.new
         (route_line (record { peer = peer.now; key = key.now; route = route.now })) }
 {
-    text.put(out, (*peer, *key));
+    text.put_peer(out, peer);
+    text.put(out, *key);
     text.put_byte(out, b'|');
     put_path(text, out, route.path());
     text.put_byte(out, b'|');

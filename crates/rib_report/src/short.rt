@@ -5,10 +5,11 @@ ghost use Rattle.rib_report.specs.declared.short.ShortText.{ShortText};
 ghost use Rattle.rib_report.specs.Digits.{decimal_glyph, digits_in};
 ghost use Rattle.rib_report.specs.ShortTexts.{IsShortText};
 
-/// A text of at most four bytes, in a block that is copied whole.
+/// The text of a number of at most three digits: in a block that is copied whole, and with zeros before it.
 #[derive(Clone, Copy)]
 pub(crate) struct ShortText {
     pub(crate) bytes: [u8; 4],
+    pub(crate) digits: [u8; 3],
     pub(crate) len: u8,
 }
 
@@ -21,7 +22,7 @@ pub(crate) struct ShortTexts {
 
 /// Returns the last three decimal digits of a number.
 #[inline]
-pub(crate) fn three_digits(number: u32) -> [u8; 3]
+fn three_digits(number: u32) -> [u8; 3]
     ensures { result ≡ digits_in decimal_glyph 10 3 number }
 {
     [
@@ -36,21 +37,25 @@ fn short_text(number: u32) -> ShortText
     requires { number < 1000 }
     ensures { IsShortText number result }
 {
-    let [hundreds, tens, ones] = three_digits(number);
+    let digits = three_digits(number);
+    let [hundreds, tens, ones] = digits;
     if number < 10 {
         return ShortText {
             bytes: [ones, 0, 0, 0],
+            digits,
             len: 1,
         };
     }
     if number < 100 {
         return ShortText {
             bytes: [tens, ones, 0, 0],
+            digits,
             len: 2,
         };
     }
     ShortText {
         bytes: [hundreds, tens, ones, 0],
+        digits,
         len: 3,
     }
 }

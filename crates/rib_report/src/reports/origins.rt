@@ -3,16 +3,17 @@
 ghost use Rattle.std.specs.Prelude.{◌≡◌, ◌≢◌, ◌<◌, ◌≤◌, ◌++◌, [], ◌∷◌, IfOk, OnOk, map, length};
 ghost use Rattle.std.specs.List.{AllWithin, HoldsAt, filter, filter_map, flat_map};
 ghost use Rattle.std.specs.List.Sorted.{IsStrictlySortedBy};
+ghost use Rattle.std.specs.Thread.{IsSync};
 ghost use Rattle.bgp_prefix.specs.Ordered.{in_order};
 ghost use Rattle.rib_report.specs.Runs.{pair_cmp};
-ghost use Rattle.rib_report.specs.Reports.{route_origin, origin_pair, seat_origins, table_origins, has_several, grouped_origins, origin_rows};
+ghost use Rattle.rib_report.specs.Reports.{route_origin, origin_pair, seat_origins, has_several, grouped_origins, origin_rows};
 ghost use Rattle.rib_report.specs.Lines.{origin_line};
 ghost use Rattle.rib_report.specs.Texts.{IsOutput, Writes};
 ghost use Rattle.peer_tables.specs.Seats.{seat_of};
 
 use crate::buffer::TextBuffer;
 use crate::line::Line;
-use crate::merge::merge_counts;
+use crate::merge::merge_keys;
 use crate::write::write_lines;
 use adj_rib::SharedRoute;
 use bgp_prefix::{Memory, Prefix, PrefixMap, RouteKey, Sequence};
@@ -20,6 +21,8 @@ use bgp_update::PackedRoute;
 use mrt_frame::{ReplayError, Sink};
 use peer_tables::{Seated, Tables};
 use std::alloc::Global;
+use std::marker::Sync;
+use std::thread::{Threads, join};
 
 /// The origin ASes of a prefix, ascending (RFC 6811, 2).
 #[derive(Drop)]
@@ -65,38 +68,27 @@ fn add_origins<M: PrefixMap<SharedRoute>>(
     Ok(())
 }
 
-/// Returns the pairs with a count of 1 each.
-fn counted(alloc: Global, pairs: &[(Prefix, u32)]) -> Result<Vec<((Prefix, u32), usize)>, Memory>
-    ensures { IfOk result (λ counts. map (λ e. e.0) counts.items ≡ pairs.now) }
-{
-    let mut counts = Vec::with_capacity(alloc, pairs.len())?;
-    for pair in pairs {
-        counts.push((*pair, 1))?;
-    }
-    Ok(counts)
-}
-
 /// Returns the prefixes and origin ASes of one peer's routes in order, each pair once.
 fn pairs_of_seat<M: PrefixMap<SharedRoute>>(
     alloc: Global,
     seat: &Seated<M>,
-) -> Result<Vec<((Prefix, u32), usize)>, Memory>
-    ensures { IfOk result (λ counts. map (λ e. e.0) counts.items ≡ in_order pair_cmp (seat_origins (seat_of seat.now))) }
+) -> Result<Vec<(Prefix, u32)>, Memory>
+    ensures { IfOk result (λ pairs. pairs.items ≡ in_order pair_cmp (seat_origins (seat_of seat.now))) }
 {
     let mut pairs = Vec::new(alloc);
     add_origins(alloc, &mut pairs, seat)?;
     pairs.sort()?;
     pairs.dedup();
-    counted(alloc, pairs.as_slice())
+    Ok(pairs)
 }
 
-/// Returns the prefixes and origin ASes of these peers' routes in order, each pair once and with the number of peers
-/// that have it. The peers are halved until each is alone.
+/// Returns the prefixes and origin ASes of these peers' routes in order, each pair once. The peers are halved until each
+/// is alone.
 fn pairs_of<M: PrefixMap<SharedRoute>>(
     alloc: Global,
     seats: &[Seated<M>],
-) -> Result<Vec<((Prefix, u32), usize)>, Memory>
-    ensures { IfOk result (λ counts. map (λ e. e.0) counts.items ≡
+) -> Result<Vec<(Prefix, u32)>, Memory>
+    ensures { IfOk result (λ pairs. pairs.items ≡
         in_order pair_cmp (flat_map seat_origins (map seat_of seats.now))) }
 {
     match seats {
@@ -106,24 +98,35 @@ fn pairs_of<M: PrefixMap<SharedRoute>>(
             let (front, back) = seats.split_at(seats.len() / 2);
             let first = pairs_of(alloc, front)?;
             let second = pairs_of(alloc, back)?;
-            merge_counts(alloc, first.as_slice(), second.as_slice())
+            merge_keys(alloc, first.as_slice(), second.as_slice())
         }
     }
 }
 
-/// Returns the prefix and the origin AS of each route that has an origin AS, in order, each pair once.
-fn all_origins<M: PrefixMap<SharedRoute>>(
+/// As `pairs_of`, with the halves of the peers in two threads, if one can be started. More threads would hold more lists at
+/// a time.
+fn pairs_by_two<M: PrefixMap<SharedRoute> + Sync, T: Threads>(
+    rt: &T,
     alloc: Global,
-    tables: &Tables<M>,
+    seats: &[Seated<M>],
 ) -> Result<Vec<(Prefix, u32)>, Memory>
-    ensures { IfOk result (λ pairs. pairs.items ≡ in_order pair_cmp (table_origins tables.now)) }
+    ensures { IfOk result (λ pairs. pairs.items ≡
+        in_order pair_cmp (flat_map seat_origins (map seat_of seats.now))) }
 {
-    let counts = pairs_of(alloc, tables.seats())?;
-    let mut pairs = Vec::with_capacity(alloc, counts.len())?;
-    for count in counts.as_slice() {
-        pairs.push(count.0)?;
-    }
-    Ok(pairs)
+    let (front, back) = seats.split_at(seats.len() / 2);
+    let list_front = move || -> Result<Vec<(Prefix, u32)>, Memory>
+        requires { IsSync M.row }
+        ensures { IfOk result (λ pairs. pairs.items ≡
+            in_order pair_cmp (flat_map seat_origins (map seat_of front.entry.now))) }
+    { pairs_of(alloc, front) };
+    let list_back = move || -> Result<Vec<(Prefix, u32)>, Memory>
+        requires { IsSync M.row }
+        ensures { IfOk result (λ pairs. pairs.items ≡
+            in_order pair_cmp (flat_map seat_origins (map seat_of back.entry.now))) }
+    { pairs_of(alloc, back) };
+    let (front, back) = join(rt, list_front, list_back);
+    let (front, back) = (front?, back?);
+    merge_keys(alloc, front.as_slice(), back.as_slice())
 }
 
 /// Returns how many pairs at the front have this prefix.
@@ -179,7 +182,23 @@ pub fn origins<M: PrefixMap<SharedRoute>>(
 ) -> Result<Vec<OriginRow>, Memory>
     ensures { IfOk result (λ rows. rows.items ≡ origin_rows tables.now) }
 {
-    let pairs = all_origins(alloc, tables)?;
+    let pairs = pairs_of(alloc, tables.seats())?;
+    group_runs(alloc, pairs.as_slice())
+}
+
+/// Returns what `origins` returns. With two threads or more, two of them share the work.
+pub fn origins_with_threads<M: PrefixMap<SharedRoute> + Sync, T: Threads>(
+    rt: &T,
+    alloc: Global,
+    threads: usize,
+    tables: &Tables<M>,
+) -> Result<Vec<OriginRow>, Memory>
+    ensures { IfOk result (λ rows. rows.items ≡ origin_rows tables.now) }
+{
+    if threads < 2 {
+        return origins(alloc, tables);
+    }
+    let pairs = pairs_by_two(rt, alloc, tables.seats())?;
     group_runs(alloc, pairs.as_slice())
 }
 

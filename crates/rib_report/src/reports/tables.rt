@@ -18,6 +18,7 @@ ghost use Rattle.rib_report.specs.Lines.{route_line};
 ghost use Rattle.rib_report.specs.Texts.{IsOutput, Writes};
 
 use crate::buffer::TextBuffer;
+use crate::field::PeerText;
 use crate::line::Line;
 use crate::route_line::put_row;
 use crate::write::{NEAR_ROWS, next_rows, write_lines};
@@ -101,13 +102,14 @@ pub(crate) fn prefetch_entries(entries: &[(RouteKey, &SharedRoute)]) -> usize
 fn put_block<W: Sink>(
     text: &mut TextBuffer,
     out: &mut W,
-    peer: PeerKey,
+    peer: &PeerText,
     block: &[(RouteKey, &SharedRoute)],
 )
-    ensures { Writes W.contents W.failure_count out.old text.old out.new text.new (reached_lines peer block.now) }
+    ensures { Writes W.contents W.failure_count out.old text.old out.new text.new
+        (reached_lines peer.now block.now) }
 {
     for entry in block {
-        put_row(text, out, &peer, &entry.0, entry.1.route());
+        put_row(text, out, peer, &entry.0, entry.1.route());
     }
 }
 
@@ -120,6 +122,7 @@ pub(crate) fn put_entries<W: Sink>(
 )
     ensures { Writes W.contents W.failure_count out.old text.old out.new text.new (reached_lines peer entries.now) }
 {
+    let peer_text = text.peer_text(peer);
     let mut done = 0;
     let mut near = NEAR_ROWS;
     while done < entries.len() {
@@ -129,7 +132,7 @@ pub(crate) fn put_entries<W: Sink>(
         let end = entries.len().min(done.saturating_add(near));
         let block = &entries[done..end];
         near = prefetch_entries(block);
-        put_block(text, out, peer, block);
+        put_block(text, out, &peer_text, block);
         done = end;
     }
 }
@@ -222,7 +225,8 @@ impl Line for TableRow<'_> {
     }
 
     fn put<W: Sink>(&self, text: &mut TextBuffer, out: &mut W) {
-        put_row(text, out, &self.peer, &self.key, self.route);
+        let peer_text = text.peer_text(self.peer);
+        put_row(text, out, &peer_text, &self.key, self.route);
     }
 }
 

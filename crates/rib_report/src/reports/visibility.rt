@@ -3,6 +3,7 @@
 
 ghost use Rattle.std.specs.Prelude.{◌≡◌, [], ◌∷◌, IfOk, map};
 ghost use Rattle.std.specs.List.{flat_map};
+ghost use Rattle.std.specs.Thread.{IsSync};
 ghost use Rattle.rib_report.specs.Runs.{is_last};
 ghost use Rattle.rib_report.specs.Reports.{seen_among, visibility_rows};
 ghost use Rattle.rib_report.specs.Lines.{visibility_line};
@@ -19,6 +20,8 @@ use bgp_prefix::{Memory, Prefix, PrefixMap};
 use mrt_frame::{ReplayError, Sink};
 use peer_tables::{Seated, Tables};
 use std::alloc::Global;
+use std::marker::Sync;
+use std::thread::{Threads, join};
 
 /// In how many tables a prefix is.
 #[derive(Drop)]
@@ -77,6 +80,41 @@ fn prefixes_of<M: PrefixMap<SharedRoute>>(
     }
 }
 
+/// As `prefixes_of`, with the halves of the peers in two threads, if one can be started. More threads would hold more lists at
+/// a time.
+fn prefixes_by_two<M: PrefixMap<SharedRoute> + Sync, T: Threads>(
+    rt: &T,
+    alloc: Global,
+    seats: &[Seated<M>],
+) -> Result<Vec<(Prefix, usize)>, Memory>
+    ensures { IfOk result (λ counts. counts.items ≡ seen_among (map seat_of seats.now)) }
+{
+    let (front, back) = seats.split_at(seats.len() / 2);
+    let list_front = move || -> Result<Vec<(Prefix, usize)>, Memory>
+        requires { IsSync M.row }
+        ensures { IfOk result (λ counts. counts.items ≡ seen_among (map seat_of front.entry.now)) }
+    { prefixes_of(alloc, front) };
+    let list_back = move || -> Result<Vec<(Prefix, usize)>, Memory>
+        requires { IsSync M.row }
+        ensures { IfOk result (λ counts. counts.items ≡ seen_among (map seat_of back.entry.now)) }
+    { prefixes_of(alloc, back) };
+    let (first, second) = join(rt, list_front, list_back);
+    let (first, second) = (first?, second?);
+    merge_counts(alloc, first.as_slice(), second.as_slice())
+}
+
+/// Makes the rows of counted prefixes.
+fn rows_of(alloc: Global, counts: &[(Prefix, usize)]) -> Result<Vec<SeenRow>, Memory>
+    ensures { IfOk result (λ rows. rows.items ≡ map (λ e. record { prefix = e.0; peers = e.1 }) counts.now) }
+{
+    let mut rows = Vec::with_capacity(alloc, counts.len())?;
+    for count in counts {
+        let (prefix, peers) = *count;
+        rows.push(SeenRow { prefix, peers })?;
+    }
+    Ok(rows)
+}
+
 /// Returns, for each prefix visible at any peer, the number of peers at which it is visible, by prefix. A peer
 /// counts once per prefix, whatever the identifiers of its routes.
 pub fn visibility<M: PrefixMap<SharedRoute>>(
@@ -86,12 +124,23 @@ pub fn visibility<M: PrefixMap<SharedRoute>>(
     ensures { IfOk result (λ rows. rows.items ≡ visibility_rows tables.now) }
 {
     let counts = prefixes_of(alloc, tables.seats())?;
-    let mut rows = Vec::with_capacity(alloc, counts.len())?;
-    for count in counts.as_slice() {
-        let (prefix, peers) = *count;
-        rows.push(SeenRow { prefix, peers })?;
+    rows_of(alloc, counts.as_slice())
+}
+
+/// Returns what `visibility` returns. With two threads or more, two of them share the work.
+pub fn visibility_with_threads<M: PrefixMap<SharedRoute> + Sync, T: Threads>(
+    rt: &T,
+    alloc: Global,
+    threads: usize,
+    tables: &Tables<M>,
+) -> Result<Vec<SeenRow>, Memory>
+    ensures { IfOk result (λ rows. rows.items ≡ visibility_rows tables.now) }
+{
+    if threads < 2 {
+        return visibility(alloc, tables);
     }
-    Ok(rows)
+    let counts = prefixes_by_two(rt, alloc, tables.seats())?;
+    rows_of(alloc, counts.as_slice())
 }
 
 impl Line for SeenRow {

@@ -6,8 +6,9 @@ use bgp_prefix::{Flat, PrefixMap, Radix};
 use mrt_body::{Damage, Place};
 use mrt_frame::{Counted, Fault, ReplayError, Sink};
 use rib_report::{
-    Tables, churn, faults, list_tables, matches, origins, table_rows, visibility, write_churn,
-    write_faults, write_origins, write_rows, write_visibility,
+    Tables, churn, faults, list_tables, matches, origins_with_threads, table_rows,
+    visibility_with_threads, write_churn, write_faults, write_origins, write_rows,
+    write_visibility,
 };
 use std::alloc::Global;
 use std::process::Abort;
@@ -240,18 +241,25 @@ const DAMAGED: Case<'static> = Case {
     ],
 };
 
-/// Writes a report on tables.
-pub fn write_report<M: PrefixMap<SharedRoute>, T: Threads + Sync, W: Sink>(
+/// Writes a report on tables, in so many threads.
+pub fn write_report<M: PrefixMap<SharedRoute> + Sync, T: Threads + Sync, W: Sink>(
     rt: &T,
     alloc: Global,
+    threads: usize,
     out: &mut W,
     tables: &Tables<M>,
     report: Report,
 ) -> Result<(), ReplayError> {
     match report {
-        Report::Tables => list_tables(rt, alloc, 1, out, tables),
-        Report::Visibility => write_visibility(out, visibility(alloc, tables)?.as_slice()),
-        Report::Origins => write_origins(out, origins(alloc, tables)?.as_slice()),
+        Report::Tables => list_tables(rt, alloc, threads, out, tables),
+        Report::Visibility => {
+            let rows = visibility_with_threads(rt, alloc, threads, tables)?;
+            write_visibility(out, rows.as_slice())
+        }
+        Report::Origins => {
+            let rows = origins_with_threads(rt, alloc, threads, tables)?;
+            write_origins(out, rows.as_slice())
+        }
         Report::Churn => write_churn(out, churn(alloc, tables)?.as_slice()),
         Report::Match(addr) => write_rows(out, matches(alloc, tables, addr)?.as_slice()),
         Report::Faults => write_faults(out, faults(alloc, tables)?.as_slice()),
@@ -271,7 +279,7 @@ fn expect_rows<M: PrefixMap<SharedRoute>>(
     assert!(rt; all.device().as_slice() == text.as_bytes());
 }
 
-fn expect_report<M: PrefixMap<SharedRoute>, T: Abort + Threads + Sync>(
+fn expect_report<M: PrefixMap<SharedRoute> + Sync, T: Abort + Threads + Sync>(
     rt: &T,
     alloc: Global,
     tables: &Tables<M>,
@@ -279,16 +287,21 @@ fn expect_report<M: PrefixMap<SharedRoute>, T: Abort + Threads + Sync>(
     report: Report,
     text: &str,
 ) {
-    let mut out = Counted::new(Vec::<u8>::new(alloc));
-    assert!(rt;
-        write_report(rt, alloc, &mut out, tables, report).is_ok(),
-        "{name}"
-    );
-    assert!(rt; out.device().as_slice() == text.as_bytes(), "{name}");
+    for threads in [1, 2, 3] {
+        let mut out = Counted::new(Vec::<u8>::new(alloc));
+        assert!(rt;
+            write_report(rt, alloc, threads, &mut out, tables, report).is_ok(),
+            "{name}, {threads} threads"
+        );
+        assert!(rt;
+            out.device().as_slice() == text.as_bytes(),
+            "{name}, {threads} threads"
+        );
+    }
 }
 
 /// Runs a case by one map, with the seats in this order.
-fn expect_order<M: PrefixMap<SharedRoute> + Drop, T: Abort + Threads + Sync>(
+fn expect_order<M: PrefixMap<SharedRoute> + Sync + Drop, T: Abort + Threads + Sync>(
     rt: &T,
     alloc: Global,
     order: [usize; 3],

@@ -76,7 +76,7 @@ fn expect_stop<T: Abort + Threads + Sync>(
     mut out: Counted<Narrow>,
     front: &[u8],
 ) {
-    let answer = write_report(rt, alloc, &mut out, tables, report);
+    let answer = write_report(rt, alloc, 1, &mut out, tables, report);
     let room = front.len();
     assert!(rt;
         answer == Err(ReplayError::Write) && out.failures() == 1,
@@ -110,7 +110,7 @@ fn expect_by_bytes<T: Abort + Threads + Sync>(
     whole: &[u8],
 ) {
     let mut out = Narrow::new(alloc, 1, whole.len(), true);
-    assert!(rt; write_report(rt, alloc, &mut out, tables, report).is_ok());
+    assert!(rt; write_report(rt, alloc, 1, &mut out, tables, report).is_ok());
     assert!(rt; out.device().written.as_slice() == whole && out.failures() == 0);
 }
 
@@ -120,7 +120,7 @@ fn each_report_stops_at_the_write_that_fails(rt: HostRuntime) {
     let tables = tables_of::<Radix<SharedRoute>>(&rt, alloc, [2, 0, 1], &PEERS, &REFUSED);
     for report in REPORTS {
         let mut whole = Counted::new(Vec::<u8>::new(alloc));
-        assert!(rt; write_report(&rt, alloc, &mut whole, &tables, report).is_ok());
+        assert!(rt; write_report(&rt, alloc, 1, &mut whole, &tables, report).is_ok());
         let text = whole.device().as_slice();
         assert!(rt; !text.is_empty());
         expect_by_bytes(&rt, alloc, &tables, report, text);

@@ -8,6 +8,7 @@ ghost use Rattle.rib_report.specs.Pieces.{IsFilled, lines_between, range_of};
 
 use super::{prefetch_entries, put_entries};
 use crate::buffer::TextBuffer;
+use crate::field::PeerText;
 use crate::nowhere::Nowhere;
 use crate::route_line::put_row;
 use crate::write::NEAR_ROWS;
@@ -45,12 +46,12 @@ fn most_bytes(route: &PackedRoute) -> usize {
 fn put_fitting(
     text: &mut TextBuffer,
     nowhere: &mut Nowhere,
-    peer: PeerKey,
+    peer: &PeerText,
     entries: &[(RouteKey, &SharedRoute)],
 ) -> usize
     ensures few { result ≤ length entries.now }
     ensures lines { Writes nowhere_contents nowhere_failures nowhere.old text.old nowhere.new text.new
-        (reached_lines peer (take result entries.now)) }
+        (reached_lines peer.now (take result entries.now)) }
 {
     for at in 0..entries.len() {
         let entry = &entries[at];
@@ -58,7 +59,7 @@ fn put_fitting(
         if text.room() < most_bytes(route) {
             return at;
         }
-        put_row(text, nowhere, &peer, &entry.0, route);
+        put_row(text, nowhere, peer, &entry.0, route);
     }
     entries.len()
 }
@@ -78,13 +79,14 @@ fn put_while_fitting(
     ensures lines { Writes nowhere_contents nowhere_failures nowhere.old text.old nowhere.new text.new
         (lines_between peer start result entries.now) }
 {
+    let peer_text = text.peer_text(peer);
     let mut done = start;
     let mut near = NEAR_ROWS;
     while done < end {
         let next = end.min(done.saturating_add(near));
         let block = &entries[done..next];
         near = prefetch_entries(block);
-        let count = put_fitting(text, nowhere, peer, block);
+        let count = put_fitting(text, nowhere, &peer_text, block);
         done += count;
         if done < next {
             return done;

@@ -18,8 +18,8 @@ invariant_of-self-in-Break-branch-2 g c = record {
 pub invariant_of-self-2 : goal.invariant_of-self-2
 invariant_of-self-2 g c = record {
   indexed = λ is.
-      indexed_more c.remember.new.positions.items c.args.self.now.seats.items c.push_reserved.new.self.items (record { number = c.args.number; key = c.args.key.now; session = c.new.result }) c.len-at.result
+      indexed_more c.remember.new.positions.items c.args.self.now.seats.items c.push_reserved.new.self.items (record { number = c.args.number; key = c.args.key; session = c.new.result }) c.len-at.result
       (indexed_kept c.args.self.now.positions.items c.remember.new.positions.items c.args.self.now.seats.items c.args.number (c.args.self.now.indexed is) c.requires c.remember.ensures.others)
       c.in_ok-remember.ensures.own (omega arith)
-      (c.push_reserved.ensures.items ∙ ap (λ l. l ++ record { number = c.args.number; key = c.args.key.now; session = c.new.result } ∷ []) c.in_ok-reserve.ensures.items);
+      (c.push_reserved.ensures.items ∙ ap (λ l. l ++ record { number = c.args.number; key = c.args.key; session = c.new.result } ∷ []) c.in_ok-reserve.ensures.items);
 }

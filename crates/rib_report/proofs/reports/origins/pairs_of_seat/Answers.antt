@@ -1,6 +1,5 @@
-use Rattle.std.proofs.Common.{◌≡◌, ◌∙◌, ap, map, ◌++◌}
+use Rattle.std.proofs.Common.{◌≡◌, ◌∙◌, ap, ◌++◌}
 use Rattle.std.specs.List.{dedup}
-use Rattle.std.proofs.lemmas.Result.{IfOk-weaker}
 use Rattle.std.proofs.lemmas.List.Filters.{dedup_is}
 use Rattle.bgp_prefix.specs.Ordered.{in_order}
 use Rattle.peer_tables.specs.Seats.{seat_of}
@@ -14,6 +13,4 @@ returns g c =
     let sorted = c.sort.new.self.items in
     let left : c.dedup.new.self.items ≡ dedup pair_eq sorted = dedup_is pair_eq sorted c.dedup.new.self.items c.dedup.ensures.filtered in
     let pairs = c.add_origins.new.pairs.items in
-    let same = c.as_slice.ensures.value ∙ left ∙ deduped_in_order sorted pairs c.in_ok-sort.ensures.sorted c.sort.ensures.permutation ∙ ap (in_order pair_cmp) (c.in_ok-add_origins.ensures ∙ ap (λ l. l ++ seat_origins (seat_of {M = g.row.M.Denot} c.args.seat.now)) c.new-pairs.ensures.items) in
-    IfOk-weaker c.counted.result (λ counts. map (λ e. e.0) counts.items ≡ c.as_slice.result.now) (λ counts. map (λ e. e.0) counts.items ≡ in_order pair_cmp (seat_origins (seat_of {M = g.row.M.Denot} c.args.seat.now)))
-    (λ counts h. h ∙ same) c.counted.ensures
+    left ∙ deduped_in_order sorted pairs c.in_ok-sort.ensures.sorted c.sort.ensures.permutation ∙ ap (in_order pair_cmp) (c.in_ok-add_origins.ensures ∙ ap (λ l. l ++ seat_origins (seat_of {M = g.row.M.Denot} c.args.seat.now)) c.new-pairs.ensures.items)

@@ -11,7 +11,7 @@ pub loop-done-preserved : goal.loop-done-preserved
 loop-done-preserved g c = record {
   within = omega arith;
   goes_on = c.prefetch_entries-near.ensures;
-  written = Adds_range (λ e. route_line (reached_row c.args.peer e)) c.args.entries.now c.loop-done.done c.min-end.result (omega arith) c.loop-done.invariant.written c.put_block.ensures;
+  written = Adds_range (λ e. route_line (reached_row c.args.peer e)) c.args.entries.now c.loop-done.done c.min-end.result (omega arith) c.loop-done.invariant.written (rw c.peer_text-peer_text.ensures at c.put_block.ensures);
 }
 
 pub returns : goal.returns

@@ -1,11 +1,10 @@
-use Rattle.std.proofs.Common.{◌≡◌, ◌∙◌, ◌++◌, [], ◌∷◌, ap, sym, map, ◌+◌, ◌<◌, ◌^◌, ◌/◌, length, arith}
-use Rattle.std.proofs.lemmas.List.{length-map}
+use Rattle.std.proofs.Common.{◌≡◌, ◌∙◌, [], ◌∷◌, ap, sym, map, ◌+◌, ◌<◌, ◌^◌, ◌/◌, length, arith}
 use Rattle.std.proofs.lemmas.Result.{IfOk-weaker}
 use Rattle.bgp_prefix.specs.Prefixes.{prefix_cmp}
 use Rattle.peer_tables.specs.Seats.{seat_of}
 use Rattle.rib_report.specs.Merges.{merged}
 use Rattle.rib_report.specs.Reports.{seen_among}
-use Rattle.rib_report.proofs.SeenLaws.{single, halves, merged_seen}
+use Rattle.rib_report.proofs.SeenLaws.{single, merged_counts}
 use Rattle.rib_report.proofs.reports.visibility.+prefixes_of.Goals as goal
 
 pub returns-in-len1 : goal.returns-in-len1
@@ -20,12 +19,8 @@ returns-in_ok-back-in_default g t c =
     let seats = c.args.seats.now in
     let front = c.split_at.result.0.now in
     let back = c.split_at.result.1.now in
-    let seen = seat_of {M = g.row.M.Denot} in
-    let counts_front = c.as_slice.result.now in
-    let counts_back = c.as_slice-in_default.result.now in
-    let first : counts_front ≡ seen_among (map seen front) = c.as_slice.ensures.value ∙ c.in_ok-front-in_default.ensures in
-    let second : counts_back ≡ seen_among (map seen back) = c.as_slice-in_default.ensures.value ∙ c.in_ok-back-in_default.ensures in
-    let whole : map seen front ++ map seen back ≡ map seen seats = halves seen (length seats / 2) seats front back c.split_at.ensures.front c.split_at.ensures.back in
-    let few : length (map seen front) + length (map seen back) < 2 ^ 64 = omega (arith, length-map front seen, length-map back seen, c.split_at.ensures.front_len, c.split_at.ensures.back_len) in
-    IfOk-weaker c.merge_counts.result (λ counts. counts.items ≡ merged prefix_cmp counts_front counts_back) (λ counts. counts.items ≡ seen_among (map seen seats))
-    (λ counts h. h ∙ ap (λ l. merged prefix_cmp l counts_back) first ∙ ap (merged prefix_cmp (seen_among (map seen front))) second ∙ merged_seen (map seen front) (map seen back) few ∙ ap seen_among whole) c.merge_counts.ensures
+    let few : length front + length back < 2 ^ 64 = omega (arith, c.split_at.ensures.front_len, c.split_at.ensures.back_len) in
+    let whole = merged_counts (seat_of {M = g.row.M.Denot}) (length seats / 2) seats front back c.as_slice.result.now c.as_slice-in_default.result.now few c.split_at.ensures.front c.split_at.ensures.back
+    (c.as_slice.ensures.value ∙ c.in_ok-front-in_default.ensures) (c.as_slice-in_default.ensures.value ∙ c.in_ok-back-in_default.ensures) in
+    IfOk-weaker c.merge_counts.result (λ counts. counts.items ≡ merged prefix_cmp c.as_slice.result.now c.as_slice-in_default.result.now) (λ counts. counts.items ≡ seen_among (map (seat_of {M = g.row.M.Denot}) seats))
+    (λ counts h. h ∙ whole) c.merge_counts.ensures

@@ -4,12 +4,12 @@ use Rattle.rib_report.proofs.reports.tables.piece.put_while_fitting.Goals as goa
 
 pub returns-then-done-next-clause-lines : goal.returns-then-done-next-clause-lines
 returns-then-done-next-clause-lines c =
-    Adds_some c.args.peer c.args.entries.now c.args.start c.loop-done.done c.min-next.result c.put_fitting-count.result c.loop-done.invariant.from (omega arith) c.loop-done.invariant.written c.put_fitting-count.ensures.lines
+    Adds_some c.args.peer c.args.entries.now c.args.start c.loop-done.done c.min-next.result c.put_fitting-count.result c.loop-done.invariant.from (omega arith) c.loop-done.invariant.written (rw c.peer_text-peer_text.ensures at c.put_fitting-count.ensures.lines)
 
 pub loop-done-preserved : goal.loop-done-preserved
 loop-done-preserved c = record {
   from = omega (arith, c.loop-done.invariant.from);
   to = omega arith;
   goes_on = c.prefetch_entries-near.ensures;
-  written = Adds_some c.args.peer c.args.entries.now c.args.start c.loop-done.done c.min-next.result c.put_fitting-count.result c.loop-done.invariant.from (omega arith) c.loop-done.invariant.written c.put_fitting-count.ensures.lines;
+  written = Adds_some c.args.peer c.args.entries.now c.args.start c.loop-done.done c.min-next.result c.put_fitting-count.result c.loop-done.invariant.from (omega arith) c.loop-done.invariant.written (rw c.peer_text-peer_text.ensures at c.put_fitting-count.ensures.lines);
 }

@@ -10,7 +10,7 @@ invariant-loop-done l = record {
   from : l.start ≤ l.done;
   to : l.done ≤ l.end;
   goes_on : 0 < l.near;
-  written : Writes nowhere_contents nowhere_failures l.initial.nowhere l.initial.text l.nowhere l.text (lines_between l.peer l.start l.done l.entries);
+  written : Writes nowhere_contents nowhere_failures l.initial.nowhere l.initial.text l.nowhere l.text (lines_between l.fn.peer l.start l.done l.entries);
 }
 
 abbrev pub decreases-loop-done : goal.decreases-loop-done

@@ -1,0 +1,20 @@
+use Rattle.std.proofs.Common.{◌≡◌, ◌∙◌, map, ◌+◌, ◌<◌, ◌^◌, ◌/◌, length, arith}
+use Rattle.std.proofs.lemmas.Result.{IfOk-weaker, IfOk-at_ok}
+use Rattle.bgp_prefix.specs.Prefixes.{prefix_cmp}
+use Rattle.peer_tables.specs.Seats.{seat_of}
+use Rattle.rib_report.specs.Merges.{merged}
+use Rattle.rib_report.specs.Reports.{seen_among}
+use Rattle.rib_report.proofs.SeenLaws.{merged_counts}
+use Rattle.rib_report.proofs.reports.visibility.prefixes_by_two.Goals as goal
+
+pub returns : goal.returns
+returns g c =
+    let seats = c.args.seats.now in
+    let front = c.split_at.result.0.now in
+    let back = c.split_at.result.1.now in
+    let few : length front + length back < 2 ^ 64 = omega (arith, c.split_at.ensures.front_len, c.split_at.ensures.back_len) in
+    let whole = merged_counts (seat_of {M = g.row.M.Denot}) (length seats / 2) seats front back c.as_slice.result.now c.as_slice-2.result.now few c.split_at.ensures.front c.split_at.ensures.back
+    (c.as_slice.ensures.value ∙ IfOk-at_ok (λ counts. counts.items ≡ seen_among (map (seat_of {M = g.row.M.Denot}) front)) c.in_ok-first.was c.join-first.ensures.first)
+    (c.as_slice-2.ensures.value ∙ IfOk-at_ok (λ counts. counts.items ≡ seen_among (map (seat_of {M = g.row.M.Denot}) back)) c.in_ok-second.was c.join-first.ensures.second) in
+    IfOk-weaker c.merge_counts.result (λ counts. counts.items ≡ merged prefix_cmp c.as_slice.result.now c.as_slice-2.result.now) (λ counts. counts.items ≡ seen_among (map (seat_of {M = g.row.M.Denot}) seats))
+    (λ counts h. h ∙ whole) c.merge_counts.ensures
