@@ -28,29 +28,6 @@ pub(crate) struct RibIn<M: PrefixMap<SharedRoute>> {
     routes: RouteSet,
 }
 
-/// Returns this payload.
-#[inline(always)]
-fn same_payload<'a>(payload: &LentPayload<'a>) -> LentPayload<'a>
-    ensures { lent_payload result ≡ lent_payload payload.now }
-{
-    match payload {
-        LentPayload::State { from, to } => LentPayload::State {
-            from: *from,
-            to: *to,
-        },
-        LentPayload::Message {
-            bytes,
-            width,
-            add_path,
-        } => LentPayload::Message {
-            bytes,
-            width: *width,
-            add_path: *add_path,
-        },
-        LentPayload::Entry { key, attrs } => LentPayload::Entry { key: *key, attrs },
-    }
-}
-
 impl<M: PrefixMap<SharedRoute>> RibIn<M> {
     ghost use Rattle.std.specs.Prelude.{◌≡◌, true, Ok, OnOk};
     ghost use Rattle.mrt_body.specs.Events.{event_in};
@@ -221,7 +198,7 @@ impl<M: PrefixMap<SharedRoute>> RibIn<M> {
             }
         }
         // A copy is read, so that the unit itself needs no place in memory.
-        let unread = same_payload(payload);
+        let unread = payload.same();
         self.read_and_take(alloc, buffer, place, &unread)
     }
 

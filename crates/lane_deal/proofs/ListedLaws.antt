@@ -1,20 +1,64 @@
 -- The units of a list, as units are added to it.
-use Rattle.std.proofs.Common.{◌≡◌, ℕ, ◌+◌, ◌<◌, ◌≤◌, List, [], ◌∷◌, ◌++◌, length, map, take, drop, refl, sym, ap, ◌∙◌, subst, arith, length-append, length-drop, slice_index_or}
+use Rattle.std.proofs.Common.{◌≡◌, ℕ, zero, suc, ◌+◌, ◌<◌, ◌≤◌, List, [], ◌∷◌, ◌++◌, length, map, take, drop, refl, sym, ap, ◌∙◌, arith, length-append, length-drop, slice_index_or}
 use Rattle.std.specs.List.{AllByRecursion}
-use Rattle.std.proofs.lemmas.List.{map-append, append-nil, drop-append-le, take-append-le, get_or-map, length-map}
-use Rattle.std.proofs.Math.Seq.{drop-append_seam, take-append_seam}
-use Rattle.lane_deal.specs.declared.unit_list.ListedUnit.{ListedUnit}
+use Rattle.std.specs.Prelude.{Result, Ok, Err, OnErr}
+use Rattle.std.proofs.lemmas.List.{map-append, append-nil, drop-append-le, take-append-le, get_or-map, get_or_append_left, length-map}
+use Rattle.std.proofs.Math.Seq.{drop-append_seam, take-append_seam, get_or-append_seam}
+use Rattle.lane_deal.specs.declared.listed_unit.ListedRecord.{ListedRecord}
+use Rattle.lane_deal.specs.declared.listed_unit.ListedUnit.{ListedUnit}
+use Rattle.lane_deal.specs.declared.listed_unit.NumberedPeer.{NumberedPeer}
 use Rattle.lane_deal.specs.declared.unit_list.UnitList.{UnitList}
 use Rattle.lane_deal.specs.declared.numbered.Numbered.{Numbered}
-use Rattle.lane_deal.specs.ListedUnits.{IsWithin, unit_in, unit_with}
+use Rattle.lane_deal.specs.ListedUnits.{AreKept, IsListedAt, IsWithin, SOME_RECORD, SOME_PEER, unit_in, unit_with}
 use Rattle.lane_deal.specs.UnitLists.{units_of}
 use Rattle.lane_deal.proofs.DealerLaws.{all_push}
 
+-- ---- records and peers
+
+pub kept_alone : {A : Type 0} (xs : List A) → AreKept xs xs
+kept_alone xs = (omega arith, λ d at l. refl)
+
+pub kept_push : {A : Type 0} (xs : List A) (x : A) → AreKept xs (xs ++ x ∷ [])
+kept_push xs x = let n = length-append xs (x ∷ []) in (omega (arith, n), λ d at l. get_or_append_left xs (x ∷ []) d at l)
+
+-- the item that was added
+pub listed_last : {A : Type 0} (xs : List A) (x : A) → IsListedAt (xs ++ x ∷ []) (length xs) x
+listed_last xs x = let n = length-append xs (x ∷ []) in (omega (arith, n), λ d. get_or-append_seam xs x [] d)
+
+-- ---- units
+
 -- the unit at an index
-pub unit_at : (list : UnitList) (at : ℕ) (u : ListedUnit) (d : Numbered) → at < length (units_of list) → u ≡ slice_index_or list.listed.items at u → slice_index_or (units_of list) at d ≡ unit_in list.bytes.items u
+pub unit_at : (list : UnitList) (at : ℕ) (u : ListedUnit) (d : Numbered) → at < length (units_of list) → u ≡ slice_index_or list.listed.items at u
+    → slice_index_or (units_of list) at d ≡ unit_in list.records.items list.peers.items list.bytes.items u
 unit_at list at u d within is =
-    let n = length-map list.listed.items (unit_in list.bytes.items) in
-    get_or-map (unit_in list.bytes.items) list.listed.items at u d (omega (arith, within, n)) ∙ ap (unit_in list.bytes.items) (sym is)
+    let shown = unit_in list.records.items list.peers.items list.bytes.items in
+    let n = length-map list.listed.items shown in
+    get_or-map shown list.listed.items at u d (omega (arith, within, n)) ∙ ap shown (sym is)
+
+-- each of a list's units is within it
+pub within_at : (records peers size : ℕ) (listed : List ListedUnit) (at : ℕ) (d : ListedUnit) → AllByRecursion (λ u. IsWithin records peers size u) listed → at < length listed → IsWithin records peers size (slice_index_or listed at d)
+within_at records peers size [] at d all l = omega arith
+within_at records peers size (u ∷ us) zero d all l = all.0
+within_at records peers size (u ∷ us) (suc at) d all l = within_at records peers size us at d all.1 (omega arith)
+
+-- units stay as they are when records and peers are added
+pub listed_kept : (r r' : List ListedRecord) (p p' : List NumberedPeer) (bytes : List ℕ) (listed : List ListedUnit) → AreKept r r' → AreKept p p'
+    → AllByRecursion (λ u. IsWithin (length r) (length p) (length bytes) u) listed → map (unit_in r' p' bytes) listed ≡ map (unit_in r p bytes) listed
+listed_kept r r' p p' bytes [] kr kp all = refl
+listed_kept r r' p p' bytes (u ∷ us) kr kp all =
+    let own = take u.len (drop u.start bytes) in
+    ap (λ x. unit_with x (slice_index_or p' u.peer SOME_PEER) own u ∷ map (unit_in r' p' bytes) us) (kr.1 SOME_RECORD u.record all.0.0)
+    ∙ (ap (λ x. unit_with (slice_index_or r u.record SOME_RECORD) x own u ∷ map (unit_in r' p' bytes) us) (kp.1 SOME_PEER u.peer all.0.1.0)
+    ∙ ap (λ l. unit_in r p bytes u ∷ l) (listed_kept r r' p p' bytes us kr kp all.1))
+
+-- what is within is within more
+pub within_more : (r r' p p' n n' : ℕ) (listed : List ListedUnit) → r ≤ r' → p ≤ p' → n ≤ n' → AllByRecursion (λ u. IsWithin r p n u) listed → AllByRecursion (λ u. IsWithin r' p' n' u) listed
+within_more r r' p p' n n' [] lr lp ln all = all
+within_more r r' p p' n n' (u ∷ us) lr lp ln all =
+    let a = all.0.0 in
+    let b = all.0.1.0 in
+    let c = all.0.1.1 in
+    ((omega (arith, a, lr), (omega (arith, b, lp), omega (arith, c, ln))), within_more r r' p p' n n' us lr lp ln all.1)
 
 -- bytes stay where they stand when others come behind them
 stays : (bytes more : List ℕ) (start len : ℕ) → start + len ≤ length bytes → take len (drop start (bytes ++ more)) ≡ take len (drop start bytes)
@@ -22,33 +66,50 @@ stays bytes more start len l =
     let n = length-drop start bytes in
     ap (take len) (drop-append-le start bytes more (omega arith)) ∙ take-append-le len (drop start bytes) more (omega arith)
 
-pub listed_stay : (bytes more : List ℕ) (listed : List ListedUnit) → AllByRecursion (λ u. IsWithin (length bytes) u) listed → map (unit_in (bytes ++ more)) listed ≡ map (unit_in bytes) listed
-listed_stay bytes more [] p = refl
-listed_stay bytes more (u ∷ us) p =
-    ap (λ b. unit_with u b ∷ map (unit_in (bytes ++ more)) us) (stays bytes more u.start u.len p.0) ∙ ap (λ l. unit_in bytes u ∷ l) (listed_stay bytes more us p.1)
+listed_stay : (r : List ListedRecord) (p : List NumberedPeer) (bytes more : List ℕ) (listed : List ListedUnit) → AllByRecursion (λ u. IsWithin (length r) (length p) (length bytes) u) listed
+    → map (unit_in r p (bytes ++ more)) listed ≡ map (unit_in r p bytes) listed
+listed_stay r p bytes more [] all = refl
+listed_stay r p bytes more (u ∷ us) all =
+    ap (λ b. unit_with (slice_index_or r u.record SOME_RECORD) (slice_index_or p u.peer SOME_PEER) b u ∷ map (unit_in r p (bytes ++ more)) us) (stays bytes more u.start u.len all.0.1.1)
+    ∙ ap (λ l. unit_in r p bytes u ∷ l) (listed_stay r p bytes more us all.1)
 
 -- the last bytes are those of the unit that came last
-pub listed_last : (bytes more : List ℕ) (u : ListedUnit) → u.start ≡ length bytes → u.len ≡ length more → unit_in (bytes ++ more) u ≡ unit_with u more
-listed_last bytes more u start len =
-    ap (unit_with u)
-    (ap (λ n. take n (drop u.start (bytes ++ more))) len
-    ∙ (ap (λ n. take (length more) (drop n (bytes ++ more))) start
-    ∙ (ap (take (length more)) (drop-append_seam bytes more ∙ sym (append-nil more)) ∙ take-append_seam more [])))
+own_bytes : (bytes more : List ℕ) (start len : ℕ) → start ≡ length bytes → len ≡ length more → take len (drop start (bytes ++ more)) ≡ more
+own_bytes bytes more start len is is_len =
+    ap (λ n. take n (drop start (bytes ++ more))) is_len
+    ∙ (ap (λ n. take (length more) (drop n (bytes ++ more))) is
+    ∙ (ap (take (length more)) (drop-append_seam bytes more ∙ sym (append-nil more)) ∙ take-append_seam more []))
 
-pub listed_more : (bytes more : List ℕ) (listed : List ListedUnit) (u : ListedUnit) → AllByRecursion (λ u. IsWithin (length bytes) u) listed → u.start ≡ length bytes → u.len ≡ length more
-    → map (unit_in (bytes ++ more)) (listed ++ u ∷ []) ≡ map (unit_in bytes) listed ++ unit_with u more ∷ []
-listed_more bytes more listed u p start len =
-    map-append (unit_in (bytes ++ more)) listed (u ∷ [])
-    ∙ (ap (λ l. l ++ unit_in (bytes ++ more) u ∷ []) (listed_stay bytes more listed p) ∙ ap (λ x. map (unit_in bytes) listed ++ x ∷ []) (listed_last bytes more u start len))
+-- one more unit, of a record and a peer that are listed
+pub listed_more : (r : List ListedRecord) (p : List NumberedPeer) (bytes more : List ℕ) (listed : List ListedUnit) (u : ListedUnit) (record_of : ListedRecord) (peer_of : NumberedPeer)
+    → AllByRecursion (λ u. IsWithin (length r) (length p) (length bytes) u) listed → u.start ≡ length bytes → u.len ≡ length more → IsListedAt r u.record record_of → IsListedAt p u.peer peer_of
+    → map (unit_in r p (bytes ++ more)) (listed ++ u ∷ []) ≡ map (unit_in r p bytes) listed ++ unit_with record_of peer_of more u ∷ []
+listed_more r p bytes more listed u record_of peer_of all start len at_record at_peer =
+    map-append (unit_in r p (bytes ++ more)) listed (u ∷ [])
+    ∙ (ap (λ l. l ++ unit_in r p (bytes ++ more) u ∷ []) (listed_stay r p bytes more listed all)
+    ∙ (ap (λ x. map (unit_in r p bytes) listed ++ unit_with x (slice_index_or p u.peer SOME_PEER) (take u.len (drop u.start (bytes ++ more))) u ∷ []) (at_record.1 SOME_RECORD)
+    ∙ (ap (λ x. map (unit_in r p bytes) listed ++ unit_with record_of x (take u.len (drop u.start (bytes ++ more))) u ∷ []) (at_peer.1 SOME_PEER)
+    ∙ ap (λ b. map (unit_in r p bytes) listed ++ unit_with record_of peer_of b u ∷ []) (own_bytes bytes more u.start u.len start len))))
 
--- what stands within a block stands within a longer one
-within_more : (size more : ℕ) (listed : List ListedUnit) → AllByRecursion (λ u. IsWithin size u) listed → AllByRecursion (λ u. IsWithin (size + more) u) listed
-within_more size more [] p = p
-within_more size more (u ∷ us) p = (let l = p.0 in omega arith, within_more size more us p.1)
-
-pub within_push : (bytes more : List ℕ) (listed : List ListedUnit) (u : ListedUnit) → AllByRecursion (λ u. IsWithin (length bytes) u) listed → u.start ≡ length bytes → u.len ≡ length more
-    → AllByRecursion (λ u. IsWithin (length (bytes ++ more)) u) (listed ++ u ∷ [])
-within_push bytes more listed u p start len =
+pub within_push : (r p : ℕ) (bytes more : List ℕ) (listed : List ListedUnit) (u : ListedUnit) → AllByRecursion (λ u. IsWithin r p (length bytes) u) listed
+    → u.start ≡ length bytes → u.len ≡ length more → u.record < r → u.peer < p → AllByRecursion (λ u. IsWithin r p (length (bytes ++ more)) u) (listed ++ u ∷ [])
+within_push r p bytes more listed u all start len lr lp =
     let n = length-append bytes more in
-    let longer : AllByRecursion (λ u. IsWithin (length (bytes ++ more)) u) listed = subst (λ n. AllByRecursion (λ u. IsWithin n u) listed) (sym n) (within_more (length bytes) (length more) listed p) in
-    all_push (λ u. IsWithin (length (bytes ++ more)) u) listed (u ∷ []) longer (omega arith, tt)
+    all_push (λ u. IsWithin r p (length (bytes ++ more)) u) listed (u ∷ [])
+    (within_more r r p p (length bytes) (length (bytes ++ more)) listed (omega arith) (omega arith) (omega (arith, n)) all)
+    ((lr, (lp, omega (arith, n, start, len))), tt)
+
+-- what records and peers are added to a list changes none of its units
+pub units_kept : (list : UnitList) (r' : List ListedRecord) (p' : List NumberedPeer) → AreKept list.records.items r' → AreKept list.peers.items p'
+    → map (unit_in r' p' list.bytes.items) list.listed.items ≡ units_of list
+units_kept list r' p' kr kp = listed_kept list.records.items r' list.peers.items p' list.bytes.items list.listed.items kr kp list.within
+
+pub within_kept : (list : UnitList) (r' : List ListedRecord) (p' : List NumberedPeer) → AreKept list.records.items r' → AreKept list.peers.items p'
+    → AllByRecursion (λ u. IsWithin (length r') (length p') (length list.bytes.items) u) list.listed.items
+within_kept list r' p' kr kp =
+    within_more (length list.records.items) (length r') (length list.peers.items) (length p') (length list.bytes.items) (length list.bytes.items) list.listed.items kr.0 kp.0 (omega arith) list.within
+
+-- what holds in any case holds after an error
+pub after_error : {X Y Q : Type 0} (r : Result X Y) → Q → OnErr r Q
+after_error (Ok x) q = tt
+after_error (Err e) q = q

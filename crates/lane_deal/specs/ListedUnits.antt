@@ -1,12 +1,15 @@
--- The units of a list, whose bytes stand in one block.
-use Rattle.std.specs.Prelude.{ℕ, ◌+◌, ◌≤◌, ◌%◌, List, take, drop}
+-- The units of a list, whose bytes stand in one block, and whose records and peers are listed once.
+use Rattle.std.specs.Prelude.{◌≡◌, ℕ, ◌+◌, ◌≤◌, ◌<◌, ◌%◌, List, length, take, drop, slice_index_or}
 use Rattle.mrt_body.specs.declared.unit.Payload.{Payload}
 use Rattle.mrt_body.specs.declared.unit.Payload.TheVariants.{State, Message, Entry}
+use Rattle.mrt_body.specs.declared.unit.PeerAddr.TheVariants.{V4}
 use Rattle.mrt_body.specs.Lent.{lent_unit}
 use Rattle.lane_deal.specs.declared.numbered.Numbered.{Numbered}
-use Rattle.lane_deal.specs.declared.unit_list.PayloadKind.{PayloadKind}
-use Rattle.lane_deal.specs.declared.unit_list.PayloadKind.TheVariants as kinds
-use Rattle.lane_deal.specs.declared.unit_list.ListedUnit.{ListedUnit}
+use Rattle.lane_deal.specs.declared.listed_unit.PayloadKind.{PayloadKind}
+use Rattle.lane_deal.specs.declared.listed_unit.PayloadKind.TheVariants as kinds
+use Rattle.lane_deal.specs.declared.listed_unit.ListedRecord.{ListedRecord}
+use Rattle.lane_deal.specs.declared.listed_unit.NumberedPeer.{NumberedPeer}
+use Rattle.lane_deal.specs.declared.listed_unit.ListedUnit.{ListedUnit}
 use Rattle.lane_deal.specs.declared.unit_list.LentItem.{LentItem}
 
 -- the payload of this kind with these bytes
@@ -15,20 +18,35 @@ payload_with (kinds.State from to) bytes = State (from % 65536) (to % 65536)
 payload_with (kinds.Message width add_path) bytes = Message bytes width add_path
 payload_with (kinds.Entry key) bytes = Entry key bytes
 
--- its bytes are some of so many
-abbrev pub IsWithin : ℕ → ListedUnit → Type 0
-IsWithin size u = u.start + u.len ≤ size
+-- x is the item at this index
+abbrev pub IsListedAt : {A : Type 0} → List A → ℕ → A → Type 0
+IsListedAt {A} items at x = (at < length items) × ((d : A) → slice_index_or items at d ≡ x)
 
--- the unit with these bytes
-abbrev pub unit_with : ListedUnit → List ℕ → Numbered
-unit_with u bytes = record {
-  number = u.number;
-  unit = record { place = u.place; time = u.time; peer = u.peer; payload = payload_with u.kind bytes };
+-- what is at an index stays there
+abbrev pub AreKept : {A : Type 0} → List A → List A → Type 0
+AreKept {A} before after = (length before ≤ length after) × ((d : A) (at : ℕ) → at < length before → slice_index_or after at d ≡ slice_index_or before at d)
+
+-- its record, its peer and its bytes are some of so many
+abbrev pub IsWithin : ℕ → ℕ → ℕ → ListedUnit → Type 0
+IsWithin records peers size u = (u.record < records) × ((u.peer < peers) × (u.start + u.len ≤ size))
+
+-- the unit of this record and peer with these bytes
+abbrev pub unit_with : ListedRecord → NumberedPeer → List ℕ → ListedUnit → Numbered
+unit_with r p bytes u = record {
+  number = p.number;
+  unit = record { place = record { file = r.file; offset = r.offset; entry = u.entry }; time = r.time; peer = p.peer; payload = payload_with u.kind bytes };
 }
 
--- the unit, where these are the bytes of its list
-abbrev pub unit_in : List ℕ → ListedUnit → Numbered
-unit_in bytes u = unit_with u (take u.len (drop u.start bytes))
+-- any record, and any peer
+abbrev pub SOME_RECORD : ListedRecord
+SOME_RECORD = record { file = 0; offset = 0; time = 0 }
+
+abbrev pub SOME_PEER : NumberedPeer
+SOME_PEER = record { number = 0; peer = record { asn = 0; addr = V4 0 } }
+
+-- the unit, where these are the records, the peers and the bytes of its list
+abbrev pub unit_in : List ListedRecord → List NumberedPeer → List ℕ → ListedUnit → Numbered
+unit_in records peers bytes u = unit_with (slice_index_or records u.record SOME_RECORD) (slice_index_or peers u.peer SOME_PEER) (take u.len (drop u.start bytes)) u
 
 abbrev pub lent_item : LentItem → Numbered
 lent_item item = record { number = item.number; unit = lent_unit item.unit }

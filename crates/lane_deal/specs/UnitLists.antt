@@ -7,7 +7,7 @@ use Rattle.lane_deal.specs.declared.unit_list.UnitList.{UnitList}
 use Rattle.lane_deal.specs.ListedUnits.{unit_in}
 
 abbrev pub units_of : UnitList → List Numbered
-units_of list = map (unit_in list.bytes.items) list.listed.items
+units_of list = map (unit_in list.records.items list.peers.items list.bytes.items) list.listed.items
 
 -- the units of these lists, one list after the other
 abbrev pub units_of_lists : List UnitList → List Numbered

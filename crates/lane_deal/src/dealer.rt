@@ -173,16 +173,22 @@ impl<D: Dealing> Dealer<D> {
         }
     }
 
-    /// Returns the number of this peer, which gets the next one if it has none, and the number of its lane.
+    /// Returns the number of this peer, which gets the next one if it has none, and the number of its lane. The peer has
+    /// this index in the index table if it has one.
     #[inline(always)]
-    fn lane_for(&mut self, peer: &PeerKey, lanes: usize) -> Result<(usize, usize), Memory>
+    fn lane_for(
+        &mut self,
+        peer: &PeerKey,
+        index: Option<u16>,
+        lanes: usize,
+    ) -> Result<(usize, usize), Memory>
         requires { 0 < lanes }
         ensures numbers { IfOk result
             (λ found. NumbersPeer self.old.peers.keys.items self.new.peers.keys.items peer.now found.0) }
         ensures lane { IfOk result (λ found. found.1 ≡ D.lane_of self.old.dealing found.0 lanes) }
         ensures same { self.new ≡ record self.old { peers = self.new.peers } }
     {
-        let number = self.peers.number_of(peer)?;
+        let number = self.peers.number_of(peer, index)?;
         Ok((number, self.dealing.lane(number, lanes)))
     }
 
@@ -214,7 +220,7 @@ impl<D: Dealing> Dealer<D> {
         for dealt in 0..batch {
             self.ask(alloc, units, files)?;
             if let Some(unit) = self.lent(units) {
-                let (number, lane) = self.lane_for(&unit.peer, feeds.len())?;
+                let (number, lane) = self.lane_for(&unit.peer, unit.peer_index, feeds.len())?;
                 if !has_room(gate, feeds, lane, looks, over) {
                     // A copy is lent, so that the unit itself needs no place in memory.
                     let blocked = unit;
@@ -230,7 +236,7 @@ impl<D: Dealing> Dealer<D> {
             let Some(unit) = self.kept.take() else {
                 return Ok(Step::End);
             };
-            let (number, lane) = self.lane_for(&unit.peer, feeds.len())?;
+            let (number, lane) = self.lane_for(&unit.peer, None, feeds.len())?;
             if !has_room(gate, feeds, lane, looks, over) {
                 self.kept = Some(unit);
                 return Ok(Step::Blocked);

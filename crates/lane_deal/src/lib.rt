@@ -10,6 +10,7 @@ mod holding;
 mod lane;
 mod lanes;
 mod listed_peer;
+mod listed_unit;
 mod numbered;
 mod peer_numbers;
 mod plan;

@@ -1,6 +1,6 @@
 //! Peers without the padding that an address of 128 bits brings.
 
-ghost use Rattle.std.specs.Prelude.{◌≡◌};
+ghost use Rattle.std.specs.Prelude.{◌≡◌, true};
 
 use mrt_body::{PeerAddr, PeerKey};
 use std::marker::Model;
@@ -51,6 +51,17 @@ impl ListedPeer {
                 second: (addr % HALVES) as u64,
             },
         }
+    }
+
+    /// Whether they are listed alike, which they are only if they are the same peer.
+    #[inline(always)]
+    pub fn is_same(&self, other: &ListedPeer) -> bool
+        ensures { result ≡ true → self.now ≡ other.now }
+    {
+        self.asn == other.asn
+            && self.is_ipv6 == other.is_ipv6
+            && self.first == other.first
+            && self.second == other.second
     }
 
     /// Returns the peer.

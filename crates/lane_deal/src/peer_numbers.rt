@@ -16,20 +16,33 @@ use std::collections::HashMap;
 /// How many slots hold the number of a peer seen before: as many as ten bits can index.
 const RECENT: usize = 1_024;
 
+/// By this number an index of the PEER_INDEX_TABLE is divided: the rest is the peer's slot.
+const INDEX_SLOTS: u16 = 1_024;
+
 /// The peers so far, by number.
 #[derive(Drop)]
 pub struct Peers {
     keys: Vec<PeerKey>,
     /// The number of each peer.
     numbers: HashMap<PeerKey, usize>,
-    /// The number of the last peer at each slot: usually the one that is looked up.
+    /// The number of the last peer at each slot: usually the one that is looked up. The slots of the peers of an index
+    /// table are their indexes, so the numbers of its peers stay there.
     recent: Vec<usize>,
     ghost apart: { AreApart keys.items },
     ghost listed: { AreListed (hash.get key_impl.eq-value.it numbers) keys.items },
 }
 
-/// The slot of a peer, below `RECENT`. Peers may share one.
-fn recent_slot(peer: &PeerKey) -> usize {
+/// The slot of a peer, below `RECENT`: its index in the index table, or a hash. Peers may share one.
+#[inline(always)]
+fn recent_slot(peer: &PeerKey, index: Option<u16>) -> usize {
+    match index {
+        Some(index) => (index % INDEX_SLOTS) as usize,
+        None => hashed_slot(peer),
+    }
+}
+
+/// Returns a hash of a peer, below `RECENT`.
+fn hashed_slot(peer: &PeerKey) -> usize {
     let low = match peer.addr {
         PeerAddr::V4(addr) => u64::from(addr),
         PeerAddr::V6(addr) => (addr & 0xFFFF_FFFF_FFFF_FFFF) as u64,
@@ -132,12 +145,13 @@ impl Peers {
         self.add(&peer)
     }
 
-    /// Returns the number of a peer. A peer is numbered when it first appears.
+    /// Returns the number of a peer, which has this index in the index table if it has one. A peer is numbered when it
+    /// first appears.
     #[inline(always)]
-    pub fn number_of(&mut self, peer: &PeerKey) -> Result<usize, Memory>
+    pub fn number_of(&mut self, peer: &PeerKey, index: Option<u16>) -> Result<usize, Memory>
         ensures { IfOk result (NumbersPeer self.old.keys.items self.new.keys.items peer.now) }
     {
-        let slot = recent_slot(peer);
+        let slot = recent_slot(peer, index);
         if let Some(number) = self.recent_at(slot, peer) {
             return Ok(number);
         }

@@ -59,7 +59,7 @@ fn number_all(alloc: Global, units: Vec<Unit>) -> Result<VecDeque<Numbered>, Mem
     let mut peers = Peers::new(alloc)?;
     let mut all = VecDeque::new(alloc);
     for unit in units {
-        let number = peers.number_of(&unit.peer)?;
+        let number = peers.number_of(&unit.peer, None)?;
         all.push_back(Numbered { number, unit })?;
     }
     Ok(all)

@@ -16,6 +16,9 @@ use peer_tables::Seated;
 use std::alloc::Global;
 use std::mem;
 
+/// For how many units of a list routes are prefetched: as many as a list usually has.
+const MOST_NEAR: usize = 32;
+
 /// The sessions of one lane, in the order in which their peers first appeared.
 #[derive(Drop)]
 pub struct Seats<M: PrefixMap<SharedRoute>> {
@@ -178,25 +181,31 @@ impl<M: PrefixMap<SharedRoute> + Drop> Seats<M> {
         mem::replace(&mut self.seats, given)
     }
 
-    /// Returns the session that probably takes a unit of the peer with this number.
-    fn session_near(&self, number: Option<usize>) -> Option<&Session<M>> {
-        let at = self.position_of(number?)?;
-        let seat = self.seats.get(at)?;
-        Some(&seat.session)
+    /// Returns the position of the session that probably takes a unit of the peer with this number.
+    #[inline(always)]
+    fn position_near(&self, number: usize) -> usize {
+        match self.positions.get(number) {
+            Some(Some(at)) => *at,
+            _ => 0,
+        }
     }
 
-    /// Prefetches the slots where the routes of all these units would be, and then these routes. The returned number has
+    /// Prefetches the slots where the routes of the first units would be, and then these routes. The returned number has
     /// no meaning.
     fn touch(&self, items: &UnitList, ahead: &[ReadAhead]) -> usize {
+        let count = items.len().min(ahead.len()).min(MOST_NEAR);
+        let mut near = [0usize; MOST_NEAR];
         let mut touched = 0usize;
-        for (at, read) in ahead.iter().enumerate() {
-            if let Some(session) = self.session_near(items.number_at(at)) {
-                touched = touched.saturating_add(session.prefetch_slot(read));
+        for at in 0..count {
+            let position = self.position_near(items.number_at(at));
+            near[at] = position;
+            if let Some(seat) = self.seats.get(position) {
+                touched = touched.saturating_add(seat.session.prefetch_slot(&ahead[at]));
             }
         }
-        for (at, read) in ahead.iter().enumerate() {
-            if let Some(session) = self.session_near(items.number_at(at)) {
-                touched = touched.saturating_add(session.prefetch_route(read));
+        for at in 0..count {
+            if let Some(seat) = self.seats.get(near[at]) {
+                touched = touched.saturating_add(seat.session.prefetch_route(&ahead[at]));
             }
         }
         touched

@@ -8,32 +8,13 @@ ghost use Rattle.adj_rib.specs.RouteSets.{IsAheadOf};
 ghost use Rattle.lane_deal.specs.ListedUnits.{IsWithin, payload_with};
 
 use crate::listed_peer::ListedPeer;
+use crate::listed_unit::{
+    ListedRecord, ListedUnit, NumberedPeer, PayloadKind, index_of_peer, index_of_record,
+};
 use adj_rib::ReadAhead;
-use bgp_prefix::{Memory, RouteKey};
-use bgp_update::Width;
+use bgp_prefix::Memory;
 use mrt_body::{LentPayload, LentUnit, Place};
 use std::alloc::Global;
-
-/// A payload without its bytes.
-#[derive(Clone, Copy)]
-pub enum PayloadKind {
-    /// Numbers below 65,536. As long as the fields of a key, they are copied together with these.
-    State { from: u32, to: u32 },
-    Message { width: Width, add_path: bool },
-    Entry { key: RouteKey },
-}
-
-/// A unit of a list, and where its bytes are in those of the list.
-#[derive(Drop)]
-pub struct ListedUnit {
-    pub number: usize,
-    pub place: Place,
-    pub time: u64,
-    pub peer: ListedPeer,
-    pub kind: PayloadKind,
-    pub start: usize,
-    pub len: usize,
-}
 
 /// A unit that its list lends, with its peer's number.
 #[derive(Clone, Copy)]
@@ -42,13 +23,19 @@ pub struct LentItem<'a> {
     pub unit: LentUnit<'a>,
 }
 
-/// Units that were dealt to one lane, in order. Their bytes are in one block of memory, so a list takes two
-/// allocations, and one more each time its bytes outgrow their block.
+/// Units that were dealt to one lane, in order. Their records, their peers and their bytes are in blocks of memory of
+/// their own, so a list takes four allocations, and one more each time one of these blocks is outgrown.
 #[derive(Drop)]
 pub struct UnitList {
     listed: Vec<ListedUnit>,
+    records: Vec<ListedRecord>,
+    /// Those of the units, and others that the list had before.
+    peers: Vec<NumberedPeer>,
     bytes: Vec<u8>,
-    ghost within: { AllByRecursion (λ unit. IsWithin (length bytes.items) unit) listed.items } by { Prim.hlevel props },
+    /// The index of the peer whose unit probably comes next: peers take turns in RIB records.
+    probable: u16,
+    ghost within: { AllByRecursion (λ unit. IsWithin (length records.items) (length peers.items) (length bytes.items) unit)
+        listed.items } by { Prim.hlevel props },
 }
 
 /// How many bytes there is room for at first for each unit of a list. More are made room for as they come.
@@ -56,6 +43,9 @@ const BYTES_EACH: usize = 64;
 
 /// How many bytes a list that is filled again may have room for. One that long messages enlarged is freed.
 const MOST_KEPT: usize = 16_384;
+
+/// How many peers a list that is filled again keeps: they are usually those of its next units.
+const MOST_PEERS: usize = 64;
 
 /// How many numbers a state may have.
 const STATES: u32 = 65_536;
@@ -123,7 +113,10 @@ impl UnitList {
     {
         UnitList {
             listed: Vec::new(alloc),
+            records: Vec::new(alloc),
+            peers: Vec::new(alloc),
             bytes: Vec::new(alloc),
+            probable: 0,
         }
     }
 
@@ -139,7 +132,11 @@ impl UnitList {
         ensures { units_of self.new ≡ [] }
     {
         self.listed.clear();
+        self.records.clear();
         self.bytes.clear();
+        if MOST_PEERS < self.peers.len() {
+            self.peers.clear();
+        }
     }
 
     /// Whether its memory should be kept for other units.
@@ -165,31 +162,42 @@ impl UnitList {
         ensures failed { OnErr result (units_of self.new ≡ units_of self.old) }
     {
         let (kind, bytes) = parts_of(&unit.payload);
-        let start = self.bytes.len();
         self.listed.reserve(1)?;
+        let record = index_of_record(&mut self.records, &unit.place, unit.time)?;
+        let peer = ListedPeer::new(&unit.peer);
+        let peer = index_of_peer(&mut self.peers, self.probable, number, peer)?;
+        let start = self.bytes.len();
         self.bytes.extend_from_slice(bytes)?;
         self.listed.push_reserved(ListedUnit {
-            number,
-            place: unit.place,
-            time: unit.time,
-            peer: ListedPeer::new(&unit.peer),
             kind,
             start,
             len: bytes.len(),
+            entry: unit.place.entry,
+            record,
+            peer,
         });
+        self.probable = self.after(peer);
         Ok(())
     }
 
-    /// Returns the number of the peer of the unit at this index, if there is one.
-    pub fn number_at(&self, at: usize) -> Option<usize>
-        ensures { MatchOption result
-            (length (units_of self.now) ≤ at)
-            (λ number. (d : Numbered) → (slice_index_or (units_of self.now) at d).number ≡ number) }
-    {
-        match self.listed.get(at) {
-            Some(unit) => Some(unit.number),
-            None => None,
+    /// The index of the peer whose unit probably comes after one of this peer.
+    #[inline(always)]
+    fn after(&self, peer: u16) -> u16 {
+        let next = peer.saturating_add(1);
+        if self.peers.len() <= next as usize {
+            return 0;
         }
+        next
+    }
+
+    /// Returns the number of the peer of the unit at this index.
+    #[inline(always)]
+    pub fn number_at(&self, at: usize) -> usize
+        requires { at < length (units_of self.now) }
+        ensures { (d : Numbered) → (slice_index_or (units_of self.now) at d).number ≡ result }
+    {
+        let unit = &self.listed[at];
+        self.peers[unit.peer as usize].number
     }
 
     /// Lends the unit at this index.
@@ -199,13 +207,20 @@ impl UnitList {
         ensures { (d : _) → slice_index_or (units_of self.now) at d ≡ lent_item result }
     {
         let unit = &self.listed[at];
+        let record = &self.records[unit.record as usize];
+        let source = &self.peers[unit.peer as usize];
         let bytes = bytes_from(self.bytes.as_slice(), unit.start, unit.len);
         LentItem {
-            number: unit.number,
+            number: source.number,
             unit: LentUnit {
-                place: unit.place,
-                time: unit.time,
-                peer: unit.peer.key(),
+                place: Place {
+                    file: record.file,
+                    offset: record.offset,
+                    entry: unit.entry,
+                },
+                time: record.time,
+                peer: source.peer.key(),
+                peer_index: None,
                 payload: with_bytes(unit.kind, bytes),
             },
         }

@@ -111,6 +111,7 @@ impl RibRecord {
             place: self.at.place(Some(self.given + 1)),
             time: self.at.time(0),
             peer: peers[entry.peer as usize],
+            peer_index: Some(entry.peer),
             payload: LentPayload::Entry { key, attrs },
         })
     }

@@ -37,10 +37,36 @@ pub struct LentUnit<'a> {
     pub place: Place,
     pub time: u64,
     pub peer: PeerKey,
+    /// The index of the peer in the PEER_INDEX_TABLE (RFC 6396, 4.3.1), if an entry is lent by its record. It is no part
+    /// of the unit: a reader that keeps something for each peer can look there first, and then has to compare the peers.
+    pub peer_index: Option<u16>,
     pub payload: LentPayload<'a>,
 }
 
-impl LentPayload<'_> {
+impl<'a> LentPayload<'a> {
+    /// Returns the same payload, whose bytes are lent as well.
+    #[inline(always)]
+    pub fn same(&self) -> LentPayload<'a>
+        ensures { lent_payload result ≡ lent_payload self.now }
+    {
+        match self {
+            LentPayload::State { from, to } => LentPayload::State {
+                from: *from,
+                to: *to,
+            },
+            LentPayload::Message {
+                bytes,
+                width,
+                add_path,
+            } => LentPayload::Message {
+                bytes,
+                width: *width,
+                add_path: *add_path,
+            },
+            LentPayload::Entry { key, attrs } => LentPayload::Entry { key: *key, attrs },
+        }
+    }
+
     /// Returns the payload with a copy of its bytes. Up to 112 of them allocate nothing.
     pub fn to_payload(&self, alloc: Global) -> Result<Payload, Memory>
         ensures copies { IfOk result (λ payload. payload ≡ lent_payload self.now) }
@@ -116,6 +142,7 @@ impl Unit {
             place: self.place,
             time: self.time,
             peer: self.peer,
+            peer_index: None,
             payload: self.payload.lend(),
         }
     }

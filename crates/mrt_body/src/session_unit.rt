@@ -74,6 +74,7 @@ impl SessionUnit {
             place: self.place,
             time: self.time,
             peer: self.peer,
+            peer_index: None,
             payload: match self.kind {
                 SessionKind::State { from, to } => LentPayload::State { from, to },
                 SessionKind::Message { width, add_path } => LentPayload::Message {
