@@ -6,7 +6,7 @@ use Rattle.std.specs.declared.cmp.Ordering.TheVariants.{Less, Greater}
 use Rattle.std.specs.Ordering.{is_le}
 use Rattle.std.specs.FinMap.{is_sorted}
 use Rattle.std.proofs.lemmas.Bool.{cases_lt}
-use Rattle.std.proofs.lemmas.List.Edits.{length-insert, length-remove}
+use Rattle.std.proofs.lemmas.List.Edits.{length-insert, length-remove, insert_end}
 use Rattle.std.proofs.lemmas.List.Elements.{filter-append}
 use Rattle.bgp_prefix.specs.Maps.{paths_of}
 use Rattle.std.proofs.lemmas.List.{append-nil, append_assoc, map-append, length-take, length-drop, take_more}
@@ -182,6 +182,17 @@ module _ {V : Type 0} where
     pub put_is : (at : ℕ) (p : IpPrefix) (i : ℕ) (v : V) (qs : List IpPrefix) (js : List ℕ) (ws : List V) → at ≤ length es → qs ≡ insert ps at p → js ≡ ids_put (length ps) at i is → ws ≡ insert vs at v → routes_in qs js ws ≡ insert es at (record { prefix = p; id = i }, v)
     put_is at p i v qs js ws le rq rj rw' =
         rw (rq, rj, rw') (routes_put ps is vs at p i v ok (omega (arith, le, sized)) ∙ ap (λ t. insert t at (record { prefix = p; id = i }, v)) view)
+
+    pub push_is : (p : IpPrefix) (i : ℕ) (v : V) (qs : List IpPrefix) (js : List ℕ) (ws : List V) → qs ≡ ps ++ p ∷ [] → js ≡ ids_put (length ps) (length ps) i is → ws ≡ vs ++ v ∷ [] → routes_in qs js ws ≡ es ++ (record { prefix = p; id = i }, v) ∷ []
+    push_is p i v qs js ws rq rj rw' =
+        let e : RouteKey × V = (record { prefix = p; id = i }, v) in
+        put_is (length ps) p i v qs js ws (omega (arith, sized)) (rq ∙ sym (insert_end ps p)) rj (rw' ∙ sym (insert_end vs v) ∙ ap (λ n. insert vs n v) ok.values)
+        ∙ ap (λ n. insert es n e) sized
+        ∙ insert_end es e
+
+    pub push_kept : (p : IpPrefix) (i : ℕ) (v : V) (qs : List IpPrefix) (js : List ℕ) (ws : List V) → qs ≡ ps ++ p ∷ [] → js ≡ ids_put (length ps) (length ps) i is → ws ≡ vs ++ v ∷ [] → IsArrays qs js ws
+    push_kept p i v qs js ws rq rj rw' =
+        rw (rq ∙ sym (insert_end ps p), rj, rw' ∙ sym (insert_end vs v) ∙ ap (λ n. insert vs n v) ok.values) (arrays_put ps is vs (length ps) p i v ok (omega arith))
 
     pub removed_is : (at : ℕ) (qs : List IpPrefix) (js : List ℕ) (ws : List V) → at < length es → qs ≡ remove ps at → js ≡ ids_removed at is → ws ≡ remove vs at → routes_in qs js ws ≡ remove es at
     removed_is at qs js ws lt rq rj rw' =

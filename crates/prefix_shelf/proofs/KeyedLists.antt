@@ -1,5 +1,5 @@
 -- Lists of routes by their keys: what holds of each key, and keys below and above all of them.
-use Rattle.std.proofs.Common.{◌≡◌, ◌≢◌, ℕ, zero, suc, ◌==◌, ◌<◌, Bool, true, false, cond, not, ◌&&◌, T, List, [], ◌∷◌, ◌++◌, length, get_or, take, drop, map, Some, None, Result, Ok, Err, OnErr, refl, sym, ap, ◌∙◌, subst, arith}
+use Rattle.std.proofs.Common.{◌≡◌, ◌≢◌, ℕ, zero, suc, ◌==◌, ◌<◌, Bool, true, false, cond, not, ◌&&◌, T, List, [], ◌∷◌, ◌++◌, length, get_or, take, drop, map, Some, None, Result, Ok, Err, OnOk, OnErr, refl, sym, ap, ◌∙◌, subst, arith}
 use Rattle.std.specs.List.{All, insert, remove}
 use Rattle.std.specs.Ordering.{is_lt, is_le, is_eq, eq_by_cmp}
 use Rattle.std.specs.declared.cmp.Ordering.{Ordering}
@@ -20,6 +20,11 @@ less_of : (o : Ordering) → T (is_lt o) → o ≡ Less
 less_of Less p = refl
 less_of Equal p = absurd p
 less_of Greater p = absurd p
+
+pub less_when : (o : Ordering) → is_lt o ≡ true → o ≡ Less
+less_when Less e = refl
+less_when Equal e = cc
+less_when Greater e = cc
 
 tied_less : (a k : RouteKey) → key_cmp a k ≡ Less → eq_by_cmp key_cmp k a ≡ false
 tied_less a k e = ap is_eq (turn key_cmp key_cmp_total a k Less e)
@@ -54,6 +59,10 @@ pub on_err : {X Y Q : Type 0} (r : Result X Y) → Q → OnErr r Q
 on_err (Ok x) q = tt
 on_err (Err e) q = q
 
+pub either_way : {X Y P Q R : Type 0} (r : Result X Y) → (P → R) → (Q → R) → OnOk r P → OnErr r Q → R
+either_way (Ok x) f g p q = f p
+either_way (Err e) f g p q = g q
+
 pub map_remove : {A B : Type 0} (f : A → B) (xs : List A) (i : ℕ) → map f (remove xs i) ≡ remove (map f xs) i
 map_remove f [] zero = refl
 map_remove f [] (suc i) = refl
@@ -69,6 +78,20 @@ less_past key k j less other = elim (key_cmp j key) as (λ r. key_cmp j key ≡ 
 
 pub more_past : (key j k : RouteKey) → key_cmp j k ≡ Less → key_cmp j key ≡ Greater → key_cmp k key ≡ Greater
 more_past key j k less above = turn key_cmp key_cmp_total key k Less (key_cmp_total.trans key j k (turn key_cmp key_cmp_total j key Greater above) less)
+
+-- keys beside one that no key of a list comes after
+pub below_past : (k bound key : RouteKey) → key_cmp k bound ≢ Greater → key_cmp bound key ≡ Less → key_cmp k key ≡ Less
+below_past k bound key other less = elim (key_cmp k bound) as (λ r. key_cmp k bound ≡ r → key_cmp k key ≡ Less) [
+  | Less ↦ λ e. key_cmp_total.trans k bound key e less
+  | Equal ↦ λ e. subst (λ (q : RouteKey). key_cmp q key ≡ Less) (sym (key_cmp_exact k bound e)) less
+  | Greater ↦ λ e. absurd (other e)
+] refl
+
+pub less_other : (j k : RouteKey) → key_cmp j k ≡ Less → key_cmp j k ≢ Greater
+less_other j k less = λ more. let clash : Less ≡ Greater = sym less ∙ more in cc
+
+pub same_other : (k : RouteKey) → key_cmp k k ≢ Greater
+same_other k = λ more. let clash : Less ≡ Greater = sym (turn key_cmp key_cmp_total k k Greater more) ∙ more in cc
 
 pub All-first : {X : Type 0} (P : X → Type 0) (xs ys : List X) → All P (xs ++ ys) → All P xs
 All-first P [] ys all = λ j d lt. absurd (omega (arith, lt))
@@ -144,8 +167,20 @@ module _ {V : Type 0} where
     | Greater ↦ ap (λ t. e ∷ t) (put_above k v es fs h)
   ]
 
+  pub put_last : (k : RouteKey) (v : V) (es : List (RouteKey × V)) → EachBelow k es → put key_cmp k v es ≡ es ++ (k, v) ∷ []
+  put_last k v [] h = refl
+  put_last k v (e ∷ es) h = ap (λ r. by_order r ((k, v) ∷ e ∷ es) ((e.0, v) ∷ es) (e ∷ put key_cmp k v es)) (turn key_cmp key_cmp_total e.0 k Less h.0) ∙ ap (λ t. e ∷ t) (put_last k v es h.1)
+
+  pub each_put : (P : RouteKey → Type 0) (k : RouteKey) (v : V) (es : List (RouteKey × V)) → P k → EachKey P es → EachKey P (put key_cmp k v es)
+  each_put P k v [] one h = (one, tt)
+  each_put P k v (e ∷ es) one h = elim (key_cmp k e.0) as (λ r. EachKey P (by_order r ((k, v) ∷ e ∷ es) ((e.0, v) ∷ es) (e ∷ put key_cmp k v es))) [ Less ↦ (one, h) | Equal ↦ h | Greater ↦ (h.0, each_put P k v es one h.1) ]
+
   abbrev pub without : RouteKey → List (RouteKey × V) → List (RouteKey × V)
   without k es = where_key key_cmp (λ x. not (eq_by_cmp key_cmp k x)) es
+
+  pub each_without : (P : RouteKey → Type 0) (k : RouteKey) (es : List (RouteKey × V)) → EachKey P es → EachKey P (without k es)
+  each_without P k [] h = tt
+  each_without P k (e ∷ es) h = elim (eq_by_cmp key_cmp k e.0) as (λ b. EachKey P (cond (not b) (e ∷ without k es) (without k es))) [ true ↦ each_without P k es h.1 | false ↦ (h.0, each_without P k es h.1) ]
 
   pub without_below : (k : RouteKey) (es : List (RouteKey × V)) → EachBelow k es → without k es ≡ es
   without_below k [] h = refl

@@ -8,6 +8,7 @@ use Rattle.std.specs.FinMap.Entries.{by_order, is_sorted-put, is_sorted-where_ke
 use Rattle.std.proofs.lemmas.List.{append_assoc, append-nil, map-append, map-set, take-append-drop, take_more, length-append, take-map, length-take, length-drop, length-map, get_or-drop}
 use Rattle.std.proofs.lemmas.List.Edits.{insert_end}
 use Rattle.std.proofs.lemmas.List.Elements.{All-head, All-tail, All-cons, All-set, All-take, All-drop, All-append, All-filter, filter-append}
+use Rattle.std.proofs.Math.Seq.{map-set_same}
 use Rattle.bgp_prefix.specs.Prefixes.{IpPrefix, IsIpPrefix, prefix_cmp}
 use Rattle.bgp_prefix.specs.Keys.{key_cmp, is_nil}
 use Rattle.prefix_shelf.specs.Shelves.{in_chunks, first_key, AreParts, EachKey, IsIndexOfKey, IsIndexOfPrefix, IsCut, lesser_key}
@@ -17,7 +18,7 @@ use Rattle.bgp_prefix.proofs.KeyLaws.{key_cmp_total, find-parts, or_none}
 use Rattle.bgp_prefix.proofs.SearchLaws.{first}
 use Rattle.bgp_prefix.proofs.SortedMaps.{of_put}
 use Rattle.bgp_prefix.proofs.OrderLaws.{sorted_parts}
-use Rattle.prefix_shelf.proofs.KeyedLists.{get_map, drop_map, map_remove, less_past, more_past, All-first, All-second, All-insert, up_to_pair, up_to_false, each_second, each_weaker, find_below, find_above, put_below, put_above, without, without_below, without_above, each_before, each_below_all, part_read}
+use Rattle.prefix_shelf.proofs.KeyedLists.{get_map, drop_map, map_remove, less_past, more_past, All-first, All-second, All-insert, up_to_pair, up_to_false, each_second, each_weaker, find_below, find_above, put_below, put_above, put_last, each_first, without, without_below, without_above, each_before, each_below_all, part_read}
 
 module _ {V : Type 0} where
   pub chunks_append : (cs ds : List (List (RouteKey × V))) → in_chunks (cs ++ ds) ≡ in_chunks cs ++ in_chunks ds
@@ -268,6 +269,36 @@ module _ {V : Type 0} where
           firsts = ap (λ (t : List RouteKey). t ++ k ∷ []) rows.firsts ∙ sym (map-append first_key cs (one ∷ []));
         },
       )
+
+  -- what holds of each key holds of those of a chunk
+  pub each_of_chunk : (P : RouteKey → Type 0) (cs : List (List (RouteKey × V))) (i : ℕ) (d : List (RouteKey × V)) → i < length cs → EachKey P (in_chunks cs) → EachKey P (get_or cs i d)
+  each_of_chunk P cs i d lt h = each_first P (get_or cs i d) (in_chunks (drop (suc i) cs)) (each_second P (in_chunks (take i cs)) (get_or cs i d ++ in_chunks (drop (suc i) cs)) (subst (λ (es : List (RouteKey × V)). EachKey P es) (around cs i d lt) h))
+
+  first_pushed : (es fs : List (RouteKey × V)) → is_nil es ≡ false → first_key (es ++ fs) ≡ first_key es
+  first_pushed [] fs held = cc
+  first_pushed (e ∷ es) fs held = refl
+
+  held_pushed : (es : List (RouteKey × V)) (e : RouteKey × V) → is_nil (es ++ e ∷ []) ≡ false
+  held_pushed [] e = refl
+  held_pushed (x ∷ es) e = refl
+
+  -- one more route at the end of the last chunk
+  pub chunk_pushed : (cs : List (List (RouteKey × V))) (i : ℕ) (d : List (RouteKey × V)) (e : RouteKey × V) → i + 1 ≡ length cs → in_chunks (set cs i (get_or cs i d ++ e ∷ [])) ≡ in_chunks cs ++ e ∷ []
+  chunk_pushed [] i d e last = absurd (omega (arith, last))
+  chunk_pushed (c ∷ []) zero d e last = append-nil (c ++ e ∷ []) ∙ ap (λ t. t ++ e ∷ []) (sym (append-nil c))
+  chunk_pushed (c ∷ b ∷ cs) zero d e last = absurd (omega (arith, last))
+  chunk_pushed (c ∷ cs) (suc i) d e last = ap (λ t. c ++ t) (chunk_pushed cs i d e (omega (arith, last))) ∙ sym (append_assoc c (in_chunks cs) (e ∷ []))
+
+  pub parts_pushed : (ks : List RouteKey) (cs : List (List (RouteKey × V))) (k : RouteKey) (v : V) (i : ℕ) (d : List (RouteKey × V)) → AreParts ks cs → i + 1 ≡ length cs → EachKey (λ j. key_cmp j k ≡ Less) (in_chunks cs) → IsIpPrefix k.prefix → AreParts ks (set cs i (get_or cs i d ++ (k, v) ∷ []))
+  parts_pushed ks cs k v i d rows last below known =
+      let c = get_or cs i d ++ (k, v) ∷ [] in
+      let is : in_chunks (set cs i c) ≡ put key_cmp k v (in_chunks cs) = chunk_pushed cs i d (k, v) last ∙ sym (put_last k v (in_chunks cs) below) in
+      record {
+        sorted = subst (λ (es : List (RouteKey × V)). T (is_sorted key_cmp es)) (sym is) (is_sorted-put key_cmp key_cmp_total k v (in_chunks cs) rows.sorted);
+        known = subst (λ (es : List (RouteKey × V)). All (λ e. IsIpPrefix e.0.prefix) es) (sym is) (of_put (λ j. IsIpPrefix j.prefix) k v (in_chunks cs) known rows.known);
+        held = All-set (λ x. is_nil x ≡ false) cs i c (held_pushed (get_or cs i d) (k, v)) rows.held;
+        firsts = rows.firsts ∙ sym (map-set_same first_key cs i c d (first_pushed (get_or cs i d) ((k, v) ∷ []) (rows.held i d (omega (arith, last)))));
+      }
 
   without_known : (k : RouteKey) (es : List (RouteKey × V)) → All (λ e. IsIpPrefix e.0.prefix) es → All (λ e. IsIpPrefix e.0.prefix) (without k es)
   without_known k es all = All-filter (λ (e : RouteKey × V). not (eq_by_cmp key_cmp k e.0)) (λ e. IsIpPrefix e.0.prefix) es all

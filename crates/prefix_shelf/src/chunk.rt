@@ -1,6 +1,6 @@
 //! Chunks: lists of routes in three arrays.
 
-ghost use Rattle.std.specs.Prelude.{◌≡◌, ◌<◌, ◌≤◌, ◌⊎◌, ℕ, List, [], ◌∷◌, ◌++◌, not, T, IfOk, IfErr, OnOk, OnErr, length, map, take, drop, vec_len, vec_capacity, slice_index_or, slice_set, is_ok, if◌then◌else◌, true, false};
+ghost use Rattle.std.specs.Prelude.{◌≡◌, ◌≢◌, ◌<◌, ◌≤◌, ◌⊎◌, ℕ, List, [], ◌∷◌, ◌++◌, not, T, IsTrue, IfOk, IfErr, OnOk, OnErr, length, map, take, drop, vec_len, vec_capacity, slice_index_or, slice_set, is_ok, if◌then◌else◌, true, false};
 ghost use Rattle.std.specs.List.{insert, remove};
 ghost use Rattle.std.specs.List.Sorted.{IsPartitionPoint};
 ghost use Rattle.std.specs.Ordering.{eq_by_cmp, is_le};
@@ -216,6 +216,19 @@ impl<V: Drop> Part for Chunk<V> {
         }
     }
 
+    #[inline(always)]
+    fn push_within_capacity(&mut self, key: &RouteKey, value: V) -> Result<(), V> {
+        if self.len() >= FULL_LEN || is_full(&self.keys) || is_full(&self.values) {
+            return Err(value);
+        }
+        if !push_id(&mut self.ids, key.id) {
+            return Err(value);
+        }
+        self.keys.push_reserved(key.prefix);
+        self.values.push_reserved(value);
+        Ok(())
+    }
+
     fn remove(&mut self, key: &RouteKey) -> Option<V> {
         match self.search(key) {
             Ok(at) => Some(self.take_at(at)),
@@ -311,6 +324,13 @@ fn remove_id(ids: &mut Vec<u32>, at: usize)
     }
 }
 
+// Whether there is no room for one more.
+fn is_full<T>(items: &Vec<T>) -> bool
+    ensures { result ≡ false → vec_len items.now < vec_capacity items.now }
+{
+    items.len() == items.capacity()
+}
+
 /// Makes room for one more: a short list is doubled, a longer one grows in steps.
 pub(crate) fn make_room<T>(items: &mut Vec<T>) -> Result<(), Memory>
     ensures items { items.new.items ≡ items.old.items }
@@ -333,17 +353,47 @@ pub(crate) fn put<T: Drop>(items: &mut Vec<T>, at: usize, item: T)
     }
 }
 
+// Appends an identifier to those of a chunk, and returns whether it did: it allocates nothing.
+#[inline(always)]
+fn push_id(ids: &mut Vec<u32>, id: u32) -> bool
+    ensures pushed { IsTrue result → (len : ℕ) → (ids.old.items ≡ []) ⊎ (length ids.old.items ≡ len)
+        → ids.new.items ≡ ids_put len len id ids.old.items }
+    ensures same { result ≡ false → ids.new.items ≡ ids.old.items }
+{
+    if ids.is_empty() {
+        return id == 0;
+    }
+    if is_full(ids) {
+        return false;
+    }
+    ids.push_reserved(id);
+    true
+}
+
 // Inserts an identifier at a position among those of `len` routes. An `Err` changes nothing.
+#[inline(always)]
 fn put_id(alloc: Global, ids: &mut Vec<u32>, len: usize, at: usize, id: u32) -> Result<(), Memory>
     requires within { at ≤ len }
     requires all { (ids.old.items ≡ []) ⊎ (length ids.old.items ≡ len) }
     ensures ok { OnOk result (ids.new.items ≡ ids_put len at id ids.old.items) }
     ensures err { OnErr result (ids.new.items ≡ ids.old.items) }
 {
+    if ids.is_empty() && id == 0 {
+        return Ok(());
+    }
+    store_id(alloc, ids, len, at, id)
+}
+
+// The part of `put_id` that stores it, apart so that the test is inlined.
+#[inline(never)]
+fn store_id(alloc: Global, ids: &mut Vec<u32>, len: usize, at: usize, id: u32) -> Result<(), Memory>
+    requires within { at ≤ len }
+    requires all { (ids.old.items ≡ []) ⊎ (length ids.old.items ≡ len) }
+    requires stored { (ids.old.items ≡ []) → id ≢ 0 }
+    ensures ok { OnOk result (ids.new.items ≡ ids_put len at id ids.old.items) }
+    ensures err { OnErr result (ids.new.items ≡ ids.old.items) }
+{
     if ids.is_empty() {
-        if id == 0 {
-            return Ok(());
-        }
         let mut all = Vec::from_elem(alloc, 0, len)?;
         if all.insert(at, id).is_err() {
             return Err(Memory);

@@ -1,6 +1,6 @@
 //! What rows of chunks, and the chunks of a row, are alike in: the trait of a part.
 
-ghost use Rattle.std.specs.Prelude.{◌≡◌, List, [], ◌∷◌, ◌++◌, ◌+◌, ◌<◌, ◌≤◌, not, T, IsTrue, IfOk, OnOk, OnErr, IfSome, IfNone, length, map, vec_len, vec_capacity};
+ghost use Rattle.std.specs.Prelude.{◌≡◌, List, [], ◌∷◌, ◌++◌, ◌+◌, ◌<◌, ◌≤◌, not, T, IsTrue, IfOk, IfErr, OnOk, OnErr, IfSome, IfNone, length, map, vec_len, vec_capacity};
 ghost use Rattle.std.specs.Option.{option_copied};
 ghost use Rattle.std.specs.Ordering.{eq_by_cmp};
 ghost use Rattle.std.specs.declared.cmp.Ordering.TheVariants.{Less};
@@ -76,6 +76,18 @@ pub(crate) trait Part: Drop {
         ensures before { IfOk result (λ before. before ≡ find key_cmp key.now (routes self.old)) }
         ensures ok { OnOk result (routes self.new ≡ put key_cmp key.now value (routes self.old)) }
         ensures err { OnErr result (routes self.new ≡ routes self.old) };
+
+    /// Appends a route if the last chunk has room for it. An `Err` has its value, and changes nothing.
+    fn push_within_capacity(
+        &mut self,
+        key: &RouteKey,
+        value: Self::Value,
+    ) -> Result<(), Self::Value>
+        requires known { IsIpPrefix key.now.prefix }
+        requires last { EachKey (λ k. key_cmp k key.now ≡ Less) (routes self.old) }
+        ensures ok { OnOk result (routes self.new ≡ routes self.old ++ (key.now, value) ∷ []) }
+        ensures err { OnErr result (routes self.new ≡ routes self.old) }
+        ensures value { IfErr result (λ given. given ≡ value) };
 
     /// Removes a key, and returns its value.
     fn remove(&mut self, key: &RouteKey) -> Option<Self::Value>

@@ -1,6 +1,6 @@
 //! Consecutive parts in key order, found by their first keys: the rows of a shelf, and the chunks of a row.
 
-ghost use Rattle.std.specs.Prelude.{◌≡◌, ◌+◌, ◌<◌, ◌≤◌, List, [], ◌∷◌, ◌++◌, not, T, IsTrue, IfOk, OnOk, OnErr, length, map, slice_index_or, slice_set, vec_len, vec_capacity};
+ghost use Rattle.std.specs.Prelude.{◌≡◌, ◌+◌, ◌<◌, ◌≤◌, List, [], ◌∷◌, ◌++◌, not, T, IsTrue, IfOk, IfErr, OnOk, OnErr, length, map, slice_index_or, slice_set, vec_len, vec_capacity};
 ghost use Rattle.std.specs.Option.{option_copied};
 ghost use Rattle.std.specs.Ordering.{eq_by_cmp};
 ghost use Rattle.std.specs.declared.cmp.Ordering.TheVariants.{Less};
@@ -215,6 +215,29 @@ impl<P: Part> Parts<P> {
         let before = self.insert_in_part(alloc, index, key, value)?;
         self.split_overfull(alloc, index);
         Ok(before)
+    }
+
+    /// Appends a route if the last chunk has room for it. An `Err` has its value.
+    #[inline(always)]
+    pub(crate) fn push_within_capacity(
+        &mut self,
+        key: &RouteKey,
+        value: P::Value,
+    ) -> Result<(), P::Value>
+        requires parts { AreParts self.old.firsts.items (map P.routes self.old.parts.items) }
+        requires known { IsIpPrefix key.now.prefix }
+        requires last { EachKey (λ k. key_cmp k key.now ≡ Less) (routes_of P.routes self.old.parts.items) }
+        ensures ok { OnOk result (routes_of P.routes self.new.parts.items
+            ≡ routes_of P.routes self.old.parts.items ++ (key.now, value) ∷ []) }
+        ensures err { OnErr result (routes_of P.routes self.new.parts.items ≡ routes_of P.routes self.old.parts.items) }
+        ensures value { IfErr result (λ given. given ≡ value) }
+        ensures parts { AreParts self.new.firsts.items (map P.routes self.new.parts.items) }
+    {
+        let len = self.parts.len();
+        if len == 0 {
+            return Err(value);
+        }
+        self.parts[len - 1].push_within_capacity(key, value)
     }
 
     /// Removes a key, and returns its value.

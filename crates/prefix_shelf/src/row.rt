@@ -59,6 +59,11 @@ impl<V: Drop> Part for Row<V> {
         self.chunks.insert(alloc, key, value)
     }
 
+    #[inline(always)]
+    fn push_within_capacity(&mut self, key: &RouteKey, value: V) -> Result<(), V> {
+        self.chunks.push_within_capacity(key, value)
+    }
+
     fn remove(&mut self, key: &RouteKey) -> Option<V> {
         self.chunks.remove(key)
     }

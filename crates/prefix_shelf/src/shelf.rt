@@ -1,6 +1,13 @@
 //! A prefix map as a sorted list in chunks.
 
+ghost use Rattle.std.specs.Prelude.{◌≡◌, ◌≢◌, None, IfOk, IfErr, OnOk, OnErr};
+ghost use Rattle.std.specs.declared.cmp.Ordering.TheVariants.{Greater};
+ghost use Rattle.std.specs.Ordering.{is_lt};
 ghost use Rattle.std.specs.FinMap as finite;
+ghost use Rattle.std.specs.FinMap.{find, put};
+ghost use Rattle.bgp_prefix.specs.declared.key.RouteKey.{RouteKey};
+ghost use Rattle.bgp_prefix.specs.Prefixes.{IsIpPrefix};
+ghost use Rattle.bgp_prefix.specs.Keys.{key_cmp};
 
 use crate::parts::Parts;
 use crate::row::Row;
@@ -13,9 +20,10 @@ use std::marker::Model;
 /// of the rows, and of the chunks of a row, are kept in separate lists.
 ///
 /// A call searches the first keys of the rows, those of a row, and then a chunk, each by binary search with the
-/// end tried first: a key after all others, like each key of a RIB dump, is inserted after three comparisons,
-/// and keys in order leave full chunks. An insertion or a removal moves no more than a part of a chunk,
-/// of a row's list of chunks and of the list of rows. `longest` searches at most 33 times.
+/// end tried first. A key after all that were inserted since the map was made or cleared, like each key of a
+/// RIB dump, is appended after one comparison where the last chunk has room, and keys in order leave full chunks.
+/// An insertion or a removal moves no more than a part of a chunk, of a row's list of chunks and of the list of rows.
+/// `longest` searches at most 33 times.
 ///
 /// An entry takes the 8 bytes of its prefix, its value, and a share of the free room, which grows by 16 routes; while
 /// keys come in order, each chunk after the first has room for all its routes at once. Identifiers are stored only in a
@@ -27,12 +35,16 @@ use std::marker::Model;
 pub struct Shelf<V> {
     rows: Parts<Row<V>>,
     len: usize,
+    // No key comes after it: the greatest key inserted since the map was made or cleared.
+    bound: RouteKey,
 }
 
 impl<V> Model for Shelf<V> {
-    ghost use Rattle.std.specs.Prelude.{◌≡◌, List, length, map};
+    ghost use Rattle.std.specs.Prelude.{◌≡◌, ◌≢◌, List, length, map};
+    ghost use Rattle.std.specs.declared.cmp.Ordering.TheVariants.{Greater};
     ghost use Rattle.bgp_prefix.specs.declared.key.RouteKey.{RouteKey};
-    ghost use Rattle.prefix_shelf.specs.Shelves.{routes_of, AreParts};
+    ghost use Rattle.bgp_prefix.specs.Keys.{key_cmp};
+    ghost use Rattle.prefix_shelf.specs.Shelves.{routes_of, AreParts, EachKey};
 
     ghost Value = { List (RouteKey × V) };
 
@@ -41,7 +53,55 @@ impl<V> Model for Shelf<V> {
     ghost invariant = { λ m. record {
       rows : AreParts m.rows.firsts.items (map (λ r. r) m.rows.parts.items);
       count : m.len ≡ length (routes_of (λ r. r) m.rows.parts.items);
+      bound : EachKey (λ k. key_cmp k m.bound ≢ Greater) (routes_of (λ r. r) m.rows.parts.items);
     } };
+}
+
+impl<V: Drop> Shelf<V> {
+    // Appends a route if its key comes after the bound and the last chunk has room for it. An `Err` has its value, and
+    // changes nothing.
+    #[inline(always)]
+    fn push_within_capacity(&mut self, key: &RouteKey, value: V) -> Result<(), V>
+        requires known { IsIpPrefix key.now.prefix }
+        ensures absent { OnOk result (find key_cmp key.now self.old ≡ None) }
+        ensures ok { OnOk result (self.new ≡ put key_cmp key.now value self.old) }
+        ensures err { OnErr result (self.new ≡ self.old) }
+        ensures value { IfErr result (λ given. given ≡ value) }
+    {
+        if !precedes(&self.bound, key) || self.len == usize::MAX {
+            return Err(value);
+        }
+        if let Err(value) = self.rows.push_within_capacity(key, value) {
+            return Err(value);
+        }
+        self.bound = *key;
+        self.len += 1;
+        Ok(())
+    }
+
+    // Sets the value of any key, and returns the previous one. An `Err` changes nothing; the value is dropped.
+    #[inline(never)]
+    fn insert_anywhere(
+        &mut self,
+        alloc: Global,
+        key: &RouteKey,
+        value: V,
+    ) -> Result<Option<V>, Memory>
+        requires known { IsIpPrefix key.now.prefix }
+        ensures before { IfOk result (λ before. before ≡ find key_cmp key.now self.old) }
+        ensures ok { OnOk result (self.new ≡ put key_cmp key.now value self.old) }
+        ensures err { OnErr result (self.new ≡ self.old) }
+    {
+        let Some(more) = self.len.checked_add(1) else {
+            return Err(Memory);
+        };
+        let before = self.rows.insert(alloc, key, value)?;
+        raise_bound(&mut self.bound, key);
+        if before.is_none() {
+            self.len = more;
+        }
+        Ok(before)
+    }
 }
 
 impl<V: Drop> PrefixMap<V> for Shelf<V> {
@@ -54,20 +114,18 @@ impl<V: Drop> PrefixMap<V> for Shelf<V> {
                 parts: Vec::new(alloc),
             },
             len: 0,
+            bound: least_key(),
         }
     }
 
     fn insert(&mut self, alloc: Global, key: RouteKey, value: V) -> Result<Option<V>, Memory> {
         // Its length is at most 32.
         let _ = key.prefix.len();
-        let Some(more) = self.len.checked_add(1) else {
-            return Err(Memory);
-        };
-        let before = self.rows.insert(alloc, &key, value)?;
-        if before.is_none() {
-            self.len = more;
+        // The keys of a RIB dump come in order.
+        match self.push_within_capacity(&key, value) {
+            Ok(()) => Ok(None),
+            Err(value) => self.insert_anywhere(alloc, &key, value),
         }
-        Ok(before)
     }
 
     fn remove(&mut self, key: &RouteKey) -> Option<V> {
@@ -108,6 +166,7 @@ impl<V: Drop> PrefixMap<V> for Shelf<V> {
         self.rows.parts.clear();
         self.rows.firsts.clear();
         self.len = 0;
+        self.bound = least_key();
     }
 
     fn len(&self) -> usize {
@@ -116,5 +175,33 @@ impl<V: Drop> PrefixMap<V> for Shelf<V> {
 
     fn list<'a>(&'a self, all: &mut Vec<(RouteKey, &'a V)>) {
         self.rows.list(all);
+    }
+}
+
+// The key that comes before all others.
+fn least_key() -> RouteKey
+    ensures { result ≡ record { prefix = record { addr = 0; len = 0 }; id = 0 } }
+{
+    let Some(prefix) = Prefix::new(0, 0) else {
+        unreachable!()
+    };
+    RouteKey { prefix, id: 0 }
+}
+
+// Whether a key comes before another.
+#[inline(always)]
+fn precedes(key: &RouteKey, other: &RouteKey) -> bool
+    ensures { result ≡ is_lt (key_cmp key.now other.now) }
+{
+    *key < *other
+}
+
+// Replaces a lesser key by this one.
+fn raise_bound(bound: &mut RouteKey, key: &RouteKey)
+    ensures key { key_cmp key.now bound.new ≢ Greater }
+    ensures old { (k : RouteKey) → key_cmp k bound.old ≢ Greater → key_cmp k bound.new ≢ Greater }
+{
+    if precedes(bound, key) {
+        *bound = *key;
     }
 }

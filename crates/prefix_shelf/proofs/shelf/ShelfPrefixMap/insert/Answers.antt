@@ -1,35 +1,28 @@
-use Rattle.std.proofs.Common.{sym, ◌∙◌, arith}
-use Rattle.prefix_shelf.specs.Shelves.{routes_of}
+use Rattle.std.proofs.Common.{◌≡◌, ◌∙◌, ap, sym}
+use Rattle.std.specs.FinMap as finite
+use Rattle.std.specs.FinMap.{find, put}
+use Rattle.std.proofs.lemmas.Result.{IfOk-weaker, on_ok_weaker}
+use Rattle.bgp_prefix.specs.Keys.{key_cmp}
 use Rattle.bgp_prefix.proofs.MapLaws.{found, inserted, Changes-put}
-use Rattle.bgp_prefix.proofs.RadixLaws.{length_added, length_replaced}
 use Rattle.prefix_shelf.proofs.shelf.ShelfPrefixMap.insert.Goals as goal
-use Rattle.prefix_shelf.proofs.shelf.ShelfPrefixMap.insert.Goals.{then-is_none, else-is_none}
 
-pub invariant_of-self-then-is_none : goal.invariant_of-self-then-is_none
-invariant_of-self-then-is_none g c =
-    let old = routes_of (λ r. r) c.self.inside.rows.parts.items in
-    let new = routes_of (λ r. r) c.insert.new.self.parts.items in
-    let is = Changes-put old new c.args.key c.args.value c.in_ok-before.ensures.ok in
-    let length = length_added old new c.args.key c.self.invariant.rows.sorted c.in_ok-before.ensures.parts.sorted c.in_ok-before.before c.in_ok-before.ensures.before c.args.value is c.if-is_none.ensures in
-    record { rows = c.in_ok-before.ensures.parts; count = omega (arith, length, c.self.invariant.count, c.in-Some.ensures) }
+pub returns-in-Ok-clause-before : goal.returns-in-Ok-clause-before
+returns-in-Ok-clause-before g c = sym (found c.args.self.now c.args.key ∙ c.in-Ok.ensures.absent)
 
-pub invariant_of-self-else-is_none : goal.invariant_of-self-else-is_none
-invariant_of-self-else-is_none g c =
-    let old = routes_of (λ r. r) c.self.inside.rows.parts.items in
-    let new = routes_of (λ r. r) c.insert.new.self.parts.items in
-    let is = Changes-put old new c.args.key c.args.value c.in_ok-before.ensures.ok in
-    let length = length_replaced old new c.args.key c.self.invariant.rows.sorted c.in_ok-before.ensures.parts.sorted c.in_ok-before.before c.in_ok-before.ensures.before c.args.value is c.if-is_none.ensures in
-    record { rows = c.in_ok-before.ensures.parts; count = omega (arith, length, c.self.invariant.count) }
+pub returns-in-Ok-clause-ok : goal.returns-in-Ok-clause-ok
+returns-in-Ok-clause-ok g c =
+    let old = c.args.self.now in
+    let new = c.push_within_capacity.new.self in
+    inserted old new c.args.key c.args.value (Changes-put old new c.args.key c.args.value c.in-Ok.ensures.ok)
 
-pub returns-clause-before : goal.returns-clause-before
-returns-clause-before g c = rw (← c.self.view_is) (c.in_ok-before.ensures.before ∙ sym (found (routes_of (λ r. r) c.self.inside.rows.parts.items) c.args.key))
+pub returns-in-Err-clause-before : goal.returns-in-Err-clause-before
+returns-in-Err-clause-before g c =
+    IfOk-weaker c.insert_anywhere.result (λ before. before ≡ find key_cmp c.args.key c.push_within_capacity.new.self) (λ before. before ≡ finite.get (finite.from_entries {R = key_cmp} c.args.self.now) c.args.key) (λ before is. is ∙ ap (find key_cmp c.args.key) c.in-Err.ensures.err ∙ sym (found c.args.self.now c.args.key)) c.insert_anywhere.ensures.before
 
-pub returns-clause-ok : goal.returns-clause-ok
-returns-clause-ok g c =
-    let old = routes_of (λ r. r) c.self.inside.rows.parts.items in
-    let new = routes_of (λ r. r) c.insert.new.self.parts.items in
-    let is = inserted old new c.args.key c.args.value (Changes-put old new c.args.key c.args.value c.in_ok-before.ensures.ok) in
-    elim c.if-is_none.branch [
-      | then-is_none w ↦ rw (w.self-is, ← c.self.view_is) is
-      | else-is_none w ↦ rw (w.self-is, ← c.self.view_is) is
-    ]
+pub returns-in-Err-clause-ok : goal.returns-in-Err-clause-ok
+returns-in-Err-clause-ok g c =
+    let old = c.args.self.now in
+    let new = c.insert_anywhere.new.self in
+    on_ok_weaker c.insert_anywhere.result (λ is.
+    let stored : new ≡ put key_cmp c.args.key c.args.value old = is ∙ ap (put key_cmp c.args.key c.in-Err.value) c.in-Err.ensures.err ∙ ap (λ v. put key_cmp c.args.key v old) c.in-Err.ensures.value in
+    inserted old new c.args.key c.args.value (Changes-put old new c.args.key c.args.value stored)) c.insert_anywhere.ensures.ok

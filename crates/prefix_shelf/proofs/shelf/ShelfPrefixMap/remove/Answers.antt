@@ -1,5 +1,9 @@
-use Rattle.std.proofs.Common.{sym, ◌∙◌, arith}
-use Rattle.prefix_shelf.specs.Shelves.{routes_of}
+use Rattle.std.proofs.Common.{◌≢◌, List, sym, subst, ◌∙◌, arith}
+use Rattle.std.specs.declared.cmp.Ordering.TheVariants.{Greater}
+use Rattle.bgp_prefix.specs.Keys.{key_cmp}
+use Rattle.bgp_prefix.specs.declared.key.RouteKey.{RouteKey}
+use Rattle.prefix_shelf.specs.Shelves.{routes_of, EachKey}
+use Rattle.prefix_shelf.proofs.KeyedLists.{each_without}
 use Rattle.bgp_prefix.proofs.MapLaws.{found, removed, Changes-without}
 use Rattle.bgp_prefix.proofs.RadixLaws.{length_taken, length_kept}
 use Rattle.prefix_shelf.proofs.shelf.ShelfPrefixMap.remove.Goals as goal
@@ -10,7 +14,11 @@ invariant_of-self g c =
     let new = routes_of (λ r. r) c.remove-before.new.self.parts.items in
     let is = Changes-without old new c.args.key.now c.remove-before.ensures.removed in
     let length = length_taken old new c.args.key.now c.self.invariant.rows.sorted c.remove-before.ensures.parts.sorted c.remove-before.result c.remove-before.ensures.before is (sym c.if-is_some.ensures) in
-    record { rows = c.remove-before.ensures.parts; count = omega (arith, length, c.self.invariant.count) }
+    record {
+      rows = c.remove-before.ensures.parts;
+      count = omega (arith, length, c.self.invariant.count);
+      bound = subst (λ (es : List (RouteKey × _)). EachKey (λ k. key_cmp k c.self.inside.bound ≢ Greater) es) (sym c.remove-before.ensures.removed) (each_without (λ k. key_cmp k c.self.inside.bound ≢ Greater) c.args.key.now old c.self.invariant.bound);
+    }
 
 pub invariant_of-self-else-is_some : goal.invariant_of-self-else-is_some
 invariant_of-self-else-is_some g c =
@@ -18,7 +26,11 @@ invariant_of-self-else-is_some g c =
     let new = routes_of (λ r. r) c.remove-before.new.self.parts.items in
     let is = Changes-without old new c.args.key.now c.remove-before.ensures.removed in
     let length = length_kept old new c.args.key.now c.self.invariant.rows.sorted c.remove-before.ensures.parts.sorted c.remove-before.result c.remove-before.ensures.before is (sym c.if-is_some.ensures) in
-    record { rows = c.remove-before.ensures.parts; count = omega (arith, length, c.self.invariant.count) }
+    record {
+      rows = c.remove-before.ensures.parts;
+      count = omega (arith, length, c.self.invariant.count);
+      bound = subst (λ (es : List (RouteKey × _)). EachKey (λ k. key_cmp k c.self.inside.bound ≢ Greater) es) (sym c.remove-before.ensures.removed) (each_without (λ k. key_cmp k c.self.inside.bound ≢ Greater) c.args.key.now old c.self.invariant.bound);
+    }
 
 pub returns-then-is_some-clause-before : goal.returns-then-is_some-clause-before
 returns-then-is_some-clause-before g c = rw (← c.self.view_is) (c.remove-before.ensures.before ∙ sym (found (routes_of (λ r. r) c.self.inside.rows.parts.items) c.args.key.now))
