@@ -1,6 +1,6 @@
 -- A route as one list of bytes: a byte of flags, a byte that says whether there is a path, and then the fields that are
 -- there, in a fixed order; the path as segments with numbers of four bytes (RFC 6793, section 3).
-use Rattle.std.specs.Prelude.{◌≡◌, ℕ, ◌+◌, ◌*◌, ◌/◌, ◌%◌, ◌^◌, ◌<◌, Bool, true, false, List, [], ◌∷◌, ◌++◌, drop, slice_index, Option, Some, None, Result, Ok, Err, IfSome, is_some, ◌==◌, if◌then◌else◌}
+use Rattle.std.specs.Prelude.{◌≡◌, ℕ, ◌+◌, ◌*◌, ◌/◌, ◌%◌, ◌^◌, ◌<◌, Bool, true, false, List, [], ◌∷◌, ◌++◌, drop, slice_index, Option, Some, None, Result, Ok, Err, IfSome, is_some, option_map, ◌==◌, if◌then◌else◌}
 use Rattle.byteorder.specs.Endian.{big_number, big_bytes}
 use Rattle.mrt_frame.specs.declared.fault.Fault.{Fault}
 use Rattle.bgp_update.specs.declared.next_hop.NextHop.{NextHop}
@@ -9,6 +9,7 @@ use Rattle.bgp_update.specs.declared.route.Origin.{Origin}
 use Rattle.bgp_update.specs.declared.route.Origin.TheVariants.{Igp, Egp, Incomplete}
 use Rattle.bgp_update.specs.declared.route.Aggregator.{Aggregator}
 use Rattle.bgp_update.specs.declared.route.Route.{Route}
+use Rattle.bgp_update.specs.declared.packed_fields.PlainFields.{PlainFields}
 use Rattle.bgp_update.specs.Paths.{PathSegment}
 use Rattle.bgp_update.specs.Segments.{path_bytes, IsPath, path_in}
 use Rattle.bgp_update.specs.Equality.{origin_number}
@@ -167,6 +168,18 @@ unfoldable pub fields_bytes : Route → Bool → List ℕ
 fields_bytes r has_path =
     (((((field_flags r ∷ flag has_path ∷ []) ++ hop_bytes r.next_hop) ++ number_bytes r.med)
     ++ number_bytes r.local_pref) ++ aggregator_bytes r.aggregator)
+
+-- the route of these fields, with no path
+abbrev pub route_by : PlainFields → Route
+route_by fields = record {
+  origin = fields.origin;
+  path = None;
+  next_hop = option_map V4 fields.next_hop;
+  med = fields.med;
+  local_pref = fields.local_pref;
+  atomic = fields.atomic;
+  aggregator = fields.aggregator;
+}
 
 -- a route but for its path
 abbrev pub without_path : Route → Route

@@ -27,6 +27,7 @@ pub struct Attribute<'a> {
 }
 
 /// Reads the length of a value, in two bytes if the flag Extended Length is set.
+#[inline(always)]
 fn value_len_at(flags: u8, bytes: &[u8]) -> Result<(usize, &[u8]), Fault>
     ensures { Reads (λ x. (x.0, x.1.now)) result (fields.number_at ShortAttribute (length_len flags) bytes.now) }
 {
@@ -39,6 +40,7 @@ fn value_len_at(flags: u8, bytes: &[u8]) -> Result<(usize, &[u8]), Fault>
 }
 
 /// Reads an attribute, and returns it with the bytes after it.
+#[inline(always)]
 #[tactic(auto, unfolding(crate::specs::Attributes::attribute_at))]
 pub fn attribute_at(bytes: &[u8]) -> Result<(Attribute<'_>, &[u8]), Fault>
     ensures { Reads (λ x. (record { flags = x.0.flags; code = x.0.code; value = x.0.value.now }, x.1.now)) result
@@ -52,6 +54,7 @@ pub fn attribute_at(bytes: &[u8]) -> Result<(Attribute<'_>, &[u8]), Fault>
 }
 
 /// Returns the fault of a value that isn't well-formed.
+#[inline(always)]
 fn fault_unless(is_formed: bool, fault: Fault) -> Option<Fault>
     ensures { result ≡ attributes.fault_unless is_formed fault }
 {
@@ -105,6 +108,7 @@ fn unreached_fault(carrier: Carrier, value: &[u8]) -> Option<Fault>
 
 /// Returns what is wrong with the value of an attribute of this type: the check of each type (RFC 4271, 4.3 and 5.1;
 /// RFC 4760, 3 and 4; RFC 6793, 3).
+#[inline(always)]
 #[tactic(auto, unfolding(crate::specs::Attributes::value_fault))]
 pub fn value_fault(
     carrier: Carrier,
@@ -129,6 +133,7 @@ pub fn value_fault(
 }
 
 /// Whether a second attribute of a type is a fault.
+#[inline(always)]
 pub fn refuses_repeat(carrier: Carrier, attribute_type: AttributeType) -> bool
     ensures { result ≡ attributes.refuses_repeat carrier attribute_type }
 {

@@ -36,6 +36,7 @@ pub enum AttributeType {
 
 impl AttributeType {
     /// Returns the type of a type code, and None for a type that isn't looked at.
+    #[inline(always)]
     pub fn of_code(code: u8) -> Option<AttributeType>
         ensures { result ≡ type_of code }
     {

@@ -11,6 +11,7 @@ mod merge;
 mod multiprotocol;
 mod next_hop;
 mod octets;
+mod packed_fields;
 mod packed_path;
 mod packed_reading;
 mod packed_route;

@@ -11,7 +11,7 @@ use crate::next_hop::NextHop;
 use crate::packed_path::PackedSegments;
 use crate::route::{Aggregator, Origin, Route};
 use crate::route_writing::push_route;
-use crate::short_bytes::ShortBytes;
+use crate::short_bytes::{FewBytes, ShortBytes};
 use bgp_prefix::Memory;
 use byteorder::{BigEndian, ByteOrder};
 use std::alloc::Global;
@@ -134,6 +134,17 @@ impl PackedRoute {
     {
         let bytes = ShortBytes::from_slice(alloc, bytes)?;
         Ok(PackedRoute { bytes })
+    }
+
+    /// Returns the route of bytes that are stored inline.
+    #[inline(always)]
+    pub(crate) fn of_few(few: FewBytes) -> PackedRoute
+        requires { IsPacked few }
+        ensures { result ≡ unpacked few }
+    {
+        PackedRoute {
+            bytes: ShortBytes::of_few(few),
+        }
     }
 
     /// Packs a route whose path can be written with four-octet AS numbers: no segment is empty or has more than 255.

@@ -1,41 +1,41 @@
 //! Attributes, packed as they are read.
 
-ghost use Rattle.std.specs.Prelude.{◌≡◌, ◌++◌, IfOk, IfSome, OnOk};
+ghost use Rattle.std.specs.Prelude.{◌≡◌, [], ◌++◌, IfOk, IfErr, IfSome, OnOk, IsTrue};
 ghost use Rattle.bgp_update.specs.Answers.{Gives};
 ghost use Rattle.bgp_update.specs.Attributes as attributes;
 ghost use Rattle.bgp_update.specs.Attributes.{route_in};
-ghost use Rattle.bgp_update.specs.Packing.{IsSpelled, IsWritable, HaveWidths, without_path, route_bytes};
+ghost use Rattle.bgp_update.specs.Packing.{IsSpelled, IsWritable, HaveWidths, route_bytes};
 ghost use Rattle.bgp_update.specs.Values.{kept_value};
+ghost use Rattle.bgp_update.specs.declared.attr_error.AttrError.TheVariants as errors;
 ghost use Rattle.bgp_update.specs.declared.attribute_type.AttributeType.TheVariants.{AsPath};
 ghost use Rattle.bgp_update.specs.declared.width.Width.TheVariants.{Four};
 
 use crate::attr_error::AttrError;
 use crate::attribute_type::AttributeType;
 use crate::carrier::Carrier;
+use crate::packed_fields::{fields_of, push_front};
 use crate::packed_route::PackedRoute;
-use crate::route::Route;
-use crate::route_fields::{
-    aggregator_from, next_hop_value, number_value, origin_value, route_from,
-};
-use crate::route_writing::{push_fields, push_route};
+use crate::route_fields::route_from;
+use crate::route_writing::push_route;
+use crate::short_bytes::FewBytes;
 use crate::values::{FirstValues, keep_values};
 use crate::width::Width;
 use bgp_prefix::Memory;
 use std::alloc::Global;
 
-/// Returns the route of these values except its path. Allocates nothing.
-#[tactic(auto, unfolding(crate::specs::Attributes::route_from))]
-fn fields_from(first: &FirstValues<'_>, width: Width) -> Route
-    ensures { result ≡ without_path (attributes.route_from width (kept_value first.now)) }
+/// Writes the route of values with four-octet AS numbers, as it is stored inline, and returns whether there was room.
+#[inline(always)]
+fn push_few(out: &mut FewBytes, first: &FirstValues<'_>) -> bool
+    requires none { out.old ≡ [] }
+    requires spelled { IfSome (kept_value first.now AsPath) IsSpelled }
+    ensures bytes { IsTrue result → out.new ≡ route_bytes (attributes.route_from Four (kept_value first.now)) }
+    ensures widths { HaveWidths (attributes.route_from Four (kept_value first.now)) }
 {
-    Route {
-        origin: origin_value(first.value(AttributeType::Origin)),
-        path: None,
-        next_hop: next_hop_value(first.value(AttributeType::NextHop)),
-        med: number_value(first.value(AttributeType::MultiExitDisc)),
-        local_pref: number_value(first.value(AttributeType::LocalPref)),
-        atomic: first.value(AttributeType::AtomicAggregate).is_some(),
-        aggregator: aggregator_from(first, width),
+    let path = first.value(AttributeType::AsPath);
+    push_front(out, fields_of(first), path.is_some());
+    match path {
+        Some(path) => out.try_push(path),
+        None => true,
     }
 }
 
@@ -46,17 +46,16 @@ fn push_four(out: &mut Vec<u8>, first: &FirstValues<'_>) -> Result<(), Memory>
         ≡ out.old.items ++ route_bytes (attributes.route_from Four (kept_value first.now))) }
     ensures widths { OnOk result (HaveWidths (attributes.route_from Four (kept_value first.now))) }
 {
-    let fields = fields_from(first, Width::Four);
-    match first.value(AttributeType::AsPath) {
+    let path = first.value(AttributeType::AsPath);
+    let mut front = FewBytes::new();
+    push_front(&mut front, fields_of(first), path.is_some());
+    out.extend_from_slice(front.as_slice())?;
+    match path {
         Some(path) => {
-            push_fields(out, &fields, true)?;
             out.extend_from_slice(path)?;
             Ok(())
         }
-        None => {
-            push_fields(out, &fields, false)?;
-            Ok(())
-        }
+        None => Ok(()),
     }
 }
 
@@ -84,7 +83,8 @@ fn push_attrs(
 }
 
 /// Packs the route of these values by way of a buffer, whose contents are replaced.
-pub(crate) fn pack_values(
+#[inline(never)]
+fn pack_long(
     alloc: Global,
     buffer: &mut Vec<u8>,
     first: &FirstValues<'_>,
@@ -99,10 +99,36 @@ pub(crate) fn pack_values(
     PackedRoute::of_bytes(alloc, buffer.as_slice())
 }
 
+/// Packs the route of these values. If its AS numbers have four octets and it is stored inline, it is written as it is
+/// stored; otherwise it is written into a buffer, whose contents are replaced.
+#[inline(always)]
+pub(crate) fn pack_values(
+    alloc: Global,
+    buffer: &mut Vec<u8>,
+    first: &FirstValues<'_>,
+    width: Width,
+) -> Result<PackedRoute, AttrError>
+    requires four { width ≡ Four → IfSome (kept_value first.now AsPath) IsSpelled }
+    requires writable { IsWritable (attributes.route_from width (kept_value first.now)).path }
+    ensures ok { IfOk result (λ route. route ≡ attributes.route_from width (kept_value first.now)) }
+    ensures err { IfErr result (λ e. e ≡ errors.Memory) }
+{
+    if let Width::Four = width {
+        let mut few = FewBytes::new();
+        if push_few(&mut few, first) {
+            return Ok(PackedRoute::of_few(few));
+        }
+    }
+    match pack_long(alloc, buffer, first, width) {
+        Ok(route) => Ok(route),
+        Err(_) => Err(AttrError::Memory),
+    }
+}
+
 impl PackedRoute {
-    /// Reads the route that the attributes of a RIB entry encode (RFC 6396, 4.3.4), like `read_attrs`, by way of a
-    /// buffer, whose contents are replaced. With four-octet AS numbers it allocates nothing except to enlarge the buffer
-    /// and for a route of more bytes than it stores inline. `Bad` has the first fault from left to right.
+    /// Reads the route that the attributes of a RIB entry encode (RFC 6396, 4.3.4), like `read_attrs`, if need be by
+    /// way of a buffer, whose contents are replaced. With four-octet AS numbers it allocates nothing except for a route
+    /// of more bytes than it stores inline, and to enlarge the buffer. `Bad` has the first fault from left to right.
     #[tactic(auto, unfolding(crate::specs::Attributes::route_in))]
     pub fn read(
         alloc: Global,
@@ -114,7 +140,6 @@ impl PackedRoute {
     {
         let mut first = FirstValues::new();
         keep_values(&mut first, bytes, Carrier::RibEntry, width)?;
-        let route = pack_values(alloc, buffer, &first, width)?;
-        Ok(route)
+        pack_values(alloc, buffer, &first, width)
     }
 }

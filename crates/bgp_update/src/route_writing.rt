@@ -13,7 +13,8 @@ use crate::route::{Aggregator, Origin, Route};
 use bgp_prefix::Memory;
 
 /// The number by which an origin is written.
-fn origin_code(origin: Option<Origin>) -> u8
+#[inline(always)]
+pub(crate) fn origin_code(origin: Option<Origin>) -> u8
     ensures code { result ≡ packing.origin_code origin }
     ensures few { result < 4 }
 {
@@ -39,7 +40,8 @@ fn hop_code(hop: Option<NextHop>) -> u8
 }
 
 /// 1 if it is set.
-fn flag(is_set: bool) -> u8
+#[inline(always)]
+pub(crate) fn flag(is_set: bool) -> u8
     ensures bit { result ≡ packing.flag is_set }
     ensures few { result < 2 }
 {

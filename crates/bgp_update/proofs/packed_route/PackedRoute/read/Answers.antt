@@ -1,5 +1,5 @@
-use Rattle.bgp_update.proofs.FromFirstValues.{route_of_first_values}
+use Rattle.bgp_update.proofs.FromFirstValues.{packed_of_first_values}
 use Rattle.bgp_update.proofs.packed_route.PackedRoute.read.Goals as goal
 
 pub returns : goal.returns
-returns c = route_of_first_values c.args.width c.args.bytes.now c.keep_values.new.first c.in_ok-route.route c.in_ok-keep_values.ensures.values c.in_ok-route.ensures
+returns c = packed_of_first_values c.args.width c.args.bytes.now c.keep_values.new.first c.pack_values.result c.in_ok-keep_values.ensures.values c.pack_values.ensures.ok c.pack_values.ensures.err
