@@ -1,0 +1,12 @@
+use Rattle.std.proofs.Common.{rules}
+use Rattle.bgp_update.specs.Values.{as_written}
+use Rattle.bgp_update.proofs.FirstTaken.{takes_first, takes_again}
+use Rattle.bgp_update.proofs.values.FirstValues.take_as.Goals as goal
+
+pub returns-else-refuses_repeat-clause-ok : goal.returns-else-refuses_repeat-clause-ok
+returns-else-refuses_repeat-clause-ok c =
+    takes_again c.args.carrier c.args.width c.args.self.now (as_written c.args.attribute.now) c.args.attribute_type c.in-Some.field-0.now (search rules) (search rules) (search rules)
+
+pub returns-in_default-clause-ok : goal.returns-in_default-clause-ok
+returns-in_default-clause-ok c =
+    takes_first c.args.carrier c.args.width c.args.self.now c.keep.new.self (as_written c.args.attribute.now) c.args.attribute_type (search rules) (search rules) (search rules) (search rules)
