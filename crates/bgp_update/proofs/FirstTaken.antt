@@ -1,12 +1,15 @@
 -- An attribute is taken: it has no fault beside what is kept, and its value is kept if it is the first of its type.
-use Rattle.std.proofs.Common.{◌≡◌, ℕ, Bool, true, false, cond, eqb, List, Option, Some, None, refl, sym, ap, ◌∙◌}
+use Rattle.std.proofs.Common.{◌≡◌, ℕ, Bool, true, false, cond, eqb, List, [], ◌∷◌, length, Option, Some, None, refl, sym, ap, ◌∙◌, arith}
+use Rattle.std.proofs.lemmas.Bool.{eqb-true}
+use Rattle.mrt_frame.specs.declared.fault.Fault.{Fault}
 use Rattle.bgp_update.specs.declared.attribute_type.AttributeType.{AttributeType}
+use Rattle.bgp_update.specs.declared.attribute_type.AttributeType.TheVariants as types
 use Rattle.bgp_update.specs.declared.width.Width.{Width}
 use Rattle.bgp_update.specs.declared.carrier.Carrier.{Carrier}
 use Rattle.bgp_update.specs.declared.values.FirstValues.{FirstValues}
 use Rattle.bgp_update.specs.AttributeTypes.{type_of, bad_attribute}
 use Rattle.bgp_update.specs.Attributes.{WrittenAttribute, value_fault, refuses_repeat, fault_unless, fault_of_type, fault_beside}
-use Rattle.bgp_update.specs.Values.{kept_value, value_index, or_value, Takes}
+use Rattle.bgp_update.specs.Values.{kept_value, value_count, value_index, or_value, Takes}
 use Rattle.bgp_update.proofs.TypeLaws.{value_index_decides, no_type, equal_value_indices}
 
 abbrev Values : Type 0
@@ -54,3 +57,17 @@ takes_again carrier width first a t value e some allowed =
     by_test u true h =
         let held : Some value ≡ kept_value first u = some ∙ ap (kept_value first) (sym (equal_value_indices u t h)) in
         sym held ∙ ap (λ (o : Option (List ℕ)). or_value o (Some a.value)) held
+
+-- ATOMIC_AGGREGATE has an empty value
+no_bytes : (value : List ℕ) → length value ≡ 0 → value ≡ []
+no_bytes [] h = refl
+no_bytes (x ∷ value) h = absurd (omega (arith, h))
+
+no_fault : (b : Bool) (fault : Fault) → fault_unless b fault ≡ None → b ≡ true
+no_fault true fault e = refl
+no_fault false fault e = absurd cc
+
+pub atomic_is_empty : (carrier : Carrier) (width : Width) (t : AttributeType) (value : List ℕ) → value_index t ≡ value_count → value_fault carrier width t value ≡ None → value ≡ []
+unfolding value_fault
+atomic_is_empty carrier width types.AtomicAggregate value h e = no_bytes value (eqb-true (length value) 0 (no_fault (eqb (length value) 0) (bad_attribute types.AtomicAggregate) e))
+atomic_is_empty carrier width t value h e = absurd (omega (arith, h))

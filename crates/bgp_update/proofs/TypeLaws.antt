@@ -56,11 +56,11 @@ type_at n =
     (cond (eqb n 2) types.NextHop
     (cond (eqb n 3) types.MultiExitDisc
     (cond (eqb n 4) types.LocalPref
-    (cond (eqb n 5) types.AtomicAggregate
-    (cond (eqb n 6) types.Aggregator
-    (cond (eqb n 7) types.MpReachNlri
-    (cond (eqb n 8) types.MpUnreachNlri
-    (cond (eqb n 9) types.As4Path types.As4Aggregator)))))))))
+    (cond (eqb n 5) types.Aggregator
+    (cond (eqb n 6) types.MpReachNlri
+    (cond (eqb n 7) types.MpUnreachNlri
+    (cond (eqb n 8) types.As4Path
+    (cond (eqb n 9) types.As4Aggregator types.AtomicAggregate)))))))))
 
 type_at_value_index : (t : AttributeType) → type_at (value_index t) ≡ t
 type_at_value_index types.Origin = refl

@@ -1,6 +1,6 @@
 use Rattle.std.proofs.Common.{rules}
 use Rattle.bgp_update.specs.Values.{as_written}
-use Rattle.bgp_update.proofs.FirstTaken.{takes_first, takes_again}
+use Rattle.bgp_update.proofs.FirstTaken.{takes_first, takes_again, atomic_is_empty}
 use Rattle.bgp_update.proofs.values.FirstValues.take_as.Goals as goal
 
 pub returns-else-refuses_repeat-clause-ok : goal.returns-else-refuses_repeat-clause-ok
@@ -10,3 +10,6 @@ returns-else-refuses_repeat-clause-ok c =
 pub returns-in_default-clause-ok : goal.returns-in_default-clause-ok
 returns-in_default-clause-ok c =
     takes_first c.args.carrier c.args.width c.args.self.now c.keep.new.self (as_written c.args.attribute.now) c.args.attribute_type (search rules) (search rules) (search rules) (search rules)
+
+pub keep-requires-clause-atomic : goal.keep-requires-clause-atomic
+keep-requires-clause-atomic c = λ h. atomic_is_empty c.args.carrier c.args.width c.args.attribute_type c.args.attribute.now.value.now h (search rules)
