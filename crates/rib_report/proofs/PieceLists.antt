@@ -1,8 +1,7 @@
 -- Pieces, and the lines of their entries.
 use Rattle.std.proofs.Common.{◌≡◌, ℕ, ◌+◌, ◌-◌, ◌≤◌, ◌<◌, false, List, [], ◌∷◌, ◌++◌, Some, refl, sym, ap, ◌∙◌, subst, map, length, take, drop, take_all, take-take, arith, append-nil}
-use Rattle.std.proofs.Math.Seq.{take-add}
 use Rattle.std.proofs.Math.ListN.{set}
-use Rattle.std.proofs.lemmas.List.{drop-drop, drop_all, map-append}
+use Rattle.std.proofs.lemmas.List.{drop_all, map-append}
 use Rattle.std.proofs.lemmas.List.Elements.{All-push}
 use Rattle.std.proofs.lemmas.Grind.{take-set_at}
 use Rattle.std.proofs.lemmas.List.Concat.{flat_map-append}
@@ -18,15 +17,7 @@ use Rattle.rib_report.specs.Texts.{TextState, Adds, empty_buffer}
 use Rattle.rib_report.specs.Listings.{reached_row, reached_lines}
 use Rattle.rib_report.specs.Pieces.{AreSuccessive, lines_between, range_of}
 use Rattle.rib_report.proofs.TextLaws.{Adds_trans, Adds_as, text_begun}
-
--- two ranges, one behind the other
-between_join : {X : Type 0} (xs : List X) (i j k : ℕ) → i ≤ j → j ≤ k → between i j xs ++ between j k xs ≡ between i k xs
-between_join xs i j k ij jk =
-    let reach : i + (j - i) ≡ j = omega arith in
-    let whole : (j - i) + (k - j) ≡ k - i = omega arith in
-    ap (λ m. take (j - i) (drop i xs) ++ take (k - j) (drop m xs)) (sym reach)
-    ∙ ap (λ l. take (j - i) (drop i xs) ++ take (k - j) l) (sym (drop-drop (j - i) i xs))
-    ∙ sym (take-add (j - i) (k - j) (drop i xs)) ∙ ap (λ m. take m (drop i xs)) whole
+use Rattle.rib_report.proofs.JoinLaws.{between_join}
 
 -- the lines of a range behind those of the one before
 pub Adds_next : {s t u : TextState} (peer : PeerKey) (entries : List (RouteKey × Bor Route)) (i j k : ℕ) → i ≤ j → j ≤ k

@@ -132,6 +132,15 @@ Formats_trans {a = a} {i = i} {p = p} {q = q} f g = record {
 pub Formats_as : {a b : List ℕ} {i j m : ℕ} {p q : List ℕ} → p ≡ q → Formats a i b j m p → Formats a i b j m q
 Formats_as {a = a} {b = b} {i = i} {j = j} {m = m} e f = subst (Formats a i b j m) e f
 
+-- a higher bound
+pub Formats_within : {a b : List ℕ} {i j m n : ℕ} {p : List ℕ} → m ≤ n → Formats a i b j m p → Formats a i b j n p
+Formats_within le f = record {
+  text = f.text;
+  room = omega (arith, le, f.room);
+  within = f.within;
+  same = f.same;
+}
+
 -- the front of a block that was copied whole
 pub take-front_put : (a k n : ℕ) (xs ys : List ℕ) → a ≤ length xs → n ≤ length ys → take (a + n) (put_mid a k xs ys) ≡ take a xs ++ take n ys
 take-front_put a k n xs ys within fits =

@@ -8,5 +8,6 @@ pub mod Listings
 pub mod Pieces
 pub mod Nowhere
 pub mod Lines
+pub mod LineParts
 pub mod UnitReports
 pub mod ShortTexts

@@ -1,11 +1,17 @@
 //! Text on its way to a writer, through a fixed buffer.
 
-ghost use Rattle.std.specs.Prelude.{◌≡◌, ℕ, ◌+◌, ◌<◌, ◌≤◌, [], ◌∷◌, ◌++◌, List, Option, OnOk, OnErr, length};
-ghost use Rattle.rib_report.specs.Lines.{peer_text};
+ghost use Rattle.std.specs.Prelude.{◌≡◌, ℕ, ◌+◌, ◌-◌, ◌*◌, ◌<◌, ◌≤◌, [], ◌∷◌, ◌++◌, List, Option, OnOk, OnErr, length};
+ghost use Rattle.std.specs.List.{between};
+ghost use Rattle.rib_report.specs.Digits.{numbers_text};
+ghost use Rattle.rib_report.specs.LineParts.{line_beginning, line_end};
 ghost use Rattle.rib_report.specs.Texts.{BufferState, empty_buffer, text_state, IsText, IsWritten, IsCutOff, Writes};
 
-use crate::field::{Byte, Field, PEER_BYTES, PeerText};
+use crate::field::{Byte, Field, PeerText};
+use crate::numbers::format_numbers;
+use crate::route_line::{BEGINNING_BYTES, END_BYTES, format_beginning, format_end};
 use crate::short::ShortTexts;
+use bgp_prefix::RouteKey;
+use bgp_update::{PackedRoute, PackedSegment};
 use mrt_body::PeerKey;
 use mrt_frame::{Failed, Sink, write_full};
 use std::marker::Model;
@@ -137,12 +143,51 @@ impl TextBuffer {
         PeerText::new(peer, &self.shorts)
     }
 
-    /// Adds a peer's text and a bar.
-    pub(crate) fn put_peer<W: Sink>(&mut self, out: &mut W, peer: &PeerText)
-        ensures { Writes W.contents W.failure_count out.old self.old out.new self.new (peer_text peer.now ++ 124 ∷ []) }
+    /// Adds what a line begins with: a peer, a bar and a key.
+    #[inline(always)]
+    pub(crate) fn put_beginning<W: Sink>(&mut self, out: &mut W, peer: &PeerText, key: RouteKey)
+        ensures { Writes W.contents W.failure_count out.old self.old out.new self.new (line_beginning peer.now key) }
     {
-        self.make_room(out, PEER_BYTES);
-        self.len = peer.format(&mut self.bytes, self.len);
+        self.make_room(out, BEGINNING_BYTES);
+        self.len = format_beginning(&mut self.bytes, self.len, &self.shorts, peer, key);
+    }
+
+    /// Adds what a line has after the path of its route.
+    #[inline(always)]
+    pub(crate) fn put_end<W: Sink>(&mut self, out: &mut W, route: &PackedRoute)
+        ensures { Writes W.contents W.failure_count out.old self.old out.new self.new (line_end route.now) }
+    {
+        self.make_room(out, END_BYTES);
+        self.len = format_end(&mut self.bytes, self.len, &self.shorts, route);
+    }
+
+    /// Adds a few numbers of a segment, from one to before another: the first behind one byte, and the others each
+    /// behind another.
+    #[inline(always)]
+    pub(crate) fn put_some_numbers<W: Sink>(
+        &mut self,
+        out: &mut W,
+        before: u8,
+        separator: u8,
+        segment: &PackedSegment<'_>,
+        from: usize,
+        to: usize,
+    )
+        requires { (from < to) × (to ≤ from + 255) × (to ≤ length segment.now.numbers) }
+        ensures { Writes W.contents W.failure_count out.old self.old out.new self.new
+            (before ∷ numbers_text separator (between from to segment.now.numbers)) }
+    {
+        self.make_room(out, 13 * (to - from) + 1);
+        self.len = format_numbers(
+            &mut self.bytes,
+            self.len,
+            &self.shorts,
+            before,
+            separator,
+            segment,
+            from,
+            to,
+        );
     }
 
     /// Adds a byte.

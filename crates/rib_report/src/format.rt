@@ -8,7 +8,7 @@ ghost use Rattle.rib_report.specs.Digits.{hexadecimal_glyph, decimal_glyph, digi
 use crate::short::ShortTexts;
 
 /// Writes a byte.
-#[inline]
+#[inline(always)]
 pub(crate) fn format_byte(bytes: &mut [u8], at: usize, byte: u8) -> usize
     requires { at < length bytes.old }
     ensures { Formats bytes.old at bytes.new result 1 (byte ∷ []) }
@@ -18,7 +18,7 @@ pub(crate) fn format_byte(bytes: &mut [u8], at: usize, byte: u8) -> usize
 }
 
 /// Writes a text.
-#[inline]
+#[inline(always)]
 pub(crate) fn format_text(bytes: &mut [u8], at: usize, text: &[u8]) -> usize
     requires { at + length text.now ≤ length bytes.old }
     ensures { Formats bytes.old at bytes.new result (length text.now) text.now }
@@ -30,7 +30,7 @@ pub(crate) fn format_text(bytes: &mut [u8], at: usize, text: &[u8]) -> usize
 
 /// Writes the first bytes of a block, where the whole block fits. Copying a block of known length is faster
 /// than copying its leading part.
-#[inline]
+#[inline(always)]
 pub(crate) fn format_front(bytes: &mut [u8], at: usize, block: &[u8], count: usize) -> usize
     requires { (count ≤ length block.now) × (at + length block.now ≤ length bytes.old) }
     ensures { Formats bytes.old at bytes.new result count (take count block.now) }
@@ -41,7 +41,7 @@ pub(crate) fn format_front(bytes: &mut [u8], at: usize, block: &[u8], count: usi
 }
 
 /// Writes a number of at most three digits.
-#[inline]
+#[inline(always)]
 pub(crate) fn format_short(bytes: &mut [u8], at: usize, shorts: &ShortTexts, number: u32) -> usize
     requires { (number < 1000) × (at + 4 ≤ length bytes.old) }
     ensures { Formats bytes.old at bytes.new result 3 (decimal number) }
@@ -51,7 +51,7 @@ pub(crate) fn format_short(bytes: &mut [u8], at: usize, shorts: &ShortTexts, num
 }
 
 /// Writes the three digits of a number that has no more.
-#[inline]
+#[inline(always)]
 pub(crate) fn format_three(bytes: &mut [u8], at: usize, shorts: &ShortTexts, number: u32) -> usize
     requires { (number < 1000) × (at + 3 ≤ length bytes.old) }
     ensures { Formats bytes.old at bytes.new result 3 (digits_in decimal_glyph 10 3 number) }
@@ -61,7 +61,7 @@ pub(crate) fn format_three(bytes: &mut [u8], at: usize, shorts: &ShortTexts, num
 }
 
 /// Writes a number of at most six digits.
-#[inline]
+#[inline(always)]
 pub(crate) fn format_six(bytes: &mut [u8], at: usize, shorts: &ShortTexts, number: u32) -> usize
     requires { (number < 1000000) × (at + 7 ≤ length bytes.old) }
     ensures { Formats bytes.old at bytes.new result 6 (decimal number) }
@@ -73,7 +73,19 @@ pub(crate) fn format_six(bytes: &mut [u8], at: usize, shorts: &ShortTexts, numbe
     format_three(bytes, high, shorts, number % 1_000)
 }
 
+/// Writes a number of more than six digits.
+#[inline(never)]
+fn format_long(bytes: &mut [u8], at: usize, shorts: &ShortTexts, number: u32) -> usize
+    requires { (1000000 ≤ number) × (at + 13 ≤ length bytes.old) }
+    ensures { Formats bytes.old at bytes.new result 12 (decimal number) }
+{
+    let high = format_six(bytes, at, shorts, number / 1_000_000);
+    let middle = format_three(bytes, high, shorts, number / 1_000 % 1_000);
+    format_three(bytes, middle, shorts, number % 1_000)
+}
+
 /// Writes a number in decimal.
+#[inline(always)]
 pub(crate) fn format_number(bytes: &mut [u8], at: usize, shorts: &ShortTexts, number: u32) -> usize
     requires { at + 13 ≤ length bytes.old }
     ensures { Formats bytes.old at bytes.new result 12 (decimal number) }
@@ -81,12 +93,11 @@ pub(crate) fn format_number(bytes: &mut [u8], at: usize, shorts: &ShortTexts, nu
     if number < 1_000_000 {
         return format_six(bytes, at, shorts, number);
     }
-    let high = format_six(bytes, at, shorts, number / 1_000_000);
-    let middle = format_three(bytes, high, shorts, number / 1_000 % 1_000);
-    format_three(bytes, middle, shorts, number % 1_000)
+    format_long(bytes, at, shorts, number)
 }
 
 /// Writes an address in dotted decimal.
+#[inline(always)]
 pub(crate) fn format_ipv4(bytes: &mut [u8], at: usize, shorts: &ShortTexts, addr: u32) -> usize
     requires { at + 16 ≤ length bytes.old }
     ensures { Formats bytes.old at bytes.new result 15 (ipv4_text addr) }

@@ -1,13 +1,42 @@
 //! Lists of numbers in text.
 
-ghost use Rattle.std.specs.Prelude.{◌<◌, ◌∷◌, decimal};
-ghost use Rattle.rib_report.specs.Texts.{Writes};
+ghost use Rattle.std.specs.Prelude.{◌+◌, ◌-◌, ◌*◌, ◌<◌, ◌≤◌, ◌∷◌, decimal, length};
+ghost use Rattle.std.specs.List.{between};
+ghost use Rattle.rib_report.specs.Texts.{Formats, Writes};
 ghost use Rattle.rib_report.specs.Digits.{numbers_text};
 
 use crate::buffer::TextBuffer;
-use crate::field::Behind;
+use crate::field::{Behind, Field};
+use crate::short::ShortTexts;
 use bgp_update::PackedSegment;
 use mrt_frame::Sink;
+
+/// How many numbers get room at once. A segment of a packed route has no more.
+const NUMBERS_AT_ONCE: usize = 255;
+
+/// Writes the numbers of a segment from one to before another: the first behind one byte, and the others each behind
+/// another.
+#[inline(always)]
+pub(crate) fn format_numbers(
+    bytes: &mut [u8],
+    at: usize,
+    shorts: &ShortTexts,
+    before: u8,
+    separator: u8,
+    segment: &PackedSegment<'_>,
+    from: usize,
+    to: usize,
+) -> usize
+    requires { (from < to) × (to ≤ length segment.now.numbers) × (at + 13 * (to - from) < length bytes.old) }
+    ensures { Formats bytes.old at bytes.new result (13 * (to - from))
+        (before ∷ numbers_text separator (between from to segment.now.numbers)) }
+{
+    let mut end = Behind(before, segment.number(from)).format(bytes, at, shorts);
+    for i in from + 1..to {
+        end = Behind(separator, segment.number(i)).format(bytes, end, shorts);
+    }
+    end
+}
 
 impl TextBuffer {
     /// Adds numbers in decimal, separated by a byte.
@@ -24,23 +53,28 @@ impl TextBuffer {
         }
     }
 
-    /// Adds the numbers of a segment in decimal, separated by a byte.
+    /// Adds a byte and the numbers of a segment in decimal, separated by another byte.
+    #[inline(always)]
     pub(crate) fn put_segment_numbers<W: Sink>(
         &mut self,
         out: &mut W,
+        before: u8,
         separator: u8,
         segment: &PackedSegment<'_>,
     )
         ensures { Writes W.contents W.failure_count out.old self.old out.new self.new
-            (numbers_text separator segment.now.numbers) }
+            (before ∷ numbers_text separator segment.now.numbers) }
     {
         let count = segment.len();
         if count == 0 {
-            return;
+            return self.put_byte(out, before);
         }
-        self.put(out, segment.number(0));
-        for i in 1..count {
-            self.put(out, Behind(separator, segment.number(i)));
+        let mut done = count.min(NUMBERS_AT_ONCE);
+        self.put_some_numbers(out, before, separator, segment, 0, done);
+        while done < count {
+            let next = count.min(done.saturating_add(NUMBERS_AT_ONCE));
+            self.put_some_numbers(out, separator, separator, segment, done, next);
+            done = next;
         }
     }
 }

@@ -1,64 +1,135 @@
 //! The line of a route.
 
-ghost use Rattle.std.specs.Prelude.{◌+◌, ◌<◌, [], ◌∷◌, ◌++◌};
-ghost use Rattle.rib_report.specs.Texts.{Writes};
+ghost use Rattle.std.specs.Prelude.{◌+◌, ◌<◌, [], ◌∷◌, ◌++◌, length};
+ghost use Rattle.rib_report.specs.Texts.{Writes, Formats};
 ghost use Rattle.rib_report.specs.Digits.{field, numbers_text};
 ghost use Rattle.rib_report.specs.Lines.{kind_text, path_text, route_line};
+ghost use Rattle.rib_report.specs.LineParts.{line_beginning, line_end};
 
 use crate::buffer::TextBuffer;
-use crate::field::{Atomic, Ended, PeerText};
+use crate::field::{Atomic, Field, PeerText};
+use crate::format::format_byte;
+use crate::short::ShortTexts;
 use bgp_prefix::RouteKey;
 use bgp_update::{PackedRoute, PackedSegment, PackedSegments, SegmentKind};
 use mrt_frame::Sink;
 
+/// The most bytes of what a line begins with, and one more.
+pub(crate) const BEGINNING_BYTES: usize = 87;
+
+/// Writes what a line begins with: a peer, a bar and a key.
+#[inline(always)]
+#[tactic(auto, using(crate::proofs::TextLaws::Formats_trans))]
+pub(crate) fn format_beginning(
+    bytes: &mut [u8],
+    at: usize,
+    shorts: &ShortTexts,
+    peer: &PeerText,
+    key: RouteKey,
+) -> usize
+    requires { at + 86 < length bytes.old }
+    ensures { Formats bytes.old at bytes.new result 86 (line_beginning peer.now key) }
+{
+    let at = peer.format(bytes, at);
+    key.format(bytes, at, shorts)
+}
+
+/// The most bytes of what a line has after the path, and one more.
+pub(crate) const END_BYTES: usize = 160;
+
+/// Writes what a line has after the path of its route: a bar before each field, and the end of the line. Each field is
+/// written as soon as it is read, so that none of them is stored in between.
+#[inline(always)]
+pub(crate) fn format_end(
+    bytes: &mut [u8],
+    at: usize,
+    shorts: &ShortTexts,
+    route: &PackedRoute,
+) -> usize
+    requires { at + 159 < length bytes.old }
+    ensures { Formats bytes.old at bytes.new result 159 (line_end route.now) }
+{
+    let at = format_byte(bytes, at, b'|');
+    let at = route.next_hop().format(bytes, at, shorts);
+    let at = format_byte(bytes, at, b'|');
+    let at = route.origin().format(bytes, at, shorts);
+    let at = format_byte(bytes, at, b'|');
+    let at = route.med().format(bytes, at, shorts);
+    let at = format_byte(bytes, at, b'|');
+    let at = route.local_pref().format(bytes, at, shorts);
+    let at = format_byte(bytes, at, b'|');
+    let at = Atomic(route.atomic()).format(bytes, at, shorts);
+    let at = format_byte(bytes, at, b'|');
+    let at = route.aggregator().format(bytes, at, shorts);
+    format_byte(bytes, at, b'\n')
+}
+
+/// Adds a byte and a segment that is no sequence.
+#[inline(never)]
 fn put_enclosed<W: Sink>(
     text: &mut TextBuffer,
     out: &mut W,
+    before: u8,
     opening: u8,
     separator: u8,
     segment: &PackedSegment<'_>,
     closing: u8,
 )
     ensures { Writes W.contents W.failure_count out.old text.old out.new text.new
-        (opening ∷ numbers_text separator segment.now.numbers ++ closing ∷ []) }
+        (before ∷ opening ∷ numbers_text separator segment.now.numbers ++ closing ∷ []) }
 {
-    text.put_byte(out, opening);
-    text.put_segment_numbers(out, separator, segment);
+    text.put_byte(out, before);
+    text.put_segment_numbers(out, opening, separator, segment);
     text.put_byte(out, closing);
 }
 
-fn put_segment<W: Sink>(text: &mut TextBuffer, out: &mut W, segment: &PackedSegment<'_>)
+/// Adds a byte and a segment.
+#[inline(always)]
+fn put_segment<W: Sink>(text: &mut TextBuffer, out: &mut W, before: u8, segment: &PackedSegment<'_>)
     ensures { Writes W.contents W.failure_count out.old text.old out.new text.new
-        (kind_text segment.now.kind segment.now.numbers) }
+        (before ∷ kind_text segment.now.kind segment.now.numbers) }
 {
     match segment.kind() {
-        SegmentKind::AsSequence => text.put_segment_numbers(out, b' ', segment),
-        SegmentKind::AsSet => put_enclosed(text, out, b'{', b',', segment, b'}'),
-        SegmentKind::ConfedSequence => put_enclosed(text, out, b'(', b' ', segment, b')'),
-        SegmentKind::ConfedSet => put_enclosed(text, out, b'[', b',', segment, b']'),
+        SegmentKind::AsSequence => text.put_segment_numbers(out, before, b' ', segment),
+        SegmentKind::AsSet => put_enclosed(text, out, before, b'{', b',', segment, b'}'),
+        SegmentKind::ConfedSequence => put_enclosed(text, out, before, b'(', b' ', segment, b')'),
+        SegmentKind::ConfedSet => put_enclosed(text, out, before, b'[', b',', segment, b']'),
     }
 }
 
+/// Adds a space and a segment.
+#[inline(never)]
+fn put_later_segment<W: Sink>(text: &mut TextBuffer, out: &mut W, segment: &PackedSegment<'_>)
+    ensures { Writes W.contents W.failure_count out.old text.old out.new text.new
+        (32 ∷ kind_text segment.now.kind segment.now.numbers) }
+{
+    put_segment(text, out, b' ', segment);
+}
+
+/// Adds a bar and the segments of a path. Most paths have one.
+#[inline(always)]
 fn put_segments<W: Sink>(text: &mut TextBuffer, out: &mut W, path: PackedSegments<'_>)
-    ensures { Writes W.contents W.failure_count out.old text.old out.new text.new (path_text path.entry) }
+    ensures { Writes W.contents W.failure_count out.old text.old out.new text.new (124 ∷ path_text path.entry) }
 {
     let mut rest = path;
     let Some(first) = rest.next() else {
-        return;
+        return text.put_text(out, b"|");
     };
-    put_segment(text, out, &first);
+    put_segment(text, out, b'|', &first);
     while let Some(segment) = rest.next() {
-        text.put_byte(out, b' ');
-        put_segment(text, out, &segment);
+        put_later_segment(text, out, &segment);
     }
 }
 
+/// Adds a bar and a path.
+#[inline(always)]
 fn put_path<W: Sink>(text: &mut TextBuffer, out: &mut W, path: Option<PackedSegments<'_>>)
-    ensures { Writes W.contents W.failure_count out.old text.old out.new text.new (field path_text path.entry) }
+    ensures { Writes W.contents W.failure_count out.old text.old out.new text.new
+        (124 ∷ field path_text path.entry) }
 {
     match path {
         Some(path) => put_segments(text, out, path),
-        None => text.put_byte(out, b'-'),
+        None => text.put_text(out, b"|-"),
     }
 }
 
@@ -73,13 +144,7 @@ pub(crate) fn put_row<W: Sink>(
     ensures { Writes W.contents W.failure_count out.old text.old out.new text.new
         (route_line (record { peer = peer.now; key = key.now; route = route.now })) }
 {
-    text.put_peer(out, peer);
-    text.put(out, *key);
-    text.put_byte(out, b'|');
+    text.put_beginning(out, peer, *key);
     put_path(text, out, route.path());
-    text.put_byte(out, b'|');
-    let (origin, next_hop) = (route.origin(), route.next_hop());
-    let (med, local_pref) = (route.med(), route.local_pref());
-    let rest = (Atomic(route.atomic()), route.aggregator());
-    text.put(out, Ended((next_hop, (origin, (med, (local_pref, rest))))));
+    text.put_end(out, route);
 }

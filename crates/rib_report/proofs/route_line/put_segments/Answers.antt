@@ -14,10 +14,13 @@ behind s = 32 ∷ text s
 
 pub loop-segment-preserved : goal.loop-segment-preserved
 loop-segment-preserved g c = λ end later.
-    c.loop-segment.invariant end (Adds_as (ap (flat_map behind) (sym c.in-Some-next.ensures)) (Adds_trans c.put_byte.ensures (Adds_trans c.put_segment-in-Some-next.ensures later)))
+    c.loop-segment.invariant end (Adds_as (ap (flat_map behind) (sym c.in-Some-next.ensures)) (Adds_trans c.put_later_segment.ensures later))
+
+pub returns-in_default : goal.returns-in_default
+returns-in_default g c = Adds_as (ap (λ p. 124 ∷ path_text p) (sym c.in_default.ensures)) c.put_text.ensures
 
 pub returns : goal.returns
 returns g c =
     let none = Adds_as (ap (flat_map behind) (sym c.in_default-next.ensures)) (Adds_grown refl refl (sym (append-nil c.loop-segment.text.waiting)) refl) in
-    let whole = sym (join-cons 32 text c.in-Some.first c.next.new.self) ∙ ap path_text (sym c.in-Some.ensures) in
+    let whole = ap (λ l. 124 ∷ l) (sym (join-cons 32 text c.in-Some.first c.next.new.self) ∙ ap path_text (sym c.in-Some.ensures)) in
     Adds_as whole (Adds_trans c.put_segment.ensures (c.loop-segment.invariant _ none))
