@@ -28,7 +28,8 @@ pub(crate) trait Field: Copy {
     fn longest() -> usize
         ensures { result ≡ min longest (2 ^ 64 - 1) };
 
-    /// Writes the text, and returns the position after it. There has to be room for one byte more than the longest text.
+    /// Writes the text, and returns the position after it. There has to be room for one byte more than the longest
+    /// text.
     fn format(self, bytes: &mut [u8], at: usize, shorts: &ShortTexts) -> usize
         requires { at + longest < length bytes.old }
         ensures { Formats bytes.old at bytes.new result longest (text_of self) };

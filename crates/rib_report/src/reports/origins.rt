@@ -82,8 +82,8 @@ fn pairs_of_seat<M: PrefixMap<SharedRoute>>(
     Ok(pairs)
 }
 
-/// Returns the prefixes and origin ASes of these peers' routes in order, each pair once. The peers are halved until each
-/// is alone.
+/// Returns the prefixes and origin ASes of these peers' routes in order, each pair once. The peers are halved until
+/// each is alone.
 fn pairs_of<M: PrefixMap<SharedRoute>>(
     alloc: Global,
     seats: &[Seated<M>],
@@ -103,8 +103,8 @@ fn pairs_of<M: PrefixMap<SharedRoute>>(
     }
 }
 
-/// As `pairs_of`, with the halves of the peers in two threads, if one can be started. More threads would hold more lists at
-/// a time.
+/// As `pairs_of`, with the halves of the peers in two threads, if one can be started. More threads would hold more
+/// lists at a time.
 fn pairs_by_two<M: PrefixMap<SharedRoute> + Sync, T: Threads>(
     rt: &T,
     alloc: Global,
@@ -186,7 +186,8 @@ pub fn origins<M: PrefixMap<SharedRoute>>(
     group_runs(alloc, pairs.as_slice())
 }
 
-/// Returns what `origins` returns. With two threads or more, two of them share the work.
+/// Returns what `origins` returns. With two threads or more, two of them share the work; if no thread can be
+/// started, the calling thread does all of it.
 pub fn origins_with_threads<M: PrefixMap<SharedRoute> + Sync, T: Threads>(
     rt: &T,
     alloc: Global,

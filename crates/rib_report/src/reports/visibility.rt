@@ -80,8 +80,8 @@ fn prefixes_of<M: PrefixMap<SharedRoute>>(
     }
 }
 
-/// As `prefixes_of`, with the halves of the peers in two threads, if one can be started. More threads would hold more lists at
-/// a time.
+/// As `prefixes_of`, with the halves of the peers in two threads, if one can be started. More threads would hold more
+/// lists at a time.
 fn prefixes_by_two<M: PrefixMap<SharedRoute> + Sync, T: Threads>(
     rt: &T,
     alloc: Global,
@@ -127,7 +127,8 @@ pub fn visibility<M: PrefixMap<SharedRoute>>(
     rows_of(alloc, counts.as_slice())
 }
 
-/// Returns what `visibility` returns. With two threads or more, two of them share the work.
+/// Returns what `visibility` returns. With two threads or more, two of them share the work; if no thread can be
+/// started, the calling thread does all of it.
 pub fn visibility_with_threads<M: PrefixMap<SharedRoute> + Sync, T: Threads>(
     rt: &T,
     alloc: Global,

@@ -64,8 +64,8 @@ fn put_fitting(
     entries.len()
 }
 
-/// Adds the lines of entries from one to before another, while there should be room for one more. Returns the first entry
-/// whose line wasn't added.
+/// Adds the lines of entries from one to before another, while there should be room for one more. Returns the first
+/// entry whose line wasn't added.
 fn put_while_fitting(
     text: &mut TextBuffer,
     nowhere: &mut Nowhere,
