@@ -1,5 +1,5 @@
 -- Pairs of prefixes and origin ASes, by prefix.
-use Rattle.std.proofs.Common.{◌≡◌, ◌≢◌, ℕ, zero, suc, ◌+◌, ◌<◌, ◌≤◌, Bool, true, false, cond, ◌&&◌, ◌||◌, eqb, ltb, List, [], ◌∷◌, ◌++◌, Some, T, refl, sym, ap, ◌∙◌, append-nil, append_assoc, length, get_or, take, drop, take-append-drop, length-drop, length-take-le, map, arith}
+use Rattle.std.proofs.Common.{◌≡◌, ◌≢◌, ℕ, zero, suc, ◌+◌, ◌<◌, ◌≤◌, Bool, true, false, cond, ◌&&◌, ◌||◌, eqb, ltb, List, [], ◌∷◌, ◌++◌, Some, T, refl, sym, ap, ◌∙◌, subst, append-nil, append_assoc, length, get_or, take, drop, take-append-drop, length-drop, length-take-le, map, arith}
 use Rattle.std.specs.declared.cmp.Ordering.{Ordering}
 use Rattle.std.specs.declared.cmp.Ordering.TheVariants.{Less, Equal, Greater}
 use Rattle.std.specs.Ordering.{nat_cmp, is_eq, is_lt, eq_by_cmp, ordering_then, ordering_reverse}
@@ -17,13 +17,13 @@ use Rattle.std.proofs.lemmas.List.Elements.{filter-append}
 use Rattle.std.proofs.lemmas.Map.Lookups.{exact_pairs, exact_unsigned}
 use Rattle.bgp_prefix.specs.Prefixes.{IpPrefix, prefix_cmp, prefix_eq}
 use Rattle.bgp_prefix.specs.Ordered.{in_order}
-use Rattle.peer_tables.specs.Tables.{Seat}
+use Rattle.peer_tables.specs.Tables.{Seat, TablesState}
 use Rattle.bgp_prefix.proofs.OrderedLaws.{is_sorted-tabulated}
 use Rattle.bgp_prefix.proofs.KeyLaws.{prefix_cmp_total, prefix_cmp_exact, prefix_tied}
 use Rattle.rib_report.specs.declared.reports.origins.OriginRow.{OriginRow}
 use Rattle.rib_report.specs.Runs.{pair_cmp, pair_eq}
 use Rattle.rib_report.specs.Merges.{joined}
-use Rattle.rib_report.specs.Reports.{seat_origins, has_several, origins_among, grouped_origins}
+use Rattle.rib_report.specs.Reports.{seat_origins, table_origins, has_several, origins_among, grouped_origins, origin_rows}
 use Rattle.rib_report.proofs.RunLaws.{set_of, set_same, set_run, below_set, put_front, map_same, all_of, all_mapped, all_from_index}
 use Rattle.rib_report.proofs.MergeLaws.{first_of, second_of, joined_in_order}
 use Rattle.rib_report.proofs.SeenLaws.{twice, own_itself, is_less, halves}
@@ -310,3 +310,10 @@ pub joined_pairs : {X : Type 0} (seen : X → Seat) (m : ℕ) (seats front back 
 joined_pairs seen m seats front back first second is_front is_back in_first in_second =
     joined_in_order pair_cmp_total pair_cmp_exact (flat_map seat_origins (map seen front)) (flat_map seat_origins (map seen back)) first second in_first in_second
     ∙ ap (in_order pair_cmp) (sym (flat_map-append seat_origins (map seen front) (map seen back)) ∙ ap (flat_map seat_origins) (halves seen m seats front back is_front is_back))
+
+-- what lists the pairs of all peers has the order that its runs need, and these are the rows of the report
+pub rows_of_pairs : (tables : TablesState) (pairs : List (IpPrefix × ℕ)) (seats : List Seat) → pairs ≡ in_order pair_cmp (flat_map seat_origins seats) → seats ≡ tables.seats
+    → IsStrictlySortedBy pair_cmp pairs × (filter has_several (grouped_origins pairs) ≡ origin_rows tables)
+rows_of_pairs tables pairs seats listed all =
+    let whole : pairs ≡ in_order pair_cmp (table_origins tables) = listed ∙ ap (λ l. in_order pair_cmp (flat_map seat_origins l)) all in
+    (subst (IsStrictlySortedBy pair_cmp) (sym whole) (pairs_rise (table_origins tables)), ap (λ l. filter has_several (grouped_origins l)) whole ∙ ap (filter has_several) (grouped_in_order (table_origins tables)))

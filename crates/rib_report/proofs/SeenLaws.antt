@@ -186,6 +186,8 @@ merged_counts seen m seats front back first second few is_front is_back in_first
     ap (λ l. merged prefix_cmp l second) in_first ∙ ap (merged prefix_cmp (seen_among (map seen front))) in_second
     ∙ merged_seen (map seen front) (map seen back) fits ∙ ap seen_among (halves seen m seats front back is_front is_back)
 
--- the rows of the report
-pub seen_rows : (tables : TablesState) → map (λ (e : IpPrefix × ℕ). record { prefix = e.0; peers = e.1 }) (seen_among tables.seats) ≡ visibility_rows tables
-seen_rows tables = sym (map_twice (λ p. (p, count_in tables.seats p)) (λ (e : IpPrefix × ℕ). record { prefix = e.0; peers = e.1 }) (in_order prefix_cmp (flat_map seat_prefixes tables.seats)))
+-- the counted prefixes of all peers are the rows of the report
+pub rows_of_seen : (tables : TablesState) (counts : List (IpPrefix × ℕ)) (seats : List Seat) → counts ≡ seen_among seats → seats ≡ tables.seats → map (λ (e : IpPrefix × ℕ). record { prefix = e.0; peers = e.1 }) counts ≡ visibility_rows tables
+rows_of_seen tables counts seats counted all =
+    ap (map (λ (e : IpPrefix × ℕ). record { prefix = e.0; peers = e.1 })) (counted ∙ ap seen_among all)
+    ∙ sym (map_twice (λ p. (p, count_in tables.seats p)) (λ (e : IpPrefix × ℕ). record { prefix = e.0; peers = e.1 }) (in_order prefix_cmp (flat_map seat_prefixes tables.seats)))
