@@ -22,10 +22,9 @@ use Rattle.bgp_prefix.proofs.OrderedLaws.{is_sorted-tabulated}
 use Rattle.bgp_prefix.proofs.KeyLaws.{prefix_cmp_total, prefix_cmp_exact, prefix_tied}
 use Rattle.rib_report.specs.declared.reports.origins.OriginRow.{OriginRow}
 use Rattle.rib_report.specs.Runs.{pair_cmp, pair_eq}
-use Rattle.rib_report.specs.Merges.{joined}
 use Rattle.rib_report.specs.Reports.{seat_origins, table_origins, has_several, origins_among, grouped_origins, origin_rows}
 use Rattle.rib_report.proofs.RunLaws.{set_of, set_same, set_run, below_set, put_front, map_same, all_of, all_mapped, all_from_index}
-use Rattle.rib_report.proofs.MergeLaws.{first_of, second_of, joined_in_order}
+use Rattle.rib_report.proofs.MergeLaws.{first_of, second_of, joined, joined_in_order}
 use Rattle.rib_report.proofs.SeenLaws.{twice, own_itself, is_less, halves}
 
 -- ---- the order of pairs

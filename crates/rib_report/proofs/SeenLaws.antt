@@ -20,10 +20,10 @@ use Rattle.bgp_prefix.proofs.KeyLaws.{prefix_cmp_total, prefix_cmp_exact, prefix
 use Rattle.bgp_update.specs.declared.route.Route.{Route}
 use Rattle.peer_tables.specs.Tables.{Seat, TablesState}
 use Rattle.peer_tables.proofs.RowLaws.{map_twice}
-use Rattle.rib_report.specs.Merges.{add_counts, merged}
+use Rattle.rib_report.specs.Merges.{add_counts}
 use Rattle.rib_report.specs.Reports.{HasOrder, seat_prefixes, is_visible_at, seen_among, visibility_rows}
 use Rattle.rib_report.specs.Runs.{new_after, without_repeats}
-use Rattle.rib_report.proofs.MergeLaws.{both_of, first_of, second_of, lower_of, below_less, tallied, find_tallied, merged_tallied, counted_in_order}
+use Rattle.rib_report.proofs.MergeLaws.{both_of, first_of, second_of, lower_of, below_less, counted, tallied, find_tallied, merged_tallied, counted_in_order}
 use Rattle.rib_report.proofs.StableSort.{Ascends}
 use Rattle.rib_report.proofs.RunLaws.{hit, above_first}
 
@@ -160,12 +160,12 @@ none_seen q (s ∷ seats) e =
     omega (arith, here, later, sum_by-cons (λ t. hit (is_visible_at q t)) s seats)
 
 -- the prefixes of two lists of peers are those of all of them
-pub merged_seen : (xs ys : List Seat) → length xs + length ys < 2 ^ 64 → merged prefix_cmp (seen_among xs) (seen_among ys) ≡ seen_among (xs ++ ys)
+pub merged_seen : (xs ys : List Seat) → length xs + length ys < 2 ^ 64 → counted prefix_cmp (seen_among xs) (seen_among ys) ≡ seen_among (xs ++ ys)
 merged_seen xs ys few =
     let count : (q : IpPrefix) → count_in xs q + count_in ys q ≡ count_in (xs ++ ys) q = λ q. sym (sum_by-append (λ t. hit (is_visible_at q t)) xs ys) in
     let fits : (q : IpPrefix) → add_counts (count_in xs q) (count_in ys q) ≡ count_in xs q + count_in ys q =
     λ q. omega (arith, few, count_by-le-length (is_visible_at q) xs, count_by-le-length (is_visible_at q) ys) in
-    ap (λ l. merged prefix_cmp l (seen_among ys)) (seen_tally xs) ∙ ap (merged prefix_cmp (tally xs)) (seen_tally ys)
+    ap (λ l. counted prefix_cmp l (seen_among ys)) (seen_tally xs) ∙ ap (counted prefix_cmp (tally xs)) (seen_tally ys)
     ∙ merged_tallied prefix_cmp_total prefix_cmp_exact (count_in xs) (count_in ys) (flat_map seat_prefixes xs) (flat_map seat_prefixes ys) (λ q. none_seen q xs) (λ q. none_seen q ys) fits
     ∙ ap (λ n. tallied prefix_cmp n (flat_map seat_prefixes xs ++ flat_map seat_prefixes ys)) (λ i q. count q i)
     ∙ ap (tallied prefix_cmp (count_in (xs ++ ys))) (sym (flat_map-append seat_prefixes xs ys))
@@ -180,10 +180,10 @@ pub halves : {X Y : Type 0} (f : X → Y) (n : ℕ) (xs front back : List X) →
 halves f n xs front back first second = ap (λ l. map f l ++ map f back) first ∙ ap (λ l. map f (take n xs) ++ map f l) second ∙ sym (map-append f (take n xs) (drop n xs)) ∙ ap (map f) (take-append-drop n xs)
 
 -- the counts of halves, merged, are those of all
-pub merged_counts : {X : Type 0} (seen : X → Seat) (m : ℕ) (seats front back : List X) (first second : List (IpPrefix × ℕ)) → length front + length back < 2 ^ 64 → front ≡ take m seats → back ≡ drop m seats → first ≡ seen_among (map seen front) → second ≡ seen_among (map seen back) → merged prefix_cmp first second ≡ seen_among (map seen seats)
+pub merged_counts : {X : Type 0} (seen : X → Seat) (m : ℕ) (seats front back : List X) (first second : List (IpPrefix × ℕ)) → length front + length back < 2 ^ 64 → front ≡ take m seats → back ≡ drop m seats → first ≡ seen_among (map seen front) → second ≡ seen_among (map seen back) → counted prefix_cmp first second ≡ seen_among (map seen seats)
 merged_counts seen m seats front back first second few is_front is_back in_first in_second =
     let fits : length (map seen front) + length (map seen back) < 2 ^ 64 = omega (arith, few, length-map front seen, length-map back seen) in
-    ap (λ l. merged prefix_cmp l second) in_first ∙ ap (merged prefix_cmp (seen_among (map seen front))) in_second
+    ap (λ l. counted prefix_cmp l second) in_first ∙ ap (counted prefix_cmp (seen_among (map seen front))) in_second
     ∙ merged_seen (map seen front) (map seen back) fits ∙ ap seen_among (halves seen m seats front back is_front is_back)
 
 -- the counted prefixes of all peers are the rows of the report

@@ -13,7 +13,7 @@ ghost use Rattle.peer_tables.specs.Seats.{seat_of};
 
 use crate::buffer::TextBuffer;
 use crate::line::Line;
-use crate::merge::merge_keys;
+use crate::merge::{Mergeable, merge};
 use crate::write::write_lines;
 use adj_rib::SharedRoute;
 use bgp_prefix::{Memory, Prefix, PrefixMap, RouteKey, Sequence};
@@ -21,6 +21,7 @@ use bgp_update::PackedRoute;
 use mrt_frame::{ReplayError, Sink};
 use peer_tables::{Seated, Tables};
 use std::alloc::Global;
+use std::cmp::Ordering;
 use std::marker::Sync;
 use std::thread::{Threads, join};
 
@@ -29,6 +30,23 @@ use std::thread::{Threads, join};
 pub struct OriginRow {
     pub prefix: Prefix,
     pub origins: Sequence<u32>,
+}
+
+/// Pairs are merged by prefix and number. A pair of both lists is once.
+impl Mergeable for (Prefix, u32) {
+    ghost order = { pair_cmp };
+
+    ghost both = { λ x _. x };
+
+    #[inline(always)]
+    fn compare(self, other: (Prefix, u32)) -> Ordering {
+        self.cmp(&other)
+    }
+
+    #[inline(always)]
+    fn unite(self, _other: (Prefix, u32)) -> (Prefix, u32) {
+        self
+    }
 }
 
 /// Returns the origin AS of a route (RFC 6811, 2).
@@ -98,7 +116,7 @@ fn pairs_of<M: PrefixMap<SharedRoute>>(
             let (front, back) = seats.split_at(seats.len() / 2);
             let first = pairs_of(alloc, front)?;
             let second = pairs_of(alloc, back)?;
-            merge_keys(alloc, first.as_slice(), second.as_slice())
+            merge(alloc, first.as_slice(), second.as_slice())
         }
     }
 }
@@ -126,7 +144,7 @@ fn pairs_by_two<M: PrefixMap<SharedRoute> + Sync, T: Threads>(
     { pairs_of(alloc, back) };
     let (front, back) = join(rt, list_front, list_back);
     let (front, back) = (front?, back?);
-    merge_keys(alloc, front.as_slice(), back.as_slice())
+    merge(alloc, front.as_slice(), back.as_slice())
 }
 
 /// Returns how many pairs at the front have this prefix.

@@ -4,6 +4,8 @@
 ghost use Rattle.std.specs.Prelude.{◌≡◌, [], ◌∷◌, IfOk, map};
 ghost use Rattle.std.specs.List.{flat_map};
 ghost use Rattle.std.specs.Thread.{IsSync};
+ghost use Rattle.bgp_prefix.specs.Prefixes.{prefix_cmp};
+ghost use Rattle.rib_report.specs.Merges.{by_key, counted_both};
 ghost use Rattle.rib_report.specs.Runs.{is_last};
 ghost use Rattle.rib_report.specs.Reports.{seen_among, visibility_rows};
 ghost use Rattle.rib_report.specs.Lines.{visibility_line};
@@ -13,13 +15,14 @@ ghost use Rattle.peer_tables.specs.Seats.{seat_of};
 use crate::buffer::TextBuffer;
 use crate::field::Ended;
 use crate::line::Line;
-use crate::merge::merge_counts;
+use crate::merge::{Mergeable, merge};
 use crate::write::write_lines;
 use adj_rib::SharedRoute;
 use bgp_prefix::{Memory, Prefix, PrefixMap};
 use mrt_frame::{ReplayError, Sink};
 use peer_tables::{Seated, Tables};
 use std::alloc::Global;
+use std::cmp::Ordering;
 use std::marker::Sync;
 use std::thread::{Threads, join};
 
@@ -28,6 +31,23 @@ use std::thread::{Threads, join};
 pub struct SeenRow {
     pub prefix: Prefix,
     pub peers: usize,
+}
+
+/// Prefixes with counts are merged by prefix. Counts are added, and saturate.
+impl Mergeable for (Prefix, usize) {
+    ghost order = { by_key prefix_cmp };
+
+    ghost both = { counted_both };
+
+    #[inline(always)]
+    fn compare(self, other: (Prefix, usize)) -> Ordering {
+        self.0.cmp(&other.0)
+    }
+
+    #[inline(always)]
+    fn unite(self, other: (Prefix, usize)) -> (Prefix, usize) {
+        (self.0, self.1.saturating_add(other.1))
+    }
 }
 
 /// Whether the prefix is the last one.
@@ -75,7 +95,7 @@ fn prefixes_of<M: PrefixMap<SharedRoute>>(
             let (front, back) = seats.split_at(seats.len() / 2);
             let front = prefixes_of(alloc, front)?;
             let back = prefixes_of(alloc, back)?;
-            merge_counts(alloc, front.as_slice(), back.as_slice())
+            merge(alloc, front.as_slice(), back.as_slice())
         }
     }
 }
@@ -100,7 +120,7 @@ fn prefixes_by_two<M: PrefixMap<SharedRoute> + Sync, T: Threads>(
     { prefixes_of(alloc, back) };
     let (first, second) = join(rt, list_front, list_back);
     let (first, second) = (first?, second?);
-    merge_counts(alloc, first.as_slice(), second.as_slice())
+    merge(alloc, first.as_slice(), second.as_slice())
 }
 
 /// Makes the rows of counted prefixes.

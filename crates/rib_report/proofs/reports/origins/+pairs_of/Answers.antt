@@ -3,7 +3,7 @@ use Rattle.std.specs.List.{flat_map}
 use Rattle.std.proofs.lemmas.Result.{IfOk-weaker}
 use Rattle.bgp_prefix.specs.Ordered.{in_order}
 use Rattle.peer_tables.specs.Seats.{seat_of}
-use Rattle.rib_report.specs.Merges.{joined}
+use Rattle.rib_report.proofs.MergeLaws.{joined}
 use Rattle.rib_report.specs.Reports.{seat_origins}
 use Rattle.rib_report.specs.Runs.{pair_cmp}
 use Rattle.rib_report.proofs.OriginLaws.{joined_pairs}
@@ -25,5 +25,5 @@ returns-in_ok-second-in_default g t c =
     let second = c.as_slice-in_default.result.now in
     let whole = joined_pairs (seat_of {M = g.row.M.Denot}) (length seats / 2) seats c.split_at.result.0.now c.split_at.result.1.now first second c.split_at.ensures.front c.split_at.ensures.back
     (c.as_slice.ensures.value ∙ c.in_ok-first-in_default.ensures) (c.as_slice-in_default.ensures.value ∙ c.in_ok-second-in_default.ensures) in
-    IfOk-weaker c.merge_keys.result (λ pairs. pairs.items ≡ joined pair_cmp first second) (λ pairs. pairs.items ≡ in_order pair_cmp (flat_map seat_origins (map (seat_of {M = g.row.M.Denot}) seats)))
-    (λ pairs h. h ∙ whole) c.merge_keys.ensures
+    IfOk-weaker c.merge.result (λ pairs. pairs.items ≡ joined pair_cmp first second) (λ pairs. pairs.items ≡ in_order pair_cmp (flat_map seat_origins (map (seat_of {M = g.row.M.Denot}) seats)))
+    (λ pairs h. h ∙ whole) c.merge.ensures

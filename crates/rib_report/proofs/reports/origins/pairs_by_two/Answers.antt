@@ -3,7 +3,7 @@ use Rattle.std.specs.List.{flat_map}
 use Rattle.std.proofs.lemmas.Result.{IfOk-weaker, IfOk-at_ok}
 use Rattle.bgp_prefix.specs.Ordered.{in_order}
 use Rattle.peer_tables.specs.Seats.{seat_of}
-use Rattle.rib_report.specs.Merges.{joined}
+use Rattle.rib_report.proofs.MergeLaws.{joined}
 use Rattle.rib_report.specs.Reports.{seat_origins}
 use Rattle.rib_report.specs.Runs.{pair_cmp}
 use Rattle.rib_report.proofs.OriginLaws.{joined_pairs}
@@ -19,5 +19,5 @@ returns g c =
     let whole = joined_pairs (seat_of {M = g.row.M.Denot}) (length seats / 2) seats front back first second c.split_at.ensures.front c.split_at.ensures.back
     (c.as_slice.ensures.value ∙ IfOk-at_ok (λ pairs. pairs.items ≡ in_order pair_cmp (flat_map seat_origins (map (seat_of {M = g.row.M.Denot}) front))) c.in_ok-front.was c.join-front.ensures.first)
     (c.as_slice-2.ensures.value ∙ IfOk-at_ok (λ pairs. pairs.items ≡ in_order pair_cmp (flat_map seat_origins (map (seat_of {M = g.row.M.Denot}) back))) c.in_ok-back.was c.join-front.ensures.second) in
-    IfOk-weaker c.merge_keys.result (λ pairs. pairs.items ≡ joined pair_cmp first second) (λ pairs. pairs.items ≡ in_order pair_cmp (flat_map seat_origins (map (seat_of {M = g.row.M.Denot}) seats)))
-    (λ pairs h. h ∙ whole) c.merge_keys.ensures
+    IfOk-weaker c.merge.result (λ pairs. pairs.items ≡ joined pair_cmp first second) (λ pairs. pairs.items ≡ in_order pair_cmp (flat_map seat_origins (map (seat_of {M = g.row.M.Denot}) seats)))
+    (λ pairs h. h ∙ whole) c.merge.ensures

@@ -2,7 +2,7 @@ use Rattle.std.proofs.Common.{◌≡◌, ◌∙◌, [], ◌∷◌, ap, sym, map,
 use Rattle.std.proofs.lemmas.Result.{IfOk-weaker}
 use Rattle.bgp_prefix.specs.Prefixes.{prefix_cmp}
 use Rattle.peer_tables.specs.Seats.{seat_of}
-use Rattle.rib_report.specs.Merges.{merged}
+use Rattle.rib_report.proofs.MergeLaws.{counted}
 use Rattle.rib_report.specs.Reports.{seen_among}
 use Rattle.rib_report.proofs.SeenLaws.{single, merged_counts}
 use Rattle.rib_report.proofs.reports.visibility.+prefixes_of.Goals as goal
@@ -22,5 +22,5 @@ returns-in_ok-back-in_default g t c =
     let few : length front + length back < 2 ^ 64 = omega (arith, c.split_at.ensures.front_len, c.split_at.ensures.back_len) in
     let whole = merged_counts (seat_of {M = g.row.M.Denot}) (length seats / 2) seats front back c.as_slice.result.now c.as_slice-in_default.result.now few c.split_at.ensures.front c.split_at.ensures.back
     (c.as_slice.ensures.value ∙ c.in_ok-front-in_default.ensures) (c.as_slice-in_default.ensures.value ∙ c.in_ok-back-in_default.ensures) in
-    IfOk-weaker c.merge_counts.result (λ counts. counts.items ≡ merged prefix_cmp c.as_slice.result.now c.as_slice-in_default.result.now) (λ counts. counts.items ≡ seen_among (map (seat_of {M = g.row.M.Denot}) seats))
-    (λ counts h. h ∙ whole) c.merge_counts.ensures
+    IfOk-weaker c.merge.result (λ counts. counts.items ≡ counted prefix_cmp c.as_slice.result.now c.as_slice-in_default.result.now) (λ counts. counts.items ≡ seen_among (map (seat_of {M = g.row.M.Denot}) seats))
+    (λ counts h. h ∙ whole) c.merge.ensures

@@ -2,7 +2,7 @@ use Rattle.std.proofs.Common.{◌≡◌, ◌∙◌, map, ◌+◌, ◌<◌, ◌^�
 use Rattle.std.proofs.lemmas.Result.{IfOk-weaker, IfOk-at_ok}
 use Rattle.bgp_prefix.specs.Prefixes.{prefix_cmp}
 use Rattle.peer_tables.specs.Seats.{seat_of}
-use Rattle.rib_report.specs.Merges.{merged}
+use Rattle.rib_report.proofs.MergeLaws.{counted}
 use Rattle.rib_report.specs.Reports.{seen_among}
 use Rattle.rib_report.proofs.SeenLaws.{merged_counts}
 use Rattle.rib_report.proofs.reports.visibility.prefixes_by_two.Goals as goal
@@ -16,5 +16,5 @@ returns g c =
     let whole = merged_counts (seat_of {M = g.row.M.Denot}) (length seats / 2) seats front back c.as_slice.result.now c.as_slice-2.result.now few c.split_at.ensures.front c.split_at.ensures.back
     (c.as_slice.ensures.value ∙ IfOk-at_ok (λ counts. counts.items ≡ seen_among (map (seat_of {M = g.row.M.Denot}) front)) c.in_ok-first.was c.join-first.ensures.first)
     (c.as_slice-2.ensures.value ∙ IfOk-at_ok (λ counts. counts.items ≡ seen_among (map (seat_of {M = g.row.M.Denot}) back)) c.in_ok-second.was c.join-first.ensures.second) in
-    IfOk-weaker c.merge_counts.result (λ counts. counts.items ≡ merged prefix_cmp c.as_slice.result.now c.as_slice-2.result.now) (λ counts. counts.items ≡ seen_among (map (seat_of {M = g.row.M.Denot}) seats))
-    (λ counts h. h ∙ whole) c.merge_counts.ensures
+    IfOk-weaker c.merge.result (λ counts. counts.items ≡ counted prefix_cmp c.as_slice.result.now c.as_slice-2.result.now) (λ counts. counts.items ≡ seen_among (map (seat_of {M = g.row.M.Denot}) seats))
+    (λ counts h. h ∙ whole) c.merge.ensures
