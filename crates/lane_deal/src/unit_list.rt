@@ -44,8 +44,9 @@ const BYTES_EACH: usize = 64;
 /// How many bytes a list that is filled again may have room for. One that long messages enlarged is freed.
 const MOST_KEPT: usize = 16_384;
 
-/// How many peers a list that is filled again keeps: they are usually those of its next units.
-const MOST_PEERS: usize = 64;
+/// How many peers a list that is filled again may keep: few enough to look through them. They are usually those of its
+/// next units.
+const MOST_PEERS: usize = 24;
 
 /// How many numbers a state may have.
 const STATES: u32 = 65_536;
