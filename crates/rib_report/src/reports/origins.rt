@@ -93,7 +93,7 @@ fn pairs_of_seat<M: PrefixMap<SharedRoute>>(
 ) -> Result<Vec<(Prefix, u32)>, Memory>
     ensures { IfOk result (λ pairs. pairs.items ≡ in_order pair_cmp (seat_origins (seat_of seat.now))) }
 {
-    let mut pairs = Vec::new(alloc);
+    let mut pairs = Vec::with_capacity(alloc, seat.session.table().len())?;
     add_origins(alloc, &mut pairs, seat)?;
     pairs.sort()?;
     pairs.dedup();

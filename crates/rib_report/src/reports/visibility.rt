@@ -68,7 +68,7 @@ fn prefixes_of_seat<M: PrefixMap<SharedRoute>>(
     ensures { IfOk result (λ counts. counts.items ≡ seen_among (seat_of seat.now ∷ [])) }
 {
     let entries = seat.session.table().entries(alloc)?;
-    let mut counts = Vec::new(alloc);
+    let mut counts = Vec::with_capacity(alloc, entries.len())?;
     let mut last = None;
     for entry in entries.as_slice() {
         let prefix = entry.0.prefix;

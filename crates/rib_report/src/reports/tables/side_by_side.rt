@@ -21,8 +21,12 @@ use std::thread::{Threads, join_mut};
 /// The maximum number of threads that make lines: more would wait for the one that writes.
 const MOST_THREADS: usize = 8;
 
-/// How many pieces a thread fills before it waits for the others.
+/// How many pieces there are for each worker.
 const PIECES: usize = 16;
+
+/// How many pieces a thread fills at most. With four workers three threads do: a fourth one would take processor time
+/// from the writing thread, and from the program that reads what it writes.
+const PIECES_EACH: usize = 22;
 
 /// How many entries a piece has at first: usually there is room for their lines.
 const MOST_ENTRIES: usize = 448;
@@ -110,52 +114,6 @@ fn fill_each(peer: PeerKey, entries: &[(RouteKey, &SharedRoute)], pieces: &mut [
     }
 }
 
-/// Fills pieces, in several threads if these can be started.
-#[cycle(halves)]
-fn fill_all<T: Threads + Sync>(
-    rt: &T,
-    peer: PeerKey,
-    entries: &[(RouteKey, &SharedRoute)],
-    pieces: &mut [Piece],
-)
-    requires { AreRanges (length entries.now) pieces.old }
-    ensures ranges { map range_of pieces.new ≡ map range_of pieces.old }
-    ensures filled { All (IsFilled peer entries.now) pieces.new }
-{
-    if pieces.len() <= PIECES {
-        return fill_each(peer, entries, pieces);
-    }
-    let half = pieces.len() / 2;
-    let (front, back) = pieces.split_at_mut(half);
-    fill_both(rt, peer, entries, front, back);
-}
-
-#[cycle(halves)]
-fn fill_both<T: Threads + Sync>(
-    rt: &T,
-    peer: PeerKey,
-    entries: &[(RouteKey, &SharedRoute)],
-    front: &mut [Piece],
-    back: &mut [Piece],
-)
-    requires some { (0 < length front.old) × (0 < length back.old) }
-    requires ranges { AreRanges (length entries.now) front.old × AreRanges (length entries.now) back.old }
-    ensures front { (map range_of front.new ≡ map range_of front.old) × All (IsFilled peer entries.now) front.new }
-    ensures back { (map range_of back.new ≡ map range_of back.old) × All (IsFilled peer entries.now) back.new }
-{
-    let mut fill_front = || -> ()
-        requires { IsSync T.row × AreRanges (length entries.now) front.now }
-        ensures { (map range_of front.exit.now ≡ map range_of front.entry.now) ×
-            All (IsFilled peer entries.entry.now) front.exit.now }
-    { fill_all(rt, peer, entries, front) };
-    let mut fill_back = || -> ()
-        requires { IsSync T.row × AreRanges (length entries.now) back.now }
-        ensures { (map range_of back.exit.now ≡ map range_of back.entry.now) ×
-            All (IsFilled peer entries.entry.now) back.exit.now }
-    { fill_all(rt, peer, entries, back) };
-    join_mut(rt, &mut fill_front, &mut fill_back);
-}
-
 /// Adds the lines of pieces, in order.
 fn put_pieces<W: Sink>(
     text: &mut TextBuffer,
@@ -176,7 +134,9 @@ fn put_pieces<W: Sink>(
     }
 }
 
-/// Fills the one half of the pieces, and adds the lines of the other one meanwhile.
+/// Fills the one half of the pieces, a few in each thread if these can be started, and meanwhile adds the lines of the
+/// other one, in the calling thread. It starts every thread itself: a thread that waits for another one ends later.
+#[cycle(threads)]
 fn fill_and_put<T: Threads + Sync, W: Sink>(
     rt: &T,
     text: &mut TextBuffer,
@@ -196,16 +156,50 @@ fn fill_and_put<T: Threads + Sync, W: Sink>(
     ensures ranges { map range_of far.new ≡ map range_of far.old }
     ensures filled { All (IsFilled peer entries.now) far.new }
 {
+    if far.is_empty() {
+        return put_pieces(text, out, peer, entries, near, start, end);
+    }
+    let (some, others) = far.split_at_mut(far.len().min(PIECES_EACH));
+    fill_some_and_put(rt, text, out, peer, entries, near, some, others, start, end);
+}
+
+/// Fills some pieces in a thread of their own, and meanwhile does what `fill_and_put` does with the others.
+#[cycle(threads)]
+fn fill_some_and_put<T: Threads + Sync, W: Sink>(
+    rt: &T,
+    text: &mut TextBuffer,
+    out: &mut W,
+    peer: PeerKey,
+    entries: &[(RouteKey, &SharedRoute)],
+    near: &[Piece],
+    some: &mut [Piece],
+    others: &mut [Piece],
+    start: usize,
+    end: usize,
+)
+    requires filled { All (IsFilled peer entries.now) near.now }
+    requires successive { AreSuccessive start (map range_of near.now) end }
+    requires some { 0 < length some.old }
+    requires next { AreRanges (length entries.now) some.old × AreRanges (length entries.now) others.old }
+    ensures put { Writes W.contents W.failure_count out.old text.old out.new text.new
+        (lines_between peer start end entries.now) }
+    ensures some { (map range_of some.new ≡ map range_of some.old) × All (IsFilled peer entries.now) some.new }
+    ensures others { (map range_of others.new ≡ map range_of others.old) ×
+        All (IsFilled peer entries.now) others.new }
+{
     let mut fill = || -> ()
-        requires { IsSync T.row × AreRanges (length entries.now) far.now }
-        ensures { (map range_of far.exit.now ≡ map range_of far.entry.now) ×
-            All (IsFilled peer entries.entry.now) far.exit.now }
-    { fill_all(rt, peer, entries, far) };
+        requires { AreRanges (length entries.now) some.now }
+        ensures { (map range_of some.exit.now ≡ map range_of some.entry.now) ×
+            All (IsFilled peer entries.entry.now) some.exit.now }
+    { fill_each(peer, entries, some) };
     let mut put = || -> ()
-        requires { All (IsFilled peer entries.now) near.now × AreSuccessive start (map range_of near.now) end }
+        requires { IsSync T.row × All (IsFilled peer entries.now) near.now ×
+            AreSuccessive start (map range_of near.now) end × AreRanges (length entries.now) others.now }
         ensures { Writes W.contents W.failure_count out.entry.now text.entry.now out.exit.now text.exit.now
-            (lines_between peer start end entries.entry.now) }
-    { put_pieces(text, out, peer, entries, near, start, end) };
+            (lines_between peer start end entries.entry.now) ×
+            (map range_of others.exit.now ≡ map range_of others.entry.now) ×
+            All (IsFilled peer entries.entry.now) others.exit.now }
+    { fill_and_put(rt, text, out, peer, entries, near, others, start, end) };
     join_mut(rt, &mut fill, &mut put);
 }
 
@@ -226,7 +220,7 @@ fn put_by_pieces<T: Threads + Sync, W: Sink>(
     let mut size = MOST_ENTRIES;
     let mut start = 0;
     let mut end = deal_entries(near.as_mut_slice(), 0, size, entries.len());
-    fill_all(rt, peer, entries, near.as_mut_slice());
+    fill_and_put(rt, text, out, peer, entries, &[], near.as_mut_slice(), 0, 0);
     while end < entries.len() {
         if text.has_failed() {
             return;

@@ -12,27 +12,33 @@ use Rattle.rib_report.proofs.reports.tables.side_by_side.put_by_pieces.Goals as 
 pub returns-then-has_failed : goal.returns-then-has_failed
 returns-then-has_failed g c =
     let entries = c.args.entries.now in
-    Adds_failed (λ e. route_line (reached_row c.args.peer e)) entries c.loop-end.start
-    (Adds_as (ap (reached_lines c.args.peer) (between_from_start entries c.loop-end.start)) c.loop-end.invariant.written) (sym c.has_failed.ensures ∙ c.if-has_failed.true)
+    let start = c.loop-end.start in
+    let so_far = Adds_next c.args.peer entries 0 0 start (omega arith) (omega arith) c.fill_and_put.ensures.put c.loop-end.invariant.written in
+    Adds_failed (λ e. route_line (reached_row c.args.peer e)) entries start
+    (Adds_as (ap (reached_lines c.args.peer) (between_from_start entries start)) so_far) (sym c.has_failed.ensures ∙ c.if-has_failed.true)
 
 pub loop-end-preserved : goal.loop-end-preserved
 loop-end-preserved g c =
+    let round = c.fill_and_put-in-loop-end in
     let dealt = written_back c.loop-end.far.len c.loop-end.far.items c.deal_entries-next.new.pieces (search rules) (search rules) in
-    let filled = written_back c.loop-end.far.len _ c.fill_and_put.new.far (ap length dealt ∙ search rules) (search rules) in
+    let filled = written_back c.loop-end.far.len _ round.new.far (ap length dealt ∙ search rules) (search rules) in
     record {
       size = c.next_size-size.ensures;
       near = search rules;
       far = search rules;
       order = search rules;
       within = c.deal_entries-next.ensures.within;
-      filled = rw c.swap.ensures.x_after (subst (All (IsFilled c.args.peer c.args.entries.now)) (sym filled) c.fill_and_put.ensures.filled);
+      filled = rw c.swap.ensures.x_after (subst (All (IsFilled c.args.peer c.args.entries.now)) (sym filled) round.ensures.filled);
       successive = rw c.swap.ensures.x_after (subst (λ l. AreSuccessive c.loop-end.end (map range_of l) c.deal_entries-next.result) (sym filled)
-          (subst (λ l. AreSuccessive c.loop-end.end l c.deal_entries-next.result) (sym (c.fill_and_put.ensures.ranges ∙ ap (map range_of) (c.as_mut_slice-in-loop-end-2.ensures.value ∙ dealt))) c.deal_entries-next.ensures.successive));
-      written = Adds_next c.args.peer c.args.entries.now 0 c.loop-end.start c.loop-end.end (omega arith) c.loop-end.invariant.order c.loop-end.invariant.written c.fill_and_put.ensures.put;
+          (subst (λ l. AreSuccessive c.loop-end.end l c.deal_entries-next.result) (sym (round.ensures.ranges ∙ ap (map range_of) (c.as_mut_slice-in-loop-end-2.ensures.value ∙ dealt))) c.deal_entries-next.ensures.successive));
+      written = Adds_next c.args.peer c.args.entries.now 0 c.loop-end.start c.loop-end.end (omega arith) c.loop-end.invariant.order c.loop-end.invariant.written round.ensures.put;
     }
 
 pub returns : goal.returns
 returns g c =
     let entries = c.args.entries.now in
-    let last = Adds_next c.args.peer entries 0 c.loop-end.start c.loop-end.end (omega arith) c.loop-end.invariant.order c.loop-end.invariant.written c.put_pieces.ensures in
-    Adds_as (ap (reached_lines c.args.peer) (between_from_start entries c.loop-end.end ∙ take_all c.loop-end.end entries c.loop-end-test.false)) last
+    let start = c.loop-end.start in
+    let end = c.loop-end.end in
+    let so_far = Adds_next c.args.peer entries 0 0 start (omega arith) (omega arith) c.fill_and_put.ensures.put c.loop-end.invariant.written in
+    let last = Adds_next c.args.peer entries 0 start end (omega arith) c.loop-end.invariant.order so_far c.put_pieces.ensures in
+    Adds_as (ap (reached_lines c.args.peer) (between_from_start entries end ∙ take_all end entries c.loop-end-test.false)) last
