@@ -12,19 +12,24 @@ use std::time::{Duration, Instant};
 /// The minimum time between two lines.
 const PAUSE_MILLIS: u64 = 250;
 
-/// After this many looks in vain a thread no longer yields its processor before the next one, but sleeps: a thread that
+/// After this many looks in vain a worker no longer yields its processor before the next one, but sleeps: a thread that
 /// only yields is still ready to run, and the system keeps it on a processor that another thread could use.
 const YIELDS: u32 = 10;
 
 /// How long it sleeps at first. Linux adds some 50 microseconds to so short a sleep.
 const FIRST_NAP_MICROS: u64 = 20;
 
-/// After this many naps it sleeps twice as long, and so on: a worker that has had nothing to do for long wakes less
-/// often. With more workers than peers or processors many would otherwise keep a processor busy with waking up.
+/// After this many naps a thread sleeps twice as long, and so on: a worker that has had nothing to do for long wakes
+/// less often. With more workers than peers or processors many would otherwise keep a processor busy with waking up.
 const NAPS_ALIKE: u32 = 8;
 
-/// How often the nap doubles at most. A dealer that waits in vain takes a thousand naps, some 130 milliseconds.
+/// How often a worker's nap doubles at most.
 const MOST_DOUBLINGS: u32 = 2;
+
+/// How often a dealer's nap doubles at most. It starts at a microsecond, after the first look: a dealer that only yields
+/// finds room for the units of a few lists, and then looks in vain again. One that waits for nothing takes a thousand
+/// naps, some 110 milliseconds.
+const MOST_DEALER_DOUBLINGS: u32 = 6;
 
 /// How many bytes are read between two looks at the clock.
 pub const LOOK: u64 = 1 << 20;
@@ -133,10 +138,15 @@ impl Board {
     }
 }
 
-/// Returns how many microseconds a thread sleeps that has looked this many times in vain.
-fn nap_micros(looks: u32) -> u64 {
+/// Returns how many microseconds a worker sleeps that has looked this many times in vain.
+fn worker_nap_micros(looks: u32) -> u64 {
     let doublings = (looks.saturating_sub(YIELDS) / NAPS_ALIKE).min(MOST_DOUBLINGS);
     FIRST_NAP_MICROS << doublings
+}
+
+/// Returns how many microseconds a dealer sleeps that has looked this many times in vain.
+fn dealer_nap_micros(looks: u32) -> u64 {
+    1 << (looks / NAPS_ALIKE).min(MOST_DEALER_DOUBLINGS)
 }
 
 /// The gate of the program, at which threads that find nothing to do sleep. A board, if there is one, is notified of
@@ -161,8 +171,12 @@ impl Gate for Counter<'_> {
         if looks <= YIELDS {
             yield_now();
         } else {
-            sleep(&self.rt, Duration::from_micros(nap_micros(looks)));
+            sleep(&self.rt, Duration::from_micros(worker_nap_micros(looks)));
         }
+    }
+
+    fn wait_for_room(&self, looks: u32) {
+        sleep(&self.rt, Duration::from_micros(dealer_nap_micros(looks)));
     }
 
     fn is_counting(&self) -> bool {

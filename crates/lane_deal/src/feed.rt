@@ -33,7 +33,7 @@ impl Feed {
     ghost use Rattle.lane_deal.specs.UnitRings.{known_free};
 
     /// Looks this many times, until there is room for more than an eighth of the ring, or for more than `MOST_ROOM`
-    /// units. Pauses before each look. Returns whether there is any room at the end. If the round is
+    /// units. Waits a little before each look. Returns whether there is any room at the end. If the round is
     /// over because a worker failed, it stops looking.
     #[inline(never)]
     fn look_again<G: Gate>(&mut self, gate: &G, looks: u32, over: &AtomicBool) -> bool
@@ -46,7 +46,7 @@ impl Feed {
             if over.load(Ordering::SeqCst) {
                 break;
             }
-            gate.pause(look + 1);
+            gate.wait_for_room(look + 1);
             if self.producer.look() > enough {
                 return true;
             }

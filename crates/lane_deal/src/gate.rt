@@ -12,10 +12,15 @@ pub trait Gate: Sync {
     /// Called by the dealer just after its push of the unit with this number to a lane.
     fn dealt(&self, lane: usize, number: u64);
 
-    /// Called by a worker that finds no unit, and by the dealer that finds no room, before it looks again: it has looked
-    /// in vain this many times in a row. Lets other threads run. A gate that has a clock may sleep here.
+    /// Called by a worker that finds no unit, before it looks again: it has looked in vain this many times in a row. Lets
+    /// other threads run. A gate that has a clock may sleep here.
     fn pause(&self, _looks: u32) {
         yield_now();
+    }
+
+    /// The same for the dealer that finds no room for a unit.
+    fn wait_for_room(&self, looks: u32) {
+        self.pause(looks);
     }
 
     /// Whether it wants to be notified of the current number of routes. Asked after each round of a replay.

@@ -101,6 +101,15 @@ fn bytes_from(bytes: &[u8], start: usize, len: usize) -> &[u8]
     &bytes[start..start + len]
 }
 
+/// Writes to all of the units and bytes. The processor of the worker that read them has their cache lines too, so that a
+/// write to each waits for it. One after the other, these waits overlap; while a list is filled they wouldn't.
+fn write_ahead(listed: &mut [ListedUnit], bytes: &mut [u8]) {
+    for unit in listed.iter_mut() {
+        unit.start = 0;
+    }
+    bytes.fill(0);
+}
+
 impl UnitList {
     ghost use Rattle.std.specs.Prelude.{◌<◌, [], ◌∷◌, ◌++◌, MatchOption, OnOk, OnErr, slice_index_or};
     ghost use Rattle.mrt_body.specs.Lent.{lent_unit};
@@ -128,10 +137,11 @@ impl UnitList {
         self.listed.len()
     }
 
-    /// Takes out all units. Their memory stays for other ones.
+    /// Takes out all units. Their memory stays for other ones, which the calling thread is to add.
     pub fn clear(&mut self)
         ensures { units_of self.new ≡ [] }
     {
+        write_ahead(self.listed.as_mut_slice(), self.bytes.as_mut_slice());
         self.listed.clear();
         self.records.clear();
         self.bytes.clear();

@@ -2,9 +2,6 @@
 
 ghost use Rattle.std.specs.Prelude.{◌≡◌, ℕ, ◌+◌, ◌-◌, ◌*◌, ◌<◌, ◌≤◌, [], ◌∷◌, ◌++◌, List, Option, OnOk, OnErr, length};
 ghost use Rattle.std.specs.List.{between};
-ghost use Rattle.std.specs.Io.KnownBytes.{Appends};
-ghost use Rattle.mrt_frame.specs.Devices.{CountsFailure};
-ghost use Rattle.mrt_frame.specs.Writes.{WritesFront};
 ghost use Rattle.rib_report.specs.Digits.{numbers_text};
 ghost use Rattle.rib_report.specs.LineParts.{line_beginning, line_end};
 ghost use Rattle.rib_report.specs.Texts.{BufferState, empty_buffer, text_state, IsText, IsWritten, IsCutOff, Writes};
@@ -21,10 +18,6 @@ use std::marker::Model;
 
 /// The maximum number of pending bytes.
 const CAPACITY: usize = 65536;
-
-/// The maximum number of bytes of a write. The reader of a pipe waits while a write copies into it, so it reads the
-/// first bytes of a text sooner if these are written by themselves.
-const WRITE_BYTES: usize = 8192;
 
 /// Text pending for a writer. After a failed write the rest is dropped.
 #[derive(Drop)]
@@ -44,21 +37,6 @@ impl Model for TextBuffer {
     ghost view = { λ b. record { waiting = take b.len b.bytes; failed = b.failed } };
 
     ghost invariant = { λ b. b.len ≤ 65536 };
-}
-
-/// Writes all the bytes, so many at a time. After a failure the writer holds a prefix of them.
-fn write_in_parts<W: Sink>(writer: &mut W, bytes: &[u8]) -> Result<(), Failed>
-    ensures ok { OnOk result (Appends (W.contents writer.old) (W.contents writer.new) bytes.now) }
-    ensures err { OnErr result (WritesFront (W.contents writer.old) (W.contents writer.new) bytes.now) }
-    ensures counted { CountsFailure (W.failure_count writer.old) (W.failure_count writer.new) result }
-{
-    let mut written = 0;
-    while written < bytes.len() {
-        let end = bytes.len().min(written.saturating_add(WRITE_BYTES));
-        write_full(writer, &bytes[written..end])?;
-        written = end;
-    }
-    Ok(())
 }
 
 impl TextBuffer {
@@ -116,7 +94,7 @@ impl TextBuffer {
         if self.failed {
             return;
         }
-        match write_in_parts(out, &self.bytes[..len]) {
+        match write_full(out, &self.bytes[..len]) {
             Ok(()) => {}
             Err(Failed) => self.failed = true,
         }
@@ -130,7 +108,7 @@ impl TextBuffer {
         if self.failed {
             return;
         }
-        match write_in_parts(out, bytes) {
+        match write_full(out, bytes) {
             Ok(()) => {}
             Err(Failed) => self.failed = true,
         }

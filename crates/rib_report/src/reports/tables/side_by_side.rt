@@ -18,8 +18,8 @@ use std::alloc::Global;
 use std::mem;
 use std::thread::{Threads, join_mut};
 
-/// The maximum number of threads that make lines: more would wait for the one that writes.
-const MOST_THREADS: usize = 8;
+/// The maximum number of workers for which there are pieces: more threads would wait for the one that writes.
+const MOST_WORKERS: usize = 8;
 
 /// How many pieces there are for each worker.
 const PIECES: usize = 16;
@@ -54,11 +54,11 @@ fn make_pieces(alloc: Global, count: usize) -> Result<Vec<Piece>, Memory> {
 }
 
 impl Pieces {
-    /// Returns the pieces with which so many threads make the lines of tables of at most so many entries; none if it
-    /// doesn't pay.
-    pub(crate) fn new(alloc: Global, threads: usize, most: usize) -> Result<Pieces, Memory> {
-        let wanted = threads.min(MOST_THREADS) * PIECES;
-        let count = if threads < 2 || most < LARGE {
+    /// Returns the pieces with which the lines of tables of at most so many entries are made for so many workers; none if
+    /// it doesn't pay.
+    pub(crate) fn new(alloc: Global, workers: usize, most: usize) -> Result<Pieces, Memory> {
+        let wanted = workers.min(MOST_WORKERS) * PIECES;
+        let count = if workers < 2 || most < LARGE {
             0
         } else {
             wanted.min(most / MOST_ENTRIES)
@@ -68,6 +68,14 @@ impl Pieces {
             far: make_pieces(alloc, count)?,
         })
     }
+}
+
+/// Returns how many of these pieces the next thread fills: no fewer than the others, by one at most.
+fn next_share(pieces: usize) -> usize
+    requires { 0 < pieces }
+    ensures { (0 < result) × (result ≤ pieces) }
+{
+    pieces.div_ceil(pieces.div_ceil(PIECES_EACH))
 }
 
 /// Gives each piece its entries: at most so many, and from one of them on. Returns the first entry that is left.
@@ -159,7 +167,7 @@ fn fill_and_put<T: Threads + Sync, W: Sink>(
     if far.is_empty() {
         return put_pieces(text, out, peer, entries, near, start, end);
     }
-    let (some, others) = far.split_at_mut(far.len().min(PIECES_EACH));
+    let (some, others) = far.split_at_mut(next_share(far.len()));
     fill_some_and_put(rt, text, out, peer, entries, near, some, others, start, end);
 }
 
