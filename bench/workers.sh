@@ -1,7 +1,8 @@
 #!/usr/bin/env bash
 # Measures `churn` with several numbers of workers and sizes of rings, and `tables`, `visibility` and `origins` with one
-# and with four workers, next to a plain Rust replay, on a RIB dump and on updates. Prints the wall time, the processor
-# time and the peak memory of the fastest run of each, whose runs alternate. Output goes to a pipe that is drained.
+# worker and with four, with rings of 1,024 and for four workers also of 8,192, next to a plain Rust replay, on a RIB
+# dump and on updates. Prints the wall time, the processor time and the peak memory of the fastest run of each, whose
+# runs alternate. Output goes to a pipe that is drained.
 #   bench/workers.sh PROGRAM [PREFIXES] [PEERS] [MESSAGES]
 # Defaults: 200,000 prefixes x 20 peers, and 1,500,000 messages. Needs cc, rustc and GNU time.
 # ROUNDS (3), WORKERS ("1 2 3 4 8") and RINGS ("256 1024 8192 65536") can be set in the environment.
@@ -27,7 +28,7 @@ for dump in "$rib" "$updates"; do
   for _ in $(seq "${ROUNDS:-3}"); do
     names=(baseline); run baseline "$out/replay_baseline" "$dump"
     for report in churn tables visibility origins; do for workers in ${WORKERS:-1 2 3 4 8}; do for ring in ${RINGS:-256 1024 8192 65536}; do
-      [ $report = churn ] || [ "$ring $workers" = '1024 1' ] || [ "$ring $workers" = '1024 4' ] || continue
+      case $report,$ring,$workers in churn,* | *,1024,1 | *,1024,4 | *,8192,4) ;; *) continue ;; esac
       names+=("$report,$workers,$ring")
       run "$report,$workers,$ring" "$program" $report --workers "$workers" --ring "$ring" "$dump"
     done; done; done

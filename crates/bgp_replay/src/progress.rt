@@ -26,9 +26,9 @@ const NAPS_ALIKE: u32 = 8;
 /// How often a worker's nap doubles at most.
 const MOST_DOUBLINGS: u32 = 2;
 
-/// How often a dealer's nap doubles at most. It starts at a microsecond, after the first look: a dealer that only yields
-/// finds room for the units of a few lists, and then looks in vain again. One that waits for nothing takes a thousand
-/// naps, some 110 milliseconds.
+/// How often a dealer's nap doubles at most. It starts at a microsecond, after the first look: a dealer that yields its
+/// processor waits behind a worker there until that worker's ring is empty, and one that sleeps wakes on an idle
+/// processor if there is one. A dealer that waits in vain takes a thousand naps, some 110 milliseconds.
 const MOST_DEALER_DOUBLINGS: u32 = 6;
 
 /// How many bytes are read between two looks at the clock.

@@ -113,7 +113,8 @@ fn pairs_of<M: PrefixMap<SharedRoute>>(
         [] => Ok(Vec::new(alloc)),
         [seat] => pairs_of_seat(alloc, seat),
         _ => {
-            let (front, back) = seats.split_at(seats.len() / 2);
+            // Of two halves the longer one comes first: fewer lists wait while it is halved further.
+            let (front, back) = seats.split_at(seats.len() - seats.len() / 2);
             let first = pairs_of(alloc, front)?;
             let second = pairs_of(alloc, back)?;
             merge(alloc, first.as_slice(), second.as_slice())

@@ -92,7 +92,8 @@ fn prefixes_of<M: PrefixMap<SharedRoute>>(
         [] => Ok(Vec::new(alloc)),
         [seat] => prefixes_of_seat(alloc, seat),
         _ => {
-            let (front, back) = seats.split_at(seats.len() / 2);
+            // Of two halves the longer one comes first: fewer lists wait while it is halved further.
+            let (front, back) = seats.split_at(seats.len() - seats.len() / 2);
             let front = prefixes_of(alloc, front)?;
             let back = prefixes_of(alloc, back)?;
             merge(alloc, front.as_slice(), back.as_slice())

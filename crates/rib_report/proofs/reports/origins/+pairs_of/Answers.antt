@@ -1,4 +1,4 @@
-use Rattle.std.proofs.Common.{◌≡◌, ◌∙◌, ap, sym, map, ◌/◌, length, append-nil}
+use Rattle.std.proofs.Common.{◌≡◌, ◌∙◌, ap, sym, map, ◌-◌, ◌/◌, length, append-nil}
 use Rattle.std.specs.List.{flat_map}
 use Rattle.std.proofs.lemmas.Result.{IfOk-weaker}
 use Rattle.bgp_prefix.specs.Ordered.{in_order}
@@ -23,7 +23,7 @@ returns-in_ok-second-in_default g t c =
     let seats = c.args.seats.now in
     let first = c.as_slice.result.now in
     let second = c.as_slice-in_default.result.now in
-    let whole = joined_pairs (seat_of {M = g.row.M.Denot}) (length seats / 2) seats c.split_at.result.0.now c.split_at.result.1.now first second c.split_at.ensures.front c.split_at.ensures.back
+    let whole = joined_pairs (seat_of {M = g.row.M.Denot}) (length seats - length seats / 2) seats c.split_at.result.0.now c.split_at.result.1.now first second c.split_at.ensures.front c.split_at.ensures.back
     (c.as_slice.ensures.value ∙ c.in_ok-first-in_default.ensures) (c.as_slice-in_default.ensures.value ∙ c.in_ok-second-in_default.ensures) in
     IfOk-weaker c.merge.result (λ pairs. pairs.items ≡ joined pair_cmp first second) (λ pairs. pairs.items ≡ in_order pair_cmp (flat_map seat_origins (map (seat_of {M = g.row.M.Denot}) seats)))
     (λ pairs h. h ∙ whole) c.merge.ensures

@@ -1,4 +1,4 @@
-use Rattle.std.proofs.Common.{◌≡◌, ◌∙◌, [], ◌∷◌, ap, sym, map, ◌+◌, ◌<◌, ◌^◌, ◌/◌, length, arith}
+use Rattle.std.proofs.Common.{◌≡◌, ◌∙◌, [], ◌∷◌, ap, sym, map, ◌+◌, ◌<◌, ◌^◌, ◌-◌, ◌/◌, length, arith}
 use Rattle.std.proofs.lemmas.Result.{IfOk-weaker}
 use Rattle.bgp_prefix.specs.Prefixes.{prefix_cmp}
 use Rattle.peer_tables.specs.Seats.{seat_of}
@@ -20,7 +20,7 @@ returns-in_ok-back-in_default g t c =
     let front = c.split_at.result.0.now in
     let back = c.split_at.result.1.now in
     let few : length front + length back < 2 ^ 64 = omega (arith, c.split_at.ensures.front_len, c.split_at.ensures.back_len) in
-    let whole = merged_counts (seat_of {M = g.row.M.Denot}) (length seats / 2) seats front back c.as_slice.result.now c.as_slice-in_default.result.now few c.split_at.ensures.front c.split_at.ensures.back
+    let whole = merged_counts (seat_of {M = g.row.M.Denot}) (length seats - length seats / 2) seats front back c.as_slice.result.now c.as_slice-in_default.result.now few c.split_at.ensures.front c.split_at.ensures.back
     (c.as_slice.ensures.value ∙ c.in_ok-front-in_default.ensures) (c.as_slice-in_default.ensures.value ∙ c.in_ok-back-in_default.ensures) in
     IfOk-weaker c.merge.result (λ counts. counts.items ≡ counted prefix_cmp c.as_slice.result.now c.as_slice-in_default.result.now) (λ counts. counts.items ≡ seen_among (map (seat_of {M = g.row.M.Denot}) seats))
     (λ counts h. h ∙ whole) c.merge.ensures
