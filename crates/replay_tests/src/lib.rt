@@ -14,6 +14,8 @@ mod harness;
 #[cfg(test)]
 mod hostile;
 #[cfg(test)]
+mod peers;
+#[cfg(test)]
 mod refusals;
 #[cfg(test)]
 mod rows;

@@ -13,7 +13,7 @@ ghost use Rattle.peer_tables.specs.Seats.{seat_of};
 
 use crate::buffer::TextBuffer;
 use crate::line::Line;
-use crate::merge::{Mergeable, merge};
+use crate::merge::{Mergeable, PEERS_AT_ONCE, merge};
 use crate::write::write_lines;
 use adj_rib::SharedRoute;
 use bgp_prefix::{Memory, Prefix, PrefixMap, RouteKey, Sequence};
@@ -97,6 +97,7 @@ fn pairs_of_seat<M: PrefixMap<SharedRoute>>(
     add_origins(alloc, &mut pairs, seat)?;
     pairs.sort()?;
     pairs.dedup();
+    pairs.shrink_to_fit();
     Ok(pairs)
 }
 
@@ -122,8 +123,7 @@ fn pairs_of<M: PrefixMap<SharedRoute>>(
     }
 }
 
-/// As `pairs_of`, with the halves of the peers in two threads, if one can be started. More threads would hold more
-/// lists at a time.
+/// As `pairs_of`, with the halves of the peers in two threads, if one can be started.
 fn pairs_by_two<M: PrefixMap<SharedRoute> + Sync, T: Threads>(
     rt: &T,
     alloc: Global,
@@ -146,6 +146,25 @@ fn pairs_by_two<M: PrefixMap<SharedRoute> + Sync, T: Threads>(
     let (front, back) = join(rt, list_front, list_back);
     let (front, back) = (front?, back?);
     merge(alloc, front.as_slice(), back.as_slice())
+}
+
+/// As `pairs_of`, in two threads that share a few peers at a time, so that together they hold only a few lists more than
+/// one thread does.
+fn pairs_by_few<M: PrefixMap<SharedRoute> + Sync, T: Threads>(
+    rt: &T,
+    alloc: Global,
+    seats: &[Seated<M>],
+) -> Result<Vec<(Prefix, u32)>, Memory>
+    ensures { IfOk result (λ pairs. pairs.items ≡
+        in_order pair_cmp (flat_map seat_origins (map seat_of seats.now))) }
+{
+    if seats.len() <= PEERS_AT_ONCE {
+        return pairs_by_two(rt, alloc, seats);
+    }
+    let (some, others) = seats.split_at(seats.len() - seats.len() / 2);
+    let some = pairs_by_few(rt, alloc, some)?;
+    let others = pairs_by_few(rt, alloc, others)?;
+    merge(alloc, some.as_slice(), others.as_slice())
 }
 
 /// Returns how many pairs at the front have this prefix.
@@ -218,7 +237,7 @@ pub fn origins_with_threads<M: PrefixMap<SharedRoute> + Sync, T: Threads>(
     if threads < 2 {
         return origins(alloc, tables);
     }
-    let pairs = pairs_by_two(rt, alloc, tables.seats())?;
+    let pairs = pairs_by_few(rt, alloc, tables.seats())?;
     group_runs(alloc, pairs.as_slice())
 }
 

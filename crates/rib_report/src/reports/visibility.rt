@@ -15,7 +15,7 @@ ghost use Rattle.peer_tables.specs.Seats.{seat_of};
 use crate::buffer::TextBuffer;
 use crate::field::Ended;
 use crate::line::Line;
-use crate::merge::{Mergeable, merge};
+use crate::merge::{Mergeable, PEERS_AT_ONCE, merge};
 use crate::write::write_lines;
 use adj_rib::SharedRoute;
 use bgp_prefix::{Memory, Prefix, PrefixMap};
@@ -77,6 +77,7 @@ fn prefixes_of_seat<M: PrefixMap<SharedRoute>>(
         }
         last = Some(prefix);
     }
+    counts.shrink_to_fit();
     Ok(counts)
 }
 
@@ -101,8 +102,7 @@ fn prefixes_of<M: PrefixMap<SharedRoute>>(
     }
 }
 
-/// As `prefixes_of`, with the halves of the peers in two threads, if one can be started. More threads would hold more
-/// lists at a time.
+/// As `prefixes_of`, with the halves of the peers in two threads, if one can be started.
 fn prefixes_by_two<M: PrefixMap<SharedRoute> + Sync, T: Threads>(
     rt: &T,
     alloc: Global,
@@ -122,6 +122,24 @@ fn prefixes_by_two<M: PrefixMap<SharedRoute> + Sync, T: Threads>(
     let (first, second) = join(rt, list_front, list_back);
     let (first, second) = (first?, second?);
     merge(alloc, first.as_slice(), second.as_slice())
+}
+
+/// As `prefixes_of`, in two threads that share a few peers at a time, so that together they hold only a few lists more
+/// than one thread does.
+fn prefixes_by_few<M: PrefixMap<SharedRoute> + Sync, T: Threads>(
+    rt: &T,
+    alloc: Global,
+    seats: &[Seated<M>],
+) -> Result<Vec<(Prefix, usize)>, Memory>
+    ensures { IfOk result (λ counts. counts.items ≡ seen_among (map seat_of seats.now)) }
+{
+    if seats.len() <= PEERS_AT_ONCE {
+        return prefixes_by_two(rt, alloc, seats);
+    }
+    let (some, others) = seats.split_at(seats.len() - seats.len() / 2);
+    let some = prefixes_by_few(rt, alloc, some)?;
+    let others = prefixes_by_few(rt, alloc, others)?;
+    merge(alloc, some.as_slice(), others.as_slice())
 }
 
 /// Makes the rows of counted prefixes.
@@ -161,7 +179,7 @@ pub fn visibility_with_threads<M: PrefixMap<SharedRoute> + Sync, T: Threads>(
     if threads < 2 {
         return visibility(alloc, tables);
     }
-    let counts = prefixes_by_two(rt, alloc, tables.seats())?;
+    let counts = prefixes_by_few(rt, alloc, tables.seats())?;
     rows_of(alloc, counts.as_slice())
 }
 
