@@ -97,7 +97,6 @@ fn pairs_of_seat<M: PrefixMap<SharedRoute>>(
     add_origins(alloc, &mut pairs, seat)?;
     pairs.sort()?;
     pairs.dedup();
-    pairs.shrink_to_fit();
     Ok(pairs)
 }
 

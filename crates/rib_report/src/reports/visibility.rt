@@ -77,7 +77,6 @@ fn prefixes_of_seat<M: PrefixMap<SharedRoute>>(
         }
         last = Some(prefix);
     }
-    counts.shrink_to_fit();
     Ok(counts)
 }
 

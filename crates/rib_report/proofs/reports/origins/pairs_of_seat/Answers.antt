@@ -13,4 +13,4 @@ returns g c =
     let sorted = c.sort.new.self.items in
     let left : c.dedup.new.self.items ≡ dedup pair_eq sorted = dedup_is pair_eq sorted c.dedup.new.self.items c.dedup.ensures.filtered in
     let pairs = c.add_origins.new.pairs.items in
-    c.shrink_to_fit.ensures.items ∙ left ∙ deduped_in_order sorted pairs c.in_ok-sort.ensures.sorted c.sort.ensures.permutation ∙ ap (in_order pair_cmp) (c.in_ok-add_origins.ensures ∙ ap (λ l. l ++ seat_origins (seat_of {M = g.row.M.Denot} c.args.seat.now)) c.in_ok-pairs.ensures.items)
+    left ∙ deduped_in_order sorted pairs c.in_ok-sort.ensures.sorted c.sort.ensures.permutation ∙ ap (in_order pair_cmp) (c.in_ok-add_origins.ensures ∙ ap (λ l. l ++ seat_origins (seat_of {M = g.row.M.Denot} c.args.seat.now)) c.in_ok-pairs.ensures.items)

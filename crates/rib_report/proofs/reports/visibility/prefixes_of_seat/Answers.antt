@@ -18,4 +18,4 @@ returns g c =
     let seen = ap (map (λ e. (e.0, e.1.now))) c.as_slice-entry-items.ensures.value ∙ c.in_ok-entries.ensures ∙ c.table.ensures in
     let prefixes = map_twice (λ e. (e.0, e.1.now)) (λ (e : RouteKey × Route). e.0.prefix) entries ∙ ap (map (λ (e : RouteKey × Route). e.0.prefix)) seen in
     let ordered : HasOrder (seat_of {M = g.row.M.Denot} c.args.seat.now) = ap (is_sorted key_cmp) (sym c.table.ensures) ∙ true_of _ (entries_sorted (g.M.PrefixMap.contents c.table.result.now)) in
-    c.shrink_to_fit.ensures.items ∙ sym (append-nil c.loop-entry.counts.items) ∙ sym end ∙ c.loop-entry.invariant ∙ ap (λ ps. map (λ p. (p, 1)) (without_repeats ps)) prefixes ∙ seen_at_one (seat_of {M = g.row.M.Denot} c.args.seat.now) ordered
+    sym (append-nil c.loop-entry.counts.items) ∙ sym end ∙ c.loop-entry.invariant ∙ ap (λ ps. map (λ p. (p, 1)) (without_repeats ps)) prefixes ∙ seen_at_one (seat_of {M = g.row.M.Denot} c.args.seat.now) ordered
