@@ -1,49 +1,50 @@
 //! The dumps that are read, and the failures to open them.
 
-ghost use Rattle.std.specs.Io.{ReadsAtMost};
+ghost use Rattle.std.specs.Prelude.{◌≡◌};
+ghost use Rattle.bgp_replay.specs.Devices.{dump_blocks, dump_remaining};
 
 use crate::counts::Counts;
 use crate::progress::{Board, LOOK, ReadSoFar};
 use bgp_prefix::Memory;
 use command_line::{FirstBytes, Kind, Records};
 use mrt_frame::Counted;
+use run_io::Blocks;
 use std::fs::File;
-use std::io::{self, BufReader, Read, Stdin};
-use std::mem;
-
-/// How many bytes are read at once.
-const BLOCK: usize = 65_536;
+use std::io::{self, Read, Stdin};
 
 /// The maximum number of files kept open from the start until their turn comes. Pipes and the like,
 /// which can't be opened twice, are kept open regardless of their number.
 const KEPT_OPEN: usize = 200;
 
-/// A file that was opened, or standard input.
+/// A file, or standard input.
 #[derive(Drop)]
-enum Device {
+pub enum Device<'a> {
+    /// Opened at the start and closed again; it is reopened when its turn comes.
+    Closed(HostRuntime, &'a str),
     Named(File),
     Standard(Stdin),
 }
 
-impl Read for Device {
+impl Device<'_> {
+    /// Opens it, if it is closed.
+    fn reopen(&mut self) -> io::Result<()> {
+        if let Device::Closed(rt, name) = self {
+            let file = std::fs::open(rt, *name)?;
+            *self = Device::Named(file);
+        }
+        Ok(())
+    }
+}
+
+impl Read for Device<'_> {
     fn read(&mut self, buf: &mut [u8]) -> io::Result<usize> {
+        self.reopen()?;
         match self {
+            Device::Closed(_, _) => Ok(0),
             Device::Named(file) => file.read(buf),
             Device::Standard(input) => input.read(buf),
         }
     }
-}
-
-/// How far a dump has been read.
-#[derive(Drop)]
-enum State {
-    /// Opened at the start and closed again; it is reopened when its turn comes.
-    Closed,
-    /// Open, with nothing read yet.
-    Open(Device),
-    Reading(BufReader<Device>),
-    /// Read to its end, or up to a failure.
-    Ended,
 }
 
 /// What is counted of a dump while it is read, where someone wants to know.
@@ -98,18 +99,17 @@ impl Watched<'_> {
     }
 }
 
-/// A dump that is read in blocks of 64 KiB. Its block of memory exists only while it is being read, and
-/// it is closed at its end.
+/// A dump that is read in blocks of 64 KiB from a device. Its block of memory exists only while it is being read, and it is
+/// closed at its end.
 #[derive(Drop)]
-pub struct Dump<'a> {
-    rt: HostRuntime,
+pub struct Dump<'a, D> {
     name: &'a str,
     /// From 1.
     number: usize,
     /// Its size in bytes, if known.
     size: Option<u64>,
-    state: State,
-    /// Whether it was opened to be read, or couldn't be.
+    blocks: Blocks<D>,
+    /// Whether it has been read.
     is_begun: bool,
     bytes: u64,
     /// Whether its end has been read.
@@ -121,28 +121,29 @@ pub struct Dump<'a> {
 }
 
 /// A dump, with a count of its failures.
-pub type Input<'a> = Counted<Dump<'a>>;
+pub type Input<'a> = Counted<Dump<'a, Device<'a>>>;
 
-impl<'a> Dump<'a> {
+impl<'a, D: Read> Dump<'a, D> {
     fn new(
         rt: &HostRuntime,
         name: &'a str,
         number: usize,
-        opened: Opened,
+        device: D,
+        size: Option<u64>,
         watched: Watched<'a>,
-    ) -> Dump<'a> {
-        let Opened { state, size } = opened;
+    ) -> Dump<'a, D>
+        ensures { dump_remaining D.remaining result ≡ D.remaining device }
+    {
         let watch = if watched.is_any() {
             Some(Watch::new(rt, watched.board))
         } else {
             None
         };
         Dump {
-            rt: *rt,
             name,
             number,
             size,
-            state,
+            blocks: Blocks::new(rt.alloc(), device),
             is_begun: false,
             bytes: 0,
             is_at_end: false,
@@ -192,7 +193,9 @@ impl<'a> Dump<'a> {
     }
 
     /// Counts the bytes that were read, where someone wants to know.
-    fn watch(&mut self, bytes: &[u8]) {
+    fn watch(&mut self, bytes: &[u8])
+        ensures { dump_blocks self.new ≡ dump_blocks self.old }
+    {
         if let Some(watch) = &mut self.watch {
             if watch.take(bytes) {
                 watch.tell(ReadSoFar {
@@ -205,53 +208,43 @@ impl<'a> Dump<'a> {
         }
     }
 
-    /// Makes it ready to be read.
-    fn begin(&mut self) -> io::Result<()> {
+    /// Tells who counts that its units come now, before it is read.
+    fn begin(&mut self)
+        ensures { dump_blocks self.new ≡ dump_blocks self.old }
+    {
+        if self.is_begun {
+            return;
+        }
         self.is_begun = true;
-        let device = match mem::replace(&mut self.state, State::Ended) {
-            State::Closed => Device::Named(std::fs::open(&self.rt, self.name)?),
-            State::Open(device) => device,
-            begun => {
-                self.state = begun;
-                return Ok(());
-            }
-        };
-        let reader = BufReader::with_capacity(self.rt.alloc(), BLOCK, device)?;
-        self.state = State::Reading(reader);
         if let Some(counts) = self.counts {
             counts.begin(self.number.saturating_sub(1));
         }
-        Ok(())
     }
 
-    fn read_on(&mut self, buf: &mut [u8]) -> io::Result<usize>
-        ensures { ReadsAtMost result buf.new }
+    /// Notes the bytes that were read.
+    fn note(&mut self, bytes: &[u8])
+        ensures { dump_blocks self.new ≡ dump_blocks self.old }
     {
-        if !self.is_begun {
-            self.begin()?;
-        }
-        match &mut self.state {
-            State::Reading(reader) => reader.read(buf),
-            _ => Ok(0),
-        }
+        self.first.take(bytes);
+        self.bytes = self.bytes.saturating_add(bytes.len() as u64);
+        self.watch(bytes);
     }
 }
 
-impl Read for Dump<'_> {
+impl<D: Read + Drop> Read for Dump<'_, D> {
+    ghost remaining = { dump_remaining D.remaining };
+
     fn read(&mut self, buf: &mut [u8]) -> io::Result<usize> {
-        match self.read_on(buf) {
+        self.begin();
+        match self.blocks.read(buf) {
             Ok(count) => {
-                self.first.take(&buf[..count]);
-                self.bytes = self.bytes.saturating_add(count as u64);
-                self.watch(&buf[..count]);
+                self.note(&buf[..count]);
                 if count == 0 && !buf.is_empty() {
                     self.is_at_end = true;
-                    self.state = State::Ended;
                 }
                 Ok(count)
             }
             Err(error) => {
-                self.state = State::Ended;
                 self.error = Some(error);
                 Err(error)
             }
@@ -274,8 +267,8 @@ impl From<Memory> for OpenError {
 }
 
 /// A dump that was opened, and how many bytes it has, where that is known.
-struct Opened {
-    state: State,
+struct Opened<'a> {
+    device: Device<'a>,
     size: Option<u64>,
 }
 
@@ -288,10 +281,15 @@ fn size_of(file: &File) -> Option<u64> {
 }
 
 /// Opens a dump, with this many earlier ones kept open.
-fn open(rt: &HostRuntime, name: &str, earlier: usize, is_watched: bool) -> io::Result<Opened> {
+fn open<'a>(
+    rt: &HostRuntime,
+    name: &'a str,
+    earlier: usize,
+    is_watched: bool,
+) -> io::Result<Opened<'a>> {
     if name == "-" {
-        let state = State::Open(Device::Standard(rt.stdin()));
-        return Ok(Opened { state, size: None });
+        let device = Device::Standard(rt.stdin());
+        return Ok(Opened { device, size: None });
     }
     let file = std::fs::open(rt, name)?;
     let is_kept = earlier < KEPT_OPEN;
@@ -300,12 +298,12 @@ fn open(rt: &HostRuntime, name: &str, earlier: usize, is_watched: bool) -> io::R
     } else {
         size_of(&file)
     };
-    let state = if is_kept || size.is_none() {
-        State::Open(Device::Named(file))
+    let device = if is_kept || size.is_none() {
+        Device::Named(file)
     } else {
-        State::Closed
+        Device::Closed(*rt, name)
     };
-    Ok(Opened { state, size })
+    Ok(Opened { device, size })
 }
 
 /// Opens all dumps, in order, before any is read. `-` is standard input; a second `-` finds nothing
@@ -323,7 +321,8 @@ pub fn open_all<'a>(
             Ok(opened) => opened,
             Err(error) => return Err(OpenError::File(number, error)),
         };
-        let dump = Dump::new(rt, name.as_str(), number, opened, watched);
+        let Opened { device, size } = opened;
+        let dump = Dump::new(rt, name.as_str(), number, device, size, watched);
         if inputs.push(Counted::new(dump)).is_err() {
             return Err(OpenError::Memory);
         }

@@ -236,12 +236,12 @@ fn replay_job(rt: &HostRuntime, threads: &(impl Threads + Sync), job: &Job) -> u
         Err(code) => return code,
     };
     let header = if job.header {
-        Some(columns(&job.request))
+        columns(&job.request)
     } else {
-        None
+        ""
     };
     let workers = workers_of(threads, job);
-    let mut out = Counted::new(Report::new(rt, header, board.as_ref()));
+    let mut out = Counted::new(Report::new(rt.stdout(), header, board.as_ref()));
     let outcome = run::<Shelf<SharedRoute>, _, _, _, _, _>(
         threads,
         rt.alloc(),

@@ -1,8 +1,13 @@
 //! The report's way to standard output.
 
+ghost use Rattle.std.specs.Prelude.{◌≡◌};
+ghost use Rattle.std.specs.Io.KnownBytes.{append_known};
+ghost use Rattle.bgp_replay.specs.Devices.{report_contents};
+
 use crate::progress::Board;
 use mrt_frame::Counted;
 use rib_report::Request;
+use run_io::Headed;
 use std::io::{self, Stdout, Write};
 
 static ROUTE_COLUMNS: &str =
@@ -19,28 +24,24 @@ pub fn columns(request: &Request) -> &'static str {
     }
 }
 
-/// Standard output, with a header that precedes the first byte of the report. An empty report
-/// gets it when it is flushed. Any progress shown is cleared before it.
+/// A writer with a header, perhaps an empty one, that precedes the first byte of the report. An empty report gets it when
+/// it is flushed. Any progress shown is cleared before it.
 #[derive(Drop)]
-pub struct Report<'a> {
-    out: Stdout,
-    header: Option<&'static str>,
+pub struct Report<'a, W> {
+    out: Headed<W>,
     board: Option<&'a Board>,
     error: Option<io::Error>,
 }
 
-/// The report's writer, with a count of its failures.
-pub type Output<'a> = Counted<Report<'a>>;
+/// Standard output as the report's writer, with a count of its failures.
+pub type Output<'a> = Counted<Report<'a, Stdout>>;
 
-impl<'a> Report<'a> {
-    pub fn new(
-        rt: &HostRuntime,
-        header: Option<&'static str>,
-        board: Option<&'a Board>,
-    ) -> Report<'a> {
+impl<'a, W: Write> Report<'a, W> {
+    pub fn new(out: W, header: &'static str, board: Option<&'a Board>) -> Report<'a, W>
+        ensures { report_contents W.contents result ≡ append_known (W.contents out) header.now }
+    {
         Report {
-            out: rt.stdout(),
-            header,
+            out: Headed::new(out, header),
             board,
             error: None,
         }
@@ -51,28 +52,29 @@ impl<'a> Report<'a> {
         self.error
     }
 
-    fn write_header(&mut self) -> io::Result<()> {
+    /// Clears the progress, if it is still shown.
+    fn clear(&mut self)
+        ensures { report_contents W.contents self.new ≡ report_contents W.contents self.old }
+    {
         if let Some(board) = self.board.take() {
             board.clear();
-        }
-        match self.header.take() {
-            Some(header) => self.out.write_all(header.as_bytes()),
-            None => Ok(()),
         }
     }
 
     /// Keeps why it failed.
-    fn keep(&mut self, error: io::Error) -> io::Error {
+    fn keep(&mut self, error: io::Error) -> io::Error
+        ensures { report_contents W.contents self.new ≡ report_contents W.contents self.old }
+    {
         self.error = Some(error);
         error
     }
 }
 
-impl Write for Report<'_> {
+impl<W: Write> Write for Report<'_, W> {
+    ghost contents = { report_contents W.contents };
+
     fn write(&mut self, buf: &[u8]) -> io::Result<usize> {
-        if let Err(error) = self.write_header() {
-            return Err(self.keep(error));
-        }
+        self.clear();
         match self.out.write(buf) {
             Ok(count) => Ok(count),
             Err(error) => Err(self.keep(error)),
@@ -80,9 +82,7 @@ impl Write for Report<'_> {
     }
 
     fn flush(&mut self) -> io::Result<()> {
-        if let Err(error) = self.write_header() {
-            return Err(self.keep(error));
-        }
+        self.clear();
         match self.out.flush() {
             Ok(()) => Ok(()),
             Err(error) => Err(self.keep(error)),

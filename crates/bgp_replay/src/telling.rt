@@ -2,7 +2,7 @@
 //! say which file and why. A failure to write them doesn't change the status.
 
 use crate::counts::{Counts, FileCounts};
-use crate::input::{Dump, Input};
+use crate::input::{Device, Dump, Input};
 use crate::output::Output;
 use command_line::{FileName, Kind, Records};
 use mrt_frame::ReplayError;
@@ -176,7 +176,7 @@ fn tell_records(rt: &HostRuntime, number: usize, records: &Records) {
 }
 
 /// Reports what was read from a file.
-fn tell_file(rt: &HostRuntime, number: usize, dump: &Dump<'_>) {
+fn tell_file(rt: &HostRuntime, number: usize, dump: &Dump<'_, Device<'_>>) {
     let name = FileName(dump.name());
     let bytes = dump.bytes();
     let _ = eprintln!(rt; "file {number}: {name}\nfile {number} bytes: {bytes}");

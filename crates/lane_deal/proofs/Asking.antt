@@ -6,14 +6,15 @@ use Rattle.std.proofs.lemmas.List.Elements.{filter_map-append}
 use Rattle.mrt_frame.specs.Devices.{HasFailed}
 use Rattle.mrt_frame.specs.declared.error.ReplayError.{ReplayError}
 use Rattle.mrt_frame.specs.declared.error.ReplayError.TheVariants as errors
+use Rattle.mrt_body.specs.declared.standing.Standing.{Standing}
 use Rattle.mrt_body.specs.declared.standing.Standing.TheVariants as standings
 use Rattle.mrt_body.specs.Units.{unit_of}
 use Rattle.std.proofs.lemmas.List.{append-nil, map-append}
 use Rattle.mrt_body.specs.declared.unit.Damage.{Damage}
 use Rattle.mrt_body.specs.declared.unit.Found.{Found}
 use Rattle.mrt_body.specs.declared.unit.Found.TheVariants as found
-use Rattle.mrt_body.specs.ToCome.{UnitsState, TakesFound, KeepsPlan, NothingToCome, found_to_come, refusals, units_left, Stops}
-use Rattle.lane_deal.specs.Asking.{TakesUnits, StopsReading, as_refused, GivesFront, GivesAll, Asked, AskedInVain}
+use Rattle.mrt_body.specs.ToCome.{UnitsState, TakesFound, KeepsPlan, NothingToCome, GivesAllBefore, found_to_come, refusals, units_left, Stops}
+use Rattle.lane_deal.specs.Asking.{TakesUnits, StopsReading, StopsBehind, as_refused, GivesFront, GivesAll, Asked, AskedInVain}
 
 abbrev Known : Type 0
 Known = List (Option (List ℕ))
@@ -25,6 +26,7 @@ TakesUnits-none u k = record {
   plan = (refl, refl, refl);
   failed = λ e. e;
   spent = λ e. e;
+  idle = λ e. (refl, refl);
 }
 
 -- one step after another
@@ -46,6 +48,9 @@ TakesUnits-more a b c first second third taken more p q =
       plan = (q.plan.0 ∙ p.plan.0, q.plan.1 ∙ p.plan.1, q.plan.2 ∙ p.plan.2);
       failed = λ e. p.failed (q.failed e);
       spent = λ e. p.spent (q.spent e);
+      idle = λ e.
+          let x = p.idle e in
+          let y = q.idle (subst (λ (v : UnitsState). v.standing ≡ standings.Failed) (sym x.0) e) in (y.0 ∙ x.0, ap (λ l. l ++ more) x.1 ∙ y.1);
     }
 
 no_unit : (refused : Option Damage) → filter_map unit_of (refusals refused) ≡ []
@@ -53,18 +58,19 @@ no_unit None = refl
 no_unit (Some damage) = refl
 
 -- the refusal that came, if one did
-pub TakesUnits-refused : (u u' : UnitsState) (k k' : Known) (refused : Option Damage) → TakesFound u k u' k' (refusals refused) → units_left u' ≤ units_left u → KeepsPlan u u' → u'.standing ≡ standings.Going → TakesUnits u k u' k' (refusals refused)
-TakesUnits-refused u u' k k' refused f few plan going = record {
+pub TakesUnits-refused : (u u' : UnitsState) (k k' : Known) (refused : Option Damage) → TakesFound u k u' k' (refusals refused) → units_left u' ≤ units_left u → KeepsPlan u u' → u'.standing ≡ standings.Going → (u.standing ≡ standings.Failed → ⊥) → TakesUnits u k u' k' (refusals refused)
+TakesUnits-refused u u' k k' refused f few plan going whole = record {
   found = f;
   few = (let n = ap length (no_unit refused) in omega arith);
   plan = plan;
   failed = λ e. absurd (cc);
   spent = λ e. absurd (cc);
+  idle = λ e. absurd (whole e);
 }
 
 -- what stops a reading later stops it
 pub stops_later : (u u' : UnitsState) (k k' : Known) (given : List Found) (before now after : List ℕ) (e : ReplayError) → TakesUnits u k u' k' given → now ≡ before → StopsReading u' k' now after e → StopsReading u k before after e
-stops_later u u' k k' given before now after (errors.Read file) p same (inl h) = inl (p.failed h)
+stops_later u u' k k' given before now after (errors.Read file) p same (inl h) = inl (p.failed h.0, h.1 ∙ ap (λ (v : UnitsState). v.file) (p.idle (p.failed h.0)).0)
 stops_later u u' k k' given before now after (errors.Read file) p same (inr h) = inr (subst (λ l. HasFailed (slice_index l file) (slice_index after file)) same h)
 stops_later u u' k k' given before now after errors.Write p same h = h
 stops_later u u' k k' given before now after errors.Memory p same h = tt
@@ -77,12 +83,51 @@ stops_later u u' k k' given before now after errors.Records p same h = λ conten
 stops_later u u' k k' given before now after errors.Spent p same h = p.spent h
 
 -- why one call of the reading stops it
-pub stops_one : (u u' : UnitsState) (k : Known) (before after : List ℕ) (e : ReplayError) → Stops u k u' before after e → StopsReading u k before after e
-stops_one u u' k before after (errors.Read file) h = h.2
-stops_one u u' k before after errors.Write h = h
-stops_one u u' k before after errors.Memory h = tt
-stops_one u u' k before after errors.Records h = h.3
-stops_one u u' k before after errors.Spent h = h.0
+pub stops_one : (u u' : UnitsState) (k : Known) (before after : List ℕ) (e : ReplayError) → (u.standing ≡ standings.Failed → u' ≡ u) → Stops u k u' before after e → StopsReading u k before after e
+stops_one u u' k before after (errors.Read file) same h = elim h.2 [ inl f ↦ inl (f, sym h.0 ∙ ap (λ (v : UnitsState). v.file) (same f)) | inr rose ↦ inr rose ]
+stops_one u u' k before after errors.Write same h = h
+stops_one u u' k before after errors.Memory same h = tt
+stops_one u u' k before after errors.Records same h = h.3
+stops_one u u' k before after errors.Spent same h = h.0
+
+-- ---- what stands before a failed read
+
+going_at : (s : Standing) → (s ≡ standings.Failed → ⊥) → (s ≡ standings.Spent → ⊥) → s ≡ standings.Going
+going_at standings.Going f g = refl
+going_at standings.Failed f g = absurd (f refl)
+going_at standings.Spent f g = absurd (g refl)
+
+-- a reading goes on as it did
+pub going_still : (u u' : UnitsState) (k k' : Known) (given : List Found) → TakesUnits u k u' k' given → u.standing ≡ standings.Going → u'.standing ≡ standings.Going
+going_still u u' k k' given p going = going_at u'.standing (λ e. let f = p.failed e in cc) (λ e. let f = p.spent e in cc)
+
+-- one call of the reading whose read failed
+pub behind_one : (u u' : UnitsState) (k k' : Known) (file : ℕ) → (u.standing ≡ standings.Going → GivesAllBefore u k u' k' (errors.Read file)) → StopsBehind u k u' k' []
+behind_one u u' k k' file before = record { going = before; failed = λ _. refl }
+
+pub behind_more : (a b c : UnitsState) (first second third : Known) (given more : List Found) → TakesUnits a first b second given → StopsBehind b second c third more → StopsBehind a first c third (given ++ more)
+behind_more a b c first second third given more p q =
+    record {
+      going = λ going contents h.
+          let x = p.found contents h in
+          let f = q.going (going_still a b first second given p going) x.0 x.1 in
+          record {
+            part = f.part;
+            fault = f.fault;
+            bytes = f.bytes;
+            later = f.later;
+            broken = f.broken;
+            left = f.left;
+            passes = record {
+              found = x.2.found ∙ ap (λ (l : List Found). given ++ l) f.passes.found ∙ sym (append_assoc given more _);
+              records = x.2.records ∙ f.passes.records;
+              aside = x.2.aside ∙ f.passes.aside;
+            };
+          };
+      failed = λ e.
+          let x = p.idle e in
+          let y = q.failed (subst (λ (v : UnitsState). v.standing ≡ standings.Failed) (sym x.0) e) in ap (λ l. l ++ more) x.1 ∙ y;
+    }
 
 pub front_from_takes : (a b : UnitsState) (k k' : Known) (given : List Found) → TakesUnits a k b k' given → GivesFront a k given
 front_from_takes a b k k' given p contents h = let x = p.found contents h in (found_to_come b x.0, x.2.found)
@@ -126,5 +171,11 @@ Asked-listed r r' a b c k k' k'' p q none =
       ended = λ e. all_given a b k k' _ p.takes (none e);
     }
 
-pub AskedInVain-from : (r r' : List Damage) (a b : UnitsState) (k k' : Known) → Listed r r' a k b k' → AskedInVain r r' a k
-AskedInVain-from r r' a b k k' p = record { listed = p.listed; refused = p.refused; gives = front_from_takes a b k k' _ p.takes }
+pub AskedInVain-from : (r r' : List Damage) (a b c : UnitsState) (k k' k'' : Known) (file : ℕ) → Listed r r' a k b k' → (b.standing ≡ standings.Going → GivesAllBefore b k' c k'' (errors.Read file)) → AskedInVain r r' a k c k''
+AskedInVain-from r r' a b c k k' k'' file p before =
+    record {
+      listed = p.listed;
+      refused = p.refused;
+      gives = front_from_takes a b k k' _ p.takes;
+      behind = subst (StopsBehind a k c k'') (append-nil (as_refused p.listed)) (behind_more a b c k k' k'' (as_refused p.listed) [] p.takes (behind_one b c k' k'' file before));
+    }

@@ -8,6 +8,7 @@ use Rattle.std.proofs.lemmas.List.Folds.{list_any-append}
 use Rattle.std.proofs.Math.Bool.{or-true}
 use Rattle.lane_deal.specs.UnitRings.{known_free}
 use Rattle.mrt_frame.specs.declared.error.ReplayError.{ReplayError}
+use Rattle.mrt_body.specs.declared.standing.Standing.TheVariants as standings
 use Rattle.mrt_body.specs.declared.unit.Damage.{Damage}
 use Rattle.mrt_body.specs.declared.unit.Found.{Found}
 use Rattle.mrt_body.specs.declared.unit.Found.TheVariants as found
@@ -24,7 +25,7 @@ use Rattle.lane_deal.specs.DealerSteps.{Asks, Next, NextInVain, Handles, Deals}
 use Rattle.lane_deal.specs.Feeds.{Dealt, in_lane}
 use Rattle.lane_deal.specs.Kept.{to_deal}
 use Rattle.lane_deal.specs.Numbers.{NumbersPeer, number_in, with_number, numbered}
-use Rattle.lane_deal.proofs.Asking.{TakesUnits-none, TakesUnits-more, front_from_takes, front_more, all_more_given}
+use Rattle.lane_deal.proofs.Asking.{TakesUnits-none, TakesUnits-more, front_from_takes, front_more, all_more_given, behind_more}
 use Rattle.lane_deal.proofs.Deals.{Dealt-append, Dealt-same, Dealt-none}
 use Rattle.lane_deal.proofs.Numbering.{unlisted}
 use Rattle.lane_deal.proofs.Peers.{peer_itself, is_seen, new_peer, peers_of-append, listed_peer, first_position, all_more}
@@ -135,8 +136,8 @@ module _ {D : Type 0} where
 
   -- the unit that was lent and passed over is next
   pub Next-lent : (old asked : Dealer D) (u u₁ u' : UnitsState) (k k₁ : Known) (unit : ReplayUnit) → old.kept ≡ None → Asks old asked → Asked old.refused.items asked.refused.items u k u₁ k₁ → u₁.pending ≡ unit ∷ drop 1 u₁.pending → GivesPending u₁ u' (take 1 u₁.pending)
-      → ((known : Known) → TakesFound u₁ known u' known (as_found (take 1 u₁.pending))) → units_left u' + length (take 1 u₁.pending) ≡ units_left u₁ → KeepsPlan u₁ u' → Next old asked u k u' k₁ (Some unit)
-  Next-lent old asked u u₁ u' k k₁ unit none asks p lent passes taken units plan =
+      → ((known : Known) → TakesFound u₁ known u' known (as_found (take 1 u₁.pending))) → units_left u' + length (take 1 u₁.pending) ≡ units_left u₁ → KeepsPlan u₁ u' → u₁.standing ≡ standings.Going → Next old asked u k u' k₁ (Some unit)
+  Next-lent old asked u u₁ u' k k₁ unit none asks p lent passes taken units plan going =
       let one : take 1 u₁.pending ≡ unit ∷ [] = ap (take 1) lent in
       let standing = ap (λ (v : UnitsState). v.standing) passes.0 in
       let given = as_refused p.listed ++ found.Unit unit ∷ [] in
@@ -149,6 +150,7 @@ module _ {D : Type 0} where
           plan = plan;
           failed = λ e. sym standing ∙ e;
           spent = λ e. sym standing ∙ e;
+          idle = λ e. absurd (cc);
         };
         asks = asks;
         order = ap (λ o. to_deal o given) none;
@@ -170,12 +172,13 @@ module _ {D : Type 0} where
       }
 
   -- no more came
-  pub NextInVain-asked : (old asked : Dealer D) (u : UnitsState) (k : Known) → old.kept ≡ None → Asks old asked → AskedInVain old.refused.items asked.refused.items u k → NextInVain old asked u k
-  NextInVain-asked old asked u k none asks p =
+  pub NextInVain-asked : (old asked : Dealer D) (u u' : UnitsState) (k k' : Known) → old.kept ≡ None → Asks old asked → AskedInVain old.refused.items asked.refused.items u k u' k' → NextInVain old asked u k u' k'
+  NextInVain-asked old asked u u' k k' none asks p =
       record {
         given = as_refused p.listed;
         listed = p.listed;
         gives = p.gives;
+        behind = p.behind;
         asks = asks;
         order = ap (λ o. to_deal o (as_refused p.listed)) none;
         refused = p.refused;
@@ -321,9 +324,9 @@ module _ {D : Type 0} where
         }
 
     -- the unit came back
-    pub Deals-blocked : (batch : ℕ) (unit back : ReplayUnit) (n lane : ℕ) → Next mid asked u₁ k₁ u₂ k₂ (Some unit) → NumbersPeer asked.peers.keys.items new.peers.keys.items unit.peer n → new.dealing ≡ asked.dealing → new.kept ≡ Some back → back ≡ unit → new.refused ≡ asked.refused → new.dealt ≡ asked.dealt
+    pub Deals-blocked : (batch : ℕ) → count ≤ batch → (unit back : ReplayUnit) (n lane : ℕ) → Next mid asked u₁ k₁ u₂ k₂ (Some unit) → NumbersPeer asked.peers.keys.items new.peers.keys.items unit.peer n → new.dealing ≡ asked.dealing → new.kept ≡ Some back → back ≡ unit → new.refused ≡ asked.refused → new.dealt ≡ asked.dealt
         → lane_of n ≡ lane → lane < length f → Dealt lane_of f₁ f₂ [] → ((d : Feed) → known_free (slice_index_or f₁ lane d).producer ≡ 0) → Deals lane_of batch f f₂ old new u k u₂ k₂ (Ok Blocked)
-    Deals-blocked batch unit back n lane next number dealing kept same refused counted at below q full =
+    Deals-blocked batch within unit back n lane next number dealing kept same refused counted at below q full =
         let keys : asked.peers.keys.items ≡ mid.peers.keys.items = ap (λ o. o.keys.items) next.asks.peers in
         let number' : NumbersPeer mid.peers.keys.items new.peers.keys.items unit.peer n = subst (λ l. NumbersPeer l new.peers.keys.items unit.peer n) keys number in
         let listing : new.refused.items ≡ mid.refused.items ++ next.listed = ap (λ o. o.items) refused ∙ next.refused in
@@ -341,6 +344,7 @@ module _ {D : Type 0} where
           gives = front_from_takes u u₂ k k₂ (s.given ++ next.given) takes;
           takes = takes;
           handles = h;
+          few = (let n = ap length units in let m = s.count_is in omega arith);
           stops =
               record {
                 unit = unit;
@@ -351,11 +355,18 @@ module _ {D : Type 0} where
                     (let room = (s.handles.pushed.each lane d below).free in let none = full d in omega arith));
               };
           nothing_kept = tt;
+          behind = tt;
         }
 
+    -- no more than so many were dealt
+    few_then : {batch : ℕ} → count ≤ batch → (listed : List Damage) (more : List Found) → new.refused.items ≡ mid.refused.items ++ listed → new.dealing ≡ mid.dealing → length (filter_map unit_of (s.done ++ (as_refused listed ++ []))) ≤ batch
+    few_then within listed more refused dealing =
+        let n = ap length (units_then lane_of f f₁ f₁ old mid new s.given s.done more listed s.handles refused dealing [] ∙ append-nil (filter_map unit_of s.done)) in
+        let m = s.count_is in omega arith
+
     -- the files ended
-    pub Deals-end : (batch : ℕ) → Next mid new u₁ k₁ u₂ k₂ None → Deals lane_of batch f f₁ old new u k u₂ k₂ (Ok End)
-    Deals-end batch next =
+    pub Deals-end : (batch : ℕ) → count ≤ batch → Next mid new u₁ k₁ u₂ k₂ None → Deals lane_of batch f f₁ old new u k u₂ k₂ (Ok End)
+    Deals-end batch within next =
         let takes = TakesUnits-more u u₁ u₂ k k₁ k₂ s.given next.given s.takes next.takes in
         record {
           given = s.given ++ next.given;
@@ -363,19 +374,23 @@ module _ {D : Type 0} where
           gives = front_from_takes u u₂ k k₂ (s.given ++ next.given) takes;
           takes = takes;
           handles = Handles-none lane_of f f₁ f₁ old mid new s.given s.done next.given next.listed s.handles next.refused next.asks.dealing (next.order ∙ append-nil _) next.asks.kept next.asks.dealt next.asks.peers;
+          few = few_then within next.listed next.given next.refused next.asks.dealing;
           stops = (next.asks.kept, all_more_given u u₁ k k₁ s.given next.given s.takes (next.ended refl));
           nothing_kept = tt;
+          behind = tt;
         }
 
     -- a read failed
-    pub Deals-failed : (batch : ℕ) (error : ReplayError) → NextInVain mid new u₁ k₁ → Deals lane_of batch f f₁ old new u k u₂ k₂ (Err error)
-    Deals-failed batch error next =
+    pub Deals-failed : (batch : ℕ) (error : ReplayError) → count ≤ batch → NextInVain mid new u₁ k₁ u₂ k₂ → Deals lane_of batch f f₁ old new u k u₂ k₂ (Err error)
+    Deals-failed batch error within next =
         record {
           given = s.given ++ next.given;
           done = s.done ++ (as_refused next.listed ++ []);
           gives = front_more u u₁ k k₁ s.given next.given s.takes next.gives;
           takes = tt;
           handles = Handles-none lane_of f f₁ f₁ old mid new s.given s.done next.given next.listed s.handles next.refused next.asks.dealing next.order next.asks.kept next.asks.dealt next.asks.peers;
+          few = few_then within next.listed next.given next.refused next.asks.dealing;
           stops = tt;
           nothing_kept = next.asks.kept;
+          behind = behind_more u u₁ u₂ k k₁ k₂ s.given next.given s.takes next.behind;
         }

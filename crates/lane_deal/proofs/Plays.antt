@@ -149,9 +149,10 @@ module _ {M D : Type 0} {g : Ghosts M SharedRoute} where
           dealt_counted = (let n = length-append units dealt in let a = p.deals.handles.counted in let b = h.dealt_counted in omega arith);
         }
 
-    plays_then : (left : List Found) → PlaysRound dealing plan.ring before after (p.deals.given ++ left) left p.deals.done
+    plays_then : (left : List Found) → PlaysRound dealing plan.ring plan.batch before after (p.deals.given ++ left) left p.deals.done
     plays_then left = record {
       order = in_order old.kept new.kept p.deals.given left p.deals.done (to_deal new.kept left) p.deals.handles.order refl;
+      few = p.deals.few;
       lanes = lanes_now ∙ sym (length-lane_states fs ws ready.0);
       stands = stands_then;
       taken = λ lane state e.
@@ -206,6 +207,7 @@ module _ {M D : Type 0} {g : Ghosts M SharedRoute} where
       stops = stops_all result p.deals.stops;
       ended = ended_then result p.deals.stops;
       nothing_kept = p.deals.nothing_kept;
+      behind = p.deals.behind;
     }
 
   -- the same, where the lists are told by what they equal

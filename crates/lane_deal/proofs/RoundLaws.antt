@@ -56,8 +56,8 @@ module _ (dealing : ℕ → ℕ → ℕ) where
   AreBelow r = (number : ℕ) → dealing number (length r.lanes) < length r.lanes
 
   -- what waits after a round was dealt in it
-  pub waits_after : (capacity : ℕ) (old new : ReplayerState) (coming left done : List Found) → AreBelow new → PlaysRound dealing capacity old new coming left done → waiting_in new ≤ length (filter_map unit_of done)
-  waits_after capacity old new coming left done below p =
+  pub waits_after : (capacity batch : ℕ) (old new : ReplayerState) (coming left done : List Found) → AreBelow new → PlaysRound dealing capacity batch old new coming left done → waiting_in new ≤ length (filter_map unit_of done)
+  waits_after capacity batch old new coming left done below p =
       let units = filter_map unit_of done in
       let class : ReplayUnit → ℕ = lane_in dealing new in
       let within = no_more_wait class units new.lanes 0 (λ lane state e.
@@ -105,7 +105,7 @@ module _ (dealing : ℕ → ℕ → ℕ) where
       let played = are.0 in
       let units = filter_map unit_of round.done in
       let below_next : AreBelow round.replayer = subst (λ n. (number : ℕ) → dealing number n < n) (sym played.lanes) below in
-      let few = waits_after plan.ring r round.replayer coming round.left round.done below_next played in
+      let few = waits_after plan.ring plan.batch r round.replayer coming round.left round.done below_next played in
       let later = counted plan round.replayer round.left rounds below_next are.2 go_on.1 in
       let all : length units + length (dealt_in rounds) ≡ length (dealt_in (round ∷ rounds)) = sym (length-append units (dealt_in rounds)) in
       let one_more : Counted plan (waiting_in r) (length units + length (dealt_in rounds)) (length rounds + 1) =

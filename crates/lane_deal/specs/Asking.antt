@@ -11,7 +11,7 @@ use Rattle.mrt_body.specs.Units.{unit_of}
 use Rattle.mrt_body.specs.declared.unit.Damage.{Damage}
 use Rattle.mrt_body.specs.declared.unit.Found.{Found}
 use Rattle.mrt_body.specs.declared.unit.Found.TheVariants as found
-use Rattle.mrt_body.specs.ToCome.{UnitsState, TakesFound, KeepsPlan, HasMoreRecords, found_to_come, units_left}
+use Rattle.mrt_body.specs.ToCome.{UnitsState, TakesFound, KeepsPlan, HasMoreRecords, FailsBehind, found_to_come, units_left}
 
 abbrev pub as_refused : List Damage → List Found
 as_refused listed = map (λ damage. found.Refused damage) listed
@@ -26,6 +26,14 @@ abbrev pub GivesAll : UnitsState → List (Option (List ℕ)) → List Found →
 GivesAll u known given = (contents : List (List ℕ)) → drop u.file known ≡ map (λ bytes. Some bytes) contents →
     found_to_come u contents ≡ given
 
+-- After a failed read: where no read had failed before, this is all that the files gave before the record at which it failed;
+-- where one had, nothing came.
+pub record StopsBehind (u : UnitsState) (known : List (Option (List ℕ))) (u' : UnitsState)
+    (known' : List (Option (List ℕ))) (given : List Found) : Type 0 where
+  pub going : u.standing ≡ standings.Going → (contents : List (List ℕ)) →
+      drop u.file known ≡ map (λ bytes. Some bytes) contents → FailsBehind u contents u' known' given
+  pub failed : u.standing ≡ standings.Failed → given ≡ []
+
 -- These were given by the files. The reading goes on as it did, and no more units can come than before.
 pub record TakesUnits (u : UnitsState) (known : List (Option (List ℕ))) (u' : UnitsState)
     (known' : List (Option (List ℕ))) (given : List Found) : Type 0 where
@@ -34,11 +42,12 @@ pub record TakesUnits (u : UnitsState) (known : List (Option (List ℕ))) (u' : 
   pub plan : KeepsPlan u u'
   pub failed : u'.standing ≡ standings.Failed → u.standing ≡ standings.Failed
   pub spent : u'.standing ≡ standings.Spent → u.standing ≡ standings.Spent
+  pub idle : u.standing ≡ standings.Failed → (u' ≡ u) × (given ≡ [])
 
--- Why a reading stops: a reader failed in this call or before it, memory ran out, there are more records than the limit, or the
--- reading was spent.
+-- Why a reading stops: the reader of this file failed in this call, or it is the one at which the reading failed before; memory ran
+-- out, there are more records than the limit, or the reading was spent.
 abbrev pub StopsReading : UnitsState → List (Option (List ℕ)) → List ℕ → List ℕ → ReplayError → Type 0
-StopsReading u known before after (errors.Read file) = (u.standing ≡ standings.Failed) ⊎
+StopsReading u known before after (errors.Read file) = ((u.standing ≡ standings.Failed) × (file ≡ u.file)) ⊎
     HasFailed (slice_index before file) (slice_index after file)
 StopsReading u known before after errors.Write = ⊥
 StopsReading u known before after errors.Memory = ⊤
@@ -60,8 +69,10 @@ pub record Asked (r r' : List Damage) (u : UnitsState) (known : List (Option (Li
   pub takes : TakesUnits u known u' known' (as_refused listed)
   pub ended : u'.pending ≡ [] → GivesAll u known (as_refused listed)
 
--- these refusals were listed, and no more came
-pub record AskedInVain (r r' : List Damage) (u : UnitsState) (known : List (Option (List ℕ))) : Type 0 where
+-- these refusals were listed, and a read failed behind them
+pub record AskedInVain (r r' : List Damage) (u : UnitsState) (known : List (Option (List ℕ))) (u' : UnitsState)
+    (known' : List (Option (List ℕ))) : Type 0 where
   pub listed : List Damage
   pub refused : r' ≡ r ++ listed
   pub gives : GivesFront u known (as_refused listed)
+  pub behind : StopsBehind u known u' known' (as_refused listed)

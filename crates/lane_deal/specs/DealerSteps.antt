@@ -14,7 +14,7 @@ use Rattle.lane_deal.specs.declared.feed.Feed.{Feed}
 use Rattle.lane_deal.specs.declared.step.Step.{Step}
 use Rattle.lane_deal.specs.declared.step.Step.TheVariants.{Blocked, FullBatch, End}
 use Rattle.lane_deal.specs.Answers.{IfAnswered}
-use Rattle.lane_deal.specs.Asking.{TakesUnits, ReadsOn, GivesFront, GivesAll, as_refused}
+use Rattle.lane_deal.specs.Asking.{TakesUnits, ReadsOn, GivesFront, GivesAll, StopsBehind, as_refused}
 use Rattle.lane_deal.specs.Feeds.{Dealt, in_lane}
 use Rattle.lane_deal.specs.Numbers.{number_in, numbered}
 use Rattle.lane_deal.specs.Kept.{to_deal}
@@ -38,11 +38,13 @@ module _ {D : Type 0} where
     pub refused : new.refused.items ≡ old.refused.items ++ listed
     pub ended : next ≡ None → GivesAll u known given
 
-  -- refusals, which were listed, and no more came
-  pub record NextInVain (old new : Dealer D) (u : UnitsState) (known : List (Option (List ℕ))) : Type 0 where
+  -- refusals, which were listed, and a read failed behind them
+  pub record NextInVain (old new : Dealer D) (u : UnitsState) (known : List (Option (List ℕ))) (u' : UnitsState)
+      (known' : List (Option (List ℕ))) : Type 0 where
     pub given : List Found
     pub listed : List Damage
     pub gives : GivesFront u known given
+    pub behind : StopsBehind u known u' known' given
     pub asks : Asks old new
     pub order : to_deal old.kept given ≡ as_refused listed
     pub refused : new.refused.items ≡ old.refused.items ++ listed
@@ -83,8 +85,10 @@ module _ {D : Type 0} where
     pub gives : GivesFront u known given
     pub takes : OnOk result (TakesUnits u known u' known' given)
     pub handles : Handles lane_of feeds feeds' old new given done
+    pub few : length (filter_map unit_of done) ≤ batch
     pub stops : IfOk result (StopsDealing lane_of batch feeds new u known given (filter_map unit_of done))
     pub nothing_kept : OnErr result (new.kept ≡ None)
+    pub behind : OnErr result (StopsBehind u known u' known' given)
 
   -- what the dealer did in a round, and what became of the reading
   pub record DealsOn (lane_of : ℕ → ℕ) (batch : ℕ) (feeds feeds' : List Feed) (old new : Dealer D) (u : UnitsState)

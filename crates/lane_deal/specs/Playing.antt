@@ -10,7 +10,7 @@ use Rattle.lane_deal.specs.declared.replayer.Replayer.{Replayer}
 use Rattle.lane_deal.specs.declared.step.Step.{Step}
 use Rattle.lane_deal.specs.declared.step.Step.TheVariants.{End}
 use Rattle.lane_deal.specs.Answers.{is_spent}
-use Rattle.lane_deal.specs.Asking.{TakesUnits, GivesFront, GivesAll}
+use Rattle.lane_deal.specs.Asking.{TakesUnits, GivesFront, GivesAll, StopsBehind}
 use Rattle.lane_deal.specs.Replayers.{ReplayerState}
 use Rattle.lane_deal.specs.Rounds.{PlaysRound, Stops}
 use Rattle.lane_deal.specs.Shown.{state_at}
@@ -24,7 +24,7 @@ IsLeft u known given left = (contents : List (List ℕ)) × (drop u.file known �
     (found_to_come u contents ≡ given ++ left)
 
 -- A round was given these by the files, in order, and dealt or listed those of the kept unit and these; whatever the files give
--- behind them is left.
+-- behind them is left. Where a read failed, these are all that stand before it, and none is kept.
 pub record PlaysOn (dealing : ℕ → ℕ → ℕ) (plan : Plan) (old new : ReplayerState) (u : UnitsState)
     (known : List (Option (List ℕ))) (u' : UnitsState) (known' : List (Option (List ℕ)))
     (result : Result Step ReplayError) : Type 0 where
@@ -32,8 +32,9 @@ pub record PlaysOn (dealing : ℕ → ℕ → ℕ) (plan : Plan) (old new : Repl
   pub done : List Found
   pub gives : GivesFront u known given
   pub takes : OnOk result (TakesUnits u known u' known' given)
-  pub plays : (left : List Found) → PlaysRound dealing plan.ring old new (given ++ left) left done
+  pub plays : (left : List Found) → PlaysRound dealing plan.ring plan.batch old new (given ++ left) left done
   pub stops : IfOk result (λ step. (left : List Found) → (step ≡ End → IsLeft u known given left) →
       Stops dealing plan old new left (filter_map unit_of done) step)
   pub ended : result ≡ Ok End → (new.kept ≡ None) × GivesAll u known given
   pub nothing_kept : OnErr result (new.kept ≡ None)
+  pub behind : OnErr result (StopsBehind u known u' known' given)

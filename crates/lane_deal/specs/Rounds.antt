@@ -21,10 +21,11 @@ abbrev pub share_of : (ℕ → ℕ → ℕ) → ReplayerState → ℕ → List R
 share_of dealing r lane units = count_by (λ unit. lane_in dealing r unit == lane) units
 
 -- What a round, or as much of it as a failed read left, did with what was to come: these are, in order, the units that it dealt and the
--- refusals that it listed. The next one is kept or still to come. What waited in a ring was taken.
-pub record PlaysRound (dealing : ℕ → ℕ → ℕ) (capacity : ℕ) (old new : ReplayerState) (coming left done : List Found)
-    : Type 0 where
+-- refusals that it listed. The next one is kept or still to come. It dealt at most a batch. What waited in a ring was taken.
+pub record PlaysRound (dealing : ℕ → ℕ → ℕ) (capacity batch : ℕ) (old new : ReplayerState)
+    (coming left done : List Found) : Type 0 where
   pub order : to_deal old.kept coming ≡ done ++ to_deal new.kept left
+  pub few : length (filter_map unit_of done) ≤ batch
   pub lanes : length new.lanes ≡ length old.lanes
   pub stands : (units : List ReplayUnit) (refused : List Damage) → ReplayerStandsFor dealing capacity units refused old
       → ReplayerStandsFor dealing capacity (units ++ filter_map unit_of done) (refused ++ filter_map damage_of done) new
@@ -59,7 +60,7 @@ pub record RoundState : Type 0 where
 abbrev pub AreRounds : (ℕ → ℕ → ℕ) → Plan → ReplayerState → List Found → List RoundState → Type 0
 AreRounds dealing plan r coming [] = Unit {0}
 AreRounds dealing plan r coming (round ∷ rounds) =
-    PlaysRound dealing plan.ring r round.replayer coming round.left round.done ×
+    PlaysRound dealing plan.ring plan.batch r round.replayer coming round.left round.done ×
     Stops dealing plan r round.replayer round.left (filter_map unit_of round.done) round.step
     × AreRounds dealing plan round.replayer round.left rounds
 

@@ -91,7 +91,7 @@ fn list_refusals<R: Source>(
         (λ _. Asked refused.old.items refused.new.items units.old (map R.remaining files.old) units.new
         (map R.remaining files.new))
         (λ e. (file : ℕ) → e ≡ Read file → AskedInVain refused.old.items refused.new.items units.old
-        (map R.remaining files.old)) }
+        (map R.remaining files.old) units.new (map R.remaining files.new)) }
 {
     while let Some(damage) = units.advance(alloc, files)? {
         refused.push(damage)?;
@@ -150,7 +150,7 @@ impl<D: Dealing> Dealer<D> {
             (λ _. Asked self.old.refused.items self.new.refused.items units.old (map R.remaining files.old) units.new
             (map R.remaining files.new))
             (λ e. (file : ℕ) → e ≡ Read file → AskedInVain self.old.refused.items self.new.refused.items units.old
-            (map R.remaining files.old)) }
+            (map R.remaining files.old) units.new (map R.remaining files.new)) }
     {
         if self.kept.is_some() {
             return Ok(());

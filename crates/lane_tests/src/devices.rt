@@ -1,4 +1,4 @@
-//! What is left at a read that fails: the units before it.
+//! What is left at a read that fails: the units and the refusals before it.
 
 use crate::playing::{PLAN, Play};
 use adj_rib::SharedRoute;
@@ -88,5 +88,21 @@ fn every_failed_read_leaves_the_units_before_it(rt: HostRuntime) {
     let bytes = bytes_of(alloc, THREE_PEERS).expect(&rt, "memory for a dump");
     for k in 0..=bytes.len() {
         expect_salvage(&rt, alloc, &bytes.as_slice()[..k], 1 + k % 4);
+    }
+}
+
+#[test]
+fn refusals_before_a_failed_read_are_listed(rt: HostRuntime) {
+    let alloc = rt.alloc();
+    let words = "announcement 00000001 0010 0001 00000002 0000 00000002 0010 0001 00000002 0000";
+    let bytes = bytes_of(alloc, words).expect(&rt, "memory for a dump");
+    for workers in 1..=4 {
+        let mut play = play_of(&rt, alloc, bytes.as_slice(), workers);
+        let failed = play.round_until(&rt, alloc, "Read 0");
+        assert!(rt; failed, "a read that fails, {workers} workers");
+        assert!(rt; play.settle(&rt, alloc) == "Ok");
+        assert!(rt; play.count("took") == Some(1));
+        let refusals = play.refusals(&rt, alloc);
+        assert!(rt; refusals == Some(2), "refusals, {workers} workers");
     }
 }

@@ -226,6 +226,14 @@ impl<M: PrefixMap<SharedRoute> + Send + Drop, R: Source + Send + Drop> Play<M, R
         }
     }
 
+    /// The number of refusals that were listed.
+    pub fn refusals(self, rt: &impl Abort, alloc: Global) -> Option<usize> {
+        match tables_of(rt, alloc, self.replayer) {
+            Ok(tables) => Some(tables.refused().len()),
+            Err(_) => None,
+        }
+    }
+
     /// Expects that each call answers `Spent`.
     pub fn expect_spent(mut self, rt: &(impl Threads + Abort + Sync), alloc: Global) {
         assert!(rt; self.replayer.is_spent());

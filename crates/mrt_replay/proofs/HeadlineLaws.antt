@@ -24,4 +24,4 @@ completes_without_cause run causes = λ files honest sound within. if_err run.re
 pub stopped : (run : RunState) (error : ReplayError) → run.result ≡ Err error → IsStopped run error → IsPromised run
 stopped run error is h =
     let cause : StopsWithCause run = rw is h in
-    record { headline = λ files honest. rw is tt; flushed = rw is tt; cause = cause; completes = completes_without_cause run cause }
+    record { headline = λ files honest. rw is tt; flushed = rw is tt; unfailed = rw is tt; cause = cause; completes = completes_without_cause run cause }

@@ -22,9 +22,9 @@ refused_to_deal None items = refl
 refused_to_deal (Some unit) items = refl
 
 -- a round that dealt and listed these of what came
-pub played_took : (dealing : ℕ → ℕ → ℕ) (capacity : ℕ) (old new : ReplayerState) (items done : List Found) → PlaysRound dealing capacity old new items [] done
+pub played_took : (dealing : ℕ → ℕ → ℕ) (capacity batch : ℕ) (old new : ReplayerState) (items done : List Found) → PlaysRound dealing capacity batch old new items [] done
     → (units : List ReplayUnit) (refused : List Damage) → DealtAll dealing capacity old units refused → DealtAll dealing capacity new (units ++ filter_map unit_of items) (refused ++ filter_map damage_of items)
-played_took dealing capacity old new items done p units refused h =
+played_took dealing capacity batch old new items done p units refused h =
     let units_are : option_to_list old.kept ++ filter_map unit_of items ≡ filter_map unit_of done ++ option_to_list new.kept =
     sym (units_to_deal old.kept items) ∙ ap (filter_map unit_of) p.order ∙ filter_map-append unit_of done (to_deal new.kept [])
     ∙ ap (λ l. filter_map unit_of done ++ l) (units_to_deal new.kept [] ∙ append-nil (option_to_list new.kept)) in

@@ -1,8 +1,9 @@
 -- Rounds of a replayer, one after the other, to the end of the files.
-use Rattle.std.proofs.Common.{◌≡◌, ◌≢◌, ◌⊎◌, inl, inr, ℕ, ◌+◌, ◌*◌, ◌/◌, ◌≤◌, ◌<◌, List, [], ◌++◌, Option, Ok, refl, sym, ap, ◌∙◌, subst, arith, length, append_assoc, length-append}
+use Rattle.std.proofs.Common.{◌≡◌, ◌≢◌, ◌⊎◌, inl, inr, ℕ, ◌+◌, ◌-◌, ◌*◌, ◌/◌, ◌^◌, ◌≤◌, ◌<◌, min, List, [], ◌++◌, Option, Ok, refl, sym, ap, ◌∙◌, subst, arith, length, append_assoc, length-append}
 use Rattle.std.specs.Prelude.{option_to_list}
 use Rattle.std.specs.List.{filter_map, count_by}
-use Rattle.std.proofs.Math.Nat.{add-mul, zero-mul, one-mul}
+use Rattle.std.proofs.Math.Nat.{add-mul, zero-mul, one-mul, mul-le-mul_right, le-mul_of_pos_right}
+use Rattle.std.proofs.lemmas.Bool.{cases_lt}
 use Rattle.std.proofs.lemmas.Nat.{le-div}
 use Rattle.std.proofs.lemmas.List.{append-nil}
 use Rattle.std.proofs.lemmas.List.Elements.{filter_map-append}
@@ -39,7 +40,7 @@ abbrev pub left_over : ReplayerState → UnitsState → ℕ
 left_over r u = 2 * (length (option_to_list r.kept) + units_left u) + waiting_in r
 
 -- rounds so far
-pub record SoFar (dealing : ℕ → ℕ → ℕ) (plan : Plan) (first r : ReplayerState) (start now : UnitsState) (told left : Known) (n₀ n : ℕ) : Type 0 where
+pub record SoFar (dealing : ℕ → ℕ → ℕ) (plan : Plan) (first r : ReplayerState) (start now : UnitsState) (told left : Known) (n₀ m n : ℕ) : Type 0 where
   pub items : List Found
   pub takes : TakesUnits start told now left items
   pub took : (units : List ReplayUnit) (refused : List Damage) → DealtAll dealing plan.ring first units refused → DealtAll dealing plan.ring r (units ++ filter_map unit_of items) (refused ++ filter_map damage_of items)
@@ -51,9 +52,12 @@ pub record SoFar (dealing : ℕ → ℕ → ℕ) (plan : Plan) (first r : Replay
   pub rounds : n ≤ n₀ + (blocked + full)
   pub rings : blocked * plan.ring + waiting_in r ≤ waiting_in first + 2 * dealt
   pub batches : full * plan.batch ≤ dealt
+  pub played : ℕ
+  pub counted : min (m + played) (2 ^ 64 - 1) ≤ n
+  pub batched : dealt ≤ played * plan.batch
 
 module _ (dealing : ℕ → ℕ → ℕ) (plan : Plan) where
-  pub SoFar-none : (r : ReplayerState) (u : UnitsState) (told : Known) (n : ℕ) → SoFar dealing plan r r u u told told n n
+  pub SoFar-none : (r : ReplayerState) (u : UnitsState) (told : Known) (n : ℕ) → SoFar dealing plan r r u u told told n n n
   SoFar-none r u told n = record {
     items = [];
     takes = TakesUnits-none u told;
@@ -66,14 +70,17 @@ module _ (dealing : ℕ → ℕ → ℕ) (plan : Plan) where
     rounds = omega arith;
     rings = omega (arith, zero-mul plan.ring);
     batches = omega (arith, zero-mul plan.batch);
+    played = 0;
+    counted = omega arith;
+    batched = omega (arith, zero-mul plan.batch);
   }
 
-  module _ (first r r' : ReplayerState) (start now next : UnitsState) (told left later : Known) (n₀ n n' : ℕ) (below : (m : ℕ) → dealing m (length r.lanes) < length r.lanes) (s : SoFar dealing plan first r start now told left n₀ n) (step : Step) (p : PlaysOn dealing plan r r' now left next later (Ok step)) (takes : TakesUnits now left next later p.given) (up : n' ≤ n + 1) where
+  module _ (first r r' : ReplayerState) (start now next : UnitsState) (told left later : Known) (n₀ n n' : ℕ) (below : (m : ℕ) → dealing m (length r.lanes) < length r.lanes) (s : SoFar dealing plan first r start now told left n₀ n₀ n) (step : Step) (p : PlaysOn dealing plan r r' now left next later (Ok step)) (takes : TakesUnits now left next later p.given) (up : n' ≡ min (n + 1) (2 ^ 64 - 1)) where
     abbrev many : ℕ
     many = length (filter_map unit_of p.done)
 
-    played : PlaysRound dealing plan.ring r r' p.given [] p.done
-    played = subst (λ l. PlaysRound dealing plan.ring r r' l [] p.done) (append-nil p.given) (p.plays [])
+    played : PlaysRound dealing plan.ring plan.batch r r' p.given [] p.done
+    played = subst (λ l. PlaysRound dealing plan.ring plan.batch r r' l [] p.done) (append-nil p.given) (p.plays [])
 
     counts : many + length (option_to_list r'.kept) ≡ length (option_to_list r.kept) + length (filter_map unit_of p.given)
     counts =
@@ -84,7 +91,7 @@ module _ (dealing : ℕ → ℕ → ℕ) (plan : Plan) where
         omega (arith, length-append (option_to_list r.kept) (filter_map unit_of p.given), length-append (filter_map unit_of p.done) (option_to_list r'.kept))
 
     few : waiting_in r' ≤ many
-    few = waits_after dealing plan.ring r r' p.given [] p.done (subst (λ m. (k : ℕ) → dealing k m < m) (sym played.lanes) below) played
+    few = waits_after dealing plan.ring plan.batch r r' p.given [] p.done (subst (λ m. (k : ℕ) → dealing k m < m) (sym played.lanes) below) played
 
     went : step ≢ End → (plan.ring ≤ waiting_in r + many) ⊎ (many ≡ plan.batch)
     went ne =
@@ -106,7 +113,7 @@ module _ (dealing : ℕ → ℕ → ℕ) (plan : Plan) where
           | inr h ↦ omega (arith, given, c, w, batch, h)
         ]
 
-    further : (b f m₀ : ℕ) → b * plan.ring ≤ waiting_in r + many → f * plan.batch ≤ many → n' ≤ m₀ + ((s.blocked + b) + (s.full + f)) → SoFar dealing plan first r' start next told later m₀ n'
+    further : (b f m₀ : ℕ) → b * plan.ring ≤ waiting_in r + many → f * plan.batch ≤ many → n' ≤ m₀ + ((s.blocked + b) + (s.full + f)) → SoFar dealing plan first r' start next told later m₀ n₀ n'
     further b f m₀ ring batch rounds =
         let units_are : filter_map unit_of (s.items ++ p.given) ≡ filter_map unit_of s.items ++ filter_map unit_of p.given = filter_map-append unit_of s.items p.given in
         let refused_are : filter_map damage_of (s.items ++ p.given) ≡ filter_map damage_of s.items ++ filter_map damage_of p.given = filter_map-append damage_of s.items p.given in
@@ -117,7 +124,7 @@ module _ (dealing : ℕ → ℕ → ℕ) (plan : Plan) where
           items = s.items ++ p.given;
           takes = TakesUnits-more start now next told left later s.items p.given s.takes takes;
           took = λ units refused h.
-              let one = played_took dealing plan.ring r r' p.given p.done played (units ++ filter_map unit_of s.items) (refused ++ filter_map damage_of s.items) (s.took units refused h) in
+              let one = played_took dealing plan.ring plan.batch r r' p.given p.done played (units ++ filter_map unit_of s.items) (refused ++ filter_map damage_of s.items) (s.took units refused h) in
               subst (λ l. DealtAll dealing plan.ring r' l (refused ++ filter_map damage_of (s.items ++ p.given))) (append_assoc units (filter_map unit_of s.items) (filter_map unit_of p.given) ∙ ap (λ l. units ++ l) (sym units_are))
               (subst (λ l. DealtAll dealing plan.ring r' ((units ++ filter_map unit_of s.items) ++ filter_map unit_of p.given) l) (append_assoc refused (filter_map damage_of s.items) (filter_map damage_of p.given) ∙ ap (λ l. refused ++ l) (sym refused_are)) one);
           lanes = played.lanes ∙ s.lanes;
@@ -128,9 +135,12 @@ module _ (dealing : ℕ → ℕ → ℕ) (plan : Plan) where
           rounds = rounds;
           rings = omega (arith, add-mul s.blocked b plan.ring, s.rings, ring, w);
           batches = omega (arith, add-mul s.full f plan.batch, s.batches, batch);
+          played = s.played + 1;
+          counted = (let e = up in omega (arith, s.counted, e));
+          batched = omega (arith, add-mul s.played 1 plan.batch, one-mul plan.batch, s.batched, played.few);
         }
 
-    pub SoFar-more : step ≢ End → SoFar dealing plan first r' start next told later n₀ n'
+    pub SoFar-more : step ≢ End → SoFar dealing plan first r' start next told later n₀ n₀ n'
     SoFar-more ne =
         let rounds = s.rounds in
         elim (went ne) [
@@ -163,6 +173,13 @@ module _ (dealing : ℕ → ℕ → ℕ) (plan : Plan) where
             few = (let h = last.takes.few in omega arith);
           };
           none = ended.0;
+          played = last.played;
+          some = omega arith;
+          counted = last.counted;
+          batches = λ nothing.
+              let before : length (option_to_list first.kept) ≡ 0 = ap (λ k. length (option_to_list k)) nothing in
+              let after : length (option_to_list r'.kept) ≡ 0 = ap (λ k. length (option_to_list k)) ended.0 in
+              omega (arith, last.all, before, after, last.batched);
           few = λ settled nothing.
               let idle = none_waits first.lanes settled in
               let before : length (option_to_list first.kept) ≡ 0 = ap (λ k. length (option_to_list k)) nothing in
@@ -176,7 +193,7 @@ module _ (dealing : ℕ → ℕ → ℕ) (plan : Plan) where
 
 -- why the files can't be taken to their ends
 pub stops_files : (u : UnitsState) (told : Known) (before after : List ℕ) (e : ReplayError) → u.standing ≡ Going → StopsReading u told before after e → StopsFiles u told before after e
-stops_files u told before after (errors.Read file) going (inl h) = absurd (cc)
+stops_files u told before after (errors.Read file) going (inl h) = let failed = h.0 in absurd (cc)
 stops_files u told before after (errors.Read file) going (inr h) = h
 stops_files u told before after errors.Write going h = h
 stops_files u told before after errors.Memory going h = tt
@@ -194,3 +211,19 @@ pub few_in_all : (plan before : Plan) (first n rounds len units : ℕ) → befor
 few_in_all plan before first n rounds len units e none few up same =
     let few' : n ≤ (first + 1) + (2 * units / plan.ring + units / plan.batch) = subst (λ l. n ≤ (first + 1) + (2 * l / plan.ring + l / plan.batch)) same (subst (λ q. n ≤ (first + 1) + (2 * len / q.ring + len / q.batch)) e few) in
     omega arith
+
+-- at least two with the settling
+pub two_in_all : (first n rounds played : ℕ) → first ≡ 0 → 0 < played → min (first + played) (2 ^ 64 - 1) ≤ n → rounds ≡ min (n + 1) (2 ^ 64 - 1) → 2 ≤ rounds
+two_in_all first n rounds played none some counted up = omega arith
+
+-- and enough to deal each unit in a batch
+pub enough_in_all : (plan before : Plan) (first n rounds played len units : ℕ) → IsPlan plan → before ≡ plan → first ≡ 0 → min (first + played) (2 ^ 64 - 1) ≤ n → rounds ≡ min (n + 1) (2 ^ 64 - 1) → len ≤ played * before.batch → len ≡ units → units ≤ 2 ^ 63
+    → units ≤ (rounds - 1) * plan.batch
+enough_in_all plan before first n rounds played len units ranges e none counted up batches same small =
+    let all : len ≤ played * plan.batch = subst (λ (q : Plan). len ≤ played * q.batch) e batches in
+    elim (cases_lt (rounds - 1) played) [
+      | inl less ↦
+          let many : 2 ^ 63 ≤ rounds - 1 = omega (arith, less, none, counted, up) in
+          omega (arith, le-mul_of_pos_right {m = plan.batch} (rounds - 1) (omega (arith, ranges.batch)), many, small)
+      | inr more ↦ omega (arith, mul-le-mul_right plan.batch more, all, same)
+    ]

@@ -68,6 +68,11 @@ pub flush_succeeded : {T E P : Type 0} (result : Result T E) → is_err result �
 flush_succeeded (Ok x) succeeded h = h
 flush_succeeded (Err e) succeeded h = let clash : true ≡ false = succeeded in absurd cc
 
+-- and raises no count
+pub flush_unfailed : {T E : Type 0} (result : Result T E) (before after : ℕ) → is_err result ≡ false → CountsFailure before after result → after ≡ before
+flush_unfailed (Ok x) before after succeeded counted = counted
+flush_unfailed (Err e) before after succeeded counted = let clash : true ≡ false = succeeded in absurd cc
+
 -- all of a text is a front of it
 pub front_whole : (old new : Option (List ℕ)) (bytes : List ℕ) → Appends old new bytes → WritesFront old new bytes
 front_whole old new bytes h = (length bytes, omega arith, subst (Appends old new) (sym (take_all (length bytes) bytes (omega arith))) h)

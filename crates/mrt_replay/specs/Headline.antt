@@ -41,6 +41,10 @@ Headline run = (files : List (List ℕ)) → AreHonest run.told files → IfOk r
 abbrev pub Flushes : RunState → Type 0
 Flushes run = OnOk run.result (run.flushed_after ≡ true)
 
+-- A run that completes met no failure: neither a reader's count rose nor the writer's.
+abbrev pub MeetsNoFailure : RunState → Type 0
+MeetsNoFailure run = OnOk run.result ((run.readers_after ≡ run.readers) × (run.writer_after ≡ run.writer))
+
 -- ---- a run that doesn't
 
 -- Why it stops, and what it leaves: nothing written, or a front of the report. What is said of the bytes is said of honest devices;
@@ -73,5 +77,6 @@ Completes run =
 pub record IsPromised (run : RunState) : Type 0 where
   pub headline : Headline run
   pub flushed : Flushes run
+  pub unfailed : MeetsNoFailure run
   pub cause : StopsWithCause run
   pub completes : Completes run

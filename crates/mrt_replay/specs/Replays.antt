@@ -1,5 +1,5 @@
 -- What the replay of files gives, apart from any report.
-use Rattle.std.specs.Prelude.{◌≡◌, ℕ, ◌+◌, ◌*◌, ◌/◌, ◌<◌, ◌≤◌, ⊤, List, ◌++◌, Option, Some, None, option_to_list, drop, map, length, slice_index}
+use Rattle.std.specs.Prelude.{◌≡◌, ℕ, ◌+◌, ◌-◌, ◌*◌, ◌/◌, ◌^◌, ◌<◌, ◌≤◌, min, ⊤, List, ◌++◌, Option, Some, None, option_to_list, drop, map, length, slice_index}
 use Rattle.std.specs.List.{count_by, filter_map}
 use Rattle.mrt_frame.specs.Devices.{HasFailed}
 use Rattle.mrt_frame.specs.declared.error.ReplayError.{ReplayError}
@@ -58,11 +58,16 @@ pub record DealtAll (dealing : ℕ → ℕ → ℕ) (capacity : ℕ) (r : Replay
   pub whole : units ≡ dealt ++ option_to_list r.kept
   pub stands : ReplayerStandsFor dealing capacity dealt refused r
 
--- Rounds to the end: the replayer took all that was to come and keeps no unit, and there were few of them.
+-- Rounds to the end: the replayer took all that was to come and keeps no unit. There were few of them, but enough to deal each unit in
+-- a batch; they are counted, up to the greatest count.
 pub record HasPlayed (dealing : ℕ → ℕ → ℕ) (plan : Plan) (before after : ReplayerState) (start now : UnitsState)
     (told : List (Option (List ℕ))) (rounds rounds' : ℕ) : Type 0 where
   pub taken : HasTakenFiles (DealtAll dealing plan.ring) start now told before after
   pub none : after.kept ≡ None
+  pub played : ℕ
+  pub some : 0 < played
+  pub counted : min (rounds + played) (2 ^ 64 - 1) ≤ rounds'
+  pub batches : before.kept ≡ None → length (filter_map unit_of taken.items) ≤ played * plan.batch
   pub few : IsSettled before → before.kept ≡ None →
       rounds' ≤ (rounds + 1)
       + (2 * length (filter_map unit_of taken.items) / plan.ring + length (filter_map unit_of taken.items) / plan.batch)
@@ -76,6 +81,8 @@ pub record IsReplayOf {M : Type 0} (plan : Plan) (files : List (List ℕ)) (r : 
   pub units_counted : r.units ≡ length (units_of plan.until files)
   pub aside_counted : r.aside ≡ aside_of files
   pub few_rounds : r.rounds ≤ 2 * r.units / plan.ring + r.units / plan.batch + 2
+  pub two_rounds : 2 ≤ r.rounds
+  pub enough_rounds : r.units ≤ (r.rounds - 1) * plan.batch
 
 -- Why a replay of files stops, of which these bytes are known: a reader failed, memory ran out, or there are more records than the limit.
 abbrev pub StopsReplay : ℕ → List (Option (List ℕ)) → List ℕ → List ℕ → ReplayError → Type 0

@@ -1,5 +1,5 @@
 -- The report of a request on the records of files, and what a run counts.
-use Rattle.std.specs.Prelude.{◌≡◌, ℕ, ◌+◌, ◌*◌, ◌/◌, ◌≤◌, List, Option, length}
+use Rattle.std.specs.Prelude.{◌≡◌, ℕ, ◌+◌, ◌-◌, ◌*◌, ◌/◌, ◌≤◌, List, Option, length}
 use Rattle.std.specs.List.{flat_map}
 use Rattle.mrt_body.specs.declared.unit.Damage.{Damage}
 use Rattle.mrt_body.specs.declared.unit.Unit.{Unit as ReplayUnit}
@@ -35,7 +35,8 @@ report request until files = text request (units_of until files) (refused_of unt
 abbrev pub listed_faults : Option ℕ → List (List ℕ) → List Damage
 listed_faults until files = fault_rows (tables_of (units_of until files) (refused_of until files))
 
--- What a run over files counts. A round that deals fills a ring, deals a batch or is the last one, and one more settles.
+-- What a run over files counts. A round that deals fills a ring, deals a batch or is the last one, and one more settles. Each deals at
+-- most a batch.
 pub record IsSummary (plan : Plan) (files : List (List ℕ)) (s : Summary) : Type 0 where
   pub records : s.records ≡ records_of files
   pub units : s.units ≡ length (units_of plan.until files)
@@ -45,3 +46,5 @@ pub record IsSummary (plan : Plan) (files : List (List ℕ)) (s : Summary) : Typ
   pub routes : s.routes
       ≡ stopped (length (all_routes (tables_of (units_of plan.until files) (refused_of plan.until files))))
   pub rounds : s.rounds ≤ 2 * s.units / plan.ring + s.units / plan.batch + 2
+  pub two_rounds : 2 ≤ s.rounds
+  pub enough_rounds : s.units ≤ (s.rounds - 1) * plan.batch

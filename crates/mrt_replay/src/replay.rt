@@ -48,8 +48,8 @@ where
     D: Dealing + Sync,
     G: Gate,
     requires { IsPlan plan.now }
-    // A run that completes wrote the report on the files' bytes, byte for byte, counted them, and flushed the
-    // writer after that. An error has its cause, and leaves nothing written, or a leading part of the report. With sound devices and records within
+    // A run that completes wrote the report on the files' bytes, byte for byte, counted them, flushed the
+    // writer after that, and met no failure. An error has its cause, and leaves nothing written, or a leading part of the report. With sound devices and records within
     // the limit it completes, unless it runs out of memory.
     ensures promised { IsPromised (record {
       request = request.now;

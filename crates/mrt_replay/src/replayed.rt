@@ -62,6 +62,7 @@ where
     ensures played { OnOk result
         (HasPlayed (D.lane_of replayer.old.dealer.dealing) replayer.old.plan (shown replayer.old) (shown replayer.new)
         units.old units.new (map R.remaining files.old) replayer.old.rounds replayer.new.rounds) }
+    ensures sound { OnOk result (map R.failure_count files.new ≡ map R.failure_count files.old) }
     ensures cause { IfErr result
         (StopsFiles units.old (map R.remaining files.old) (map R.failure_count files.old)
         (map R.failure_count files.new)) }
@@ -100,6 +101,8 @@ where
     // If the readers state their bytes, the tables stand for the units and refusals of these.
     ensures replayed { (contents : List (List ℕ)) → map R.remaining files.old ≡ map (λ bytes. Some bytes) contents →
         IfOk result (IsReplayOf plan.now contents) }
+    // No reader failed in a replay that is Ok.
+    ensures sound { OnOk result (map R.failure_count files.new ≡ map R.failure_count files.old) }
     // An error has its cause.
     ensures cause { IfErr result
         (StopsReplay plan.now.max_records (map R.remaining files.old) (map R.failure_count files.old)

@@ -7,7 +7,7 @@ use Rattle.mrt_frame.specs.declared.error.ReplayError.TheVariants as errors
 use Rattle.mrt_replay.specs.Headline.{RunState}
 use Rattle.mrt_replay.proofs.HeadlineLaws.{stopped}
 use Rattle.mrt_replay.specs.Reports.{lines_of}
-use Rattle.mrt_replay.proofs.RunLaws.{lines_are_report, damaged_counted, peers_counted, routes_counted, flush_failed, flush_succeeded, front_whole, stops_writing, stops_reading}
+use Rattle.mrt_replay.proofs.RunLaws.{lines_are_report, damaged_counted, peers_counted, routes_counted, flush_failed, flush_succeeded, flush_unfailed, front_whole, stops_writing, stops_reading}
 use Rattle.mrt_replay.proofs.replay.run.Goals as goal
 
 pub returns-in-Err-clause-promised : goal.returns-in-Err-clause-promised
@@ -89,9 +89,12 @@ returns-clause-promised g c = record {
           routes = routes_counted until files tables c.routes.result p.stands c.routes.ensures;
           peers = peers_counted (units_of until files) (refused_of until files) tables c.peers.result p.stands c.peers.ensures;
           rounds = p.few_rounds;
+          two_rounds = p.two_rounds;
+          enough_rounds = p.enough_rounds;
         };
       };
   flushed = flush_succeeded c.flush_all.result (sym c.is_err.ensures.value ∙ c.if-is_err.false) c.flush_all.ensures.flushed;
+  unfailed = (c.in-Ok.ensures.sound, flush_unfailed c.flush_all.result _ _ (sym c.is_err.ensures.value ∙ c.if-is_err.false) c.flush_all.ensures.counted ∙ c.in_default.ensures.sound);
   cause = tt;
   completes = λ files honest sound within. tt;
 }

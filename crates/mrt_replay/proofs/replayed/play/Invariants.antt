@@ -11,7 +11,7 @@ invariant-rounds g l = record {
   plan : l.replayer.plan ≡ l.initial.replayer.plan;
   dealing : l.replayer.dealer.dealing ≡ l.initial.replayer.dealer.dealing;
   counts : map g.R.Failures.failure_count l.files ≡ map g.R.Failures.failure_count l.initial.files;
-  far : SoFar (g.D.Dealing.lane_of l.initial.replayer.dealer.dealing) l.initial.replayer.plan (shown l.initial.replayer) (shown l.replayer) l.initial.units l.units (map g.R.Source.remaining l.initial.files) (map g.R.Source.remaining l.files) l.initial.replayer.rounds l.replayer.rounds;
+  far : SoFar (g.D.Dealing.lane_of l.initial.replayer.dealer.dealing) l.initial.replayer.plan (shown l.initial.replayer) (shown l.replayer) l.initial.units l.units (map g.R.Source.remaining l.initial.files) (map g.R.Source.remaining l.files) l.initial.replayer.rounds l.initial.replayer.rounds l.replayer.rounds;
 }
 
 abbrev pub decreases-rounds : goal.decreases-rounds

@@ -1,4 +1,4 @@
-use Rattle.std.proofs.Common.{◌≡◌, ◌≤◌, ◌+◌, [], Option, sym, ap, ◌∙◌, subst, length, map, arith}
+use Rattle.std.proofs.Common.{◌≡◌, ◌≤◌, ◌+◌, ◌-◌, ◌^◌, min, [], Option, sym, ap, ◌∙◌, subst, length, map, arith}
 use Rattle.std.specs.Prelude.{option_to_list}
 use Rattle.std.specs.List.{filter_map}
 use Rattle.std.proofs.lemmas.List.{length-map}
@@ -9,7 +9,7 @@ use Rattle.lane_deal.specs.Replayers.{ReplayerStandsFor}
 use Rattle.mrt_replay.specs.Replays.{DealtAll}
 use Rattle.mrt_replay.proofs.FilesTaken.{stops_replay, took_files, few_units_of, units_came, records_taken, aside_taken}
 use Rattle.mrt_replay.proofs.LanesTaken.{all_dealt}
-use Rattle.mrt_replay.proofs.RoundsTaken.{few_in_all}
+use Rattle.mrt_replay.proofs.RoundsTaken.{few_in_all, two_in_all, enough_in_all}
 use Rattle.mrt_replay.proofs.replayed.replay.Goals as goal
 
 pub returns-in-Err-clause-cause : goal.returns-in-Err-clause-cause
@@ -50,12 +50,16 @@ returns-clause-replayed g c contents known =
     let four = subst (λ d. ReplayerStandsFor (λ p w. law d.dealing.now p w) t.plan.ring units refused (shown t)) (sym still.1)
     (subst (λ pl. ReplayerStandsFor (λ p w. law s.dealer.dealing.now p w) pl.ring units refused (shown t)) (sym still.0) three) in
     let count : c.dealt-dealt.result ≡ length units = (let d = c.dealt-dealt.ensures in let m = four.dealt_counted in omega (arith, d, m, few)) in
-    let up : c.rounds-rounds.result ≤ s.rounds + 1 =
-    (let f = c.in-Ok.ensures.forks (λ e. let k = kept.2 in absurd (cc)) in let q = c.rounds-rounds.ensures in omega (arith, f, q)) in
+    let up : c.rounds-rounds.result ≡ min (s.rounds + 1) (2 ^ 64 - 1) =
+    (let f = c.in-Ok.ensures.forks (λ e. let k = kept.2 in absurd (cc)) in c.rounds-rounds.ensures ∙ f) in
+    let at_most : c.rounds-rounds.result ≤ s.rounds + 1 = omega (arith, up) in
     record {
       stands = c.in-Ok-into_tables.ensures.tables units refused four;
       records_counted = c.records.ensures ∙ records_taken start _ max until c.new-units.ensures.fresh contents told known (DealtAll (λ p w. law r.dealer.dealing.now p w) r.plan.ring) c.play.new.units (shown r) (shown s) played.taken empty cuts;
       units_counted = count;
       aside_counted = c.aside.ensures ∙ aside_taken start _ max until c.new-units.ensures.fresh contents told known (DealtAll (λ p w. law r.dealer.dealing.now p w) r.plan.ring) c.play.new.units (shown r) (shown s) played.taken empty cuts;
-      few_rounds = few_in_all c.args.plan.now r.plan r.rounds s.rounds c.rounds-rounds.result (length (filter_map unit_of played.taken.items)) c.dealt-dealt.result made.plan.0 made.running.1 (played.few made.settled made.running.2) up (ap length came ∙ sym count);
+      few_rounds = few_in_all c.args.plan.now r.plan r.rounds s.rounds c.rounds-rounds.result (length (filter_map unit_of played.taken.items)) c.dealt-dealt.result made.plan.0 made.running.1 (played.few made.settled made.running.2) at_most (ap length came ∙ sym count);
+      two_rounds = two_in_all r.rounds s.rounds c.rounds-rounds.result played.played made.running.1 played.some played.counted up;
+      enough_rounds = enough_in_all c.args.plan.now r.plan r.rounds s.rounds c.rounds-rounds.result played.played (length (filter_map unit_of played.taken.items)) c.dealt-dealt.result c.requires made.plan.0 made.running.1 played.counted up
+          (played.batches made.running.2) (ap length came ∙ sym count) (omega (arith, count, few));
     }

@@ -25,8 +25,8 @@ returns-in_err-ask-clause-deals g c =
     let p = err_from_is_err_and c.from_residual.result c.from_residual.ensures.1 in
     let same = c.ask.ensures.same in
     let none = c.in_err-ask.ensures.failed in
-    rw (p.1, p.2) (λ file e. Deals-failed _ _ _ c.loop-dealt.feeds _ _ c.ask.new.self _ _ _ _ _ _ _ _ c.loop-dealt.invariant.far _ _
-    (NextInVain-asked _ _ _ _ none (record { dealing = ap (λ o. o.dealing) same; peers = ap (λ o. o.peers) same; kept = ap (λ o. o.kept) same ∙ none; dealt = ap (λ o. o.dealt) same }) (c.in_err-ask.ensures.asked none file e)))
+    rw (p.1, p.2) (λ file e. Deals-failed _ _ _ c.loop-dealt.feeds _ _ c.ask.new.self _ _ _ _ _ _ _ _ c.loop-dealt.invariant.far _ _ (let t = c.loop-dealt-test.true in omega arith)
+    (NextInVain-asked _ _ _ _ _ _ none (record { dealing = ap (λ o. o.dealing) same; peers = ap (λ o. o.peers) same; kept = ap (λ o. o.kept) same ∙ none; dealt = ap (λ o. o.dealt) same }) (c.in_err-ask.ensures.asked none file e)))
 
 pub returns-in_default-take-clause-sound : goal.returns-in_default-take-clause-sound
 returns-in_default-take-clause-sound g c = c.in_ok-ask.ensures.sound ∙ c.loop-dealt.invariant.sound
@@ -40,7 +40,7 @@ returns-in_default-take-clause-deals g c =
     let empty = c.in_default.ensures.none refl kept (c.in_ok-ask.ensures.going none) in
     let next =
     Next-ended _ _ _ _ _ _ none (record { dealing = ap (λ o. o.dealing) same; peers = ap (λ o. o.peers) same; kept = c.take.ensures.after; dealt = ap (λ o. o.dealt) same }) (c.in_ok-ask.ensures.asked none) empty in
-    Deals-end _ _ _ c.loop-dealt.feeds _ _ c.ask.new.self _ _ _ _ _ _ _ _ i.far _ next
+    Deals-end _ _ _ c.loop-dealt.feeds _ _ c.ask.new.self _ _ _ _ _ _ _ _ i.far _ (let t = c.loop-dealt-test.true in omega arith) next
 
 -- ---- a unit that was lent
 
@@ -58,10 +58,10 @@ returns-then-not-has_room-clause-deals g c =
     let same = c.lane_for.ensures.same in
     let next =
     Next-lent c.loop-dealt.self c.ask.new.self c.loop-dealt.units c.ask.new.units c.pass.new.self _ _ unit none (record { dealing = ap (λ o. o.dealing) asked; peers = ap (λ o. o.peers) asked; kept = kept; dealt = ap (λ o. o.dealt) asked }) (c.in_ok-ask.ensures.asked none) c.in-Some.ensures.lends
-    c.pass.ensures.passes c.pass.ensures.found c.pass.ensures.units c.pass.ensures.plan in
+    c.pass.ensures.passes c.pass.ensures.found c.pass.ensures.units c.pass.ensures.plan (c.in_ok-ask.ensures.going none) in
     let lane : lane_of c.in_ok-number.number ≡ c.in_ok-number.lane = (let e = ap (λ o. o.dealing) asked in let d = i.far.handles.dealing in let f = i.far.handles.pushed.lanes in let l = c.in_ok-number.ensures.lane in cc) in
     let below = g.met.D.Dealing.is_below c.args.self.now.dealing c.in_ok-number.number (length c.args.feeds.now) c.requires.lanes in
-    Deals-blocked lane_of _ _ _ _ _ c.ask.new.self _ _ _ _ _ _ _ _ i.far _ unit _ c.in_ok-number.number c.in_ok-number.lane next c.in_ok-number.ensures.numbers (ap (λ o. o.dealing) same) refl c.in_ok-to_unit.ensures.copies (ap (λ o. o.refused) same) (ap (λ o. o.dealt) same)
+    Deals-blocked lane_of _ _ _ _ _ c.ask.new.self _ _ _ _ _ _ _ _ i.far _ (let t = c.loop-dealt-test.true in omega arith) unit _ c.in_ok-number.number c.in_ok-number.lane next c.in_ok-number.ensures.numbers (ap (λ o. o.dealing) same) refl c.in_ok-to_unit.ensures.copies (ap (λ o. o.refused) same) (ap (λ o. o.dealt) same)
     lane (omega (arith, below, lane)) (c.if-not-has_room.ensures.looked lane_of) (c.if-not-has_room.ensures.full refl)
 
 pub loop-dealt-preserved-in-Some : goal.loop-dealt-preserved-in-Some
@@ -75,7 +75,7 @@ loop-dealt-preserved-in-Some g c =
     let same = c.lane_for.ensures.same in
     let next =
     Next-lent c.loop-dealt.self c.ask.new.self c.loop-dealt.units c.ask.new.units c.pass-in-Some.new.self _ _ unit none (record { dealing = ap (λ o. o.dealing) asked; peers = ap (λ o. o.peers) asked; kept = kept; dealt = ap (λ o. o.dealt) asked }) (c.in_ok-ask.ensures.asked none)
-    c.in-Some.ensures.lends c.pass-in-Some.ensures.passes c.pass-in-Some.ensures.found c.pass-in-Some.ensures.units c.pass-in-Some.ensures.plan in
+    c.in-Some.ensures.lends c.pass-in-Some.ensures.passes c.pass-in-Some.ensures.found c.pass-in-Some.ensures.units c.pass-in-Some.ensures.plan (c.in_ok-ask.ensures.going none) in
     let lane : lane_of c.in_ok-number.number ≡ c.in_ok-number.lane = (let e = ap (λ o. o.dealing) asked in let d = i.far.handles.dealing in let f = i.far.handles.pushed.lanes in let l = c.in_ok-number.ensures.lane in cc) in record {
       count = c.pass-in-Some.ensures.plan.0 ∙ c.ask.ensures.count ∙ i.count;
       sound = c.in_ok-ask.ensures.sound ∙ i.sound;
@@ -101,7 +101,7 @@ returns-then-not-has_room-2-clause-deals g c =
     let next = Next-kept c.loop-dealt.self c.ask.new.self _ _ _ _ unit kept (ap (λ o. o.dealing) asking) (ap (λ o. o.peers) asking) (ap (λ o. o.dealt) asking) waits.0 waits.1 in
     let lane : lane_of c.in_ok-number-2.number ≡ c.in_ok-number-2.lane = (let e = ap (λ o. o.dealing) asking in let d = i.far.handles.dealing in let f = i.far.handles.pushed.lanes in let l = c.in_ok-number-2.ensures.lane in cc) in
     let below = g.met.D.Dealing.is_below c.args.self.now.dealing c.in_ok-number-2.number (length c.args.feeds.now) c.requires.lanes in
-    Deals-blocked lane_of _ _ _ _ _ asked _ _ _ _ _ _ _ _ i.far _ unit unit c.in_ok-number-2.number c.in_ok-number-2.lane next c.in_ok-number-2.ensures.numbers (ap (λ o. o.dealing) same) refl refl (ap (λ o. o.refused) same) (ap (λ o. o.dealt) same)
+    Deals-blocked lane_of _ _ _ _ _ asked _ _ _ _ _ _ _ _ i.far _ (let t = c.loop-dealt-test.true in omega arith) unit unit c.in_ok-number-2.number c.in_ok-number-2.lane next c.in_ok-number-2.ensures.numbers (ap (λ o. o.dealing) same) refl refl (ap (λ o. o.refused) same) (ap (λ o. o.dealt) same)
     lane (omega (arith, below, lane)) (c.if-not-has_room-2.ensures.looked lane_of) (c.if-not-has_room-2.ensures.full refl)
 
 pub loop-dealt-preserved : goal.loop-dealt-preserved
