@@ -7,3 +7,5 @@ pub mod SourceLaws
 pub mod Reached
 pub mod Announcements
 mod Examples
+pub mod Selected
+pub mod RetainLaws

@@ -7,6 +7,8 @@ use Rattle.mrt_body.specs.declared.unit.Damage.{Damage}
 use Rattle.adj_rib.specs.declared.churn.Churn.{Churn}
 use Rattle.adj_rib.specs.Steps.{is_up, steps_of}
 use Rattle.adj_rib.specs.Tables.{table_of}
+use Rattle.mrt_body.specs.declared.choice.PrefixChoice.{PrefixChoice}
+use Rattle.adj_rib.specs.Selecting.{chooses, selected_entries}
 use Rattle.adj_rib.specs.Churns.{churn_of, damaged_of}
 
 -- the table as its entries in order
@@ -26,6 +28,10 @@ session_of units = record {
   faults = damaged_of units;
   spent = false;
 }
+
+-- a session of which the routes of chosen prefixes are left
+abbrev pub chosen_session : List PrefixChoice → SessionState → SessionState
+chosen_session choices session = record session { table = selected_entries (chooses choices) session.table }
 
 -- a session that stands for these units
 abbrev pub StandsFor : SessionState → List ReplayUnit → Type 0

@@ -3,16 +3,17 @@
 ghost use Rattle.std.specs.Prelude.{◌≡◌, [], ◌∷◌, ◌++◌, List, OnOk, is_err, IsErr, IsTrue};
 ghost use Rattle.std.specs.FinMap as finite;
 ghost use Rattle.adj_rib.specs.RouteSets.{IsAheadOf};
-ghost use Rattle.adj_rib.specs.Sessions.{StandsFor};
+ghost use Rattle.adj_rib.specs.Sessions.{StandsFor, chosen_session};
 ghost use Rattle.mrt_body.specs.Lent.{lent_payload, lent_unit};
 ghost use Rattle.mrt_body.specs.declared.unit.Unit.{Unit as ReplayUnit};
 
 use crate::churn::Churn;
 use crate::read_ahead::ReadAhead;
+use crate::retaining::retain_chosen;
 use crate::rib_in::RibIn;
 use crate::shared_route::SharedRoute;
 use bgp_prefix::{Memory, PrefixMap};
-use mrt_body::{Damage, LentUnit, Unit};
+use mrt_body::{Damage, LentUnit, PrefixChoice, Unit};
 use std::alloc::Global;
 use std::marker::Model;
 
@@ -118,6 +119,14 @@ impl<M: PrefixMap<SharedRoute>> Session<M> {
         ensures { finite.entries (M.contents result.now) ≡ self.now.table }
     {
         &self.rib.table
+    }
+
+    /// Removes the routes of prefixes that aren't chosen. The session is for reading then: it no longer stands for its
+    /// units. After an `Err` the table is as it was.
+    pub fn retain(&mut self, alloc: Global, choices: &[PrefixChoice]) -> Result<(), Memory>
+        ensures { OnOk result (self.new ≡ chosen_session choices.now self.old) }
+    {
+        retain_chosen(alloc, choices, &mut self.rib.table)
     }
 
     /// What the units did to the table.

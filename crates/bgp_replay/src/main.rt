@@ -15,6 +15,7 @@ use command_line::{Job, Usage, read_words};
 use counts::Counts;
 use input::{Input, OpenError, Watched, open_all};
 use lane_deal::{ByTurns, Plan};
+use mrt_body::Selection;
 use mrt_frame::Counted;
 use mrt_replay::{run, status};
 use output::{Report, columns};
@@ -93,7 +94,6 @@ fn plan_of(job: &Job, workers: usize) -> Plan
     ensures plan { IsPlan result }
     ensures workers { result.workers ≡ workers }
     ensures ring { result.ring ≡ job.now.ring }
-    ensures until { result.until ≡ job.now.until }
 {
     Plan {
         workers,
@@ -101,7 +101,6 @@ fn plan_of(job: &Job, workers: usize) -> Plan
         batch: batch_of(workers),
         looks: looks_of(workers),
         max_records: MAX_RECORDS,
-        until: job.until,
     }
 }
 
@@ -241,12 +240,18 @@ fn replay_job(rt: &HostRuntime, threads: &(impl Threads + Sync), job: &Job) -> u
         ""
     };
     let workers = workers_of(threads, job);
+    let prefixes = match Vec::from_slice(rt.alloc(), &job.prefixes) {
+        Ok(prefixes) => prefixes,
+        Err(_) => return without_memory(rt, "the words were read"),
+    };
+    let selection = Selection::new(job.until, prefixes);
     let mut out = Counted::new(Report::new(rt.stdout(), header, board.as_ref()));
     let outcome = run::<Shelf<SharedRoute>, _, _, _, _, _>(
         threads,
         rt.alloc(),
         inputs.as_mut_slice(),
         &job.request,
+        selection,
         &plan_of(job, workers),
         &ByTurns,
         &Counter {

@@ -140,6 +140,16 @@ fn until_option<'a>(alloc: Global) -> Arg<'a> {
         )
 }
 
+fn prefix_option<'a>(alloc: Global) -> Arg<'a> {
+    Arg::new(alloc, "prefix")
+        .long("prefix")
+        .value_name("PREFIX")
+        .action(ArgAction::Append)
+        .help(
+            "Report on this prefix alone, as 192.0.2.0/24; with '+' also on more specifics, with '-' also on what contains it; may be given more than once",
+        )
+}
+
 fn header_flag<'a>(alloc: Global) -> Arg<'a> {
     Arg::new(alloc, "header")
         .long("header")
@@ -221,6 +231,7 @@ fn report_command<'a>(
         .arg(workers_option(alloc))?
         .arg(ring_option(alloc))?
         .arg(until_option(alloc))?
+        .arg(prefix_option(alloc))?
         .arg(header_flag(alloc))?
         .arg(summary_flag(alloc))?
         .arg(progress_flag(alloc))?

@@ -2,6 +2,7 @@
 #![tactic(auto)]
 
 mod address;
+mod choice;
 mod commands;
 mod kind;
 mod moment;

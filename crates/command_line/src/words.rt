@@ -6,10 +6,12 @@ ghost use Rattle.command_line.specs.Words.{IsRefusal};
 ghost use Rattle.command_line.specs.declared.words.Usage.TheVariants.{Memory};
 
 use crate::address::read_address;
+use crate::choice::read_choice;
 use crate::commands::command;
 use crate::moment::read_second;
 use clap::error::ErrorKind;
 use clap::{ArgMatches, Error};
+use mrt_body::PrefixChoice;
 use rib_report::Request;
 use std::alloc::{AllocError, AllocFailed, Global};
 
@@ -29,6 +31,8 @@ pub struct Job {
     pub ring: usize,
     /// A second since 1970 UTC.
     pub until: Option<u64>,
+    /// The prefixes that are chosen, or none for all.
+    pub prefixes: Vec<PrefixChoice>,
     /// Whether the columns' names come first.
     pub header: bool,
     /// Whether a summary of what was read goes to standard error.
@@ -121,6 +125,26 @@ fn until_of(alloc: Global, matches: &ArgMatches<'_>) -> Result<Option<u64>, Usag
     }
 }
 
+/// Returns the prefixes that are chosen.
+fn prefixes_of(alloc: Global, matches: &ArgMatches<'_>) -> Result<Vec<PrefixChoice>, Usage>
+    ensures { IfErr result IsRefusal }
+{
+    let mut choices = Vec::new(alloc);
+    if let Some(texts) = matches.get_strs("prefix") {
+        for text in texts {
+            match read_choice(text) {
+                Some(choice) => choices.push(choice)?,
+                None => {
+                    return Err(Usage::Words(format!(in alloc;
+                        "error: invalid value '{text}' for '--prefix <PREFIX>': not as 192.0.2.0/24, 192.0.2.0/24+ (and more specifics) or 192.0.2.0/24- (and less specifics)\n"
+                    )?));
+                }
+            }
+        }
+    }
+    Ok(choices)
+}
+
 fn files_of(alloc: Global, matches: &ArgMatches<'_>) -> Result<Vec<String>, Usage>
     ensures { IfErr result IsRefusal }
 {
@@ -138,6 +162,7 @@ fn job_of(alloc: Global, name: &str, matches: &ArgMatches<'_>) -> Result<Job, Us
 {
     let request = request_of(alloc, name, matches)?;
     let until = until_of(alloc, matches)?;
+    let prefixes = prefixes_of(alloc, matches)?;
     let files = files_of(alloc, matches)?;
     let given = matches.get_one::<usize>("workers");
     let workers = given.unwrap_or(WORKERS_DEFAULT);
@@ -157,6 +182,7 @@ fn job_of(alloc: Global, name: &str, matches: &ArgMatches<'_>) -> Result<Job, Us
         has_workers: given.is_some(),
         ring,
         until,
+        prefixes,
         header: matches.get_flag("header"),
         summary: matches.get_flag("summary"),
         progress: matches.get_flag("progress"),

@@ -14,8 +14,6 @@ pub struct Plan {
     pub looks: u32,
     /// Maximum number of whole records that a run cuts, 1 to 2^47.
     pub max_records: u64,
-    /// The last second since 1970 UTC whose units count, or all.
-    pub until: Option<u64>,
 }
 
 impl Plan {

@@ -24,6 +24,7 @@ use Rattle.mrt_body.specs.declared.meaning.Event.TheVariants as event
 use Rattle.mrt_body.specs.Indexes.{index_in, index_head_at, peers_in, written_peer_at}
 use Rattle.mrt_body.specs.RibRecords.{rib_in, rib_head_at, entry_at}
 use Rattle.mrt_body.specs.Bgp4mp.{session_at, session_peer_at, states_in}
+use Rattle.mrt_body.specs.Choices.{UnitSelection}
 use Rattle.mrt_body.specs.Units.{found_in, found_at, content_of, message_unit, states_unit, aside_of, records_of}
 use Rattle.mrt_body.specs.Events.{event_in, message_event_in, message_in}
 use Rattle.mrt_body.proofs.Dumps.{marker_16, session_four, plain_attributes, announcement, state_change, peer_table, rib_with, rib_record}
@@ -38,15 +39,18 @@ announcement-length = refl
 abbrev message_of_announcement : List ℕ
 message_of_announcement = drop 32 announcement
 
-found-announcement : found_in None (announcement ∷ []) ≡ found.Unit (record { place = record { file = 0; offset = 0; entry = None }; time = 1000000; peer = record { asn = 65000; addr = V4 0xC0000201 }; payload = Message message_of_announcement Four false }) ∷ []
+abbrev everything : UnitSelection
+everything = record { until = None; prefixes = [] }
+
+found-announcement : found_in everything (announcement ∷ []) ≡ found.Unit (record { place = record { file = 0; offset = 0; entry = None }; time = 1000000; peer = record { asn = 65000; addr = V4 0xC0000201 }; payload = Message message_of_announcement Four false }) ∷ []
 unfolding found_in cuts cuts_within found_at content_of message_unit states_unit session_peer_at session_at states_in index_in index_head_at peers_in written_peer_at rib_in rib_head_at entry_at
 found-announcement = refl
 
-found-state_change : found_in None (state_change (hex (codes "0006 0001")) ∷ []) ≡ found.Unit (record { place = record { file = 0; offset = 0; entry = None }; time = 2000000; peer = record { asn = 65000; addr = V4 0xC0000201 }; payload = State 6 1 }) ∷ []
+found-state_change : found_in everything (state_change (hex (codes "0006 0001")) ∷ []) ≡ found.Unit (record { place = record { file = 0; offset = 0; entry = None }; time = 2000000; peer = record { asn = 65000; addr = V4 0xC0000201 }; payload = State 6 1 }) ∷ []
 unfolding found_in cuts cuts_within found_at content_of message_unit states_unit session_peer_at session_at states_in index_in index_head_at peers_in written_peer_at rib_in rib_head_at entry_at
 found-state_change = refl
 
-found-rib : found_in None ((peer_table ++ rib_record) ∷ [])
+found-rib : found_in everything ((peer_table ++ rib_record) ∷ [])
     ≡ found.Unit (record { place = record { file = 0; offset = 56; entry = Some 1 }; time = 3000000; peer = record { asn = 65000; addr = V6 0x20010DB8000000000000000000000001 }; payload = Entry (ten 0) plain_attributes })
     ∷ found.Unit (record { place = record { file = 0; offset = 56; entry = Some 2 }; time = 3000000; peer = record { asn = 70000; addr = V4 0xC0000202 }; payload = Entry (ten 0) (hex (codes "40010103")) })
     ∷ []
@@ -57,40 +61,40 @@ abbrev refused_at : ℕ → ℕ → Fault → Found
 refused_at file offset fault = found.Refused (record { place = record { file = file; offset = offset; entry = None }; fault = fault })
 
 -- an index holds in its own file alone
-found-other_file : drop 3 (found_in None ((peer_table ++ rib_record) ∷ announcement ∷ rib_record ∷ [])) ≡ refused_at 2 0 NoPeerIndex ∷ []
+found-other_file : drop 3 (found_in everything ((peer_table ++ rib_record) ∷ announcement ∷ rib_record ∷ [])) ≡ refused_at 2 0 NoPeerIndex ∷ []
 unfolding found_in cuts cuts_within found_at content_of message_unit states_unit session_peer_at session_at states_in index_in index_head_at peers_in written_peer_at rib_in rib_head_at entry_at
 found-other_file = refl
 
-short_record : found_in None (hex (codes "00000001 0010 0004 00000002 0000") ∷ []) ≡ refused_at 0 0 ShortRecord ∷ []
+short_record : found_in everything (hex (codes "00000001 0010 0004 00000002 0000") ∷ []) ≡ refused_at 0 0 ShortRecord ∷ []
 unfolding found_in cuts cuts_within found_at content_of message_unit states_unit session_peer_at session_at states_in index_in index_head_at peers_in written_peer_at rib_in rib_head_at entry_at
 short_record = refl
 
-short_microseconds : found_in None (hex (codes "00000001 0011 0004 00000003 000000") ∷ []) ≡ refused_at 0 0 ShortRecord ∷ []
+short_microseconds : found_in everything (hex (codes "00000001 0011 0004 00000003 000000") ∷ []) ≡ refused_at 0 0 ShortRecord ∷ []
 unfolding found_in cuts cuts_within found_at content_of message_unit states_unit session_peer_at session_at states_in index_in index_head_at peers_in written_peer_at rib_in rib_head_at entry_at
 short_microseconds = refl
 
-trailing : found_in None ((hex (codes "00000002 0010 0005 00000019") ++ session_four ++ hex (codes "0006 0001 00")) ∷ []) ≡ refused_at 0 0 TrailingBytes ∷ []
+trailing : found_in everything ((hex (codes "00000002 0010 0005 00000019") ++ session_four ++ hex (codes "0006 0001 00")) ∷ []) ≡ refused_at 0 0 TrailingBytes ∷ []
 unfolding found_in cuts cuts_within found_at content_of message_unit states_unit session_peer_at session_at states_in index_in index_head_at peers_in written_peer_at rib_in rib_head_at entry_at
 trailing = refl
 
-bad_family : found_in None ((hex (codes "00000001 0010 0004 00000041 0000FDE8 0000FDE9 0000 0003") ++ drop 24 announcement) ∷ []) ≡ refused_at 0 0 BadFamily ∷ []
+bad_family : found_in everything ((hex (codes "00000001 0010 0004 00000041 0000FDE8 0000FDE9 0000 0003") ++ drop 24 announcement) ∷ []) ≡ refused_at 0 0 BadFamily ∷ []
 unfolding found_in cuts cuts_within found_at content_of message_unit states_unit session_peer_at session_at states_in index_in index_head_at peers_in written_peer_at rib_in rib_head_at entry_at
 bad_family = refl
 
-no_index : found_in None (rib_record ∷ []) ≡ refused_at 0 0 NoPeerIndex ∷ []
+no_index : found_in everything (rib_record ∷ []) ≡ refused_at 0 0 NoPeerIndex ∷ []
 unfolding found_in cuts cuts_within found_at content_of message_unit states_unit session_peer_at session_at states_in index_in index_head_at peers_in written_peer_at rib_in rib_head_at entry_at
 no_index = refl
 
-bad_index : found_in None ((peer_table ++ rib_with (hex (codes "080A")) (hex (codes "0002"))) ∷ []) ≡ refused_at 0 56 BadPeerIndex ∷ []
+bad_index : found_in everything ((peer_table ++ rib_with (hex (codes "080A")) (hex (codes "0002"))) ∷ []) ≡ refused_at 0 56 BadPeerIndex ∷ []
 unfolding found_in cuts cuts_within found_at content_of message_unit states_unit session_peer_at session_at states_in index_in index_head_at peers_in written_peer_at rib_in rib_head_at entry_at
 bad_index = refl
 
-bad_prefix : found_in None ((peer_table ++ rib_with (hex (codes "210A")) (hex (codes "0001"))) ∷ []) ≡ refused_at 0 56 BadPrefix ∷ []
+bad_prefix : found_in everything ((peer_table ++ rib_with (hex (codes "210A")) (hex (codes "0001"))) ∷ []) ≡ refused_at 0 56 BadPrefix ∷ []
 unfolding found_in cuts cuts_within found_at content_of message_unit states_unit session_peer_at session_at states_in index_in index_head_at peers_in written_peer_at rib_in rib_head_at entry_at
 bad_prefix = refl
 
 -- a cut file ends there, and the next one is read
-two_files : take 1 (found_in None (take 76 announcement ∷ announcement ∷ [])) ≡ refused_at 0 0 ShortBody ∷ []
+two_files : take 1 (found_in everything (take 76 announcement ∷ announcement ∷ [])) ≡ refused_at 0 0 ShortBody ∷ []
 unfolding found_in cuts cuts_within found_at content_of message_unit states_unit session_peer_at session_at states_in index_in index_head_at peers_in written_peer_at rib_in rib_head_at entry_at
 two_files = refl
 
@@ -100,13 +104,13 @@ two_files = refl
 abbrev path_record : List ℕ
 path_record = hex (codes "00000003 000D 0008 00000028 00000000 080A 0001 0000 00000001 00000007 0014") ++ plain_attributes
 
-found-path_record : found_in None ((peer_table ++ path_record) ∷ [])
+found-path_record : found_in everything ((peer_table ++ path_record) ∷ [])
     ≡ found.Unit (record { place = record { file = 0; offset = 56; entry = Some 1 }; time = 3000000; peer = record { asn = 65000; addr = V6 0x20010DB8000000000000000000000001 }; payload = Entry (ten 7) plain_attributes }) ∷ []
 unfolding found_in cuts cuts_within found_at content_of message_unit states_unit session_peer_at session_at states_in index_in index_head_at peers_in written_peer_at rib_in rib_head_at entry_at
 found-path_record = refl
 
 -- the body has no room for an identifier
-short_identifier : found_in None ((peer_table ++ hex (codes "00000003 000D 0008 00000011 00000000 080A 0001 0000 00000001 000000")) ∷ []) ≡ refused_at 0 56 ShortRecord ∷ []
+short_identifier : found_in everything ((peer_table ++ hex (codes "00000003 000D 0008 00000011 00000000 080A 0001 0000 00000001 000000")) ∷ []) ≡ refused_at 0 56 ShortRecord ∷ []
 unfolding found_in cuts cuts_within found_at content_of message_unit states_unit session_peer_at session_at states_in index_in index_head_at peers_in written_peer_at rib_in rib_head_at entry_at
 short_identifier = refl
 
@@ -114,7 +118,7 @@ short_identifier = refl
 abbrev path_announcement : List ℕ
 path_announcement = hex (codes "00000001 0010 0009 00000045") ++ session_four ++ marker_16 ++ hex (codes "0031 02 0000 0014") ++ plain_attributes ++ hex (codes "00000007 080A")
 
-found-path_announcement : found_in None (path_announcement ∷ []) ≡ found.Unit (record { place = record { file = 0; offset = 0; entry = None }; time = 1000000; peer = record { asn = 65000; addr = V4 0xC0000201 }; payload = Message (drop 32 path_announcement) Four true }) ∷ []
+found-path_announcement : found_in everything (path_announcement ∷ []) ≡ found.Unit (record { place = record { file = 0; offset = 0; entry = None }; time = 1000000; peer = record { asn = 65000; addr = V4 0xC0000201 }; payload = Message (drop 32 path_announcement) Four true }) ∷ []
 unfolding found_in cuts cuts_within found_at content_of message_unit states_unit session_peer_at session_at states_in index_in index_head_at peers_in written_peer_at rib_in rib_head_at entry_at
 found-path_announcement = refl
 

@@ -13,11 +13,11 @@ use Rattle.std.specs.Io.KnownBytes.{Consumes}
 use Rattle.mrt_frame.specs.Cuts.{fault_at}
 use Rattle.mrt_frame.specs.Frames.{Position, to_come, KeepsUnlessRead}
 use Rattle.mrt_frame.specs.declared.fault.Fault.{Fault}
+use Rattle.mrt_body.specs.Choices.{UnitSelection}
 use Rattle.mrt_body.specs.declared.unit.PeerKey.{PeerKey}
 use Rattle.mrt_body.specs.declared.unit.Unit.{Unit as ReplayUnit}
 use Rattle.mrt_body.specs.declared.unit.Found.{Found}
 use Rattle.mrt_body.specs.declared.unit.Found.TheVariants as found
-use Rattle.mrt_body.specs.Selections.{up_to}
 use Rattle.mrt_body.specs.Units.{found_in, found_in_files, all_cuts, is_whole, is_aside}
 use Rattle.mrt_body.specs.ToCome.{UnitsState, in_next_file, as_found, found_here, found_left, found_to_come, cuts_to_come, Passes, TakesFound, GivesPending, StaysInFile, LeavesFile, Steps, HasRecord, HasMoreRecords, StopsAt, Stops, before_failure, FailsInRecord, FailsBehind, GivesAllBefore, answers_left, units_left, fresh_units}
 use Rattle.mrt_body.proofs.IndexLaws.{found_in_file-is}
@@ -283,11 +283,11 @@ units_than a b u v h gives step =
 
 -- ---- a reading that begins
 
-pub fresh_found : (count max_records : ℕ) (until : Option ℕ) (contents : List Bytes) → found_to_come (fresh_units count max_records until) contents ≡ found_in until contents
+pub fresh_found : (count max_records : ℕ) (selection : UnitSelection) (contents : List Bytes) → found_to_come (fresh_units count max_records selection) contents ≡ found_in selection contents
 unfolding found_in
-fresh_found count max_records until [] = refl
-fresh_found count max_records until (bytes ∷ later) = ap (λ (l : List Found). l ++ found_in_files (up_to until) 1 later) (sym (found_in_file-is (up_to until) 0 bytes))
+fresh_found count max_records selection [] = refl
+fresh_found count max_records selection (bytes ∷ later) = ap (λ (l : List Found). l ++ found_in_files selection 1 later) (sym (found_in_file-is selection 0 bytes))
 
-pub fresh_cuts : (count max_records : ℕ) (until : Option ℕ) (contents : List Bytes) → cuts_to_come (fresh_units count max_records until) contents ≡ all_cuts contents
-fresh_cuts count max_records until [] = refl
-fresh_cuts count max_records until (bytes ∷ later) = refl
+pub fresh_cuts : (count max_records : ℕ) (selection : UnitSelection) (contents : List Bytes) → cuts_to_come (fresh_units count max_records selection) contents ≡ all_cuts contents
+fresh_cuts count max_records selection [] = refl
+fresh_cuts count max_records selection (bytes ∷ later) = refl

@@ -8,7 +8,7 @@ use Rattle.mrt_frame.specs.declared.cut.Cut.TheVariants.{Whole, Broken}
 use Rattle.mrt_frame.specs.Cuts.{cuts}
 use Rattle.mrt_frame.specs.Positions.{flat_map_after}
 use Rattle.mrt_body.specs.declared.unit.Found.{Found}
-use Rattle.mrt_body.specs.declared.selection.Selection.{Selection}
+use Rattle.mrt_body.specs.Choices.{UnitSelection}
 use Rattle.mrt_body.specs.declared.unit.PeerKey.{PeerKey}
 use Rattle.mrt_body.specs.Units.{content_of, is_index_content, index_of_body, index_body, index_before, index_after, found_at, found_from, found_in_file}
 
@@ -30,12 +30,12 @@ index_before-push earlier cut =
     ∙ ap (option_and_then index_of_body) (last_or-append None (filter_map index_body earlier) (cons_option (index_body cut) []))
     ∙ index_of_cut cut (last_or None (filter_map index_body earlier))
 
-pub found_from-is : (file : ℕ) (selection : Selection) (earlier others : List Cut) → flat_map_after (λ before cut. found_at file selection (index_before before) cut) earlier others ≡ found_from file selection (index_before earlier) others
+pub found_from-is : (file : ℕ) (selection : UnitSelection) (earlier others : List Cut) → flat_map_after (λ before cut. found_at file selection (index_before before) cut) earlier others ≡ found_from file selection (index_before earlier) others
 found_from-is file selection earlier [] = refl
 found_from-is file selection earlier (cut ∷ others) =
     ap (λ (rest : List Found). found_at file selection (index_before earlier) cut ++ rest)
     (found_from-is file selection (earlier ++ cut ∷ []) others ∙ ap (λ (index : Option (List PeerKey)). found_from file selection index others) (index_before-push earlier cut))
 
 -- a file's units and refusals, as a reading of it from its start goes on
-pub found_in_file-is : (selection : Selection) (file : ℕ) (bytes : List ℕ) → found_in_file selection file bytes ≡ found_from file selection None (cuts 0 bytes)
+pub found_in_file-is : (selection : UnitSelection) (file : ℕ) (bytes : List ℕ) → found_in_file selection file bytes ≡ found_from file selection None (cuts 0 bytes)
 found_in_file-is selection file bytes = found_from-is file selection [] (cuts 0 bytes)

@@ -23,3 +23,4 @@ pub mod FilesLaws
 pub mod HeadParts
 pub mod EventLaws
 pub mod ReadingLaws
+pub mod OpenLaws

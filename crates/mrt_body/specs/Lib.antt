@@ -4,6 +4,7 @@ pub mod Many
 pub mod Indexes
 pub mod RibRecords
 pub mod Bgp4mp
+pub mod Choices
 pub mod Selections
 pub mod Units
 pub mod Lent

@@ -1,13 +1,19 @@
 -- What a selection takes of the units that files give. Its criteria speak of units, and not of the bytes of records.
-use Rattle.std.specs.Prelude.{ℕ, ◌/◌, Bool, true, false, Option, Some, None, nat_lt, if◌then◌else◌}
-use Rattle.mrt_body.specs.declared.selection.Selection.{Selection}
+use Rattle.std.specs.Prelude.{ℕ, ◌/◌, ◌&&◌, ◌||◌, Bool, true, false, List, Option, Some, None, Result, Ok, Err, nat_lt, if◌then◌else◌}
+use Rattle.std.specs.List.{list_any}
+use Rattle.bgp_prefix.specs.Prefixes.{IpPrefix}
+use Rattle.bgp_prefix.specs.declared.key.RouteKey.{RouteKey}
+use Rattle.mrt_frame.specs.declared.fault.Fault.{Fault}
+use Rattle.mrt_body.specs.declared.choice.PrefixChoice.{PrefixChoice}
+use Rattle.mrt_body.specs.declared.meaning.Event.{Event}
+use Rattle.mrt_body.specs.declared.meaning.Event.TheVariants as event
+use Rattle.mrt_body.specs.declared.unit.Payload.{Payload}
+use Rattle.mrt_body.specs.declared.unit.Payload.TheVariants.{State, Message, Entry}
 use Rattle.mrt_body.specs.declared.unit.Unit.{Unit as ReplayUnit}
+use Rattle.mrt_body.specs.Choices.{UnitSelection, is_open, is_chosen}
+use Rattle.mrt_body.specs.Events.{event_in}
 
--- all units up to this second, or all where none is named
-abbrev pub up_to : Option ℕ → Selection
-up_to until = record { until = until }
-
--- ---- criteria
+-- ---- time
 
 -- whether the whole second of a time is past this one
 abbrev pub is_past : Option ℕ → ℕ → Bool
@@ -15,11 +21,39 @@ is_past None time = false
 is_past (Some until) time = nat_lt until (time / 1000000)
 
 -- whether the time of a unit is selected
-abbrev pub is_in_time : Selection → ReplayUnit → Bool
+abbrev pub is_in_time : UnitSelection → ReplayUnit → Bool
 is_in_time selection unit = if is_past selection.until unit.time then false else true
+
+-- ---- keys
+
+-- whether one of these keys has a chosen prefix
+abbrev pub has_chosen : List PrefixChoice → List RouteKey → Bool
+has_chosen choices keys = list_any (λ key. is_chosen choices key.prefix) keys
+
+-- whether an UPDATE speaks of a chosen prefix; a damaged one might, and a message of another type doesn't
+abbrev pub speaks_of : List PrefixChoice → Result Event Fault → Bool
+speaks_of choices (Ok (event.Change u)) =
+    has_chosen choices u.withdrawn || (has_chosen choices u.announced || has_chosen choices u.reached)
+speaks_of choices (Ok (event.State old new)) = true
+speaks_of choices (Ok (event.Rib key route)) = true
+speaks_of choices (Ok event.Other) = false
+speaks_of choices (Err fault) = true
+
+-- Whether a payload can concern a chosen prefix. A state change concerns all of them, a RIB entry that of its key,
+-- whatever its attributes are.
+abbrev pub concerns : List PrefixChoice → Payload → Bool
+concerns choices (State from to) = true
+concerns choices (Message bytes width add_path) =
+    is_open choices || speaks_of choices (event_in (Message bytes width add_path))
+concerns choices (Entry key attrs) = is_chosen choices key.prefix
 
 -- ---- what is selected
 
 -- whether a unit meets each criterion
-abbrev pub is_selected : Selection → ReplayUnit → Bool
-is_selected selection unit = is_in_time selection unit
+abbrev pub is_selected : UnitSelection → ReplayUnit → Bool
+is_selected selection unit = is_in_time selection unit && concerns selection.prefixes unit.payload
+
+-- whether the entries of a RIB record of this time and prefix are selected
+abbrev pub takes_record : UnitSelection → ℕ → IpPrefix → Bool
+takes_record selection time prefix =
+    (if is_past selection.until time then false else true) && is_chosen selection.prefixes prefix

@@ -12,7 +12,7 @@ use Rattle.mrt_frame.specs.declared.error.ReplayError.TheVariants as errors
 use Rattle.mrt_frame.specs.declared.phase.Phase.TheVariants.{Reading}
 use Rattle.mrt_body.specs.declared.at.RecordAt.{RecordAt}
 use Rattle.mrt_body.specs.declared.content.Content.{Content}
-use Rattle.mrt_body.specs.declared.selection.Selection.{Selection}
+use Rattle.mrt_body.specs.Choices.{UnitSelection}
 use Rattle.mrt_body.specs.declared.standing.Standing.{Standing}
 use Rattle.mrt_body.specs.declared.standing.Standing.TheVariants.{Going, Failed as FailedRead, Spent as SpentAll}
 use Rattle.mrt_body.specs.declared.unit.PeerKey.{PeerKey}
@@ -21,7 +21,6 @@ use Rattle.mrt_body.specs.declared.unit.Damage.{Damage}
 use Rattle.mrt_body.specs.declared.unit.Found.{Found}
 use Rattle.mrt_body.specs.declared.unit.Found.TheVariants as found
 use Rattle.mrt_body.specs.Pending.{IndexState}
-use Rattle.mrt_body.specs.Selections.{up_to}
 use Rattle.mrt_body.specs.Units.{found_from, found_in_files, found_units, units_in, index_with, aside_count, all_cuts, is_whole, is_aside}
 
 -- Where a reading stands: the current file and its reader, the index in force, the units of the RIB record cut last
@@ -30,7 +29,7 @@ pub record UnitsState : Type 0 where
   pub count : ℕ
   pub file : ℕ
   pub frames : Position
-  pub selection : Selection
+  pub selection : UnitSelection
   pub index : Option (List PeerKey)
   pub pending : List ReplayUnit
   pub max_records : ℕ
@@ -38,12 +37,12 @@ pub record UnitsState : Type 0 where
   pub aside : ℕ
   pub standing : Standing
 
-abbrev pub fresh_units : ℕ → ℕ → Option ℕ → UnitsState
-fresh_units count max_records until = record {
+abbrev pub fresh_units : ℕ → ℕ → UnitSelection → UnitsState
+fresh_units count max_records selection = record {
   count = count;
   file = 0;
   frames = start_of 0;
-  selection = up_to until;
+  selection = selection;
   index = None;
   pending = [];
   max_records = max_records;

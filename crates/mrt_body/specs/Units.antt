@@ -24,11 +24,11 @@ use Rattle.mrt_body.specs.declared.unit.Payload.TheVariants.{State, Message, Ent
 use Rattle.mrt_body.specs.declared.unit.Unit.{Unit as ReplayUnit}
 use Rattle.mrt_body.specs.declared.unit.Found.{Found}
 use Rattle.mrt_body.specs.declared.unit.Found.TheVariants as found
-use Rattle.mrt_body.specs.declared.selection.Selection.{Selection}
+use Rattle.mrt_body.specs.Choices.{UnitSelection}
 use Rattle.mrt_body.specs.Indexes.{peers_in}
 use Rattle.mrt_body.specs.RibRecords.{RibForm, WrittenEntry, rib_beside, rib_prefix}
 use Rattle.mrt_body.specs.Bgp4mp.{session_peer_at, states_in, microseconds_at}
-use Rattle.mrt_body.specs.Selections.{is_selected, up_to}
+use Rattle.mrt_body.specs.Selections.{is_selected}
 
 -- ---- kinds of record
 
@@ -132,7 +132,7 @@ abbrev pub refused_at : RecordAt → Fault → Found
 refused_at at fault = found.Refused (record { place = place_of at None; fault = fault })
 
 -- a refused record is listed whatever is selected
-abbrev pub found_units : Selection → RecordAt → Result (List ReplayUnit) Fault → List Found
+abbrev pub found_units : UnitSelection → RecordAt → Result (List ReplayUnit) Fault → List Found
 found_units selection at (Ok units) = map (λ u. found.Unit u) (filter (is_selected selection) units)
 found_units selection at (Err fault) = refused_at at fault ∷ []
 
@@ -140,7 +140,7 @@ abbrev pub at_record : ℕ → ℕ → ℕ → RecordAt
 at_record file offset seconds = record { file = file; offset = offset; seconds = seconds }
 
 -- what a cut gives beside the index in force
-unfoldable pub found_at : ℕ → Selection → Option (List PeerKey) → Cut → List Found
+unfoldable pub found_at : ℕ → UnitSelection → Option (List PeerKey) → Cut → List Found
 found_at file selection index (Whole r) =
     let at = at_record file r.offset r.seconds in
     found_units selection at (units_in at (is_extended r.kind) index (content_of r.kind r.subtype) r.body)
@@ -175,19 +175,19 @@ abbrev pub index_before : List Cut → Option (List PeerKey)
 index_before earlier = option_and_then index_of_body (last_or None (filter_map index_body earlier))
 
 -- an index holds in its own file alone
-abbrev pub found_in_file : Selection → ℕ → List ℕ → List Found
+abbrev pub found_in_file : UnitSelection → ℕ → List ℕ → List Found
 found_in_file selection file bytes =
     flat_map_after (λ earlier cut. found_at file selection (index_before earlier) cut) [] (cuts 0 bytes)
 
 -- the files from this number on
-abbrev pub found_in_files : Selection → ℕ → List (List ℕ) → List Found
+abbrev pub found_in_files : UnitSelection → ℕ → List (List ℕ) → List Found
 found_in_files selection file [] = []
 found_in_files selection file (bytes ∷ files) =
     found_in_file selection file bytes ++ found_in_files selection (file + 1) files
 
--- those up to this second
-unfoldable pub found_in : Option ℕ → List (List ℕ) → List Found
-found_in until files = found_in_files (up_to until) 0 files
+-- those that are selected
+unfoldable pub found_in : UnitSelection → List (List ℕ) → List Found
+found_in selection files = found_in_files selection 0 files
 
 -- ---- the same, as a reading goes on
 
@@ -201,7 +201,7 @@ index_after index (Whole r) = index_with index (content_of r.kind r.subtype) r.b
 index_after index (Broken offset fault) = index
 
 -- what the cuts give, where this index is in force before the first
-abbrev pub found_from : ℕ → Selection → Option (List PeerKey) → List Cut → List Found
+abbrev pub found_from : ℕ → UnitSelection → Option (List PeerKey) → List Cut → List Found
 found_from file selection index [] = []
 found_from file selection index (cut ∷ others) =
     found_at file selection index cut ++ found_from file selection (index_after index cut) others
@@ -214,11 +214,11 @@ abbrev pub damage_of : Found → Option Damage
 damage_of (found.Unit unit) = None
 damage_of (found.Refused damage) = Some damage
 
-unfoldable pub units_of : Option ℕ → List (List ℕ) → List ReplayUnit
-units_of until files = filter_map unit_of (found_in until files)
+unfoldable pub units_of : UnitSelection → List (List ℕ) → List ReplayUnit
+units_of selection files = filter_map unit_of (found_in selection files)
 
-unfoldable pub refused_of : Option ℕ → List (List ℕ) → List Damage
-refused_of until files = filter_map damage_of (found_in until files)
+unfoldable pub refused_of : UnitSelection → List (List ℕ) → List Damage
+refused_of selection files = filter_map damage_of (found_in selection files)
 
 -- ---- how many bytes a unit carries
 

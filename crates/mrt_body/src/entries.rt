@@ -1,14 +1,17 @@
 //! The entries of a RIB record that are still to be returned.
 
-ghost use Rattle.std.specs.Prelude.{◌≡◌, ◌≤◌, ◌+◌, ◌/◌, ◌∷◌, [], length, take, drop, max, vec_capacity, false, ◌↔◌, Some, None, IfOk, IfSome};
+ghost use Rattle.std.specs.Prelude.{◌≡◌, ◌≤◌, ◌+◌, ◌/◌, ◌∷◌, [], length, take, drop, max, vec_capacity, true, false, ◌↔◌, Some, None, IfOk, IfSome};
 ghost use Rattle.bgp_update.specs.Answers.{Gives};
 ghost use Rattle.mrt_body.specs.Lent.{lent_unit};
 ghost use Rattle.mrt_body.specs.Units.{IsSmallUnit, rib_units_in};
 ghost use Rattle.mrt_body.specs.Pending.{AreListed, units_left};
+ghost use Rattle.mrt_body.specs.Selections.{is_selected};
+ghost use Rattle.std.specs.List.{filter};
 
 use crate::at::RecordAt;
 use crate::lent::{LentPayload, LentUnit};
 use crate::rib::{ListedEntry, list_entries, rib_head_at};
+use crate::selection::Selection;
 use crate::unit::PeerKey;
 use bgp_prefix::{Prefix, RouteKey, Sequence};
 use bgp_update::AttrError;
@@ -81,6 +84,21 @@ impl RibRecord {
             return false;
         }
         true
+    }
+
+    /// Whether the entries are selected. As they have one time and one prefix, all are or none is.
+    pub(crate) fn is_selected(
+        &self,
+        selection: &Selection,
+        peers: &[PeerKey],
+        list: &[ListedEntry],
+    ) -> bool
+        ensures all { result ≡ true → filter (is_selected selection.now) (units_left peers.now list.now self.now)
+            ≡ units_left peers.now list.now self.now }
+        ensures none { result ≡ false →
+            filter (is_selected selection.now) (units_left peers.now list.now self.now) ≡ [] }
+    {
+        selection.takes_record(self.at.time(0), &self.prefix)
     }
 
     /// Lends the unit of the next entry, or returns `None` at the end.

@@ -1,15 +1,18 @@
 //! The index in force, and what it is still needed for.
 
-ghost use Rattle.std.specs.Prelude.{◌≡◌, ◌≤◌, ◌∷◌, ◌++◌, [], drop, length, false, ◌↔◌, Some, None, Ok, OnErr, IfOk, IfSome, option_to_list};
+ghost use Rattle.std.specs.Prelude.{◌≡◌, ◌≤◌, ◌∷◌, ◌++◌, [], drop, length, true, false, ◌↔◌, Some, None, Ok, OnErr, IfOk, IfSome, option_to_list};
 ghost use Rattle.bgp_update.specs.Answers.{Gives};
 ghost use Rattle.mrt_body.specs.Lent.{lent_unit};
 ghost use Rattle.mrt_body.specs.Units.{IsSmallUnit, rib_units_in};
 ghost use Rattle.mrt_body.specs.Pending.{without_pending};
+ghost use Rattle.mrt_body.specs.Selections.{is_selected};
+ghost use Rattle.std.specs.List.{filter};
 
 use crate::at::RecordAt;
 use crate::entries::RibRecord;
 use crate::lent::LentUnit;
 use crate::rib::ListedEntry;
+use crate::selection::Selection;
 use crate::unit::{PeerKey, Unit};
 use bgp_prefix::{Memory, Sequence};
 use bgp_update::AttrError;
@@ -64,6 +67,19 @@ impl Index {
         let record = RibRecord::read(at, body, add_path, self.peers.as_slice(), &mut self.list)?;
         self.last = Some(record);
         Ok(())
+    }
+
+    /// Whether the entries to be returned are selected. As they have one time and one prefix, all are or none is.
+    pub(crate) fn is_selected(&self, selection: &Selection) -> bool
+        ensures all { result ≡ true → filter (is_selected selection.now) self.now.pending ≡ self.now.pending }
+        ensures none { result ≡ false → filter (is_selected selection.now) self.now.pending ≡ [] }
+    {
+        match &self.last {
+            Some(record) => {
+                record.is_selected(selection, self.peers.as_slice(), self.list.as_slice())
+            }
+            None => true,
+        }
     }
 
     /// Skips what is still to be returned.

@@ -3,6 +3,7 @@
 
 mod agreement;
 mod at;
+mod choice;
 mod content;
 mod entries;
 mod in_force;
@@ -24,6 +25,7 @@ mod unit;
 mod units;
 
 pub use agreement::{bodies_agree_with_their_forms, events_agree_with_their_payloads};
+pub use choice::{PrefixChoice, Reach, is_chosen};
 pub use content::{Content, content_of};
 pub use interpret::event;
 pub use lent::{LentPayload, LentUnit};
@@ -31,5 +33,6 @@ pub use meaning::Event;
 pub use packed_meaning::{PackedEvent, packed_event};
 pub use payload_bytes::PayloadBytes;
 pub use reading::readings_give_all_found;
+pub use selection::Selection;
 pub use unit::{Damage, Found, Payload, PeerAddr, PeerKey, Place, Unit};
 pub use units::Units;

@@ -2,6 +2,7 @@
 
 ghost use Rattle.std.specs.Prelude.{◌≡◌, ◌++◌, ℕ, List, Option, Some, length, map};
 ghost use Rattle.mrt_frame.specs.declared.error.ReplayError.TheVariants.{Read};
+ghost use Rattle.mrt_body.specs.Choices.{UnitSelection};
 ghost use Rattle.mrt_body.specs.declared.unit.Found.{Found};
 ghost use Rattle.mrt_body.specs.ToCome.{UnitsState, FailsBehind, GivesAllBefore, HasEnded, TakesFound, fresh_units};
 ghost use Rattle.mrt_body.specs.Units.{aside_of, found_in, records_of};
@@ -15,18 +16,18 @@ pub fn readings_give_all_found()
         (old mid new : List (Option (List ℕ))) (given more : List Found) →
         TakesFound first old second mid given → TakesFound second mid third new more →
         TakesFound first old third new (given ++ more) }
-    ensures front { (count max_records : ℕ) (until : Option ℕ) (last : UnitsState)
+    ensures front { (count max_records : ℕ) (selection : UnitSelection) (last : UnitsState)
         (contents : List (List ℕ)) (left : List (Option (List ℕ))) (given : List Found) →
-        TakesFound (fresh_units count max_records until) (map (λ bytes. Some bytes) contents) last left given →
-        (rest : List Found) × (found_in until contents ≡ given ++ rest) }
-    ensures whole { (count max_records : ℕ) (until : Option ℕ) (last : UnitsState)
+        TakesFound (fresh_units count max_records selection) (map (λ bytes. Some bytes) contents) last left given →
+        (rest : List Found) × (found_in selection contents ≡ given ++ rest) }
+    ensures whole { (count max_records : ℕ) (selection : UnitSelection) (last : UnitsState)
         (contents : List (List ℕ)) (left : List (Option (List ℕ))) (given : List Found) →
-        TakesFound (fresh_units count max_records until) (map (λ bytes. Some bytes) contents) last left given →
+        TakesFound (fresh_units count max_records selection) (map (λ bytes. Some bytes) contents) last left given →
         HasEnded last → length left ≡ last.count →
-        (given ≡ found_in until contents) × (last.records ≡ records_of contents) × (last.aside ≡ aside_of contents) }
-    ensures failed { (count max_records file : ℕ) (until : Option ℕ) (last stopped : UnitsState)
+        (given ≡ found_in selection contents) × (last.records ≡ records_of contents) × (last.aside ≡ aside_of contents) }
+    ensures failed { (count max_records file : ℕ) (selection : UnitSelection) (last stopped : UnitsState)
         (contents : List (List ℕ)) (left after : List (Option (List ℕ))) (given : List Found) →
-        TakesFound (fresh_units count max_records until) (map (λ bytes. Some bytes) contents) last left given →
+        TakesFound (fresh_units count max_records selection) (map (λ bytes. Some bytes) contents) last left given →
         GivesAllBefore last left stopped after (Read file) →
-        FailsBehind (fresh_units count max_records until) contents stopped after given }
+        FailsBehind (fresh_units count max_records selection) contents stopped after given }
 {}

@@ -1,31 +1,156 @@
 //! Which of the units of files are returned.
 
-ghost use Rattle.std.specs.Prelude.{◌≡◌};
-ghost use Rattle.mrt_body.specs.Selections.{is_past, is_selected};
+ghost use Rattle.std.specs.Prelude.{◌≡◌, IfOk, true};
+ghost use Rattle.bgp_update.specs.PackedUpdates.{plain_update};
+ghost use Rattle.mrt_body.specs.Choices.{is_open};
+ghost use Rattle.mrt_body.specs.Lent.{lent_payload};
+ghost use Rattle.mrt_body.specs.Selections.{concerns, has_chosen, is_past, is_selected, speaks_of, takes_record};
+ghost use Rattle.mrt_body.specs.declared.meaning.Event.TheVariants as events;
+ghost use Rattle.std.specs.Prelude.{Ok};
 
+use crate::choice::{PrefixChoice, is_chosen};
+use crate::lent::LentPayload;
+use crate::packed_meaning::{PackedEvent, packed_event};
 use crate::session_unit::SessionUnit;
+use bgp_prefix::{Memory, Prefix, RouteKey};
+use bgp_update::{AttrError, PackedUpdate};
+use std::alloc::Global;
+use std::marker::Model;
 
 /// Which of the units that records give are returned: those that meet each criterion. Any other unit is
 /// skipped, as if no record gave it. Refused records, index tables and the counts of records are the same
 /// for each selection.
-///
-/// A criterion is a field here and a definition in `specs/Selections.antt`, which `is_selected` joins with
-/// the others. Today the time is the only one; a peer or a prefix would stand beside it. The entries of a
-/// RIB record all have its time, so they are skipped together, or else returned without a test of each: a
-/// criterion that tells them apart would have to be tested there as well.
-#[derive(Clone, Copy, Debug, PartialEq, Eq)]
-pub(crate) struct Selection {
+#[derive(Debug, Drop)]
+pub struct Selection {
     /// The last second of which units are returned, in seconds since 1970 UTC. A unit is skipped if the
     /// whole second of its time is past it. With `None` no time is.
-    pub(crate) until: Option<u64>,
+    until: Option<u64>,
+    /// Which prefixes are chosen: those that one of these takes, or all if there are none. A unit that can't concern a
+    /// chosen prefix is skipped: a RIB entry of another prefix, or an UPDATE that speaks of others only.
+    prefixes: Vec<PrefixChoice>,
+}
+
+impl Model for Selection {
+    ghost use Rattle.mrt_body.specs.Choices.{UnitSelection};
+
+    ghost Value = { UnitSelection };
+
+    ghost view = { λ s. record { until = s.until; prefixes = s.prefixes.items } };
+}
+
+/// Whether no prefix is named.
+fn is_open(choices: &[PrefixChoice]) -> bool
+    ensures { result ≡ is_open choices.now }
+{
+    match choices {
+        [] => true,
+        _ => false,
+    }
+}
+
+/// Whether one of the keys has a chosen prefix.
+fn has_chosen(choices: &[PrefixChoice], keys: &[RouteKey]) -> bool
+    ensures { result ≡ has_chosen choices.now keys.now }
+{
+    for key in keys {
+        if is_chosen(choices, &key.prefix) {
+            return true;
+        }
+    }
+    false
+}
+
+/// Whether an UPDATE speaks of a chosen prefix.
+fn speaks_of(choices: &[PrefixChoice], update: &PackedUpdate) -> bool
+    ensures { result ≡ speaks_of choices.now (Ok (events.Change (plain_update update.now))) }
+{
+    has_chosen(choices, update.withdrawn.as_slice())
+        || has_chosen(choices, update.announced.as_slice())
+        || has_chosen(choices, update.reached.as_slice())
+}
+
+/// Whether a payload can concern a chosen prefix. A message is read by way of a buffer, whose contents are replaced.
+fn concerns(
+    alloc: Global,
+    buffer: &mut Vec<u8>,
+    choices: &[PrefixChoice],
+    payload: &LentPayload<'_>,
+) -> Result<bool, Memory>
+    ensures { IfOk result (λ concerned. concerned ≡ concerns choices.now (lent_payload payload.now)) }
+{
+    match payload {
+        LentPayload::State { .. } => Ok(true),
+        LentPayload::Entry { key, .. } => Ok(is_chosen(choices, &key.prefix)),
+        LentPayload::Message { .. } => {
+            if is_open(choices) {
+                return Ok(true);
+            }
+            match packed_event(alloc, buffer, payload) {
+                Ok(PackedEvent::Change(update)) => Ok(speaks_of(choices, &update)),
+                Ok(PackedEvent::Other) => Ok(false),
+                Ok(_) => Ok(true),
+                Err(AttrError::Bad(_)) => Ok(true),
+                Err(AttrError::Memory) => Err(Memory),
+            }
+        }
+    }
 }
 
 impl Selection {
-    /// Returns whether a unit is selected.
-    pub(crate) fn selects(&self, unit: &SessionUnit) -> bool
+    /// Returns the selection of the units up to this second that can concern these prefixes, or any prefix if there are
+    /// none.
+    pub fn new(until: Option<u64>, prefixes: Vec<PrefixChoice>) -> Selection
+        ensures { result ≡ record { until = until; prefixes = prefixes.items } }
+    {
+        Selection { until, prefixes }
+    }
+
+    /// The prefixes that are chosen, or none for all.
+    pub fn prefixes(&self) -> &[PrefixChoice]
+        ensures { result.now ≡ self.now.prefixes }
+    {
+        self.prefixes.as_slice()
+    }
+
+    /// Returns whether no prefix is named, so that all are chosen.
+    pub(crate) fn is_open(&self) -> bool
+        ensures { result ≡ is_open self.now.prefixes }
+    {
+        is_open(&self.prefixes)
+    }
+
+    /// Returns whether a unit is selected, where all prefixes are chosen: then its time decides.
+    #[tactic(auto, using(crate::proofs::OpenLaws::open_concerns))]
+    pub(crate) fn takes_time(&self, unit: &SessionUnit) -> bool
+        requires { is_open self.now.prefixes ≡ true }
         ensures { result ≡ is_selected self.now unit.now }
     {
         !self.is_past(unit.time)
+    }
+
+    /// Returns whether a unit is selected. A message is read by way of a buffer, whose contents are replaced.
+    pub(crate) fn selects(
+        &self,
+        alloc: Global,
+        buffer: &mut Vec<u8>,
+        unit: &SessionUnit,
+    ) -> Result<bool, Memory>
+        ensures { IfOk result (λ selected. selected ≡ is_selected self.now unit.now) }
+    {
+        if self.is_past(unit.time) {
+            return Ok(false);
+        }
+        concerns(alloc, buffer, &self.prefixes, &unit.lend().payload)
+    }
+
+    /// Returns whether the entries of a RIB record of this time and prefix are selected.
+    pub(crate) fn takes_record(&self, time: u64, prefix: &Prefix) -> bool
+        ensures { result ≡ takes_record self.now time prefix.now }
+    {
+        if self.is_past(time) {
+            return false;
+        }
+        is_chosen(&self.prefixes, prefix)
     }
 
     /// Returns whether all units of this time, in microseconds since 1970 UTC, are skipped.

@@ -34,6 +34,8 @@ pub struct Units {
     /// The memory of a record whose units were passed over, into which the next one is read.
     spare: Option<Vec<u8>>,
     selection: Selection,
+    /// By way of which messages are read that are only selected by their prefixes. Its contents have no meaning.
+    buffer: Option<Vec<u8>>,
     max_records: u64,
     records: u64,
     aside: u64,
@@ -64,12 +66,12 @@ impl Model for Units {
 
 impl Units {
     /// Returns the units of these files, of which at most `max_records` whole records are cut. A unit
-    /// whose whole second is past `until` is skipped.
-    pub fn new(count: usize, max_records: u64, until: Option<u64>) -> Units
+    /// that isn't selected is skipped.
+    pub fn new(count: usize, max_records: u64, selection: Selection) -> Units
         requires { (0 < max_records) × (max_records ≤ 2 ^ 47) }
-        ensures fresh { result ≡ fresh_units count max_records until }
+        ensures fresh { result ≡ fresh_units count max_records selection }
         // All that the files hold is to come.
-        ensures all { (contents : List (List ℕ)) → found_to_come result contents ≡ found_in until contents }
+        ensures all { (contents : List (List ℕ)) → found_to_come result contents ≡ found_in selection contents }
         ensures cuts { (contents : List (List ℕ)) → cuts_to_come result contents ≡ all_cuts contents }
     {
         Units {
@@ -79,7 +81,8 @@ impl Units {
             index: None,
             session: None,
             spare: None,
-            selection: Selection { until },
+            selection,
+            buffer: None,
             max_records,
             records: 0,
             aside: 0,

@@ -122,4 +122,4 @@ row request file lines = record { request = request; until = None; files = file 
 
 -- each row's report is what it has to be
 abbrev pub AreReports : List Row → Type 0
-AreReports rows = map (λ r. report r.request r.until r.files) rows ≡ map (λ r. r.told) rows
+AreReports rows = map (λ r. report r.request (record { until = r.until; prefixes = [] }) r.files) rows ≡ map (λ r. r.told) rows

@@ -8,6 +8,7 @@ use Rattle.std.proofs.lemmas.List.Elements.{filter_map-append}
 use Rattle.mrt_frame.specs.declared.error.ReplayError.{ReplayError}
 use Rattle.mrt_frame.specs.declared.error.ReplayError.TheVariants as errors
 use Rattle.mrt_frame.specs.Devices.{HasFailed}
+use Rattle.mrt_body.specs.Choices.{UnitSelection}
 use Rattle.mrt_body.specs.declared.unit.Damage.{Damage}
 use Rattle.mrt_body.specs.declared.unit.Found.{Found}
 use Rattle.mrt_body.specs.declared.unit.Found.TheVariants as found
@@ -108,7 +109,7 @@ failed_within (x ∷ before) [] file size h = absurd (omega (arith, size))
 failed_within (x ∷ before) (y ∷ after) zero size h = omega arith
 failed_within (x ∷ before) (y ∷ after) (suc file) size h = let later = failed_within before after file (omega (arith, size)) h in omega (arith, later)
 
-module _ (start : UnitsState) (count max_records : ℕ) (until : Option ℕ) (fresh : start ≡ fresh_units count max_records until) (contents : List Bytes) (told : List (Option Bytes)) (known : told ≡ known_all contents) where
+module _ (start : UnitsState) (count max_records : ℕ) (until : UnitSelection) (fresh : start ≡ fresh_units count max_records until) (contents : List Bytes) (told : List (Option Bytes)) (known : told ≡ known_all contents) where
   known_from : drop start.file told ≡ known_all contents
   known_from = ap (λ (u : UnitsState). drop u.file told) fresh ∙ known
 
@@ -145,7 +146,7 @@ module _ (start : UnitsState) (count max_records : ℕ) (until : Option ℕ) (fr
         omega (arith, h.aside contents known_from, none, cuts)
 
 -- why a reading from the start stops
-module _ (start : UnitsState) (count max_records : ℕ) (until : Option ℕ) (fresh : start ≡ fresh_units count max_records until) (told : List (Option Bytes)) where
+module _ (start : UnitsState) (count max_records : ℕ) (until : UnitSelection) (fresh : start ≡ fresh_units count max_records until) (told : List (Option Bytes)) where
   pub stops_replay : (counts after : List ℕ) (e : ReplayError) → ((contents : List Bytes) → cuts_to_come start contents ≡ all_cuts contents) → length after ≡ length counts → StopsFiles start told counts after e → StopsReplay max_records told counts after e
   stops_replay counts after (errors.Read file) all size s = (failed_within counts after file size s, s)
   stops_replay counts after errors.Write all size s = s

@@ -1,6 +1,6 @@
 -- A run: its report, what it counts, and how it stops.
-use Rattle.std.proofs.Common.{◌≡◌, ◌⊎◌, inl, inr, ℕ, ◌+◌, ◌-◌, ◌^◌, true, false, cond, min, List, [], ◌∷◌, Option, Result, Ok, Err, refl, sym, ap, ◌∙◌, subst, arith, length, is_err, OnOk}
-use Rattle.std.specs.List.{enumerate_from}
+use Rattle.std.proofs.Common.{◌≡◌, ◌⊎◌, inl, inr, ℕ, ◌+◌, ◌-◌, ◌^◌, true, false, cond, min, List, [], ◌∷◌, ◌++◌, map, Option, Result, Ok, Err, refl, sym, ap, ◌∙◌, subst, arith, length, is_err, OnOk}
+use Rattle.std.specs.List.{enumerate_from, flat_map}
 use Rattle.std.specs.Io.KnownBytes.{Appends, Keeps}
 use Rattle.std.specs.Ordering.{is_lt}
 use Rattle.std.proofs.lemmas.Bool.{cases_lt}
@@ -10,12 +10,14 @@ use Rattle.mrt_frame.specs.Devices.{CountsFailure, HasFailed}
 use Rattle.mrt_frame.specs.Writes.{WritesFront}
 use Rattle.mrt_frame.specs.declared.error.ReplayError.{ReplayError}
 use Rattle.mrt_frame.specs.declared.error.ReplayError.TheVariants as errors
+use Rattle.mrt_body.specs.Choices.{UnitSelection}
 use Rattle.mrt_body.specs.declared.unit.Damage.{Damage}
 use Rattle.mrt_body.specs.declared.unit.Unit.{Unit as ReplayUnit}
 use Rattle.mrt_body.specs.Units.{units_of, refused_of}
 use Rattle.adj_rib.specs.Churns.{stopped}
 use Rattle.peer_tables.specs.Peers.{peers_of}
-use Rattle.peer_tables.specs.Tables.{TablesState, tables_of, all_faults, all_routes}
+use Rattle.mrt_body.specs.declared.choice.PrefixChoice.{PrefixChoice}
+use Rattle.peer_tables.specs.Tables.{Seat, TablesState, tables_of, chosen_seat, chosen_tables, all_faults, all_routes}
 use Rattle.rib_report.specs.Reports.{place_cmp, placed, in_place_order}
 use Rattle.rib_report.specs.declared.request.Request.{Request}
 use Rattle.mrt_replay.specs.Reports.{lines_of, text, report, listed_faults}
@@ -24,10 +26,14 @@ use Rattle.mrt_replay.specs.Premises.{AreHonest}
 use Rattle.mrt_replay.specs.Replays.{StopsReplay}
 use Rattle.mrt_replay.specs.Headline.{RunState, IsStopped}
 
+-- the tables of the chosen prefixes of files
+abbrev of_files : UnitSelection → List (List ℕ) → TablesState
+of_files selection files = tables_of (units_of selection files) (refused_of selection files)
+
 -- the lines on tables that stand for the files are the report
-pub lines_are_report : (request : Request) (until : Option ℕ) (files : List (List ℕ)) (tables : TablesState) → tables ≡ tables_of (units_of until files) (refused_of until files) → lines_of request tables ≡ report request until files
+pub lines_are_report : (request : Request) (selection : UnitSelection) (files : List (List ℕ)) (tables : TablesState) → tables ≡ chosen_tables selection.prefixes (tables_of (units_of selection files) (refused_of selection files)) → lines_of request tables ≡ report request selection files
 unfolding report text
-lines_are_report request until files tables stands = ap (lines_of request) stands
+lines_are_report request selection files tables stands = ap (lines_of request) stands
 
 -- ---- counts
 
@@ -43,16 +49,22 @@ length_in_order : (ds : List Damage) → length (in_place_order ds) ≡ length d
 length_in_order [] = refl
 length_in_order (d ∷ ds) = let later = length_in_order ds in omega (arith, length_placed d (in_place_order ds), later)
 
-pub damaged_counted : (until : Option ℕ) (files : List (List ℕ)) (tables : TablesState) (n : ℕ) → tables ≡ tables_of (units_of until files) (refused_of until files) → n ≡ min (length (all_faults tables)) (2 ^ 64 - 1) → n ≡ stopped (length (listed_faults until files))
-damaged_counted until files tables n stands count =
-    count ∙ ap (λ t. stopped (length (all_faults t))) stands ∙ ap stopped (sym (length_in_order (all_faults (tables_of (units_of until files) (refused_of until files)))))
+same_faults : (choices : List PrefixChoice) (seats : List Seat) → flat_map (λ s. s.session.faults) (map (chosen_seat choices) seats) ≡ flat_map (λ s. s.session.faults) seats
+same_faults choices [] = refl
+same_faults choices (s ∷ seats) = ap (λ l. s.session.faults ++ l) (same_faults choices seats)
 
-pub routes_counted : (until : Option ℕ) (files : List (List ℕ)) (tables : TablesState) (n : ℕ) → tables ≡ tables_of (units_of until files) (refused_of until files) → n ≡ min (length (all_routes tables)) (2 ^ 64 - 1) → n ≡ stopped (length (all_routes (tables_of (units_of until files) (refused_of until files))))
-routes_counted until files tables n stands count = count ∙ ap (λ t. stopped (length (all_routes t))) stands
+pub damaged_counted : (selection : UnitSelection) (files : List (List ℕ)) (tables : TablesState) (n : ℕ) → tables ≡ chosen_tables selection.prefixes (tables_of (units_of selection files) (refused_of selection files)) → n ≡ min (length (all_faults tables)) (2 ^ 64 - 1) → n ≡ stopped (length (listed_faults selection files))
+damaged_counted selection files tables n stands count =
+    count ∙ ap (λ t. stopped (length (all_faults t))) stands
+    ∙ ap (λ l. stopped (length ((of_files selection files).refused ++ l))) (same_faults selection.prefixes (of_files selection files).seats)
+    ∙ ap stopped (sym (length_in_order (all_faults (tables_of (units_of selection files) (refused_of selection files)))))
 
-pub peers_counted : (units : List ReplayUnit) (refused : List Damage) (tables : TablesState) (n : ℕ) → tables ≡ tables_of units refused → n ≡ length tables.seats → n ≡ length (peers_of units)
+pub routes_counted : (selection : UnitSelection) (files : List (List ℕ)) (tables : TablesState) (n : ℕ) → tables ≡ chosen_tables selection.prefixes (tables_of (units_of selection files) (refused_of selection files)) → n ≡ min (length (all_routes tables)) (2 ^ 64 - 1) → n ≡ stopped (length (all_routes (chosen_tables selection.prefixes (tables_of (units_of selection files) (refused_of selection files)))))
+routes_counted selection files tables n stands count = count ∙ ap (λ t. stopped (length (all_routes t))) stands
+
+pub peers_counted : (choices : List PrefixChoice) (units : List ReplayUnit) (refused : List Damage) (tables : TablesState) (n : ℕ) → tables ≡ chosen_tables choices (tables_of units refused) → n ≡ length tables.seats → n ≡ length (peers_of units)
 unfolding tables_of
-peers_counted units refused tables n stands count = count ∙ ap (λ (t : TablesState). length t.seats) stands ∙ length-map (enumerate_from 0 (peers_of units)) _ ∙ length-enumerate_from 0 (peers_of units)
+peers_counted choices units refused tables n stands count = count ∙ ap (λ (t : TablesState). length t.seats) stands ∙ length-map (tables_of units refused).seats (chosen_seat choices) ∙ length-map (enumerate_from 0 (peers_of units)) _ ∙ length-enumerate_from 0 (peers_of units)
 
 -- ---- writing that fails
 
@@ -83,7 +95,7 @@ kept old new same = subst (Keeps old) (sym same) (Keeps-refl old)
 -- the two errors of writing a report
 pub stops_writing : (run : RunState) (e : ReplayError) → (e ≡ errors.Memory) ⊎ (e ≡ errors.Write)
     → (e ≡ errors.Memory → Keeps run.held run.held_after) → (e ≡ errors.Write → HasFailed run.writer run.writer_after)
-    → ((files : List (List ℕ)) → AreHonest run.told files → e ≡ errors.Write → WritesFront run.held run.held_after (report run.request run.plan.until files)) → IsStopped run e
+    → ((files : List (List ℕ)) → AreHonest run.told files → e ≡ errors.Write → WritesFront run.held run.held_after (report run.request run.selection files)) → IsStopped run e
 stops_writing run e (inl memory) keeps failed front = subst (IsStopped run) (sym memory) (keeps memory)
 stops_writing run e (inr write) keeps failed front = subst (IsStopped run) (sym write) (failed write, λ files honest. front files honest write)
 

@@ -5,6 +5,7 @@ use Rattle.mrt_frame.specs.Devices.{HasFailed}
 use Rattle.mrt_frame.specs.Writes.{WritesFront}
 use Rattle.mrt_frame.specs.declared.error.ReplayError.{ReplayError}
 use Rattle.mrt_frame.specs.declared.error.ReplayError.TheVariants as errors
+use Rattle.mrt_body.specs.Choices.{UnitSelection}
 use Rattle.lane_deal.specs.declared.plan.Plan.{Plan}
 use Rattle.rib_report.specs.declared.request.Request.{Request}
 use Rattle.mrt_replay.specs.declared.summary.Summary.{Summary}
@@ -15,6 +16,7 @@ use Rattle.mrt_replay.specs.Premises.{AreSound, AreWithin, AreHonest}
 -- whether the writer is flushed.
 pub record RunState : Type 0 where
   pub request : Request
+  pub selection : UnitSelection
   pub plan : Plan
   pub told : List (Option (List ℕ))
   pub held : Option (List ℕ)
@@ -30,8 +32,8 @@ pub record RunState : Type 0 where
 
 -- It wrote byte for byte the report that is defined over the records alone, and counted them.
 pub record IsReplayed (run : RunState) (files : List (List ℕ)) (summary : Summary) : Type 0 where
-  pub written : Appends run.held run.held_after (report run.request run.plan.until files)
-  pub counted : IsSummary run.plan files summary
+  pub written : Appends run.held run.held_after (report run.request run.selection files)
+  pub counted : IsSummary run.selection run.plan files summary
 
 -- For every list of files, every plan and every dealing, a run that completes has replayed them.
 abbrev pub Headline : RunState → Type 0
@@ -54,7 +56,7 @@ IsStopped run (errors.Read file) = (file < length run.readers) ×
     HasFailed (slice_index run.readers file) (slice_index run.readers_after file) × Keeps run.held run.held_after
 IsStopped run errors.Write = HasFailed run.writer run.writer_after ×
     ((files : List (List ℕ)) → AreHonest run.told files → WritesFront run.held run.held_after
-    (report run.request run.plan.until files))
+    (report run.request run.selection files))
 IsStopped run errors.Memory = Keeps run.held run.held_after
 IsStopped run errors.Records = ((files : List (List ℕ)) → AreHonest run.told files →
     AreWithin run.plan.max_records files → ⊥) × Keeps run.held run.held_after

@@ -9,7 +9,8 @@ use Rattle.mrt_body.specs.declared.unit.Found.{Found}
 use Rattle.mrt_body.specs.declared.unit.Unit.{Unit as ReplayUnit}
 use Rattle.mrt_body.specs.Units.{units_of, refused_of, records_of, aside_of, unit_of, damage_of, is_whole, is_aside}
 use Rattle.mrt_body.specs.ToCome.{UnitsState, TakesFound, HasMoreRecords, found_to_come, cuts_to_come, units_left}
-use Rattle.peer_tables.specs.Tables.{tables_of}
+use Rattle.peer_tables.specs.Tables.{tables_of, chosen_tables}
+use Rattle.mrt_body.specs.Choices.{UnitSelection}
 use Rattle.lane_deal.specs.declared.plan.Plan.{Plan}
 use Rattle.lane_deal.specs.Replayers.{ReplayerState, ReplayerStandsFor}
 use Rattle.lane_deal.specs.Rounds.{IsSettled}
@@ -74,11 +75,12 @@ pub record HasPlayed (dealing : ℕ → ℕ → ℕ) (plan : Plan) (before after
 
 -- ---- the whole replay
 
--- The tables stand for the units and refusals of the files, which are counted.
-pub record IsReplayOf {M : Type 0} (plan : Plan) (files : List (List ℕ)) (r : Replayed M) : Type 0 where
-  pub stands : r.tables ≡ tables_of (units_of plan.until files) (refused_of plan.until files)
+-- The tables stand for the units and refusals of the files, which are counted; the routes of chosen prefixes alone are left.
+pub record IsReplayOf {M : Type 0} (selection : UnitSelection) (plan : Plan) (files : List (List ℕ)) (r : Replayed M) : Type 0 where
+  pub stands : r.tables
+      ≡ chosen_tables selection.prefixes (tables_of (units_of selection files) (refused_of selection files))
   pub records_counted : r.records ≡ records_of files
-  pub units_counted : r.units ≡ length (units_of plan.until files)
+  pub units_counted : r.units ≡ length (units_of selection files)
   pub aside_counted : r.aside ≡ aside_of files
   pub few_rounds : r.rounds ≤ 2 * r.units / plan.ring + r.units / plan.batch + 2
   pub two_rounds : 2 ≤ r.rounds

@@ -6,9 +6,11 @@ use Rattle.mrt_body.specs.declared.unit.Unit.{Unit as ReplayUnit}
 use Rattle.mrt_body.specs.Units.{units_of, refused_of, records_of, aside_of}
 use Rattle.adj_rib.specs.Churns.{stopped}
 use Rattle.peer_tables.specs.Peers.{peers_of}
-use Rattle.peer_tables.specs.Tables.{TablesState, tables_of, all_routes}
+use Rattle.peer_tables.specs.Tables.{TablesState, tables_of, chosen_tables, all_routes}
+use Rattle.mrt_body.specs.declared.choice.PrefixChoice.{PrefixChoice}
 use Rattle.rib_report.specs.Reports.{route_rows, match_rows, visibility_rows, origin_rows, churn_rows, fault_rows}
 use Rattle.rib_report.specs.Lines.{route_line, visibility_line, origin_line, churn_line, fault_line}
+use Rattle.mrt_body.specs.Choices.{UnitSelection}
 use Rattle.lane_deal.specs.declared.plan.Plan.{Plan}
 use Rattle.rib_report.specs.declared.request.Request.{Request}
 use Rattle.rib_report.specs.declared.request.Request.TheVariants as request
@@ -23,28 +25,29 @@ lines_of request.Churn tables = flat_map churn_line (churn_rows tables)
 lines_of (request.Match addr) tables = flat_map route_line (match_rows tables addr)
 lines_of request.Faults tables = flat_map fault_line (fault_rows tables)
 
--- the text of a request about units and refusals
-unfoldable pub text : Request → List ReplayUnit → List Damage → List ℕ
-text request units refused = lines_of request (tables_of units refused)
+-- the text of a request about the chosen prefixes of units, and about refusals
+unfoldable pub text : Request → List PrefixChoice → List ReplayUnit → List Damage → List ℕ
+text request choices units refused = lines_of request (chosen_tables choices (tables_of units refused))
 
--- the report on files, with the last second that counts: workers, ring, batch, looks and dealing have no part in it
-unfoldable pub report : Request → Option ℕ → List (List ℕ) → List ℕ
-report request until files = text request (units_of until files) (refused_of until files)
+-- the report on files, of a selection: workers, ring, batch, looks and dealing have no part in it
+unfoldable pub report : Request → UnitSelection → List (List ℕ) → List ℕ
+report request selection files = text request selection.prefixes (units_of selection files) (refused_of selection files)
 
 -- all faults that are listed
-abbrev pub listed_faults : Option ℕ → List (List ℕ) → List Damage
-listed_faults until files = fault_rows (tables_of (units_of until files) (refused_of until files))
+abbrev pub listed_faults : UnitSelection → List (List ℕ) → List Damage
+listed_faults selection files = fault_rows (tables_of (units_of selection files) (refused_of selection files))
 
 -- What a run over files counts. A round that deals fills a ring, deals a batch or is the last one, and one more settles. Each deals at
 -- most a batch.
-pub record IsSummary (plan : Plan) (files : List (List ℕ)) (s : Summary) : Type 0 where
+pub record IsSummary (selection : UnitSelection) (plan : Plan) (files : List (List ℕ)) (s : Summary) : Type 0 where
   pub records : s.records ≡ records_of files
-  pub units : s.units ≡ length (units_of plan.until files)
+  pub units : s.units ≡ length (units_of selection files)
   pub aside : s.aside ≡ aside_of files
-  pub damaged : s.damaged ≡ stopped (length (listed_faults plan.until files))
-  pub peers : s.peers ≡ length (peers_of (units_of plan.until files))
+  pub damaged : s.damaged ≡ stopped (length (listed_faults selection files))
+  pub peers : s.peers ≡ length (peers_of (units_of selection files))
   pub routes : s.routes
-      ≡ stopped (length (all_routes (tables_of (units_of plan.until files) (refused_of plan.until files))))
+      ≡ stopped (length (all_routes (chosen_tables selection.prefixes
+      (tables_of (units_of selection files) (refused_of selection files)))))
   pub rounds : s.rounds ≤ 2 * s.units / plan.ring + s.units / plan.batch + 2
   pub two_rounds : 2 ≤ s.rounds
   pub enough_rounds : s.units ≤ (s.rounds - 1) * plan.batch

@@ -14,6 +14,7 @@ use crate::summary::Summary;
 use adj_rib::SharedRoute;
 use bgp_prefix::PrefixMap;
 use lane_deal::{Dealing, Gate, Plan};
+use mrt_body::Selection;
 use mrt_frame::{ReplayError, Sink, Source};
 use rib_report::{
     Request, Tables, churn, faults, list_tables, matches, origins_with_threads,
@@ -35,6 +36,7 @@ pub fn run<M, T, R, W, D, G>(
     alloc: Global,
     files: &mut [R],
     request: &Request,
+    selection: Selection,
     plan: &Plan,
     dealing: &D,
     gate: &G,
@@ -53,6 +55,7 @@ where
     // the limit it completes, unless it runs out of memory.
     ensures promised { IsPromised (record {
       request = request.now;
+      selection = selection;
       plan = plan.now;
       told = map R.remaining files.old;
       held = W.contents out.old;
@@ -67,7 +70,7 @@ where
     // Any error except the writer's leaves it untouched.
     ensures untouched { IfErr result (λ e. (e ≡ errors.Write → ⊥) → out.new ≡ out.old) }
 {
-    let replayed = match replay::<M, T, R, D, G>(rt, alloc, files, plan, dealing, gate) {
+    let replayed = match replay::<M, T, R, D, G>(rt, alloc, files, selection, plan, dealing, gate) {
         Ok(replayed) => replayed,
         Err(error) => return Err(error),
     };

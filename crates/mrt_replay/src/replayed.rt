@@ -9,9 +9,9 @@ ghost use Rattle.lane_deal.specs.Playing.{shown};
 ghost use Rattle.mrt_replay.specs.Replays.{HasPlayed, IsReplayOf, StopsFiles, StopsReplay};
 
 use adj_rib::SharedRoute;
-use bgp_prefix::PrefixMap;
+use bgp_prefix::{Memory, PrefixMap};
 use lane_deal::{Dealing, Gate, Plan, Replayer, Step};
-use mrt_body::Units;
+use mrt_body::{PrefixChoice, Selection, Units};
 use mrt_frame::{ReplayError, Source};
 use rib_report::Tables;
 use std::alloc::Global;
@@ -36,6 +36,13 @@ fn is_end(step: Step) -> bool
         Step::End => true,
         _ => false,
     }
+}
+
+/// Returns a copy of the prefixes that are chosen.
+fn copied(alloc: Global, choices: &[PrefixChoice]) -> Result<Vec<PrefixChoice>, Memory>
+    ensures { IfOk result (λ copy. copy.items ≡ choices.now) }
+{
+    Ok(Vec::from_slice(alloc, choices)?)
 }
 
 /// Runs rounds until the files end.
@@ -82,11 +89,12 @@ where
     }
 }
 
-/// Replays the files in order into one table per peer.
+/// Replays the files in order into one table per peer, of which the routes of chosen prefixes are left.
 pub fn replay<M, T, R, D, G>(
     rt: &T,
     alloc: Global,
     files: &mut [R],
+    selection: Selection,
     plan: &Plan,
     dealing: &D,
     gate: &G,
@@ -100,7 +108,7 @@ where
     requires { IsPlan plan.now }
     // If the readers state their bytes, the tables stand for the units and refusals of these.
     ensures replayed { (contents : List (List ℕ)) → map R.remaining files.old ≡ map (λ bytes. Some bytes) contents →
-        IfOk result (IsReplayOf plan.now contents) }
+        IfOk result (IsReplayOf selection plan.now contents) }
     // No reader failed in a replay that is Ok.
     ensures sound { OnOk result (map R.failure_count files.new ≡ map R.failure_count files.old) }
     // An error has its cause.
@@ -108,7 +116,8 @@ where
         (StopsReplay plan.now.max_records (map R.remaining files.old) (map R.failure_count files.old)
         (map R.failure_count files.new)) }
 {
-    let mut units = Units::new(files.len(), plan.max_records, plan.until);
+    let choices = copied(alloc, selection.prefixes())?;
+    let mut units = Units::new(files.len(), plan.max_records, selection);
     let mut replayer = Replayer::<M, &D>::new(alloc, *plan, dealing)?;
     if let Err(error) = play(rt, alloc, &mut units, files, &mut replayer, gate) {
         return Err(error);
@@ -118,7 +127,10 @@ where
     };
     let dealt = replayer.dealt();
     let rounds = replayer.rounds();
-    let Ok(tables) = replayer.into_tables(alloc) else {
+    let Ok(mut tables) = replayer.into_tables(alloc) else {
+        return Err(ReplayError::Memory);
+    };
+    let Ok(()) = tables.retain(alloc, choices.as_slice()) else {
         return Err(ReplayError::Memory);
     };
     Ok(Replayed {

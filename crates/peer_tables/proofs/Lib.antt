@@ -2,3 +2,5 @@ pub mod RowLaws
 pub mod CollectLaws
 pub mod SeatOrder
 pub mod StandingLaws
+pub mod ShareLaws
+pub mod ChosenLaws

@@ -3,3 +3,4 @@ pub mod Tables
 pub mod Standing
 pub mod Seats
 pub mod Gathers
+pub mod Shares

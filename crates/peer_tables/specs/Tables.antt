@@ -7,7 +7,8 @@ use Rattle.bgp_update.specs.declared.route.Route.{Route}
 use Rattle.mrt_body.specs.declared.unit.PeerKey.{PeerKey}
 use Rattle.mrt_body.specs.declared.unit.Damage.{Damage}
 use Rattle.mrt_body.specs.declared.unit.Unit.{Unit as ReplayUnit}
-use Rattle.adj_rib.specs.Sessions.{SessionState, session_of}
+use Rattle.mrt_body.specs.declared.choice.PrefixChoice.{PrefixChoice}
+use Rattle.adj_rib.specs.Sessions.{SessionState, session_of, chosen_session}
 use Rattle.peer_tables.specs.Peers.{peers_of, units_of_peer}
 
 -- a session under its peer's number
@@ -33,6 +34,13 @@ tables_of units refused = record {
       (enumerate_from 0 (peers_of units));
   refused = refused;
 }
+
+-- the tables of which the routes of chosen prefixes are left
+abbrev pub chosen_seat : List PrefixChoice → Seat → Seat
+chosen_seat choices seat = record seat { session = chosen_session choices seat.session }
+
+abbrev pub chosen_tables : List PrefixChoice → TablesState → TablesState
+chosen_tables choices tables = record tables { seats = map (chosen_seat choices) tables.seats }
 
 -- all faults: the refusals, then each peer's
 abbrev pub all_faults : TablesState → List Damage

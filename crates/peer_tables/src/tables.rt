@@ -1,16 +1,16 @@
 //! The tables of all peers, collected from the lanes of the replay.
 
-ghost use Rattle.std.specs.Prelude.{◌≡◌, ◌+◌, ◌-◌, ◌^◌, ◌≤◌, ◌++◌, IfOk, IfErr, IfSome, IsPermutation, List, length, map, nat_eq, min, vec_len};
+ghost use Rattle.std.specs.Prelude.{◌≡◌, ◌+◌, ◌-◌, ◌^◌, ◌≤◌, ◌++◌, IfOk, IfErr, IfSome, OnOk, IsPermutation, List, length, map, nat_eq, min, vec_len};
 ghost use Rattle.std.specs.List.{IsDistinct, flat_map};
 ghost use Rattle.std.specs.List.Sorted.{IsStrictlyIncreasing};
 ghost use Rattle.std.specs.Vec.{vec_capacity};
-ghost use Rattle.peer_tables.specs.Tables.{Seat, TablesState, IsCollected, all_faults, all_routes, seat_routes};
+ghost use Rattle.peer_tables.specs.Tables.{Seat, TablesState, IsCollected, all_faults, all_routes, chosen_seat, chosen_tables, seat_routes};
 ghost use Rattle.peer_tables.specs.Gathers.{gathered_seats};
 ghost use Rattle.peer_tables.specs.Seats.{seat_of};
 
 use adj_rib::{Session, SharedRoute};
 use bgp_prefix::{Memory, PrefixMap, Sequence};
-use mrt_body::{Damage, PeerKey};
+use mrt_body::{Damage, PeerKey, PrefixChoice};
 use std::alloc::Global;
 use std::marker::Model;
 
@@ -79,12 +79,38 @@ impl<M: PrefixMap<SharedRoute>> Tables<M> {
         count
     }
 
+    /// Removes the routes of prefixes that aren't chosen.
+    #[tactic(auto, using(crate::proofs::ChosenLaws::open_tables))]
+    pub fn retain(&mut self, alloc: Global, choices: &[PrefixChoice]) -> Result<(), Memory>
+        ensures { OnOk result (self.new ≡ chosen_tables choices.now self.old) }
+    {
+        if choices.is_empty() {
+            return Ok(());
+        }
+        retain_seats(alloc, choices, &mut self.seats)
+    }
+
     /// The number of routes in all tables. Saturates at `u64::MAX`.
     pub fn routes(&self) -> u64
         ensures { result ≡ min (length (all_routes self.now)) (2 ^ 64 - 1) }
     {
         count_routes(self.seats())
     }
+}
+
+/// Removes the routes of prefixes that aren't chosen from each session.
+#[tactic(auto, using(crate::proofs::ChosenLaws::chosen_none, crate::proofs::ChosenLaws::chosen_all))]
+fn retain_seats<M: PrefixMap<SharedRoute>>(
+    alloc: Global,
+    choices: &[PrefixChoice],
+    seats: &mut [Seated<M>],
+) -> Result<(), Memory>
+    ensures { OnOk result (map seat_of seats.new ≡ map (chosen_seat choices.now) (map seat_of seats.old)) }
+{
+    for at in 0..seats.len() {
+        seats[at].session.retain(alloc, choices)?;
+    }
+    Ok(())
 }
 
 /// Returns the number of routes in the tables of these sessions. Saturates at `u64::MAX`.

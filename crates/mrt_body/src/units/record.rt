@@ -1,8 +1,9 @@
 //! What comes of a whole record: an index in force, its unit, its entries or its refusal.
 
-ghost use Rattle.std.specs.Prelude.{◌≡◌, ◌<◌, ◌≤◌, ◌+◌, ◌++◌, Bool, [], IfOk, IfErr, length, option_to_list};
+ghost use Rattle.std.specs.Prelude.{◌≡◌, ◌<◌, ◌≤◌, ◌+◌, ◌++◌, Bool, [], IfOk, IfErr, OnOk, length, option_to_list};
 ghost use Rattle.mrt_body.specs.declared.unit.Found.TheVariants as found_spec;
 ghost use Rattle.mrt_body.specs.Units.{IsSmallUnit, alone, found_units, refused_at};
+ghost use Rattle.mrt_body.specs.Selections.{is_selected};
 ghost use Rattle.mrt_body.specs.ToCome.{TakesRecord, KeepsPlan, as_found, refusals};
 ghost use Rattle.mrt_body.specs.declared.content.Content.TheVariants as content_spec;
 ghost use Rattle.mrt_body.specs.declared.standing.Standing.TheVariants as standings;
@@ -16,7 +17,7 @@ use crate::payload::{message_unit, states_unit};
 use crate::session_unit::SessionUnit;
 use crate::standing::Standing;
 use crate::unit::Damage;
-use bgp_prefix::Sequence;
+use bgp_prefix::{Memory, Sequence};
 use bgp_update::AttrError;
 use mrt_frame::{Fault, ReplayError};
 use std::alloc::Global;
@@ -46,11 +47,11 @@ impl Units {
             Content::Rib { add_path } => self.take_rib(at, add_path, body),
             Content::Message { width, add_path } => {
                 let unit = message_unit(at, is_extended, width, add_path, body);
-                Ok(self.found(at, unit))
+                self.found(alloc, at, unit)
             }
             Content::States { width } => {
                 let unit = states_unit(at, is_extended, width, body);
-                Ok(self.found(at, unit))
+                self.found(alloc, at, unit)
             }
             Content::Aside => {
                 self.aside += 1;
@@ -59,23 +60,65 @@ impl Units {
         }
     }
 
+    /// Whether a unit is selected. Where all prefixes are chosen its time decides, and nothing is read.
+    #[inline(always)]
+    fn selects(&mut self, alloc: Global, unit: &SessionUnit) -> Result<bool, Memory>
+        ensures selected { IfOk result (λ selected. selected ≡ is_selected self.old.selection unit.now) }
+        ensures same { self.new ≡ self.old }
+    {
+        if self.selection.is_open() {
+            return Ok(self.selection.takes_time(unit));
+        }
+        self.selects_by_prefix(alloc, unit)
+    }
+
+    /// Whether a unit is selected, where some prefixes are chosen.
+    #[inline(never)]
+    fn selects_by_prefix(&mut self, alloc: Global, unit: &SessionUnit) -> Result<bool, Memory>
+        ensures selected { IfOk result (λ selected. selected ≡ is_selected self.old.selection unit.now) }
+        ensures same { self.new ≡ self.old }
+    {
+        let mut buffer = match self.buffer.take() {
+            Some(buffer) => buffer,
+            None => Vec::new(alloc),
+        };
+        let selected = self.selection.selects(alloc, &mut buffer, unit);
+        self.buffer = Some(buffer);
+        selected
+    }
+
     /// Keeps a unit to be returned if it is selected, or returns the refusal of its record.
-    fn found(&mut self, at: RecordAt, unit: Result<SessionUnit, Fault>) -> Option<Damage>
+    #[inline(always)]
+    fn found(
+        &mut self,
+        alloc: Global,
+        at: RecordAt,
+        unit: Result<SessionUnit, Fault>,
+    ) -> Result<Option<Damage>, ReplayError>
         requires given { self.old.pending ≡ [] }
         requires small { IfOk unit IsSmallUnit }
-        ensures found { refusals result ++ as_found self.new.pending
-            ≡ found_units self.old.selection at (alone unit) }
-        ensures few { length (option_to_list result) + length self.new.pending ≤ 1 }
-        ensures same { self.new ≡ record self.old { pending = self.new.pending } }
+        ensures found { IfOk result (λ refused. refusals refused ++ as_found self.new.pending
+            ≡ found_units self.old.selection at (alone unit)) }
+        ensures few { IfOk result (λ refused. length (option_to_list refused) + length self.new.pending ≤ 1) }
+        ensures same { OnOk result (self.new ≡ record self.old { pending = self.new.pending }) }
+        ensures want { IfErr result (λ e. (e ≡ ReplayError.Memory) × (self.new.standing ≡ standings.Spent)) }
+        ensures here { self.new.file ≡ self.old.file }
+        ensures plan { KeepsPlan self.old self.new }
     {
         match unit {
-            Ok(unit) => {
-                if self.selection.selects(&unit) {
-                    self.session = Some(unit);
+            Ok(unit) => match self.selects(alloc, &unit) {
+                Ok(selected) => {
+                    if selected {
+                        self.session = Some(unit);
+                    }
+                    Ok(None)
                 }
-                None
-            }
-            Err(fault) => Some(refused(at, fault)),
+                Err(_) => {
+                    self.standing = Standing::Spent;
+                    Err(ReplayError::Memory)
+                }
+            },
+            Err(fault) => Ok(Some(refused(at, fault))),
         }
     }
 
@@ -126,16 +169,16 @@ impl Units {
         ensures here { self.new.file ≡ self.old.file }
         ensures plan { KeepsPlan self.old self.new }
     {
-        let is_past = self.selection.is_past(at.time(0));
         let Some(index) = &mut self.index else {
             return Ok(Some(refused(at, Fault::NoPeerIndex)));
         };
         match index.read(at, add_path, body) {
-            Ok(()) if is_past => {
-                index.leave_out();
+            Ok(()) => {
+                if !index.is_selected(&self.selection) {
+                    index.leave_out();
+                }
                 Ok(None)
             }
-            Ok(()) => Ok(None),
             Err(AttrError::Bad(fault)) => Ok(Some(refused(at, fault))),
             Err(AttrError::Memory) => {
                 self.standing = Standing::Spent;

@@ -7,5 +7,5 @@ returns c = record {
   joined = TakesFound-more;
   front = gave_front;
   whole = gave_all;
-  failed = λ count max_records file until last stopped contents left after given gave before. gave_before count max_records until last contents left given file stopped after gave before;
+  failed = λ count max_records file selection last stopped contents left after given gave before. gave_before count max_records selection last contents left given file stopped after gave before;
 }

@@ -4,6 +4,7 @@ use Rattle.std.specs.List.{filter_map}
 use Rattle.std.proofs.lemmas.List.{length-map}
 use Rattle.mrt_body.specs.declared.unit.Unit.{Unit as ReplayUnit}
 use Rattle.mrt_body.specs.Units.{units_of, refused_of, unit_of}
+use Rattle.peer_tables.specs.Tables.{chosen_tables}
 use Rattle.lane_deal.specs.Playing.{shown}
 use Rattle.lane_deal.specs.Replayers.{ReplayerStandsFor}
 use Rattle.mrt_replay.specs.Replays.{DealtAll}
@@ -14,7 +15,7 @@ use Rattle.mrt_replay.proofs.replayed.replay.Goals as goal
 
 pub returns-in-Err-clause-cause : goal.returns-in-Err-clause-cause
 returns-in-Err-clause-cause g c =
-    stops_replay c.new-units.result _ c.args.plan.now.max_records c.args.plan.now.until c.new-units.ensures.fresh (map g.R.Source.remaining c.args.files.now)
+    stops_replay c.new-units.result _ c.args.plan.now.max_records c.args.selection c.new-units.ensures.fresh (map g.R.Source.remaining c.args.files.now)
     (map g.R.Failures.failure_count c.args.files.now) (map g.R.Failures.failure_count c.play.new.files) c.in-Err.error c.new-units.ensures.cuts
     (length-map c.play.new.files g.R.Failures.failure_count ∙ c.play.auto.files ∙ sym (length-map c.args.files.now g.R.Failures.failure_count)) c.in-Err.ensures.cause
 
@@ -22,7 +23,7 @@ pub returns-clause-replayed : goal.returns-clause-replayed
 returns-clause-replayed g c contents known =
     let start = c.new-units.result in
     let max = c.args.plan.now.max_records in
-    let until = c.args.plan.now.until in
+    let until = c.args.selection in
     let told = map g.R.Source.remaining c.args.files.now in
     let all = c.new-units.ensures.all contents in
     let cuts = c.new-units.ensures.cuts contents in
@@ -54,7 +55,8 @@ returns-clause-replayed g c contents known =
     (let f = c.in-Ok.ensures.forks (λ e. let k = kept.2 in absurd (cc)) in c.rounds-rounds.ensures ∙ f) in
     let at_most : c.rounds-rounds.result ≤ s.rounds + 1 = omega (arith, up) in
     record {
-      stands = c.in-Ok-into_tables.ensures.tables units refused four;
+      stands = c.in-Ok-retain.ensures ∙ ap (λ l. chosen_tables l c.in-Ok-into_tables.tables) (c.as_slice.ensures.value ∙ c.in_ok-choices.ensures ∙ c.prefixes.ensures)
+          ∙ ap (chosen_tables until.prefixes) (c.in-Ok-into_tables.ensures.tables units refused four);
       records_counted = c.records.ensures ∙ records_taken start _ max until c.new-units.ensures.fresh contents told known (DealtAll (λ p w. law r.dealer.dealing.now p w) r.plan.ring) c.play.new.units (shown r) (shown s) played.taken empty cuts;
       units_counted = count;
       aside_counted = c.aside.ensures ∙ aside_taken start _ max until c.new-units.ensures.fresh contents told known (DealtAll (λ p w. law r.dealer.dealing.now p w) r.plan.ring) c.play.new.units (shown r) (shown s) played.taken empty cuts;

@@ -1,0 +1,12 @@
+use Rattle.std.proofs.Common.{◌≡◌, ◌∙◌, IfOk, List, map, not, ap, subst, Bor}
+use Rattle.std.specs.List.{filter}
+use Rattle.bgp_prefix.specs.declared.key.RouteKey.{RouteKey}
+use Rattle.bgp_update.specs.declared.route.Route.{Route}
+use Rattle.adj_rib.specs.Selecting.{chooses}
+use Rattle.adj_rib.proofs.retaining.other_keys.Goals as goal
+
+pub returns : goal.returns
+returns g c =
+    subst (λ (es : List (RouteKey × Route)). IfOk c.unchosen_keys.result (λ v. v.items ≡ filter (λ k. not (chooses c.args.choices.now k)) (map (λ (e : RouteKey × Route). e.0) es)))
+    (ap (λ (es : List (RouteKey × Bor Route)). map (λ e. (e.0, e.1.now)) es) c.as_slice.ensures.value ∙ c.in_ok-entries.ensures)
+    c.unchosen_keys.ensures

@@ -1,0 +1,8 @@
+use Rattle.std.proofs.Common.{◌≡◌, map, not, take}
+use Rattle.std.specs.List.{fold, filter}
+use Rattle.std.specs.FinMap as finite
+use Rattle.adj_rib.specs.Selecting.{chooses}
+use Rattle.adj_rib.proofs.retaining.remove_all.Given as goal
+
+abbrev pub invariant-loop-key : goal.invariant-loop-key
+invariant-loop-key g l = g.M.PrefixMap.contents l.table ≡ fold finite.remove (g.M.PrefixMap.contents l.initial.table) (take l.key-index l.keys)

@@ -1,0 +1,10 @@
+use Rattle.std.proofs.Common.{◌≡◌, map, not, take}
+use Rattle.std.specs.List.{fold, filter}
+use Rattle.std.specs.FinMap as finite
+use Rattle.bgp_prefix.specs.declared.key.RouteKey.{RouteKey}
+use Rattle.bgp_update.specs.declared.route.Route.{Route}
+use Rattle.adj_rib.specs.Selecting.{chooses}
+use Rattle.adj_rib.proofs.retaining.unchosen_keys.Given as goal
+
+abbrev pub invariant-loop-key : goal.invariant-loop-key
+invariant-loop-key l = l.keys.items ≡ filter (λ k. not (chooses l.choices k)) (map (λ (e : RouteKey × Route). e.0) (map (λ e. (e.0, e.1.now)) (take l.key-index l.entries)))

@@ -1,0 +1,39 @@
+-- What a selection of keys leaves of steps, tables and outcomes.
+use Rattle.std.specs.Prelude.{Bool, true, List, [], ◌∷◌, if◌then◌else◌}
+use Rattle.std.specs.List.{filter}
+use Rattle.mrt_frame.specs.Positions.{flat_map_after}
+use Rattle.bgp_prefix.specs.declared.key.RouteKey.{RouteKey}
+use Rattle.bgp_update.specs.declared.route.Route.{Route}
+use Rattle.mrt_body.specs.declared.choice.PrefixChoice.{PrefixChoice}
+use Rattle.mrt_body.specs.declared.unit.Unit.{Unit as ReplayUnit}
+use Rattle.mrt_body.specs.Choices.{is_chosen}
+use Rattle.mrt_body.specs.Selections.{concerns}
+use Rattle.adj_rib.specs.declared.outcome.Outcome.{Outcome}
+use Rattle.adj_rib.specs.Steps.{Step, break, announce, withdraw, steps_of}
+use Rattle.adj_rib.specs.Churns.{outcome_of}
+
+-- a step of a selected key, or a break, which ends the routes of all
+abbrev pub keeps : (RouteKey → Bool) → Step → Bool
+keeps selects break = true
+keeps selects (announce k route) = selects k
+keeps selects (withdraw k) = selects k
+
+abbrev pub selected_steps : (RouteKey → Bool) → List Step → List Step
+selected_steps selects steps = filter (keeps selects) steps
+
+-- the entries of selected keys
+abbrev pub selected_entries : (RouteKey → Bool) → List (RouteKey × Route) → List (RouteKey × Route)
+selected_entries selects table = filter (λ e. selects e.0) table
+
+-- the outcome of each step of a selected key, and of each break, beside all the steps before it
+unfoldable pub selected_outcomes : (RouteKey → Bool) → List Step → List Outcome
+selected_outcomes selects steps =
+    flat_map_after (λ before step. if keeps selects step then outcome_of before step ∷ [] else []) [] steps
+
+-- the keys of chosen prefixes
+abbrev pub chooses : List PrefixChoice → RouteKey → Bool
+chooses choices k = is_chosen choices k.prefix
+
+-- the units that can concern a chosen prefix
+abbrev pub concerned : List PrefixChoice → List ReplayUnit → List ReplayUnit
+concerned choices units = filter (λ unit. concerns choices unit.payload) units

@@ -1,0 +1,67 @@
+//! Tables without the routes of other prefixes.
+
+ghost use Rattle.std.specs.Prelude.{◌≡◌, IfOk, OnOk, map, not};
+ghost use Rattle.std.specs.List.{filter, fold};
+ghost use Rattle.std.specs.FinMap as finite;
+ghost use Rattle.bgp_prefix.specs.declared.key.RouteKey.{RouteKey as Key};
+ghost use Rattle.bgp_update.specs.declared.route.Route.{Route};
+ghost use Rattle.adj_rib.specs.Selecting.{chooses, selected_entries};
+
+use crate::shared_route::SharedRoute;
+use bgp_prefix::{Memory, PrefixMap, RouteKey};
+use mrt_body::{PrefixChoice, is_chosen};
+use std::alloc::Global;
+
+/// Returns the keys of these entries that aren't chosen.
+fn unchosen_keys(
+    alloc: Global,
+    choices: &[PrefixChoice],
+    entries: &[(RouteKey, &SharedRoute)],
+) -> Result<Vec<RouteKey>, Memory>
+    ensures { IfOk result (λ v. v.items ≡ filter (λ k. not (chooses choices.now k))
+        (map (λ (e : Key × Route). e.0) (map (λ e. (e.0, e.1.now)) entries.now))) }
+{
+    let mut keys = Vec::new(alloc);
+    for (key, _) in entries {
+        if !is_chosen(choices, &key.prefix) {
+            keys.push(*key)?;
+        }
+    }
+    Ok(keys)
+}
+
+/// Returns the keys of a table that aren't chosen.
+fn other_keys<M: PrefixMap<SharedRoute>>(
+    alloc: Global,
+    choices: &[PrefixChoice],
+    table: &M,
+) -> Result<Vec<RouteKey>, Memory>
+    ensures { IfOk result (λ v. v.items ≡ filter (λ k. not (chooses choices.now k))
+        (map (λ e. e.0) (finite.entries (M.contents table.now)))) }
+{
+    let entries = table.entries(alloc)?;
+    unchosen_keys(alloc, choices, entries.as_slice())
+}
+
+/// Removes each of these keys.
+fn remove_all<M: PrefixMap<SharedRoute>>(table: &mut M, keys: &[RouteKey])
+    ensures { M.contents table.new ≡ fold finite.remove (M.contents table.old) keys.now }
+{
+    for key in keys {
+        table.remove(key);
+    }
+}
+
+/// Removes the routes of prefixes that aren't chosen.
+pub(crate) fn retain_chosen<M: PrefixMap<SharedRoute>>(
+    alloc: Global,
+    choices: &[PrefixChoice],
+    table: &mut M,
+) -> Result<(), Memory>
+    ensures { OnOk result (finite.entries (M.contents table.new)
+        ≡ selected_entries (chooses choices.now) (finite.entries (M.contents table.old))) }
+{
+    let keys = other_keys(alloc, choices, table)?;
+    remove_all(table, keys.as_slice());
+    Ok(())
+}

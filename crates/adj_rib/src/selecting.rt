@@ -1,0 +1,31 @@
+//! The laws of selections of keys.
+
+ghost use Rattle.std.specs.Prelude.{◌≡◌, Bool, List};
+ghost use Rattle.bgp_prefix.specs.declared.key.RouteKey.{RouteKey};
+ghost use Rattle.mrt_body.specs.declared.choice.PrefixChoice.{PrefixChoice as Choice};
+ghost use Rattle.mrt_body.specs.declared.unit.Unit.{Unit as ReplayUnit};
+ghost use Rattle.adj_rib.specs.Steps.{Step, is_up, steps_of};
+ghost use Rattle.adj_rib.specs.Tables.{table_of};
+ghost use Rattle.adj_rib.specs.Churns.{outcomes_of};
+ghost use Rattle.adj_rib.specs.Selecting.{chooses, concerned, selected_steps, selected_entries, selected_outcomes};
+
+/// The table of selected steps is the selection of the table of all steps, and each of them has the outcome that it has
+/// among all.
+pub fn selections_commute()
+    ensures tables { (selects : RouteKey → Bool) (steps : List Step) →
+        table_of (selected_steps selects steps) ≡ selected_entries selects (table_of steps) }
+    ensures outcomes { (selects : RouteKey → Bool) (steps : List Step) →
+        outcomes_of (selected_steps selects steps) ≡ selected_outcomes selects steps }
+{}
+
+/// Selecting a peer's units before they are taken makes no difference to the chosen prefixes: their routes are the same,
+/// and so is what was done to them; and the peer is up or not as it was.
+pub fn early_is_late()
+    ensures state { (choices : List Choice) (units : List ReplayUnit) → is_up (concerned choices units) ≡ is_up units }
+    ensures routes { (choices : List Choice) (units : List ReplayUnit) →
+        selected_entries (chooses choices) (table_of (steps_of (concerned choices units)))
+        ≡ selected_entries (chooses choices) (table_of (steps_of units)) }
+    ensures outcomes { (choices : List Choice) (units : List ReplayUnit) →
+        selected_outcomes (chooses choices) (steps_of (concerned choices units))
+        ≡ selected_outcomes (chooses choices) (steps_of units) }
+{}

@@ -1,0 +1,94 @@
+-- The units of some peers alone give these peers the same tables, in the same order.
+use Rattle.std.proofs.Common.{◌≡◌, ℕ, Bool, true, false, cond, ◌&&◌, ◌||◌, List, [], ◌∷◌, ◌++◌, map, refl, sym, ap, ◌∙◌, append-nil, append_assoc}
+use Rattle.std.specs.List.{filter, list_any}
+use Rattle.std.proofs.lemmas.Bool.{and_parts, and_from, eqb-true, eq-eqb}
+use Rattle.std.proofs.lemmas.List.Elements.{filter-append}
+use Rattle.mrt_frame.specs.Positions.{flat_map_after}
+use Rattle.mrt_body.specs.declared.unit.PeerAddr.{PeerAddr}
+use Rattle.mrt_body.specs.declared.unit.PeerAddr.TheVariants.{V4, V6}
+use Rattle.mrt_body.specs.declared.unit.PeerKey.{PeerKey}
+use Rattle.mrt_body.specs.declared.unit.Unit.{Unit as ReplayUnit}
+use Rattle.peer_tables.specs.Peers.{addr_eq, peer_eq, peers_of, units_of_peer}
+use Rattle.peer_tables.specs.Shares.{units_where}
+
+same_addr : (a b : PeerAddr) → addr_eq a b ≡ true → a ≡ b
+same_addr (V4 a) (V4 b) e = ap V4 (eqb-true a b e)
+same_addr (V6 a) (V6 b) e = ap V6 (eqb-true a b e)
+same_addr (V4 a) (V6 b) e = cc
+same_addr (V6 a) (V4 b) e = cc
+
+same_peer : (p q : PeerKey) → peer_eq p q ≡ true → p ≡ q
+same_peer p q e =
+    let parts = and_parts _ _ e in
+    let asn : p.asn ≡ q.asn = eqb-true _ _ parts.0 in
+    let addr = same_addr p.addr q.addr parts.1 in
+    λ i. record { asn = asn i; addr = addr i }
+
+-- ---- a filter that leaves all that another one finds
+
+misses : {X : Type 0} (p t : X → Bool) (x : X) → (p x ≡ true → t x ≡ true) → t x ≡ false → p x ≡ false
+misses p t x h left =
+    elim (p x) as (λ b. p x ≡ b → b ≡ false) [
+      | true ↦ λ taken. absurd (let clash : true ≡ false = sym (h taken) ∙ left in cc)
+      | false ↦ λ _. refl
+    ] refl
+
+filter_within : {X : Type 0} (p t : X → Bool) → ((x : X) → p x ≡ true → t x ≡ true) → (xs : List X) → filter p (filter t xs) ≡ filter p xs
+filter_within p t h [] = refl
+filter_within p t h (x ∷ xs) =
+    elim (t x) as (λ b. t x ≡ b → filter p (cond b (x ∷ filter t xs) (filter t xs)) ≡ filter p (x ∷ xs)) [
+      | true ↦ λ _. ap (λ l. cond (p x) (x ∷ l) l) (filter_within p t h xs)
+      | false ↦ λ left. filter_within p t h xs ∙ ap (λ b. cond b (x ∷ filter p xs) (filter p xs)) (sym (misses p t x (h x) left))
+    ] refl
+
+any_within : {X : Type 0} (p t : X → Bool) → ((x : X) → p x ≡ true → t x ≡ true) → (xs : List X) → list_any p (filter t xs) ≡ list_any p xs
+any_within p t h [] = refl
+any_within p t h (x ∷ xs) =
+    elim (t x) as (λ b. t x ≡ b → list_any p (cond b (x ∷ filter t xs) (filter t xs)) ≡ (p x || list_any p xs)) [
+      | true ↦ λ _. ap (λ b. p x || b) (any_within p t h xs)
+      | false ↦ λ left. any_within p t h xs ∙ ap (λ b. b || list_any p xs) (sym (misses p t x (h x) left))
+    ] refl
+
+-- ---- some peers
+
+module _ (takes : PeerKey → Bool) where
+  taken_alike : (q : PeerKey) → takes q ≡ true → (u : ReplayUnit) → peer_eq u.peer q ≡ true → takes u.peer ≡ true
+  taken_alike q h u e = ap takes (same_peer u.peer q e) ∙ h
+
+  -- a peer that is taken has all its units
+  pub units_of_peer-where : (units : List ReplayUnit) (q : PeerKey) → takes q ≡ true → units_of_peer (units_where takes units) q ≡ units_of_peer units q
+  units_of_peer-where units q h = filter_within (λ u. peer_eq u.peer q) (λ u. takes u.peer) (taken_alike q h) units
+
+  abbrev first_peer : List ReplayUnit → ReplayUnit → List PeerKey
+  first_peer before unit = cond (list_any (λ u. peer_eq u.peer unit.peer) before) [] (unit.peer ∷ [])
+
+  if_new : (b : Bool) (q : PeerKey) → takes q ≡ true → cond b [] (q ∷ []) ≡ filter takes (cond b [] (q ∷ []))
+  if_new true q h = refl
+  if_new false q h = rw h refl
+
+  none_new : (b : Bool) (q : PeerKey) → takes q ≡ false → [] ≡ filter takes (cond b [] (q ∷ []))
+  none_new true q h = refl
+  none_new false q h = rw h refl
+
+  peers_from : (before units : List ReplayUnit) → flat_map_after first_peer (units_where takes before) (units_where takes units) ≡ filter takes (flat_map_after first_peer before units)
+  peers_from before [] = refl
+  peers_from before (u ∷ units) =
+      let on : units_where takes (before ++ u ∷ []) ≡ units_where takes before ++ units_where takes (u ∷ []) = filter-append (λ (u : ReplayUnit). takes u.peer) before (u ∷ []) in
+      let rest = flat_map_after first_peer (before ++ u ∷ []) units in
+      elim (takes u.peer) as (λ b. takes u.peer ≡ b → flat_map_after first_peer (units_where takes before) (cond b (u ∷ units_where takes units) (units_where takes units)) ≡ filter takes (first_peer before u) ++ filter takes rest) [
+        | true ↦ λ taken.
+          ap (λ b. cond b [] (u.peer ∷ []) ++ flat_map_after first_peer (units_where takes before ++ u ∷ []) (units_where takes units)) (any_within (λ v. peer_eq v.peer u.peer) (λ v. takes v.peer) (taken_alike u.peer taken) before)
+          ∙ ap (λ l. first_peer before u ++ flat_map_after first_peer l (units_where takes units)) (ap (λ b. units_where takes before ++ cond b (u ∷ []) []) (sym taken) ∙ sym on)
+          ∙ ap (λ l. first_peer before u ++ l) (peers_from (before ++ u ∷ []) units)
+          ∙ ap (λ l. l ++ filter takes rest) (if_new (list_any (λ v. peer_eq v.peer u.peer) before) u.peer taken)
+        | false ↦ λ left.
+          ap (λ l. flat_map_after first_peer l (units_where takes units)) (sym (append-nil (units_where takes before)) ∙ ap (λ b. units_where takes before ++ cond b (u ∷ []) []) (sym left) ∙ sym on)
+          ∙ peers_from (before ++ u ∷ []) units
+          ∙ ap (λ l. l ++ filter takes rest) (none_new (list_any (λ v. peer_eq v.peer u.peer) before) u.peer left)
+      ] refl
+      ∙ sym (filter-append takes (first_peer before u) rest)
+
+  -- the peers that are taken, in the same order
+  pub peers_of-where : (units : List ReplayUnit) → peers_of (units_where takes units) ≡ filter takes (peers_of units)
+  unfolding peers_of
+  peers_of-where units = peers_from [] units
