@@ -252,6 +252,13 @@ impl<D: Read + Drop> Read for Dump<'_, D> {
     }
 }
 
+impl<'a, D: Read + Drop> Dump<'a, D> {
+    /// What is known of the bytes to come: what wasn't given yet of the block, and what is still to be read of the device.
+    pub fn gives_its_bytes(&self)
+        ensures { ⟦<Dump<'a, D> as Read>⟧.remaining self.now ≡ dump_remaining D.remaining self.now }
+    {}
+}
+
 /// Why not all dumps were opened.
 #[derive(Drop)]
 pub enum OpenError {

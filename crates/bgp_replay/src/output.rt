@@ -89,3 +89,10 @@ impl<W: Write> Write for Report<'_, W> {
         }
     }
 }
+
+impl<'a, W: Write> Report<'a, W> {
+    /// What is known of the bytes held: what the device holds, and what is left of the header.
+    pub fn holds_its_bytes(&self)
+        ensures { ⟦<Report<'a, W> as Write>⟧.contents self.now ≡ report_contents W.contents self.now }
+    {}
+}
