@@ -24,8 +24,8 @@ pub fn columns(request: &Request) -> &'static str {
     }
 }
 
-/// A writer with a header, perhaps an empty one, that precedes the first byte of the report. An empty report gets it when
-/// it is flushed. Any progress shown is cleared before it.
+/// A writer with a header, perhaps an empty one, that precedes the first byte of the report. An empty report gets it
+/// when it is flushed. Any progress shown is cleared before it.
 #[derive(Drop)]
 pub struct Report<'a, W> {
     out: Headed<W>,
