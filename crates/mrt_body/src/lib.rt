@@ -16,7 +16,7 @@
 //!   `Units::next` is proved against the reading.
 //! - Units are lent (`Units::lend`): the dealer copies the bytes of an entry or a message once, from the record to its
 //!   lane's list. `Units::next` is `advance`, a copy of what is lent, and `pass`. A record is read into the memory of
-//!   the one before it.
+//!   the one before it, of which at most 128 KiB are kept.
 //! - A RIB record's entries are read once, into a list of 12 bytes each (the peer's index, the path identifier, where
 //!   the attributes are), since one broken entry refuses the record. The list gets room for as many entries as the
 //!   record claims, but for no more than its body can hold, so a false count takes no memory.

@@ -13,9 +13,9 @@
 //!   flush that is Ok sets and each write clears.
 //! - After a failed read the bytes that were taken hold no whole record, and the reader of records stays failed. No
 //!   read is tried again, not even an interrupted one.
-//! - `next_into` reads a record into the memory of one before it, of which at most 128 KiB are kept. Records aren't cut
-//!   in place from the blocks that a reader fills: by the contracts all that is still to come is with the reader, and
-//!   bytes read ahead would be with neither.
+//! - `next_into` reads a record into a block of memory that was used before. Records aren't cut in place from the
+//!   blocks that a reader fills: by the contracts all that is still to come is with the reader, and bytes read ahead
+//!   would be with neither.
 //! - Fields are read by `byte_at`, `bytes_at`, `u16_at`, `u32_at` and `u128_at`, each from the bytes that are left,
 //!   with the fault to report. Every format above is read with them.
 //! - `write_full` writes 8 KB at a time. While a write copies into a pipe, its reader can't read, and a write that
