@@ -27,7 +27,7 @@ TOOLCHAIN = "rattle-kit, logic dac8208d650f15bf"
 MISSING = f"""the toolchain isn't installed: no rt on PATH ({TOOLCHAIN}), which proves and compiles the program
 what needs no toolchain: the Debian package and the tarball of a release, and make scripts BINARY=PROGRAM"""
 # Lines on what is well, which say nothing of a failure.
-WELL = re.compile(r"(enum|struct|impl|trait|fn) .*: proved$|so far: |checked .* of |logic /|statements |rt: chose |crate ")
+WELL = re.compile(r"(enum|struct|impl|trait|fn) .*: proved$|so far: |checked .* of |logic /|statements |crate |rt: chose ")
 # How many lines on a failure go to the terminal.
 SHOWN = 60
 
@@ -122,7 +122,8 @@ class Toolchain:
         told = [it for it in lines if it and not WELL.match(it)]
         if len(told) > SHOWN:
             print(f"  .. {len(told) - SHOWN} lines more in {self.name}")
-        print(*[f"  {it}" for it in told[-SHOWN:]], f"  (all that the toolchain said: {self.name})", sep="\n", flush=True)
+        print(*[f"  {it}" for it in told[-SHOWN:]], sep="\n")
+        print(f"  (all that the toolchain said: {self.name})", flush=True)
 
 
 def record(built, to, is_proved):
@@ -146,11 +147,12 @@ def build_proved():
         words = ["rt", "run", "--", "--version"] if crate == PROGRAM else ["rt", "lib"]
         status, lines, proved = toolchain.run(label, words, f"{TOP}/crates/{crate}")
         if status:
-            toolchain.show(f"{label}: {'not proved' if status == 1 else f'failed, status {status}'} ({passed_since(start)})")
+            what = "not proved" if status == 1 else f"failed, status {status}"
+            toolchain.show(f"{label}: {what} ({passed_since(start)})")
             toolchain.explain(lines)
             return status
-        unit = "function" if proved == 1 else "functions"
-        toolchain.show(f"{label}: unchanged" if proved is None else f"{label}: proved {proved} {unit} ({passed_since(start)})")
+        what = f"proved {proved} function{'' if proved == 1 else 's'} ({passed_since(start)})"
+        toolchain.show(f"{label}: {'unchanged' if proved is None else what}")
     record(f"{TOP}/crates/{PROGRAM}/out/{PROGRAM}", f"{TOP}/bin/{PROGRAM}", True)
     return 0
 

@@ -26,8 +26,9 @@ class Refused(Exception):
 
 def output(*words):
     """Returns what a command prints, without the blanks round it, or None if it fails or isn't installed."""
+    how = {"stdin": subprocess.DEVNULL, "stdout": subprocess.PIPE, "stderr": subprocess.DEVNULL}
     try:
-        ran = subprocess.run(words, cwd=TOP, stdin=subprocess.DEVNULL, stdout=subprocess.PIPE, stderr=subprocess.DEVNULL)
+        ran = subprocess.run(words, cwd=TOP, **how)
     except OSError:
         return None
     return None if ran.returncode else ran.stdout.decode(errors="replace").strip()
@@ -36,7 +37,8 @@ def output(*words):
 def commit():
     """Returns the commit that is checked out, and whether the crates differ from it."""
     # A checkout of another project may surround an unpacked tarball.
-    at = output("git", "rev-parse", "--short=12", "HEAD") if output("git", "rev-parse", "--show-prefix") == "" else None
+    is_ours = output("git", "rev-parse", "--show-prefix") == ""
+    at = output("git", "rev-parse", "--short=12", "HEAD") if is_ours else None
     if not at:
         return "commit not recorded"
     changed = output("git", "status", "--porcelain", "--", "crates", "crates.txt")

@@ -57,8 +57,11 @@ def main(words):
         return 2
     kit = os.path.dirname(os.path.dirname(os.path.realpath(rt)))
     sys.path.insert(0, f"{kit}/bin")
-    import rtlib
-
+    try:
+        import rtlib
+    except ImportError:
+        print(f"tools/trial.py: {rt} has no rtlib.py beside it, whose trial build this script runs", file=sys.stderr)
+        return 2
     with tempfile.TemporaryDirectory(prefix="trial-") as work:
         copy_of(kit, f"{work}/kit", to)
         rtlib.KIT = f"{work}/kit"
