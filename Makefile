@@ -28,26 +28,26 @@ $(QUICK): $(SOURCES) $(BUILDING) tools/trial.py
 	@tools/build.py quick
 
 help:
-	@echo 'make            builds bin/bgp_replay (a first build proves every crate below: fifteen to thirty minutes on 4 cores)'
-	@echo 'make quick      builds bin/quick/bgp_replay in two minutes, with no proof: it takes twice as long, and isn'"'"'t installed'
-	@echo 'make run        replays the sample by `tables`'
-	@echo 'make check      the gate: every proof, must-fail edit, test and run from nothing, make scripts and make quick-check'
-	@echo 'make verdict    each crate from nothing, with its tests'
-	@echo 'make scripts    tries lines and statuses, the packages, the recipes of README.md, and what the build refuses'
-	@echo 'make quick-check  builds by make quick, and tries that program'
-	@echo 'make refusals   fails each allocation, read, write and thread start in turn'
-	@echo 'make growths    fails each allocation of the test programs that state what is left then'
-	@echo 'make same       every number of workers and ring gives the same bytes'
-	@echo 'make fuzz       replays damaged dumps (FILES=800 of them; SAMPLES=DIRECTORY adds dumps to damage)'
-	@echo 'make maps       makes ten million drawn calls of the prefix maps beside a plain list'
-	@echo 'make edits      tries further wrong bodies of each crate: the check must refuse them'
-	@echo 'make hostile    replays dumps that are costly to read, at a size and twice that size'
-	@echo 'make bench      measures the program beside bgpdump and others'
-	@echo 'make install    copies program, manual page, completions and documents to DESTDIR PREFIX (~/.local)'
-	@echo 'make uninstall  removes these'
-	@echo 'make dist       a tarball of them in dist/, and its sum in dist/SHA256SUMS'
-	@echo 'make deb        a Debian package of them in dist/, and its sum in dist/SHA256SUMS'
-	@echo 'make clean      removes what was built'
+	@echo 'make              builds bin/bgp_replay (a first build proves every crate below: fifteen to thirty minutes on 4 cores)'
+	@echo 'make quick        builds bin/quick/bgp_replay in two minutes, with no proof: half as fast, and never installed or packed'
+	@echo 'make run          replays the sample by `tables`'
+	@echo 'make check        the gate: every proof, must-fail edit, test and run from nothing, make scripts and make quick-check'
+	@echo 'make verdict      each crate from nothing, with its tests'
+	@echo 'make scripts      tries lines and statuses, the packages, the recipes, and what the build records and refuses'
+	@echo 'make quick-check  builds that program, and tries it'
+	@echo 'make refusals     fails each allocation, read, write and thread start in turn'
+	@echo 'make growths      fails each allocation of the test programs that state what is left then'
+	@echo 'make same         every number of workers and ring gives the same bytes'
+	@echo 'make fuzz         replays damaged dumps (FILES=800 of them; SAMPLES=DIRECTORY adds dumps to damage)'
+	@echo 'make maps         makes ten million drawn calls of the prefix maps beside a plain list'
+	@echo 'make edits        tries further wrong bodies of each crate: the check must refuse them'
+	@echo 'make hostile      replays dumps that are costly to read, at a size and twice that size'
+	@echo 'make bench        measures the program beside bgpdump and others'
+	@echo 'make install      copies program, manual page, completions and documents to DESTDIR PREFIX (~/.local)'
+	@echo 'make uninstall    removes these'
+	@echo 'make dist         a tarball of them in dist/, and its sum in dist/SHA256SUMS'
+	@echo 'make deb          a Debian package of them in dist/, and its sum in dist/SHA256SUMS'
+	@echo 'make clean        removes what was built'
 
 run: $(PROGRAM)
 	$(PROGRAM) tables examples/sample.mrt
@@ -90,12 +90,13 @@ dist: proved
 deb: proved
 	tools/pack.sh deb '$(BINARY)' '$(DIST)'
 
-# Lines and statuses, packages, recipes, and what the build records and refuses, on the program as it is built: quick.
+# Lines and statuses, packages, recipes, what the build records and refuses, and pages that are made: quick.
 scripts: $(BINARY)
 	tests/program.sh '$(BINARY)'
 	tests/packaging.sh '$(BINARY)'
 	tests/recipes.sh '$(BINARY)'
 	tests/build.sh
+	python3 tools/model_index.py --check
 
 # The trial build works, and what it makes is neither installed nor packed.
 quick-check: $(QUICK)

@@ -14,18 +14,23 @@ version=$("$program" --version | sed -n '1s/^bgp_replay //p')
 [ -n "$version" ] || { echo "tools/pack.sh: $program has no version" >&2; exit 2; }
 
 # A checkout of another project may surround an unpacked tarball.
-commit_time() { [ -z "$(git rev-parse --show-prefix 2> "$work/none" || echo none)" ] && git log -1 --format=%ct 2> "$work/none"; }
+is_ours() { [ -z "$(git rev-parse --show-prefix 2> "$work/none" || echo none)" ]; }
+commit_time() { is_ours && git log -1 --format=%ct 2> "$work/none"; }
 page_time() { date -u -d "$(sed -n 's/^\.TH [A-Z_]* 1 \([0-9-]*\) .*/\1/p' man/bgp_replay.1)" +%s; }
 SOURCE_DATE_EPOCH=${SOURCE_DATE_EPOCH:-$(commit_time || page_time)}; export SOURCE_DATE_EPOCH
 
 # Lays out all below $1, for the prefix $2, with a stripped program and compressed manual page.
 stage() {
   cp "$program" "$work/bgp_replay"
-  if command -v strip > "$work/none"; then strip "$work/bgp_replay"; else echo "strip isn't installed: the program keeps its symbols" >&2; fi
+  if command -v strip > "$work/none"; then strip "$work/bgp_replay"
+  else echo "strip isn't installed: the program keeps its symbols" >&2; fi
   make -s --no-print-directory install DESTDIR="$1" PREFIX="$2" BINARY="$work/bgp_replay" || exit 2
   gzip -9n "$1$2/share/man/man1/bgp_replay.1"
 }
-sum_all() { (cd "$to" && find . -maxdepth 1 -type f \( -name '*.tar.gz' -o -name '*.deb' \) -printf '%f\0' | sort -z | xargs -0 sha256sum > SHA256SUMS); }
+sum_all() {
+  (cd "$to" && find . -maxdepth 1 -type f \( -name '*.tar.gz' -o -name '*.deb' \) -printf '%f\0' | sort -z |
+    xargs -0 sha256sum > SHA256SUMS)
+}
 date_all() { find "$1" -exec touch -h -d "@$SOURCE_DATE_EPOCH" {} +; }
 
 pack_tarball() {
@@ -37,8 +42,18 @@ pack_tarball() {
   echo "$to/$name.tar.gz"
 }
 
-# The least version of the C library that has all that the program calls.
-library() { grep -ao 'GLIBC_[0-9][0-9.]*' "$program" | sed 's/GLIBC_//' | sort -Vu | tail -n 1; }
+# The packages whose libraries the program is linked with: of the C library, the least version that has all its calls.
+needed() {
+  local version; version=$(grep -ao 'GLIBC_[0-9][0-9.]*' "$program" | sed 's/GLIBC_//' | sort -Vu | tail -n 1)
+  printf 'libc6%s' "${version:+ (>= $version)}"
+  if grep -aq 'libgcc_s\.so\.1' "$program"; then printf ', libgcc-s1'; fi
+}
+
+# The size on disk in blocks of 1 KiB, as dpkg-gencontrol counts them: what du says depends on the file system.
+blocks() {
+  find "$1" -mindepth 1 -printf '%y %s\n' |
+    awk '$1 == "f" { count += int(($2 + 1023) / 1024) } $1 != "f" { count++ } END { print count }'
+}
 
 pack_deb() {
   local root=$work/root documents=$work/root/usr/share/doc/bgp-replay maintainer architecture
@@ -55,8 +70,7 @@ pack_deb() {
   rm "$documents/LICENSE"
   tools/debian_changelog.py CHANGELOG.md bgp-replay "$maintainer" "$SOURCE_DATE_EPOCH" > "$documents/changelog"
   gzip -9n "$documents/changelog" "$documents/CHANGELOG.md"
-  # In blocks of 1 KiB, as dpkg-gencontrol counts them: what du says depends on the file system.
-  local size; size=$(find "$root" -mindepth 1 -printf '%y %s\n' | awk '$1 == "f" { n += int(($2 + 1023) / 1024) } $1 != "f" { n++ } END { print n }')
+  local size; size=$(blocks "$root")
   mkdir "$root/DEBIAN"
   (cd "$root" && find usr -type f -printf '%p\0' | sort -z | xargs -0 md5sum > DEBIAN/md5sums)
   cat > "$root/DEBIAN/control" <<END
@@ -65,7 +79,7 @@ Version: $version
 Architecture: $architecture
 Maintainer: $maintainer
 Installed-Size: $size
-Depends: libc6 (>= $(library))
+Depends: $(needed)
 Section: net
 Priority: optional
 Description: replay of MRT dumps of BGP route collectors
