@@ -29,7 +29,7 @@ $(QUICK): $(SOURCES) $(BUILDING) tools/trial.py
 
 help:
 	@echo 'make              builds bin/bgp_replay (a first build proves every crate below: fifteen to thirty minutes on 4 cores)'
-	@echo 'make quick        builds bin/quick/bgp_replay in two minutes, with no proof: half as fast, and never installed or packed'
+	@echo 'make quick        builds bin/quick/bgp_replay in two minutes, with no proof: slower, and never installed or packed'
 	@echo 'make run          replays the sample by `tables`'
 	@echo 'make check        the gate: every proof, must-fail edit, test and run from nothing, make scripts and make quick-check'
 	@echo 'make verdict      each crate from nothing, with its tests'
@@ -98,9 +98,10 @@ scripts: $(BINARY)
 	tests/build.sh
 	python3 tools/model_index.py --check
 
-# The trial build works, and what it makes is neither installed nor packed.
+# The trial build works, what it makes passes the recipes, and is neither installed nor packed.
 quick-check: $(QUICK)
 	tests/quick.sh $(QUICK)
+	tests/recipes.sh $(QUICK)
 
 # Each allocation, read, write and thread start of whole runs fails in turn, on the program as it is built.
 refusals: $(BINARY)
