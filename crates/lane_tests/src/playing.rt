@@ -71,7 +71,7 @@ impl<M: PrefixMap<SharedRoute> + Send + Drop, R: Source + Send + Drop> Play<M, R
             units: Units::new(
                 readers.len(),
                 plan.max_records,
-                Selection::new(None, Vec::new(alloc)),
+                Selection::all(alloc),
             ),
             readers,
             replayer,

@@ -44,7 +44,7 @@ impl<'a> Row<'a> {
     }
 
     fn check(&self, rt: &impl Abort, alloc: Global) {
-        let selection = Selection::new(self.until, Vec::new(alloc));
+        let selection = Selection::all(alloc).up_to(self.until);
         let text = text_of(rt, alloc, self.files.as_slice(), self.most, selection);
         let same = text.as_str() == self.expected.as_str();
         let name = self.name;
