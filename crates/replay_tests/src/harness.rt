@@ -138,7 +138,11 @@ impl<'a> Row<'a> {
     /// Which units count.
     fn selection(&self, alloc: Global) -> Result<Selection, Fail> {
         let prefixes = Vec::from_slice(alloc, self.prefixes.as_slice())?;
-        Ok(Selection::all(alloc).up_to(self.until).of_prefixes(prefixes))
+        Ok(
+            Selection::all(alloc)
+                .up_to(self.until)
+                .of_prefixes(prefixes),
+        )
     }
 
     /// Takes options as on the command line: `--until` and `--prefix`.
