@@ -41,7 +41,7 @@ fn check_dealing<M: PrefixMap<SharedRoute> + Send + Sync + Drop, D: Dealing + Sy
         alloc,
         &mut readers,
         &Request::Tables,
-        Selection::new(None, Vec::new(alloc)),
+        Selection::all(alloc),
         plan,
         dealing,
         &NoGate,

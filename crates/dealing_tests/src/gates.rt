@@ -48,7 +48,7 @@ fn run_with<G: Gate>(
         alloc,
         &mut readers,
         &Request::Tables,
-        Selection::new(None, Vec::new(alloc)),
+        Selection::all(alloc),
         plan,
         &ByTurns,
         gate,

@@ -1,5 +1,5 @@
 -- Entries of RIB records, as loops read them.
-use Rattle.std.proofs.Common.{◌≡◌, ℕ, suc, ◌+◌, ◌-◌, ◌<◌, ◌≤◌, Bool, true, false, ◌||◌, cond, ltb, List, [], ◌∷◌, ◌++◌, length, map, take, drop, Some, Result, Ok, Err, refl, sym, ap, subst, ◌∙◌, arith}
+use Rattle.std.proofs.Common.{◌≡◌, ℕ, ◌+◌, ◌-◌, ◌<◌, ◌≤◌, Bool, true, false, ◌||◌, cond, ltb, List, [], ◌∷◌, ◌++◌, length, map, take, drop, Some, Result, Ok, Err, refl, sym, ap, subst, ◌∙◌, arith}
 use Rattle.std.specs.Int.{div_ceil}
 use Rattle.std.specs.List.{All}
 use Rattle.std.proofs.lemmas.List.{length-map, length-drop, length-append}
@@ -22,8 +22,8 @@ use Rattle.mrt_body.specs.declared.entries.RibRecord.{RibRecord}
 use Rattle.mrt_body.specs.Many.{many}
 use Rattle.mrt_body.specs.RibRecords.{WrittenEntry, RibHead, RibForm, RibSummary, ReadEntry, read_of, peer_index_at, identifier_at, entry_at, read_entry_at, rib_head_at, read_head_at, rib_in}
 use Rattle.mrt_body.specs.Units.{entry_unit, entry_units, rib_units, rib_units_in}
-use Rattle.mrt_body.specs.Listed.{IsListed, read_listed}
-use Rattle.mrt_body.specs.Pending.{AreListed, read_units, units_left}
+use Rattle.mrt_body.specs.Listed.{AreNumbered, IsListed, read_listed}
+use Rattle.mrt_body.specs.Pending.{AreListed, read_unit, listed_unit, units_left}
 use Rattle.mrt_body.proofs.Behind.{Behind, behind_more, behind-le, behind-drop, behind_front, number_behind, byte_behind, ok_behind}
 use Rattle.mrt_body.proofs.ManyLaws.{done, seen_ok, seen_err, many-map, many-length}
 
@@ -131,9 +131,21 @@ entries_fault : (r : Result (List WrittenEntry) Fault) (fault : Fault) → (r >>
 entries_fault (Ok ws) fault e = absurd cc
 entries_fault (Err other) fault e = cc
 
+-- the units of entries, the first of which has this number
+abbrev read_units : RecordAt → List PeerKey → IpPrefix → ℕ → List ReadEntry → List ReplayUnit
+read_units at peers prefix number [] = []
+read_units at peers prefix number (e ∷ entries) = read_unit at peers prefix number e ∷ read_units at peers prefix (number + 1) entries
+
 written_units : (at : RecordAt) (peers : List PeerKey) (prefix : IpPrefix) (n : ℕ) (ws : List WrittenEntry) → entry_units at peers prefix n ws ≡ read_units at peers prefix n (map read_of ws)
 written_units at peers prefix n [] = refl
 written_units at peers prefix n (w ∷ ws) = ap (λ (units : List ReplayUnit). entry_unit at peers prefix n w ∷ units) (written_units at peers prefix (n + 1) ws)
+
+-- where they are numbered, each has the unit of its own number
+numbered_units : (at : RecordAt) (peers : List PeerKey) (prefix : IpPrefix) (body : List ℕ) (n : ℕ) (list : List ListedEntry) → AreNumbered n list → read_units at peers prefix n (map (read_listed body) list) ≡ map (listed_unit at peers prefix body) list
+numbered_units at peers prefix body n [] h = refl
+numbered_units at peers prefix body n (e ∷ list) h =
+    ap (λ (k : ℕ). read_unit at peers prefix k (read_listed body e) ∷ read_units at peers prefix (n + 1) (map (read_listed body) list)) (sym h.0)
+    ∙ ap (λ (units : List ReplayUnit). listed_unit at peers prefix body e ∷ units) (numbered_units at peers prefix body (n + 1) list h.1)
 
 module _ (at : RecordAt) (peers : List PeerKey) (add_path : Bool) (body : List ℕ) (prefix : IpPrefix) (count : ℕ) (rest : List ℕ) where
   abbrev entries_of : Result (List WrittenEntry) Fault
@@ -144,7 +156,7 @@ module _ (at : RecordAt) (peers : List PeerKey) (add_path : Bool) (body : List �
   rib_by_head head h same = rw h (ap (λ (n : ℕ). many (entry_at add_path (length peers)) n rest >>= λ entries. Ok (form_of head entries)) same)
 
   -- the units of a record are those of what is kept of its entries
-  pub units_read : (es : List ReadEntry) → read_head_at body ≡ Ok (summary prefix count, rest) → many (read_entry_at add_path (length peers)) count rest ≡ Ok es → rib_units_in at add_path (Some peers) body ≡ Ok (read_units at peers prefix 1 es)
+  units_read : (es : List ReadEntry) → read_head_at body ≡ Ok (summary prefix count, rest) → many (read_entry_at add_path (length peers)) count rest ≡ Ok es → rib_units_in at add_path (Some peers) body ≡ Ok (read_units at peers prefix 1 es)
   units_read es h e =
       let s = head_is body prefix count rest h in
       let w = written_entries entries_of es (sym (read_entries add_path (length peers) count rest) ∙ e) in
@@ -170,9 +182,11 @@ module _ (at : RecordAt) (peers : List PeerKey) (add_path : Bool) (body : List �
   from_rest h = ap (many (read_entry_at add_path (length peers)) count) (sym (rest_is h))
 
   -- the record whose entries are listed
-  pub all_units : (list : List ListedEntry) → read_head_at body ≡ Ok (summary prefix count, rest) → many (read_entry_at add_path (length peers)) count (drop (length body - length rest) body) ≡ Ok (map (read_listed body) list)
+  pub all_units : (list : List ListedEntry) → read_head_at body ≡ Ok (summary prefix count, rest) → many (read_entry_at add_path (length peers)) count (drop (length body - length rest) body) ≡ Ok (map (read_listed body) list) → AreNumbered 1 list
       → rib_units_in at add_path (Some peers) body ≡ Ok (units_left peers list (record { at = at; prefix = prefix; body = body; given = 0 }))
-  all_units list h e = units_read (map (read_listed body) list) h (from_rest h ∙ e)
+  all_units list h e numbers =
+      units_read (map (read_listed body) list) h (from_rest h ∙ e)
+      ∙ ap (λ (units : List ReplayUnit). done units) (numbered_units at peers prefix body 1 list numbers)
 
   pub all_listed : (list : List ListedEntry) → count ≤ 65535 → many (read_entry_at add_path (length peers)) count (drop (length body - length rest) body) ≡ Ok (map (read_listed body) list) → All (IsListed (length peers) (length body)) list
       → AreListed peers list (record { at = at; prefix = prefix; body = body; given = 0 })
@@ -191,12 +205,8 @@ units_fail_early at peers add_path body fault h = ap (λ (r : Result RibForm Fau
 
 -- ---- how many there are
 
-read_units-length : (at : RecordAt) (peers : List PeerKey) (prefix : IpPrefix) (n : ℕ) (es : List ReadEntry) → length (read_units at peers prefix n es) ≡ length es
-read_units-length at peers prefix n [] = refl
-read_units-length at peers prefix n (e ∷ es) = ap suc (read_units-length at peers prefix (n + 1) es)
-
 -- at most as many as are listed
 pub units_left-few : (peers : List PeerKey) (list : List ListedEntry) (r : RibRecord) → AreListed peers list r → length (units_left peers list r) ≤ 65535
 units_left-few peers list r h =
     let few = h.few in
-    omega (arith, few, read_units-length r.at peers r.prefix (r.given + 1) (map (read_listed r.body) (drop r.given list)), length-map (drop r.given list) (read_listed r.body), length-drop r.given list)
+    omega (arith, few, length-map (drop r.given list) (listed_unit r.at peers r.prefix r.body), length-drop r.given list)

@@ -24,7 +24,8 @@ use Rattle.mrt_body.specs.declared.meaning.Event.TheVariants as event
 use Rattle.mrt_body.specs.Indexes.{index_in, index_head_at, peers_in, written_peer_at}
 use Rattle.mrt_body.specs.RibRecords.{rib_in, rib_head_at, entry_at}
 use Rattle.mrt_body.specs.Bgp4mp.{session_at, session_peer_at, states_in}
-use Rattle.mrt_body.specs.Choices.{UnitSelection}
+use Rattle.mrt_body.specs.Choices.{UnitSelection, PeerShare, all_units, peer_hash, share_from}
+use Rattle.mrt_body.specs.declared.choice.PeerChoice.{PeerChoice}
 use Rattle.mrt_body.specs.Units.{found_in, found_at, content_of, message_unit, states_unit, aside_of, records_of}
 use Rattle.mrt_body.specs.Events.{event_in, message_event_in, message_in}
 use Rattle.mrt_body.proofs.Dumps.{marker_16, session_four, plain_attributes, announcement, state_change, peer_table, rib_with, rib_record}
@@ -40,7 +41,7 @@ abbrev message_of_announcement : List ℕ
 message_of_announcement = drop 32 announcement
 
 abbrev everything : UnitSelection
-everything = record { until = None; prefixes = [] }
+everything = all_units
 
 found-announcement : found_in everything (announcement ∷ []) ≡ found.Unit (record { place = record { file = 0; offset = 0; entry = None }; time = 1000000; peer = record { asn = 65000; addr = V4 0xC0000201 }; payload = Message message_of_announcement Four false }) ∷ []
 unfolding found_in cuts cuts_within found_at content_of message_unit states_unit session_peer_at session_at states_in index_in index_head_at peers_in written_peer_at rib_in rib_head_at entry_at
@@ -136,6 +137,51 @@ aside_counted = refl
 records_counted : records_of ((aside_record ++ announcement) ∷ []) ≡ 2
 unfolding cuts cuts_within content_of
 records_counted = refl
+
+-- ---- selections
+
+abbrev of_peers : List PeerChoice → UnitSelection
+of_peers peers = record all_units { peers = peers }
+
+abbrev of_share : PeerShare → UnitSelection
+of_share share = record all_units { share = Some share }
+
+abbrev second_entry : Found
+second_entry = found.Unit (record { place = record { file = 0; offset = 56; entry = Some 2 }; time = 3000000; peer = record { asn = 70000; addr = V4 0xC0000202 }; payload = Entry (ten 0) (hex (codes "40010103")) })
+
+-- an entry keeps its number
+found-peer : found_in (of_peers (record { asn = 70000; addr = None } ∷ [])) ((peer_table ++ rib_record) ∷ []) ≡ second_entry ∷ []
+unfolding found_in cuts cuts_within found_at content_of message_unit states_unit session_peer_at session_at states_in index_in index_head_at peers_in written_peer_at rib_in rib_head_at entry_at
+found-peer = refl
+
+-- 192.0.2.2 isn't the address of this peer
+found-other_address : found_in (of_peers (record { asn = 65000; addr = Some (V4 0xC0000202) } ∷ [])) (announcement ∷ []) ≡ []
+unfolding found_in cuts cuts_within found_at content_of message_unit states_unit session_peer_at session_at states_in index_in index_head_at peers_in written_peer_at rib_in rib_head_at entry_at
+found-other_address = refl
+
+-- the hashes of the peers are 54,209 and 52,333
+found-share : found_in (of_share (record { number = 1; count = 3 })) ((peer_table ++ rib_record) ∷ []) ≡ second_entry ∷ []
+unfolding found_in cuts cuts_within found_at content_of message_unit states_unit session_peer_at session_at states_in index_in index_head_at peers_in written_peer_at rib_in rib_head_at entry_at peer_hash
+found-share = refl
+
+-- the hash of this one is 693
+found-session_share : found_in (of_share (record { number = 1; count = 2 })) (state_change (hex (codes "0006 0001")) ∷ []) ≡ found_in everything (state_change (hex (codes "0006 0001")) ∷ [])
+unfolding found_in cuts cuts_within found_at content_of message_unit states_unit session_peer_at session_at states_in index_in index_head_at peers_in written_peer_at rib_in rib_head_at entry_at peer_hash
+found-session_share = refl
+
+-- the faults of a record are listed, whatever peers are named
+peer-bad_index : found_in (of_peers (record { asn = 1; addr = None } ∷ [])) ((peer_table ++ rib_with (hex (codes "080A")) (hex (codes "0002"))) ∷ []) ≡ refused_at 0 56 BadPeerIndex ∷ []
+unfolding found_in cuts cuts_within found_at content_of message_unit states_unit session_peer_at session_at states_in index_in index_head_at peers_in written_peer_at rib_in rib_head_at entry_at
+peer-bad_index = refl
+
+last_share : share_from 65535 65536 ≡ Some (record { number = 65535; count = 65536 })
+last_share = refl
+
+no_share : share_from 3 3 ≡ None
+no_share = refl
+
+many_shares : share_from 0 65537 ≡ None
+many_shares = refl
 
 -- ---- events
 

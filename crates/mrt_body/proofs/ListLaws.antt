@@ -4,7 +4,7 @@ use Rattle.std.proofs.Math.Seq.{take-append_seam}
 use Rattle.std.proofs.lemmas.List.{length-append, map-append}
 use Rattle.mrt_body.specs.declared.rib.ListedEntry.{ListedEntry}
 use Rattle.mrt_body.specs.RibRecords.{ReadEntry, read_entry_at}
-use Rattle.mrt_body.specs.Listed.{IsListed, read_listed}
+use Rattle.mrt_body.specs.Listed.{AreNumbered, IsListed, read_listed}
 use Rattle.mrt_body.proofs.Behind.{Behind, behind-le, behind-drop, behind_more}
 use Rattle.mrt_body.proofs.ManyLaws.{push}
 use Rattle.mrt_body.proofs.EntryLaws.{entry_takes, written_entry}
@@ -17,17 +17,17 @@ part_at body part after b =
     ∙ ap (take (length part)) (behind-drop body (part ++ after) b)
     ∙ take-append_seam part after
 
-abbrev pub listed_of : List ℕ → ReadEntry → List ℕ → ListedEntry
-listed_of body e after = record { start = length body - length after - length e.attributes; identifier = e.identifier; peer = e.peer; len = length e.attributes }
+abbrev pub listed_of : ℕ → List ℕ → ReadEntry → List ℕ → ListedEntry
+listed_of number body e after = record { start = length body - length after - length e.attributes; identifier = e.identifier; peer = e.peer; len = length e.attributes; number = number }
 
-module _ (add_path : Bool) (peers : ℕ) (body : List ℕ) (rest : List ℕ) (e : ReadEntry) (after : List ℕ) where
+module _ (add_path : Bool) (peers : ℕ) (body : List ℕ) (rest : List ℕ) (e : ReadEntry) (after : List ℕ) (number : ℕ) where
   -- an entry that was read behind others
   pub record Lists : Type 0 where
     pub room : length e.attributes + length after ≤ length body
     pub long : length after + 8 ≤ length rest
     pub left : Behind body after
-    pub says : read_listed body (listed_of body e after) ≡ e
-    pub within : IsListed peers (length body) (listed_of body e after)
+    pub says : read_listed body (listed_of number body e after) ≡ e
+    pub within : IsListed peers (length body) (listed_of number body e after)
 
   pub lists : Behind body rest → read_entry_at add_path peers rest ≡ Ok (e, after) → Lists
   lists b read =
@@ -49,3 +49,8 @@ module _ (add_path : Bool) (peers : ℕ) (body : List ℕ) (rest : List ℕ) (e 
 -- one more is listed
 pub listed_more : (body : List ℕ) (list : List ListedEntry) (l : ListedEntry) (e : ReadEntry) → read_listed body l ≡ e → map (read_listed body) (list ++ l ∷ []) ≡ push (map (read_listed body) list) e
 listed_more body list l e says = map-append (read_listed body) list (l ∷ []) ∙ ap (λ (x : ReadEntry). map (read_listed body) list ++ x ∷ []) says
+
+-- with the next number
+pub numbered_more : (n : ℕ) (list : List ListedEntry) (l : ListedEntry) → l.number ≡ n + length list → AreNumbered n list → AreNumbered n (list ++ l ∷ [])
+numbered_more n [] l number h = (number ∙ omega arith, tt)
+numbered_more n (e ∷ list) l number h = (h.0, numbered_more (n + 1) list l (omega (arith, number)) h.1)

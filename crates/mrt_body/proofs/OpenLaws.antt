@@ -1,5 +1,5 @@
 -- Where no prefix is named each payload concerns a chosen one.
-use Rattle.std.proofs.Common.{◌≡◌, true, false, List, [], ◌∷◌, refl}
+use Rattle.std.proofs.Common.{◌≡◌, true, List, [], ◌∷◌, refl}
 use Rattle.mrt_body.specs.declared.choice.PrefixChoice.{PrefixChoice}
 use Rattle.mrt_body.specs.declared.unit.Payload.{Payload}
 use Rattle.mrt_body.specs.declared.unit.Payload.TheVariants.{State, Message, Entry}

@@ -1,5 +1,5 @@
 -- The list of a RIB record's entries: what each says, and where its attributes stand in the body.
-use Rattle.std.specs.Prelude.{ℕ, ◌+◌, ◌<◌, ◌≤◌, List, take, drop}
+use Rattle.std.specs.Prelude.{ℕ, ◌≡◌, ◌+◌, ◌<◌, ◌≤◌, List, [], ◌∷◌, take, drop, ⊤}
 use Rattle.mrt_body.specs.declared.rib.ListedEntry.{ListedEntry}
 use Rattle.mrt_body.specs.RibRecords.{ReadEntry}
 
@@ -11,3 +11,8 @@ read_listed body e = record { peer = e.peer; identifier = e.identifier; attribut
 pub record IsListed (peers body : ℕ) (e : ListedEntry) : Type 0 where
   pub peer : e.peer < peers
   pub attributes : e.start + e.len ≤ body
+
+-- their numbers go up by one, from this one on
+abbrev pub AreNumbered : ℕ → List ListedEntry → Type 0
+AreNumbered number [] = ⊤
+AreNumbered number (e ∷ list) = (e.number ≡ number) × AreNumbered (number + 1) list

@@ -1,5 +1,5 @@
 -- The index in force, and the entries that are still to be given of the RIB record read beside it.
-use Rattle.std.specs.Prelude.{◌≤◌, ◌+◌, ℕ, List, [], ◌∷◌, map, drop, length, Option, Some, None, ⊤}
+use Rattle.std.specs.Prelude.{◌≤◌, ℕ, List, [], map, drop, length, Option, Some, None, ⊤}
 use Rattle.std.specs.List.{All}
 use Rattle.bgp_prefix.specs.Prefixes.{IpPrefix}
 use Rattle.mrt_body.specs.declared.at.RecordAt.{RecordAt}
@@ -24,21 +24,19 @@ abbrev pub read_unit : RecordAt → List PeerKey → IpPrefix → ℕ → ReadEn
 read_unit at peers prefix number e =
     rib_unit at peers number e.peer (record { prefix = prefix; id = e.identifier }) e.attributes
 
--- the units of entries, the first of which has this number
-abbrev pub read_units : RecordAt → List PeerKey → IpPrefix → ℕ → List ReadEntry → List ReplayUnit
-read_units at peers prefix number [] = []
-read_units at peers prefix number (e ∷ entries) =
-    read_unit at peers prefix number e ∷ read_units at peers prefix (number + 1) entries
-
--- the list has the record's entries
+-- the list has entries of the record
 pub record AreListed (peers : List PeerKey) (list : List ListedEntry) (r : RibRecord) : Type 0 where
   pub given : r.given ≤ length list
   pub few : length list ≤ 65535
   pub within : All (IsListed (length peers) (length r.body)) list
 
+-- the unit of an entry that is listed
+abbrev pub listed_unit : RecordAt → List PeerKey → IpPrefix → List ℕ → ListedEntry → ReplayUnit
+listed_unit at peers prefix body e = read_unit at peers prefix e.number (read_listed body e)
+
 -- the units that are still to be given
 abbrev pub units_left : List PeerKey → List ListedEntry → RibRecord → List ReplayUnit
-units_left peers list r = read_units r.at peers r.prefix (r.given + 1) (map (read_listed r.body) (drop r.given list))
+units_left peers list r = map (listed_unit r.at peers r.prefix r.body) (drop r.given list)
 
 abbrev pub ArePending : List PeerKey → List ListedEntry → Option RibRecord → Type 0
 ArePending peers list None = ⊤

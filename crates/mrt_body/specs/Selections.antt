@@ -10,7 +10,8 @@ use Rattle.mrt_body.specs.declared.meaning.Event.TheVariants as event
 use Rattle.mrt_body.specs.declared.unit.Payload.{Payload}
 use Rattle.mrt_body.specs.declared.unit.Payload.TheVariants.{State, Message, Entry}
 use Rattle.mrt_body.specs.declared.unit.Unit.{Unit as ReplayUnit}
-use Rattle.mrt_body.specs.Choices.{UnitSelection, is_open, is_chosen}
+use Rattle.mrt_body.specs.declared.unit.PeerKey.{PeerKey}
+use Rattle.mrt_body.specs.Choices.{UnitSelection, is_open, is_chosen, is_chosen_peer, is_in_share, has_no_peers, has_no_share}
 use Rattle.mrt_body.specs.Events.{event_in}
 
 -- ---- time
@@ -23,6 +24,16 @@ is_past (Some until) time = nat_lt until (time / 1000000)
 -- whether the time of a unit is selected
 abbrev pub is_in_time : UnitSelection → ReplayUnit → Bool
 is_in_time selection unit = if is_past selection.until unit.time then false else true
+
+-- ---- peers
+
+-- whether a peer is chosen and in the share
+abbrev pub takes_peer : UnitSelection → PeerKey → Bool
+takes_peer selection q = is_chosen_peer selection.peers q && is_in_share selection.share q
+
+-- neither peers nor a share are named
+abbrev pub takes_each_peer : UnitSelection → Bool
+takes_each_peer selection = has_no_peers selection.peers && has_no_share selection.share
 
 -- ---- keys
 
@@ -51,9 +62,10 @@ concerns choices (Entry key attrs) = is_chosen choices key.prefix
 
 -- whether a unit meets each criterion
 abbrev pub is_selected : UnitSelection → ReplayUnit → Bool
-is_selected selection unit = is_in_time selection unit && concerns selection.prefixes unit.payload
+is_selected selection unit =
+    is_in_time selection unit && (takes_peer selection unit.peer && concerns selection.prefixes unit.payload)
 
--- whether the entries of a RIB record of this time and prefix are selected
+-- whether the entries of a RIB record of this time and prefix are selected, those of the peers that are taken
 abbrev pub takes_record : UnitSelection → ℕ → IpPrefix → Bool
 takes_record selection time prefix =
     (if is_past selection.until time then false else true) && is_chosen selection.prefixes prefix

@@ -127,14 +127,22 @@ units_in at extended index (content.Message width add_path) body = alone (messag
 units_in at extended index (content.States width) body = alone (states_unit at extended width body)
 units_in at extended index content.Aside body = Ok []
 
+-- those of them that are selected; a fault stays
+abbrev pub selected_units : UnitSelection → Result (List ReplayUnit) Fault → Result (List ReplayUnit) Fault
+selected_units selection read = read >>= λ units. Ok (filter (is_selected selection) units)
+
 -- the refusal of a record
 abbrev pub refused_at : RecordAt → Fault → Found
 refused_at at fault = found.Refused (record { place = place_of at None; fault = fault })
 
+-- the units of a record, or its refusal
+abbrev pub found_of : RecordAt → Result (List ReplayUnit) Fault → List Found
+found_of at (Ok units) = map (λ u. found.Unit u) units
+found_of at (Err fault) = refused_at at fault ∷ []
+
 -- a refused record is listed whatever is selected
 abbrev pub found_units : UnitSelection → RecordAt → Result (List ReplayUnit) Fault → List Found
-found_units selection at (Ok units) = map (λ u. found.Unit u) (filter (is_selected selection) units)
-found_units selection at (Err fault) = refused_at at fault ∷ []
+found_units selection at read = found_of at (selected_units selection read)
 
 abbrev pub at_record : ℕ → ℕ → ℕ → RecordAt
 at_record file offset seconds = record { file = file; offset = offset; seconds = seconds }

@@ -1,29 +1,50 @@
 //! The entries of a RIB record that are still to be returned.
 
-ghost use Rattle.std.specs.Prelude.{◌≡◌, ◌≤◌, ◌+◌, ◌/◌, ◌∷◌, [], length, take, drop, max, vec_capacity, true, false, ◌↔◌, Some, None, IfOk, IfSome};
+ghost use Rattle.std.specs.Prelude.{◌≡◌, ◌≤◌, ◌+◌, ◌/◌, ◌∷◌, [], length, take, drop, max, vec_capacity, false, ◌↔◌, Some, None, IfOk, IfSome, slice_index_or};
 ghost use Rattle.bgp_update.specs.Answers.{Gives};
 ghost use Rattle.mrt_body.specs.Lent.{lent_unit};
-ghost use Rattle.mrt_body.specs.Units.{IsSmallUnit, rib_units_in};
+ghost use Rattle.mrt_body.specs.Units.{IsSmallUnit, no_peer, rib_units_in};
 ghost use Rattle.mrt_body.specs.Pending.{AreListed, units_left};
-ghost use Rattle.mrt_body.specs.Selections.{is_selected};
+ghost use Rattle.mrt_body.specs.Selections.{is_selected, takes_peer};
 ghost use Rattle.std.specs.List.{filter};
 
 use crate::at::RecordAt;
 use crate::lent::{LentPayload, LentUnit};
 use crate::rib::{ListedEntry, list_entries, rib_head_at};
 use crate::selection::Selection;
-use crate::unit::PeerKey;
+use crate::unit::{PeerAddr, PeerKey};
 use bgp_prefix::{Prefix, RouteKey, Sequence};
 use bgp_update::AttrError;
 
-/// A RIB record along with the list of its entries, which are returned one by one.
+/// A RIB record along with a list of its entries, which are returned one by one.
 #[derive(Drop)]
 pub(crate) struct RibRecord {
     pub(crate) at: RecordAt,
     pub(crate) prefix: Prefix,
     pub(crate) body: Sequence<u8>,
-    /// How many entries have been returned.
+    /// How many entries of the list have been returned.
     pub(crate) given: u16,
+}
+
+/// Returns the peer of this index. No entry that is listed has an index past the last peer.
+fn peer_at(peers: &[PeerKey], index: u16) -> PeerKey
+    ensures { result ≡ slice_index_or peers.now index no_peer }
+{
+    match peers.get(index as usize) {
+        Some(peer) => *peer,
+        None => PeerKey {
+            asn: 0,
+            addr: PeerAddr::V4(0),
+        },
+    }
+}
+
+/// Keeps the entries of the peers that are taken.
+fn keep_taken(selection: &Selection, peers: &[PeerKey], list: &mut Vec<ListedEntry>)
+    ensures { list.new.items
+        ≡ filter (λ e. takes_peer selection.now (slice_index_or peers.now e.peer no_peer)) list.old.items }
+{
+    list.retain(|entry| selection.takes_peer(&peer_at(peers, entry.peer)));
 }
 
 /// Returns this many bytes from a position on.
@@ -48,6 +69,7 @@ impl RibRecord {
         ensures units { Gives (units_left peers.now list.new.items) result
             (rib_units_in at add_path (Some peers.now) body) }
         ensures listed { IfOk result (AreListed peers.now list.new.items) }
+        ensures first { IfOk result (λ r. r.given ≡ 0) }
         // A record takes no more room than for as many entries as its body can have.
         ensures room { vec_capacity list.new ≤ max (vec_capacity list.old) (length body / 8) }
     {
@@ -86,19 +108,25 @@ impl RibRecord {
         true
     }
 
-    /// Whether the entries are selected. As they have one time and one prefix, all are or none is.
-    pub(crate) fn is_selected(
+    /// Keeps the entries that are selected, before one was returned. As all have one time and one prefix, these are
+    /// those of some peers, or none.
+    pub(crate) fn select(
         &self,
         selection: &Selection,
         peers: &[PeerKey],
-        list: &[ListedEntry],
-    ) -> bool
-        ensures all { result ≡ true → filter (is_selected selection.now) (units_left peers.now list.now self.now)
-            ≡ units_left peers.now list.now self.now }
-        ensures none { result ≡ false →
-            filter (is_selected selection.now) (units_left peers.now list.now self.now) ≡ [] }
+        list: &mut Vec<ListedEntry>,
+    )
+        requires listed { AreListed peers.now list.old.items self.now }
+        requires first { self.now.given ≡ 0 }
+        ensures kept { units_left peers.now list.new.items self.now
+            ≡ filter (is_selected selection.now) (units_left peers.now list.old.items self.now) }
+        ensures listed { AreListed peers.now list.new.items self.now }
     {
-        selection.takes_record(self.at.time(0), &self.prefix)
+        if !selection.takes_record(self.at.time(0), &self.prefix) {
+            list.clear();
+        } else if !selection.takes_each_peer() {
+            keep_taken(selection, peers, list);
+        }
     }
 
     /// Lends the unit of the next entry, or returns `None` at the end.
@@ -126,7 +154,7 @@ impl RibRecord {
             id: entry.identifier,
         };
         Some(LentUnit {
-            place: self.at.place(Some(self.given + 1)),
+            place: self.at.place(Some(entry.number)),
             time: self.at.time(0),
             peer: peers[entry.peer as usize],
             peer_index: Some(entry.peer),

@@ -3,10 +3,8 @@
 ghost use Rattle.std.specs.Prelude.{◌≡◌, ◌≤◌, ◌∷◌, ◌++◌, [], drop, length, true, false, ◌↔◌, Some, None, Ok, OnErr, IfOk, IfSome, option_to_list};
 ghost use Rattle.bgp_update.specs.Answers.{Gives};
 ghost use Rattle.mrt_body.specs.Lent.{lent_unit};
-ghost use Rattle.mrt_body.specs.Units.{IsSmallUnit, rib_units_in};
+ghost use Rattle.mrt_body.specs.Units.{IsSmallUnit, rib_units_in, selected_units};
 ghost use Rattle.mrt_body.specs.Pending.{without_pending};
-ghost use Rattle.mrt_body.specs.Selections.{is_selected};
-ghost use Rattle.std.specs.List.{filter};
 
 use crate::at::RecordAt;
 use crate::entries::RibRecord;
@@ -50,40 +48,30 @@ impl Index {
         }
     }
 
-    /// Reads a RIB record against this index. Its entries are then to be returned.
+    /// Reads a RIB record against this index. Its entries that are selected are then to be returned.
     pub(crate) fn read(
         &mut self,
         at: RecordAt,
         add_path: bool,
         body: Sequence<u8>,
+        selection: &Selection,
     ) -> Result<(), AttrError>
         requires { length body ≤ 16777216 }
-        ensures units { Gives (λ _. self.new.pending) result (rib_units_in at add_path (Some self.old.peers) body) }
+        ensures units { Gives (λ _. self.new.pending) result
+            (selected_units selection.now (rib_units_in at add_path (Some self.old.peers) body)) }
         ensures peers { self.new.peers ≡ self.old.peers }
         ensures few { length self.new.pending ≤ 65535 }
         ensures none { OnErr result (self.new.pending ≡ []) }
     {
         self.last = None;
         let record = RibRecord::read(at, body, add_path, self.peers.as_slice(), &mut self.list)?;
+        record.select(selection, self.peers.as_slice(), &mut self.list);
         self.last = Some(record);
         Ok(())
     }
 
-    /// Whether the entries to be returned are selected. As they have one time and one prefix, all are or none is.
-    pub(crate) fn is_selected(&self, selection: &Selection) -> bool
-        ensures all { result ≡ true → filter (is_selected selection.now) self.now.pending ≡ self.now.pending }
-        ensures none { result ≡ false → filter (is_selected selection.now) self.now.pending ≡ [] }
-    {
-        match &self.last {
-            Some(record) => {
-                record.is_selected(selection, self.peers.as_slice(), self.list.as_slice())
-            }
-            None => true,
-        }
-    }
-
     /// Skips what is still to be returned.
-    pub(crate) fn leave_out(&mut self)
+    fn leave_out(&mut self)
         ensures { self.new ≡ without_pending self.old }
     {
         self.last = None;

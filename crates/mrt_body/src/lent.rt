@@ -37,8 +37,9 @@ pub struct LentUnit<'a> {
     pub place: Place,
     pub time: u64,
     pub peer: PeerKey,
-    /// The index of the peer in the PEER_INDEX_TABLE (RFC 6396, 4.3.1), if an entry is lent by its record. It is no part
-    /// of the unit: a reader that keeps something for each peer can look there first, and then has to compare the peers.
+    /// The index of the peer in the PEER_INDEX_TABLE (RFC 6396, 4.3.1), if an entry is lent by its record. It is no
+    /// part of the unit: a reader that keeps something for each peer can look there first, and then has to compare the
+    /// peers.
     pub peer_index: Option<u16>,
     pub payload: LentPayload<'a>,
 }

@@ -5,7 +5,7 @@ ghost use Rattle.std.specs.Prelude.{◌≡◌, ◌≤◌, ◌+◌, ◌-◌, ◌/
 ghost use Rattle.std.specs.List.{All};
 ghost use Rattle.mrt_frame.specs.Fields.{Reads};
 ghost use Rattle.bgp_update.specs.Answers.{Gives};
-ghost use Rattle.mrt_body.specs.Listed.{IsListed, read_listed};
+ghost use Rattle.mrt_body.specs.Listed.{AreNumbered, IsListed, read_listed};
 ghost use Rattle.mrt_body.specs.Many.{many};
 ghost use Rattle.mrt_body.specs.RibRecords as ribs;
 
@@ -102,6 +102,8 @@ pub(crate) struct ListedEntry {
     pub(crate) peer: u16,
     /// How many bytes its attributes have.
     pub(crate) len: u16,
+    /// Its number in the record, from 1.
+    pub(crate) number: u16,
 }
 
 /// The fewest bytes that an entry has.
@@ -109,6 +111,7 @@ const SHORTEST_ENTRY: usize = 8;
 
 /// Returns an entry as it is listed. Its attributes are where this many bytes of a body are left after them.
 fn listed_entry(
+    number: u16,
     peer: u16,
     identifier: u32,
     attributes: &[u8],
@@ -123,6 +126,7 @@ fn listed_entry(
       identifier = identifier;
       peer = peer;
       len = length attributes.now;
+      number = number;
     } }
 {
     let len = attributes.len();
@@ -131,6 +135,7 @@ fn listed_entry(
         identifier,
         peer,
         len: len as u16,
+        number,
     }
 }
 
@@ -156,13 +161,14 @@ pub(crate) fn list_entries(
     ensures listed { Gives (λ _. map (read_listed body.now) list.new.items) result
         (many (ribs.read_entry_at add_path peers) count (drop start body.now)) }
     ensures within { All (IsListed peers (length body.now)) list.new.items }
+    ensures numbered { AreNumbered 1 list.new.items }
     // A false count allocates nothing.
     ensures room { vec_capacity list.new ≤ max (vec_capacity list.old) (length body.now / 8) }
 {
     let mut rest = behind(body, start);
     list.clear();
     list.reserve_exact(usize::from(count).min(rest.len() / SHORTEST_ENTRY))?;
-    for _ in 0..count {
+    for index in 0..count {
         match entry_at(rest, add_path, peers) {
             Ok((entry, after)) => {
                 let RibEntry {
@@ -171,6 +177,7 @@ pub(crate) fn list_entries(
                     attributes,
                 } = entry;
                 list.push_reserved(listed_entry(
+                    index + 1,
                     peer,
                     identifier,
                     attributes,

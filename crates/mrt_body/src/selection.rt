@@ -2,16 +2,18 @@
 
 ghost use Rattle.std.specs.Prelude.{◌≡◌, IfOk, true};
 ghost use Rattle.bgp_update.specs.PackedUpdates.{plain_update};
-ghost use Rattle.mrt_body.specs.Choices.{is_open};
+ghost use Rattle.mrt_body.specs.Choices.{all_units, is_in_share, is_open};
 ghost use Rattle.mrt_body.specs.Lent.{lent_payload};
-ghost use Rattle.mrt_body.specs.Selections.{concerns, has_chosen, is_past, is_selected, speaks_of, takes_record};
+ghost use Rattle.mrt_body.specs.Selections.{concerns, has_chosen, is_past, is_selected, speaks_of, takes_each_peer, takes_peer, takes_record};
 ghost use Rattle.mrt_body.specs.declared.meaning.Event.TheVariants as events;
 ghost use Rattle.std.specs.Prelude.{Ok};
 
-use crate::choice::{PrefixChoice, is_chosen};
+use crate::choice::{PeerChoice, PrefixChoice, is_chosen, is_chosen_peer};
 use crate::lent::LentPayload;
 use crate::packed_meaning::{PackedEvent, packed_event};
 use crate::session_unit::SessionUnit;
+use crate::share::Share;
+use crate::unit::PeerKey;
 use bgp_prefix::{Memory, Prefix, RouteKey};
 use bgp_update::{AttrError, PackedUpdate};
 use std::alloc::Global;
@@ -28,6 +30,10 @@ pub struct Selection {
     /// Which prefixes are chosen: those that one of these takes, or all if there are none. A unit that can't concern a
     /// chosen prefix is skipped: a RIB entry of another prefix, or an UPDATE that speaks of others only.
     prefixes: Vec<PrefixChoice>,
+    /// Which peers are chosen: those that one of these takes, or all if there are none.
+    peers: Vec<PeerChoice>,
+    /// Of the chosen peers those in this share alone, or all with `None`.
+    share: Option<Share>,
 }
 
 impl Model for Selection {
@@ -35,7 +41,12 @@ impl Model for Selection {
 
     ghost Value = { UnitSelection };
 
-    ghost view = { λ s. record { until = s.until; prefixes = s.prefixes.items } };
+    ghost view = { λ s. record {
+      until = s.until;
+      prefixes = s.prefixes.items;
+      peers = s.peers.items;
+      share = s.share;
+    } };
 }
 
 /// Whether no prefix is named.
@@ -96,13 +107,68 @@ fn concerns(
     }
 }
 
+/// Whether a peer is in the share, or no share is named.
+fn is_in_share(share: Option<Share>, peer: &PeerKey) -> bool
+    ensures { result ≡ is_in_share share peer.now }
+{
+    match share {
+        Some(share) => share.takes(peer),
+        None => true,
+    }
+}
+
 impl Selection {
+    /// Returns the selection of all units.
+    pub fn all(alloc: Global) -> Selection
+        ensures { result ≡ all_units }
+    {
+        Selection {
+            until: None,
+            prefixes: Vec::new(alloc),
+            peers: Vec::new(alloc),
+            share: None,
+        }
+    }
+
     /// Returns the selection of the units up to this second that can concern these prefixes, or any prefix if there are
     /// none.
     pub fn new(until: Option<u64>, prefixes: Vec<PrefixChoice>) -> Selection
-        ensures { result ≡ record { until = until; prefixes = prefixes.items } }
+        ensures { result ≡ record all_units { until = until; prefixes = prefixes.items } }
     {
-        Selection { until, prefixes }
+        let alloc = *prefixes.allocator();
+        Selection::all(alloc).up_to(until).of_prefixes(prefixes)
+    }
+
+    /// Returns the same selection up to the end of this second since 1970 UTC, or of all times with `None`.
+    pub fn up_to(mut self, until: Option<u64>) -> Selection
+        ensures { result ≡ record self { until = until } }
+    {
+        self.until = until;
+        self
+    }
+
+    /// Returns the same selection of what can concern these prefixes, or any prefix if there are none.
+    pub fn of_prefixes(mut self, prefixes: Vec<PrefixChoice>) -> Selection
+        ensures { result ≡ record self { prefixes = prefixes.items } }
+    {
+        self.prefixes = prefixes;
+        self
+    }
+
+    /// Returns the same selection of the peers that these take, or of all peers if there are none.
+    pub fn of_peers(mut self, peers: Vec<PeerChoice>) -> Selection
+        ensures { result ≡ record self { peers = peers.items } }
+    {
+        self.peers = peers;
+        self
+    }
+
+    /// Returns the same selection of the peers in this share, or in any with `None`.
+    pub fn of_share(mut self, share: Option<Share>) -> Selection
+        ensures { result ≡ record self { share = share } }
+    {
+        self.share = share;
+        self
     }
 
     /// The prefixes that are chosen, or none for all.
@@ -112,23 +178,50 @@ impl Selection {
         self.prefixes.as_slice()
     }
 
-    /// Returns whether no prefix is named, so that all are chosen.
+    /// Whether no prefix is named, so that all are chosen.
     pub(crate) fn is_open(&self) -> bool
         ensures { result ≡ is_open self.now.prefixes }
     {
         is_open(&self.prefixes)
     }
 
-    /// Returns whether a unit is selected, where all prefixes are chosen: then its time decides.
+    /// Whether neither peers nor a share are named, so that each peer is taken.
+    #[inline(always)]
+    pub(crate) fn takes_each_peer(&self) -> bool
+        ensures { result ≡ takes_each_peer self.now }
+    {
+        self.peers.is_empty() && self.share.is_none()
+    }
+
+    /// Whether the units of a peer are selected, as far as it decides.
+    #[inline(always)]
+    pub(crate) fn takes_peer(&self, peer: &PeerKey) -> bool
+        ensures { result ≡ takes_peer self.now peer.now }
+    {
+        if self.takes_each_peer() {
+            return true;
+        }
+        self.takes_named_peer(peer)
+    }
+
+    /// The same, where peers or a share are named.
+    #[inline(never)]
+    fn takes_named_peer(&self, peer: &PeerKey) -> bool
+        ensures { result ≡ takes_peer self.now peer.now }
+    {
+        is_chosen_peer(&self.peers, peer) && is_in_share(self.share, peer)
+    }
+
+    /// Whether a unit is selected, where all prefixes are chosen: then its time and its peer decide.
     #[tactic(auto, using(crate::proofs::OpenLaws::open_concerns))]
-    pub(crate) fn takes_time(&self, unit: &SessionUnit) -> bool
+    pub(crate) fn takes_unread(&self, unit: &SessionUnit) -> bool
         requires { is_open self.now.prefixes ≡ true }
         ensures { result ≡ is_selected self.now unit.now }
     {
-        !self.is_past(unit.time)
+        !self.is_past(unit.time) && self.takes_peer(&unit.peer)
     }
 
-    /// Returns whether a unit is selected. A message is read by way of a buffer, whose contents are replaced.
+    /// Whether a unit is selected. A message is read by way of a buffer, whose contents are replaced.
     pub(crate) fn selects(
         &self,
         alloc: Global,
@@ -137,13 +230,13 @@ impl Selection {
     ) -> Result<bool, Memory>
         ensures { IfOk result (λ selected. selected ≡ is_selected self.now unit.now) }
     {
-        if self.is_past(unit.time) {
+        if self.is_past(unit.time) || !self.takes_peer(&unit.peer) {
             return Ok(false);
         }
         concerns(alloc, buffer, &self.prefixes, &unit.lend().payload)
     }
 
-    /// Returns whether the entries of a RIB record of this time and prefix are selected.
+    /// Whether the entries of a RIB record of this time and prefix are selected, as far as these decide.
     pub(crate) fn takes_record(&self, time: u64, prefix: &Prefix) -> bool
         ensures { result ≡ takes_record self.now time prefix.now }
     {
@@ -153,7 +246,7 @@ impl Selection {
         is_chosen(&self.prefixes, prefix)
     }
 
-    /// Returns whether all units of this time, in microseconds since 1970 UTC, are skipped.
+    /// Whether all units of this time, in microseconds since 1970 UTC, are skipped.
     pub(crate) fn is_past(&self, time: u64) -> bool
         ensures { result ≡ is_past self.now.until time }
     {

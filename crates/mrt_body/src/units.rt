@@ -238,7 +238,8 @@ impl Units {
     }
 
     /// Lends the next unit of the record that was cut last, which is what `next` would return. Returns `None` if all of
-    /// them were returned, or after an error. Whoever is done with the unit calls `pass`, and needs no unit of their own.
+    /// them were returned, or after an error. Whoever is done with the unit calls `pass`, and needs no unit of their
+    /// own.
     #[inline(always)]
     pub fn lend(&self) -> Option<LentUnit<'_>>
         ensures lends { IfSome result

@@ -126,7 +126,7 @@ fn run_into(
         alloc,
         &mut readers,
         &Request::Tables,
-        Selection::new(None, Vec::new(alloc)),
+        Selection::all(alloc),
         &PLAN,
         &ByTurns,
         &NoGate,

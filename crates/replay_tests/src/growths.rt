@@ -36,7 +36,7 @@ fn expect_report<M: PrefixMap<SharedRoute> + Send + Sync + Drop, D: Dealing + Sy
         alloc,
         &mut readers,
         request,
-        Selection::new(None, Vec::new(alloc)),
+        Selection::all(alloc),
         &PLAN,
         dealing,
         &NoGate,

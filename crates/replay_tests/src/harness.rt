@@ -69,7 +69,7 @@ pub fn replay_readers<M: PrefixMap<SharedRoute> + Send + Sync + Drop, R: Source 
     request: &Request,
     plan: &Plan,
 ) -> Result<Outcome, Fail> {
-    let all = Selection::new(None, Vec::new(alloc));
+    let all = Selection::all(alloc);
     replay_selected::<M, R>(rt, alloc, readers, request, all, plan)
 }
 
@@ -138,7 +138,11 @@ impl<'a> Row<'a> {
     /// Which units count.
     fn selection(&self, alloc: Global) -> Result<Selection, Fail> {
         let prefixes = Vec::from_slice(alloc, self.prefixes.as_slice())?;
-        Ok(Selection::new(self.until, prefixes))
+        Ok(
+            Selection::all(alloc)
+                .up_to(self.until)
+                .of_prefixes(prefixes),
+        )
     }
 
     /// Takes options as on the command line: `--until` and `--prefix`.

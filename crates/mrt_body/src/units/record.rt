@@ -60,14 +60,14 @@ impl Units {
         }
     }
 
-    /// Whether a unit is selected. Where all prefixes are chosen its time decides, and nothing is read.
+    /// Whether a unit is selected. Where all prefixes are chosen its time and its peer decide, and nothing is read.
     #[inline(always)]
     fn selects(&mut self, alloc: Global, unit: &SessionUnit) -> Result<bool, Memory>
         ensures selected { IfOk result (λ selected. selected ≡ is_selected self.old.selection unit.now) }
         ensures same { self.new ≡ self.old }
     {
         if self.selection.is_open() {
-            return Ok(self.selection.takes_time(unit));
+            return Ok(self.selection.takes_unread(unit));
         }
         self.selects_by_prefix(alloc, unit)
     }
@@ -152,7 +152,7 @@ impl Units {
         }
     }
 
-    /// Reads a RIB record against the index in force.
+    /// Reads a RIB record against the index in force. The entries that are selected are to be returned.
     fn take_rib(
         &mut self,
         at: RecordAt,
@@ -172,13 +172,8 @@ impl Units {
         let Some(index) = &mut self.index else {
             return Ok(Some(refused(at, Fault::NoPeerIndex)));
         };
-        match index.read(at, add_path, body) {
-            Ok(()) => {
-                if !index.is_selected(&self.selection) {
-                    index.leave_out();
-                }
-                Ok(None)
-            }
+        match index.read(at, add_path, body, &self.selection) {
+            Ok(()) => Ok(None),
             Err(AttrError::Bad(fault)) => Ok(Some(refused(at, fault))),
             Err(AttrError::Memory) => {
                 self.standing = Standing::Spent;

@@ -1,8 +1,7 @@
-use Rattle.std.proofs.Common.{◌<◌, ◌+◌, length, map, sym, ap, ◌∙◌, arith}
+use Rattle.std.proofs.Common.{◌<◌, length, map, sym, ap, ◌∙◌, arith}
 use Rattle.std.proofs.Math.Seq.{drop-cons}
 use Rattle.mrt_body.specs.declared.rib.ListedEntry.{ListedEntry}
-use Rattle.mrt_body.specs.Listed.{read_listed}
-use Rattle.mrt_body.specs.Pending.{read_units}
+use Rattle.mrt_body.specs.Pending.{listed_unit}
 use Rattle.mrt_body.proofs.entries.RibRecord.is_pending.Goals as goal
 
 pub returns : goal.returns
@@ -11,8 +10,8 @@ returns c = (
   λ h.
       let r = c.args.self.now in
       let list = c.args.list.now in
-      let other : ListedEntry = record { start = 0; identifier = 0; peer = 0; len = 0 } in
+      let other : ListedEntry = record { start = 0; identifier = 0; peer = 0; len = 0; number = 0 } in
       let within : r.given < length list = omega (arith, c.requires.given, c.if-self-list.false) in
-      let more = ap (λ l. read_units r.at c.args.peers.now r.prefix (r.given + 1) (map (read_listed r.body) l)) (drop-cons list r.given other within) in
+      let more = ap (λ l. map (listed_unit r.at c.args.peers.now r.prefix r.body) l) (drop-cons list r.given other within) in
       let clash = sym more ∙ h in absurd (cc),
 )

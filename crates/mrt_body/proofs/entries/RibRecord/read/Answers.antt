@@ -6,7 +6,7 @@ overflow_sub-start c = rest-le c.args.at c.args.peers.now c.args.add_path c.as_s
 
 pub returns-in-Ok-list_entries-clause-units : goal.returns-in-Ok-list_entries-clause-units
 returns-in-Ok-list_entries-clause-units c =
-    all_units c.args.at c.args.peers.now c.args.add_path c.args.body c.in-Ok.head.prefix c.in-Ok.head.count c.in-Ok.rest.now c.list_entries.new.list.items (rw c.as_slice-bytes.ensures at c.in-Ok.ensures.reads) (rw c.as_slice-bytes.ensures at c.in-Ok-list_entries.ensures.listed)
+    all_units c.args.at c.args.peers.now c.args.add_path c.args.body c.in-Ok.head.prefix c.in-Ok.head.count c.in-Ok.rest.now c.list_entries.new.list.items (rw c.as_slice-bytes.ensures at c.in-Ok.ensures.reads) (rw c.as_slice-bytes.ensures at c.in-Ok-list_entries.ensures.listed) c.in-Ok-list_entries.ensures.numbered
 
 pub returns-in-Ok-list_entries-clause-listed : goal.returns-in-Ok-list_entries-clause-listed
 returns-in-Ok-list_entries-clause-listed c =
