@@ -1,10 +1,10 @@
-//! Six reports over the tables of all peers, and their lines.
+//! Seven reports over the tables of all peers, and their lines.
 //!
 //! A report is a function from tables to rows, stated over whole lists and sets; a line is a function of a row. Laws
 //! state the rows without an order of work, and tables that stand for units have the reports that are defined over
 //! these units alone (`reports_are_of_units`).
 //!
-//! - `visibility` and `origins` merge the tables of halves of the peers (`merge.rt`) until each peer is alone. The
+//! - `visibility`, `origins` and `seen` merge the lists of halves of the peers (`merge.rt`) until each peer is alone. The
 //!   tables of one collector have mostly the same prefixes, so merged lists stay as short as one table. With two
 //!   workers or more, two threads share at most 14 peers at a time, which bounds the lists that exist at once whatever
 //!   the number of peers. So the map of `run` is `Sync`.
@@ -43,7 +43,10 @@ mod short;
 mod standing;
 mod write;
 
-pub use defined::{faults_stand_by_place, origins_are_of_all_routes, visibility_counts_peers};
+pub use defined::{
+    counts_are_sums_over_shares, faults_stand_by_place, origins_are_of_all_routes,
+    origins_are_of_seen_rows, seen_counts_peers, visibility_counts_peers,
+};
 pub use peer_tables::{
     Gathered, Seated, Tables, collect, collected_stand_for_units, lanes_make_no_difference,
     tables_are_of_units,
@@ -52,7 +55,10 @@ pub use reports::churn::{ChurnRow, churn, write_churn};
 pub use reports::faults::{faults, write_faults};
 pub use reports::matches::matches;
 pub use reports::origins::{OriginRow, origins, origins_with_threads, write_origins};
+pub use reports::seen::{SeenRow, seen, seen_with_threads, write_seen};
 pub use reports::tables::{TableRow, list_tables, table_rows, write_rows};
-pub use reports::visibility::{SeenRow, visibility, visibility_with_threads, write_visibility};
+pub use reports::visibility::{
+    VisibilityRow, visibility, visibility_with_threads, write_visibility,
+};
 pub use request::Request;
 pub use standing::reports_are_of_units;
