@@ -19,6 +19,7 @@ pub fn columns(request: &Request) -> &'static str {
         Request::Tables | Request::Match(_) => ROUTE_COLUMNS,
         Request::Visibility => "prefix|peers\n",
         Request::Origins => "prefix|origins\n",
+        Request::Seen => "prefix|origin|peers\n",
         Request::Churn => { "peer|new|changed|same|gone|void|resets|idle|refused|first|last\n" }
         Request::Faults => "file|offset|entry|number|fault\n",
     }

@@ -93,6 +93,7 @@ fn request_of(alloc: Global, name: &str, matches: &ArgMatches<'_>) -> Result<Req
     match name {
         "visibility" => Ok(Request::Visibility),
         "origins" => Ok(Request::Origins),
+        "seen" => Ok(Request::Seen),
         "churn" => Ok(Request::Churn),
         "faults" => Ok(Request::Faults),
         "match" => {

@@ -284,6 +284,7 @@ fn request_of(line: &str) -> Option<Request> {
         "tables" => Some(Request::Tables),
         "visibility" => Some(Request::Visibility),
         "origins" => Some(Request::Origins),
+        "seen" => Some(Request::Seen),
         "churn" => Some(Request::Churn),
         "faults" => Some(Request::Faults),
         _ => match line.strip_prefix("match ") {
