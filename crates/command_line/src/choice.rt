@@ -1,9 +1,10 @@
 //! Prefixes as text, and how far they reach.
 
-ghost use Rattle.std.specs.Prelude.{◌≡◌, ℕ, ◌≤◌, ◌++◌, List, IfSome, IfNone, position, ◌==◌};
+ghost use Rattle.std.specs.Prelude.{◌≡◌, ℕ, ◌≤◌, ◌∷◌, [], ◌++◌, List, IfSome, IfNone, position, ◌==◌};
 ghost use Rattle.std.specs.Fmt.{decimal};
 ghost use Rattle.bgp_prefix.specs.Prefixes.{IpPrefix, IsIpPrefix};
 ghost use Rattle.mrt_body.specs.declared.choice.Reach.{Reach};
+ghost use Rattle.command_line.specs.Addresses.{IsAddress, IsNoAddress};
 ghost use Rattle.command_line.specs.Choices.{SpellsPrefix, SpellsChoice, IsNoChoice, mark_of};
 
 use crate::address::{address_in, octet};
@@ -43,30 +44,59 @@ fn first_slash(text: &[u8]) -> Option<usize>
     text.iter().position(|byte| *byte == b'/')
 }
 
+/// Returns the prefix of an address alone, of length 32.
+fn host_prefix(text: &[u8]) -> Option<Prefix>
+    ensures some { IfSome result (λ p. IsAddress text.now p.addr × (p.len ≡ 32)) }
+    ensures none { IfNone result (IsNoAddress text.now) }
+{
+    exact_prefix(address_in(text)?, MOST_LEN)
+}
+
+/// Returns the prefix of an address and a length.
+fn sized_prefix(front: &[u8], back: &[u8]) -> Option<Prefix>
+    ensures some { IfSome result (λ p. IsAddress front.now p.addr × (back.now ≡ decimal p.len) × IsIpPrefix p) }
+    ensures none { IfNone result ((p : IpPrefix) → IsAddress front.now p.addr → back.now ≡ decimal p.len → IsIpPrefix p → ⊥) }
+{
+    let addr = address_in(front)?;
+    let len = read_len(back)?;
+    exact_prefix(addr, len)
+}
+
 /// Returns the prefix of this text, as `192.0.2.0/24`, with no bit past its length; an address alone has length 32.
 fn read_prefix(text: &[u8]) -> Option<Prefix>
     ensures some { IfSome result (SpellsPrefix text.now) }
     ensures none { IfNone result ((p : IpPrefix) → SpellsPrefix text.now p → ⊥) }
 {
-    let Some(slash) = first_slash(text) else {
-        return exact_prefix(address_in(text)?, MOST_LEN);
-    };
-    let addr = address_in(&text[..slash])?;
-    let len = read_len(&text[slash + 1..])?;
-    exact_prefix(addr, len)
+    match first_slash(text) {
+        Some(slash) => sized_prefix(&text[..slash], &text[slash + 1..]),
+        None => host_prefix(text),
+    }
 }
 
-/// Splits off the mark behind a prefix that says how far it reaches.
+/// Returns what the mark behind a prefix says of its reach.
+fn reach_of(mark: u8) -> Option<Reach>
+    ensures some { IfSome result (λ reach. mark_of reach ≡ mark ∷ []) }
+    ensures none { IfNone result ((mark ≡ 43 → ⊥) × (mark ≡ 45 → ⊥)) }
+{
+    match mark {
+        b'+' => Some(Reach::Inside),
+        b'-' => Some(Reach::Around),
+        _ => None,
+    }
+}
+
+/// Splits off the mark behind a prefix.
 fn split_reach(text: &[u8]) -> (&[u8], Reach)
     ensures whole { text.now ≡ result.0.now ++ mark_of result.1 }
     ensures only { (front : List ℕ) (p : IpPrefix) (reach : Reach) → SpellsPrefix front p → text.now ≡ front ++ mark_of reach →
         (front ≡ result.0.now) × (reach ≡ result.1) }
 {
-    match text.split_last() {
-        Some((b'+', front)) => (front, Reach::Inside),
-        Some((b'-', front)) => (front, Reach::Around),
-        _ => (text, Reach::Exact),
+    if let Some((mark, front)) = text.split_last() {
+        if let Some(reach) = reach_of(*mark) {
+            return (front, reach);
+        }
     }
+    (text, Reach::Exact)
 }
 
 /// Returns what `--prefix` chooses: a prefix alone, with `+` itself and more specifics, with `-` itself and less
