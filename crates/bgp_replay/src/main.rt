@@ -1,4 +1,31 @@
 //! `bgp_replay`: the replay of MRT route-collector dumps into one table per peer, and reports on it.
+//!
+//! The program reads arguments, opens files, calls `run` and reports the outcome. All that it can leave to a library is
+//! in one, since a function of a program can't be called by a test.
+//!
+//! - **All files are opened before any is read**, so that a wrong name is reported at once. The first 200 stay open; a
+//!   later one is closed and opened again when its turn comes, except pipes and the like, which can't be opened twice.
+//!   Standard input is read like a file; a second `-` finds nothing left.
+//! - **`Dump` and `Report` are generic over their device**, and state what they make known by what it does (`run_io`):
+//!   so what is counted, shown and kept on the way is proved to change no byte.
+//! - **The first line on standard error is fixed** for each status, so that scripts can read it. Further lines begin
+//!   with two spaces and say which file and why, in the system's words. If the reader of a pipe is gone, nothing is
+//!   reported: `head` needs no message.
+//! - **What a file looks like is reported only if there is damage or no unit.**
+//! - **An argument that isn't UTF-8** is bad, since the kit's arguments and paths are text. What is reported says which
+//!   one it is, and what helps.
+//! - **`--version` names no commit**: there are no build scripts, and no `env!` that reads the build's environment.
+//! - **The plan**: batches of 65,536 units for each worker and 1,048,576 at most, a million looks, and one look for a
+//!   single worker, which then shares the dealer's thread. A worker that leaves a round ends it for all, since nobody
+//!   empties its ring; with a million looks, rounds end by their batch even where the input is slow.
+//! - **The gate sleeps**, since the libraries have no clock: a worker after ten looks in a row in vain, for 20
+//!   microseconds at first and 80 at most, and the dealer at once, for one at first and 64 at most. A thread that only
+//!   yields stays ready to run, and two that have work share a processor meanwhile. A sleep ends by itself, so no
+//!   thread waits for another one.
+//! - **`--progress` looks at the clock once per mebibyte** and rewrites its line after 250 ms; its number of routes is
+//!   that after the last round, since counting goes over all sessions. **`--summary`** takes the units and faults of
+//!   each file from the gate (`counts.rt`), and its peak of memory from `/proc/self/status`. Nothing is proved of
+//!   either but that they are safe.
 #![tactic(auto)]
 
 ghost use Rattle.std.specs.Prelude.{◌≡◌, ◌≤◌, ◌*◌, min, IsTrue};

@@ -1,4 +1,20 @@
 //! What the command line asks for, and the names that the program uses for files and records in messages.
+//!
+//! `read_words` makes a `Job` of the arguments, by the kit's `clap`; its invariants are the ranges of workers and ring,
+//! and that there is a file. `read_address` is exact in both directions, as is what is reported as a bad address. What
+//! else the arguments mean is tested (`command_tests`) and not stated.
+//!
+//! - It is a library, since a function of the program can't be called by a test. `Request` is with the reports, in
+//!   `rib_report`, since this crate and `mrt_replay` need it and neither needs the other.
+//! - `--workers` defaults to one worker per processor, which arguments alone don't know: `read_words` returns 4 and
+//!   whether the arguments said so.
+//! - `--until` takes seconds or RFC 3339, which `jiff` parses. A date and time without an offset from UTC is bad.
+//! - `--prefix` takes a prefix, alone or with `+` (itself and more specifics) or `-` (itself and what contains it).
+//!   Bits past the length are refused: they are mostly a typing error.
+//! - `Records` counts records by their headers for `--summary`, through the bytes that the replay reads, and nothing in
+//!   the replay depends on it.
+//! - `Kind` is what a file's first eight bytes look like. Such a file is still cut as a dump, since nothing in a dump
+//!   says that it is one.
 #![tactic(auto)]
 
 mod address;

@@ -50,9 +50,10 @@ where
     D: Dealing + Sync,
     G: Gate,
     requires { IsPlan plan.now }
-    // A run that completes wrote the report on the files' bytes, byte for byte, counted them, flushed the
-    // writer after that, and met no failure. An error has its cause, and leaves nothing written, or a leading part of the report. With sound devices and records within
-    // the limit it completes, unless it runs out of memory.
+    // A run that completes wrote the report on the selected units of the files' bytes, byte for byte, counted them,
+    // flushed the writer after that, and met no failure. An error has its cause, and leaves nothing written, or a
+    // leading part of the report. With sound devices and records within the limit it completes, unless it runs out of
+    // memory.
     ensures promised { IsPromised (record {
       request = request.now;
       selection = selection;
@@ -107,8 +108,8 @@ fn tell_faults<M: PrefixMap<SharedRoute>, G: Gate>(gate: &G, tables: &Tables<M>)
     }
 }
 
-/// Writes the report that is asked for. As many threads as there are workers make the lines of large tables, and two, if
-/// there are so many workers, the rows of `visibility` and `origins`.
+/// Writes the report that is asked for. As many threads as there are workers make the lines of large tables, and two,
+/// if there are so many workers, the rows of `visibility` and `origins`.
 fn write_report<M: PrefixMap<SharedRoute> + Sync + Drop, T: Threads + Sync, W: Sink>(
     rt: &T,
     alloc: Global,

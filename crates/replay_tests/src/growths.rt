@@ -8,6 +8,7 @@ use bgp_prefix::{Flat, PrefixMap, Radix};
 use command_line::{Usage, read_words};
 use fixtures::{THREE_PEERS, THREE_ROUTES, bytes_of};
 use lane_deal::{ByBlocks, ByList, ByTurns, Dealing, NoGate, Plan};
+use mrt_body::Selection;
 use mrt_frame::{Counted, ReplayError};
 use mrt_replay::run;
 use prefix_shelf::Shelf;
@@ -35,6 +36,7 @@ fn expect_report<M: PrefixMap<SharedRoute> + Send + Sync + Drop, D: Dealing + Sy
         alloc,
         &mut readers,
         request,
+        Selection::new(None, Vec::new(alloc)),
         &PLAN,
         dealing,
         &NoGate,

@@ -73,8 +73,8 @@ fn append_index(bytes: &mut Vec<u8>) -> Result<(), Memory> {
     Ok(())
 }
 
-/// A RIB entry of each peer whose number divides another one. The peer's number and 64000 are the origin AS. Returns how
-/// many entries there are, of 21 bytes each.
+/// A RIB entry of each peer whose number divides another one. The peer's number and 64000 are the origin AS. Returns
+/// how many entries there are, of 21 bytes each.
 fn append_entries(bytes: &mut Vec<u8>, number: u8) -> Result<u8, Memory> {
     let mut count = 0u8;
     for peer in 1..=19u8 {

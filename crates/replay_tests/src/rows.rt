@@ -65,8 +65,7 @@ churn
 > 65000 192.0.2.1|1|0|0|0|0|0|0|0|2.000000|2.000000
 row until-leaves-out
 file extended-announcement
-until 1
-churn
+churn with --until 1
 damaged 0
 ";
 

@@ -2,6 +2,7 @@
 
 use super::lines::push_found;
 use fixtures::bytes_of;
+use mrt_body::Selection;
 use mrt_frame::Counted;
 use std::alloc::Global;
 use std::process::Abort;
@@ -43,7 +44,8 @@ impl<'a> Row<'a> {
     }
 
     fn check(&self, rt: &impl Abort, alloc: Global) {
-        let text = text_of(rt, alloc, self.files.as_slice(), self.most, self.until);
+        let selection = Selection::new(self.until, Vec::new(alloc));
+        let text = text_of(rt, alloc, self.files.as_slice(), self.most, selection);
         let same = text.as_str() == self.expected.as_str();
         let name = self.name;
         assert!(rt; same, "{name} gave\n{text}");
@@ -65,11 +67,11 @@ fn text_of(
     alloc: Global,
     files: &[Vec<u8>],
     most: u64,
-    until: Option<u64>,
+    selection: Selection,
 ) -> String {
     let mut readers = readers_of(rt, alloc, files);
     let mut text = String::new(alloc);
-    push_found(rt, alloc, &mut text, readers.as_mut_slice(), most, until);
+    push_found(rt, alloc, &mut text, readers.as_mut_slice(), most, selection);
     text
 }
 
