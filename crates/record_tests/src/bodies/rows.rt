@@ -71,7 +71,14 @@ fn text_of(
 ) -> String {
     let mut readers = readers_of(rt, alloc, files);
     let mut text = String::new(alloc);
-    push_found(rt, alloc, &mut text, readers.as_mut_slice(), most, selection);
+    push_found(
+        rt,
+        alloc,
+        &mut text,
+        readers.as_mut_slice(),
+        most,
+        selection,
+    );
     text
 }
 
