@@ -1,4 +1,4 @@
-# Completion of bgp_replay for bash.
+# Completion of bgp_replay for bash. Made by tools/options.py.
 _bgp_replay() {
   local word=${COMP_WORDS[COMP_CWORD]} before=${COMP_WORDS[COMP_CWORD-1]} command='' i
   local commands='tables visibility origins churn match faults'
@@ -11,13 +11,13 @@ _bgp_replay() {
   case $before in
     --workers) mapfile -t COMPREPLY < <(compgen -W '1 2 4 8 16 32 64' -- "$word"); return;;
     --ring) mapfile -t COMPREPLY < <(compgen -W '1 64 1024 65536' -- "$word"); return;;
-    --until|--address) return;;
+    --address|--prefix|--until) return;;
   esac
   if [[ -z $command ]]; then
     mapfile -t COMPREPLY < <(compgen -W "$commands help --help --version" -- "$word")
   elif [[ $word == -* ]]; then
-    local options='--workers --ring --until --header --summary --progress --help --version'
-    [[ $command == match ]] && options="--address $options"
+    local options='--prefix --until --header --summary --progress --workers --ring --help --version'
+    case $command in match) options="--address $options";; esac
     mapfile -t COMPREPLY < <(compgen -W "$options" -- "$word")
   else
     compopt -o filenames 2> /dev/null

@@ -38,7 +38,7 @@ mod progress;
 mod telling;
 
 use adj_rib::SharedRoute;
-use command_line::{Job, Usage, read_words};
+use command_line::{Job, Usage, read_words, wrapped};
 use counts::Counts;
 use input::{Input, OpenError, Watched, open_all};
 use lane_deal::{ByTurns, Plan};
@@ -47,7 +47,7 @@ use mrt_frame::Counted;
 use mrt_replay::{run, status};
 use output::{Report, columns};
 use prefix_shelf::Shelf;
-use progress::{Board, Counter};
+use progress::{Board, Counter, terminal_width};
 use std::env::{Env, FillError};
 use std::io::ErrorKind;
 use std::marker::Sync;
@@ -137,16 +137,24 @@ fn without_memory(rt: &HostRuntime, during: &str) -> u8 {
     FAILED
 }
 
+/// Prints a help, in lines of the terminal's width, and returns the status.
+fn print_help(rt: &HostRuntime, text: &str) -> u8 {
+    let Ok(lines) = wrapped(rt.alloc(), text, terminal_width(rt)) else {
+        return without_memory(rt, "the words were read");
+    };
+    match print!(rt; "{lines}") {
+        Ok(()) => 0,
+        Err(error) => {
+            tell_write(rt, Some(error));
+            FAILED
+        }
+    }
+}
+
 /// Prints what the arguments led to instead of a job, and returns the status.
 fn explain(rt: &HostRuntime, usage: &Usage) -> u8 {
     match usage {
-        Usage::Help(text) => {
-            if let Err(error) = print!(rt; "{text}") {
-                tell_write(rt, Some(error));
-                return FAILED;
-            }
-            0
-        }
+        Usage::Help(text) => print_help(rt, text.as_str()),
         Usage::Words(text) => {
             let _ = eprint!(rt; "{text}");
             REFUSED

@@ -6,9 +6,11 @@ ghost use Rattle.command_line.specs.Words.{IsRefusal};
 ghost use Rattle.command_line.specs.declared.words.Usage.TheVariants.{Memory};
 
 use crate::address::read_address;
-use crate::choice::read_choice;
-use crate::commands::command;
+use crate::build::version_text;
+use crate::choice::{fault_of_choice, read_choice};
+use crate::commands::{closings, command};
 use crate::moment::read_second;
+use crate::refusal::refusal_of;
 use clap::error::ErrorKind;
 use clap::{ArgMatches, Error};
 use mrt_body::PrefixChoice;
@@ -49,7 +51,7 @@ pub struct Job {
 /// Why there is no job.
 #[derive(Drop)]
 pub enum Usage {
-    /// Help or the version was asked for: its text, for standard output.
+    /// Help or the version was asked for: its text, for standard output. Lines of help may be long.
     Help(String),
     /// Bad arguments: why, for standard error.
     Words(String),
@@ -121,9 +123,19 @@ fn until_of(alloc: Global, matches: &ArgMatches<'_>) -> Result<Option<u64>, Usag
     match read_second(text) {
         Some(second) => Ok(Some(second)),
         None => Err(Usage::Words(format!(in alloc;
-            "error: invalid value '{text}' for '--until <TIME>': neither seconds since 1970 UTC, as 1704070800, nor a date and time with its offset from UTC, as 2024-01-01T01:00:00Z or 2024-01-01T02:00:00+01:00\n"
+            "error: invalid value '{text}' for '--until <TIME>': neither seconds since 1970 UTC, nor a date, nor a date and time with its offset from UTC\n  it may be 1704070800, 2024-01-01, 2024-01-01T01:00:00Z or 2024-01-01T02:00:00+01:00\n"
         )?)),
     }
+}
+
+/// Refuses a text that is no prefix.
+fn no_choice(alloc: Global, text: &str) -> Result<Usage, AllocError>
+    ensures { IfOk result IsRefusal }
+{
+    let fault = fault_of_choice(text);
+    Ok(Usage::Words(format!(in alloc;
+        "error: invalid value '{text}' for '--prefix <PREFIX>': {fault}\n  it may be 192.0.2.0/24, 192.0.2.0/24+ (more specifics too), 192.0.2.0/24- (less specifics too) or an address\n"
+    )?))
 }
 
 /// Returns the prefixes that are chosen.
@@ -135,11 +147,7 @@ fn prefixes_of(alloc: Global, matches: &ArgMatches<'_>) -> Result<Vec<PrefixChoi
         for text in texts {
             match read_choice(text) {
                 Some(choice) => choices.push(choice)?,
-                None => {
-                    return Err(Usage::Words(format!(in alloc;
-                        "error: invalid value '{text}' for '--prefix <PREFIX>': not as 192.0.2.0/24, 192.0.2.0/24+ (and more specifics) or 192.0.2.0/24- (and less specifics)\n"
-                    )?));
-                }
+                None => return Err(no_choice(alloc, text)?),
             }
         }
     }
@@ -191,14 +199,26 @@ fn job_of(alloc: Global, name: &str, matches: &ArgMatches<'_>) -> Result<Job, Us
     })
 }
 
+/// Returns what is printed in place of a report, as the parser found it.
+fn text_of(alloc: Global, error: &Error, words: &[String]) -> Result<String, AllocError> {
+    match error.kind() {
+        ErrorKind::DisplayVersion => version_text(alloc),
+        ErrorKind::UnknownArgument => {
+            let text = error.to_string(alloc)?;
+            refusal_of(alloc, text.as_str(), words)
+        }
+        _ => error.to_string(alloc),
+    }
+}
+
 /// Converts a refused parse, or one that asks for help, for the caller.
-fn usage_of(alloc: Global, error: &Error) -> Usage
+fn usage_of(alloc: Global, error: &Error, words: &[String]) -> Usage
     ensures { IsRefusal result }
 {
     if error.kind() == ErrorKind::OutOfMemory {
         return Usage::Memory;
     }
-    match error.to_string(alloc) {
+    match text_of(alloc, error, words) {
         Ok(text) if error.use_stderr() => Usage::Words(text),
         Ok(text) => Usage::Help(text),
         Err(_) => Usage::Memory,
@@ -210,9 +230,10 @@ fn usage_of(alloc: Global, error: &Error) -> Usage
 pub fn read_words(alloc: Global, words: &[String]) -> Result<Job, Usage>
     ensures { IfErr result IsRefusal }
 {
-    let matches = match command(alloc)?.try_get_matches_from(words) {
+    let closings = closings(alloc)?;
+    let matches = match command(alloc, closings.as_slice())?.try_get_matches_from(words) {
         Ok(matches) => matches,
-        Err(error) => return Err(usage_of(alloc, &error)),
+        Err(error) => return Err(usage_of(alloc, &error, words)),
     };
     match matches.subcommand() {
         Some((name, below)) => job_of(alloc, name, below),

@@ -2,6 +2,10 @@
 #![tactic(auto)]
 
 #[cfg(test)]
+mod choices;
+#[cfg(test)]
 mod records;
+#[cfg(test)]
+mod texts;
 #[cfg(test)]
 mod words;
