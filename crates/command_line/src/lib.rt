@@ -11,6 +11,7 @@
 //! - `--until` takes seconds or RFC 3339, which `jiff` parses. A date and time without an offset from UTC is bad.
 //! - `--prefix` takes a prefix, alone or with `+` (itself and more specifics) or `-` (itself and what contains it).
 //!   Bits past the length are refused: they are mostly a typing error.
+//! - `--peer` and `--peers` choose peers by AS number and address, and a share of the peers. Their readers are tested.
 //! - `Records` counts records by their headers for `--summary`, through the bytes that the replay reads, and nothing in
 //!   the replay depends on it.
 //! - `Kind` is what a file's first eight bytes look like. Such a file is still cut as a dump, since nothing in a dump
@@ -26,6 +27,7 @@ mod moment;
 mod mrt_names;
 mod names;
 mod options;
+mod peers;
 mod records;
 mod refusal;
 mod words;
@@ -37,6 +39,7 @@ pub use kind::{FirstBytes, Kind};
 pub use moment::read_second;
 pub use mrt_names::RecordKind;
 pub use names::FileName;
+pub use peers::{PeerChoice, read_peer, read_share};
 pub use records::{Aside, Records};
 pub use words::{Job, Usage, read_words};
 pub use wrap::{read_width, wrapped};

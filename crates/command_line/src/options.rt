@@ -50,7 +50,7 @@ pub struct CommandRow {
     pub examples: &'static [&'static str],
 }
 
-pub static OPTIONS: [OptionRow; 8] = [
+pub static OPTIONS: [OptionRow; 10] = [
     OptionRow {
         name: "address",
         value: "A",
@@ -70,6 +70,26 @@ pub static OPTIONS: [OptionRow; 8] = [
         commands: "",
         is_required: false,
         meaning: "Report on this prefix alone. 192.0.2.0/24 is that prefix, 192.0.2.0/24+ also its more specifics, and 192.0.2.0/24- also the prefixes that contain it; an address alone has length 32. Given more than once, each prefix adds to the others",
+    },
+    OptionRow {
+        name: "peer",
+        value: "PEER",
+        takes: Takes::Texts,
+        default: "",
+        offered: "",
+        commands: "",
+        is_required: false,
+        meaning: "Report on this peer alone. PEER is an AS number, or one with an address, as 65001,192.0.2.1 or '65001 192.0.2.1'. Given more than once, each peer adds to the others",
+    },
+    OptionRow {
+        name: "peers",
+        value: "I/N",
+        takes: Takes::Text,
+        default: "",
+        offered: "",
+        commands: "",
+        is_required: false,
+        meaning: "Report on the Ith of N shares of the peers alone. N is at most 65536, and each peer is in one share",
     },
     OptionRow {
         name: "until",
