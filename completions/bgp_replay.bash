@@ -11,12 +11,12 @@ _bgp_replay() {
   case $before in
     --workers) mapfile -t COMPREPLY < <(compgen -W '1 2 4 8 16 32 64' -- "$word"); return;;
     --ring) mapfile -t COMPREPLY < <(compgen -W '1 64 1024 65536' -- "$word"); return;;
-    --address|--prefix|--until) return;;
+    --address|--prefix|--peer|--peers|--until) return;;
   esac
   if [[ -z $command ]]; then
     mapfile -t COMPREPLY < <(compgen -W "$commands help --help --version" -- "$word")
   elif [[ $word == -* ]]; then
-    local options='--prefix --until --header --summary --progress --workers --ring --help --version'
+    local options='--prefix --peer --peers --until --header --summary --progress --workers --ring --help --version'
     case $command in match) options="--address $options";; esac
     mapfile -t COMPREPLY < <(compgen -W "$options" -- "$word")
   else

@@ -17,6 +17,8 @@ _bgp_replay() {
     words)
       options=(
         '*--prefix[report on this prefix alone]:PREFIX:'
+        '*--peer[report on this peer alone]:PEER:'
+        '--peers[report on the Ith of N shares of the peers alone]:I/N:'
         '--until[leave out messages, state changes and entries recorded after this second]:TIME:'
         '--header[print the columns'\'' names first]'
         '--summary[say on standard error what was read, in lines of a key and a value]'

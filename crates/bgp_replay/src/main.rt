@@ -28,7 +28,7 @@
 //!   either but that they are safe.
 #![tactic(auto)]
 
-ghost use Rattle.std.specs.Prelude.{◌≡◌, ◌≤◌, ◌*◌, min, IsTrue};
+ghost use Rattle.std.specs.Prelude.{◌≡◌, ◌≤◌, ◌*◌, min, IfOk, IsTrue};
 ghost use Rattle.lane_deal.specs.Plans.{IsPlan};
 
 mod counts;
@@ -38,16 +38,18 @@ mod progress;
 mod telling;
 
 use adj_rib::SharedRoute;
+use bgp_prefix::Memory;
 use command_line::{Job, Usage, read_words, wrapped};
 use counts::Counts;
 use input::{Input, OpenError, Watched, open_all};
 use lane_deal::{ByTurns, Plan};
-use mrt_body::Selection;
+use mrt_body::{PrefixChoice, Reach, Selection};
 use mrt_frame::Counted;
 use mrt_replay::{run, status};
 use output::{Report, columns};
 use prefix_shelf::Shelf;
 use progress::{Board, Counter, terminal_width};
+use std::alloc::Global;
 use std::env::{Env, FillError};
 use std::io::ErrorKind;
 use std::marker::Sync;
@@ -86,7 +88,20 @@ const MOST_WORDS: usize = 100_000;
 /// The maximum number of workers.
 const MOST_WORKERS: usize = 64;
 
-/// Returns as many workers as the arguments ask for, otherwise one per processor; if the system doesn't report how
+/// The shortest prefix whose more specifics are few among all routes.
+const SHORTEST_NARROW: u8 = 8;
+
+/// Whether few routes are chosen. Then nearly all the time goes into reading, and threads only cost.
+fn is_narrow(choices: &[PrefixChoice]) -> bool {
+    for choice in choices {
+        if choice.reach == Reach::Inside && choice.prefix.len() < SHORTEST_NARROW {
+            return false;
+        }
+    }
+    !choices.is_empty()
+}
+
+/// Returns as many workers as the arguments ask for, otherwise one if few prefixes are chosen, else one per processor; if the system doesn't report how
 /// many there are, as many as the job has.
 fn workers_of(threads: &impl Threads, job: &Job) -> usize
     ensures least { 1 ≤ result }
@@ -96,10 +111,33 @@ fn workers_of(threads: &impl Threads, job: &Job) -> usize
     if job.has_workers {
         return job.workers;
     }
+    if is_narrow(&job.prefixes) {
+        return 1;
+    }
     match available_parallelism(threads) {
         Ok(count) => count.get().min(MOST_WORKERS),
         Err(_) => job.workers,
     }
+}
+
+/// Returns which units a job asks for.
+fn selection_of(alloc: Global, job: &Job) -> Result<Selection, Memory>
+    ensures { IfOk result (λ selection. selection ≡ record {
+      until = job.now.until;
+      prefixes = job.now.prefixes.items;
+      peers = job.now.peers.items;
+      share = job.now.share;
+    }) }
+{
+    let prefixes = Vec::from_slice(alloc, &job.prefixes)?;
+    let peers = Vec::from_slice(alloc, &job.peers)?;
+    Ok(
+        Selection::all(alloc)
+            .up_to(job.until)
+            .of_prefixes(prefixes)
+            .of_peers(peers)
+            .of_share(job.share),
+    )
 }
 
 /// Returns the empty looks after which each of this many workers ends its round.
@@ -275,13 +313,9 @@ fn replay_job(rt: &HostRuntime, threads: &(impl Threads + Sync), job: &Job) -> u
         ""
     };
     let workers = workers_of(threads, job);
-    let prefixes = match Vec::from_slice(rt.alloc(), &job.prefixes) {
-        Ok(prefixes) => prefixes,
-        Err(_) => return without_memory(rt, "the words were read"),
+    let Ok(selection) = selection_of(rt.alloc(), job) else {
+        return without_memory(rt, "the words were read");
     };
-    let selection = Selection::all(rt.alloc())
-        .up_to(job.until)
-        .of_prefixes(prefixes);
     let mut out = Counted::new(Report::new(rt.stdout(), header, board.as_ref()));
     let outcome = run::<Shelf<SharedRoute>, _, _, _, _, _>(
         threads,

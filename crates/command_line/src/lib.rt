@@ -18,6 +18,7 @@
 //!   address alone is the prefix of length 32. Bits past the length are refused: they are mostly a typing error. Each
 //!   `--prefix` adds to the others, while of other options the last one counts.
 //! - Of a word that is no option, `clap` says how to pass it as a file. The refusal says so only where the word may be one.
+//! - `--peer` and `--peers` choose peers by AS number and address, and a share of the peers. Their readers are tested.
 //! - `Records` counts records by their headers for `--summary`, through the bytes that the replay reads, and nothing in
 //!   the replay depends on it.
 //! - `Kind` is what a file's first eight bytes look like. Such a file is still cut as a dump, since nothing in a dump
@@ -33,6 +34,7 @@ mod moment;
 mod mrt_names;
 mod names;
 mod options;
+mod peers;
 mod records;
 mod refusal;
 mod words;
@@ -44,6 +46,7 @@ pub use kind::{FirstBytes, Kind};
 pub use moment::read_second;
 pub use mrt_names::RecordKind;
 pub use names::FileName;
+pub use peers::{read_peer, read_share};
 pub use records::{Aside, Records};
 pub use words::{Job, Usage, read_words};
 pub use wrap::{read_width, wrapped};

@@ -50,7 +50,7 @@ pub struct CommandRow {
     pub examples: &'static [&'static str],
 }
 
-pub static OPTIONS: [OptionRow; 8] = [
+pub static OPTIONS: [OptionRow; 10] = [
     OptionRow {
         name: "address",
         value: "A",
@@ -67,9 +67,29 @@ pub static OPTIONS: [OptionRow; 8] = [
         takes: Takes::Texts,
         default: "",
         offered: "",
-        commands: "",
+        commands: "tables visibility origins seen match faults",
         is_required: false,
         meaning: "Report on this prefix alone. 192.0.2.0/24 is that prefix, 192.0.2.0/24+ also its more specifics, and 192.0.2.0/24- also the prefixes that contain it; an address alone has length 32. Given more than once, each prefix adds to the others",
+    },
+    OptionRow {
+        name: "peer",
+        value: "PEER",
+        takes: Takes::Texts,
+        default: "",
+        offered: "",
+        commands: "",
+        is_required: false,
+        meaning: "Report on this peer alone. PEER is an AS number, or one with an address, as 65001,192.0.2.1 or '65001 192.0.2.1'. Given more than once, each peer adds to the others",
+    },
+    OptionRow {
+        name: "peers",
+        value: "I/N",
+        takes: Takes::Text,
+        default: "",
+        offered: "",
+        commands: "",
+        is_required: false,
+        meaning: "Report on the Ith of N shares of the peers alone. N is at most 65536, and each peer is in one share",
     },
     OptionRow {
         name: "until",
@@ -119,7 +139,7 @@ pub static OPTIONS: [OptionRow; 8] = [
         offered: "1 2 4 8 16 32 64",
         commands: "",
         is_required: false,
-        meaning: "Replay with this many threads, 1 to 64. The report doesn't depend on it [default: one for each processor]",
+        meaning: "Replay with this many threads, 1 to 64. The report doesn't depend on it [default: one for each processor, or one alone where few prefixes are chosen]",
     },
     OptionRow {
         name: "ring",
@@ -194,6 +214,21 @@ const ORIGINS_COLUMNS: &[ColumnRow] = &[
     },
 ];
 
+const SEEN_COLUMNS: &[ColumnRow] = &[
+    ColumnRow {
+        name: "prefix",
+        meaning: "ADDRESS/LENGTH",
+    },
+    ColumnRow {
+        name: "origin",
+        meaning: "the AS that ends the paths to it, or '-' for routes without one",
+    },
+    ColumnRow {
+        name: "peers",
+        meaning: "how many peers' tables have a route to it with this origin AS",
+    },
+];
+
 const CHURN_COLUMNS: &[ColumnRow] = &[
     ColumnRow {
         name: "peer",
@@ -264,7 +299,7 @@ const FAULTS_COLUMNS: &[ColumnRow] = &[
     },
 ];
 
-pub static COMMANDS: [CommandRow; 6] = [
+pub static COMMANDS: [CommandRow; 7] = [
     CommandRow {
         name: "tables",
         meaning: "Print every route of every peer",
@@ -297,10 +332,20 @@ pub static COMMANDS: [CommandRow; 6] = [
         ],
     },
     CommandRow {
+        name: "seen",
+        meaning: "Count the peers that have each prefix with each origin AS",
+        columns: SEEN_COLUMNS,
+        order: "Lines come by prefix and origin AS, '-' last. The lines of several runs on different peers add up.",
+        examples: &[
+            "seen --prefix 192.0.2.0/24+ rib.mrt updates.mrt",
+            "seen --peers 1/2 rib.mrt updates.mrt",
+        ],
+    },
+    CommandRow {
         name: "churn",
         meaning: "Count what each peer announced and withdrew",
         columns: CHURN_COLUMNS,
-        order: "Peers come in the order in which the dumps first name them. With --prefix, a message that announces or withdraws a chosen prefix counts whole, and so do state changes and damaged messages.",
+        order: "Peers come in the order in which the dumps first name them.",
         examples: &[
             "churn --header updates.mrt",
             "churn --until 2024-01-01T01:00:00Z rib.mrt updates.mrt",

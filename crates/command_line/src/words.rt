@@ -10,10 +10,11 @@ use crate::build::version_text;
 use crate::choice::{fault_of_choice, read_choice};
 use crate::commands::{closings, command};
 use crate::moment::read_second;
+use crate::peers::{read_peer, read_share};
 use crate::refusal::refusal_of;
 use clap::error::ErrorKind;
 use clap::{ArgMatches, Error};
-use mrt_body::PrefixChoice;
+use mrt_body::{PeerChoice, PrefixChoice, Share};
 use rib_report::Request;
 use std::alloc::{AllocError, AllocFailed, Global};
 
@@ -35,6 +36,10 @@ pub struct Job {
     pub until: Option<u64>,
     /// The prefixes that are chosen, or none for all.
     pub prefixes: Vec<PrefixChoice>,
+    /// The peers that are chosen, or none for all.
+    pub peers: Vec<PeerChoice>,
+    /// The share of the peers that is chosen, or none for all.
+    pub share: Option<Share>,
     /// Whether the columns' names come first.
     pub header: bool,
     /// Whether a summary of what was read goes to standard error.
@@ -154,6 +159,41 @@ fn prefixes_of(alloc: Global, matches: &ArgMatches<'_>) -> Result<Vec<PrefixChoi
     Ok(choices)
 }
 
+/// Returns the peers that are chosen.
+fn peers_of(alloc: Global, matches: &ArgMatches<'_>) -> Result<Vec<PeerChoice>, Usage>
+    ensures { IfErr result IsRefusal }
+{
+    let mut choices = Vec::new(alloc);
+    if let Some(texts) = matches.get_strs("peer") {
+        for text in texts {
+            match read_peer(text) {
+                Some(choice) => choices.push(choice)?,
+                None => {
+                    return Err(Usage::Words(format!(in alloc;
+                        "error: invalid value '{text}' for '--peer <PEER>': not an AS number, alone or with an address\n  it may be 65001, 65001,192.0.2.1, '65001 192.0.2.1' or 65001,2001:db8::1\n"
+                    )?));
+                }
+            }
+        }
+    }
+    Ok(choices)
+}
+
+/// Returns the share of the peers that is chosen.
+fn share_of(alloc: Global, matches: &ArgMatches<'_>) -> Result<Option<Share>, Usage>
+    ensures { IfErr result IsRefusal }
+{
+    let Some(text) = matches.get_str("peers") else {
+        return Ok(None);
+    };
+    match read_share(text) {
+        Some(share) => Ok(Some(share)),
+        None => Err(Usage::Words(format!(in alloc;
+            "error: invalid value '{text}' for '--peers <I/N>': not I/N with 1 <= I <= N <= 65536\n"
+        )?)),
+    }
+}
+
 fn files_of(alloc: Global, matches: &ArgMatches<'_>) -> Result<Vec<String>, Usage>
     ensures { IfErr result IsRefusal }
 {
@@ -172,6 +212,8 @@ fn job_of(alloc: Global, name: &str, matches: &ArgMatches<'_>) -> Result<Job, Us
     let request = request_of(alloc, name, matches)?;
     let until = until_of(alloc, matches)?;
     let prefixes = prefixes_of(alloc, matches)?;
+    let peers = peers_of(alloc, matches)?;
+    let share = share_of(alloc, matches)?;
     let files = files_of(alloc, matches)?;
     let given = matches.get_one::<usize>("workers");
     let workers = given.unwrap_or(WORKERS_DEFAULT);
@@ -192,6 +234,8 @@ fn job_of(alloc: Global, name: &str, matches: &ArgMatches<'_>) -> Result<Job, Us
         ring,
         until,
         prefixes,
+        peers,
+        share,
         header: matches.get_flag("header"),
         summary: matches.get_flag("summary"),
         progress: matches.get_flag("progress"),
