@@ -1,10 +1,10 @@
 # Completion of bgp_replay for bash. Made by tools/options.py.
 _bgp_replay() {
   local word=${COMP_WORDS[COMP_CWORD]} before=${COMP_WORDS[COMP_CWORD-1]} command='' i
-  local commands='tables visibility origins churn match faults'
+  local commands='tables visibility origins seen churn match faults'
   for ((i = 1; i < COMP_CWORD; i++)); do
     case ${COMP_WORDS[i]} in
-      tables|visibility|origins|churn|match|faults) command=${COMP_WORDS[i]}; break;;
+      tables|visibility|origins|seen|churn|match|faults) command=${COMP_WORDS[i]}; break;;
     esac
   done
   COMPREPLY=()
@@ -16,8 +16,9 @@ _bgp_replay() {
   if [[ -z $command ]]; then
     mapfile -t COMPREPLY < <(compgen -W "$commands help --help --version" -- "$word")
   elif [[ $word == -* ]]; then
-    local options='--prefix --peer --peers --until --header --summary --progress --workers --ring --help --version'
+    local options='--peer --peers --until --header --summary --progress --workers --ring --help --version'
     case $command in match) options="--address $options";; esac
+    case $command in tables|visibility|origins|seen|match|faults) options="--prefix $options";; esac
     mapfile -t COMPREPLY < <(compgen -W "$options" -- "$word")
   else
     compopt -o filenames 2> /dev/null

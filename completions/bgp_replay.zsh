@@ -7,6 +7,7 @@ _bgp_replay() {
     'tables:print every route of every peer'
     'visibility:count the peers that have each prefix'
     'origins:print the prefixes that have more than one origin AS'
+    'seen:count the peers that have each prefix with each origin AS'
     'churn:count what each peer announced and withdrew'
     'match:print each peer'\''s routes of the longest prefix that contains an address'
     'faults:list the damaged records of the dumps'
@@ -16,7 +17,6 @@ _bgp_replay() {
     command) _describe -t commands command commands;;
     words)
       options=(
-        '*--prefix[report on this prefix alone]:PREFIX:'
         '*--peer[report on this peer alone]:PEER:'
         '--peers[report on the Ith of N shares of the peers alone]:I/N:'
         '--until[leave out messages, state changes and entries recorded after this second]:TIME:'
@@ -30,6 +30,7 @@ _bgp_replay() {
         '*:dump:_files'
       )
       case ${words[1]} in match) options+=('--address[look up this IPv4 address, as 192.0.2.1]:A:');; esac
+      case ${words[1]} in tables|visibility|origins|seen|match|faults) options+=('*--prefix[report on this prefix alone]:PREFIX:');; esac
       _arguments $options;;
   esac
 }

@@ -121,7 +121,8 @@ fn prefixes_add_up(rt: HostRuntime) -> Result<(), Fail> {
             "tables --prefix 0.0.0.9 --workers 2 --prefix 192.0.2.0/24- x --prefix=0.0.0.0/0 --workers 3",
             "9/32;3221225984/24-;0/0;",
         ),
-        ("churn --prefix 0.0.0.9 --prefix 0.0.0.9 x", "9/32;9/32;"),
+        ("seen --prefix 0.0.0.9 --prefix 0.0.0.9 x", "9/32;9/32;"),
+        ("churn --prefix 0.0.0.9 x", "refused"),
         ("tables --prefix 0.0.0.9,0.0.0.8 x", "refused"),
         ("tables --prefix 0.0.0.9 --prefix 0.0.0.9/31 x", "refused"),
     ] {

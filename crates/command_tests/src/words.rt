@@ -44,6 +44,11 @@ fn wrong_words_are_refused(rt: HostRuntime) -> Result<(), Fail> {
         ("tables --prefix 192.0.2/24 x", "words"),
         ("tables --prefix 192.0.2.0/24 --prefix soon x", "words"),
         ("tables --prefix", "words"),
+        ("churn --prefix 192.0.2.0/24 x", "words"),
+        ("tables --peer AS65001 x", "words"),
+        ("tables --peer 65001,192.0.2 x", "words"),
+        ("tables --peers 0/4 x", "words"),
+        ("tables --peers 5/4 x", "words"),
         ("--help", "help"),
         ("churn --version", "help"),
     ] {
