@@ -96,6 +96,13 @@ fn words_ask_for_a_job(rt: HostRuntime) -> Result<(), Fail> {
             "x;",
         ),
         (
+            "seen --until 5 --ring 65536 x",
+            Request::Seen,
+            (4, 65_536),
+            Some(5),
+            "x;",
+        ),
+        (
             "churn --until 5 --ring 65536 x",
             Request::Churn,
             (4, 65_536),
