@@ -244,7 +244,9 @@ fn replay_job(rt: &HostRuntime, threads: &(impl Threads + Sync), job: &Job) -> u
         Ok(prefixes) => prefixes,
         Err(_) => return without_memory(rt, "the words were read"),
     };
-    let selection = Selection::new(job.until, prefixes);
+    let selection = Selection::all(rt.alloc())
+        .up_to(job.until)
+        .of_prefixes(prefixes);
     let mut out = Counted::new(Report::new(rt.stdout(), header, board.as_ref()));
     let outcome = run::<Shelf<SharedRoute>, _, _, _, _, _>(
         threads,

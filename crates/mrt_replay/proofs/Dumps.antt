@@ -3,6 +3,7 @@ use Rattle.std.proofs.Common.{◌≡◌, ℕ, List, [], ◌∷◌, ◌++◌, Non
 use Rattle.std.specs.Prelude.{codes, Option}
 use Rattle.std.specs.List.{flat_map}
 use Rattle.mrt_frame.proofs.Hexadecimal.{hex}
+use Rattle.mrt_body.specs.Choices.{all_units}
 use Rattle.mrt_body.proofs.Dumps.{marker_16, session_four, session_two, plain_attributes, announcement_of, announcement_with}
 use Rattle.rib_report.specs.declared.request.Request.{Request}
 use Rattle.mrt_replay.specs.Reports.{report}
@@ -122,4 +123,4 @@ row request file lines = record { request = request; until = None; files = file 
 
 -- each row's report is what it has to be
 abbrev pub AreReports : List Row → Type 0
-AreReports rows = map (λ r. report r.request (record { until = r.until; prefixes = [] }) r.files) rows ≡ map (λ r. r.told) rows
+AreReports rows = map (λ r. report r.request (record all_units { until = r.until }) r.files) rows ≡ map (λ r. r.told) rows
