@@ -3,43 +3,51 @@
 PREFIX ?= $(HOME)/.local
 DESTDIR ?=
 PROGRAM = bin/bgp_replay
+QUICK = bin/quick/bgp_replay
 BUILT = crates/bgp_replay/out/bgp_replay
 # The program that is tried and packed: another one than the built one can be given, as make scripts BINARY=..
 BINARY ?= $(PROGRAM)
-VERSION = $(shell sed -n 's/^static VERSION: &str = "\([^"]*\)";/\1/p' crates/command_line/src/commands.rt)
 ROOT = $(DESTDIR)$(PREFIX)
 DIST ?= dist
-DOCUMENTS = README.md CHANGELOG.md LICENSE docs/ARCHITECTURE.md docs/DECISIONS.md docs/FORMATS.md docs/MODEL.md docs/PERFORMANCE.md docs/PROOFS.md
-ARCHITECTURE = $(shell dpkg --print-architecture 2> /dev/null || uname -m)
-TARBALL = bgp_replay-$(VERSION)-linux-$(shell uname -m)
+DOCUMENTS = README.md CHANGELOG.md LICENSE $(wildcard docs/*.md)
+BUILDING = tools/build.py tools/stamp.py
+SOURCES := $(shell find crates -type d \( -name out -o -name must-fail -o -name more-edits \) -prune -o -type f -print) crates.txt
 
-all: $(PROGRAM)
+# Only a proved crate is built, so a first build proves every crate below the program. Which crates have changed since is
+# judged by the toolchain, and the commit is recorded anew.
+all:
+	@tools/build.py proved
 
-# Only a proved crate is built, so a first build proves every crate below the program.
-$(PROGRAM): $(shell find crates -path '*/out' -prune -o -type f -print) crates.txt
-	cd crates/bgp_replay && rt run -- --version
-	mkdir -p bin
-	cp $(BUILT) $(PROGRAM)
+$(PROGRAM): $(SOURCES) $(BUILDING)
+	@tools/build.py proved
+
+# The toolchain's trial build: no proof, and its checks left in.
+quick: $(QUICK)
+
+$(QUICK): $(SOURCES) $(BUILDING) tools/trial.py
+	@tools/build.py quick
 
 help:
-	@echo 'make            builds bin/bgp_replay (a first build proves every crate below: fifteen to thirty minutes on 4 cores)'
-	@echo 'make run        replays the sample by `tables`'
-	@echo 'make check      the gate: every proof, must-fail edit, test and run from nothing, and make scripts'
-	@echo 'make verdict    each crate from nothing, with its tests'
-	@echo 'make scripts    tries lines and statuses, the packages, and the recipes of README.md'
-	@echo 'make refusals   fails each allocation, read, write and thread start in turn'
-	@echo 'make growths    fails each allocation of the test programs that state what is left then'
-	@echo 'make same       every number of workers and ring gives the same bytes'
-	@echo 'make fuzz       replays damaged dumps (FILES=800 of them; SAMPLES=DIRECTORY adds dumps to damage)'
-	@echo 'make maps       makes ten million drawn calls of the prefix maps beside a plain list'
-	@echo 'make edits      tries further wrong bodies of each crate: the check must refuse them'
-	@echo 'make hostile    replays dumps that are costly to read, at a size and twice that size'
-	@echo 'make bench      measures the program beside bgpdump and others'
-	@echo 'make install    copies program, manual page, completions and documents to DESTDIR PREFIX (~/.local)'
-	@echo 'make uninstall  removes these'
-	@echo 'make dist       a tarball of them in dist/'
-	@echo 'make deb        a Debian package of them in dist/'
-	@echo 'make clean      removes what was built'
+	@echo 'make              builds bin/bgp_replay (a first build proves every crate below: fifteen to thirty minutes on 4 cores)'
+	@echo 'make quick        builds bin/quick/bgp_replay in two minutes, with no proof: slower, and never installed or packed'
+	@echo 'make run          replays the sample by `tables`'
+	@echo 'make check        the gate: every proof, must-fail edit, test and run from nothing, make scripts and make quick-check'
+	@echo 'make verdict      each crate from nothing, with its tests'
+	@echo 'make scripts      tries lines and statuses, the packages, the recipes, and what the build records and refuses'
+	@echo 'make quick-check  builds that program, and tries it'
+	@echo 'make refusals     fails each allocation, read, write and thread start in turn'
+	@echo 'make growths      fails each allocation of the test programs that state what is left then'
+	@echo 'make same         every number of workers and ring gives the same bytes'
+	@echo 'make fuzz         replays damaged dumps (FILES=800 of them; SAMPLES=DIRECTORY adds dumps to damage)'
+	@echo 'make maps         makes ten million drawn calls of the prefix maps beside a plain list'
+	@echo 'make edits        tries further wrong bodies of each crate: the check must refuse them'
+	@echo 'make hostile      replays dumps that are costly to read, at a size and twice that size'
+	@echo 'make bench        measures the program beside bgpdump and others'
+	@echo 'make install      copies program, manual page, completions and documents to DESTDIR PREFIX (~/.local)'
+	@echo 'make uninstall    removes these'
+	@echo 'make dist         a tarball of them in dist/, and its sum in dist/SHA256SUMS'
+	@echo 'make deb          a Debian package of them in dist/, and its sum in dist/SHA256SUMS'
+	@echo 'make clean        removes what was built'
 
 run: $(PROGRAM)
 	$(PROGRAM) tables examples/sample.mrt
@@ -48,12 +56,18 @@ run: $(PROGRAM)
 check:
 	rt ci
 	$(MAKE) --no-print-directory scripts BINARY='$(BUILT)'
+	$(MAKE) --no-print-directory quick-check
 
 verdict:
 	rt all verdict
 
+# What is installed and packed is proved.
+proved: $(BINARY)
+	@said=$$('$(abspath $(BINARY))' --version) || exit 2; case $$said in *'(not proved)'*) \
+	  echo '$(BINARY) is not proved, as its --version says: it is neither installed nor packed' >&2; exit 2;; esac
+
 # Program, manual page, completions and documents, below PREFIX. DESTDIR stands before it, for packages.
-install: $(BINARY)
+install: proved
 	install -d '$(ROOT)/bin' '$(ROOT)/share/man/man1' '$(ROOT)/share/doc/bgp_replay' \
 	  '$(ROOT)/share/bash-completion/completions' '$(ROOT)/share/zsh/site-functions' '$(ROOT)/share/fish/vendor_completions.d'
 	install -m 755 '$(BINARY)' '$(ROOT)/bin/bgp_replay'
@@ -69,22 +83,25 @@ uninstall:
 	  '$(ROOT)/share/fish/vendor_completions.d/bgp_replay.fish'
 	rm -rf '$(ROOT)/share/doc/bgp_replay'
 
-# A tarball of bin/ and share/: the same bytes from the same files.
-dist: $(BINARY)
-	rm -rf '$(DIST)/$(TARBALL)'
-	$(MAKE) -s --no-print-directory install DESTDIR= PREFIX='$(abspath $(DIST))/$(TARBALL)' BINARY='$(BINARY)'
-	cd '$(DIST)' && tar --sort=name --mtime='2000-01-01 00:00Z' --owner=0 --group=0 --numeric-owner -cf - '$(TARBALL)' | gzip -9n > '$(TARBALL).tar.gz'
-	rm -rf '$(DIST)/$(TARBALL)'
+# A tarball of bin/ and share/, and a Debian package: the same bytes from the same files.
+dist: proved
+	tools/pack.sh tarball '$(BINARY)' '$(DIST)'
 
-# Needs dpkg-deb.
-deb: $(BINARY)
-	tests/deb.sh '$(BINARY)' '$(VERSION)' '$(ARCHITECTURE)' '$(DIST)'
+deb: proved
+	tools/pack.sh deb '$(BINARY)' '$(DIST)'
 
-# Lines and statuses, packages, and the recipes of README.md, on the program as it is built: quick.
+# Lines and statuses, packages, recipes, what the build records and refuses, and pages that are made: quick.
 scripts: $(BINARY)
 	tests/program.sh '$(BINARY)'
 	tests/packaging.sh '$(BINARY)'
 	tests/recipes.sh '$(BINARY)'
+	tests/build.sh
+	python3 tools/model_index.py --check
+
+# The trial build works, what it makes passes the recipes, and is neither installed nor packed.
+quick-check: $(QUICK)
+	tests/quick.sh $(QUICK)
+	tests/recipes.sh $(QUICK)
 
 # Each allocation, read, write and thread start of whole runs fails in turn, on the program as it is built.
 refusals: $(BINARY)
@@ -119,4 +136,5 @@ bench: $(PROGRAM)
 clean:
 	rm -rf bin dist bench/out crates/*/out
 
-.PHONY: all help run check verdict edits install uninstall dist deb scripts refusals growths maps same fuzz hostile bench clean
+.PHONY: all help quick run check verdict quick-check edits install uninstall dist deb scripts refusals growths maps same fuzz hostile bench clean
+.PHONY: proved

@@ -1,5 +1,5 @@
 #compdef bgp_replay
-# Completion of bgp_replay for zsh; it is installed as _bgp_replay.
+# Completion of bgp_replay for zsh; it is installed as _bgp_replay. Made by tools/options.py.
 _bgp_replay() {
   local -a commands options
   local line state
@@ -7,6 +7,7 @@ _bgp_replay() {
     'tables:print every route of every peer'
     'visibility:count the peers that have each prefix'
     'origins:print the prefixes that have more than one origin AS'
+    'seen:count the peers that have each prefix with each origin AS'
     'churn:count what each peer announced and withdrew'
     'match:print each peer'\''s routes of the longest prefix that contains an address'
     'faults:list the damaged records of the dumps'
@@ -16,17 +17,20 @@ _bgp_replay() {
     command) _describe -t commands command commands;;
     words)
       options=(
-        '--workers[threads that build tables]:number of 1 to 64:(1 2 4 8 16 32 64)'
-        '--ring[units that may wait for each worker]:number of 1 to 65536:(1 64 1024 65536)'
-        '--until[leave out what was recorded after this second]:seconds since 1970 UTC, or 2024-01-01T01\:00\:00Z:'
+        '*--peer[report on this peer alone]:PEER:'
+        '--peers[report on the Ith of N shares of the peers alone]:I/N:'
+        '--until[leave out messages, state changes and entries recorded after this second]:TIME:'
         '--header[print the columns'\'' names first]'
-        '--summary[say on standard error what was read]'
+        '--summary[say on standard error what was read, in lines of a key and a value]'
         '--progress[show on standard error how far the reading is]'
+        '--workers[replay with this many threads, 1 to 64]:N:(1 2 4 8 16 32 64)'
+        '--ring[let this many messages and entries wait for each thread, 1 to 65536]:N:(1 64 1024 65536)'
         '(- *)'{-h,--help}'[print a help text]'
         '(- *)'{-V,--version}'[print the version]'
         '*:dump:_files'
       )
-      [[ ${words[1]} == match ]] && options+=('--address[the address to look up]:IPv4 address:')
+      case ${words[1]} in match) options+=('--address[look up this IPv4 address, as 192.0.2.1]:A:');; esac
+      case ${words[1]} in tables|visibility|origins|seen|match|faults) options+=('*--prefix[report on this prefix alone]:PREFIX:');; esac
       _arguments $options;;
   esac
 }

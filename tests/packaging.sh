@@ -1,9 +1,10 @@
 #!/usr/bin/env bash
-# Installs into an empty directory and tries the program, the manual page and the completions from there; makes the tarball and the Debian package, and tries
-# what is in them; and compares versions, commands and options among program, manual page, completions and CHANGELOG.md.
+# Installs into an empty directory and tries the program, the manual page and the completions from there; makes the
+# tarball and the Debian package, and tries what is in them; and compares versions, commands, options and keys among
+# program, manual page, completions, docs/USAGE.md, CHANGELOG.md and `make help`.
 #   tests/packaging.sh PROGRAM
-# Needs make, man, tar, gzip and bash; dpkg-deb, zsh and fish where they are installed: what needs one that isn't there is named, and not
-# counted. The last line is `N passed, M failed`.
+# Needs make, tar, gzip and bash; man, strip, dpkg-deb, lintian, zsh and fish where they are installed: what needs one
+# that isn't there is named, and not counted. The last line is `N passed, M failed`.
 set -u
 program=$(realpath "$1"); top=$(dirname "$(dirname "$(realpath "$0")")"); work=$(mktemp -d); trap 'rm -rf "$work"' EXIT
 cd "$top" || exit 2
@@ -18,9 +19,9 @@ same_report() { cmp <("$1" tables examples/sample.mrt) <("$program" tables examp
 files_below() { (cd "$1" && find . -type f | LC_ALL=C sort); }
 
 # what program, manual page, completions and CHANGELOG.md say of one another
-version=$("$program" --version | sed 's/^bgp_replay //')
+version=$("$program" --version | sed -n '1s/^bgp_replay //p')
 check 'the version is a version' grep -qE '^[0-9]+\.[0-9]+\.[0-9]+$' <<< "$version"
-check 'the first change is of this version' [ "$(grep -m 1 '^## ' CHANGELOG.md)" = "## $version" ]
+check 'the first change is of this version' grep -qxE "## ${version//./\\.}( - [0-9]{4}-[0-9]{2}-[0-9]{2})?" <(grep -m 1 '^## ' CHANGELOG.md)
 check 'the manual page is of this version' grep -q "^\.TH BGP_REPLAY 1 [0-9-]* \"bgp_replay $version\"" man/bgp_replay.1
 "$program" --help > "$work/help"; commands=$(sed -n '/^Commands:/,/^$/s/^  \([a-z]*\) .*/\1/p' "$work/help" | grep -v '^help$')
 check 'help names six commands' [ "$(wc -w <<< "$commands")" -ge 6 ]
@@ -37,18 +38,21 @@ done
 check '--summary has its keys' [ "$(wc -l < "$work/keys")" -ge 14 ]
 while read -r key; do
   check "the manual page has the key $key" grep -qw -- "$key" <(sed -n '/^\.SH SUMMARY/,/^\.SH EXIT/p' man/bgp_replay.1)
-  check "README.md has the key $key" grep -qE "^\| .*\`(file N )?$key( TYPE SUBTYPE)?\`" README.md
+  check "docs/USAGE.md has the key $key" grep -qE "^\| .*\`(file N )?$key( TYPE SUBTYPE)?\`" docs/USAGE.md
 done < "$work/keys"
 make -s --no-print-directory help > "$work/targets"
 for target in $(sed -n 's/^\.PHONY: all help//p' Makefile); do check "make help names $target" grep -q "^make $target " "$work/targets"; done
+for target in $(sed -n 's/^make \([a-z][a-z-]*\)  *.*/\1/p' "$work/targets"); do check "there is make $target" grep -q "^$target:" Makefile; done
 
 # install
 root=$work/root/usr
 check 'make install' made install DESTDIR="$work/root" PREFIX=/usr
 for file in bin/bgp_replay share/man/man1/bgp_replay.1 share/bash-completion/completions/bgp_replay share/zsh/site-functions/_bgp_replay \
-  share/fish/vendor_completions.d/bgp_replay.fish share/doc/bgp_replay/README.md share/doc/bgp_replay/CHANGELOG.md share/doc/bgp_replay/LICENSE share/doc/bgp_replay/FORMATS.md; do
+  share/fish/vendor_completions.d/bgp_replay.fish; do
   check "$file is installed" [ -s "$root/$file" ]
 done
+for file in README.md CHANGELOG.md LICENSE docs/*.md; do check "$file is installed" cmp "$file" "$root/share/doc/bgp_replay/${file##*/}"; done
+check 'no other page is installed' [ "$(ls "$root/share/doc/bgp_replay" | wc -l)" = $(($(ls docs/*.md | wc -l) + 3)) ]
 check 'the program runs from there' same_report "$root/bin/bgp_replay"
 check 'the program is for all' [ "$(stat -c %a "$root/bin/bgp_replay")" = 755 ]
 check 'it needs the C library alone' [ -z "$(ldd "$root/bin/bgp_replay" | grep -vE 'linux-vdso|libc\.so|ld-linux|libpthread|libm\.so|libgcc_s|libdl|statically')" ]
@@ -93,27 +97,57 @@ fi
 check 'make uninstall' made uninstall DESTDIR="$work/root" PREFIX=/usr
 check 'nothing is left' [ -z "$(files_below "$work/root")" ]
 
+# what both packages have
+stripped() { ! readelf -SW "$1" | grep -q '\.symtab'; }
+has_strip=; if has strip && has readelf; then has_strip=1; fi
+same_version() { cmp <("$1" --version) <("$program" --version); }
+summed() { [ "$(wc -l < "$1/SHA256SUMS")" = 1 ] && (cd "$1" && sha256sum -c SHA256SUMS); }
+later() { (umask 077; sleep 1.1; made "$@"); }
+opened() { # PROGRAM
+  check 'its program runs' same_report "$1"
+  check 'its program is of this version' same_version "$1"
+  [ -z "$has_strip" ] || check 'its program has no symbols' stripped "$1"
+}
+
 # the tarball
 check 'make dist' made dist DIST="$work/dist"
-tarball=$(ls "$work/dist"); sum=$(sha256sum < "$work/dist/$tarball")
+tarball=$(cd "$work/dist" && ls -- *.tar.gz)
 check 'its name has the version' grep -q "^bgp_replay-$version-.*\.tar\.gz$" <<< "$tarball"
-check 'make dist once more' made dist DIST="$work/dist"
-check 'the same bytes' [ "$sum" = "$(sha256sum < "$work/dist/$tarball")" ]
+check 'its sum stands beside it' summed "$work/dist"
+check 'make dist once more' later dist DIST="$work/again"
+check 'make dist: the same bytes' cmp "$work/dist/$tarball" "$work/again/$tarball"
+check 'make dist of another date' env SOURCE_DATE_EPOCH=86400 make -s --no-print-directory dist DIST="$work/dated" BINARY="$program"
+check 'make dist: the date is in it' grep -q '1970-01-02' <(TZ=UTC tar -tvzf "$work/dated/$tarball")
 mkdir "$work/open"; check 'tar opens it' tar -xzf "$work/dist/$tarball" -C "$work/open"
-check 'its program runs' same_report "$work/open/${tarball%.tar.gz}/bin/bgp_replay"
-check 'it has a licence' grep -q '^MIT License' "$work/open/${tarball%.tar.gz}/share/doc/bgp_replay/LICENSE"
+open=$work/open/${tarball%.tar.gz}
+opened "$open/bin/bgp_replay"
+check 'it has a licence' grep -q '^MIT License' "$open/share/doc/bgp_replay/LICENSE"
+check 'its page is compressed' cmp <(gzip -dc "$open/share/man/man1/bgp_replay.1.gz") man/bgp_replay.1
+check 'all may read it' [ -z "$(find "$open" ! -perm -a=r)" ]
 
 # the Debian package
 if has dpkg-deb; then
   check 'make deb' made deb DIST="$work/deb"
-  package=$(ls "$work/deb"); mkdir "$work/unpacked"
+  package=$(cd "$work/deb" && ls -- *.deb); mkdir "$work/unpacked"
   check 'its name has the version' grep -q "^bgp-replay_${version}_.*\.deb$" <<< "$package"
+  check 'its sum stands beside it' summed "$work/deb"
+  check 'make deb once more' later deb DIST="$work/again"
+  check 'make deb: the same bytes' cmp "$work/deb/$package" "$work/again/$package"
+  check 'the sums of both packages' [ "$(cd "$work/again" && sha256sum -c SHA256SUMS | grep -c ': OK$')" = 2 ]
   check 'dpkg-deb opens it' dpkg-deb -x "$work/deb/$package" "$work/unpacked"
   check 'its version' [ "$(dpkg-deb -f "$work/deb/$package" Version)" = "$version" ]
-  check 'its program runs' same_report "$work/unpacked/usr/bin/bgp_replay"
-  check 'its page is compressed' gzip -t "$work/unpacked/usr/share/man/man1/bgp_replay.1.gz"
-  check 'it says who holds the copyright' grep -q 'Ravmekos authors' "$work/unpacked/usr/share/doc/bgp-replay/copyright"
+  documents=$work/unpacked/usr/share/doc/bgp-replay
+  opened "$work/unpacked/usr/bin/bgp_replay"
+  check 'its page is compressed' cmp <(gzip -dc "$work/unpacked/usr/share/man/man1/bgp_replay.1.gz") man/bgp_replay.1
+  check 'it says who holds the copyright' grep -q 'Ravmekos authors' "$documents/copyright"
   check 'all is of root' [ -z "$(dpkg-deb -c "$work/deb/$package" | grep -v ' root/root ')" ]
+  gzip -dc "$documents/changelog.gz" > "$work/changelog"
+  check 'its changelog begins with this version' [ "$(head -n 1 "$work/changelog")" = "bgp-replay ($version) unstable; urgency=medium" ]
+  check 'its changelog has a date' grep -qE '^ -- .* <.*@.*>  [A-Z][a-z]{2}, [0-9]{2} [A-Z][a-z]{2} [0-9]{4} [0-9:]{8} \+0000$' "$work/changelog"
+  check 'its changelog fits 80 columns' [ -z "$(grep -v '^ -- ' "$work/changelog" | LC_ALL=C.UTF-8 awk 'length > 80')" ]
+  first_change=$(sed -n '/^## /,$ { s/^- //p }' CHANGELOG.md | head -n 1)
+  check 'its changelog has the first change' grep -qF "  * ${first_change:0:40}" "$work/changelog"
+  if has lintian; then check 'lintian finds no error' lintian --fail-on error "$work/deb/$package"; fi
 fi
 
 echo "$passed passed, $failed failed"

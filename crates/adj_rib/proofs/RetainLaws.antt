@@ -77,9 +77,9 @@ module _ (selects : RouteKey → Bool) where
       ∙ elim (selects q) as (λ b. selects q ≡ b → cond (list_any (eq_by_cmp key_cmp q) (others (keys_of t))) None (finite.get t q) ≡ cond b (find key_cmp q (finite.entries t)) None) [
         | true ↦ λ taken. ap (λ b. cond b None (finite.get t q)) (not_other q (keys_of t) taken) ∙ finite.get-entries t q
         | false ↦ λ left.
-          ap (λ b. cond b None (finite.get t q)) (is_other q (keys_of t) left)
-          ∙ ap (cond (list_any (eq_by_cmp key_cmp q) (keys_of t)) None) (finite.get-entries t q)
-          ∙ found_only (find key_cmp q (finite.entries t)) (list_any (eq_by_cmp key_cmp q) (keys_of t)) (is_some-find key_cmp q (finite.entries t))
+            ap (λ b. cond b None (finite.get t q)) (is_other q (keys_of t) left)
+            ∙ ap (cond (list_any (eq_by_cmp key_cmp q) (keys_of t)) None) (finite.get-entries t q)
+            ∙ found_only (find key_cmp q (finite.entries t)) (list_any (eq_by_cmp key_cmp q) (keys_of t)) (is_some-find key_cmp q (finite.entries t))
       ] refl
 
   tied_alike : (q x : RouteKey) → key_cmp q x ≡ Equal → selects x ≡ selects q

@@ -118,12 +118,12 @@ module _ (selects : RouteKey → Bool) where
       let on : selected_steps selects (before ++ step ∷ []) ≡ selected_steps selects before ++ selected_steps selects (step ∷ []) = filter-append (keeps selects) before (step ∷ []) in
       elim (keeps selects step) as (λ b. keeps selects step ≡ b → flat_map_after (λ b s. outcome_of b s ∷ []) (selected_steps selects before) (cond b (step ∷ selected_steps selects steps) (selected_steps selects steps)) ≡ cond b (outcome_of before step ∷ []) [] ++ flat_map_after (λ b s. cond (keeps selects s) (outcome_of b s ∷ []) []) (before ++ step ∷ []) steps) [
         | true ↦ λ taken.
-          ap (λ (o : Outcome). o ∷ flat_map_after (λ b s. outcome_of b s ∷ []) (selected_steps selects before ++ step ∷ []) (selected_steps selects steps)) (same_outcome before step taken)
-          ∙ ap (λ l. outcome_of before step ∷ flat_map_after (λ b s. outcome_of b s ∷ []) l (selected_steps selects steps)) (ap (λ b. selected_steps selects before ++ cond b (step ∷ []) []) (sym taken) ∙ sym on)
-          ∙ ap (λ (l : List Outcome). outcome_of before step ∷ l) (outcomes_from (before ++ step ∷ []) steps)
+            ap (λ (o : Outcome). o ∷ flat_map_after (λ b s. outcome_of b s ∷ []) (selected_steps selects before ++ step ∷ []) (selected_steps selects steps)) (same_outcome before step taken)
+            ∙ ap (λ l. outcome_of before step ∷ flat_map_after (λ b s. outcome_of b s ∷ []) l (selected_steps selects steps)) (ap (λ b. selected_steps selects before ++ cond b (step ∷ []) []) (sym taken) ∙ sym on)
+            ∙ ap (λ (l : List Outcome). outcome_of before step ∷ l) (outcomes_from (before ++ step ∷ []) steps)
         | false ↦ λ left.
-          ap (λ l. flat_map_after (λ b s. outcome_of b s ∷ []) l (selected_steps selects steps)) (sym (append-nil (selected_steps selects before)) ∙ ap (λ b. selected_steps selects before ++ cond b (step ∷ []) []) (sym left) ∙ sym on)
-          ∙ outcomes_from (before ++ step ∷ []) steps
+            ap (λ l. flat_map_after (λ b s. outcome_of b s ∷ []) l (selected_steps selects steps)) (sym (append-nil (selected_steps selects before)) ∙ ap (λ b. selected_steps selects before ++ cond b (step ∷ []) []) (sym left) ∙ sym on)
+            ∙ outcomes_from (before ++ step ∷ []) steps
       ] refl
 
   -- the outcomes of what is selected are those of its steps among all
@@ -223,16 +223,16 @@ module _ (choices : List PrefixChoice) where
       let on : concerned choices (before ++ u ∷ []) ≡ concerned choices before ++ concerned choices (u ∷ []) = filter-append (λ (unit : ReplayUnit). concerns choices unit.payload) before (u ∷ []) in
       elim (concerns choices u.payload) as (λ b. concerns choices u.payload ≡ b → kept_steps (steps_behind (concerned choices before) (cond b (u ∷ concerned choices units) (concerned choices units))) ≡ kept_steps (now ++ steps_behind (before ++ u ∷ []) units)) [
         | true ↦ λ taken.
-          ap (λ up. kept_steps (unit_steps up u ++ steps_behind (concerned choices before ++ u ∷ []) (concerned choices units))) (is_up-concerned before)
-          ∙ ap (λ l. kept_steps (now ++ steps_behind l (concerned choices units))) (ap (λ b. concerned choices before ++ cond b (u ∷ []) []) (sym taken) ∙ sym on)
-          ∙ filter-append keep now (steps_behind (concerned choices (before ++ u ∷ [])) (concerned choices units))
-          ∙ ap (λ l. kept_steps now ++ l) (steps_from (before ++ u ∷ []) units)
-          ∙ sym (filter-append keep now (steps_behind (before ++ u ∷ []) units))
+            ap (λ up. kept_steps (unit_steps up u ++ steps_behind (concerned choices before ++ u ∷ []) (concerned choices units))) (is_up-concerned before)
+            ∙ ap (λ l. kept_steps (now ++ steps_behind l (concerned choices units))) (ap (λ b. concerned choices before ++ cond b (u ∷ []) []) (sym taken) ∙ sym on)
+            ∙ filter-append keep now (steps_behind (concerned choices (before ++ u ∷ [])) (concerned choices units))
+            ∙ ap (λ l. kept_steps now ++ l) (steps_from (before ++ u ∷ []) units)
+            ∙ sym (filter-append keep now (steps_behind (before ++ u ∷ []) units))
         | false ↦ λ left.
-          ap (λ l. kept_steps (steps_behind l (concerned choices units))) (sym (append-nil (concerned choices before)) ∙ ap (λ b. concerned choices before ++ cond b (u ∷ []) []) (sym left) ∙ sym on)
-          ∙ steps_from (before ++ u ∷ []) units
-          ∙ ap (λ l. l ++ kept_steps (steps_behind (before ++ u ∷ []) units)) (sym (quiet_unit (is_up before) u left))
-          ∙ sym (filter-append keep now (steps_behind (before ++ u ∷ []) units))
+            ap (λ l. kept_steps (steps_behind l (concerned choices units))) (sym (append-nil (concerned choices before)) ∙ ap (λ b. concerned choices before ++ cond b (u ∷ []) []) (sym left) ∙ sym on)
+            ∙ steps_from (before ++ u ∷ []) units
+            ∙ ap (λ l. l ++ kept_steps (steps_behind (before ++ u ∷ []) units)) (sym (quiet_unit (is_up before) u left))
+            ∙ sym (filter-append keep now (steps_behind (before ++ u ∷ []) units))
       ] refl
 
   -- the units that can concern a chosen prefix take all steps of chosen prefixes

@@ -18,8 +18,8 @@ pub fn selections_commute()
         outcomes_of (selected_steps selects steps) ≡ selected_outcomes selects steps }
 {}
 
-/// Selecting a peer's units before they are taken makes no difference to the chosen prefixes: their routes are the same,
-/// and so is what was done to them; and the peer is up or not as it was.
+/// Selecting a peer's units before they are taken makes no difference to the chosen prefixes: their routes are the
+/// same, and so is what was done to them; and the peer is up or not as it was.
 pub fn early_is_late()
     ensures state { (choices : List Choice) (units : List ReplayUnit) → is_up (concerned choices units) ≡ is_up units }
     ensures routes { (choices : List Choice) (units : List ReplayUnit) →

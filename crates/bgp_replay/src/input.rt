@@ -99,8 +99,8 @@ impl Watched<'_> {
     }
 }
 
-/// A dump that is read in blocks of 64 KiB from a device. Its block of memory exists only while it is being read, and it is
-/// closed at its end.
+/// A dump that is read in blocks of 64 KiB from a device. Its block of memory exists only while it is being read, and
+/// it is closed at its end.
 #[derive(Drop)]
 pub struct Dump<'a, D> {
     name: &'a str,
@@ -250,6 +250,14 @@ impl<D: Read + Drop> Read for Dump<'_, D> {
             }
         }
     }
+}
+
+impl<'a, D: Read + Drop> Dump<'a, D> {
+    /// What is known of the bytes to come: what wasn't given yet of the block, and what is still to be read of the
+    /// device.
+    pub fn gives_its_bytes(&self)
+        ensures { ⟦<Dump<'a, D> as Read>⟧.remaining self.now ≡ dump_remaining D.remaining self.now }
+    {}
 }
 
 /// Why not all dumps were opened.

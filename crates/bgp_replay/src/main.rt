@@ -1,7 +1,34 @@
 //! `bgp_replay`: the replay of MRT route-collector dumps into one table per peer, and reports on it.
+//!
+//! The program reads arguments, opens files, calls `run` and reports the outcome. All that it can leave to a library is
+//! in one, since a function of a program can't be called by a test.
+//!
+//! - **All files are opened before any is read**, so that a wrong name is reported at once. The first 200 stay open; a
+//!   later one is closed and opened again when its turn comes, except pipes and the like, which can't be opened twice.
+//!   Standard input is read like a file; a second `-` finds nothing left.
+//! - **`Dump` and `Report` are generic over their device**, and state what they make known by what it does (`run_io`):
+//!   so what is counted, shown and kept on the way is proved to change no byte.
+//! - **The first line on standard error is fixed** for each status, so that scripts can read it. Further lines begin
+//!   with two spaces and say which file and why, in the system's words. If the reader of a pipe is gone, nothing is
+//!   reported: `head` needs no message.
+//! - **What a file looks like is reported only if there is damage or no unit.**
+//! - **An argument that isn't UTF-8** is bad, since the kit's arguments and paths are text. What is reported says which
+//!   one it is, and what helps.
+//! - **`--version` names no commit**: there are no build scripts, and no `env!` that reads the build's environment.
+//! - **The plan**: batches of 65,536 units for each worker and 1,048,576 at most, a million looks, and one look for a
+//!   single worker, which then shares the dealer's thread. A worker that leaves a round ends it for all, since nobody
+//!   empties its ring; with a million looks, rounds end by their batch even where the input is slow.
+//! - **The gate sleeps**, since the libraries have no clock: a worker after ten looks in a row in vain, for 20
+//!   microseconds at first and 80 at most, and the dealer at once, for one at first and 64 at most. A thread that only
+//!   yields stays ready to run, and two that have work share a processor meanwhile. A sleep ends by itself, so no
+//!   thread waits for another one.
+//! - **`--progress` looks at the clock once per mebibyte** and rewrites its line after 250 ms; its number of routes is
+//!   that after the last round, since counting goes over all sessions. **`--summary`** takes the units and faults of
+//!   each file from the gate (`counts.rt`), and its peak of memory from `/proc/self/status`. Nothing is proved of
+//!   either but that they are safe.
 #![tactic(auto)]
 
-ghost use Rattle.std.specs.Prelude.{◌≡◌, ◌≤◌, ◌*◌, min, IsTrue};
+ghost use Rattle.std.specs.Prelude.{◌≡◌, ◌≤◌, ◌*◌, min, IfOk, IsTrue};
 ghost use Rattle.lane_deal.specs.Plans.{IsPlan};
 
 mod counts;
@@ -11,16 +38,18 @@ mod progress;
 mod telling;
 
 use adj_rib::SharedRoute;
-use command_line::{Job, Usage, read_words};
+use bgp_prefix::Memory;
+use command_line::{Job, Usage, read_words, wrapped};
 use counts::Counts;
 use input::{Input, OpenError, Watched, open_all};
 use lane_deal::{ByTurns, Plan};
-use mrt_body::Selection;
+use mrt_body::{PrefixChoice, Reach, Selection};
 use mrt_frame::Counted;
 use mrt_replay::{run, status};
 use output::{Report, columns};
 use prefix_shelf::Shelf;
-use progress::{Board, Counter};
+use progress::{Board, Counter, terminal_width};
+use std::alloc::Global;
 use std::env::{Env, FillError};
 use std::io::ErrorKind;
 use std::marker::Sync;
@@ -59,7 +88,20 @@ const MOST_WORDS: usize = 100_000;
 /// The maximum number of workers.
 const MOST_WORKERS: usize = 64;
 
-/// Returns as many workers as the arguments ask for, otherwise one per processor; if the system doesn't report how
+/// The shortest prefix whose more specifics are few among all routes.
+const SHORTEST_NARROW: u8 = 8;
+
+/// Whether few routes are chosen. Then nearly all the time goes into reading, and threads only cost.
+fn is_narrow(choices: &[PrefixChoice]) -> bool {
+    for choice in choices {
+        if choice.reach == Reach::Inside && choice.prefix.len() < SHORTEST_NARROW {
+            return false;
+        }
+    }
+    !choices.is_empty()
+}
+
+/// Returns as many workers as the arguments ask for, otherwise one if few prefixes are chosen, else one per processor; if the system doesn't report how
 /// many there are, as many as the job has.
 fn workers_of(threads: &impl Threads, job: &Job) -> usize
     ensures least { 1 ≤ result }
@@ -69,10 +111,33 @@ fn workers_of(threads: &impl Threads, job: &Job) -> usize
     if job.has_workers {
         return job.workers;
     }
+    if is_narrow(&job.prefixes) {
+        return 1;
+    }
     match available_parallelism(threads) {
         Ok(count) => count.get().min(MOST_WORKERS),
         Err(_) => job.workers,
     }
+}
+
+/// Returns which units a job asks for.
+fn selection_of(alloc: Global, job: &Job) -> Result<Selection, Memory>
+    ensures { IfOk result (λ selection. selection ≡ record {
+      until = job.now.until;
+      prefixes = job.now.prefixes.items;
+      peers = job.now.peers.items;
+      share = job.now.share;
+    }) }
+{
+    let prefixes = Vec::from_slice(alloc, &job.prefixes)?;
+    let peers = Vec::from_slice(alloc, &job.peers)?;
+    Ok(
+        Selection::all(alloc)
+            .up_to(job.until)
+            .of_prefixes(prefixes)
+            .of_peers(peers)
+            .of_share(job.share),
+    )
 }
 
 /// Returns the empty looks after which each of this many workers ends its round.
@@ -110,16 +175,24 @@ fn without_memory(rt: &HostRuntime, during: &str) -> u8 {
     FAILED
 }
 
+/// Prints a help, in lines of the terminal's width, and returns the status.
+fn print_help(rt: &HostRuntime, text: &str) -> u8 {
+    let Ok(lines) = wrapped(rt.alloc(), text, terminal_width(rt)) else {
+        return without_memory(rt, "the words were read");
+    };
+    match print!(rt; "{lines}") {
+        Ok(()) => 0,
+        Err(error) => {
+            tell_write(rt, Some(error));
+            FAILED
+        }
+    }
+}
+
 /// Prints what the arguments led to instead of a job, and returns the status.
 fn explain(rt: &HostRuntime, usage: &Usage) -> u8 {
     match usage {
-        Usage::Help(text) => {
-            if let Err(error) = print!(rt; "{text}") {
-                tell_write(rt, Some(error));
-                return FAILED;
-            }
-            0
-        }
+        Usage::Help(text) => print_help(rt, text.as_str()),
         Usage::Words(text) => {
             let _ = eprint!(rt; "{text}");
             REFUSED
@@ -240,13 +313,9 @@ fn replay_job(rt: &HostRuntime, threads: &(impl Threads + Sync), job: &Job) -> u
         ""
     };
     let workers = workers_of(threads, job);
-    let prefixes = match Vec::from_slice(rt.alloc(), &job.prefixes) {
-        Ok(prefixes) => prefixes,
-        Err(_) => return without_memory(rt, "the words were read"),
+    let Ok(selection) = selection_of(rt.alloc(), job) else {
+        return without_memory(rt, "the words were read");
     };
-    let selection = Selection::all(rt.alloc())
-        .up_to(job.until)
-        .of_prefixes(prefixes);
     let mut out = Counted::new(Report::new(rt.stdout(), header, board.as_ref()));
     let outcome = run::<Shelf<SharedRoute>, _, _, _, _, _>(
         threads,

@@ -19,13 +19,14 @@ pub fn columns(request: &Request) -> &'static str {
         Request::Tables | Request::Match(_) => ROUTE_COLUMNS,
         Request::Visibility => "prefix|peers\n",
         Request::Origins => "prefix|origins\n",
+        Request::Seen => "prefix|origin|peers\n",
         Request::Churn => { "peer|new|changed|same|gone|void|resets|idle|refused|first|last\n" }
         Request::Faults => "file|offset|entry|number|fault\n",
     }
 }
 
-/// A writer with a header, perhaps an empty one, that precedes the first byte of the report. An empty report gets it when
-/// it is flushed. Any progress shown is cleared before it.
+/// A writer with a header, perhaps an empty one, that precedes the first byte of the report. An empty report gets it
+/// when it is flushed. Any progress shown is cleared before it.
 #[derive(Drop)]
 pub struct Report<'a, W> {
     out: Headed<W>,
@@ -88,4 +89,11 @@ impl<W: Write> Write for Report<'_, W> {
             Err(error) => Err(self.keep(error)),
         }
     }
+}
+
+impl<'a, W: Write> Report<'a, W> {
+    /// What is known of the bytes held: what the device holds, and what is left of the header.
+    pub fn holds_its_bytes(&self)
+        ensures { ⟦<Report<'a, W> as Write>⟧.contents self.now ≡ report_contents W.contents self.now }
+    {}
 }

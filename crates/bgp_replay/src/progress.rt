@@ -1,7 +1,7 @@
 //! The reading progress, on a line of standard error that is rewritten.
 
 use crate::counts::Counts;
-use command_line::FileName;
+use command_line::{FileName, read_width};
 use lane_deal::Gate;
 use mrt_body::Damage;
 use std::alloc::{AllocError, Global};
@@ -52,6 +52,8 @@ pub struct Board {
     told: AtomicU64,
     /// How many characters are on the line.
     width: AtomicU64,
+    /// How many it may have.
+    room: usize,
 }
 
 /// How far a dump has been read.
@@ -78,6 +80,8 @@ impl Board {
             counted: AtomicU64::new(0),
             told: AtomicU64::new(0),
             width: AtomicU64::new(0),
+            // A terminal may begin a new line where the last column is written.
+            room: terminal_width(rt).saturating_sub(1),
         }
     }
 
@@ -103,7 +107,10 @@ impl Board {
 
     /// Rewrites the line.
     fn write(&self, dump: ReadSoFar<'_>, millis: u64) {
-        let Some(mut line) = self.line(dump, millis) else {
+        let Some(whole) = self.line(dump, millis) else {
+            return;
+        };
+        let Some(mut line) = cut_to(self.rt.alloc(), whole.as_str(), self.room) else {
             return;
         };
         let width = line.as_str().chars().count();
@@ -205,6 +212,23 @@ impl Gate for Counter<'_> {
             counts.add_fault(damage.place.file, is_refused);
         }
     }
+}
+
+/// Returns the number of columns of the terminal, as far as the environment says it.
+pub fn terminal_width(rt: &HostRuntime) -> usize {
+    match std::env::var(rt, "COLUMNS") {
+        Ok(text) => read_width(text.as_str()),
+        Err(_) => read_width(""),
+    }
+}
+
+/// Returns the first characters of a line.
+fn cut_to(alloc: Global, line: &str, room: usize) -> Option<String> {
+    let mut cut = String::new(alloc);
+    for c in line.chars().take(room) {
+        cut.push(c).ok()?;
+    }
+    Some(cut)
 }
 
 fn push_blanks(line: &mut String, count: u64) -> Result<(), AllocError> {

@@ -73,6 +73,7 @@ fn command_of(request: &Request) -> &'static str {
         Request::Tables => "tables",
         Request::Visibility => "visibility",
         Request::Origins => "origins",
+        Request::Seen => "seen",
         Request::Churn => "churn",
         Request::Match(_) => "match --address A",
         Request::Faults => "faults",

@@ -1,4 +1,27 @@
-//! BGP UPDATE messages: keys, path attributes and AS paths.
+//! BGP UPDATE messages (RFC 4271, 4.3): keys, path attributes and AS paths, and routes packed into bytes.
+//!
+//! What is read: withdrawn and announced keys, with path identifiers where the message has them (RFC 7911); attributes
+//! 1 to 7, 14 and 15 for IPv4 unicast (RFC 4760, RFC 8950), 17 and 18 (RFC 6793). Definitions state which bytes are
+//! well-formed and what they say without an order of reading, and which fault is the first one by a reading from left
+//! to right; the law `updates_agree_with_their_forms` ties the two.
+//!
+//! - Merging AS_PATH and AS4_PATH (RFC 6793, 4.2.3) is stated by a relation, `IsMerged`, and computed, `merged`.
+//!   `AsPath::merge` names both, so that a reader needs to trust only the relation.
+//! - Attributes are found and checked in one pass, which keeps the place of the first value of each type (RFC 7606, 3
+//!   (g)). `FirstValues::take` branches on the type once, and each branch has a copy of the code in which the type is a
+//!   constant.
+//! - A `PackedRoute` is a route as one block of bytes: two bytes of flags, the fields that are there in a fixed order,
+//!   and the path as segments with four-octet AS numbers, as AS_PATH is written. Contracts see it as its `Route`. Its
+//!   invariant is that these are the bytes of that route and no others; so routes are equal exactly if their bytes are,
+//!   and comparing, hashing and copying need no fields. Fields are decoded when a line is written.
+//! - Up to 46 bytes are stored inline: with their length and a count of owners they take an allocation of 64 bytes. In
+//!   generated dumps nine in ten routes are that short. A `Route` takes 200 bytes in two allocations.
+//! - Attributes are packed as they are read (`PackedRoute::read`, `read_packed_update`), without a `Route` in between,
+//!   except for a path of two-octet numbers, which may have to be merged, and for the keys of MP_REACH_NLRI, whose next
+//!   hop is another one. `read_update` still returns a `Route`: it is what definitions speak of.
+//! - Every route that is read can be packed, since each segment has 1 to 255 numbers (`IsWritable`); one made by hand
+//!   need not be, so `PackedRoute::pack` requires it.
+//! - `Route`'s fields are declared in order of size, since the compiler keeps the order: 128 bytes instead of 144.
 #![tactic(auto)]
 
 mod agreement;

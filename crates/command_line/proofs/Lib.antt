@@ -1,2 +1,5 @@
 pub mod Octets
 pub mod Points
+pub mod Slashes
+pub mod Marks
+pub mod Unique

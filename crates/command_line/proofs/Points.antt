@@ -1,5 +1,5 @@
 -- Octets before a point.
-use Rattle.std.proofs.Common.{◌≡◌, ℕ, zero, suc, ◌+◌, ◌-◌, ◌≤◌, ◌<◌, Bool, false, eqb, List, [], ◌∷◌, ◌++◌, length, get_or, take, drop, Some, refl, sym, ap, subst, ◌∙◌, arith, length-append, length-drop}
+use Rattle.std.proofs.Common.{◌≡◌, ℕ, zero, suc, ◌+◌, ◌-◌, ◌≤◌, ◌<◌, Bool, false, true, eqb, List, [], ◌∷◌, ◌++◌, length, get_or, take, drop, Some, refl, sym, ap, subst, ◌∙◌, arith, length-append, length-drop}
 use Rattle.std.specs.List.{AllByRecursion, position, position_or_len}
 use Rattle.std.specs.Fmt.{decimal}
 use Rattle.std.proofs.lemmas.Bool.{ne_eqb, eqb-true}
@@ -14,33 +14,34 @@ use Rattle.command_line.proofs.Octets.{one, two, three, form_of}
 abbrev pub is_point : ℕ → Bool
 is_point byte = eqb byte 46
 
-above_point : (text : List ℕ) → AllByRecursion (λ d. 48 ≤ d) text → (k : ℕ) → k < length text → is_point (get_or text k 0) ≡ false
+pub above_point : (text : List ℕ) → AllByRecursion (λ d. 48 ≤ d) text → (k : ℕ) → k < length text → is_point (get_or text k 0) ≡ false
 above_point [] all k h = absurd (omega arith)
 above_point (x ∷ xs) all zero h = ne_eqb x 46 (λ e. omega (arith, all.0))
 above_point (x ∷ xs) all (suc k) h = above_point xs all.1 k (omega arith)
 
-digits_above : (text : List ℕ) (n : ℕ) → IsOctet text n → AllByRecursion (λ d. 48 ≤ d) text
+pub digits_above : (text : List ℕ) (n : ℕ) → IsOctet text n → AllByRecursion (λ d. 48 ≤ d) text
 digits_above text n o = elim (form_of text n o) [
   | one small e ↦ subst (AllByRecursion (λ d. 48 ≤ d)) (sym e) (omega arith, tt)
   | two lo hi e ↦ subst (AllByRecursion (λ d. 48 ≤ d)) (sym e) (omega arith, (omega arith, tt))
   | three lo hi e ↦ subst (AllByRecursion (λ d. 48 ≤ d)) (sym e) (omega arith, (omega arith, (omega arith, tt)))
 ]
 
-octet_itself : (n : ℕ) → n < 256 → IsOctet (decimal n) n
+pub octet_itself : (n : ℕ) → n < 256 → IsOctet (decimal n) n
 octet_itself n h = record { below = h; written = refl }
 
-first_behind : (front rest : List ℕ) → ((k : ℕ) → k < length front → is_point (get_or front k 0) ≡ false) → position is_point (front ++ 46 ∷ rest) ≡ Some (length front)
-first_behind front rest none =
-    let long = length-append front (46 ∷ rest) in
-    let at : position_or_len is_point (front ++ 46 ∷ rest) ≡ length front = position_or_len_is is_point (front ++ 46 ∷ rest) (length front) 0 (omega (arith, long))
-    (λ k h. ap is_point (get_or-append front (46 ∷ rest) 0 k h) ∙ none k h)
-    (λ h. ap is_point (get_or-append_seam front 46 rest 0)) in
+-- what passes a test first is what stands behind bytes that don't
+pub first_behind : (test : ℕ → Bool) (mark : ℕ) (front rest : List ℕ) → test mark ≡ true → ((k : ℕ) → k < length front → test (get_or front k 0) ≡ false) → position test (front ++ mark ∷ rest) ≡ Some (length front)
+first_behind test mark front rest passes none =
+    let long = length-append front (mark ∷ rest) in
+    let at : position_or_len test (front ++ mark ∷ rest) ≡ length front = position_or_len_is test (front ++ mark ∷ rest) (length front) 0 (omega (arith, long))
+    (λ k h. ap test (get_or-append front (mark ∷ rest) 0 k h) ∙ none k h)
+    (λ h. ap test (get_or-append_seam front mark rest 0) ∙ passes) in
     grind (arith, at, long)
 
 -- the first point stands behind the octet
 pub point_behind : (text : List ℕ) (n : ℕ) (rest : List ℕ) → StartsWithOctet text n rest → position is_point text ≡ Some (length (decimal n))
 point_behind text n rest s =
-    ap (position is_point) s.written ∙ first_behind (decimal n) rest (above_point (decimal n) (digits_above (decimal n) n (octet_itself n s.below)))
+    ap (position is_point) s.written ∙ first_behind is_point 46 (decimal n) rest refl (above_point (decimal n) (digits_above (decimal n) n (octet_itself n s.below)))
 
 same_place : (text : List ℕ) (n : ℕ) (rest : List ℕ) (p : ℕ) → StartsWithOctet text n rest → position is_point text ≡ Some p → p ≡ length (decimal n)
 same_place text n rest p s e = let at = point_behind text n rest s in cc

@@ -49,7 +49,7 @@ fn three_digits(hundreds: u8, tens: u8, ones: u8) -> Option<u8>
 
 /// Returns the value of a decimal octet: 0 to 255, without a sign and, except for 0 itself, without a
 /// leading zero.
-fn octet(text: &[u8]) -> Option<u8>
+pub fn octet(text: &[u8]) -> Option<u8>
     ensures some { IfSome result (IsOctet text.now) }
     ensures none { IfNone result (IsNoOctet text.now) }
 {
@@ -79,15 +79,23 @@ fn octet_and_rest(text: &[u8]) -> Option<(u8, &[u8])>
     Some((number, &text[point + 1..]))
 }
 
+/// Returns the value of an IPv4 address, as [`read_address`] does.
+pub fn address_in(text: &[u8]) -> Option<u32>
+    ensures some { IfSome result (IsAddress text.now) }
+    ensures none { IfNone result (IsNoAddress text.now) }
+{
+    let (first, rest) = octet_and_rest(text)?;
+    let (second, rest) = octet_and_rest(rest)?;
+    let (third, rest) = octet_and_rest(rest)?;
+    let fourth = octet(rest)?;
+    Some(u32::from_be_bytes([first, second, third, fourth]))
+}
+
 /// Returns the value of an IPv4 address: four decimal numbers of 0 to 255 joined by points, without a sign
 /// and, except for 0 itself, without a leading zero. Returns `None` for any other text.
 pub fn read_address(text: &str) -> Option<u32>
     ensures some { IfSome result (IsAddress text.now) }
     ensures none { IfNone result (IsNoAddress text.now) }
 {
-    let (first, rest) = octet_and_rest(text.as_bytes())?;
-    let (second, rest) = octet_and_rest(rest)?;
-    let (third, rest) = octet_and_rest(rest)?;
-    let fourth = octet(rest)?;
-    Some(u32::from_be_bytes([first, second, third, fourth]))
+    address_in(text.as_bytes())
 }

@@ -12,6 +12,7 @@ pub enum Kind {
     Bzip2,
     Xz,
     Zstd,
+    Zip,
     Capture,
     Text,
 }
@@ -24,6 +25,7 @@ impl Kind {
             Kind::Bzip2 => "bzip2 data",
             Kind::Xz => "xz data",
             Kind::Zstd => "zstd data",
+            Kind::Zip => "zip data",
             Kind::Capture => "a packet capture",
             Kind::Text => "text",
         }
@@ -36,6 +38,7 @@ impl Kind {
             Kind::Bzip2 => Some("bzcat"),
             Kind::Xz => Some("xzcat"),
             Kind::Zstd => Some("zstdcat"),
+            Kind::Zip => Some("unzip -p"),
             Kind::Capture | Kind::Text => None,
         }
     }
@@ -76,6 +79,7 @@ impl FirstBytes {
             [b'B', b'Z', b'h', b'1'..=b'9', ..] => Some(Kind::Bzip2),
             [0xfd, b'7', b'z', b'X', b'Z', 0, ..] => Some(Kind::Xz),
             [0x28, 0xb5, 0x2f, 0xfd, ..] => Some(Kind::Zstd),
+            [b'P', b'K', 3, 4, ..] => Some(Kind::Zip),
             [0xa1, 0xb2, 0xc3, 0xd4, 0, 2, ..] | [0xd4, 0xc3, 0xb2, 0xa1, 2, 0, ..] => {
                 Some(Kind::Capture)
             }

@@ -6,12 +6,15 @@ ghost use Rattle.command_line.specs.Words.{IsRefusal};
 ghost use Rattle.command_line.specs.declared.words.Usage.TheVariants.{Memory};
 
 use crate::address::read_address;
-use crate::choice::read_choice;
-use crate::commands::command;
+use crate::build::version_text;
+use crate::choice::{fault_of_choice, read_choice};
+use crate::commands::{closings, command};
 use crate::moment::read_second;
+use crate::peers::{read_peer, read_share};
+use crate::refusal::refusal_of;
 use clap::error::ErrorKind;
 use clap::{ArgMatches, Error};
-use mrt_body::PrefixChoice;
+use mrt_body::{PeerChoice, PrefixChoice, Share};
 use rib_report::Request;
 use std::alloc::{AllocError, AllocFailed, Global};
 
@@ -33,6 +36,10 @@ pub struct Job {
     pub until: Option<u64>,
     /// The prefixes that are chosen, or none for all.
     pub prefixes: Vec<PrefixChoice>,
+    /// The peers that are chosen, or none for all.
+    pub peers: Vec<PeerChoice>,
+    /// The share of the peers that is chosen, or none for all.
+    pub share: Option<Share>,
     /// Whether the columns' names come first.
     pub header: bool,
     /// Whether a summary of what was read goes to standard error.
@@ -49,7 +56,7 @@ pub struct Job {
 /// Why there is no job.
 #[derive(Drop)]
 pub enum Usage {
-    /// Help or the version was asked for: its text, for standard output.
+    /// Help or the version was asked for: its text, for standard output. Lines of help may be long.
     Help(String),
     /// Bad arguments: why, for standard error.
     Words(String),
@@ -93,6 +100,7 @@ fn request_of(alloc: Global, name: &str, matches: &ArgMatches<'_>) -> Result<Req
     match name {
         "visibility" => Ok(Request::Visibility),
         "origins" => Ok(Request::Origins),
+        "seen" => Ok(Request::Seen),
         "churn" => Ok(Request::Churn),
         "faults" => Ok(Request::Faults),
         "match" => {
@@ -120,9 +128,19 @@ fn until_of(alloc: Global, matches: &ArgMatches<'_>) -> Result<Option<u64>, Usag
     match read_second(text) {
         Some(second) => Ok(Some(second)),
         None => Err(Usage::Words(format!(in alloc;
-            "error: invalid value '{text}' for '--until <TIME>': neither seconds since 1970 UTC, as 1704070800, nor a date and time with its offset from UTC, as 2024-01-01T01:00:00Z or 2024-01-01T02:00:00+01:00\n"
+            "error: invalid value '{text}' for '--until <TIME>': neither seconds since 1970 UTC, nor a date, nor a date and time with its offset from UTC\n  it may be 1704070800, 2024-01-01, 2024-01-01T01:00:00Z or 2024-01-01T02:00:00+01:00\n"
         )?)),
     }
+}
+
+/// Refuses a text that is no prefix.
+fn no_choice(alloc: Global, text: &str) -> Result<Usage, AllocError>
+    ensures { IfOk result IsRefusal }
+{
+    let fault = fault_of_choice(text);
+    Ok(Usage::Words(format!(in alloc;
+        "error: invalid value '{text}' for '--prefix <PREFIX>': {fault}\n  it may be 192.0.2.0/24, 192.0.2.0/24+ (more specifics too), 192.0.2.0/24- (less specifics too) or an address\n"
+    )?))
 }
 
 /// Returns the prefixes that are chosen.
@@ -134,15 +152,46 @@ fn prefixes_of(alloc: Global, matches: &ArgMatches<'_>) -> Result<Vec<PrefixChoi
         for text in texts {
             match read_choice(text) {
                 Some(choice) => choices.push(choice)?,
+                None => return Err(no_choice(alloc, text)?),
+            }
+        }
+    }
+    Ok(choices)
+}
+
+/// Returns the peers that are chosen.
+fn peers_of(alloc: Global, matches: &ArgMatches<'_>) -> Result<Vec<PeerChoice>, Usage>
+    ensures { IfErr result IsRefusal }
+{
+    let mut choices = Vec::new(alloc);
+    if let Some(texts) = matches.get_strs("peer") {
+        for text in texts {
+            match read_peer(text) {
+                Some(choice) => choices.push(choice)?,
                 None => {
                     return Err(Usage::Words(format!(in alloc;
-                        "error: invalid value '{text}' for '--prefix <PREFIX>': not as 192.0.2.0/24, 192.0.2.0/24+ (and more specifics) or 192.0.2.0/24- (and less specifics)\n"
+                        "error: invalid value '{text}' for '--peer <PEER>': not an AS number, alone or with an address\n  it may be 65001, 65001,192.0.2.1, '65001 192.0.2.1' or 65001,2001:db8::1\n"
                     )?));
                 }
             }
         }
     }
     Ok(choices)
+}
+
+/// Returns the share of the peers that is chosen.
+fn share_of(alloc: Global, matches: &ArgMatches<'_>) -> Result<Option<Share>, Usage>
+    ensures { IfErr result IsRefusal }
+{
+    let Some(text) = matches.get_str("peers") else {
+        return Ok(None);
+    };
+    match read_share(text) {
+        Some(share) => Ok(Some(share)),
+        None => Err(Usage::Words(format!(in alloc;
+            "error: invalid value '{text}' for '--peers <I/N>': not I/N with 1 <= I <= N <= 65536\n"
+        )?)),
+    }
 }
 
 fn files_of(alloc: Global, matches: &ArgMatches<'_>) -> Result<Vec<String>, Usage>
@@ -163,6 +212,8 @@ fn job_of(alloc: Global, name: &str, matches: &ArgMatches<'_>) -> Result<Job, Us
     let request = request_of(alloc, name, matches)?;
     let until = until_of(alloc, matches)?;
     let prefixes = prefixes_of(alloc, matches)?;
+    let peers = peers_of(alloc, matches)?;
+    let share = share_of(alloc, matches)?;
     let files = files_of(alloc, matches)?;
     let given = matches.get_one::<usize>("workers");
     let workers = given.unwrap_or(WORKERS_DEFAULT);
@@ -183,6 +234,8 @@ fn job_of(alloc: Global, name: &str, matches: &ArgMatches<'_>) -> Result<Job, Us
         ring,
         until,
         prefixes,
+        peers,
+        share,
         header: matches.get_flag("header"),
         summary: matches.get_flag("summary"),
         progress: matches.get_flag("progress"),
@@ -190,14 +243,26 @@ fn job_of(alloc: Global, name: &str, matches: &ArgMatches<'_>) -> Result<Job, Us
     })
 }
 
+/// Returns what is printed in place of a report, as the parser found it.
+fn text_of(alloc: Global, error: &Error, words: &[String]) -> Result<String, AllocError> {
+    match error.kind() {
+        ErrorKind::DisplayVersion => version_text(alloc),
+        ErrorKind::UnknownArgument => {
+            let text = error.to_string(alloc)?;
+            refusal_of(alloc, text.as_str(), words)
+        }
+        _ => error.to_string(alloc),
+    }
+}
+
 /// Converts a refused parse, or one that asks for help, for the caller.
-fn usage_of(alloc: Global, error: &Error) -> Usage
+fn usage_of(alloc: Global, error: &Error, words: &[String]) -> Usage
     ensures { IsRefusal result }
 {
     if error.kind() == ErrorKind::OutOfMemory {
         return Usage::Memory;
     }
-    match error.to_string(alloc) {
+    match text_of(alloc, error, words) {
         Ok(text) if error.use_stderr() => Usage::Words(text),
         Ok(text) => Usage::Help(text),
         Err(_) => Usage::Memory,
@@ -209,9 +274,10 @@ fn usage_of(alloc: Global, error: &Error) -> Usage
 pub fn read_words(alloc: Global, words: &[String]) -> Result<Job, Usage>
     ensures { IfErr result IsRefusal }
 {
-    let matches = match command(alloc)?.try_get_matches_from(words) {
+    let closings = closings(alloc)?;
+    let matches = match command(alloc, closings.as_slice())?.try_get_matches_from(words) {
         Ok(matches) => matches,
-        Err(error) => return Err(usage_of(alloc, &error)),
+        Err(error) => return Err(usage_of(alloc, &error, words)),
     };
     match matches.subcommand() {
         Some((name, below)) => job_of(alloc, name, below),

@@ -2,6 +2,12 @@
 #![tactic(auto)]
 
 #[cfg(test)]
+mod choices;
+#[cfg(test)]
+mod peers;
+#[cfg(test)]
 mod records;
+#[cfg(test)]
+mod texts;
 #[cfg(test)]
 mod words;

@@ -38,7 +38,19 @@ fn wrong_words_are_refused(rt: HostRuntime) -> Result<(), Fail> {
         ("nothing x", "words"),
         ("tables --until yesterday x", "words"),
         ("tables --until -5 x", "words"),
+        ("tables --until 2024-01-01T25:00:00Z x", "words"),
+        ("tables --prefix 192.0.2.1/24 x", "words"),
+        ("tables --prefix 192.0.2.0/33 x", "words"),
+        ("tables --prefix 192.0.2/24 x", "words"),
+        ("tables --prefix 192.0.2.0/24 --prefix soon x", "words"),
+        ("tables --prefix", "words"),
+        ("churn --prefix 192.0.2.0/24 x", "words"),
+        ("tables --peer AS65001 x", "words"),
+        ("tables --peer 65001,192.0.2 x", "words"),
+        ("tables --peers 0/4 x", "words"),
+        ("tables --peers 5/4 x", "words"),
         ("--help", "help"),
+        ("churn --version", "help"),
     ] {
         let answer = job_of(alloc, text)?;
         assert!(rt; answer_of(&answer) == expected, "{text}");
@@ -79,6 +91,13 @@ fn words_ask_for_a_job(rt: HostRuntime) -> Result<(), Fail> {
         (
             "origins --until 5 --ring 65536 x",
             Request::Origins,
+            (4, 65_536),
+            Some(5),
+            "x;",
+        ),
+        (
+            "seen --until 5 --ring 65536 x",
+            Request::Seen,
             (4, 65_536),
             Some(5),
             "x;",
@@ -178,9 +197,22 @@ fn a_moment_is_a_second_or_a_date_with_its_offset(rt: HostRuntime) {
         ("2024-01-01T02:00:00+01:00", Some(1_704_070_800)),
         ("2023-12-31T20:30:00-04:30", Some(1_704_070_800)),
         ("2024-01-01T01:00:00.999Z", Some(1_704_070_800)),
+        ("2024-01-01 01:00:00Z", Some(1_704_070_800)),
+        ("2024-01-01 02:00:00+01:00", Some(1_704_070_800)),
+        ("2024-01-01", Some(1_704_067_200)),
+        ("1970-01-01", Some(0)),
+        ("2024-02-29", Some(1_709_164_800)),
         ("1969-12-31T23:59:59.5Z", None),
+        ("1969-12-31", None),
         ("2024-01-01T01:00:00", None),
+        ("2024-01-01 01:00:00", None),
         ("2024-02-30T01:00:00Z", None),
+        ("2023-02-29", None),
+        ("2024-1-1", None),
+        ("2024-01-1", None),
+        ("2024-01", None),
+        ("01.01.2024", None),
+        ("2024-01-01T", None),
         ("18446744073709551616", None),
         ("", None),
     ] {
@@ -190,7 +222,7 @@ fn a_moment_is_a_second_or_a_date_with_its_offset(rt: HostRuntime) {
 
 #[test]
 fn the_first_bytes_tell_the_kind_of_a_file(rt: HostRuntime) {
-    let rows: [(&[u8], Option<Kind>); 9] = [
+    let rows: [(&[u8], Option<Kind>); 11] = [
         (
             b"\x1f\x8b\x08\x00\x00\x00\x00\x00\x00\x03",
             Some(Kind::Gzip),
@@ -198,6 +230,8 @@ fn the_first_bytes_tell_the_kind_of_a_file(rt: HostRuntime) {
         (b"BZh91AY&SY", Some(Kind::Bzip2)),
         (b"\xfd7zXZ\x00\x00\x04", Some(Kind::Xz)),
         (b"\x28\xb5\x2f\xfd\x04\x58", Some(Kind::Zstd)),
+        (b"PK\x03\x04\x14\x00\x00\x00", Some(Kind::Zip)),
+        (b"PK\x05\x06\x00\x00\x00\x00", None),
         (b"\xd4\xc3\xb2\xa1\x02\x00\x04\x00", Some(Kind::Capture)),
         (b"\x0a\x0d\x0d\x0a\x1c\x00\x00\x00", Some(Kind::Capture)),
         (b"TABLE_DUMP2|1|B|", Some(Kind::Text)),

@@ -5,6 +5,7 @@ use adj_rib::SharedRoute;
 use bgp_prefix::{Flat, PrefixMap, Radix};
 use fixtures::{THREE_PEERS, THREE_ROUTES, bytes_of, message_of};
 use lane_deal::{ByBlocks, ByList, ByTurns, Dealing, NoGate, Plan};
+use mrt_body::Selection;
 use mrt_frame::Counted;
 use mrt_replay::run;
 use prefix_shelf::Shelf;
@@ -40,6 +41,7 @@ fn check_dealing<M: PrefixMap<SharedRoute> + Send + Sync + Drop, D: Dealing + Sy
         alloc,
         &mut readers,
         &Request::Tables,
+        Selection::all(alloc),
         plan,
         dealing,
         &NoGate,

@@ -5,6 +5,7 @@ use adj_rib::SharedRoute;
 use bgp_prefix::Radix;
 use fixtures::{THREE_PEERS, bytes_of};
 use lane_deal::{ByTurns, Gate, Plan};
+use mrt_body::Selection;
 use mrt_frame::{Counted, ReplayError};
 use mrt_replay::{Summary, run};
 use rib_report::Request;
@@ -47,6 +48,7 @@ fn run_with<G: Gate>(
         alloc,
         &mut readers,
         &Request::Tables,
+        Selection::all(alloc),
         plan,
         &ByTurns,
         gate,

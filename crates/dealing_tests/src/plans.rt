@@ -9,5 +9,4 @@ pub const PLAN: Plan = Plan {
     batch: 8,
     looks: 0,
     max_records: 1 << 47,
-    until: None,
 };

@@ -1,4 +1,36 @@
-//! How a replay is shared among workers: plans, the dealing of peers to lanes, and gates.
+//! How a replay is shared among workers: plans, dealings of peers to lanes, rounds, and gates.
+//!
+//! A `Replayer` has a lane for each worker: a ring of units on their way, and the sessions of the lane's peers. In a
+//! round the dealer reads units and pushes each to its peer's lane, while each worker pops its own and gives them to
+//! their sessions. `Replayer::round` is promised for whatever the threads do; `run_schedule` states the same lanes on
+//! one thread for any list of events.
+//!
+//! - **A fork and a join per round.** `join_mut` hands both sides what they may change and takes it back, so each half
+//!   is proved by itself over the ends that it owns. No thread outlives a round, none takes a lock, and none waits for
+//!   another one but in the join: so a run can't hang, which is proved like any function's return. The price is that
+//!   threads start anew and that a round ends with its slowest worker, so batches are large.
+//! - **The dealer runs in the caller's thread.** If no thread can be started, `join_mut` makes both calls in sequence,
+//!   dealing first. A single worker that looks at most once runs there too, after the dealing.
+//! - **A full ring ends a round.** The unit is kept and dealt first in the next, so no unit overtakes another in its
+//!   lane. Before that the dealer looks again, at most 1,000 times. What a worker takes beyond what waited at first
+//!   depends on timing, so the contract says what is dealt and what waits, and not who took how much.
+//! - **Rings are made anew after each round**, with what waits moved over in order: then the producer's end knows how
+//!   much more may wait, and the consumer's all that waits. No claim rests on the round-over flag, on how often a
+//!   thread looks, or on how it pauses, which is up to the gate (`Gate::pause`, `Gate::wait_for_room`).
+//! - **A ring's item is a list of up to 32 units** whose bytes are in one block, so that a ring's position is exchanged
+//!   once for them all and no unit is an allocation. The producer counts units (`UnitProducer`): a round is blocked by
+//!   units, not lists, and contracts see a ring of units. A listed unit has 40 bytes: the records and peers of a list
+//!   are listed once. Lists go back by a second ring, since a worker that freed them would lock the dealer's heap; the
+//!   dealer writes to all of one before it fills it again, so that the misses overlap.
+//! - **Units are lent to the dealer**, which asks whether another one may wait before it deals it. Its loop is one
+//!   function, in which what is seldom needed isn't inlined.
+//! - **Peers are numbered by their first unit.** `Dealing` has a law, that the lane of a number is below the number of
+//!   lanes and depends on nothing else, so a peer keeps its lane in every file and round. Positions and recent numbers
+//!   are hints that carry no claim: what they name is compared.
+//! - **`Memory` comes before `Read`** if both happen in one round: the sessions are then no longer those of the dealt
+//!   units, and the replayer is spent. After a `Read` alone they are, and `settle` and `into_tables` still work.
+//! - **A replayer that isn't spent stands for some units and refusals**, an invariant of the struct (`StandsForSome`);
+//!   which ones is a relation (`ReplayerStandsFor`), and no ghost list is kept.
 #![tactic(auto)]
 
 mod collecting;

@@ -25,9 +25,9 @@ use std::alloc::Global;
 use std::sync::atomic::{AtomicBool, Ordering};
 use std::thread::{Threads, join_mut};
 
-/// Deals in one half while the workers take in the other. The round is over once the dealer ends or a worker fails. For a
-/// single worker that looks at most once at an empty ring, and so would gain little from a thread of its own, the
-/// calling thread deals first and takes afterwards.
+/// Deals in one half while the workers take in the other. The round is over once the dealer ends or a worker fails.
+/// For a single worker that looks at most once at an empty ring, and so would gain little from a thread of its own,
+/// the calling thread deals first and takes afterwards.
 fn deal_and_work<
     T: Threads + Sync,
     D: Dealing + Send,

@@ -101,8 +101,8 @@ fn bytes_from(bytes: &[u8], start: usize, len: usize) -> &[u8]
     &bytes[start..start + len]
 }
 
-/// Writes to all of the units and bytes. The processor of the worker that read them has their cache lines too, so that a
-/// write to each waits for it. One after the other, these waits overlap; while a list is filled they wouldn't.
+/// Writes to all of the units and bytes. The processor of the worker that read them has their cache lines too, so
+/// that a write to each waits for it. One after the other, these waits overlap; while a list is filled they wouldn't.
 fn write_ahead(listed: &mut [ListedUnit], bytes: &mut [u8]) {
     for unit in listed.iter_mut() {
         unit.start = 0;

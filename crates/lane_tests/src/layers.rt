@@ -5,7 +5,7 @@ ghost use Rattle.std.specs.Prelude.{◌≡◌, [], ◌∷◌, IfOk, map};
 use adj_rib::{Session, SharedRoute};
 use bgp_prefix::{Radix, Sequence};
 use fixtures::bytes_of;
-use mrt_body::{Found, PeerAddr, PeerKey, Unit, Units};
+use mrt_body::{Found, PeerAddr, PeerKey, Selection, Unit, Units};
 use mrt_frame::{Counted, ReplayError};
 use rib_report::{Gathered, Seated, Tables, collect, table_rows};
 use std::alloc::Global;
@@ -28,7 +28,7 @@ fn push_found(
     all: &mut Vec<Found>,
 ) -> Result<(), ReplayError> {
     let mut readers = [Counted::new(bytes)];
-    let mut units = Units::new(1, 1 << 47, None);
+    let mut units = Units::new(1, 1 << 47, Selection::all(alloc));
     for _ in 0..1_000_000u32 {
         assert!(rt; readers.len() == units.count());
         match units.next(alloc, &mut readers)? {

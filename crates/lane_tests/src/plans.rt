@@ -8,7 +8,6 @@ const PLAN: Plan = Plan {
     batch: 1_048_576,
     looks: 0,
     max_records: 1 << 47,
-    until: None,
 };
 
 /// Each number at its greatest, one past it, and 0.

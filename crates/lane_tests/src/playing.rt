@@ -10,7 +10,7 @@ ghost use Rattle.lane_deal.specs.declared.state.State.TheVariants.{Spent};
 use adj_rib::SharedRoute;
 use bgp_prefix::{Memory, PrefixMap};
 use lane_deal::{ByTurns, Dealing, NoGate, Plan, Replayer, Step};
-use mrt_body::Units;
+use mrt_body::{Selection, Units};
 use mrt_frame::{Counted, ReplayError, Source};
 use rib_report::{Tables, churn, table_rows, write_churn, write_rows};
 use std::alloc::Global;
@@ -25,7 +25,6 @@ pub const PLAN: Plan = Plan {
     batch: 8,
     looks: 0,
     max_records: 1 << 47,
-    until: None,
 };
 
 fn error_name(error: &ReplayError) -> &'static str {
@@ -69,7 +68,7 @@ impl<M: PrefixMap<SharedRoute> + Send + Drop, R: Source + Send + Drop> Play<M, R
         let replayer = Replayer::new(alloc, plan, ByTurns)?;
         Ok(Play {
             lanes: plan.workers,
-            units: Units::new(readers.len(), plan.max_records, plan.until),
+            units: Units::new(readers.len(), plan.max_records, Selection::all(alloc)),
             readers,
             replayer,
         })

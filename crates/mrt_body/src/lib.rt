@@ -1,4 +1,30 @@
-//! The bodies of MRT records: peer indexes, RIB records and BGP4MP messages, as units.
+//! The bodies of MRT records (RFC 6396, 4.3 and 4.4; RFC 8050), as units: one message, one state change or one RIB
+//! entry of one peer.
+//!
+//! `Units` reads files in order, keeps the peer index that is in force in each, and returns the next unit or the
+//! refusal of a record. `event` says what a unit's payload means. A record is refused whole, before any of its units is
+//! returned; a unit whose message or attributes are malformed is still a unit, whose event is a fault.
+//!
+//! - **A selection is applied here, where units are made** (`Selection`, `is_selected`), and not in sessions or
+//!   reports. Whatever is above sees a list of units and needs no second form of any definition; what isn't asked for
+//!   is skipped before it is copied, numbered and dealt, and takes no session. The entries of a RIB record of another
+//!   prefix are checked, since a broken one refuses the record, and none is given. Since an UPDATE may concern a chosen
+//!   prefix and others, the routes of others are taken out of the tables at the end (`Tables::retain`). That this is
+//!   the same as to select late is a law of `adj_rib`, `early_is_late`. Refusals, index tables and the counts of
+//!   records don't depend on the selection.
+//! - Bodies are stated by their forms (`Agrees`, `IsRefused`) and by a reading (`units_in`), which a law ties together.
+//!   `Units::next` is proved against the reading.
+//! - Units are lent (`Units::lend`): the dealer copies the bytes of an entry or a message once, from the record to its
+//!   lane's list. `Units::next` is `advance`, a copy of what is lent, and `pass`. A record is read into the memory of
+//!   the one before it, of which at most 128 KiB are kept.
+//! - A RIB record's entries are read once, into a list of 16 bytes each (the peer's index, the path identifier, where
+//!   the attributes are, the entry's number), since one broken entry refuses the record. The list gets room for as many
+//!   entries as the record claims, but for no more than its body can hold, so a false count takes no memory. Entries of
+//!   peers that aren't selected are removed from the list at once, which is why each has its number.
+//! - `PayloadBytes` stores up to 112 bytes in the unit itself, and more on the heap: nearly all attributes of RIB
+//!   entries, and about nine in ten UPDATEs, are that short.
+//! - The function `event` and the type `Event` are in two modules, `interpret` and `meaning`, because the toolchain
+//!   refuses two names in one module that differ only in case.
 #![tactic(auto)]
 
 mod agreement;

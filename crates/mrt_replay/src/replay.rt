@@ -17,8 +17,8 @@ use lane_deal::{Dealing, Gate, Plan};
 use mrt_body::Selection;
 use mrt_frame::{ReplayError, Sink, Source};
 use rib_report::{
-    Request, Tables, churn, faults, list_tables, matches, origins_with_threads,
-    visibility_with_threads, write_churn, write_faults, write_origins, write_rows,
+    Request, Tables, churn, faults, list_tables, matches, origins_with_threads, seen_with_threads,
+    visibility_with_threads, write_churn, write_faults, write_origins, write_rows, write_seen,
     write_visibility,
 };
 use std::alloc::Global;
@@ -50,9 +50,10 @@ where
     D: Dealing + Sync,
     G: Gate,
     requires { IsPlan plan.now }
-    // A run that completes wrote the report on the files' bytes, byte for byte, counted them, flushed the
-    // writer after that, and met no failure. An error has its cause, and leaves nothing written, or a leading part of the report. With sound devices and records within
-    // the limit it completes, unless it runs out of memory.
+    // A run that completes wrote the report on the selected units of the files' bytes, byte for byte, counted them,
+    // flushed the writer after that, and met no failure. An error has its cause, and leaves nothing written, or a
+    // leading part of the report. With sound devices and records within the limit it completes, unless it runs out of
+    // memory.
     ensures promised { IsPromised (record {
       request = request.now;
       selection = selection;
@@ -107,8 +108,8 @@ fn tell_faults<M: PrefixMap<SharedRoute>, G: Gate>(gate: &G, tables: &Tables<M>)
     }
 }
 
-/// Writes the report that is asked for. As many threads as there are workers make the lines of large tables, and two, if
-/// there are so many workers, the rows of `visibility` and `origins`.
+/// Writes the report that is asked for. As many threads as there are workers make the lines of large tables, and two,
+/// if there are so many workers, the rows of `visibility`, `origins` and `seen`.
 fn write_report<M: PrefixMap<SharedRoute> + Sync + Drop, T: Threads + Sync, W: Sink>(
     rt: &T,
     alloc: Global,
@@ -134,6 +135,10 @@ fn write_report<M: PrefixMap<SharedRoute> + Sync + Drop, T: Threads + Sync, W: S
         Request::Origins => {
             let rows = origins_with_threads(rt, alloc, workers, tables)?;
             write_origins(out, rows.as_slice())
+        }
+        Request::Seen => {
+            let rows = seen_with_threads(rt, alloc, workers, tables)?;
+            write_seen(out, rows.as_slice())
         }
         Request::Churn => write_churn(out, churn(alloc, tables)?.as_slice()),
         Request::Match(addr) => write_rows(out, matches(alloc, tables, *addr)?.as_slice()),

@@ -77,14 +77,14 @@ module _ (takes : PeerKey → Bool) where
       let rest = flat_map_after first_peer (before ++ u ∷ []) units in
       elim (takes u.peer) as (λ b. takes u.peer ≡ b → flat_map_after first_peer (units_where takes before) (cond b (u ∷ units_where takes units) (units_where takes units)) ≡ filter takes (first_peer before u) ++ filter takes rest) [
         | true ↦ λ taken.
-          ap (λ b. cond b [] (u.peer ∷ []) ++ flat_map_after first_peer (units_where takes before ++ u ∷ []) (units_where takes units)) (any_within (λ v. peer_eq v.peer u.peer) (λ v. takes v.peer) (taken_alike u.peer taken) before)
-          ∙ ap (λ l. first_peer before u ++ flat_map_after first_peer l (units_where takes units)) (ap (λ b. units_where takes before ++ cond b (u ∷ []) []) (sym taken) ∙ sym on)
-          ∙ ap (λ l. first_peer before u ++ l) (peers_from (before ++ u ∷ []) units)
-          ∙ ap (λ l. l ++ filter takes rest) (if_new (list_any (λ v. peer_eq v.peer u.peer) before) u.peer taken)
+            ap (λ b. cond b [] (u.peer ∷ []) ++ flat_map_after first_peer (units_where takes before ++ u ∷ []) (units_where takes units)) (any_within (λ v. peer_eq v.peer u.peer) (λ v. takes v.peer) (taken_alike u.peer taken) before)
+            ∙ ap (λ l. first_peer before u ++ flat_map_after first_peer l (units_where takes units)) (ap (λ b. units_where takes before ++ cond b (u ∷ []) []) (sym taken) ∙ sym on)
+            ∙ ap (λ l. first_peer before u ++ l) (peers_from (before ++ u ∷ []) units)
+            ∙ ap (λ l. l ++ filter takes rest) (if_new (list_any (λ v. peer_eq v.peer u.peer) before) u.peer taken)
         | false ↦ λ left.
-          ap (λ l. flat_map_after first_peer l (units_where takes units)) (sym (append-nil (units_where takes before)) ∙ ap (λ b. units_where takes before ++ cond b (u ∷ []) []) (sym left) ∙ sym on)
-          ∙ peers_from (before ++ u ∷ []) units
-          ∙ ap (λ l. l ++ filter takes rest) (none_new (list_any (λ v. peer_eq v.peer u.peer) before) u.peer left)
+            ap (λ l. flat_map_after first_peer l (units_where takes units)) (sym (append-nil (units_where takes before)) ∙ ap (λ b. units_where takes before ++ cond b (u ∷ []) []) (sym left) ∙ sym on)
+            ∙ peers_from (before ++ u ∷ []) units
+            ∙ ap (λ l. l ++ filter takes rest) (none_new (list_any (λ v. peer_eq v.peer u.peer) before) u.peer left)
       ] refl
       ∙ sym (filter-append takes (first_peer before u) rest)
 

@@ -7,8 +7,8 @@ ghost use Rattle.mrt_body.specs.declared.unit.Unit.{Unit as ReplayUnit};
 ghost use Rattle.peer_tables.specs.Peers.{peers_of, units_of_peer};
 ghost use Rattle.peer_tables.specs.Shares.{units_where};
 
-/// A replay of the units of some peers has these peers in the same order, each with all its units: so with the same table,
-/// churn and faults.
+/// A replay of the units of some peers has these peers in the same order, each with all its units: so with the same
+/// table, churn and faults.
 pub fn shares_keep_peers()
     ensures peers { (takes : AnyPeer → Bool) (units : List ReplayUnit) →
         peers_of (units_where takes units) ≡ filter takes (peers_of units) }

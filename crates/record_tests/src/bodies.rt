@@ -9,7 +9,7 @@ mod sizes;
 use bgp_update::Width;
 use fixtures::{bytes_of, message_of};
 use lines::next_of;
-use mrt_body::{Damage, Found, Payload, PeerAddr, Place, Unit, Units};
+use mrt_body::{Damage, Found, Payload, PeerAddr, Place, Selection, Unit, Units};
 use mrt_frame::{Counted, Fault, ReplayError};
 use std::alloc::Global;
 use std::process::Abort;
@@ -26,7 +26,7 @@ fn announcement_of_subtype(rt: &impl Abort, alloc: Global, subtype: u8) -> Vec<u
 fn found_in(rt: &impl Abort, alloc: Global, bytes: &[u8]) -> Vec<Found> {
     let mut files = [Counted::new(bytes)];
     let mut all = Vec::new(alloc);
-    let mut units = Units::new(1, 1000, None);
+    let mut units = Units::new(1, 1000, Selection::all(alloc));
     for _ in 0..1000 {
         match next_of(rt, alloc, &mut units, &mut files).expect(rt, "no error") {
             Some(found) => all.push(found).expect(rt, "memory for what is found"),
@@ -151,7 +151,7 @@ fn past_the_limit_on_records_the_units_are_spent(rt: HostRuntime) {
     let alloc = rt.alloc();
     let bytes = bytes_of(alloc, "announcement announcement").expect(&rt, "memory for a file");
     let mut files = [Counted::new(bytes.as_slice())];
-    let mut units = Units::new(1, 1, None);
+    let mut units = Units::new(1, 1, Selection::all(alloc));
     assert!(rt; matches!(next_of(&rt, alloc, &mut units, &mut files), Ok(Some(_))));
     for error in [ReplayError::Records, ReplayError::Spent, ReplayError::Spent] {
         let answer = next_of(&rt, alloc, &mut units, &mut files);

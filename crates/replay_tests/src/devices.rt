@@ -5,6 +5,7 @@ use adj_rib::SharedRoute;
 use bgp_prefix::Radix;
 use fixtures::{Dripping, THREE_PEERS, THREE_ROUTES, bytes_of};
 use lane_deal::{ByTurns, NoGate, Plan};
+use mrt_body::Selection;
 use mrt_frame::{Counted, ReplayError, Sink};
 use mrt_replay::{Summary, run, status};
 use rib_report::Request;
@@ -125,6 +126,7 @@ fn run_into(
         alloc,
         &mut readers,
         &Request::Tables,
+        Selection::all(alloc),
         &PLAN,
         &ByTurns,
         &NoGate,

@@ -8,6 +8,7 @@ use bgp_prefix::{Flat, PrefixMap, Radix};
 use command_line::{Usage, read_words};
 use fixtures::{THREE_PEERS, THREE_ROUTES, bytes_of};
 use lane_deal::{ByBlocks, ByList, ByTurns, Dealing, NoGate, Plan};
+use mrt_body::Selection;
 use mrt_frame::{Counted, ReplayError};
 use mrt_replay::run;
 use prefix_shelf::Shelf;
@@ -35,6 +36,7 @@ fn expect_report<M: PrefixMap<SharedRoute> + Send + Sync + Drop, D: Dealing + Sy
         alloc,
         &mut readers,
         request,
+        Selection::all(alloc),
         &PLAN,
         dealing,
         &NoGate,
@@ -76,6 +78,7 @@ fn a_run_of_each_request_writes_its_report_or_wants_memory(rt: HostRuntime) -> R
         (Request::Tables, lines),
         (Request::Visibility, "10.0.0.0/8|2\n"),
         (Request::Origins, ""),
+        (Request::Seen, "10.0.0.0/8|65000|2\n"),
         (Request::Churn, churns),
         (Request::Match(0x0A00_0001), lines),
         (Request::Faults, "1|56|2|14|BadAttribute(1)\n"),

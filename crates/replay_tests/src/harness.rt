@@ -2,9 +2,10 @@
 
 use adj_rib::SharedRoute;
 use bgp_prefix::{Flat, PrefixMap, Radix};
-use command_line::read_address;
+use command_line::{read_address, read_words};
 use fixtures::{Dripping, bytes_of};
 use lane_deal::{ByTurns, NoGate, Plan};
+use mrt_body::{PrefixChoice, Selection};
 use mrt_frame::{Counted, ReplayError, Source};
 use mrt_replay::{Summary, run, status};
 use prefix_shelf::Shelf;
@@ -22,7 +23,6 @@ pub const PLAN: Plan = Plan {
     batch: 8,
     looks: 0,
     max_records: 1 << 47,
-    until: None,
 };
 
 /// What a run answered, and what it wrote.
@@ -43,6 +43,24 @@ impl Outcome {
     }
 }
 
+/// Replays the selected units of these readers by turns, into memory.
+fn replay_selected<M: PrefixMap<SharedRoute> + Send + Sync + Drop, R: Source + Send>(
+    rt: &(impl Threads + Abort + Sync),
+    alloc: Global,
+    readers: &mut [R],
+    request: &Request,
+    selection: Selection,
+    plan: &Plan,
+) -> Result<Outcome, Fail> {
+    assert!(rt; plan.check());
+    let mut out = Counted::new(Vec::<u8>::new(alloc));
+    let result = run::<M, _, _, _, _, _>(
+        rt, alloc, readers, request, selection, plan, &ByTurns, &NoGate, &mut out,
+    );
+    let text = Vec::from_slice(alloc, out.device().as_slice())?;
+    Ok(Outcome { result, text })
+}
+
 /// Replays these readers by turns, into memory.
 pub fn replay_readers<M: PrefixMap<SharedRoute> + Send + Sync + Drop, R: Source + Send>(
     rt: &(impl Threads + Abort + Sync),
@@ -51,13 +69,17 @@ pub fn replay_readers<M: PrefixMap<SharedRoute> + Send + Sync + Drop, R: Source 
     request: &Request,
     plan: &Plan,
 ) -> Result<Outcome, Fail> {
-    assert!(rt; plan.check());
-    let mut out = Counted::new(Vec::<u8>::new(alloc));
-    let result = run::<M, _, _, _, _, _>(
-        rt, alloc, readers, request, plan, &ByTurns, &NoGate, &mut out,
-    );
-    let text = Vec::from_slice(alloc, out.device().as_slice())?;
-    Ok(Outcome { result, text })
+    let all = Selection::all(alloc);
+    replay_selected::<M, R>(rt, alloc, readers, request, all, plan)
+}
+
+/// Returns readers of files in memory.
+fn readers_of(alloc: Global, files: &[Vec<u8>]) -> Result<Vec<Counted<&[u8]>>, Fail> {
+    let mut readers = Vec::new(alloc);
+    for file in files {
+        readers.push(Counted::new(file.as_slice()))?;
+    }
+    Ok(readers)
 }
 
 /// Replays files in memory.
@@ -68,25 +90,8 @@ pub fn replay<M: PrefixMap<SharedRoute> + Send + Sync + Drop>(
     request: &Request,
     plan: &Plan,
 ) -> Result<Outcome, Fail> {
-    let mut readers = Vec::new(alloc);
-    for file in files {
-        readers.push(Counted::new(file.as_slice()))?;
-    }
+    let mut readers = readers_of(alloc, files)?;
     replay_readers::<M, _>(rt, alloc, readers.as_mut_slice(), request, plan)
-}
-
-/// Replays files from readers that give one byte a read.
-pub fn replay_slowly(
-    rt: &(impl Threads + Abort + Sync),
-    alloc: Global,
-    files: &[Vec<u8>],
-    request: &Request,
-) -> Result<Outcome, Fail> {
-    let mut readers = Vec::new(alloc);
-    for file in files {
-        readers.push(Counted::new(Dripping::new(file.as_slice(), None)))?;
-    }
-    replay_readers::<Shelf<SharedRoute>, _>(rt, alloc, readers.as_mut_slice(), request, &PLAN)
 }
 
 /// A row as far as it was read.
@@ -100,6 +105,7 @@ struct Row<'a> {
     counts: &'a str,
     rounds: Option<u64>,
     until: Option<u64>,
+    prefixes: Vec<PrefixChoice>,
 }
 
 /// A number of the summary, by its name. Rounds depend on the plan.
@@ -125,7 +131,93 @@ impl<'a> Row<'a> {
             counts: "",
             rounds: None,
             until: None,
+            prefixes: Vec::new(alloc),
         }
+    }
+
+    /// Which units count.
+    fn selection(&self, alloc: Global) -> Result<Selection, Fail> {
+        let prefixes = Vec::from_slice(alloc, self.prefixes.as_slice())?;
+        Ok(
+            Selection::all(alloc)
+                .up_to(self.until)
+                .of_prefixes(prefixes),
+        )
+    }
+
+    /// Takes options as on the command line: `--until` and `--prefix`.
+    fn take_options(&mut self, rt: &impl Abort, alloc: Global, options: &str) -> Result<(), Fail> {
+        let mut words = Vec::new(alloc);
+        words.push(String::from_str(alloc, "tables")?)?;
+        for word in options.split(' ') {
+            words.push(String::from_str(alloc, word)?)?;
+        }
+        words.push(String::from_str(alloc, "x")?)?;
+        match read_words(alloc, words.as_slice()) {
+            Ok(job) => {
+                self.until = job.until;
+                self.prefixes = Vec::from_slice(alloc, job.prefixes.as_slice())?;
+            }
+            Err(_) => assert!(rt; false, "options {options}"),
+        }
+        Ok(())
+    }
+
+    /// Begins a report with these options, where no line of it is expected yet.
+    fn begin(
+        &mut self,
+        rt: &impl Abort,
+        alloc: Global,
+        request: Request,
+        options: &str,
+    ) -> Result<(), Fail> {
+        self.until = None;
+        self.prefixes.clear();
+        if !options.is_empty() {
+            self.take_options(rt, alloc, options)?;
+        }
+        self.request = Some(request);
+        self.expected = Vec::new(alloc);
+        self.damaged = None;
+        self.counts = "";
+        self.rounds = None;
+        Ok(())
+    }
+
+    /// Replays the row by a plan with this map, and compares.
+    fn replay<M: PrefixMap<SharedRoute> + Send + Sync + Drop>(
+        &self,
+        rt: &(impl Threads + Abort + Sync),
+        alloc: Global,
+        request: &Request,
+        plan: &Plan,
+    ) -> Result<Outcome, Fail> {
+        let mut readers = readers_of(alloc, self.files.as_slice())?;
+        let selection = self.selection(alloc)?;
+        let readers = readers.as_mut_slice();
+        let outcome = replay_selected::<M, _>(rt, alloc, readers, request, selection, plan)?;
+        self.expect(rt, &outcome);
+        Ok(outcome)
+    }
+
+    /// Replays the row from readers that give one byte a read, and compares.
+    fn replay_slowly(
+        &self,
+        rt: &(impl Threads + Abort + Sync),
+        alloc: Global,
+        request: &Request,
+    ) -> Result<(), Fail> {
+        let mut readers = Vec::new(alloc);
+        for file in self.files.as_slice() {
+            readers.push(Counted::new(Dripping::new(file.as_slice(), None)))?;
+        }
+        let selection = self.selection(alloc)?;
+        let readers = readers.as_mut_slice();
+        let outcome = replay_selected::<Shelf<SharedRoute>, _>(
+            rt, alloc, readers, request, selection, &PLAN,
+        )?;
+        self.expect(rt, &outcome);
+        Ok(())
     }
 
     fn expect_counts(&self, rt: &impl Abort, summary: &Summary) {
@@ -160,29 +252,21 @@ impl<'a> Row<'a> {
         let Some(request) = &self.request else {
             return Ok(());
         };
-        let files = self.files.as_slice();
         for (workers, ring, batch) in [(2, 4, 8), (2, 1, 1), (1, 4, 8), (64, 4, 8)] {
             let plan = Plan {
                 workers,
                 ring,
                 batch,
-                until: self.until,
                 ..PLAN
             };
-            let radix = replay::<Radix<SharedRoute>>(rt, alloc, files, request, &plan)?;
-            self.expect(rt, &radix);
-            let flat = replay::<Flat<SharedRoute>>(rt, alloc, files, request, &plan)?;
-            self.expect(rt, &flat);
-            let shelf = replay::<Shelf<SharedRoute>>(rt, alloc, files, request, &plan)?;
-            self.expect(rt, &shelf);
+            let radix = self.replay::<Radix<SharedRoute>>(rt, alloc, request, &plan)?;
+            self.replay::<Flat<SharedRoute>>(rt, alloc, request, &plan)?;
+            self.replay::<Shelf<SharedRoute>>(rt, alloc, request, &plan)?;
             if workers == 2 && ring == 4 {
                 self.expect_rounds(rt, &radix);
             }
         }
-        if self.until.is_none() {
-            self.expect(rt, &replay_slowly(rt, alloc, files, request)?);
-        }
-        Ok(())
+        self.replay_slowly(rt, alloc, request)
     }
 
     /// Compares the rounds that the rows' plan took.
@@ -200,6 +284,7 @@ fn request_of(line: &str) -> Option<Request> {
         "tables" => Some(Request::Tables),
         "visibility" => Some(Request::Visibility),
         "origins" => Some(Request::Origins),
+        "seen" => Some(Request::Seen),
         "churn" => Some(Request::Churn),
         "faults" => Some(Request::Faults),
         _ => match line.strip_prefix("match ") {
@@ -209,10 +294,16 @@ fn request_of(line: &str) -> Option<Request> {
     }
 }
 
+/// The request that a line names, and the options behind `with`.
+fn report_of(line: &str) -> Option<(Request, &str)> {
+    let (name, options) = line.split_once(" with ").unwrap_or((line, ""));
+    Some((request_of(name)?, options))
+}
+
 /// Runs the rows of a table. A line `row NAME` begins a row, `file RECORDS` adds a file, the name of
-/// a request asks for its report, `> LINE` is a line of it, `damaged N` the number of listed faults,
-/// `counts ..` has numbers of the summary by their names, `rounds N` those of the rows' plan, and
-/// `until N` leaves out what came later.
+/// a request asks for its report, of the units that options behind `with` select, `> LINE` is a line
+/// of it, `damaged N` the number of listed faults, `counts ..` has numbers of the summary by their
+/// names, and `rounds N` those of the rows' plan.
 pub fn run_rows(
     rt: &(impl Threads + Abort + Sync),
     alloc: Global,
@@ -236,15 +327,9 @@ pub fn run_rows(
             row.counts = counts;
         } else if let Some(rounds) = line.strip_prefix("rounds ") {
             row.rounds = rounds.parse::<u64>().ok();
-        } else if let Some(second) = line.strip_prefix("until ") {
-            row.until = second.parse::<u64>().ok();
-        } else if let Some(request) = request_of(line) {
+        } else if let Some((request, options)) = report_of(line) {
             row.check(rt, alloc)?;
-            row.request = Some(request);
-            row.expected = Vec::new(alloc);
-            row.damaged = None;
-            row.counts = "";
-            row.rounds = None;
+            row.begin(rt, alloc, request, options)?;
         } else {
             assert!(rt; line.is_empty(), "a line that says nothing: {line}");
         }

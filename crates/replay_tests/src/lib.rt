@@ -19,3 +19,5 @@ mod peers;
 mod refusals;
 #[cfg(test)]
 mod rows;
+#[cfg(test)]
+mod selections;

@@ -32,7 +32,7 @@ const VISIBILITY: &str = "1.0.0.0/8|1
 20.0.0.0/8|5
 ";
 
-/// These divisors themselves, and 64000.
+/// The origin ASes of each: 64000 plus each of these divisors, if there are two of them.
 const ORIGINS: &str = "2.0.0.0/8|64001 64002
 3.0.0.0/8|64001 64003
 4.0.0.0/8|64001 64002 64004
@@ -73,8 +73,8 @@ fn append_index(bytes: &mut Vec<u8>) -> Result<(), Memory> {
     Ok(())
 }
 
-/// A RIB entry of each peer whose number divides another one. The peer's number and 64000 are the origin AS. Returns how
-/// many entries there are, of 21 bytes each.
+/// A RIB entry of each peer whose number divides another one. The origin AS is 64000 plus the peer's number. Returns
+/// how many entries there are, of 21 bytes each.
 fn append_entries(bytes: &mut Vec<u8>, number: u8) -> Result<u8, Memory> {
     let mut count = 0u8;
     for peer in 1..=19u8 {

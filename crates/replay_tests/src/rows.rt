@@ -65,8 +65,7 @@ churn
 > 65000 192.0.2.1|1|0|0|0|0|0|0|0|2.000000|2.000000
 row until-leaves-out
 file extended-announcement
-until 1
-churn
+churn with --until 1
 damaged 0
 ";
 
@@ -165,10 +164,16 @@ file announcement by-as-set
 visibility
 > 10.0.0.0/8|2
 origins
+seen
+> 10.0.0.0/8|65000|1
+> 10.0.0.0/8|-|1
 row two-origins
 file announcement by-other-origin
 origins
 > 10.0.0.0/8|65000 65001
+seen
+> 10.0.0.0/8|65000|1
+> 10.0.0.0/8|65001|1
 ";
 
 #[test]

@@ -1,31 +1,30 @@
--- What the rows of visibility, of origins and of faults say.
-use Rattle.std.proofs.Common.{◌≡◌, ℕ, zero, suc, ◌+◌, ◌<◌, ◌≤◌, Bool, true, false, cond, ◌||◌, List, [], ◌∷◌, Some, None, refl, sym, ap, ◌∙◌, subst, get_or, length, map, arith}
+-- What the rows of visibility, of seen, of origins and of faults say.
+use Rattle.std.proofs.Common.{◌≡◌, ℕ, zero, suc, ◌+◌, ◌<◌, ◌≤◌, Bool, true, false, cond, ◌||◌, List, [], ◌∷◌, Option, Some, None, refl, sym, ap, ◌∙◌, subst, get_or, length, map, arith}
 use Rattle.std.specs.Prelude.{IsTrue, nat_le}
 use Rattle.std.specs.declared.cmp.Ordering.{Ordering}
 use Rattle.std.specs.declared.cmp.Ordering.TheVariants.{Less, Equal, Greater}
-use Rattle.std.specs.Ordering.{eq_by_cmp, is_eq, is_lt, nat_cmp}
+use Rattle.std.specs.Ordering.{eq_by_cmp, is_lt, nat_cmp}
 use Rattle.std.specs.Cmp.{IsStrictWeakOrder}
-use Rattle.std.specs.List.{AllByRecursion, flat_map, filter, count_by, list_any}
+use Rattle.std.specs.List.{AllByRecursion, flat_map, filter, list_any}
 use Rattle.std.specs.List.Sorted.{ties, IsSortedBy, IsSortedByKey, IsStableByKey}
 use Rattle.std.specs.FinMap.Entries.{find, is_sorted, put, by_order, find-where_key, is_sorted-where_key}
 use Rattle.std.proofs.lemmas.Bool.{leb-true, le-leb}
-use Rattle.std.proofs.lemmas.List.Folds.{list_any-append}
 use Rattle.std.proofs.lemmas.List.Sorted.{ranks_by}
-use Rattle.std.proofs.lemmas.List.Sums.{sum_by-cons}
 use Rattle.bgp_prefix.specs.Prefixes.{IpPrefix, prefix_cmp, prefix_eq}
 use Rattle.bgp_prefix.specs.Ordered.{tabulated, in_order}
 use Rattle.bgp_prefix.proofs.KeyLaws.{prefix_cmp_total, prefix_cmp_exact, prefix_tied}
 use Rattle.bgp_prefix.proofs.OrderedLaws.{is_sorted-tabulated, find-tabulated}
 use Rattle.mrt_body.specs.declared.unit.Damage.{Damage}
-use Rattle.peer_tables.specs.Tables.{Seat, TablesState}
-use Rattle.rib_report.specs.Rows.{seen_pair, origins_pair}
-use Rattle.rib_report.specs.declared.reports.visibility.SeenRow.{SeenRow}
+use Rattle.peer_tables.specs.Tables.{TablesState}
+use Rattle.rib_report.specs.Rows.{visibility_pair, origins_pair, seen_pair}
 use Rattle.rib_report.specs.declared.reports.origins.OriginRow.{OriginRow}
-use Rattle.rib_report.specs.Reports.{seat_prefixes, table_prefixes, is_visible_at, visibility_of, visibility_rows, table_origins, origins_among, origins_of, has_several, grouped_origins, origin_rows, place_cmp, in_place_order}
+use Rattle.rib_report.specs.Reports.{seat_prefixes, table_prefixes, visibility_of, visible_among, visibility_rows, seat_prefix_origins, prefix_origin_cmp, prefix_origin_eq, seen_of, seen_among, seen_rows, table_origins, origins_among, origins_of, has_several, grouped_origins, origin_rows, place_cmp, in_place_order}
 use Rattle.rib_report.proofs.ListedLaws.{place_cmp_total, insertion_is}
 use Rattle.peer_tables.proofs.RowLaws.{map_twice}
 use Rattle.rib_report.proofs.RunLaws.{set_of}
-use Rattle.rib_report.proofs.SeenLaws.{true_of}
+use Rattle.rib_report.proofs.OrderLaws.{equal_of}
+use Rattle.rib_report.proofs.CountLaws.{true_of, count_from_entry, entry_from_count, entries_sorted}
+use Rattle.rib_report.proofs.SeenLaws.{prefix_origin_total, prefix_origin_exact, prefix_origin_tied}
 use Rattle.rib_report.proofs.StableSort.{Ascends, ascends_insertion, stable_insertion, insertion_by}
 
 -- ---- a value for each key of a set
@@ -51,66 +50,38 @@ module _ {K V : Type 0} (cmp : K → K → Ordering) (exact : (x y : K) → cmp 
 
 -- ---- visibility
 
-abbrev row_for : TablesState → IpPrefix → SeenRow
-row_for tables p = record { prefix = p; peers = visibility_of tables p }
+entries_are : (tables : TablesState) → map visibility_pair (visibility_rows tables) ≡ visible_among tables.seats
+entries_are tables = sym (map_twice (λ p. record { prefix = p; peers = visibility_of tables p }) visibility_pair (in_order prefix_cmp (table_prefixes tables)))
 
-rows_are : (tables : TablesState) → map seen_pair (visibility_rows tables) ≡ tabulated prefix_cmp (λ p. Some (visibility_of tables p)) (table_prefixes tables)
-rows_are tables =
-    sym (map_twice (row_for tables) seen_pair (in_order prefix_cmp (table_prefixes tables)))
-    ∙ sym (map_twice (λ (e : IpPrefix × Unit {0}). e.0) (λ p. (p, visibility_of tables p)) (set_of prefix_cmp (table_prefixes tables)))
-    ∙ paired_set prefix_cmp prefix_cmp_exact (visibility_of tables) (table_prefixes tables)
+pub visibility_from_row : (tables : TablesState) (p : IpPrefix) (n : ℕ) → find prefix_cmp p (map visibility_pair (visibility_rows tables)) ≡ Some n → (visibility_of tables p ≡ n) × (1 ≤ n)
+visibility_from_row tables p n e = count_from_entry prefix_cmp_total prefix_cmp_exact prefix_eq prefix_tied seat_prefixes tables.seats p n (ap (find prefix_cmp p) (sym (entries_are tables)) ∙ e)
 
-is_equal : (r : Ordering) → is_eq r ≡ true → r ≡ Equal
-is_equal Less h = absurd cc
-is_equal Equal h = refl
-is_equal Greater h = absurd cc
+pub row_from_visibility : (tables : TablesState) (p : IpPrefix) (n : ℕ) → (visibility_of tables p ≡ n) × (1 ≤ n) → find prefix_cmp p (map visibility_pair (visibility_rows tables)) ≡ Some n
+row_from_visibility tables p n h = ap (find prefix_cmp p) (entries_are tables) ∙ entry_from_count prefix_cmp_total prefix_cmp_exact prefix_eq prefix_tied seat_prefixes tables.seats p n h
 
-found : (tables : TablesState) (p : IpPrefix) → find prefix_cmp p (map seen_pair (visibility_rows tables)) ≡ cond (list_any (eq_by_cmp prefix_cmp p) (table_prefixes tables)) (Some (visibility_of tables p)) None
-found tables p =
-    ap (find prefix_cmp p) (rows_are tables)
-    ∙ find-tabulated prefix_cmp_total (λ q. Some (visibility_of tables q)) (λ q k tied. ap (λ r. Some (visibility_of tables r)) (sym (prefix_cmp_exact q k (is_equal (prefix_cmp q k) tied)))) p (table_prefixes tables)
+pub rows_sorted : (tables : TablesState) → IsTrue (is_sorted prefix_cmp (map visibility_pair (visibility_rows tables)))
+rows_sorted tables = subst (λ es. IsTrue (is_sorted prefix_cmp es)) (sym (entries_are tables)) (entries_sorted prefix_cmp_total prefix_cmp_exact prefix_eq prefix_tied seat_prefixes tables.seats)
+
+-- ---- seen
+
+seen_entries_are : (tables : TablesState) → map seen_pair (seen_rows tables) ≡ seen_among tables.seats
+seen_entries_are tables =
+    sym (map_twice (λ (e : IpPrefix × Option ℕ). record { prefix = e.0; origin = e.1; peers = seen_of tables e }) seen_pair (in_order prefix_origin_cmp (flat_map seat_prefix_origins tables.seats)))
+
+pub seen_from_row : (tables : TablesState) (e : IpPrefix × Option ℕ) (n : ℕ) → find prefix_origin_cmp e (map seen_pair (seen_rows tables)) ≡ Some n → (seen_of tables e ≡ n) × (1 ≤ n)
+seen_from_row tables e n h = count_from_entry prefix_origin_total prefix_origin_exact prefix_origin_eq prefix_origin_tied seat_prefix_origins tables.seats e n (ap (find prefix_origin_cmp e) (sym (seen_entries_are tables)) ∙ h)
+
+pub row_from_seen : (tables : TablesState) (e : IpPrefix × Option ℕ) (n : ℕ) → (seen_of tables e ≡ n) × (1 ≤ n) → find prefix_origin_cmp e (map seen_pair (seen_rows tables)) ≡ Some n
+row_from_seen tables e n h = ap (find prefix_origin_cmp e) (seen_entries_are tables) ∙ entry_from_count prefix_origin_total prefix_origin_exact prefix_origin_eq prefix_origin_tied seat_prefix_origins tables.seats e n h
+
+pub seen_sorted : (tables : TablesState) → IsTrue (is_sorted prefix_origin_cmp (map seen_pair (seen_rows tables)))
+seen_sorted tables = subst (λ es. IsTrue (is_sorted prefix_origin_cmp es)) (sym (seen_entries_are tables)) (entries_sorted prefix_origin_total prefix_origin_exact prefix_origin_eq prefix_origin_tied seat_prefix_origins tables.seats)
+
+-- ---- origins
 
 same_tests : (p : IpPrefix) (ps : List IpPrefix) → list_any (eq_by_cmp prefix_cmp p) ps ≡ list_any (prefix_eq p) ps
 same_tests p [] = refl
 same_tests p (q ∷ ps) = ap (λ b. b || list_any (eq_by_cmp prefix_cmp p) ps) (prefix_tied p q) ∙ ap (λ b. prefix_eq p q || b) (same_tests p ps)
-
--- a prefix of some table is visible at a peer
-visible_or : (b c : Bool) (n m : ℕ) → (c ≡ true → 1 ≤ n) → (1 ≤ n → c ≡ true) → m ≡ cond b 1 0 + n → ((b || c) ≡ true → 1 ≤ m) × (1 ≤ m → (b || c) ≡ true)
-visible_or true c n m there back e = ((λ h. omega arith), (λ h. refl))
-visible_or false c n m there back e = ((λ h. let low = there h in omega arith), (λ h. back (omega arith)))
-
-visible_somewhere : (p : IpPrefix) (seats : List Seat)
-    → (list_any (prefix_eq p) (flat_map seat_prefixes seats) ≡ true → 1 ≤ count_by (is_visible_at p) seats)
-    × (1 ≤ count_by (is_visible_at p) seats → list_any (prefix_eq p) (flat_map seat_prefixes seats) ≡ true)
-visible_somewhere p [] = ((λ h. absurd cc), (λ h. absurd (omega arith)))
-visible_somewhere p (s ∷ seats) =
-    let later = visible_somewhere p seats in
-    let split = list_any-append (prefix_eq p) (seat_prefixes s) (flat_map seat_prefixes seats) in
-    let both = visible_or (is_visible_at p s) (list_any (prefix_eq p) (flat_map seat_prefixes seats)) (count_by (is_visible_at p) seats) (count_by (is_visible_at p) (s ∷ seats)) later.0 later.1 (sum_by-cons (λ t. cond (is_visible_at p t) 1 0) s seats) in
-    ((λ h. both.0 (sym split ∙ h)), (λ h. split ∙ both.1 h))
-
-counted_where : (b : Bool) (m n : ℕ) → (b ≡ true → 1 ≤ m) → cond b (Some m) None ≡ Some n → (m ≡ n) × (1 ≤ n)
-counted_where true m n low e =
-    let same : m ≡ n = cc in
-    let least : 1 ≤ m = low refl in
-    (same, omega (arith, same, least))
-counted_where false m n low e = absurd cc
-
-pub visibility_from_row : (tables : TablesState) (p : IpPrefix) (n : ℕ) → find prefix_cmp p (map seen_pair (visibility_rows tables)) ≡ Some n → (visibility_of tables p ≡ n) × (1 ≤ n)
-visibility_from_row tables p n e =
-    counted_where (list_any (eq_by_cmp prefix_cmp p) (table_prefixes tables)) (visibility_of tables p) n
-    (λ h. (visible_somewhere p tables.seats).0 (sym (same_tests p (table_prefixes tables)) ∙ h)) (sym (found tables p) ∙ e)
-
-pub row_from_visibility : (tables : TablesState) (p : IpPrefix) (n : ℕ) → (visibility_of tables p ≡ n) × (1 ≤ n) → find prefix_cmp p (map seen_pair (visibility_rows tables)) ≡ Some n
-row_from_visibility tables p n h =
-    let low : 1 ≤ visibility_of tables p = omega (arith, h.0, h.1) in
-    let shown = same_tests p (table_prefixes tables) ∙ (visible_somewhere p tables.seats).1 low in
-    found tables p ∙ ap (λ b. cond b (Some (visibility_of tables p)) None) shown ∙ ap Some h.0
-
-pub rows_sorted : (tables : TablesState) → IsTrue (is_sorted prefix_cmp (map seen_pair (visibility_rows tables)))
-rows_sorted tables = subst (λ es. IsTrue (is_sorted prefix_cmp es)) (sym (rows_are tables)) (true_of _ (is_sorted-tabulated prefix_cmp_total (λ p. Some (visibility_of tables p)) (table_prefixes tables)))
-
--- ---- origins
 
 -- a test of values that the keys determine
 kept_by_key : {K V : Type 0} (value : K → V) (keeps : V → Bool) (es : List (K × Unit {0}))
@@ -153,7 +124,7 @@ origins_found : (tables : TablesState) (p : IpPrefix)
 origins_found tables p =
     ap (find prefix_cmp p) (pairs_are tables)
     ∙ find-where_key prefix_cmp (is_kept tables) p (λ q h. ap (is_kept tables) (sym (prefix_cmp_exact p q h))) (all_pairs tables)
-    ∙ ap (λ o. cond (is_kept tables p) o None) (find-tabulated prefix_cmp_total (λ q. Some (origins_of tables q)) (λ q k tied. ap (λ r. Some (origins_of tables r)) (sym (prefix_cmp_exact q k (is_equal (prefix_cmp q k) tied)))) p (all_prefixes tables))
+    ∙ ap (λ o. cond (is_kept tables p) o None) (find-tabulated prefix_cmp_total (λ q. Some (origins_of tables q)) (λ q k tied. ap (λ r. Some (origins_of tables r)) (sym (prefix_cmp_exact q k (equal_of (prefix_cmp q k) tied)))) p (all_prefixes tables))
 
 kept_where : (kept shown : Bool) (found origins : List ℕ) → (kept ≡ true → 2 ≤ length found) → cond kept (cond shown (Some found) None) None ≡ Some origins → (found ≡ origins) × (2 ≤ length origins)
 kept_where true true found origins low e =

@@ -16,8 +16,8 @@ use Rattle.mrt_body.specs.declared.unit.PeerKey.{PeerKey}
 use Rattle.mrt_body.specs.declared.unit.Damage.{Damage}
 use Rattle.adj_rib.specs.declared.churn.Churn.{Churn}
 use Rattle.peer_tables.specs.Tables.{Seat, TablesState}
-use Rattle.rib_report.specs.Reports.{route_rows, match_rows, visibility_rows, origin_rows, churn_rows, fault_rows, in_place_order}
-use Rattle.rib_report.specs.Lines.{route_line, visibility_line, origin_line, churn_line, fault_line}
+use Rattle.rib_report.specs.Reports.{route_rows, match_rows, visibility_rows, origin_rows, seen_rows, churn_rows, fault_rows, in_place_order}
+use Rattle.rib_report.specs.Lines.{route_line, visibility_line, origin_line, seen_line, churn_line, fault_line}
 
 abbrev end : List ℕ
 end = 10 ∷ []
@@ -60,6 +60,11 @@ visible = refl
 several : flat_map origin_line (origin_rows tables) ≡ codes "10.0.0.0/8|65001 65002" ++ end
 unfolding digits
 several = refl
+
+-- a peer counts once for two identifiers, and a path that ends in a set has no origin AS
+seen : flat_map seen_line (seen_rows tables) ≡ codes "0.0.0.0/0|65001|1" ++ end ++ codes "10.0.0.0/8|65001|2" ++ end ++ codes "10.0.0.0/8|65002|1" ++ end ++ codes "10.1.0.0/16|-|1" ++ end
+unfolding digits
+seen = refl
 
 matched : flat_map route_line (match_rows tables 0x0a01ffff)
     ≡ codes "65000 192.0.2.1|10.0.0.0/8|65000 65001|192.0.2.1|IGP|-|-|-|-" ++ end
@@ -140,6 +145,10 @@ greatest_visibility = refl
 greatest_origins : origin_line (record { prefix = record { addr = 0xfffffffe; len = 31 }; origins = 0 ∷ 65000 ∷ 0xffffffff ∷ [] }) ≡ codes "255.255.255.254/31|0 65000 4294967295" ++ end
 unfolding digits
 greatest_origins = refl
+
+greatest_seen : seen_line (record { prefix = record { addr = 0xffffffff; len = 32 }; origin = Some 0xffffffff; peers = 0xffffffffffffffff }) ≡ codes "255.255.255.255/32|4294967295|18446744073709551615" ++ end
+unfolding digits
+greatest_seen = refl
 
 abbrev churn_between : Option ℕ → Option ℕ → Churn
 churn_between first last = record { added = 0xffffffffffffffff; changed = 0; same = 0; gone = 0; void = 0; resets = 0; idle = 0; refused = 0xffffffffffffffff; first = first; last = last }

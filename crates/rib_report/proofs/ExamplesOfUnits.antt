@@ -24,8 +24,8 @@ use Rattle.adj_rib.specs.Churns.{outcomes_of, churn_of, damaged_of}
 use Rattle.adj_rib.specs.Sessions.{session_of}
 use Rattle.peer_tables.specs.Peers.{peers_of}
 use Rattle.peer_tables.specs.Tables.{tables_of}
-use Rattle.rib_report.specs.Reports.{route_rows, match_rows, visibility_rows, origin_rows, churn_rows, fault_rows}
-use Rattle.rib_report.specs.Lines.{route_line, visibility_line, origin_line, churn_line, fault_line}
+use Rattle.rib_report.specs.Reports.{route_rows, match_rows, visibility_rows, origin_rows, seen_rows, churn_rows, fault_rows}
+use Rattle.rib_report.specs.Lines.{route_line, visibility_line, origin_line, seen_line, churn_line, fault_line}
 
 abbrev end : List ℕ
 end = 10 ∷ []
@@ -86,6 +86,10 @@ visible = refl
 several : flat_map origin_line (origin_rows (tables_of units refused)) ≡ codes "10.0.0.0/8|65000 65001" ++ end
 unfolding digits items_after attribute_at attributes_in value_fault route_from route_in path_in segment_at segment_field_at written_key_at keys_in route_keys_in key_at reach_in reach_at unreach_in next_hop_of reached_keys unreached_keys fields_in said_update update_in message_in message_event_in event_in unit_steps steps_of route_eq outcomes_of churn_of damaged_of table_of session_of peers_of tables_of
 several = refl
+
+seen : flat_map seen_line (seen_rows (tables_of units refused)) ≡ codes "0.0.0.0/0|65000|1" ++ end ++ codes "10.0.0.0/8|65000|1" ++ end ++ codes "10.0.0.0/8|65001|1" ++ end
+unfolding digits items_after attribute_at attributes_in value_fault route_from route_in path_in segment_at segment_field_at written_key_at keys_in route_keys_in key_at reach_in reach_at unreach_in next_hop_of reached_keys unreached_keys fields_in said_update update_in message_in message_event_in event_in unit_steps steps_of route_eq outcomes_of churn_of damaged_of table_of session_of peers_of tables_of
+seen = refl
 
 counted : flat_map churn_line (churn_rows (tables_of units refused))
     ≡ codes "65000 192.0.2.1|3|0|0|1|0|0|0|0|1.000000|2.000000" ++ end ++ codes "65000 192.0.2.2|1|0|0|0|0|0|0|1|1.000000|3.000000" ++ end

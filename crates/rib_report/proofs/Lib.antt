@@ -7,8 +7,12 @@ pub mod RunLaws
 pub mod StableSort
 pub mod ListedLaws
 pub mod MergeLaws
-pub mod SeenLaws
+pub mod OrderLaws
+pub mod HalvesLaws
+pub mod CountLaws
+pub mod VisibilityLaws
 pub mod OriginLaws
+pub mod SeenLaws
 pub mod MatchLaws
 pub mod ShortNumbers
 pub mod UnitReportLaws

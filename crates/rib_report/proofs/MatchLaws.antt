@@ -15,7 +15,7 @@ use Rattle.bgp_update.specs.declared.route.Route.{Route}
 use Rattle.mrt_body.specs.declared.unit.PeerKey.{PeerKey}
 use Rattle.rib_report.specs.Reports.{entry_row, path_row, matches_entry, yields, is_longest}
 use Rattle.rib_report.proofs.OriginLaws.{any_map}
-use Rattle.rib_report.proofs.SeenLaws.{own_itself}
+use Rattle.rib_report.proofs.VisibilityLaws.{own_itself}
 use Rattle.rib_report.proofs.RunLaws.{all_from_index}
 
 -- ---- tests of lists

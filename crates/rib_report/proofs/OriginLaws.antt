@@ -1,14 +1,11 @@
 -- Pairs of prefixes and origin ASes, by prefix.
-use Rattle.std.proofs.Common.{◌≡◌, ◌≢◌, ℕ, zero, suc, ◌+◌, ◌<◌, ◌≤◌, Bool, true, false, cond, ◌&&◌, ◌||◌, eqb, ltb, List, [], ◌∷◌, ◌++◌, Some, T, refl, sym, ap, ◌∙◌, subst, append-nil, append_assoc, length, get_or, take, drop, take-append-drop, length-drop, length-take-le, map, arith}
+use Rattle.std.proofs.Common.{◌≡◌, ◌≢◌, ℕ, zero, suc, ◌+◌, ◌<◌, ◌≤◌, ◌^◌, Bool, true, false, cond, ◌&&◌, ◌||◌, eqb, ltb, List, [], ◌∷◌, ◌++◌, refl, sym, ap, ◌∙◌, subst, append-nil, append_assoc, length, get_or, take, drop, take-append-drop, length-drop, length-take-le, map, arith}
 use Rattle.std.specs.declared.cmp.Ordering.{Ordering}
 use Rattle.std.specs.declared.cmp.Ordering.TheVariants.{Less, Equal, Greater}
-use Rattle.std.specs.Ordering.{nat_cmp, is_eq, is_lt, eq_by_cmp, ordering_then, ordering_reverse}
+use Rattle.std.specs.Ordering.{nat_cmp, is_eq, eq_by_cmp, ordering_then, ordering_reverse}
 use Rattle.std.specs.Cmp.{IsTotalOrder}
-use Rattle.std.specs.List.{AllByRecursion, AllWithin, dedup, dedup_from, filter, flat_map, list_any}
+use Rattle.std.specs.List.{AllByRecursion, AllWithin, dedup, filter, flat_map, list_any}
 use Rattle.std.specs.List.Sorted.{IsSorted, IsStrictlySortedBy, IsPermutation}
-use Rattle.std.specs.FinMap.Entries.{by_order, put, is_sorted, below_all}
-use Rattle.std.proofs.lemmas.List.Kept.{IsStrictlySortedBy-dedup}
-use Rattle.std.proofs.lemmas.List.Sorted.{list_any-IsPermutation}
 use Rattle.std.proofs.lemmas.Bool.{ltb-true, eqb-true, le-leb, lt-leb}
 use Rattle.std.proofs.lemmas.Cmp.{on_total, then_total, nat_cmp_total, tied_itself}
 use Rattle.std.proofs.lemmas.List.{length-map, map-append, get_or-take, get_or-drop}
@@ -18,14 +15,15 @@ use Rattle.std.proofs.lemmas.Map.Lookups.{exact_pairs, exact_unsigned}
 use Rattle.bgp_prefix.specs.Prefixes.{IpPrefix, prefix_cmp, prefix_eq}
 use Rattle.bgp_prefix.specs.Ordered.{in_order}
 use Rattle.peer_tables.specs.Tables.{Seat, TablesState}
-use Rattle.bgp_prefix.proofs.OrderedLaws.{is_sorted-tabulated}
 use Rattle.bgp_prefix.proofs.KeyLaws.{prefix_cmp_total, prefix_cmp_exact, prefix_tied}
 use Rattle.rib_report.specs.declared.reports.origins.OriginRow.{OriginRow}
+use Rattle.rib_report.specs.Merges.{merged}
 use Rattle.rib_report.specs.Runs.{pair_cmp, pair_eq}
-use Rattle.rib_report.specs.Reports.{seat_origins, table_origins, has_several, origins_among, grouped_origins, origin_rows}
-use Rattle.rib_report.proofs.RunLaws.{set_of, set_same, set_run, below_set, put_front, map_same, all_of, all_mapped, all_from_index}
-use Rattle.rib_report.proofs.MergeLaws.{first_of, second_of, joined, joined_in_order}
-use Rattle.rib_report.proofs.SeenLaws.{twice, own_itself, is_less, halves}
+use Rattle.rib_report.specs.Reports.{seat_origins, origins_in_order, table_origins, has_several, origins_among, grouped_origins, origin_rows}
+use Rattle.rib_report.proofs.RunLaws.{set_of, set_same, set_run, below_set, map_same, all_of, all_mapped, all_from_index}
+use Rattle.rib_report.proofs.MergeLaws.{joined_in_order}
+use Rattle.rib_report.proofs.OrderLaws.{any_in_order, in_order_rises, rising, deduped_in_order}
+use Rattle.rib_report.proofs.VisibilityLaws.{own_itself}
 
 -- ---- the order of pairs
 
@@ -35,7 +33,7 @@ pair_cmp_total = then_total (on_total (λ (e : IpPrefix × ℕ). e.0) prefix_cmp
 pub pair_cmp_exact : (a b : IpPrefix × ℕ) → pair_cmp a b ≡ Equal → a ≡ b
 pair_cmp_exact a b h = exact_pairs prefix_cmp nat_cmp prefix_cmp_exact exact_unsigned a b h
 
-tied_then : (r o : Ordering) → is_eq (ordering_then r o) ≡ (is_eq r && is_eq o)
+pub tied_then : (r o : Ordering) → is_eq (ordering_then r o) ≡ (is_eq r && is_eq o)
 tied_then Less o = refl
 tied_then Equal o = refl
 tied_then Greater o = refl
@@ -44,7 +42,7 @@ not_tied : (b : Bool) → (b ≡ true → ⊥) → false ≡ b
 not_tied true h = absurd (h refl)
 not_tied false h = refl
 
-number_tied : (a b : ℕ) → is_eq (nat_cmp a b) ≡ eqb a b
+pub number_tied : (a b : ℕ) → is_eq (nat_cmp a b) ≡ eqb a b
 number_tied a b =
     elim (ltb a b) as (λ v. ltb a b ≡ v → is_eq (cond v Less (cond (eqb a b) Equal Greater)) ≡ eqb a b) [
       | true ↦ λ e. let lt : a < b = ltb-true a b e in not_tied (eqb a b) (λ same. let is : a ≡ b = eqb-true a b same in omega (arith, lt, is))
@@ -54,27 +52,7 @@ number_tied a b =
 pub pair_tied : (a b : IpPrefix × ℕ) → pair_eq a b ≡ eq_by_cmp pair_cmp a b
 pair_tied a b = sym (tied_then (prefix_cmp a.0 b.0) (nat_cmp a.1 b.1) ∙ ap (λ v. v && is_eq (nat_cmp a.1 b.1)) (prefix_tied a.0 b.0) ∙ ap (λ v. prefix_eq a.0 b.0 && v) (number_tied a.1 b.1))
 
-equal_of : (r : Ordering) → is_eq r ≡ true → r ≡ Equal
-equal_of Less e = cc
-equal_of Equal e = refl
-equal_of Greater e = cc
-
-pair_same : (a b : IpPrefix × ℕ) → pair_eq a b ≡ true → a ≡ b
-pair_same a b e = pair_cmp_exact a b (equal_of (pair_cmp a b) (sym (pair_tied a b) ∙ e))
-
 -- ---- lists with the same pairs
-
-any_from : (f : IpPrefix × ℕ → Bool) (k : IpPrefix × ℕ) (xs : List (IpPrefix × ℕ)) → list_any f (dedup_from pair_eq k xs) ≡ (f k || list_any f xs)
-any_from f k [] = refl
-any_from f k (x ∷ xs) =
-    elim (pair_eq x k) as (λ b. pair_eq x k ≡ b → list_any f (cond b (dedup_from pair_eq k xs) (k ∷ dedup_from pair_eq x xs)) ≡ (f k || (f x || list_any f xs))) [
-      | true ↦ λ same. any_from f k xs ∙ twice (f k) (list_any f xs) ∙ ap (λ y. f k || (f y || list_any f xs)) (sym (pair_same x k same))
-      | false ↦ λ _. ap (λ b. f k || b) (any_from f x xs)
-    ] refl
-
-pub any_dedup : (f : IpPrefix × ℕ → Bool) (xs : List (IpPrefix × ℕ)) → list_any f (dedup pair_eq xs) ≡ list_any f xs
-any_dedup f [] = refl
-any_dedup f (x ∷ xs) = any_from f x xs
 
 pub any_map : {X Y : Type 0} (f : Y → Bool) (g : X → Y) (xs : List X) → list_any f (map g xs) ≡ list_any (λ x. f (g x)) xs
 any_map f g [] = refl
@@ -112,55 +90,15 @@ module _ (xs ys : List (IpPrefix × ℕ)) (same : (f : IpPrefix × ℕ → Bool)
 
 -- ---- pairs in order
 
-either_way : (a b c : Bool) → (a || (b || c)) ≡ (b || (a || c))
-either_way true true c = refl
-either_way true false c = refl
-either_way false b c = refl
-
-abbrev keys_of : List ((IpPrefix × ℕ) × Unit {0}) → List (IpPrefix × ℕ)
-keys_of es = map (λ e. e.0) es
-
-any_put : (f : IpPrefix × ℕ → Bool) (k : IpPrefix × ℕ) (es : List ((IpPrefix × ℕ) × Unit {0})) → list_any f (keys_of (put pair_cmp k tt es)) ≡ (f k || list_any f (keys_of es))
-any_put f k [] = refl
-any_put f k (e ∷ es) =
-    elim (pair_cmp k e.0) as (λ r. pair_cmp k e.0 ≡ r → list_any f (keys_of (by_order r ((k, tt) ∷ e ∷ es) ((e.0, tt) ∷ es) (e ∷ put pair_cmp k tt es))) ≡ (f k || (f e.0 || list_any f (keys_of es)))) [
-      | Less ↦ λ _. refl
-      | Equal ↦ λ same. twice (f e.0) (list_any f (keys_of es)) ∙ ap (λ x. f x || (f e.0 || list_any f (keys_of es))) (sym (pair_cmp_exact k e.0 same))
-      | Greater ↦ λ _. ap (λ b. f e.0 || b) (any_put f k es) ∙ either_way (f e.0) (f k) (list_any f (keys_of es))
-    ] refl
-
-any_in_order : (f : IpPrefix × ℕ → Bool) (xs : List (IpPrefix × ℕ)) → list_any f (in_order pair_cmp xs) ≡ list_any f xs
-any_in_order f [] = refl
-any_in_order f (x ∷ xs) = any_put f x (set_of pair_cmp xs) ∙ ap (λ b. f x || b) (any_in_order f xs)
-
 -- in order they are grouped as before
 pub grouped_in_order : (xs : List (IpPrefix × ℕ)) → grouped_origins (in_order pair_cmp xs) ≡ grouped_origins xs
-grouped_in_order xs = grouped_same (in_order pair_cmp xs) xs (λ f. any_in_order f xs)
-
-above_all : (x : IpPrefix × ℕ) (es : List ((IpPrefix × ℕ) × Unit {0})) → T (below_all pair_cmp x es) → AllByRecursion (λ y. pair_cmp x y ≡ Less) (keys_of es)
-above_all x [] h = tt
-above_all x (e ∷ es) h = (is_less (pair_cmp x e.0) (first_of _ (below_all pair_cmp x es) h), above_all x es (second_of (is_lt (pair_cmp x e.0)) _ h))
-
-keys_rise : (es : List ((IpPrefix × ℕ) × Unit {0})) → T (is_sorted pair_cmp es) → IsStrictlySortedBy pair_cmp (keys_of es)
-unfolding IsStrictlySortedBy
-keys_rise [] h = tt
-keys_rise (e ∷ es) h = (above_all e.0 es (first_of _ (is_sorted pair_cmp es) h), keys_rise es (second_of (below_all pair_cmp e.0 es) _ h))
-
-pub pairs_rise : (xs : List (IpPrefix × ℕ)) → IsStrictlySortedBy pair_cmp (in_order pair_cmp xs)
-pairs_rise xs = keys_rise (set_of pair_cmp xs) (is_sorted-tabulated pair_cmp_total (λ _. Some tt) xs)
-
--- ---- a run of one prefix
-
-rising : {K : Type 0} {cmp : K → K → Ordering} (o : IsTotalOrder cmp) (xs : List K) → IsStrictlySortedBy cmp xs → in_order cmp xs ≡ xs
-unfolding IsStrictlySortedBy
-rising o [] h = refl
-rising {cmp = cmp} o (x ∷ xs) h = ap (λ es. map (λ (e : _ × Unit {0}). e.0) es) (put_front o x (set_of cmp xs) (below_set o x xs h.0)) ∙ ap (λ l. x ∷ l) (rising o xs h.1)
+grouped_in_order xs = grouped_same (in_order pair_cmp xs) xs (λ f. any_in_order pair_cmp_total pair_cmp_exact f xs)
 
 -- a sorted list without repeats has the pairs of another list in order
-pub deduped_in_order : (sorted xs : List (IpPrefix × ℕ)) → IsSorted pair_cmp sorted → IsPermutation xs sorted → dedup pair_eq sorted ≡ in_order pair_cmp xs
-deduped_in_order sorted xs up moved =
-    sym (rising pair_cmp_total (dedup pair_eq sorted) (IsStrictlySortedBy-dedup pair_cmp_total pair_tied sorted up))
-    ∙ ap keys_of (set_same pair_cmp_total pair_cmp_exact (dedup pair_eq sorted) xs (λ q. any_dedup (eq_by_cmp pair_cmp q) sorted ∙ sym (list_any-IsPermutation (eq_by_cmp pair_cmp q) xs sorted moved)))
+pub deduped_pairs : (sorted xs : List (IpPrefix × ℕ)) → IsSorted pair_cmp sorted → IsPermutation xs sorted → dedup pair_eq sorted ≡ in_order pair_cmp xs
+deduped_pairs = deduped_in_order pair_cmp_total pair_cmp_exact pair_eq pair_tied
+
+-- ---- a run of one prefix
 
 keep_own : (p : IpPrefix) (xs : List (IpPrefix × ℕ)) → AllByRecursion (λ e. e.0 ≡ p) xs → filter (own p) xs ≡ xs
 keep_own p [] h = refl
@@ -180,7 +118,7 @@ module _ (s : IpPrefix × ℕ) (same rest : List (IpPrefix × ℕ)) (run : AllBy
       let none = drop_others s.0 rest (all_changed (λ e less. sym (prefix_tied s.0 e.0) ∙ ap is_eq less) rest above) in
       let kept : filter (own s.0) (s ∷ (same ++ rest)) ≡ s ∷ same =
       filter-append (own s.0) (s ∷ same) rest ∙ ap (λ l. filter (own s.0) (s ∷ same) ++ l) none ∙ append-nil (filter (own s.0) (s ∷ same)) ∙ keep_own s.0 (s ∷ same) (refl, run) in
-      ap (λ l. row_of s.0 (in_order nat_cmp (numbers l))) kept ∙ ap (row_of s.0) (rising nat_cmp_total (numbers (s ∷ same)) up)
+      ap (λ l. row_of s.0 (in_order nat_cmp (numbers l))) kept ∙ ap (row_of s.0) (rising nat_cmp_total exact_unsigned (numbers (s ∷ same)) up)
 
   later_origins : (q : IpPrefix) → prefix_cmp s.0 q ≡ Less → origins_among (s ∷ (same ++ rest)) q ≡ origins_among rest q
   later_origins q less =
@@ -304,15 +242,15 @@ single_run xs run later p rows all single groups before =
     ap (filter has_several) groups ∙ ap (λ b. cond b (row ∷ filter has_several (grouped_origins later)) (filter has_several (grouped_origins later))) fails in
     ap (λ l. rows ++ l) (sym kept) ∙ before
 
--- the pairs of halves, joined, are those of all
-pub joined_pairs : {X : Type 0} (seen : X → Seat) (m : ℕ) (seats front back : List X) (first second : List (IpPrefix × ℕ)) → front ≡ take m seats → back ≡ drop m seats → first ≡ in_order pair_cmp (flat_map seat_origins (map seen front)) → second ≡ in_order pair_cmp (flat_map seat_origins (map seen back)) → joined pair_cmp first second ≡ in_order pair_cmp (flat_map seat_origins (map seen seats))
-joined_pairs seen m seats front back first second is_front is_back in_first in_second =
-    joined_in_order pair_cmp_total pair_cmp_exact (flat_map seat_origins (map seen front)) (flat_map seat_origins (map seen back)) first second in_first in_second
-    ∙ ap (in_order pair_cmp) (sym (flat_map-append seat_origins (map seen front) (map seen back)) ∙ ap (flat_map seat_origins) (halves seen m seats front back is_front is_back))
+-- the pairs of two groups of peers, joined, are those of both
+pub merged_origins : (xs ys : List Seat) → length xs + length ys < 2 ^ 64 → merged pair_cmp (λ x _. x) (origins_in_order xs) (origins_in_order ys) ≡ origins_in_order (xs ++ ys)
+merged_origins xs ys few =
+    joined_in_order pair_cmp_total pair_cmp_exact (flat_map seat_origins xs) (flat_map seat_origins ys) (origins_in_order xs) (origins_in_order ys) refl refl
+    ∙ ap (in_order pair_cmp) (sym (flat_map-append seat_origins xs ys))
 
 -- what lists the pairs of all peers has the order that its runs need, and these are the rows of the report
-pub rows_of_pairs : (tables : TablesState) (pairs : List (IpPrefix × ℕ)) (seats : List Seat) → pairs ≡ in_order pair_cmp (flat_map seat_origins seats) → seats ≡ tables.seats
+pub rows_of_pairs : (tables : TablesState) (pairs : List (IpPrefix × ℕ)) (seats : List Seat) → pairs ≡ origins_in_order seats → seats ≡ tables.seats
     → IsStrictlySortedBy pair_cmp pairs × (filter has_several (grouped_origins pairs) ≡ origin_rows tables)
 rows_of_pairs tables pairs seats listed all =
-    let whole : pairs ≡ in_order pair_cmp (table_origins tables) = listed ∙ ap (λ l. in_order pair_cmp (flat_map seat_origins l)) all in
-    (subst (IsStrictlySortedBy pair_cmp) (sym whole) (pairs_rise (table_origins tables)), ap (λ l. filter has_several (grouped_origins l)) whole ∙ ap (filter has_several) (grouped_in_order (table_origins tables)))
+    let whole : pairs ≡ in_order pair_cmp (table_origins tables) = listed ∙ ap origins_in_order all in
+    (subst (IsStrictlySortedBy pair_cmp) (sym whole) (in_order_rises pair_cmp_total pair_cmp_exact (table_origins tables)), ap (λ l. filter has_several (grouped_origins l)) whole ∙ ap (filter has_several) (grouped_in_order (table_origins tables)))

@@ -1,5 +1,5 @@
 -- Reports on tables that stand for units and refusals, over these alone.
-use Rattle.std.proofs.Common.{◌≡◌, ℕ, ◌+◌, Bool, cond, List, [], ◌∷◌, ◌++◌, refl, ap, ◌∙◌, subst, sym, map}
+use Rattle.std.proofs.Common.{◌≡◌, ℕ, ◌+◌, Bool, cond, List, [], ◌∷◌, ◌++◌, Option, refl, ap, ◌∙◌, subst, sym, map}
 use Rattle.std.specs.List.{flat_map, filter, filter_map, count_by}
 use Rattle.std.proofs.lemmas.List.Sums.{sum_by-cons}
 use Rattle.bgp_prefix.specs.Prefixes.{IpPrefix, prefix_cmp}
@@ -13,8 +13,8 @@ use Rattle.peer_tables.specs.Peers.{peers_of, units_of_peer}
 use Rattle.peer_tables.specs.Tables.{Seat, TablesState, tables_of}
 use Rattle.peer_tables.specs.Standing.{StandFor}
 use Rattle.rib_report.specs.declared.reports.churn.ChurnRow.{ChurnRow}
-use Rattle.rib_report.specs.Reports.{entry_row, is_longest, origin_pair, grouped_origins, has_several, in_place_order, rows_of_seat, matches_of_seat, seat_prefixes, is_visible_at, seat_origins, peer_churn}
-use Rattle.rib_report.specs.UnitReports.{table_at, prefixes_at, is_visible, HasReportsOf, HaveSameTexts}
+use Rattle.rib_report.specs.Reports.{entry_row, is_longest, origin_pair, grouped_origins, has_several, in_place_order, rows_of_seat, matches_of_seat, seat_prefixes, is_visible_at, seat_origins, prefix_origin_cmp, seat_prefix_origins, is_seen_at, peer_churn}
+use Rattle.rib_report.specs.UnitReports.{table_at, prefixes_at, is_visible, prefix_origins_at, is_seen, HasReportsOf, HaveSameTexts}
 use Rattle.peer_tables.proofs.StandingLaws.{peer_seat, seats_from, StandFor-only}
 
 module _ (units : List ReplayUnit) where
@@ -45,6 +45,14 @@ module _ (units : List ReplayUnit) where
   unfolding session_of
   visible_at p = count_of_peers (is_visible_at p) (is_visible units p) (λ n q. refl) 0 (peers_of units)
 
+  prefix_origins : flat_map seat_prefix_origins (seats_from units 0 (peers_of units)) ≡ flat_map (prefix_origins_at units) (peers_of units)
+  unfolding session_of
+  prefix_origins = pieces_of_peers seat_prefix_origins (prefix_origins_at units) (λ n q. refl) 0 (peers_of units)
+
+  seen_at : (e : IpPrefix × Option ℕ) → count_by (is_seen_at e) (seats_from units 0 (peers_of units)) ≡ count_by (is_seen units e) (peers_of units)
+  unfolding session_of
+  seen_at e = count_of_peers (is_seen_at e) (is_seen units e) (λ n q. refl) 0 (peers_of units)
+
   churn_at : PeerKey → ChurnRow
   churn_at q = record { peer = q; churn = churn_of (units_of_peer units q) }
 
@@ -53,11 +61,13 @@ unfolding tables_of session_of churn_at
 HasReportsOf-tables_of units refused =
     let peers : List PeerKey = peers_of units in
     let shown : flat_map seat_prefixes (seats_from units 0 peers) ≡ flat_map (prefixes_at units) peers = prefixes units in
+    let origins_shown : flat_map seat_prefix_origins (seats_from units 0 peers) ≡ flat_map (prefix_origins_at units) peers = prefix_origins units in
     record {
       routes = pieces_of_peers units rows_of_seat (λ q. map (entry_row q) (table_at units q)) (λ n q. refl) 0 peers;
       matches = λ addr. pieces_of_peers units (matches_of_seat addr) (λ q. map (entry_row q) (filter (is_longest addr (table_at units q)) (table_at units q))) (λ n q. refl) 0 peers;
       visibility = λ i. map (λ p. record { prefix = p; peers = visible_at units p i }) (in_order prefix_cmp (shown i));
       origins = ap (λ pairs. filter has_several (grouped_origins pairs)) (pieces_of_peers units seat_origins (λ q. filter_map origin_pair (table_at units q)) (λ n q. refl) 0 peers);
+      seen = λ i. map (λ e. record { prefix = e.0; origin = e.1; peers = seen_at units e i }) (in_order prefix_origin_cmp (origins_shown i));
       churn = rows_of_peers units peer_churn (churn_at units) (λ n q. refl) 0 peers;
       faults = ap (λ listed. in_place_order (refused ++ listed)) (pieces_of_peers units (λ s. s.session.faults) (λ q. damaged_of (units_of_peer units q)) (λ n q. refl) 0 peers);
     }
@@ -66,7 +76,7 @@ pub HasReportsOf-standing : (tables : TablesState) (units : List ReplayUnit) (re
 HasReportsOf-standing tables units refused h = subst (HasReportsOf units refused) (sym (StandFor-only tables units refused h)) (HasReportsOf-tables_of units refused)
 
 same_texts : (one : TablesState) → HaveSameTexts one one
-same_texts one = record { routes = refl; matches = λ addr. refl; visibility = refl; origins = refl; churn = refl; faults = refl }
+same_texts one = record { routes = refl; matches = λ addr. refl; visibility = refl; origins = refl; seen = refl; churn = refl; faults = refl }
 
 pub HaveSameTexts-standing : (one other : TablesState) (units : List ReplayUnit) (refused : List Damage) → StandFor one units refused → StandFor other units refused → HaveSameTexts one other
 HaveSameTexts-standing one other units refused a b = subst (HaveSameTexts one) (StandFor-only one units refused a ∙ sym (StandFor-only other units refused b)) (same_texts one)

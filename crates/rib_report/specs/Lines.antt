@@ -18,8 +18,9 @@ use Rattle.mrt_body.specs.declared.unit.PeerAddr.TheVariants.{V4, V6}
 use Rattle.mrt_body.specs.declared.unit.PeerKey.{PeerKey}
 use Rattle.mrt_body.specs.declared.unit.Damage.{Damage}
 use Rattle.rib_report.specs.Rows.{TableRow}
-use Rattle.rib_report.specs.declared.reports.visibility.SeenRow.{SeenRow}
+use Rattle.rib_report.specs.declared.reports.visibility.VisibilityRow.{VisibilityRow}
 use Rattle.rib_report.specs.declared.reports.origins.OriginRow.{OriginRow}
+use Rattle.rib_report.specs.declared.reports.seen.SeenRow.{SeenRow}
 use Rattle.rib_report.specs.declared.reports.churn.ChurnRow.{ChurnRow}
 
 -- ---- peers and routes
@@ -77,11 +78,14 @@ route_line row = line (peer_text row.peer ∷ key_text row.key
     ∷ field decimal row.route.med ∷ field decimal row.route.local_pref
     ∷ atomic_text row.route.atomic ∷ field aggregator_text row.route.aggregator ∷ [])
 
-abbrev pub visibility_line : SeenRow → List ℕ
+abbrev pub visibility_line : VisibilityRow → List ℕ
 visibility_line row = line (prefix_text row.prefix ∷ decimal row.peers ∷ [])
 
 abbrev pub origin_line : OriginRow → List ℕ
 origin_line row = line (prefix_text row.prefix ∷ numbers_text 32 row.origins ∷ [])
+
+abbrev pub seen_line : SeenRow → List ℕ
+seen_line row = line (prefix_text row.prefix ∷ field decimal row.origin ∷ decimal row.peers ∷ [])
 
 -- peer, new, changed, same, gone, void, resets, idle, refused, first and last time
 abbrev pub churn_line : ChurnRow → List ℕ

@@ -1,8 +1,9 @@
 -- Reports over the tables of all peers.
-use Rattle.std.specs.Prelude.{ℕ, IsTrue, Bool, not, ◌&&◌, ◌||◌, List, [], ◌∷◌, length, map, Option, nat_le, nat_lt, if◌then◌else◌}
+use Rattle.std.specs.Prelude.{ℕ, IsTrue, Bool, not, ◌&&◌, ◌||◌, ◌==◌, List, [], ◌∷◌, length, map, Option, Some, None, nat_le, nat_lt, if◌then◌else◌}
 use Rattle.std.specs.List.{flat_map, filter, filter_map, count_by, list_any, list_all}
-use Rattle.std.specs.Option.{option_and_then, option_map, option_cmp}
+use Rattle.std.specs.Option.{option_and_then, option_map, option_eq, option_cmp}
 use Rattle.std.specs.declared.cmp.Ordering.{Ordering}
+use Rattle.std.specs.declared.cmp.Ordering.TheVariants.{Less, Equal, Greater}
 use Rattle.std.specs.Ordering.{nat_cmp, ordering_then, is_lt}
 use Rattle.std.specs.FinMap.{is_sorted}
 use Rattle.bgp_prefix.specs.Prefixes.{IpPrefix, prefix_cmp, prefix_eq, contains}
@@ -16,8 +17,10 @@ use Rattle.mrt_body.specs.declared.unit.Place.{Place}
 use Rattle.mrt_body.specs.declared.unit.Damage.{Damage}
 use Rattle.peer_tables.specs.Tables.{Seat, TablesState, all_faults}
 use Rattle.rib_report.specs.Rows.{TableRow}
-use Rattle.rib_report.specs.declared.reports.visibility.SeenRow.{SeenRow}
+use Rattle.rib_report.specs.Runs.{pair_cmp}
+use Rattle.rib_report.specs.declared.reports.visibility.VisibilityRow.{VisibilityRow}
 use Rattle.rib_report.specs.declared.reports.origins.OriginRow.{OriginRow}
+use Rattle.rib_report.specs.declared.reports.seen.SeenRow.{SeenRow}
 use Rattle.rib_report.specs.declared.reports.churn.ChurnRow.{ChurnRow}
 
 -- ---- entries
@@ -86,10 +89,10 @@ abbrev pub visibility_of : TablesState → IpPrefix → ℕ
 visibility_of tables p = count_by (is_visible_at p) tables.seats
 
 -- every prefix of these peers' tables, in order, and at how many of them it is visible
-abbrev pub seen_among : List Seat → List (IpPrefix × ℕ)
-seen_among seats = map (λ p. (p, count_by (is_visible_at p) seats)) (in_order prefix_cmp (flat_map seat_prefixes seats))
+abbrev pub visible_among : List Seat → List (IpPrefix × ℕ)
+visible_among seats = map (λ p. (p, count_by (is_visible_at p) seats)) (in_order prefix_cmp (flat_map seat_prefixes seats))
 
-abbrev pub visibility_rows : TablesState → List SeenRow
+abbrev pub visibility_rows : TablesState → List VisibilityRow
 visibility_rows tables = map (λ p. record { prefix = p; peers = visibility_of tables p }) (prefixes_in_tables tables)
 
 -- ---- origins
@@ -104,6 +107,10 @@ origin_pair e = option_map (λ origin. (e.0.prefix, origin)) (route_origin e.1)
 -- the prefix and the origin AS of each route that has one
 abbrev pub seat_origins : Seat → List (IpPrefix × ℕ)
 seat_origins seat = filter_map origin_pair seat.session.table
+
+-- the prefixes and origin ASes of these peers' routes, each pair once, in order
+abbrev pub origins_in_order : List Seat → List (IpPrefix × ℕ)
+origins_in_order seats = in_order pair_cmp (flat_map seat_origins seats)
 
 abbrev pub table_origins : TablesState → List (IpPrefix × ℕ)
 table_origins tables = flat_map seat_origins tables.seats
@@ -127,6 +134,62 @@ grouped_origins pairs = map (origins_among pairs) (in_order prefix_cmp (map (λ 
 -- the prefixes with at least two different origins
 abbrev pub origin_rows : TablesState → List OriginRow
 origin_rows tables = filter has_several (grouped_origins (table_origins tables))
+
+-- ---- seen
+
+-- an origin AS by number, none last
+abbrev pub origin_cmp : Option ℕ → Option ℕ → Ordering
+origin_cmp (Some a) (Some b) = nat_cmp a b
+origin_cmp (Some a) None = Less
+origin_cmp None (Some b) = Greater
+origin_cmp None None = Equal
+
+-- by prefix, and then by origin AS
+abbrev pub prefix_origin_cmp : IpPrefix × Option ℕ → IpPrefix × Option ℕ → Ordering
+prefix_origin_cmp a b = ordering_then (prefix_cmp a.0 b.0) (origin_cmp a.1 b.1)
+
+-- the same prefix and origin AS, or none at both
+abbrev pub prefix_origin_eq : IpPrefix × Option ℕ → IpPrefix × Option ℕ → Bool
+prefix_origin_eq a b = prefix_eq a.0 b.0 && option_eq (λ m n. m == n) a.1 b.1
+
+-- the prefix and the origin AS of a route, which may have none (RFC 6811, section 2)
+abbrev pub prefix_origin : RouteKey × Route → IpPrefix × Option ℕ
+prefix_origin e = (e.0.prefix, route_origin e.1)
+
+-- the prefix and the origin AS of each route of a peer
+abbrev pub seat_prefix_origins : Seat → List (IpPrefix × Option ℕ)
+seat_prefix_origins seat = map prefix_origin seat.session.table
+
+-- a route of the peer's table has this prefix and this origin AS
+abbrev pub is_seen_at : IpPrefix × Option ℕ → Seat → Bool
+is_seen_at e seat = list_any (prefix_origin_eq e) (seat_prefix_origins seat)
+
+-- how many peers have a route of the prefix with this origin AS
+abbrev pub seen_of : TablesState → IpPrefix × Option ℕ → ℕ
+seen_of tables e = count_by (is_seen_at e) tables.seats
+
+-- every prefix and origin AS of these peers' routes, in order, and at how many of the peers it is seen
+abbrev pub seen_among : List Seat → List ((IpPrefix × Option ℕ) × ℕ)
+seen_among seats =
+    map (λ e. (e, count_by (is_seen_at e) seats)) (in_order prefix_origin_cmp (flat_map seat_prefix_origins seats))
+
+-- every prefix and origin AS of all peers' routes, each once, in order, and how many peers have such a route
+abbrev pub seen_rows : TablesState → List SeenRow
+seen_rows tables =
+    map (λ e. record { prefix = e.0; origin = e.1; peers = seen_of tables e })
+    (in_order prefix_origin_cmp (flat_map seat_prefix_origins tables.seats))
+
+-- the origin ASes in the rows of a prefix
+abbrev pub origins_seen : List SeenRow → IpPrefix → List ℕ
+origins_seen rows p = filter_map (λ row. row.origin) (filter (λ row. prefix_eq p row.prefix) rows)
+
+-- the tables of those peers that are in a share
+abbrev pub share_of : (PeerKey → Bool) → TablesState → TablesState
+share_of is_in tables = record tables { seats = filter (λ seat. is_in seat.key) tables.seats }
+
+-- the tables of all other peers
+abbrev pub rest_of : (PeerKey → Bool) → TablesState → TablesState
+rest_of is_in tables = share_of (λ peer. not (is_in peer)) tables
 
 -- ---- churn
 

@@ -1,12 +1,13 @@
 -- The rows of the reports, as definitions see them.
-use Rattle.std.specs.Prelude.{ℕ, List}
+use Rattle.std.specs.Prelude.{ℕ, List, Option}
 use Rattle.bgp_prefix.specs.Prefixes.{IpPrefix}
 use Rattle.bgp_prefix.specs.declared.key.RouteKey.{RouteKey}
 use Rattle.bgp_update.specs.declared.route.Route.{Route}
 use Rattle.mrt_body.specs.declared.unit.PeerKey.{PeerKey}
 use Rattle.rib_report.specs.declared.reports.tables.TableRow.{TableRow as BorrowingRow}
-use Rattle.rib_report.specs.declared.reports.visibility.SeenRow.{SeenRow}
+use Rattle.rib_report.specs.declared.reports.visibility.VisibilityRow.{VisibilityRow}
 use Rattle.rib_report.specs.declared.reports.origins.OriginRow.{OriginRow}
+use Rattle.rib_report.specs.declared.reports.seen.SeenRow.{SeenRow}
 
 -- an entry of a peer's table
 pub record TableRow : Type 0 where
@@ -18,8 +19,11 @@ pub record TableRow : Type 0 where
 abbrev pub table_row : BorrowingRow → TableRow
 table_row row = record { peer = row.peer; key = row.key; route = row.route.now }
 
-abbrev pub seen_pair : SeenRow → IpPrefix × ℕ
-seen_pair row = (row.prefix, row.peers)
+abbrev pub visibility_pair : VisibilityRow → IpPrefix × ℕ
+visibility_pair row = (row.prefix, row.peers)
 
 abbrev pub origins_pair : OriginRow → IpPrefix × List ℕ
 origins_pair row = (row.prefix, row.origins)
+
+abbrev pub seen_pair : SeenRow → (IpPrefix × Option ℕ) × ℕ
+seen_pair row = ((row.prefix, row.origin), row.peers)

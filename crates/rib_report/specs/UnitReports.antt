@@ -1,5 +1,5 @@
 -- The reports over units and refusals alone.
-use Rattle.std.specs.Prelude.{◌≡◌, ℕ, Bool, List, ◌++◌, map}
+use Rattle.std.specs.Prelude.{◌≡◌, ℕ, Bool, List, ◌++◌, map, Option}
 use Rattle.std.specs.List.{flat_map, filter, filter_map, count_by, list_any}
 use Rattle.bgp_prefix.specs.Prefixes.{IpPrefix, prefix_cmp, prefix_eq}
 use Rattle.bgp_prefix.specs.Ordered.{in_order}
@@ -14,11 +14,12 @@ use Rattle.adj_rib.specs.Churns.{churn_of, damaged_of}
 use Rattle.peer_tables.specs.Peers.{peers_of, units_of_peer}
 use Rattle.peer_tables.specs.Tables.{TablesState}
 use Rattle.rib_report.specs.Rows.{TableRow}
-use Rattle.rib_report.specs.declared.reports.visibility.SeenRow.{SeenRow}
+use Rattle.rib_report.specs.declared.reports.visibility.VisibilityRow.{VisibilityRow}
 use Rattle.rib_report.specs.declared.reports.origins.OriginRow.{OriginRow}
+use Rattle.rib_report.specs.declared.reports.seen.SeenRow.{SeenRow}
 use Rattle.rib_report.specs.declared.reports.churn.ChurnRow.{ChurnRow}
-use Rattle.rib_report.specs.Reports.{entry_row, is_longest, origin_pair, grouped_origins, has_several, in_place_order, route_rows, match_rows, visibility_rows, origin_rows, churn_rows, fault_rows}
-use Rattle.rib_report.specs.Lines.{route_line, visibility_line, origin_line, churn_line, fault_line}
+use Rattle.rib_report.specs.Reports.{entry_row, is_longest, origin_pair, grouped_origins, has_several, prefix_origin, prefix_origin_cmp, prefix_origin_eq, in_place_order, route_rows, match_rows, visibility_rows, origin_rows, seen_rows, churn_rows, fault_rows}
+use Rattle.rib_report.specs.Lines.{route_line, visibility_line, origin_line, seen_line, churn_line, fault_line}
 
 -- the table that a peer's own units leave
 abbrev pub table_at : List ReplayUnit → PeerKey → List (RouteKey × Route)
@@ -41,7 +42,7 @@ abbrev pub is_visible : List ReplayUnit → IpPrefix → PeerKey → Bool
 is_visible units p q = list_any (prefix_eq p) (prefixes_at units q)
 
 -- each prefix of any table once, in order, and at how many peers it is visible
-abbrev pub unit_visibility : List ReplayUnit → List SeenRow
+abbrev pub unit_visibility : List ReplayUnit → List VisibilityRow
 unit_visibility units =
     map (λ p. record { prefix = p; peers = count_by (is_visible units p) (peers_of units) })
     (in_order prefix_cmp (flat_map (prefixes_at units) (peers_of units)))
@@ -50,6 +51,19 @@ unit_visibility units =
 abbrev pub unit_origins : List ReplayUnit → List OriginRow
 unit_origins units =
     filter has_several (grouped_origins (flat_map (λ q. filter_map origin_pair (table_at units q)) (peers_of units)))
+
+abbrev pub prefix_origins_at : List ReplayUnit → PeerKey → List (IpPrefix × Option ℕ)
+prefix_origins_at units q = map prefix_origin (table_at units q)
+
+-- a route of the peer's table has this prefix and this origin AS
+abbrev pub is_seen : List ReplayUnit → IpPrefix × Option ℕ → PeerKey → Bool
+is_seen units e q = list_any (prefix_origin_eq e) (prefix_origins_at units q)
+
+-- each prefix and origin AS of any table's routes once, in order, and at how many peers it is seen
+abbrev pub unit_seen : List ReplayUnit → List SeenRow
+unit_seen units =
+    map (λ e. record { prefix = e.0; origin = e.1; peers = count_by (is_seen units e) (peers_of units) })
+    (in_order prefix_origin_cmp (flat_map (prefix_origins_at units) (peers_of units)))
 
 -- what each peer's own units did
 abbrev pub unit_churn : List ReplayUnit → List ChurnRow
@@ -66,6 +80,7 @@ pub record HasReportsOf (units : List ReplayUnit) (refused : List Damage) (table
   pub matches : (addr : ℕ) → match_rows tables addr ≡ unit_matches units addr
   pub visibility : visibility_rows tables ≡ unit_visibility units
   pub origins : origin_rows tables ≡ unit_origins units
+  pub seen : seen_rows tables ≡ unit_seen units
   pub churn : churn_rows tables ≡ unit_churn units
   pub faults : fault_rows tables ≡ unit_faults units refused
 
@@ -75,5 +90,6 @@ pub record HaveSameTexts (one other : TablesState) : Type 0 where
   pub matches : (addr : ℕ) → flat_map route_line (match_rows one addr) ≡ flat_map route_line (match_rows other addr)
   pub visibility : flat_map visibility_line (visibility_rows one) ≡ flat_map visibility_line (visibility_rows other)
   pub origins : flat_map origin_line (origin_rows one) ≡ flat_map origin_line (origin_rows other)
+  pub seen : flat_map seen_line (seen_rows one) ≡ flat_map seen_line (seen_rows other)
   pub churn : flat_map churn_line (churn_rows one) ≡ flat_map churn_line (churn_rows other)
   pub faults : flat_map fault_line (fault_rows one) ≡ flat_map fault_line (fault_rows other)

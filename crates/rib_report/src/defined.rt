@@ -1,22 +1,24 @@
 //! What the rows of reports say, stated without an order of work. These are laws about definitions:
 //! nothing is computed.
 
-ghost use Rattle.std.specs.Prelude.{◌≡◌, ◌≤◌, ◌↔◌, ℕ, IsTrue, List, Some, length, map};
+ghost use Rattle.std.specs.Prelude.{◌≡◌, ◌≤◌, ◌+◌, ◌↔◌, ℕ, Bool, IsTrue, List, Option, Some, length, map};
 ghost use Rattle.std.specs.FinMap.{find, is_sorted};
 ghost use Rattle.std.specs.List.Sorted.{IsSortedByKey, IsStableByKey};
 ghost use Rattle.bgp_prefix.specs.Prefixes.{IpPrefix, prefix_cmp};
+ghost use Rattle.mrt_body.specs.declared.unit.PeerKey.{PeerKey};
 ghost use Rattle.peer_tables.specs.Tables.{TablesState, all_faults};
-ghost use Rattle.rib_report.specs.Rows.{seen_pair, origins_pair};
+ghost use Rattle.rib_report.specs.Rows.{visibility_pair, origins_pair, seen_pair};
 ghost use Rattle.rib_report.specs.Reports.{place_cmp, visibility_of, visibility_rows, origins_of, origin_rows, fault_rows};
+ghost use Rattle.rib_report.specs.Reports.{prefix_origin_cmp, seen_of, seen_rows, origins_seen, share_of, rest_of};
 
 /// The rows of visibility are exactly the prefixes that are visible at a peer, each once and in order,
 /// with the number of these peers.
 pub fn visibility_counts_peers()
     ensures rows { (tables : TablesState) (prefix : IpPrefix) (peers : ℕ) →
-        (find prefix_cmp prefix (map seen_pair (visibility_rows tables)) ≡ Some peers)
+        (find prefix_cmp prefix (map visibility_pair (visibility_rows tables)) ≡ Some peers)
         ↔ ((visibility_of tables prefix ≡ peers) × (1 ≤ peers)) }
     ensures sorted { (tables : TablesState) →
-        IsTrue (is_sorted prefix_cmp (map seen_pair (visibility_rows tables))) }
+        IsTrue (is_sorted prefix_cmp (map visibility_pair (visibility_rows tables))) }
 {}
 
 /// The rows of origins are exactly the prefixes whose routes have at least two different origin ASes, each
@@ -27,6 +29,32 @@ pub fn origins_are_of_all_routes()
         ↔ ((origins_of tables prefix ≡ origins) × (2 ≤ length origins)) }
     ensures sorted { (tables : TablesState) →
         IsTrue (is_sorted prefix_cmp (map origins_pair (origin_rows tables))) }
+{}
+
+/// The rows of seen are exactly the prefixes and origin ASes of routes at a peer, each pair once and in order, with the
+/// number of these peers.
+pub fn seen_counts_peers()
+    ensures rows { (tables : TablesState) (prefix : IpPrefix) (origin : Option ℕ) (peers : ℕ) →
+        (find prefix_origin_cmp (prefix, origin) (map seen_pair (seen_rows tables)) ≡ Some peers)
+        ↔ ((seen_of tables (prefix, origin) ≡ peers) × (1 ≤ peers)) }
+    ensures sorted { (tables : TablesState) →
+        IsTrue (is_sorted prefix_origin_cmp (map seen_pair (seen_rows tables))) }
+{}
+
+/// The origin ASes of a prefix at all peers are those in its rows of seen.
+pub fn origins_are_of_seen_rows()
+    ensures { (tables : TablesState) (prefix : IpPrefix) →
+        origins_of tables prefix ≡ origins_seen (seen_rows tables) prefix }
+{}
+
+/// The numbers of peers of visibility and of seen are sums over shares of the peers.
+pub fn counts_are_sums_over_shares()
+    ensures visibility { (tables : TablesState) (is_in : PeerKey → Bool) (prefix : IpPrefix) →
+        visibility_of (share_of is_in tables) prefix + visibility_of (rest_of is_in tables) prefix
+        ≡ visibility_of tables prefix }
+    ensures seen { (tables : TablesState) (is_in : PeerKey → Bool) (prefix : IpPrefix) (origin : Option ℕ) →
+        seen_of (share_of is_in tables) (prefix, origin) + seen_of (rest_of is_in tables) (prefix, origin)
+        ≡ seen_of tables (prefix, origin) }
 {}
 
 /// The listed faults are ordered by place. Those of one place are the same, in the same order, as among all

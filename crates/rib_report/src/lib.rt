@@ -1,4 +1,31 @@
-//! Reports over the tables of all peers, and their lines.
+//! Seven reports over the tables of all peers, and their lines.
+//!
+//! A report is a function from tables to rows, stated over whole lists and sets; a line is a function of a row. Laws
+//! state the rows without an order of work, and tables that stand for units have the reports that are defined over
+//! these units alone (`reports_are_of_units`).
+//!
+//! - `visibility`, `origins` and `seen` merge the lists of halves of the peers (`merge.rt`) until each peer is alone. The
+//!   tables of one collector have mostly the same prefixes, so merged lists stay as short as one table. With two
+//!   workers or more, two threads share at most 14 peers at a time, which bounds the lists that exist at once whatever
+//!   the number of peers. So the map of `run` is `Sync`.
+//! - `list_tables` writes the lines of `tables` without a list of rows (80 bytes a route): one list with room for the
+//!   largest table is allocated before the first write, and the peers' tables are listed into it in turn.
+//! - The lines of a table of 16,384 entries and more are made by several threads (`reports/tables/side_by_side.rt`) in
+//!   buffers that are allocated before the first byte is written. The calling thread starts them all itself, since each
+//!   level of halves would add two wake-ups to a round, and writes the filled buffers in order: only it has the writer.
+//!   A thread stops before a line for which there may be no room; the calling thread makes those that are left. To a
+//!   thread, its buffer is text on its way to a writer that takes nothing (`nowhere.rt`), so all lines are made by the
+//!   same code.
+//! - A line is made of fields (`field.rt`), values whose text has a limited length. A pair of fields is a field, with a
+//!   bar between the two, and so is an `Option`; so consecutive fields are one value, placed after one check for room.
+//!   A column is one more element of that value, and one more in the definition of the line. Each call is given the
+//!   position of its first byte and returns the one after its last: as a field of the buffer it would be read again
+//!   after each byte.
+//! - A peer's text is made once for its lines. Numbers of up to three digits are copied from a table, four bytes at
+//!   once, since how many digits a number has is hard to predict.
+//! - Entries are prefetched up to 64 at a time before their lines are written, so that the cache misses of their routes
+//!   overlap.
+//! - Text goes through a buffer of 64 KiB on the stack.
 #![tactic(auto)]
 
 mod buffer;
@@ -16,7 +43,10 @@ mod short;
 mod standing;
 mod write;
 
-pub use defined::{faults_stand_by_place, origins_are_of_all_routes, visibility_counts_peers};
+pub use defined::{
+    counts_are_sums_over_shares, faults_stand_by_place, origins_are_of_all_routes,
+    origins_are_of_seen_rows, seen_counts_peers, visibility_counts_peers,
+};
 pub use peer_tables::{
     Gathered, Seated, Tables, collect, collected_stand_for_units, lanes_make_no_difference,
     tables_are_of_units,
@@ -25,7 +55,10 @@ pub use reports::churn::{ChurnRow, churn, write_churn};
 pub use reports::faults::{faults, write_faults};
 pub use reports::matches::matches;
 pub use reports::origins::{OriginRow, origins, origins_with_threads, write_origins};
+pub use reports::seen::{SeenRow, seen, seen_with_threads, write_seen};
 pub use reports::tables::{TableRow, list_tables, table_rows, write_rows};
-pub use reports::visibility::{SeenRow, visibility, visibility_with_threads, write_visibility};
+pub use reports::visibility::{
+    VisibilityRow, visibility, visibility_with_threads, write_visibility,
+};
 pub use request::Request;
 pub use standing::reports_are_of_units;

@@ -1,8 +1,9 @@
-//! The six reports, by the names that users know.
+//! The seven reports, by the names that users know.
 
 pub(crate) mod churn;
 pub(crate) mod faults;
 pub(crate) mod matches;
 pub(crate) mod origins;
+pub(crate) mod seen;
 pub(crate) mod tables;
 pub(crate) mod visibility;

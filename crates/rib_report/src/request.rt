@@ -7,6 +7,8 @@ pub enum Request {
     Visibility,
     /// The prefixes with routes of two or more origin ASes.
     Origins,
+    /// For each prefix and origin AS, the number of peers that have such a route.
+    Seen,
     /// For each peer, what its units did to its table.
     Churn,
     /// For each peer, the routes of the longest prefix that contains this address.

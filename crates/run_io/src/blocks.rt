@@ -22,8 +22,8 @@ enum Stage<D> {
     Ended,
 }
 
-/// A reader that is read in blocks of 64 KiB. The block's memory exists only while it is read, and the reader is dropped at
-/// its end.
+/// A reader that is read in blocks of 64 KiB. The block's memory exists only while it is read, and the reader is
+/// dropped at its end.
 #[derive(Drop)]
 pub struct Blocks<D> {
     alloc: Global,

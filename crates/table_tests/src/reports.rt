@@ -3,5 +3,6 @@
 mod lines;
 mod peers;
 mod reports;
+mod seen;
 mod threads;
 mod writers;

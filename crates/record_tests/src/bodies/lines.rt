@@ -1,6 +1,6 @@
 //! What files give, as text.
 
-use mrt_body::{Found, Payload, PeerAddr, Place, Unit, Units};
+use mrt_body::{Found, Payload, PeerAddr, Place, Selection, Unit, Units};
 use mrt_frame::{ReplayError, Source};
 use std::alloc::Global;
 use std::process::Abort;
@@ -112,10 +112,10 @@ pub fn push_found<R: Source>(
     text: &mut String,
     files: &mut [R],
     most: u64,
-    until: Option<u64>,
+    selection: Selection,
 ) {
     assert!(rt; 0 < most && most <= 1 << 47);
-    let mut units = Units::new(files.len(), most, until);
+    let mut units = Units::new(files.len(), most, selection);
     for _ in 0..1000u16 {
         if !push_next(rt, alloc, text, &mut units, files) {
             break;

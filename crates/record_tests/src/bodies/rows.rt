@@ -2,6 +2,7 @@
 
 use super::lines::push_found;
 use fixtures::bytes_of;
+use mrt_body::{PeerAddr, PeerChoice, Selection, Share};
 use mrt_frame::Counted;
 use std::alloc::Global;
 use std::process::Abort;
@@ -13,6 +14,8 @@ struct Row<'a> {
     files: Vec<Vec<u8>>,
     expected: String,
     until: Option<u64>,
+    peers: Vec<PeerChoice>,
+    share: Option<Share>,
     most: u64,
 }
 
@@ -23,6 +26,8 @@ impl<'a> Row<'a> {
             files: Vec::new(alloc),
             expected: String::new(alloc),
             until: None,
+            peers: Vec::new(alloc),
+            share: None,
             most: 1 << 47,
         }
     }
@@ -35,6 +40,12 @@ impl<'a> Row<'a> {
             writeln!(self.expected, "{text}").expect(rt, "memory for a line");
         } else if let Some(second) = line.strip_prefix("until ") {
             self.until = Some(number(rt, second));
+        } else if let Some(peer) = line.strip_prefix("peer ") {
+            self.peers
+                .push(peer_of(rt, peer))
+                .expect(rt, "memory for a peer");
+        } else if let Some(share) = line.strip_prefix("share ") {
+            self.share = Some(share_of(rt, share));
         } else if let Some(count) = line.strip_prefix("most ") {
             self.most = number(rt, count);
         } else {
@@ -43,11 +54,32 @@ impl<'a> Row<'a> {
     }
 
     fn check(&self, rt: &impl Abort, alloc: Global) {
-        let text = text_of(rt, alloc, self.files.as_slice(), self.most, self.until);
+        let peers = Vec::from_slice(alloc, self.peers.as_slice()).expect(rt, "memory for peers");
+        let selection = Selection::all(alloc)
+            .up_to(self.until)
+            .of_peers(peers)
+            .of_share(self.share);
+        let text = text_of(rt, alloc, self.files.as_slice(), self.most, selection);
         let same = text.as_str() == self.expected.as_str();
         let name = self.name;
         assert!(rt; same, "{name} gave\n{text}");
     }
+}
+
+/// The peers of an AS number, or the one that has an address behind it, as a number.
+fn peer_of(rt: &impl Abort, text: &str) -> PeerChoice {
+    let (asn, addr) = text.split_once(' ').unwrap_or((text, ""));
+    let asn = asn.parse::<u32>().expect(rt, "an AS number");
+    let addr = addr.parse::<u32>().ok().map(PeerAddr::V4);
+    PeerChoice { asn, addr }
+}
+
+/// A share, counted from 1.
+fn share_of(rt: &impl Abort, text: &str) -> Share {
+    let (number, count) = text.split_once('/').expect(rt, "a share");
+    let number = number.parse::<u32>().expect(rt, "a number");
+    let count = count.parse::<u32>().expect(rt, "a count");
+    Share::new(number.wrapping_sub(1), count).expect(rt, "a share")
 }
 
 fn push_file(rt: &impl Abort, alloc: Global, files: &mut Vec<Vec<u8>>, words: &str) {
@@ -65,11 +97,18 @@ fn text_of(
     alloc: Global,
     files: &[Vec<u8>],
     most: u64,
-    until: Option<u64>,
+    selection: Selection,
 ) -> String {
     let mut readers = readers_of(rt, alloc, files);
     let mut text = String::new(alloc);
-    push_found(rt, alloc, &mut text, readers.as_mut_slice(), most, until);
+    push_found(
+        rt,
+        alloc,
+        &mut text,
+        readers.as_mut_slice(),
+        most,
+        selection,
+    );
     text
 }
 
@@ -84,8 +123,8 @@ fn readers_of<'a>(rt: &impl Abort, alloc: Global, files: &'a [Vec<u8>]) -> Vec<C
 }
 
 /// Runs the rows of a table. A line `row NAME` begins a row, `file RECORDS` adds a file, `> LINE` is
-/// a line of what it gives, `until N` leaves out what came later, and `most N` is the greatest
-/// number of records.
+/// a line of what it gives, `until N` leaves out what came later, `peer ASN [ADDRESS]` and `share I/N` other peers, and
+/// `most N` is the greatest number of records.
 fn run_rows(rt: &impl Abort, alloc: Global, table: &str) -> usize {
     let rows = table.strip_prefix("\nrow ").expect(rt, "a row");
     let mut checked = 0usize;
@@ -337,6 +376,76 @@ file peer-index-table 00000003 000D 0008 00000011 00000000 080A 0001 0000 000000
 > records 2 aside 0
 ";
 
+/// The peers of the index have the addresses 2001:db8::1 and 192.0.2.2. By the formula of shares the hashes of their AS
+/// numbers and addresses are 54209 and 52333, and that of 65000 192.0.2.1 is 693.
+const PEERS: &str = "
+row entries-keep-their-numbers
+file peer-index-table rib-record
+peer 70000
+> 0|56|2|3000000|70000 C0000202|entry 0A000000/8#0 4
+> records 2 aside 0
+row peers-add-up
+file peer-index-table rib-record
+peer 70000
+peer 65000
+> 0|56|1|3000000|65000 20010DB8000000000000000000000001|entry 0A000000/8#0 20
+> 0|56|2|3000000|70000 C0000202|entry 0A000000/8#0 4
+> records 2 aside 0
+row a-peer-by-its-address
+file peer-index-table rib-record announcement
+peer 70000 3221225986
+peer 65000 3221225985
+> 0|56|2|3000000|70000 C0000202|entry 0A000000/8#0 4
+> 0|116|-|1000000|65000 C0000201|message 45 Four false
+> records 3 aside 0
+row no-peer-of-this-address
+file peer-index-table rib-record
+peer 70000 3221225987
+> records 2 aside 0
+row the-first-of-three-shares
+file peer-index-table rib-record announcement
+share 1/3
+> 0|116|-|1000000|65000 C0000201|message 45 Four false
+> records 3 aside 0
+row the-second-of-three-shares
+file peer-index-table rib-record announcement
+share 2/3
+> 0|56|2|3000000|70000 C0000202|entry 0A000000/8#0 4
+> records 3 aside 0
+row the-third-of-three-shares
+file peer-index-table rib-record announcement
+share 3/3
+> 0|56|1|3000000|65000 20010DB8000000000000000000000001|entry 0A000000/8#0 20
+> records 3 aside 0
+row the-only-share-has-all
+file peer-index-table rib-record
+share 1/1
+> 0|56|1|3000000|65000 20010DB8000000000000000000000001|entry 0A000000/8#0 20
+> 0|56|2|3000000|70000 C0000202|entry 0A000000/8#0 4
+> records 2 aside 0
+row a-peer-has-to-be-in-the-share
+file peer-index-table rib-record announcement
+share 3/3
+peer 70000
+> records 3 aside 0
+row other-peers-sessions
+file announcement established-to-idle by-second
+peer 70000
+> records 3 aside 0
+row refusals-stay
+file rib-record peer-index-table bad-peer-index
+peer 64512
+> 0|0|NoPeerIndex
+> 0|116|BadPeerIndex
+> records 3 aside 0
+row until-and-peers
+file peer-index-table rib-record announcement
+until 1
+peer 65000
+> 0|116|-|1000000|65000 C0000201|message 45 Four false
+> records 3 aside 0
+";
+
 #[test]
 fn each_file_has_its_own_index_and_its_own_rest(rt: HostRuntime) {
     assert!(rt; run_rows(&rt, rt.alloc(), FILES) == 15);
@@ -350,4 +459,9 @@ fn every_form_of_record_gives_its_units(rt: HostRuntime) {
 #[test]
 fn every_fault_of_a_body_refuses_its_record(rt: HostRuntime) {
     assert!(rt; run_rows(&rt, rt.alloc(), FAULTS) == 17);
+}
+
+#[test]
+fn units_are_selected_by_their_peers(rt: HostRuntime) {
+    assert!(rt; run_rows(&rt, rt.alloc(), PEERS) == 12);
 }

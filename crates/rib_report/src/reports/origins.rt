@@ -3,17 +3,15 @@
 ghost use Rattle.std.specs.Prelude.{◌≡◌, ◌≢◌, ◌<◌, ◌≤◌, ◌++◌, [], ◌∷◌, IfOk, OnOk, map, length};
 ghost use Rattle.std.specs.List.{AllWithin, HoldsAt, filter, filter_map, flat_map};
 ghost use Rattle.std.specs.List.Sorted.{IsStrictlySortedBy};
-ghost use Rattle.std.specs.Thread.{IsSync};
-ghost use Rattle.bgp_prefix.specs.Ordered.{in_order};
 ghost use Rattle.rib_report.specs.Runs.{pair_cmp};
-ghost use Rattle.rib_report.specs.Reports.{route_origin, origin_pair, seat_origins, has_several, grouped_origins, origin_rows};
+ghost use Rattle.rib_report.specs.Reports.{route_origin, origin_pair, seat_origins, origins_in_order, has_several, grouped_origins, origin_rows};
 ghost use Rattle.rib_report.specs.Lines.{origin_line};
 ghost use Rattle.rib_report.specs.Texts.{IsOutput, Writes};
 ghost use Rattle.peer_tables.specs.Seats.{seat_of};
 
 use crate::buffer::TextBuffer;
 use crate::line::Line;
-use crate::merge::{Mergeable, PEERS_AT_ONCE, merge};
+use crate::merge::{Listed, Mergeable, list_peers, list_peers_by_few};
 use crate::write::write_lines;
 use adj_rib::SharedRoute;
 use bgp_prefix::{Memory, Prefix, PrefixMap, RouteKey, Sequence};
@@ -23,7 +21,7 @@ use peer_tables::{Seated, Tables};
 use std::alloc::Global;
 use std::cmp::Ordering;
 use std::marker::Sync;
-use std::thread::{Threads, join};
+use std::thread::Threads;
 
 /// The origin ASes of a prefix, ascending (RFC 6811, 2).
 #[derive(Drop)]
@@ -86,84 +84,22 @@ fn add_origins<M: PrefixMap<SharedRoute>>(
     Ok(())
 }
 
-/// Returns the prefixes and origin ASes of one peer's routes in order, each pair once.
-fn pairs_of_seat<M: PrefixMap<SharedRoute>>(
-    alloc: Global,
-    seat: &Seated<M>,
-) -> Result<Vec<(Prefix, u32)>, Memory>
-    ensures { IfOk result (λ pairs. pairs.items ≡ in_order pair_cmp (seat_origins (seat_of seat.now))) }
-{
-    let mut pairs = Vec::with_capacity(alloc, seat.session.table().len())?;
-    add_origins(alloc, &mut pairs, seat)?;
-    pairs.sort()?;
-    pairs.dedup();
-    Ok(pairs)
-}
+/// What is listed of peers: the prefixes and origin ASes of their routes in order, each pair once.
+impl Listed for (Prefix, u32) {
+    ghost list_of = { origins_in_order };
 
-/// Returns the prefixes and origin ASes of these peers' routes in order, each pair once. The peers are halved until
-/// each is alone.
-fn pairs_of<M: PrefixMap<SharedRoute>>(
-    alloc: Global,
-    seats: &[Seated<M>],
-) -> Result<Vec<(Prefix, u32)>, Memory>
-    ensures { IfOk result (λ pairs. pairs.items ≡
-        in_order pair_cmp (flat_map seat_origins (map seat_of seats.now))) }
-{
-    match seats {
-        [] => Ok(Vec::new(alloc)),
-        [seat] => pairs_of_seat(alloc, seat),
-        _ => {
-            // Of two halves the longer one comes first: fewer lists wait while it is halved further.
-            let (front, back) = seats.split_at(seats.len() - seats.len() / 2);
-            let first = pairs_of(alloc, front)?;
-            let second = pairs_of(alloc, back)?;
-            merge(alloc, first.as_slice(), second.as_slice())
-        }
+    fn list_of_seat<M: PrefixMap<SharedRoute>>(
+        alloc: Global,
+        seat: &Seated<M>,
+    ) -> Result<Vec<(Prefix, u32)>, Memory> {
+        let mut pairs = Vec::with_capacity(alloc, seat.session.table().len())?;
+        add_origins(alloc, &mut pairs, seat)?;
+        pairs.sort()?;
+        pairs.dedup();
+        Ok(pairs)
     }
-}
 
-/// As `pairs_of`, with the halves of the peers in two threads, if one can be started.
-fn pairs_by_two<M: PrefixMap<SharedRoute> + Sync, T: Threads>(
-    rt: &T,
-    alloc: Global,
-    seats: &[Seated<M>],
-) -> Result<Vec<(Prefix, u32)>, Memory>
-    ensures { IfOk result (λ pairs. pairs.items ≡
-        in_order pair_cmp (flat_map seat_origins (map seat_of seats.now))) }
-{
-    let (front, back) = seats.split_at(seats.len() / 2);
-    let list_front = move || -> Result<Vec<(Prefix, u32)>, Memory>
-        requires { IsSync M.row }
-        ensures { IfOk result (λ pairs. pairs.items ≡
-            in_order pair_cmp (flat_map seat_origins (map seat_of front.entry.now))) }
-    { pairs_of(alloc, front) };
-    let list_back = move || -> Result<Vec<(Prefix, u32)>, Memory>
-        requires { IsSync M.row }
-        ensures { IfOk result (λ pairs. pairs.items ≡
-            in_order pair_cmp (flat_map seat_origins (map seat_of back.entry.now))) }
-    { pairs_of(alloc, back) };
-    let (front, back) = join(rt, list_front, list_back);
-    let (front, back) = (front?, back?);
-    merge(alloc, front.as_slice(), back.as_slice())
-}
-
-/// As `pairs_of`, in two threads that share a few peers at a time, so that together they hold only a few lists more than
-/// one thread does.
-fn pairs_by_few<M: PrefixMap<SharedRoute> + Sync, T: Threads>(
-    rt: &T,
-    alloc: Global,
-    seats: &[Seated<M>],
-) -> Result<Vec<(Prefix, u32)>, Memory>
-    ensures { IfOk result (λ pairs. pairs.items ≡
-        in_order pair_cmp (flat_map seat_origins (map seat_of seats.now))) }
-{
-    if seats.len() <= PEERS_AT_ONCE {
-        return pairs_by_two(rt, alloc, seats);
-    }
-    let (some, others) = seats.split_at(seats.len() - seats.len() / 2);
-    let some = pairs_by_few(rt, alloc, some)?;
-    let others = pairs_by_few(rt, alloc, others)?;
-    merge(alloc, some.as_slice(), others.as_slice())
+    fn lists_merge() {}
 }
 
 /// Returns how many pairs at the front have this prefix.
@@ -219,7 +155,7 @@ pub fn origins<M: PrefixMap<SharedRoute>>(
 ) -> Result<Vec<OriginRow>, Memory>
     ensures { IfOk result (λ rows. rows.items ≡ origin_rows tables.now) }
 {
-    let pairs = pairs_of(alloc, tables.seats())?;
+    let pairs = list_peers::<(Prefix, u32), M>(alloc, tables.seats())?;
     group_runs(alloc, pairs.as_slice())
 }
 
@@ -236,7 +172,7 @@ pub fn origins_with_threads<M: PrefixMap<SharedRoute> + Sync, T: Threads>(
     if threads < 2 {
         return origins(alloc, tables);
     }
-    let pairs = pairs_by_few(rt, alloc, tables.seats())?;
+    let pairs = list_peers_by_few::<(Prefix, u32), M, T>(rt, alloc, tables.seats())?;
     group_runs(alloc, pairs.as_slice())
 }
 

@@ -1,21 +1,19 @@
 //! The report `visibility`: the prefixes that are in any table. A line holds a prefix and the number of peers at which
 //! it is visible.
 
-ghost use Rattle.std.specs.Prelude.{◌≡◌, [], ◌∷◌, IfOk, map};
+ghost use Rattle.std.specs.Prelude.{◌≡◌, IfOk, map};
 ghost use Rattle.std.specs.List.{flat_map};
-ghost use Rattle.std.specs.Thread.{IsSync};
 ghost use Rattle.bgp_prefix.specs.Prefixes.{prefix_cmp};
 ghost use Rattle.rib_report.specs.Merges.{by_key, counted_both};
 ghost use Rattle.rib_report.specs.Runs.{is_last};
-ghost use Rattle.rib_report.specs.Reports.{seen_among, visibility_rows};
+ghost use Rattle.rib_report.specs.Reports.{visible_among, visibility_rows};
 ghost use Rattle.rib_report.specs.Lines.{visibility_line};
 ghost use Rattle.rib_report.specs.Texts.{IsOutput, Writes};
-ghost use Rattle.peer_tables.specs.Seats.{seat_of};
 
 use crate::buffer::TextBuffer;
 use crate::field::Ended;
 use crate::line::Line;
-use crate::merge::{Mergeable, PEERS_AT_ONCE, merge};
+use crate::merge::{Listed, Mergeable, list_peers, list_peers_by_few};
 use crate::write::write_lines;
 use adj_rib::SharedRoute;
 use bgp_prefix::{Memory, Prefix, PrefixMap};
@@ -24,11 +22,11 @@ use peer_tables::{Seated, Tables};
 use std::alloc::Global;
 use std::cmp::Ordering;
 use std::marker::Sync;
-use std::thread::{Threads, join};
+use std::thread::Threads;
 
 /// In how many tables a prefix is.
 #[derive(Drop)]
-pub struct SeenRow {
+pub struct VisibilityRow {
     pub prefix: Prefix,
     pub peers: usize,
 }
@@ -60,95 +58,39 @@ fn is_repeat(last: Option<Prefix>, prefix: Prefix) -> bool
     }
 }
 
-/// Returns the prefixes of one peer's table in order, each once and with a count of 1, whatever its path identifiers.
-fn prefixes_of_seat<M: PrefixMap<SharedRoute>>(
-    alloc: Global,
-    seat: &Seated<M>,
-) -> Result<Vec<(Prefix, usize)>, Memory>
-    ensures { IfOk result (λ counts. counts.items ≡ seen_among (seat_of seat.now ∷ [])) }
-{
-    let entries = seat.session.table().entries(alloc)?;
-    let mut counts = Vec::with_capacity(alloc, entries.len())?;
-    let mut last = None;
-    for entry in entries.as_slice() {
-        let prefix = entry.0.prefix;
-        if !is_repeat(last, prefix) {
-            counts.push((prefix, 1))?;
+/// What is listed of peers: the prefixes of their tables in order, each with the number of peers at which it is visible.
+impl Listed for (Prefix, usize) {
+    ghost list_of = { visible_among };
+
+    /// Each prefix once and with a count of 1, whatever its path identifiers.
+    fn list_of_seat<M: PrefixMap<SharedRoute>>(
+        alloc: Global,
+        seat: &Seated<M>,
+    ) -> Result<Vec<(Prefix, usize)>, Memory> {
+        let entries = seat.session.table().entries(alloc)?;
+        let mut counts = Vec::with_capacity(alloc, entries.len())?;
+        let mut last = None;
+        for entry in entries.as_slice() {
+            let prefix = entry.0.prefix;
+            if !is_repeat(last, prefix) {
+                counts.push((prefix, 1))?;
+            }
+            last = Some(prefix);
         }
-        last = Some(prefix);
+        Ok(counts)
     }
-    Ok(counts)
-}
 
-/// Returns the prefixes of these peers' tables in order, each with the number of peers at which it is visible. The
-/// peers are halved until each is alone, so that hardly more than a few lists of prefixes are held at a time.
-fn prefixes_of<M: PrefixMap<SharedRoute>>(
-    alloc: Global,
-    seats: &[Seated<M>],
-) -> Result<Vec<(Prefix, usize)>, Memory>
-    ensures { IfOk result (λ counts. counts.items ≡ seen_among (map seat_of seats.now)) }
-{
-    match seats {
-        [] => Ok(Vec::new(alloc)),
-        [seat] => prefixes_of_seat(alloc, seat),
-        _ => {
-            // Of two halves the longer one comes first: fewer lists wait while it is halved further.
-            let (front, back) = seats.split_at(seats.len() - seats.len() / 2);
-            let front = prefixes_of(alloc, front)?;
-            let back = prefixes_of(alloc, back)?;
-            merge(alloc, front.as_slice(), back.as_slice())
-        }
-    }
-}
-
-/// As `prefixes_of`, with the halves of the peers in two threads, if one can be started.
-fn prefixes_by_two<M: PrefixMap<SharedRoute> + Sync, T: Threads>(
-    rt: &T,
-    alloc: Global,
-    seats: &[Seated<M>],
-) -> Result<Vec<(Prefix, usize)>, Memory>
-    ensures { IfOk result (λ counts. counts.items ≡ seen_among (map seat_of seats.now)) }
-{
-    let (front, back) = seats.split_at(seats.len() / 2);
-    let list_front = move || -> Result<Vec<(Prefix, usize)>, Memory>
-        requires { IsSync M.row }
-        ensures { IfOk result (λ counts. counts.items ≡ seen_among (map seat_of front.entry.now)) }
-    { prefixes_of(alloc, front) };
-    let list_back = move || -> Result<Vec<(Prefix, usize)>, Memory>
-        requires { IsSync M.row }
-        ensures { IfOk result (λ counts. counts.items ≡ seen_among (map seat_of back.entry.now)) }
-    { prefixes_of(alloc, back) };
-    let (first, second) = join(rt, list_front, list_back);
-    let (first, second) = (first?, second?);
-    merge(alloc, first.as_slice(), second.as_slice())
-}
-
-/// As `prefixes_of`, in two threads that share a few peers at a time, so that together they hold only a few lists more
-/// than one thread does.
-fn prefixes_by_few<M: PrefixMap<SharedRoute> + Sync, T: Threads>(
-    rt: &T,
-    alloc: Global,
-    seats: &[Seated<M>],
-) -> Result<Vec<(Prefix, usize)>, Memory>
-    ensures { IfOk result (λ counts. counts.items ≡ seen_among (map seat_of seats.now)) }
-{
-    if seats.len() <= PEERS_AT_ONCE {
-        return prefixes_by_two(rt, alloc, seats);
-    }
-    let (some, others) = seats.split_at(seats.len() - seats.len() / 2);
-    let some = prefixes_by_few(rt, alloc, some)?;
-    let others = prefixes_by_few(rt, alloc, others)?;
-    merge(alloc, some.as_slice(), others.as_slice())
+    fn lists_merge() {}
 }
 
 /// Makes the rows of counted prefixes.
-fn rows_of(alloc: Global, counts: &[(Prefix, usize)]) -> Result<Vec<SeenRow>, Memory>
+fn rows_of(alloc: Global, counts: &[(Prefix, usize)]) -> Result<Vec<VisibilityRow>, Memory>
     ensures { IfOk result (λ rows. rows.items ≡ map (λ e. record { prefix = e.0; peers = e.1 }) counts.now) }
 {
     let mut rows = Vec::with_capacity(alloc, counts.len())?;
     for count in counts {
         let (prefix, peers) = *count;
-        rows.push(SeenRow { prefix, peers })?;
+        rows.push(VisibilityRow { prefix, peers })?;
     }
     Ok(rows)
 }
@@ -158,10 +100,10 @@ fn rows_of(alloc: Global, counts: &[(Prefix, usize)]) -> Result<Vec<SeenRow>, Me
 pub fn visibility<M: PrefixMap<SharedRoute>>(
     alloc: Global,
     tables: &Tables<M>,
-) -> Result<Vec<SeenRow>, Memory>
+) -> Result<Vec<VisibilityRow>, Memory>
     ensures { IfOk result (λ rows. rows.items ≡ visibility_rows tables.now) }
 {
-    let counts = prefixes_of(alloc, tables.seats())?;
+    let counts = list_peers::<(Prefix, usize), M>(alloc, tables.seats())?;
     rows_of(alloc, counts.as_slice())
 }
 
@@ -172,17 +114,17 @@ pub fn visibility_with_threads<M: PrefixMap<SharedRoute> + Sync, T: Threads>(
     alloc: Global,
     threads: usize,
     tables: &Tables<M>,
-) -> Result<Vec<SeenRow>, Memory>
+) -> Result<Vec<VisibilityRow>, Memory>
     ensures { IfOk result (λ rows. rows.items ≡ visibility_rows tables.now) }
 {
     if threads < 2 {
         return visibility(alloc, tables);
     }
-    let counts = prefixes_by_few(rt, alloc, tables.seats())?;
+    let counts = list_peers_by_few::<(Prefix, usize), M, T>(rt, alloc, tables.seats())?;
     rows_of(alloc, counts.as_slice())
 }
 
-impl Line for SeenRow {
+impl Line for VisibilityRow {
     ghost line = { visibility_line };
 
     fn prefetch(&self) -> usize {
@@ -195,7 +137,7 @@ impl Line for SeenRow {
 }
 
 /// Writes the rows of `visibility`. If it returns `Write`, a leading part of the text has been written.
-pub fn write_visibility<W: Sink>(out: &mut W, rows: &[SeenRow]) -> Result<(), ReplayError>
+pub fn write_visibility<W: Sink>(out: &mut W, rows: &[VisibilityRow]) -> Result<(), ReplayError>
     ensures { IsOutput (W.contents out.old) (W.failure_count out.old) (W.contents out.new) (W.failure_count out.new)
         (flat_map visibility_line rows.now) result }
 {

@@ -7,8 +7,8 @@ use fixtures::bytes_of;
 use mrt_body::{Damage, PeerAddr, PeerKey, Place};
 use mrt_frame::{Counted, Fault};
 use rib_report::{
-    ChurnRow, OriginRow, SeenRow, TableRow, write_churn, write_faults, write_origins, write_rows,
-    write_visibility,
+    ChurnRow, OriginRow, SeenRow, TableRow, VisibilityRow, write_churn, write_faults,
+    write_origins, write_rows, write_seen, write_visibility,
 };
 use std::alloc::Global;
 use std::process::Abort;
@@ -120,11 +120,11 @@ fn numbers(rt: &impl Abort, alloc: Global, numbers: &[u32]) -> Sequence<u32> {
 fn visibility_and_origins_have_a_line_for_each_prefix(rt: HostRuntime) {
     let alloc = rt.alloc();
     let visible = [
-        SeenRow {
+        VisibilityRow {
             prefix: prefix(0, 0),
             peers: 1,
         },
-        SeenRow {
+        VisibilityRow {
             prefix: prefix(u32::MAX, 32),
             peers: usize::MAX,
         },
@@ -147,6 +147,34 @@ fn visibility_and_origins_have_a_line_for_each_prefix(rt: HostRuntime) {
     let mut out = Counted::new(Vec::<u8>::new(alloc));
     assert!(rt; write_visibility(&mut out, &visible).is_ok());
     assert!(rt; write_origins(&mut out, &origins).is_ok());
+    assert!(rt; out.device().as_slice() == lines.as_bytes());
+}
+
+#[test]
+fn seen_has_a_line_for_each_prefix_and_origin(rt: HostRuntime) {
+    let rows = [
+        SeenRow {
+            prefix: prefix(0, 0),
+            origin: Some(0),
+            peers: 1,
+        },
+        SeenRow {
+            prefix: prefix(0x0A0F_FFFF, 12),
+            origin: None,
+            peers: 1_000_000,
+        },
+        SeenRow {
+            prefix: prefix(u32::MAX, 32),
+            origin: Some(u32::MAX),
+            peers: usize::MAX,
+        },
+    ];
+    let lines = "0.0.0.0/0|0|1
+10.0.0.0/12|-|1000000
+255.255.255.255/32|4294967295|18446744073709551615
+";
+    let mut out = Counted::new(Vec::<u8>::new(rt.alloc()));
+    assert!(rt; write_seen(&mut out, &rows).is_ok());
     assert!(rt; out.device().as_slice() == lines.as_bytes());
 }
 

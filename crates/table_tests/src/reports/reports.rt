@@ -6,9 +6,9 @@ use bgp_prefix::{Flat, PrefixMap, Radix};
 use mrt_body::{Damage, Place};
 use mrt_frame::{Counted, Fault, ReplayError, Sink};
 use rib_report::{
-    Tables, churn, faults, list_tables, matches, origins_with_threads, table_rows,
-    visibility_with_threads, write_churn, write_faults, write_origins, write_rows,
-    write_visibility,
+    Tables, churn, faults, list_tables, matches, origins_with_threads, seen_with_threads,
+    table_rows, visibility_with_threads, write_churn, write_faults, write_origins, write_rows,
+    write_seen, write_visibility,
 };
 use std::alloc::Global;
 use std::process::Abort;
@@ -19,6 +19,7 @@ pub enum Report {
     Tables,
     Visibility,
     Origins,
+    Seen,
     Churn,
     Match(u32),
     Faults,
@@ -80,6 +81,7 @@ const THREE_PEERS: Case<'static> = Case {
         (Report::Match(0x0B00_0000), ""),
         (Report::Visibility, "10.0.0.0/8|3\n"),
         (Report::Origins, ""),
+        (Report::Seen, "10.0.0.0/8|65000|3\n"),
         (
             Report::Churn,
             "65000 192.0.2.1|1|0|1|0|0|0|0|0|1.000000|1.000000
@@ -137,6 +139,7 @@ const BY_A_SET: Case<'static> = Case {
     reports: &[
         (Report::Visibility, "10.0.0.0/8|2\n"),
         (Report::Origins, ""),
+        (Report::Seen, "10.0.0.0/8|65000|1\n10.0.0.0/8|-|1\n"),
         (
             Report::Tables,
             "65000 192.0.2.1|10.0.0.0/8|65000|192.0.2.1|IGP|-|-|-|-
@@ -157,6 +160,10 @@ const TWO_ORIGINS: Case<'static> = Case {
     damaged: 0,
     reports: &[
         (Report::Origins, "10.0.0.0/8|65000 65001\n"),
+        (
+            Report::Seen,
+            "0.0.0.0/0|65000|1\n10.0.0.0/8|65000|2\n10.0.0.0/8|65001|1\n10.1.0.0/16|65000|1\n",
+        ),
         (
             Report::Visibility,
             "0.0.0.0/0|1\n10.0.0.0/8|3\n10.1.0.0/16|1\n",
@@ -187,6 +194,7 @@ const TWO_PATHS: Case<'static> = Case {
 ",
         ),
         (Report::Visibility, "10.0.0.0/8|3\n"),
+        (Report::Seen, "10.0.0.0/8|65000|3\n"),
         (
             Report::Churn,
             "65000 192.0.2.1|2|0|0|0|0|0|0|0|1.000000|1.000000
@@ -259,6 +267,10 @@ pub fn write_report<M: PrefixMap<SharedRoute> + Sync, T: Threads + Sync, W: Sink
         Report::Origins => {
             let rows = origins_with_threads(rt, alloc, threads, tables)?;
             write_origins(out, rows.as_slice())
+        }
+        Report::Seen => {
+            let rows = seen_with_threads(rt, alloc, threads, tables)?;
+            write_seen(out, rows.as_slice())
         }
         Report::Churn => write_churn(out, churn(alloc, tables)?.as_slice()),
         Report::Match(addr) => write_rows(out, matches(alloc, tables, addr)?.as_slice()),

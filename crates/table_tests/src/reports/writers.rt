@@ -5,7 +5,7 @@ use super::reports::{REFUSED, Report, write_report};
 use adj_rib::SharedRoute;
 use bgp_prefix::{Memory, Prefix, Radix};
 use mrt_frame::{Counted, Failures, ReplayError};
-use rib_report::{SeenRow, Tables, write_visibility};
+use rib_report::{Tables, VisibilityRow, write_visibility};
 use std::alloc::{AllocError, Global};
 use std::io::{self, ErrorKind, Write};
 use std::process::Abort;
@@ -61,10 +61,11 @@ const PEERS: Peers<'static> = [
     &["bad-segment-kind", "announcement"],
 ];
 
-const REPORTS: [Report; 6] = [
+const REPORTS: [Report; 7] = [
     Report::Tables,
     Report::Visibility,
     Report::Origins,
+    Report::Seen,
     Report::Churn,
     Report::Match(0x0A01_0000),
     Report::Faults,
@@ -133,18 +134,18 @@ fn each_report_stops_at_the_write_that_fails(rt: HostRuntime) {
 
 const MANY: u32 = 6_000;
 
-fn row(i: u32) -> SeenRow {
+fn row(i: u32) -> VisibilityRow {
     let Some(prefix) = Prefix::new(i << 12, 20) else {
         unreachable!()
     };
-    SeenRow {
+    VisibilityRow {
         prefix,
         peers: i as usize,
     }
 }
 
 /// Rows of prefixes of length 20, one after the other.
-fn many_rows(alloc: Global) -> Result<Vec<SeenRow>, Memory> {
+fn many_rows(alloc: Global) -> Result<Vec<VisibilityRow>, Memory> {
     let mut rows = Vec::new(alloc);
     for i in 0..MANY {
         rows.push(row(i))?;
@@ -172,7 +173,7 @@ fn many_lines(alloc: Global) -> Result<Vec<u8>, Memory> {
 }
 
 /// A writer with room for a front of the text holds that front, and takes nothing more.
-fn expect_front(rt: &impl Abort, alloc: Global, rows: &[SeenRow], front: &[u8]) {
+fn expect_front(rt: &impl Abort, alloc: Global, rows: &[VisibilityRow], front: &[u8]) {
     let mut out = Narrow::new(alloc, usize::MAX, front.len(), false);
     let answer = write_visibility(&mut out, rows);
     let room = front.len();

@@ -1,0 +1,381 @@
+//! The options, the commands and their columns, each told once: help, manual page, usage page and completions are made
+//! from these tables (`tools/options.py` reads this file).
+
+/// What an option takes behind it.
+#[derive(Clone, Copy)]
+pub enum Takes {
+    /// Nothing: it is on where it stands.
+    Nothing,
+    /// A number within these bounds. The last one counts.
+    Number(i64, i64),
+    /// A text. The last one counts.
+    Text,
+    /// A text. All count.
+    Texts,
+}
+
+/// An option.
+#[derive(Clone, Copy)]
+pub struct OptionRow {
+    pub name: &'static str,
+    /// What its value is called, or nothing.
+    pub value: &'static str,
+    pub takes: Takes,
+    /// The value without it, or nothing.
+    pub default: &'static str,
+    /// Values that a completion offers, split by blanks.
+    pub offered: &'static str,
+    /// The commands that have it, split by blanks, or nothing for all.
+    pub commands: &'static str,
+    pub is_required: bool,
+    /// What it does. The first sentence stands alone in completions.
+    pub meaning: &'static str,
+}
+
+/// A column of a report.
+#[derive(Clone, Copy)]
+pub struct ColumnRow {
+    pub name: &'static str,
+    pub meaning: &'static str,
+}
+
+/// A command.
+#[derive(Clone, Copy)]
+pub struct CommandRow {
+    pub name: &'static str,
+    pub meaning: &'static str,
+    pub columns: &'static [ColumnRow],
+    /// The order of its lines, and which there are.
+    pub order: &'static str,
+    pub examples: &'static [&'static str],
+}
+
+pub static OPTIONS: [OptionRow; 10] = [
+    OptionRow {
+        name: "address",
+        value: "A",
+        takes: Takes::Text,
+        default: "",
+        offered: "",
+        commands: "match",
+        is_required: true,
+        meaning: "Look up this IPv4 address, as 192.0.2.1",
+    },
+    OptionRow {
+        name: "prefix",
+        value: "PREFIX",
+        takes: Takes::Texts,
+        default: "",
+        offered: "",
+        commands: "tables visibility origins seen match faults",
+        is_required: false,
+        meaning: "Report on this prefix alone. 192.0.2.0/24 is that prefix, 192.0.2.0/24+ also its more specifics, and 192.0.2.0/24- also the prefixes that contain it; an address alone has length 32. Given more than once, each prefix adds to the others",
+    },
+    OptionRow {
+        name: "peer",
+        value: "PEER",
+        takes: Takes::Texts,
+        default: "",
+        offered: "",
+        commands: "",
+        is_required: false,
+        meaning: "Report on this peer alone. PEER is an AS number, or one with an address, as 65001,192.0.2.1 or '65001 192.0.2.1'. Given more than once, each peer adds to the others",
+    },
+    OptionRow {
+        name: "peers",
+        value: "I/N",
+        takes: Takes::Text,
+        default: "",
+        offered: "",
+        commands: "",
+        is_required: false,
+        meaning: "Report on the Ith of N shares of the peers alone. N is at most 65536, and each peer is in one share",
+    },
+    OptionRow {
+        name: "until",
+        value: "TIME",
+        takes: Takes::Text,
+        default: "",
+        offered: "",
+        commands: "",
+        is_required: false,
+        meaning: "Leave out messages, state changes and entries recorded after this second. TIME is a number of seconds since 1970 UTC, a date, as 2024-01-01 (its midnight in UTC), or a date and time with an offset from UTC, as 2024-01-01T01:00:00Z, where a blank may stand for the T",
+    },
+    OptionRow {
+        name: "header",
+        value: "",
+        takes: Takes::Nothing,
+        default: "",
+        offered: "",
+        commands: "",
+        is_required: false,
+        meaning: "Print the columns' names first",
+    },
+    OptionRow {
+        name: "summary",
+        value: "",
+        takes: Takes::Nothing,
+        default: "",
+        offered: "",
+        commands: "",
+        is_required: false,
+        meaning: "Say on standard error what was read, in lines of a key and a value",
+    },
+    OptionRow {
+        name: "progress",
+        value: "",
+        takes: Takes::Nothing,
+        default: "",
+        offered: "",
+        commands: "",
+        is_required: false,
+        meaning: "Show on standard error how far the reading is",
+    },
+    OptionRow {
+        name: "workers",
+        value: "N",
+        takes: Takes::Number(1, 64),
+        default: "",
+        offered: "1 2 4 8 16 32 64",
+        commands: "",
+        is_required: false,
+        meaning: "Replay with this many threads, 1 to 64. The report doesn't depend on it [default: one for each processor, or one alone where few prefixes are chosen]",
+    },
+    OptionRow {
+        name: "ring",
+        value: "N",
+        takes: Takes::Number(1, 65536),
+        default: "1024",
+        offered: "1 64 1024 65536",
+        commands: "",
+        is_required: false,
+        meaning: "Let this many messages and entries wait for each thread, 1 to 65536. The report doesn't depend on it",
+    },
+];
+
+const ROUTE_COLUMNS: &[ColumnRow] = &[
+    ColumnRow {
+        name: "peer",
+        meaning: "the peer's AS, a space, its address",
+    },
+    ColumnRow {
+        name: "prefix",
+        meaning: "ADDRESS/LENGTH, and #ID behind it where the route has a path identifier (ADD-PATH)",
+    },
+    ColumnRow {
+        name: "as_path",
+        meaning: "AS numbers; a set is {1,2}, a confederation's sequence (1 2) and its set [1,2]",
+    },
+    ColumnRow {
+        name: "next_hop",
+        meaning: "an IPv4 or IPv6 address, or a global and a link-local IPv6 address",
+    },
+    ColumnRow {
+        name: "origin",
+        meaning: "IGP, EGP or INCOMPLETE",
+    },
+    ColumnRow {
+        name: "med",
+        meaning: "MULTI_EXIT_DISC",
+    },
+    ColumnRow {
+        name: "local_pref",
+        meaning: "LOCAL_PREF",
+    },
+    ColumnRow {
+        name: "atomic",
+        meaning: "`atomic` where the route has ATOMIC_AGGREGATE",
+    },
+    ColumnRow {
+        name: "aggregator",
+        meaning: "its AS, a space, its address",
+    },
+];
+
+const VISIBILITY_COLUMNS: &[ColumnRow] = &[
+    ColumnRow {
+        name: "prefix",
+        meaning: "ADDRESS/LENGTH",
+    },
+    ColumnRow {
+        name: "peers",
+        meaning: "how many peers' tables have a route to it",
+    },
+];
+
+const ORIGINS_COLUMNS: &[ColumnRow] = &[
+    ColumnRow {
+        name: "prefix",
+        meaning: "ADDRESS/LENGTH",
+    },
+    ColumnRow {
+        name: "origins",
+        meaning: "the ASes that end the paths to it, ascending, split by a space; two at least",
+    },
+];
+
+const SEEN_COLUMNS: &[ColumnRow] = &[
+    ColumnRow {
+        name: "prefix",
+        meaning: "ADDRESS/LENGTH",
+    },
+    ColumnRow {
+        name: "origin",
+        meaning: "the AS that ends the paths to it, or '-' for routes without one",
+    },
+    ColumnRow {
+        name: "peers",
+        meaning: "how many peers' tables have a route to it with this origin AS",
+    },
+];
+
+const CHURN_COLUMNS: &[ColumnRow] = &[
+    ColumnRow {
+        name: "peer",
+        meaning: "the peer's AS, a space, its address",
+    },
+    ColumnRow {
+        name: "new",
+        meaning: "announcements of what the table didn't have",
+    },
+    ColumnRow {
+        name: "changed",
+        meaning: "announcements that put another route in place of the one that it had",
+    },
+    ColumnRow {
+        name: "same",
+        meaning: "announcements of the very route that it had",
+    },
+    ColumnRow {
+        name: "gone",
+        meaning: "withdrawals of what the table had",
+    },
+    ColumnRow {
+        name: "void",
+        meaning: "withdrawals of what it didn't have",
+    },
+    ColumnRow {
+        name: "resets",
+        meaning: "changes of the session's state that empty the table",
+    },
+    ColumnRow {
+        name: "idle",
+        meaning: "updates and table entries while the session wasn't up",
+    },
+    ColumnRow {
+        name: "refused",
+        meaning: "damaged messages and entries",
+    },
+    ColumnRow {
+        name: "first",
+        meaning: "seconds since 1970 UTC of the peer's first record, with six digits behind the point",
+    },
+    ColumnRow {
+        name: "last",
+        meaning: "those of its last one",
+    },
+];
+
+const FAULTS_COLUMNS: &[ColumnRow] = &[
+    ColumnRow {
+        name: "file",
+        meaning: "the number of the file, from 1",
+    },
+    ColumnRow {
+        name: "offset",
+        meaning: "where the damaged record begins, in bytes from the file's start",
+    },
+    ColumnRow {
+        name: "entry",
+        meaning: "the damaged entry of a table record, from 1",
+    },
+    ColumnRow {
+        name: "number",
+        meaning: "the fault's number, 1 to 15",
+    },
+    ColumnRow {
+        name: "fault",
+        meaning: "its name; behind BadAttribute stands the attribute's type",
+    },
+];
+
+pub static COMMANDS: [CommandRow; 7] = [
+    CommandRow {
+        name: "tables",
+        meaning: "Print every route of every peer",
+        columns: ROUTE_COLUMNS,
+        order: "Peers come in the order in which the dumps first name them, and a peer's routes by prefix.",
+        examples: &[
+            "tables --header rib.mrt updates.mrt",
+            "tables --until 2024-01-01T01:00:00Z rib.mrt updates.mrt",
+            "tables --prefix 192.0.2.0/24+ rib.mrt updates.mrt",
+        ],
+    },
+    CommandRow {
+        name: "visibility",
+        meaning: "Count the peers that have each prefix",
+        columns: VISIBILITY_COLUMNS,
+        order: "Prefixes come in order; one that no table has isn't there.",
+        examples: &[
+            "visibility --header rib.mrt",
+            "visibility rib.mrt updates.mrt | awk -F'|' '$2 < 3'",
+        ],
+    },
+    CommandRow {
+        name: "origins",
+        meaning: "Print the prefixes that have more than one origin AS",
+        columns: ORIGINS_COLUMNS,
+        order: "Prefixes come in order; one of a single origin AS isn't there.",
+        examples: &[
+            "origins --header rib.mrt",
+            "origins --until 2024-01-01T01:00:00Z rib.mrt updates.mrt",
+        ],
+    },
+    CommandRow {
+        name: "seen",
+        meaning: "Count the peers that have each prefix with each origin AS",
+        columns: SEEN_COLUMNS,
+        order: "Lines come by prefix and origin AS, '-' last. The lines of several runs on different peers add up.",
+        examples: &[
+            "seen --prefix 192.0.2.0/24+ rib.mrt updates.mrt",
+            "seen --peers 1/2 rib.mrt updates.mrt",
+        ],
+    },
+    CommandRow {
+        name: "churn",
+        meaning: "Count what each peer announced and withdrew",
+        columns: CHURN_COLUMNS,
+        order: "Peers come in the order in which the dumps first name them.",
+        examples: &[
+            "churn --header updates.mrt",
+            "churn --until 2024-01-01T01:00:00Z rib.mrt updates.mrt",
+        ],
+    },
+    CommandRow {
+        name: "match",
+        meaning: "Print each peer's routes of the longest prefix that contains an address",
+        columns: ROUTE_COLUMNS,
+        order: "Peers come in the order in which the dumps first name them; a peer without such a route has no line.",
+        examples: &[
+            "match --address 192.0.2.1 rib.mrt",
+            "match --address 192.0.2.1 --until 1704070800 rib.mrt updates.mrt",
+        ],
+    },
+    CommandRow {
+        name: "faults",
+        meaning: "List the damaged records of the dumps",
+        columns: FAULTS_COLUMNS,
+        order: "Lines come by file, offset and entry.",
+        examples: &[
+            "faults --header rib.mrt updates.mrt",
+            "faults - < updates.mrt",
+        ],
+    },
+];
+
+impl OptionRow {
+    /// Whether a command has it.
+    pub fn is_of(&self, command: &str) -> bool {
+        self.commands.is_empty() || self.commands.split(' ').any(|name| name == command)
+    }
+}

@@ -1,0 +1,133 @@
+//! Rows on prefixes as text.
+
+use command_line::{read_choice, read_words};
+use mrt_body::Reach;
+use std::alloc::Global;
+use std::test::Fail;
+
+/// The address of 192.0.2.0.
+const NET: u32 = 3_221_225_984;
+
+#[test]
+fn a_choice_is_a_prefix_and_how_far_it_reaches(rt: HostRuntime) {
+    for (text, addr, len, reach) in [
+        ("192.0.2.0/24", NET, 24, Reach::Exact),
+        ("192.0.2.0/24+", NET, 24, Reach::Inside),
+        ("192.0.2.0/24-", NET, 24, Reach::Around),
+        ("192.0.2.7", NET + 7, 32, Reach::Exact),
+        ("192.0.2.7+", NET + 7, 32, Reach::Inside),
+        ("192.0.2.7-", NET + 7, 32, Reach::Around),
+        ("192.0.2.7/32", NET + 7, 32, Reach::Exact),
+        ("192.0.2.128/25+", NET + 128, 25, Reach::Inside),
+        ("0.0.0.0/0", 0, 0, Reach::Exact),
+        ("0.0.0.0/0+", 0, 0, Reach::Inside),
+        ("0.0.0.0/8", 0, 8, Reach::Exact),
+        ("0.0.0.0", 0, 32, Reach::Exact),
+        ("128.0.0.0/1-", 2_147_483_648, 1, Reach::Around),
+        ("255.255.255.255/32", 4_294_967_295, 32, Reach::Exact),
+    ] {
+        match read_choice(text) {
+            Some(choice) => {
+                assert!(rt; choice.prefix.addr() == addr, "{text}");
+                assert!(rt; choice.prefix.len() == len, "{text}");
+                assert!(rt; choice.reach == reach, "{text}");
+            }
+            None => assert!(rt; false, "{text}"),
+        }
+    }
+}
+
+#[test]
+fn another_text_is_no_choice(rt: HostRuntime) {
+    for text in [
+        // A bit past the length.
+        "192.0.2.1/24",
+        "192.0.2.1/24+",
+        "192.0.2.1/24-",
+        "10.0.0.1/8",
+        "0.0.0.1/0",
+        "255.255.255.255/31",
+        // No length of at most 32 in decimal.
+        "192.0.2.0/33",
+        "192.0.2.0/256",
+        "192.0.2.0/",
+        "192.0.2.0/+",
+        "192.0.2.0/024",
+        "192.0.2.0/+24",
+        "192.0.2.0/-1",
+        "192.0.2.0/24/24",
+        "192.0.2.0/ 24",
+        "0.0.0.0/00",
+        "192.0.2.0/255.255.255.0",
+        // No address.
+        "",
+        "+",
+        "-",
+        "/",
+        "/24",
+        "192.0.2/24",
+        "192.0.2.0.0/24",
+        "192.0.2.256/24",
+        "192.0.02.0/24",
+        "192.0.2.",
+        "2001:db8::/32",
+        // Another mark, or more than one.
+        "192.0.2.0/24++",
+        "192.0.2.0/24+-",
+        "192.0.2.0/24=",
+        "192.0.2.0/24^+",
+        "+192.0.2.0/24",
+        "192.0.2.0+/24",
+        "192.0.2.0/24 +",
+        " 192.0.2.0/24",
+        "192.0.2.0/24 ",
+    ] {
+        assert!(rt; read_choice(text).is_none(), "{text}");
+    }
+}
+
+/// The prefixes of a job, each as its address, its length and its reach.
+fn chosen(alloc: Global, text: &str) -> Result<String, Fail> {
+    let mut words = Vec::new(alloc);
+    for word in text.split(' ') {
+        words.push(String::from_str(alloc, word)?)?;
+    }
+    let mut shown = String::new(alloc);
+    match read_words(alloc, words.as_slice()) {
+        Ok(job) => {
+            for choice in &job.prefixes {
+                let reach = match choice.reach {
+                    Reach::Exact => "",
+                    Reach::Inside => "+",
+                    Reach::Around => "-",
+                };
+                let addr = choice.prefix.addr();
+                let len = choice.prefix.len();
+                write!(shown, "{addr}/{len}{reach};")?;
+            }
+        }
+        Err(_) => shown.push_str("refused")?,
+    }
+    Ok(shown)
+}
+
+/// Each `--prefix` adds to the others, in their order, while of other options the last one counts.
+#[test]
+fn prefixes_add_up(rt: HostRuntime) -> Result<(), Fail> {
+    for (text, expected) in [
+        ("tables x", ""),
+        ("tables --prefix 192.0.2.0/24+ x", "3221225984/24+;"),
+        (
+            "tables --prefix 0.0.0.9 --workers 2 --prefix 192.0.2.0/24- x --prefix=0.0.0.0/0 --workers 3",
+            "9/32;3221225984/24-;0/0;",
+        ),
+        ("seen --prefix 0.0.0.9 --prefix 0.0.0.9 x", "9/32;9/32;"),
+        ("churn --prefix 0.0.0.9 x", "refused"),
+        ("tables --prefix 0.0.0.9,0.0.0.8 x", "refused"),
+        ("tables --prefix 0.0.0.9 --prefix 0.0.0.9/31 x", "refused"),
+    ] {
+        let shown = chosen(rt.alloc(), text)?;
+        assert!(rt; shown.as_str() == expected, "{text}");
+    }
+    Ok(())
+}

@@ -1,0 +1,200 @@
+//! The report `seen`: the prefixes that are in any table, and the origin ASes of their routes. A line holds a prefix, an
+//! origin AS, and the number of peers that have a route of the prefix with that origin AS.
+
+ghost use Rattle.std.specs.Prelude.{◌≡◌, IfOk, OnOk, ◌++◌, map};
+ghost use Rattle.std.specs.List.{flat_map};
+ghost use Rattle.bgp_prefix.specs.Ordered.{in_order};
+ghost use Rattle.rib_report.specs.Merges.{by_key, counted_both};
+ghost use Rattle.rib_report.specs.Reports.{origin_cmp, prefix_origin_cmp, prefix_origin, seat_prefix_origins, seen_among, seen_rows};
+ghost use Rattle.rib_report.specs.Digits.{field};
+ghost use Rattle.rib_report.specs.Lines.{seen_line};
+ghost use Rattle.rib_report.specs.Texts.{IsOutput, Writes};
+ghost use Rattle.peer_tables.specs.Seats.{seat_of};
+
+use crate::buffer::TextBuffer;
+use crate::field::Ended;
+use crate::line::Line;
+use crate::merge::{Listed, Mergeable, list_peers, list_peers_by_few};
+use crate::write::write_lines;
+use adj_rib::SharedRoute;
+use bgp_prefix::{Memory, Prefix, PrefixMap};
+use mrt_frame::{ReplayError, Sink};
+use peer_tables::{Seated, Tables};
+use std::alloc::Global;
+use std::cmp::Ordering;
+use std::marker::Sync;
+use std::thread::Threads;
+
+/// A prefix, an origin AS of its routes, or none, and the number of peers that have such a route.
+#[derive(Drop)]
+pub struct SeenRow {
+    pub prefix: Prefix,
+    pub origin: Option<u32>,
+    pub peers: usize,
+}
+
+/// The prefix and the origin AS of a route, which may have none (RFC 6811, 2).
+type PrefixOrigin = (Prefix, Option<u32>);
+
+/// Compares two origin ASes by number. A route without one comes last.
+fn compare_origins(one: Option<u32>, other: Option<u32>) -> Ordering
+    ensures { result ≡ origin_cmp one other }
+{
+    match one {
+        Some(one) => match other {
+            Some(other) => one.cmp(&other),
+            None => Ordering::Less,
+        },
+        None => match other {
+            Some(_) => Ordering::Greater,
+            None => Ordering::Equal,
+        },
+    }
+}
+
+/// Compares by prefix, and then by origin AS.
+fn compare_pairs(one: &PrefixOrigin, other: &PrefixOrigin) -> Ordering
+    ensures { result ≡ prefix_origin_cmp one.now other.now }
+{
+    one.0.cmp(&other.0).then(compare_origins(one.1, other.1))
+}
+
+/// Prefixes and origin ASes with counts are merged by both. Counts are added, and saturate.
+impl Mergeable for (PrefixOrigin, usize) {
+    ghost order = { by_key prefix_origin_cmp };
+
+    ghost both = { counted_both };
+
+    #[inline(always)]
+    fn compare(self, other: (PrefixOrigin, usize)) -> Ordering {
+        compare_pairs(&self.0, &other.0)
+    }
+
+    #[inline(always)]
+    fn unite(self, other: (PrefixOrigin, usize)) -> (PrefixOrigin, usize) {
+        (self.0, self.1.saturating_add(other.1))
+    }
+}
+
+/// Returns the prefix and the origin AS of each route of one peer, keys in order.
+fn pairs_of_routes<M: PrefixMap<SharedRoute>>(
+    alloc: Global,
+    seat: &Seated<M>,
+) -> Result<Vec<PrefixOrigin>, Memory>
+    ensures { IfOk result (λ pairs. pairs.items ≡ seat_prefix_origins (seat_of seat.now)) }
+{
+    let entries = seat.session.table().entries(alloc)?;
+    let mut pairs = Vec::with_capacity(alloc, entries.len())?;
+    for entry in entries.as_slice() {
+        let (key, shared) = *entry;
+        pairs.push((key.prefix, shared.route().origin_as()))?;
+    }
+    Ok(pairs)
+}
+
+/// Returns the prefixes and origin ASes of one peer's routes in order, each pair once, whatever the path identifiers.
+fn pairs_of_seat<M: PrefixMap<SharedRoute>>(
+    alloc: Global,
+    seat: &Seated<M>,
+) -> Result<Vec<PrefixOrigin>, Memory>
+    ensures { IfOk result (λ pairs. pairs.items ≡ in_order prefix_origin_cmp (seat_prefix_origins (seat_of seat.now))) }
+{
+    let mut pairs = pairs_of_routes(alloc, seat)?;
+    pairs.sort_by(compare_pairs)?;
+    pairs.dedup();
+    Ok(pairs)
+}
+
+/// Gives each a count of 1.
+fn count_once(alloc: Global, pairs: &[PrefixOrigin]) -> Result<Vec<(PrefixOrigin, usize)>, Memory>
+    ensures { IfOk result (λ counts. counts.items ≡ map (λ e. (e, 1)) pairs.now) }
+{
+    let mut counts = Vec::with_capacity(alloc, pairs.len())?;
+    for pair in pairs {
+        counts.push((*pair, 1))?;
+    }
+    Ok(counts)
+}
+
+/// What is listed of peers: the prefixes and origin ASes of their routes in order, each pair with the number of peers that
+/// have such a route.
+impl Listed for (PrefixOrigin, usize) {
+    ghost list_of = { seen_among };
+
+    fn list_of_seat<M: PrefixMap<SharedRoute>>(
+        alloc: Global,
+        seat: &Seated<M>,
+    ) -> Result<Vec<(PrefixOrigin, usize)>, Memory> {
+        let pairs = pairs_of_seat(alloc, seat)?;
+        count_once(alloc, pairs.as_slice())
+    }
+
+    fn lists_merge() {}
+}
+
+/// Makes the rows of counted prefixes and origin ASes.
+fn rows_of(alloc: Global, counts: &[(PrefixOrigin, usize)]) -> Result<Vec<SeenRow>, Memory>
+    ensures { IfOk result (λ rows. rows.items ≡
+        map (λ e. record { prefix = e.0.0; origin = e.0.1; peers = e.1 }) counts.now) }
+{
+    let mut rows = Vec::with_capacity(alloc, counts.len())?;
+    for count in counts {
+        let ((prefix, origin), peers) = *count;
+        rows.push(SeenRow {
+            prefix,
+            origin,
+            peers,
+        })?;
+    }
+    Ok(rows)
+}
+
+/// Returns, for each prefix and each origin AS of its routes at any peer, the number of peers that have a route of
+/// this prefix with this origin AS: by prefix, then by origin AS, and the routes without one last. A peer counts once
+/// per row, whatever the identifiers of its routes.
+pub fn seen<M: PrefixMap<SharedRoute>>(
+    alloc: Global,
+    tables: &Tables<M>,
+) -> Result<Vec<SeenRow>, Memory>
+    ensures { IfOk result (λ rows. rows.items ≡ seen_rows tables.now) }
+{
+    let counts = list_peers::<(PrefixOrigin, usize), M>(alloc, tables.seats())?;
+    rows_of(alloc, counts.as_slice())
+}
+
+/// Returns what `seen` returns. With two threads or more, two of them share the work; if no thread can be started, the
+/// calling thread does all of it.
+pub fn seen_with_threads<M: PrefixMap<SharedRoute> + Sync, T: Threads>(
+    rt: &T,
+    alloc: Global,
+    threads: usize,
+    tables: &Tables<M>,
+) -> Result<Vec<SeenRow>, Memory>
+    ensures { IfOk result (λ rows. rows.items ≡ seen_rows tables.now) }
+{
+    if threads < 2 {
+        return seen(alloc, tables);
+    }
+    let counts = list_peers_by_few::<(PrefixOrigin, usize), M, T>(rt, alloc, tables.seats())?;
+    rows_of(alloc, counts.as_slice())
+}
+
+impl Line for SeenRow {
+    ghost line = { seen_line };
+
+    fn prefetch(&self) -> usize {
+        0
+    }
+
+    fn put<W: Sink>(&self, text: &mut TextBuffer, out: &mut W) {
+        text.put(out, Ended((self.prefix, (self.origin, self.peers as u128))));
+    }
+}
+
+/// Writes the rows of `seen`. If it returns `Write`, a leading part of the text has been written.
+pub fn write_seen<W: Sink>(out: &mut W, rows: &[SeenRow]) -> Result<(), ReplayError>
+    ensures { IsOutput (W.contents out.old) (W.failure_count out.old) (W.contents out.new) (W.failure_count out.new)
+        (flat_map seen_line rows.now) result }
+{
+    write_lines(out, rows)
+}
