@@ -17,9 +17,10 @@
 //! - Units are lent (`Units::lend`): the dealer copies the bytes of an entry or a message once, from the record to its
 //!   lane's list. `Units::next` is `advance`, a copy of what is lent, and `pass`. A record is read into the memory of
 //!   the one before it, of which at most 128 KiB are kept.
-//! - A RIB record's entries are read once, into a list of 12 bytes each (the peer's index, the path identifier, where
-//!   the attributes are), since one broken entry refuses the record. The list gets room for as many entries as the
-//!   record claims, but for no more than its body can hold, so a false count takes no memory.
+//! - A RIB record's entries are read once, into a list of 16 bytes each (the peer's index, the path identifier, where
+//!   the attributes are, the entry's number), since one broken entry refuses the record. The list gets room for as many
+//!   entries as the record claims, but for no more than its body can hold, so a false count takes no memory. Entries of
+//!   peers that aren't selected are removed from the list at once, which is why each has its number.
 //! - `PayloadBytes` stores up to 112 bytes in the unit itself, and more on the heap: nearly all attributes of RIB
 //!   entries, and about nine in ten UPDATEs, are that short.
 //! - The function `event` and the type `Event` are in two modules, `interpret` and `meaning`, because the toolchain

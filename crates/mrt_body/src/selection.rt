@@ -130,15 +130,6 @@ impl Selection {
         }
     }
 
-    /// Returns the selection of the units up to this second that can concern these prefixes, or any prefix if there are
-    /// none.
-    pub fn new(until: Option<u64>, prefixes: Vec<PrefixChoice>) -> Selection
-        ensures { result ≡ record all_units { until = until; prefixes = prefixes.items } }
-    {
-        let alloc = *prefixes.allocator();
-        Selection::all(alloc).up_to(until).of_prefixes(prefixes)
-    }
-
     /// Returns the same selection up to the end of this second since 1970 UTC, or of all times with `None`.
     pub fn up_to(mut self, until: Option<u64>) -> Selection
         ensures { result ≡ record self { until = until } }
