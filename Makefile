@@ -95,8 +95,10 @@ scripts: $(BINARY)
 	tests/program.sh '$(BINARY)'
 	tests/packaging.sh '$(BINARY)'
 	tests/recipes.sh '$(BINARY)'
+	tests/shares.sh '$(BINARY)'
 	tests/build.sh
 	python3 tools/model_index.py --check
+	python3 tools/options.py --check
 
 # The trial build works, what it makes passes the recipes, and is neither installed nor packed.
 quick-check: $(QUICK)
