@@ -33,7 +33,7 @@ help:
 	@echo 'make run          replays the sample by `tables`'
 	@echo 'make check        the gate: every proof, must-fail edit, test and run from nothing, make scripts and make quick-check'
 	@echo 'make verdict      each crate from nothing, with its tests'
-	@echo 'make scripts      tries lines and statuses, the packages, the recipes, and what the build records and refuses'
+	@echo 'make scripts      tries lines and statuses, the packages, recipes, shares of the peers, and what the build records and refuses'
 	@echo 'make quick-check  builds that program, and tries it'
 	@echo 'make refusals     fails each allocation, read, write and thread start in turn'
 	@echo 'make growths      fails each allocation of the test programs that state what is left then'
