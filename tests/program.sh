@@ -88,7 +88,7 @@ for words in --help 'tables --help' 'visibility --help' 'origins --help' 'churn 
   if cmp -s <(env -u COLUMNS ./bgp_replay $words | tr -s ' \n' '  ') <(COLUMNS=50 ./bgp_replay $words | tr -s ' \n' '  '); then right; else wrong "$words: other words with 50 columns"; fi
 done
 for report in tables visibility origins churn faults 'match --address 10.0.0.1'; do
-  told=$(./bgp_replay ${report%% *} --help | sed -n '/^Columns/,/^[^ C]/s/^  \([a-z_]*\) .*/\1/p' | paste -sd '|')
+  told=$(./bgp_replay ${report%% *} --help | sed -n '/^Columns/,/^[^ C]/s/^  \([a-z_][a-z_]*\) .*/\1/p' | paste -sd '|')
   if [ "$told" = "$(./bgp_replay $report --header empty)" ]; then right; else wrong "$report --help has the columns $told"; fi
 done
 
@@ -124,11 +124,17 @@ bad_prefix() { # WHY PREFIX..
 }
 bad_prefix 'its address has bits past its length' 192.0.2.1/24 192.0.2.1/24+ 192.0.2.1/24- 10.0.0.1/8 0.0.0.1/0
 bad_prefix 'its length is not a number of 0 to 32' 192.0.2.0/33 192.0.2.0/33+ 192.0.2.0/256 192.0.2.0/ 192.0.2.0/024 192.0.2.0/-1 192.0.2.0/24/24 192.0.2.0/24++
-bad_prefix "no IPv4 address stands before its '/'" /24 192.0.2/24 192.0.2.256/24 192.0.02.0/24 2001:db8::/32 '192.0.2.0 /24' +192.0.2.0/24
-bad_prefix 'it is no IPv4 address' soon 192.0.2 192.0.2. 192.0.2.256 ::1 + / ' 192.0.2.0'
-try 2 "error: unexpected argument '--address' found" nothing tables --address 10.0.0.1 sample; grep -qx "  tip: '--address' is an option of match" said && right || wrong 'no tip on an option of match'
-try 2 "error: unexpected argument '--frobnicate' found" nothing tables --frobnicate sample; grep -q tip: said && wrong 'a tip on a word that is no file' || right
-try 2 "error: unexpected argument '-s' found" nothing tables -sample.mrt; grep -qx "  tip: to pass '-sample.mrt' as a file, use '-- -sample.mrt'" said && right || wrong 'no tip on a file'
+bad_prefix "no IPv4 address stands before its '/'" /24 192.0.2/24 192.0.2.256/24 192.0.02.0/24 2001:db8::/32 '192.0.2.0 /24' +192.0.2.0/24 /
+bad_prefix 'it is no IPv4 address' soon 192.0.2 192.0.2. 192.0.2.256 ::1 + ' 192.0.2.0'
+tip() { # TIP WORDS..
+  local tip=$1; shift
+  try 2 '?' nothing "$@"
+  if [ "$(grep tip: said)" = "$tip" ]; then right; else wrong "$*: the tip $(grep tip: said)"; fi
+}
+tip "  tip: '--address' is an option of match" tables --address 10.0.0.1 sample
+tip "  tip: a similar argument exists: '--until'" tables --untill 5 sample
+tip "  tip: to pass '-sample.mrt' as a file, use '-- -sample.mrt'" tables -sample.mrt
+tip '' tables --frobnicate sample
 try 0 '' any match --address 0.0.0.0 sample
 try 0 '' any match --address 255.255.255.255 sample
 

@@ -3,3 +3,4 @@ pub mod Points
 pub mod Slashes
 pub mod Marks
 pub mod Unique
+pub mod Spelled

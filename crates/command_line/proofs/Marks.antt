@@ -3,7 +3,7 @@ use Rattle.std.proofs.Common.{◌≡◌, ℕ, ◌+◌, ◌/◌, ◌%◌, ◌≤�
 use Rattle.std.specs.Fmt.{decimal}
 use Rattle.std.proofs.lemmas.List.{append_assoc, append_cancel_right, append-nil}
 use Rattle.std.proofs.Math.Seq.{get_or-append_seam}
-use Rattle.bgp_prefix.specs.Prefixes.{IpPrefix, IsIpPrefix}
+use Rattle.bgp_prefix.specs.Prefixes.{IpPrefix}
 use Rattle.mrt_body.specs.declared.choice.Reach.{Reach}
 use Rattle.mrt_body.specs.declared.choice.Reach.TheVariants.{Exact, Inside, Around}
 use Rattle.command_line.specs.Addresses.{IsAddress}

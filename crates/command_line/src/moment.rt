@@ -2,22 +2,33 @@
 
 use jiff::Timestamp;
 
-/// What makes the first moment of a date of it, in UTC.
-const MIDNIGHT: &[u8] = b"T00:00:00Z";
+/// The first moment of a date in UTC, but for the date.
+const MIDNIGHT: [u8; 20] = *b"0000-00-00T00:00:00Z";
 
 /// How many bytes a date has, as `2024-01-01`.
 const DATE_SIZE: usize = 10;
 
-/// Returns the moment that a date alone, or a date and a time with an offset from UTC (RFC 3339) name.
-fn read_moment(text: &str) -> Option<Timestamp> {
-    let date = text.as_bytes();
-    if date.len() != DATE_SIZE {
-        return text.parse::<Timestamp>().ok();
+/// Copies the first bytes, as many as both have.
+fn copy_front(to: &mut [u8], from: &[u8]) {
+    for (place, byte) in to.iter_mut().zip(from) {
+        *place = *byte;
     }
-    let mut whole = [0; 2 * DATE_SIZE];
-    whole[..DATE_SIZE].copy_from_slice(date);
-    whole[DATE_SIZE..].copy_from_slice(MIDNIGHT);
+}
+
+/// Returns the first moment of a date, in UTC.
+fn read_date(date: &[u8]) -> Option<Timestamp> {
+    let mut whole = MIDNIGHT;
+    copy_front(&mut whole, date);
     str::from_utf8(&whole).ok()?.parse::<Timestamp>().ok()
+}
+
+/// Returns the moment that a date alone, or a date and a time with an offset from UTC (RFC 3339), name.
+fn read_moment(text: &str) -> Option<Timestamp> {
+    if text.len() == DATE_SIZE {
+        read_date(text.as_bytes())
+    } else {
+        text.parse::<Timestamp>().ok()
+    }
 }
 
 /// Returns the second since 1970 UTC that a text names: a number is that second; a date, as `2024-01-01`, begins at

@@ -10,11 +10,11 @@ fn unknown_word(text: &str) -> Option<&str> {
     Some(word)
 }
 
-/// Returns the commands that have an option of this name.
+/// Returns the commands that have an option of this name, if not all have it.
 fn owners_of(word: &str) -> Option<&'static str> {
     let name = word.strip_prefix("--")?;
     for row in &OPTIONS {
-        if row.name == name {
+        if row.name == name && !row.commands.is_empty() {
             return Some(row.commands);
         }
     }
@@ -35,6 +35,7 @@ fn whole_of<'a>(word: &'a str, words: &'a [String]) -> &'a str {
 /// may be a file, since its name has a point.
 fn tip_on(alloc: Global, word: &str, words: &[String]) -> Result<String, AllocError> {
     if let Some(owners) = owners_of(word) {
+        let owners = owners.replace(alloc, " ", ", ")?;
         return format!(in alloc; "\n\n  tip: '{word}' is an option of {owners}");
     }
     let whole = whole_of(word, words);

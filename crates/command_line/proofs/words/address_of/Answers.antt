@@ -1,4 +1,3 @@
-use Rattle.std.proofs.Common.{◌≡◌}
 use Rattle.command_line.proofs.words.address_of.Goals as goal
 
 pub returns-in_ok-from_str-in-None-clause-refusal :
