@@ -39,10 +39,10 @@ try() { # STATUS LINE WRITES WORDS..
 }
 
 # 0: whole
-for report in tables visibility origins churn faults 'match --address 17.150.214.7'; do
+for report in tables visibility origins seen churn faults 'match --address 17.150.214.7'; do
   ./bgp_replay $report sample > "whole-${report%% *}" 2> said; judge "$report sample" 0 '' any $?
 done
-for report in tables visibility origins churn match; do cp whole-$report out; : > said; judge "$report isn't empty" 0 '' something 0; done
+for report in tables visibility origins seen churn match; do cp whole-$report out; : > said; judge "$report isn't empty" 0 '' something 0; done
 cp whole-faults out; : > said; judge 'faults is empty' 0 '' nothing 0
 try 0 '' nothing tables empty
 try 0 '' nothing churn empty empty
@@ -78,7 +78,7 @@ done
 
 # help: no line is wider than the terminal, and the columns are those of --header
 widest() { awk '{ if (length > most) most = length } END { print most + 0 }'; }
-for words in --help 'tables --help' 'visibility --help' 'origins --help' 'churn --help' 'match --help' 'faults --help'; do
+for words in --help 'tables --help' 'visibility --help' 'origins --help' 'seen --help' 'churn --help' 'match --help' 'faults --help'; do
   for width in 80 60 40; do
     most=$(COLUMNS=$width ./bgp_replay $words | widest); if [ "$most" -le $width ]; then right; else wrong "$words with $width columns: a line of $most"; fi
   done
@@ -87,7 +87,7 @@ for words in --help 'tables --help' 'visibility --help' 'origins --help' 'churn 
   most=$(COLUMNS=500 ./bgp_replay $words | widest); if [ "$most" -gt 80 ]; then right; else wrong "$words with 500 columns: no line is wider than $most"; fi
   if cmp -s <(env -u COLUMNS ./bgp_replay $words | tr -s ' \n' '  ') <(COLUMNS=50 ./bgp_replay $words | tr -s ' \n' '  '); then right; else wrong "$words: other words with 50 columns"; fi
 done
-for report in tables visibility origins churn faults 'match --address 10.0.0.1'; do
+for report in tables visibility origins seen churn faults 'match --address 10.0.0.1'; do
   told=$(./bgp_replay ${report%% *} --help | sed -n '/^Columns/,/^[^ C]/s/^  \([a-z_][a-z_]*\) .*/\1/p' | paste -sd '|')
   if [ "$told" = "$(./bgp_replay $report --header empty)" ]; then right; else wrong "$report --help has the columns $told"; fi
 done
@@ -166,7 +166,7 @@ case $(head -n 1 said) in 'open failed: file 2') judge 'a directory behind a fil
 ./bgp_replay tables - > out 2> said 0> writable; judge 'standard input that is for writing' 3 'read failed: file 1' nothing $?
 
 # 3: a write failed
-for report in tables visibility origins churn 'match --address 17.150.214.7'; do
+for report in tables visibility origins seen churn 'match --address 17.150.214.7'; do
   : > out; ./bgp_replay $report sample > /dev/full 2> said; judge "$report to a full device" 3 'write failed' nothing $?
 done
 ./bgp_replay faults cut > /dev/full 2> said; judge 'faults to a full device' 3 'write failed' nothing $?
@@ -267,6 +267,22 @@ lists 'origins --prefix 198.51.100.0/24 --until 1030'
 lists 'match --address 198.51.100.1 --until 1030' "$two_25"
 lists 'match --address 198.51.100.1 --until 1030 --prefix 198.51.100.0/24' "$two_24"
 lists churn '65001 192.0.2.1|2|0|0|1|1|0|0|0|1000.000000|1020.000000' '65002 192.0.2.2|3|0|1|0|0|1|1|0|1000.000000|1050.000000'
+lists 'tables --peer 65001' "$one_203"
+lists 'tables --peer 65001 --until 1009' "$one_24" "$one_203"
+lists 'tables --peer 65001,192.0.2.2 --until 1009'
+lists 'tables --peer 65002 --peer 65001,192.0.2.1 --until 1030' "$one_203" "$two_24" "$two_25" "$two_203"
+lists 'tables --peer 65002 --prefix 198.51.100.0/24 --until 1009' "$two_24"
+lists 'churn --peer 65001' '65001 192.0.2.1|2|0|0|1|1|0|0|0|1000.000000|1020.000000'
+lists 'visibility --until 1030 --peers 1/2' '203.0.113.0/24|1'
+lists 'visibility --until 1030 --peers 2/2' '198.51.100.0/24|1' '198.51.100.0/25|1' '203.0.113.0/24|1'
+lists 'origins --until 1030 --peers 1/2'
+lists 'origins --until 1030 --peers 2/2'
+lists 'seen --until 1000' '198.51.100.0/24|64500|2' '203.0.113.0/24|64500|1'
+lists 'seen --until 1030' '198.51.100.0/24|64500|1' '198.51.100.0/25|64999|1' '203.0.113.0/24|64500|1' '203.0.113.0/24|64999|1'
+lists 'seen --until 1030 --peers 2/2' '198.51.100.0/24|64500|1' '198.51.100.0/25|64999|1' '203.0.113.0/24|64999|1'
+printf '%s\n' "$two_24" "$two_25" "$two_203" > wanted; try 0 '' wanted tables --peer '65002 192.0.2.2' --until 1030 eight
+for words in '--peers 0/4' '--peers 5/4' '--peers 1/65537' '--peer AS65001' '--peer 65001,192.0.2' '--prefix 192.0.2.1/24' '--prefix 192.0.2.0/33'; do try 2 '?' nothing tables $words eight; done
+try 2 '?' nothing churn --prefix 198.51.100.0/24 eight
 lists 'tables --until 1970-01-01T00:17:10Z --prefix 198.51.100.0/24' "$two_24"
 lists 'tables --until 1970-01-02 --prefix 203.0.113.0/24' "$one_203"
 

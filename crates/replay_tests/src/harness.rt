@@ -5,7 +5,7 @@ use bgp_prefix::{Flat, PrefixMap, Radix};
 use command_line::{read_address, read_words};
 use fixtures::{Dripping, bytes_of};
 use lane_deal::{ByTurns, NoGate, Plan};
-use mrt_body::{PrefixChoice, Selection};
+use mrt_body::{PeerChoice, PrefixChoice, Selection, Share};
 use mrt_frame::{Counted, ReplayError, Source};
 use mrt_replay::{Summary, run, status};
 use prefix_shelf::Shelf;
@@ -106,6 +106,8 @@ struct Row<'a> {
     rounds: Option<u64>,
     until: Option<u64>,
     prefixes: Vec<PrefixChoice>,
+    peers: Vec<PeerChoice>,
+    share: Option<Share>,
 }
 
 /// A number of the summary, by its name. Rounds depend on the plan.
@@ -132,20 +134,25 @@ impl<'a> Row<'a> {
             rounds: None,
             until: None,
             prefixes: Vec::new(alloc),
+            peers: Vec::new(alloc),
+            share: None,
         }
     }
 
     /// Which units count.
     fn selection(&self, alloc: Global) -> Result<Selection, Fail> {
         let prefixes = Vec::from_slice(alloc, self.prefixes.as_slice())?;
+        let peers = Vec::from_slice(alloc, self.peers.as_slice())?;
         Ok(
             Selection::all(alloc)
                 .up_to(self.until)
-                .of_prefixes(prefixes),
+                .of_prefixes(prefixes)
+                .of_peers(peers)
+                .of_share(self.share),
         )
     }
 
-    /// Takes options as on the command line: `--until` and `--prefix`.
+    /// Takes options as on the command line: those that select units.
     fn take_options(&mut self, rt: &impl Abort, alloc: Global, options: &str) -> Result<(), Fail> {
         let mut words = Vec::new(alloc);
         words.push(String::from_str(alloc, "tables")?)?;
@@ -157,6 +164,8 @@ impl<'a> Row<'a> {
             Ok(job) => {
                 self.until = job.until;
                 self.prefixes = Vec::from_slice(alloc, job.prefixes.as_slice())?;
+                self.peers = Vec::from_slice(alloc, job.peers.as_slice())?;
+                self.share = job.share;
             }
             Err(_) => assert!(rt; false, "options {options}"),
         }
@@ -173,6 +182,8 @@ impl<'a> Row<'a> {
     ) -> Result<(), Fail> {
         self.until = None;
         self.prefixes.clear();
+        self.peers.clear();
+        self.share = None;
         if !options.is_empty() {
             self.take_options(rt, alloc, options)?;
         }

@@ -1,4 +1,4 @@
-//! Rows on the units that options select: by prefix and by time.
+//! Rows on the units that options select: by prefix, by peer and by time.
 
 use crate::harness::run_rows;
 use std::test::Fail;
@@ -17,6 +17,27 @@ counts records 8,units 8,peers 2,routes 1
 churn
 > 65001 192.0.2.1|2|0|0|1|1|0|0|0|1000.000000|1020.000000
 > 65002 192.0.2.2|3|0|1|0|0|1|1|0|1000.000000|1050.000000
+tables with --peer 65001
+> 65001 192.0.2.1|203.0.113.0/24|65001 64500|192.0.2.1|IGP|-|-|-|-
+counts records 8,units 3,peers 1,routes 1
+tables with --peer 65002,192.0.2.2 --until 1010 --prefix 198.51.100.0/24+
+> 65002 192.0.2.2|198.51.100.0/24|65002 64500|192.0.2.2|IGP|-|-|-|-
+> 65002 192.0.2.2|198.51.100.0/25|65002 64999|192.0.2.2|IGP|-|-|-|-
+counts records 8,units 2,peers 1,routes 2
+tables with --peer 65002,192.0.2.1
+counts records 8,units 0,peers 0,routes 0
+churn with --peer 65001
+> 65001 192.0.2.1|2|0|0|1|1|0|0|0|1000.000000|1020.000000
+visibility with --until 1030 --peers 1/2
+> 203.0.113.0/24|1
+counts records 8,units 3,peers 1
+visibility with --until 1030 --peers 2/2
+> 198.51.100.0/24|1
+> 198.51.100.0/25|1
+> 203.0.113.0/24|1
+counts records 8,units 3,peers 1
+origins with --until 1030 --peers 1/2
+origins with --until 1030 --peers 2/2
 tables with --prefix 198.51.100.0/24
 damaged 0
 counts records 8,units 6,peers 2,routes 0
@@ -117,6 +138,9 @@ faults with --prefix 192.0.2.0/24
 > 1|0|-|14|BadAttribute(1)
 damaged 1
 counts records 2,units 1
+faults with --peer 65001
+damaged 0
+counts records 2,units 0
 row a-damaged-entry-concerns-its-prefix
 file peer-index-table rib-record
 faults with --prefix 10.0.0.0/8
