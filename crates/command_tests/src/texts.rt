@@ -81,42 +81,48 @@ fn a_tip_is_given_where_it_helps(rt: HostRuntime) -> Result<(), Fail> {
     Ok(())
 }
 
+/// Whether a text is broken into these lines.
+fn is_broken_into(alloc: Global, text: &str, width: usize, expected: &str) -> Result<bool, Fail> {
+    let lines = wrapped(alloc, text, width)?;
+    Ok(lines.as_str() == expected)
+}
+
 #[test]
-fn long_lines_are_broken_and_what_follows_is_indented(rt: HostRuntime) -> Result<(), Fail> {
+fn short_lines_stay(rt: HostRuntime) -> Result<(), Fail> {
     let alloc = rt.alloc();
-    for (text, width, expected) in [
-        ("", 80, ""),
-        ("\n", 80, "\n"),
-        ("a line\nand another\n", 40, "a line\nand another\n"),
-        (
-            "  name  one two three four five six seven eight",
-            40,
-            "  name  one two three four five six\n        seven eight",
-        ),
-        (
-            "  name  one two three four five six seven eight",
-            1,
-            "  name  one two three four five six\n        seven eight",
-        ),
-        (
-            "one two three four five six seven eight nine ten",
-            40,
-            "one two three four five six seven eight\nnine ten",
-        ),
-        (
-            "   one two three four five six seven eight nine",
-            40,
-            "   one two three four five six seven\n   eight nine",
-        ),
-        (
-            "12345678901234567890123456789012345678901234567890 a",
-            40,
-            "12345678901234567890123456789012345678901234567890\na",
-        ),
-    ] {
-        let lines = wrapped(alloc, text, width)?;
-        assert!(rt; lines.as_str() == expected, "{expected}");
+    for text in ["", "\n", "a line\nand another\n"] {
+        assert!(rt; is_broken_into(alloc, text, 40, text)?);
     }
+    Ok(())
+}
+
+#[test]
+fn what_follows_a_break_is_indented(rt: HostRuntime) -> Result<(), Fail> {
+    let alloc = rt.alloc();
+    let text = "  name  one two three four five six seven eight";
+    let lines = "  name  one two three four five six\n        seven eight";
+    assert!(rt; is_broken_into(alloc, text, 40, lines)?);
+    // 40 columns are the least.
+    assert!(rt; is_broken_into(alloc, text, 1, lines)?);
+    assert!(rt; is_broken_into(alloc, text, 80, text)?);
+    Ok(())
+}
+
+#[test]
+fn a_line_of_one_column_is_broken_to_its_first_word(rt: HostRuntime) -> Result<(), Fail> {
+    let alloc = rt.alloc();
+    let text = "   one two three four five six seven eight nine";
+    let lines = "   one two three four five six seven\n   eight nine";
+    assert!(rt; is_broken_into(alloc, text, 40, lines)?);
+    Ok(())
+}
+
+#[test]
+fn a_word_is_never_broken(rt: HostRuntime) -> Result<(), Fail> {
+    let alloc = rt.alloc();
+    let text = "12345678901234567890123456789012345678901234567890 a";
+    let lines = "12345678901234567890123456789012345678901234567890\na";
+    assert!(rt; is_broken_into(alloc, text, 40, lines)?);
     Ok(())
 }
 
