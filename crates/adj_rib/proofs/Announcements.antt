@@ -4,7 +4,7 @@ use Rattle.std.proofs.lemmas.List.{append-nil}
 use Rattle.bgp_prefix.specs.declared.key.RouteKey.{RouteKey}
 use Rattle.bgp_update.specs.declared.route.Route.{Route}
 use Rattle.bgp_update.specs.declared.route.Update.{Update}
-use Rattle.adj_rib.specs.Steps.{Step, announce, update_steps}
+use Rattle.adj_rib.specs.Steps.{announce, update_steps}
 use Rattle.adj_rib.specs.RouteSets.{IsAnnouncement}
 
 pub announcement_steps : (keys : List RouteKey) (route : Route) (u : Update) → IsAnnouncement keys route u → map (λ key. announce key route) keys ≡ update_steps u

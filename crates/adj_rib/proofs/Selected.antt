@@ -1,12 +1,11 @@
 -- A selection of keys commutes with tables and outcomes, and selecting units early is selecting their steps late.
-use Rattle.std.proofs.Common.{◌≡◌, ℕ, Bool, true, false, not, cond, ◌==◌, ◌&&◌, ◌||◌, List, [], ◌∷◌, ◌++◌, map, Option, Some, None, Result, Ok, Err, T, refl, sym, ap, ◌∙◌, append-nil, append_assoc}
+use Rattle.std.proofs.Common.{◌≡◌, ℕ, Bool, true, false, not, cond, ◌==◌, ◌||◌, List, [], ◌∷◌, ◌++◌, map, Option, Some, None, Result, Ok, Err, refl, sym, ap, ◌∙◌, append-nil}
 use Rattle.std.specs.Prelude.{unwrap_or}
 use Rattle.std.specs.Option.{option_map_or}
-use Rattle.std.specs.List.{filter, filter_map, cons_option, last_or, list_any}
-use Rattle.std.specs.FinMap.Entries.{find, is_sorted, same_entries, find-where_key, is_sorted-where_key}
+use Rattle.std.specs.List.{filter, filter_map, cons_option, last_or}
+use Rattle.std.specs.FinMap.Entries.{same_entries, find-where_key, is_sorted-where_key}
 use Rattle.std.specs.declared.cmp.Ordering.TheVariants.{Equal}
-use Rattle.std.specs.Ordering.{is_eq}
-use Rattle.std.proofs.lemmas.List.Elements.{filter-append, filter_map-append}
+use Rattle.std.proofs.lemmas.List.Elements.{filter-append}
 use Rattle.bgp_prefix.specs.Keys.{key_cmp, key_eq, among}
 use Rattle.bgp_prefix.specs.declared.key.RouteKey.{RouteKey}
 use Rattle.bgp_prefix.proofs.KeyLaws.{key_cmp_total, key_cmp_exact}
@@ -29,7 +28,7 @@ use Rattle.mrt_body.specs.Events.{event_in}
 use Rattle.mrt_body.specs.Choices.{is_open, is_chosen}
 use Rattle.mrt_body.specs.Selections.{has_chosen, speaks_of, concerns}
 use Rattle.adj_rib.specs.declared.outcome.Outcome.{Outcome}
-use Rattle.adj_rib.specs.Steps.{Step, break, announce, withdraw, ESTABLISHED, new_state, is_up, state_steps, withdrawals, announcements, reachings, update_steps, event_steps, reading_steps, unit_steps, steps_of}
+use Rattle.adj_rib.specs.Steps.{Step, break, announce, withdraw, ESTABLISHED, new_state, is_up, withdrawals, announcements, reachings, update_steps, reading_steps, unit_steps, steps_of}
 use Rattle.adj_rib.specs.Tables.{said_of, route_at, table_of}
 use Rattle.adj_rib.specs.Churns.{announced_over, outcome_of, outcomes_of}
 use Rattle.adj_rib.specs.Selecting.{keeps, selected_steps, selected_entries, selected_outcomes, chooses, concerned}

@@ -10,7 +10,6 @@ use Rattle.mrt_body.specs.declared.unit.Payload.{Payload}
 use Rattle.mrt_body.specs.declared.unit.Payload.TheVariants.{State, Message, Entry}
 use Rattle.adj_rib.specs.declared.route_set.Slot.{Slot}
 use Rattle.adj_rib.specs.declared.route_set.Slot.TheVariants.{Empty, Kept}
-use Rattle.adj_rib.specs.declared.route_set.HashedRoute.{HashedRoute}
 use Rattle.mrt_body.specs.declared.meaning.Event.TheVariants.{Change}
 use Rattle.mrt_body.specs.Events.{event_in}
 use Rattle.adj_rib.specs.declared.read_ahead.ReadAhead.{ReadAhead}

@@ -9,7 +9,7 @@ use Rattle.mrt_body.specs.declared.unit.Unit.{Unit as ReplayUnit}
 use Rattle.mrt_body.specs.Choices.{is_chosen}
 use Rattle.mrt_body.specs.Selections.{concerns}
 use Rattle.adj_rib.specs.declared.outcome.Outcome.{Outcome}
-use Rattle.adj_rib.specs.Steps.{Step, break, announce, withdraw, steps_of}
+use Rattle.adj_rib.specs.Steps.{Step, break, announce, withdraw}
 use Rattle.adj_rib.specs.Churns.{outcome_of}
 
 -- a step of a selected key, or a break, which ends the routes of all

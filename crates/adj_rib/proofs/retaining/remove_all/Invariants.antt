@@ -1,7 +1,6 @@
-use Rattle.std.proofs.Common.{◌≡◌, map, not, take}
-use Rattle.std.specs.List.{fold, filter}
+use Rattle.std.proofs.Common.{◌≡◌, take}
+use Rattle.std.specs.List.{fold}
 use Rattle.std.specs.FinMap as finite
-use Rattle.adj_rib.specs.Selecting.{chooses}
 use Rattle.adj_rib.proofs.retaining.remove_all.Given as goal
 
 abbrev pub invariant-loop-key : goal.invariant-loop-key

@@ -1,6 +1,5 @@
 use Rattle.std.proofs.Common.{◌≡◌, map, not, take}
-use Rattle.std.specs.List.{fold, filter}
-use Rattle.std.specs.FinMap as finite
+use Rattle.std.specs.List.{filter}
 use Rattle.bgp_prefix.specs.declared.key.RouteKey.{RouteKey}
 use Rattle.bgp_update.specs.declared.route.Route.{Route}
 use Rattle.adj_rib.specs.Selecting.{chooses}

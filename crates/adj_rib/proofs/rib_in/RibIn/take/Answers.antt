@@ -1,6 +1,4 @@
-use Rattle.std.proofs.Common.{ap}
-use Rattle.mrt_body.specs.Events.{event_in}
-use Rattle.mrt_body.specs.Lent.{lent_payload, lent_unit}
+use Rattle.mrt_body.specs.Lent.{lent_unit}
 use Rattle.adj_rib.specs.Keeping.{kept_in}
 use Rattle.adj_rib.proofs.Taking.{taken_as}
 use Rattle.adj_rib.proofs.rib_in.RibIn.take.Goals as goal

@@ -1,4 +1,4 @@
-use Rattle.std.proofs.Common.{◌≡◌, sym, ◌∙◌, length}
+use Rattle.std.proofs.Common.{sym, ◌∙◌, length}
 use Rattle.std.proofs.lemmas.Bool.{eqb-true}
 use Rattle.peer_tables.proofs.ChosenLaws.{open_where}
 use Rattle.peer_tables.proofs.tables.Tables.retain.Goals as goal
