@@ -65,9 +65,9 @@ const BATCH_EACH: u64 = 65_536;
 /// The maximum number of units dealt in a round.
 const MOST_BATCH: u64 = 1_048_576;
 
-/// Empty looks at its ring after which a worker ends its round. The gate sleeps between them, so they take more than a
-/// minute: only a round whose input is very slow takes longer. A worker that leaves ends the round for all, since nobody
-/// empties its ring.
+/// Empty looks at its ring after which a worker ends its round. The gate sleeps between them, so they take more than
+/// a minute: only a round whose input is very slow takes longer. A worker that leaves ends the round for all, since
+/// nobody empties its ring.
 const LOOKS: u32 = 1_000_000;
 
 /// A single worker runs in the calling thread: it looks once more at its ring when the round's dealing is over.
@@ -101,8 +101,8 @@ fn is_narrow(choices: &[PrefixChoice]) -> bool {
     !choices.is_empty()
 }
 
-/// Returns as many workers as the arguments ask for, otherwise one if few prefixes are chosen, else one per processor; if the system doesn't report how
-/// many there are, as many as the job has.
+/// Returns as many workers as the arguments ask for, otherwise one if few prefixes are chosen, else one per
+/// processor; if the system doesn't report how many there are, as many as the job has.
 fn workers_of(threads: &impl Threads, job: &Job) -> usize
     ensures least { 1 ≤ result }
     ensures most { result ≤ 64 }

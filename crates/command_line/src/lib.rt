@@ -4,20 +4,24 @@
 //! and that there is a file. `read_address` and `read_choice` are exact in both directions, as is what is reported as a
 //! bad address. What else the arguments mean is tested (`command_tests`) and not stated.
 //!
-//! - Options, commands and columns stand in the tables of `options`, and what they say in words is made from these: help
-//!   here, manual page, usage page and completions by `tools/options.py`. A new option is a row there, and its reading.
+//! - Options, commands and columns stand in the tables of `options`, and what they say in words is made from these:
+//!   help here, manual page, usage page and completions by `tools/options.py`. A new option is a row there, and its
+//!   reading.
 //! - `clap` doesn't break lines: `wrapped` breaks those of a help, at the width that the program gives it.
-//! - `--version` has a second line, which stands in the program as 128 bytes, `@build:`, 120 bytes and `@`. They are read
-//!   character by character when the line is asked for, so that a build can replace them in the program that it built.
+//! - `--version` has a second line, which stands in the program as 128 bytes, `@build:`, 120 bytes and `@`. They are
+//!   read character by character when the line is asked for, so that a build can replace them in the program that it
+//!   built.
 //! - It is a library, since a function of the program can't be called by a test. `Request` is with the reports, in
 //!   `rib_report`, since this crate and `mrt_replay` need it and neither needs the other.
 //! - `--workers` defaults to one worker per processor, which arguments alone don't know: `read_words` returns 4 and
 //!   whether the arguments said so.
-//! - `--until` takes seconds, a date, or RFC 3339, which `jiff` parses. A date and time without an offset from UTC is bad.
+//! - `--until` takes seconds, a date, or RFC 3339, which `jiff` parses. A date and time without an offset from UTC is
+//!   bad.
 //! - `--prefix` takes a prefix, alone or with `+` (itself and more specifics) or `-` (itself and what contains it); an
 //!   address alone is the prefix of length 32. Bits past the length are refused: they are mostly a typing error. Each
 //!   `--prefix` adds to the others, while of other options the last one counts.
-//! - Of a word that is no option, `clap` says how to pass it as a file. The refusal says so only where the word may be one.
+//! - Of a word that is no option, `clap` says how to pass it as a file. The refusal says so only where the word may
+//!   be one.
 //! - `--peer` and `--peers` choose peers by AS number and address, and a share of the peers. Their readers are tested.
 //! - `Records` counts records by their headers for `--summary`, through the bytes that the replay reads, and nothing in
 //!   the replay depends on it.

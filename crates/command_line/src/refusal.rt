@@ -47,8 +47,8 @@ fn tip_on(alloc: Global, word: &str, words: &[String]) -> Result<String, AllocEr
     }
 }
 
-/// Returns the parser's refusal of a word, with a tip on that word in place of the parser's, which takes each word for a
-/// file. Where a similar option exists, the refusal names that alone.
+/// Returns the parser's refusal of a word, with a tip on that word in place of the parser's, which takes each word
+/// for a file. Where a similar option exists, the refusal names that alone.
 pub fn refusal_of(alloc: Global, text: &str, words: &[String]) -> Result<String, AllocError> {
     let Some(word) = unknown_word(text) else {
         return String::from_str(alloc, text);

@@ -4,10 +4,10 @@
 //! state the rows without an order of work, and tables that stand for units have the reports that are defined over
 //! these units alone (`reports_are_of_units`).
 //!
-//! - `visibility`, `origins` and `seen` merge the lists of halves of the peers (`merge.rt`) until each peer is alone. The
-//!   tables of one collector have mostly the same prefixes, so merged lists stay as short as one table. With two
-//!   workers or more, two threads share at most 14 peers at a time, which bounds the lists that exist at once whatever
-//!   the number of peers. So the map of `run` is `Sync`.
+//! - `visibility`, `origins` and `seen` merge the lists of halves of the peers (`merge.rt`) until each peer is alone.
+//!   The tables of one collector have mostly the same prefixes, so merged lists stay as short as one table. With two
+//!   workers or more, two threads share at most 14 peers at a time, which bounds the lists that exist at once
+//!   whatever the number of peers. So the map of `run` is `Sync`.
 //! - `list_tables` writes the lines of `tables` without a list of rows (80 bytes a route): one list with room for the
 //!   largest table is allocated before the first write, and the peers' tables are listed into it in turn.
 //! - The lines of a table of 16,384 entries and more are made by several threads (`reports/tables/side_by_side.rt`) in

@@ -1,5 +1,5 @@
-//! The report `seen`: the prefixes that are in any table, and the origin ASes of their routes. A line holds a prefix, an
-//! origin AS, and the number of peers that have a route of the prefix with that origin AS.
+//! The report `seen`: the prefixes that are in any table, and the origin ASes of their routes. A line holds a prefix,
+//! an origin AS, and the number of peers that have a route of the prefix with that origin AS.
 
 ghost use Rattle.std.specs.Prelude.{◌≡◌, IfOk, OnOk, ◌++◌, map};
 ghost use Rattle.std.specs.List.{flat_map};
@@ -116,8 +116,8 @@ fn count_once(alloc: Global, pairs: &[PrefixOrigin]) -> Result<Vec<(PrefixOrigin
     Ok(counts)
 }
 
-/// What is listed of peers: the prefixes and origin ASes of their routes in order, each pair with the number of peers that
-/// have such a route.
+/// What is listed of peers: the prefixes and origin ASes of their routes in order, each pair with the number of peers
+/// that have such a route.
 impl Listed for (PrefixOrigin, usize) {
     ghost list_of = { seen_among };
 

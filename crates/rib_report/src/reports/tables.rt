@@ -174,10 +174,10 @@ fn put_tables<'a, M: PrefixMap<SharedRoute>, T: Threads + Sync, W: Sink>(
     }
 }
 
-/// Writes what `write_rows` writes of `table_rows`, without a list of all rows. The lines of large tables are made in up
-/// to as many threads as are asked for, while the calling thread writes those before. All memory is allocated before
-/// anything is written: if it returns `Memory`, nothing has been written. If it returns `Write`, a leading part of the
-/// text has been written.
+/// Writes what `write_rows` writes of `table_rows`, without a list of all rows. The lines of large tables are made in
+/// up to as many threads as are asked for, while the calling thread writes those before. All memory is allocated
+/// before anything is written: if it returns `Memory`, nothing has been written. If it returns `Write`, a leading
+/// part of the text has been written.
 pub fn list_tables<M: PrefixMap<SharedRoute>, T: Threads + Sync, W: Sink>(
     rt: &T,
     alloc: Global,

@@ -58,7 +58,8 @@ fn is_repeat(last: Option<Prefix>, prefix: Prefix) -> bool
     }
 }
 
-/// What is listed of peers: the prefixes of their tables in order, each with the number of peers at which it is visible.
+/// What is listed of peers: the prefixes of their tables in order, each with the number of peers at which it is
+/// visible.
 impl Listed for (Prefix, usize) {
     ghost list_of = { visible_among };
 

@@ -184,8 +184,8 @@ fn expect_front(rt: &impl Abort, alloc: Global, rows: &[VisibilityRow], front: &
     assert!(rt; out.device().written.as_slice() == front, "room for {room}");
 }
 
-/// A text that passes the buffer's 65,536 bytes once. No write has more than 8,192 bytes, and at most two have fewer: the
-/// last one of each buffer.
+/// A text that passes the buffer's 65,536 bytes once. No write has more than 8,192 bytes, and at most two have fewer:
+/// the last one of each buffer.
 #[test]
 fn a_report_is_written_8_kib_at_a_time(rt: HostRuntime) {
     let alloc = rt.alloc();
