@@ -1,10 +1,10 @@
 # Completion of bgp_replay for bash. Made by tools/options.py.
 _bgp_replay() {
   local word=${COMP_WORDS[COMP_CWORD]} before=${COMP_WORDS[COMP_CWORD-1]} command='' i
-  local commands='tables visibility origins seen churn match faults'
+  local commands='tables visibility origins seen churn peers match faults'
   for ((i = 1; i < COMP_CWORD; i++)); do
     case ${COMP_WORDS[i]} in
-      tables|visibility|origins|seen|churn|match|faults) command=${COMP_WORDS[i]}; break;;
+      tables|visibility|origins|seen|churn|peers|match|faults) command=${COMP_WORDS[i]}; break;;
     esac
   done
   COMPREPLY=()
@@ -18,7 +18,7 @@ _bgp_replay() {
   elif [[ $word == -* ]]; then
     local options='--peer --peers --until --header --summary --progress --workers --ring --help --version'
     case $command in match) options="--address $options";; esac
-    case $command in tables|visibility|origins|seen|match|faults) options="--prefix $options";; esac
+    case $command in tables|visibility|origins|seen|peers|match|faults) options="--prefix $options";; esac
     mapfile -t COMPREPLY < <(compgen -W "$options" -- "$word")
   else
     compopt -o filenames 2> /dev/null

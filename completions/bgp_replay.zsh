@@ -9,6 +9,7 @@ _bgp_replay() {
     'origins:print the prefixes that have more than one origin AS'
     'seen:count the peers that have each prefix with each origin AS'
     'churn:count what each peer announced and withdrew'
+    'peers:list the peers, whether they are up, their routes, and where they begin'
     'match:print each peer'\''s routes of the longest prefix that contains an address'
     'faults:list the damaged records of the dumps'
   )
@@ -30,7 +31,7 @@ _bgp_replay() {
         '*:dump:_files'
       )
       case ${words[1]} in match) options+=('--address[look up this IPv4 address, as 192.0.2.1]:A:');; esac
-      case ${words[1]} in tables|visibility|origins|seen|match|faults) options+=('*--prefix[report on this prefix alone]:PREFIX:');; esac
+      case ${words[1]} in tables|visibility|origins|seen|peers|match|faults) options+=('*--prefix[report on this prefix alone]:PREFIX:');; esac
       _arguments $options;;
   esac
 }

@@ -1,7 +1,8 @@
 #!/usr/bin/env bash
 # The reports of all shares of the peers, put together, are the whole report: for each dump 1, 2, 3 and 7 shares (`--peers I/N`). Each share's lines
-# are those of its peers in the whole report, in their order, and each peer is in one share (`tables`, `churn`, `match`); counts add up (`visibility`,
-# `seen`); origins follow from the lines of `seen` together; lists of faults are one list.
+# are those of its peers in the whole report, in their order, and each peer is in one share (`tables`, `churn`, `match`, `peers`); counts add up
+# (`visibility`, `seen`); origins follow from the lines of `seen` together; lists of faults are one list. The lines of `peers`, by place, are in the order
+# of the whole report, and so are those of `tables`, `churn` and `match` where they follow it.
 #   tests/shares.sh PROGRAM
 # The dumps are those of examples/, both as one run, the front of a generated RIB dump and of generated updates, and each file in the directory that
 # the variable SAMPLES names, where it is set. A front is cut at FRONT bytes (200000), where its last record is damaged mostly. Needs awk and cc. The
@@ -31,22 +32,28 @@ of_share() { awk -F'|' 'NR == FNR { has[$1] = 1; next } $1 in has' "$1" "$2"; }
 summed() { awk -F'|' '{ count = $NF; key = substr($0, 1, length($0) - length(count) - 1); sums[key] += count } END { for (key in sums) print key "|" sums[key] }' "$@" | sort; }
 # The prefixes with two origins or more, from lines of `seen`.
 origins_in() { awk -F'|' '$2 != "-" && !(($1, $2) in had) { had[$1, $2] = 1; count[$1]++ } END { for (prefix in count) if (count[prefix] > 1) print prefix }' "$@" | sort; }
+# The lines of `peers` of several shares, in the order of one run: by file, offset and entry, none first.
+by_place() { sort -t'|' -k7,7n -k8,8n -k9,9n "$@"; }
+# The lines of several shares, peer after peer as the first file names them.
+by_peers() { awk -F'|' 'NR == FNR { order[++peers] = $1; next } { lines[$1] = lines[$1] $0 "\n" } END { for (i = 1; i <= peers; i++) printf "%s", lines[order[i]] }' "$@"; }
 nothing_twice() { [ -z "$(for part in "$@"; do cut -d'|' -f1 "$part" | sort -u; done | sort | uniq -d)" ]; }
 
 for dump in dumps/* 'dumps/sample.mrt dumps/updates.mrt'; do
   address=$(report tables $dump | head -n 1 | cut -d'|' -f2 | cut -d/ -f1); address=${address:-192.0.2.1}
-  for words in tables churn "match --address $address" visibility seen origins faults; do report $words $dump > "whole-${words%% *}"; done
+  for words in tables churn peers "match --address $address" visibility seen origins faults; do report $words $dump > "whole-${words%% *}"; done
   for count in 1 2 3 7; do
-    for words in tables churn "match --address $address" visibility seen faults; do
+    for words in tables churn peers "match --address $address" visibility seen faults; do
       for ((i = 1; i <= count; i++)); do report $words --peers "$i/$count" $dump > "part-${words%% *}-$i"; done
     done
-    for name in tables churn match; do
+    for ((i = 1; i <= count; i++)); do cat "part-peers-$i"; done | by_place > peers-in-order
+    check "$count shares of peers of $dump, by place, are the whole report" cmp whole-peers peers-in-order
+    for name in tables churn peers match; do
       parts=(); for ((i = 1; i <= count; i++)); do
         parts+=("part-$name-$i"); of_share "part-$name-$i" "whole-$name" > "wanted"
         check "$name of share $i/$count of $dump is the whole report's" cmp wanted "part-$name-$i"
       done
       check "no peer of $name is in two of $count shares of $dump" nothing_twice "${parts[@]}"
-      check "$count shares of $name of $dump are all of it" cmp <(sort "whole-$name") <(sort "${parts[@]}")
+      check "$count shares of $name of $dump, in the order of peers, are the whole report" cmp "whole-$name" <(by_peers peers-in-order "${parts[@]}")
     done
     for name in visibility seen; do
       check "$count shares of $name of $dump add up" cmp <(sort "whole-$name") <(for ((i = 1; i <= count; i++)); do cat "part-$name-$i"; done | summed)

@@ -1,11 +1,11 @@
 -- What a session keeps after one more unit is what the definitions say of one more unit.
-use Rattle.std.proofs.Common.{◌≡◌, ℕ, ◌==◌, Bool, true, false, not, cond, ◌&&◌, List, [], ◌∷◌, ◌++◌, Option, Some, None, Result, Ok, Err, refl, sym, ap, ◌∙◌}
-use Rattle.std.specs.Prelude.{is_err, unwrap_or, option_map}
+use Rattle.std.proofs.Common.{◌≡◌, ℕ, ◌+◌, ◌==◌, Bool, true, false, not, cond, ◌&&◌, List, [], ◌∷◌, ◌++◌, Option, Some, None, Result, Ok, Err, refl, sym, ap, ◌∙◌}
+use Rattle.std.specs.Prelude.{is_err, length, unwrap_or, option_map}
 use Rattle.std.specs.Option.{option_map_or}
 use Rattle.std.specs.List.{fold, count_by, filter_map, cons_option, last_or}
 use Rattle.std.specs.FinMap as finite
 use Rattle.std.specs.FinMap.Entries.{find}
-use Rattle.std.proofs.lemmas.List.{append-nil}
+use Rattle.std.proofs.lemmas.List.{append-nil, length_push}
 use Rattle.std.proofs.lemmas.List.Elements.{filter_map-append}
 use Rattle.bgp_prefix.specs.Keys.{key_cmp}
 use Rattle.bgp_prefix.specs.declared.key.RouteKey.{RouteKey}
@@ -25,15 +25,17 @@ use Rattle.mrt_body.specs.declared.unit.Damage.{Damage}
 use Rattle.mrt_body.specs.declared.meaning.Event.{Event}
 use Rattle.mrt_body.specs.declared.meaning.Event.TheVariants as event
 use Rattle.mrt_body.specs.Events.{UPDATE, message_in, message_event_in, event_in}
+use Rattle.adj_rib.specs.declared.arrivals.Arrivals.{Arrivals}
 use Rattle.adj_rib.specs.declared.churn.Churn.{Churn}
 use Rattle.adj_rib.specs.Steps.{Step, ESTABLISHED, new_state, is_up, reading_steps, unit_steps, steps_of}
 use Rattle.adj_rib.specs.Tables.{IsTable, table_of}
 use Rattle.adj_rib.specs.Churns.{outcomes_of, is_routing, reading_of, idle_flags, damage_in, damaged_of, stopped, first_time, churn_of}
+use Rattle.adj_rib.specs.Arrived.{first_place, arrivals_of, no_arrivals, arrived}
 use Rattle.adj_rib.specs.Sessions.{SessionState, session_of}
 use Rattle.adj_rib.specs.Applied.{counted_if, RouteMap, applied, timed, noted, up_after, Kept, START, followed, listed, taken, read_as, refused}
 use Rattle.adj_rib.proofs.TableLaws.{last_or-append, find-table_of, entries-IsTable, IsTable_start}
 use Rattle.adj_rib.proofs.After.{steps_of-push}
-use Rattle.adj_rib.proofs.Stepping.{stopped-count_by-push, AreCounts, AreAfter, AreAfter-steps, AgreeBeside, beside_steps}
+use Rattle.adj_rib.proofs.Stepping.{stopped_more, stopped-count_by-push, AreCounts, AreAfter, AreAfter-steps, AgreeBeside, beside_steps}
 
 -- ---- whether the peer is up
 
@@ -193,26 +195,45 @@ taken_as k unit = elim (reading_of unit) as (λ r. read_as (record k { churn = t
   | Err fault ↦ refl
 ]
 
+-- ---- how many units came
+
+count-push : (units : List ReplayUnit) (unit : ReplayUnit) → stopped (stopped (length units) + 1) ≡ stopped (length (units ++ unit ∷ []))
+count-push units unit = sym (stopped_more (length units)) ∙ ap stopped (sym (length_push units unit))
+
+first_place-push : (units : List ReplayUnit) (unit : ReplayUnit) → Some (unwrap_or (first_place units) unit.place) ≡ first_place (units ++ unit ∷ [])
+first_place-push [] unit = refl
+first_place-push (u ∷ units) unit = refl
+
+arrived-push : (units : List ReplayUnit) (unit : ReplayUnit) → arrived unit.place (arrivals_of units) ≡ arrivals_of (units ++ unit ∷ [])
+unfolding arrived arrivals_of
+arrived-push units unit = λ i. record { units = count-push units unit i; first = first_place-push units unit i }
+
 -- ---- the session
 
-abbrev pub session_with : Kept → Bool → SessionState
-session_with k spent = record { up = k.up; table = finite.entries k.table; churn = k.churn; faults = k.faults; spent = spent }
+abbrev pub session_with : Kept → Arrivals → Bool → SessionState
+session_with k arrivals spent = record { up = k.up; table = finite.entries k.table; churn = k.churn; arrivals = arrivals; faults = k.faults; spent = spent }
 
-stands_from_session : (units : List ReplayUnit) (k : Kept) (spent : Bool) → session_with k spent ≡ session_of units → Stands units k
+stands_from_session : (units : List ReplayUnit) (k : Kept) (arrivals : Arrivals) (spent : Bool) → session_with k arrivals spent ≡ session_of units → Stands units k
 unfolding session_of
-stands_from_session units k spent h = record { up = ap (λ s. s.up) h; table = ap (λ s. s.table) h; churn = ap (λ s. s.churn) h; faults = ap (λ s. s.faults) h }
+stands_from_session units k arrivals spent h = record { up = ap (λ s. s.up) h; table = ap (λ s. s.table) h; churn = ap (λ s. s.churn) h; faults = ap (λ s. s.faults) h }
 
-session_from_stands : (units : List ReplayUnit) (k : Kept) → Stands units k → session_with k false ≡ session_of units
+arrivals_from_session : (units : List ReplayUnit) (k : Kept) (arrivals : Arrivals) (spent : Bool) → session_with k arrivals spent ≡ session_of units → arrivals ≡ arrivals_of units
 unfolding session_of
-session_from_stands units k h = λ i. record { up = h.up i; table = h.table i; churn = h.churn i; faults = h.faults i; spent = false }
+arrivals_from_session units k arrivals spent h = ap (λ s. s.arrivals) h
+
+session_from_stands : (units : List ReplayUnit) (k : Kept) (arrivals : Arrivals) → Stands units k → arrivals ≡ arrivals_of units → session_with k arrivals false ≡ session_of units
+unfolding session_of
+session_from_stands units k arrivals h came = λ i. record { up = h.up i; table = h.table i; churn = h.churn i; arrivals = came i; faults = h.faults i; spent = false }
 
 -- a session that stands for units stands for one more after it has taken it
-pub session_after : (before : List ReplayUnit) (unit : ReplayUnit) (k after : Kept) (spent : Bool) → spent ≡ false → session_with k spent ≡ session_of before → after ≡ taken k unit → session_with after spent ≡ session_of (before ++ unit ∷ [])
-session_after before unit k after spent unspent h e =
-    ap (session_with after) unspent
-    ∙ ap (λ k. session_with k false) e
-    ∙ session_from_stands (before ++ unit ∷ []) (taken k unit) (Stands-taken before unit k (stands_from_session before k spent h))
+pub session_after : (before : List ReplayUnit) (unit : ReplayUnit) (k after : Kept) (arrivals arrivals' : Arrivals) (spent : Bool) → spent ≡ false → session_with k arrivals spent ≡ session_of before
+    → after ≡ taken k unit → arrivals' ≡ arrived unit.place arrivals → session_with after arrivals' spent ≡ session_of (before ++ unit ∷ [])
+session_after before unit k after arrivals arrivals' spent unspent h e came =
+    ap (session_with after arrivals') unspent
+    ∙ ap (λ k. session_with k arrivals' false) e
+    ∙ session_from_stands (before ++ unit ∷ []) (taken k unit) arrivals' (Stands-taken before unit k (stands_from_session before k arrivals spent h))
+    (came ∙ ap (arrived unit.place) (arrivals_from_session before k arrivals spent h) ∙ arrived-push before unit)
 
-pub session_at_start : session_with START false ≡ session_of []
+pub session_at_start : session_with START no_arrivals false ≡ session_of []
 unfolding steps_of
-session_at_start = session_from_stands [] START (record { up = refl; table = entries-IsTable [] finite.empty IsTable_start; churn = (unfold churn_of outcomes_of steps_of in refl); faults = (unfold damaged_of in refl) })
+session_at_start = session_from_stands [] START no_arrivals (record { up = refl; table = entries-IsTable [] finite.empty IsTable_start; churn = (unfold churn_of outcomes_of steps_of in refl); faults = (unfold damaged_of in refl) }) (unfold arrivals_of in refl)

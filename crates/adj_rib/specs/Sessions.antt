@@ -4,11 +4,13 @@ use Rattle.bgp_prefix.specs.declared.key.RouteKey.{RouteKey}
 use Rattle.bgp_update.specs.declared.route.Route.{Route}
 use Rattle.mrt_body.specs.declared.unit.Unit.{Unit as ReplayUnit}
 use Rattle.mrt_body.specs.declared.unit.Damage.{Damage}
+use Rattle.adj_rib.specs.declared.arrivals.Arrivals.{Arrivals}
 use Rattle.adj_rib.specs.declared.churn.Churn.{Churn}
 use Rattle.adj_rib.specs.Steps.{is_up, steps_of}
 use Rattle.adj_rib.specs.Tables.{table_of}
 use Rattle.mrt_body.specs.declared.choice.PrefixChoice.{PrefixChoice}
 use Rattle.adj_rib.specs.Selecting.{chooses, selected_entries}
+use Rattle.adj_rib.specs.Arrived.{arrivals_of}
 use Rattle.adj_rib.specs.Churns.{churn_of, damaged_of}
 
 -- the table as its entries in order
@@ -16,6 +18,7 @@ pub record SessionState : Type 0 where
   pub up : Bool
   pub table : List (RouteKey × Route)
   pub churn : Churn
+  pub arrivals : Arrivals
   pub faults : List Damage
   pub spent : Bool
 
@@ -25,6 +28,7 @@ session_of units = record {
   up = is_up units;
   table = table_of (steps_of units);
   churn = churn_of units;
+  arrivals = arrivals_of units;
   faults = damaged_of units;
   spent = false;
 }

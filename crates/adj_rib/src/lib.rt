@@ -24,6 +24,7 @@
 //!   then no longer stands for its units.
 #![tactic(auto)]
 
+mod arrivals;
 mod churn;
 mod holding;
 mod outcome;
@@ -38,6 +39,7 @@ mod source;
 mod table;
 mod update;
 
+pub use arrivals::Arrivals;
 pub use churn::Churn;
 pub use holding::table_has_what_holds;
 pub use read_ahead::ReadAhead;

@@ -7,6 +7,7 @@ ghost use Rattle.adj_rib.specs.Sessions.{StandsFor, chosen_session};
 ghost use Rattle.mrt_body.specs.Lent.{lent_payload, lent_unit};
 ghost use Rattle.mrt_body.specs.declared.unit.Unit.{Unit as ReplayUnit};
 
+use crate::arrivals::Arrivals;
 use crate::churn::Churn;
 use crate::read_ahead::ReadAhead;
 use crate::retaining::retain_chosen;
@@ -21,6 +22,7 @@ use std::marker::Model;
 #[derive(Drop)]
 pub struct Session<M: PrefixMap<SharedRoute>> {
     rib: RibIn<M>,
+    arrivals: Arrivals,
     spent: bool,
 }
 
@@ -34,6 +36,7 @@ impl<M: PrefixMap<SharedRoute>> Model for Session<M> {
       up = s.rib.up;
       table = finite.entries (M.contents s.rib.table);
       churn = s.rib.churn;
+      arrivals = s.arrivals;
       faults = s.rib.faults.items;
       spent = s.spent;
     } };
@@ -46,6 +49,7 @@ impl<M: PrefixMap<SharedRoute>> Session<M> {
     {
         Session {
             rib: RibIn::new(alloc),
+            arrivals: Arrivals::new(),
             spent: false,
         }
     }
@@ -86,6 +90,7 @@ impl<M: PrefixMap<SharedRoute>> Session<M> {
         if self.spent {
             return Err(Memory);
         }
+        self.arrivals.note(unit.place);
         match self.rib.take(alloc, buffer, unit, ahead) {
             Ok(()) => Ok(()),
             Err(memory) => {
@@ -134,6 +139,13 @@ impl<M: PrefixMap<SharedRoute>> Session<M> {
         ensures { result ≡ self.now.churn }
     {
         self.rib.churn
+    }
+
+    /// How many units were taken, and where the first one stands.
+    pub fn arrivals(&self) -> Arrivals
+        ensures { result ≡ self.now.arrivals }
+    {
+        self.arrivals
     }
 
     /// The damaged units, in the order in which they were taken.

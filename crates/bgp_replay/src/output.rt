@@ -21,6 +21,7 @@ pub fn columns(request: &Request) -> &'static str {
         Request::Origins => "prefix|origins\n",
         Request::Seen => "prefix|origin|peers\n",
         Request::Churn => { "peer|new|changed|same|gone|void|resets|idle|refused|first|last\n" }
+        Request::Peers => "peer|state|routes|units|first|last|file|offset|entry\n",
         Request::Faults => "file|offset|entry|number|fault\n",
     }
 }

@@ -75,6 +75,7 @@ fn command_of(request: &Request) -> &'static str {
         Request::Origins => "origins",
         Request::Seen => "seen",
         Request::Churn => "churn",
+        Request::Peers => "peers",
         Request::Match(_) => "match --address A",
         Request::Faults => "faults",
     }

@@ -67,7 +67,7 @@ pub static OPTIONS: [OptionRow; 10] = [
         takes: Takes::Texts,
         default: "",
         offered: "",
-        commands: "tables visibility origins seen match faults",
+        commands: "tables visibility origins seen peers match faults",
         is_required: false,
         meaning: "Report on this prefix alone. 192.0.2.0/24 is that prefix, 192.0.2.0/24+ also its more specifics, and 192.0.2.0/24- also the prefixes that contain it; an address alone has length 32. Given more than once, each prefix adds to the others",
     },
@@ -276,6 +276,45 @@ const CHURN_COLUMNS: &[ColumnRow] = &[
     },
 ];
 
+const PEERS_COLUMNS: &[ColumnRow] = &[
+    ColumnRow {
+        name: "peer",
+        meaning: "the peer's AS, a space, its address",
+    },
+    ColumnRow {
+        name: "state",
+        meaning: "`up`, or `down` where the last recorded change of the session's state led out of Established",
+    },
+    ColumnRow {
+        name: "routes",
+        meaning: "how many routes its table has",
+    },
+    ColumnRow {
+        name: "units",
+        meaning: "how many messages, state changes and table entries it has, damaged ones among them",
+    },
+    ColumnRow {
+        name: "first",
+        meaning: "seconds since 1970 UTC of the first of these, with six digits behind the point",
+    },
+    ColumnRow {
+        name: "last",
+        meaning: "those of the last one",
+    },
+    ColumnRow {
+        name: "file",
+        meaning: "the number of the file, from 1, that has the first of these",
+    },
+    ColumnRow {
+        name: "offset",
+        meaning: "where its record begins, in bytes from the file's start",
+    },
+    ColumnRow {
+        name: "entry",
+        meaning: "its number in a table record, from 1",
+    },
+];
+
 const FAULTS_COLUMNS: &[ColumnRow] = &[
     ColumnRow {
         name: "file",
@@ -299,7 +338,7 @@ const FAULTS_COLUMNS: &[ColumnRow] = &[
     },
 ];
 
-pub static COMMANDS: [CommandRow; 7] = [
+pub static COMMANDS: [CommandRow; 8] = [
     CommandRow {
         name: "tables",
         meaning: "Print every route of every peer",
@@ -349,6 +388,16 @@ pub static COMMANDS: [CommandRow; 7] = [
         examples: &[
             "churn --header updates.mrt",
             "churn --until 2024-01-01T01:00:00Z rib.mrt updates.mrt",
+        ],
+    },
+    CommandRow {
+        name: "peers",
+        meaning: "List the peers, whether they are up, their routes, and where they begin",
+        columns: PEERS_COLUMNS,
+        order: "Peers come in the order in which the dumps first name them: by file, offset and entry.",
+        examples: &[
+            "peers --header rib.mrt updates.mrt",
+            "peers --until 2024-01-01T01:00:00Z rib.mrt updates.mrt",
         ],
     },
     CommandRow {

@@ -102,6 +102,7 @@ fn request_of(alloc: Global, name: &str, matches: &ArgMatches<'_>) -> Result<Req
         "origins" => Ok(Request::Origins),
         "seen" => Ok(Request::Seen),
         "churn" => Ok(Request::Churn),
+        "peers" => Ok(Request::Peers),
         "faults" => Ok(Request::Faults),
         "match" => {
             let text = matches.get_str("address").unwrap_or("");

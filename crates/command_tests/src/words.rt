@@ -110,6 +110,13 @@ fn words_ask_for_a_job(rt: HostRuntime) -> Result<(), Fail> {
             "x;",
         ),
         (
+            "peers --until 5 --ring 65536 x",
+            Request::Peers,
+            (4, 65_536),
+            Some(5),
+            "x;",
+        ),
+        (
             "faults --until 5 --ring 65536 x",
             Request::Faults,
             (4, 65_536),

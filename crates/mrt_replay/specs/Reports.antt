@@ -8,8 +8,8 @@ use Rattle.adj_rib.specs.Churns.{stopped}
 use Rattle.peer_tables.specs.Peers.{peers_of}
 use Rattle.peer_tables.specs.Tables.{TablesState, tables_of, chosen_tables, all_routes}
 use Rattle.mrt_body.specs.declared.choice.PrefixChoice.{PrefixChoice}
-use Rattle.rib_report.specs.Reports.{route_rows, match_rows, visibility_rows, origin_rows, seen_rows, churn_rows, fault_rows}
-use Rattle.rib_report.specs.Lines.{route_line, visibility_line, origin_line, seen_line, churn_line, fault_line}
+use Rattle.rib_report.specs.Reports.{route_rows, match_rows, visibility_rows, origin_rows, seen_rows, churn_rows, peer_rows, fault_rows}
+use Rattle.rib_report.specs.Lines.{route_line, visibility_line, origin_line, seen_line, churn_line, peer_line, fault_line}
 use Rattle.mrt_body.specs.Choices.{UnitSelection}
 use Rattle.lane_deal.specs.declared.plan.Plan.{Plan}
 use Rattle.rib_report.specs.declared.request.Request.{Request}
@@ -23,6 +23,7 @@ lines_of request.Visibility tables = flat_map visibility_line (visibility_rows t
 lines_of request.Origins tables = flat_map origin_line (origin_rows tables)
 lines_of request.Seen tables = flat_map seen_line (seen_rows tables)
 lines_of request.Churn tables = flat_map churn_line (churn_rows tables)
+lines_of request.Peers tables = flat_map peer_line (peer_rows tables)
 lines_of (request.Match addr) tables = flat_map route_line (match_rows tables addr)
 lines_of request.Faults tables = flat_map fault_line (fault_rows tables)
 

@@ -17,9 +17,9 @@ use lane_deal::{Dealing, Gate, Plan};
 use mrt_body::Selection;
 use mrt_frame::{ReplayError, Sink, Source};
 use rib_report::{
-    Request, Tables, churn, faults, list_tables, matches, origins_with_threads, seen_with_threads,
-    visibility_with_threads, write_churn, write_faults, write_origins, write_rows, write_seen,
-    write_visibility,
+    Request, Tables, churn, faults, list_tables, matches, origins_with_threads, peers,
+    seen_with_threads, visibility_with_threads, write_churn, write_faults, write_origins,
+    write_peers, write_rows, write_seen, write_visibility,
 };
 use std::alloc::Global;
 use std::marker::Sync;
@@ -141,6 +141,7 @@ fn write_report<M: PrefixMap<SharedRoute> + Sync + Drop, T: Threads + Sync, W: S
             write_seen(out, rows.as_slice())
         }
         Request::Churn => write_churn(out, churn(alloc, tables)?.as_slice()),
+        Request::Peers => write_peers(out, peers(alloc, tables)?.as_slice()),
         Request::Match(addr) => write_rows(out, matches(alloc, tables, *addr)?.as_slice()),
         Request::Faults => write_faults(out, faults(alloc, tables)?.as_slice()),
     }

@@ -74,12 +74,18 @@ fn a_run_of_each_request_writes_its_report_or_wants_memory(rt: HostRuntime) -> R
 70000 192.0.2.2|0|0|0|0|0|0|0|1|3.000000|3.000000
 65000 192.0.2.1|1|0|0|0|0|0|0|0|1.000000|1.000000
 ";
+    let peers =
+        "65000 2001:0db8:0000:0000:0000:0000:0000:0001|up|1|1|3.000000|3.000000|1|56|1
+70000 192.0.2.2|up|0|1|3.000000|3.000000|1|56|2
+65000 192.0.2.1|up|1|1|1.000000|1.000000|1|116|-
+";
     for (request, expected) in [
         (Request::Tables, lines),
         (Request::Visibility, "10.0.0.0/8|2\n"),
         (Request::Origins, ""),
         (Request::Seen, "10.0.0.0/8|65000|2\n"),
         (Request::Churn, churns),
+        (Request::Peers, peers),
         (Request::Match(0x0A00_0001), lines),
         (Request::Faults, "1|56|2|14|BadAttribute(1)\n"),
     ] {

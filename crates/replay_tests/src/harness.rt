@@ -297,6 +297,7 @@ fn request_of(line: &str) -> Option<Request> {
         "origins" => Some(Request::Origins),
         "seen" => Some(Request::Seen),
         "churn" => Some(Request::Churn),
+        "peers" => Some(Request::Peers),
         "faults" => Some(Request::Faults),
         _ => match line.strip_prefix("match ") {
             Some(address) => read_address(address).map(Request::Match),

@@ -16,8 +16,8 @@ use Rattle.mrt_body.specs.declared.unit.PeerKey.{PeerKey}
 use Rattle.mrt_body.specs.declared.unit.Damage.{Damage}
 use Rattle.adj_rib.specs.declared.churn.Churn.{Churn}
 use Rattle.peer_tables.specs.Tables.{Seat, TablesState}
-use Rattle.rib_report.specs.Reports.{route_rows, match_rows, visibility_rows, origin_rows, seen_rows, churn_rows, fault_rows, in_place_order}
-use Rattle.rib_report.specs.Lines.{route_line, visibility_line, origin_line, seen_line, churn_line, fault_line}
+use Rattle.rib_report.specs.Reports.{route_rows, match_rows, visibility_rows, origin_rows, seen_rows, churn_rows, peer_rows, fault_rows, in_place_order}
+use Rattle.rib_report.specs.Lines.{route_line, visibility_line, origin_line, seen_line, churn_line, peer_line, fault_line}
 
 abbrev end : List ℕ
 end = 10 ∷ []
@@ -40,6 +40,7 @@ seat_at number addr table = record {
     up = true;
     table = table;
     churn = record { added = 1; changed = 2; same = 3; gone = 4; void = 5; resets = 6; idle = 7; refused = 8; first = Some 1000000; last = Some 2000050 };
+    arrivals = record { units = 36; first = Some (record { file = 0; offset = 12; entry = Some 3 }) };
     faults = record { place = record { file = 0; offset = 56; entry = Some 2 }; fault = BadAttribute 1 } ∷ [];
     spent = false;
   };
@@ -80,6 +81,10 @@ listed = refl
 counted : flat_map churn_line (churn_rows tables) ≡ codes "65000 192.0.2.1|1|2|3|4|5|6|7|8|1.000000|2.000050" ++ end ++ codes "65000 192.0.2.2|1|2|3|4|5|6|7|8|1.000000|2.000050" ++ end
 unfolding digits
 counted = refl
+
+peers_listed : flat_map peer_line (peer_rows tables) ≡ codes "65000 192.0.2.1|up|3|36|1.000000|2.000050|1|12|3" ++ end ++ codes "65000 192.0.2.2|up|2|36|1.000000|2.000050|1|12|3" ++ end
+unfolding digits
+peers_listed = refl
 
 -- a route with each field
 abbrev whole_route : Route
@@ -162,6 +167,15 @@ greatest_churn = refl
 without_times : churn_line (record { peer = peer; churn = churn_between None None }) ≡ codes "65000 192.0.2.1|18446744073709551615|0|0|0|0|0|0|18446744073709551615|-|-" ++ end
 unfolding digits
 without_times = refl
+
+greatest_peer : peer_line (record { peer = last_peer; is_up = false; routes = 0xffffffffffffffff; units = 0xffffffffffffffff; first = Some 0; last = Some 0xffffffffffffffff; place = Some (record { file = 0xffffffffffffffff; offset = 0xffffffffffffffff; entry = Some 65535 }) })
+    ≡ codes "4294967295 ffff:ffff:ffff:ffff:ffff:ffff:ffff:ffff|down|18446744073709551615|18446744073709551615|0.000000|18446744073709.551615|18446744073709551616|18446744073709551615|65535" ++ end
+unfolding digits
+greatest_peer = refl
+
+peer_without_units : peer_line (record { peer = peer; is_up = true; routes = 0; units = 0; first = None; last = None; place = None }) ≡ codes "65000 192.0.2.1|up|0|0|-|-|-|-|-" ++ end
+unfolding digits
+peer_without_units = refl
 
 -- ---- faults
 

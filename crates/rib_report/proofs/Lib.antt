@@ -10,6 +10,7 @@ pub mod MergeLaws
 pub mod OrderLaws
 pub mod HalvesLaws
 pub mod CountLaws
+pub mod ShareLaws
 pub mod VisibilityLaws
 pub mod OriginLaws
 pub mod SeenLaws

@@ -8,13 +8,14 @@ use Rattle.mrt_body.specs.declared.unit.Damage.{Damage}
 use Rattle.mrt_body.specs.declared.unit.PeerKey.{PeerKey}
 use Rattle.mrt_body.specs.declared.unit.Unit.{Unit as ReplayUnit}
 use Rattle.adj_rib.specs.Sessions.{session_of}
+use Rattle.adj_rib.specs.Arrived.{arrivals_of}
 use Rattle.adj_rib.specs.Churns.{churn_of, damaged_of}
 use Rattle.peer_tables.specs.Peers.{peers_of, units_of_peer}
 use Rattle.peer_tables.specs.Tables.{Seat, TablesState, tables_of}
 use Rattle.peer_tables.specs.Standing.{StandFor}
 use Rattle.rib_report.specs.declared.reports.churn.ChurnRow.{ChurnRow}
-use Rattle.rib_report.specs.Reports.{entry_row, is_longest, origin_pair, grouped_origins, has_several, in_place_order, rows_of_seat, matches_of_seat, seat_prefixes, is_visible_at, seat_origins, prefix_origin_cmp, seat_prefix_origins, is_seen_at, peer_churn}
-use Rattle.rib_report.specs.UnitReports.{table_at, prefixes_at, is_visible, prefix_origins_at, is_seen, HasReportsOf, HaveSameTexts}
+use Rattle.rib_report.specs.Reports.{entry_row, is_longest, origin_pair, grouped_origins, has_several, in_place_order, rows_of_seat, matches_of_seat, seat_prefixes, is_visible_at, seat_origins, prefix_origin_cmp, seat_prefix_origins, is_seen_at, peer_churn, peer_row}
+use Rattle.rib_report.specs.UnitReports.{table_at, peer_at, prefixes_at, is_visible, prefix_origins_at, is_seen, HasReportsOf, HaveSameTexts}
 use Rattle.peer_tables.proofs.StandingLaws.{peer_seat, seats_from, StandFor-only}
 
 module _ (units : List ReplayUnit) where
@@ -57,7 +58,7 @@ module _ (units : List ReplayUnit) where
   churn_at q = record { peer = q; churn = churn_of (units_of_peer units q) }
 
 pub HasReportsOf-tables_of : (units : List ReplayUnit) (refused : List Damage) → HasReportsOf units refused (tables_of units refused)
-unfolding tables_of session_of churn_at
+unfolding tables_of session_of arrivals_of churn_at
 HasReportsOf-tables_of units refused =
     let peers : List PeerKey = peers_of units in
     let shown : flat_map seat_prefixes (seats_from units 0 peers) ≡ flat_map (prefixes_at units) peers = prefixes units in
@@ -69,6 +70,7 @@ HasReportsOf-tables_of units refused =
       origins = ap (λ pairs. filter has_several (grouped_origins pairs)) (pieces_of_peers units seat_origins (λ q. filter_map origin_pair (table_at units q)) (λ n q. refl) 0 peers);
       seen = λ i. map (λ e. record { prefix = e.0; origin = e.1; peers = seen_at units e i }) (in_order prefix_origin_cmp (origins_shown i));
       churn = rows_of_peers units peer_churn (churn_at units) (λ n q. refl) 0 peers;
+      peers = rows_of_peers units peer_row (peer_at units) (λ n q. refl) 0 peers;
       faults = ap (λ listed. in_place_order (refused ++ listed)) (pieces_of_peers units (λ s. s.session.faults) (λ q. damaged_of (units_of_peer units q)) (λ n q. refl) 0 peers);
     }
 
@@ -76,7 +78,7 @@ pub HasReportsOf-standing : (tables : TablesState) (units : List ReplayUnit) (re
 HasReportsOf-standing tables units refused h = subst (HasReportsOf units refused) (sym (StandFor-only tables units refused h)) (HasReportsOf-tables_of units refused)
 
 same_texts : (one : TablesState) → HaveSameTexts one one
-same_texts one = record { routes = refl; matches = λ addr. refl; visibility = refl; origins = refl; seen = refl; churn = refl; faults = refl }
+same_texts one = record { routes = refl; matches = λ addr. refl; visibility = refl; origins = refl; seen = refl; churn = refl; peers = refl; faults = refl }
 
 pub HaveSameTexts-standing : (one other : TablesState) (units : List ReplayUnit) (refused : List Damage) → StandFor one units refused → StandFor other units refused → HaveSameTexts one other
 HaveSameTexts-standing one other units refused a b = subst (HaveSameTexts one) (StandFor-only one units refused a ∙ sym (StandFor-only other units refused b)) (same_texts one)

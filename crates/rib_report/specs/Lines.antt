@@ -1,5 +1,5 @@
 -- The lines of the reports.
-use Rattle.std.specs.Prelude.{ℕ, zero, suc, ◌+◌, Bool, List, [], ◌∷◌, ◌++◌, map, codes, decimal, if◌then◌else◌}
+use Rattle.std.specs.Prelude.{ℕ, zero, suc, ◌+◌, Bool, List, [], ◌∷◌, ◌++◌, map, Option, option_and_then, option_map, codes, decimal, if◌then◌else◌}
 use Rattle.std.specs.List.{join_with_byte}
 use Rattle.rib_report.specs.Digits.{line, field, time_text, ipv4_text, ipv6_text, numbers_text}
 use Rattle.bgp_prefix.specs.Prefixes.{IpPrefix}
@@ -16,12 +16,14 @@ use Rattle.bgp_update.specs.Paths.{PathSegment}
 use Rattle.mrt_body.specs.declared.unit.PeerAddr.{PeerAddr}
 use Rattle.mrt_body.specs.declared.unit.PeerAddr.TheVariants.{V4, V6}
 use Rattle.mrt_body.specs.declared.unit.PeerKey.{PeerKey}
+use Rattle.mrt_body.specs.declared.unit.Place.{Place}
 use Rattle.mrt_body.specs.declared.unit.Damage.{Damage}
 use Rattle.rib_report.specs.Rows.{TableRow}
 use Rattle.rib_report.specs.declared.reports.visibility.VisibilityRow.{VisibilityRow}
 use Rattle.rib_report.specs.declared.reports.origins.OriginRow.{OriginRow}
 use Rattle.rib_report.specs.declared.reports.seen.SeenRow.{SeenRow}
 use Rattle.rib_report.specs.declared.reports.churn.ChurnRow.{ChurnRow}
+use Rattle.rib_report.specs.declared.reports.peers.PeerRow.{PeerRow}
 
 -- ---- peers and routes
 
@@ -93,6 +95,26 @@ churn_line row = line (peer_text row.peer
     ∷ decimal row.churn.added ∷ decimal row.churn.changed ∷ decimal row.churn.same ∷ decimal row.churn.gone
     ∷ decimal row.churn.void ∷ decimal row.churn.resets ∷ decimal row.churn.idle ∷ decimal row.churn.refused
     ∷ field time_text row.churn.first ∷ field time_text row.churn.last ∷ [])
+
+-- whether a peer is up
+abbrev pub state_text : Bool → List ℕ
+state_text up = if up then codes "up" else codes "down"
+
+-- a place's file from 1, its record's offset, and its entry, if it is that of one
+abbrev pub file_of : Option Place → Option ℕ
+file_of place = option_map (λ p. p.file + 1) place
+
+abbrev pub offset_of : Option Place → Option ℕ
+offset_of place = option_map (λ p. p.offset) place
+
+abbrev pub entry_of : Option Place → Option ℕ
+entry_of place = option_and_then (λ p. p.entry) place
+
+-- peer, up or down, routes, units, first and last time, and the place of the first unit
+abbrev pub peer_line : PeerRow → List ℕ
+peer_line row = line (peer_text row.peer ∷ state_text row.is_up ∷ decimal row.routes ∷ decimal row.units
+    ∷ field time_text row.first ∷ field time_text row.last
+    ∷ field decimal (file_of row.place) ∷ field decimal (offset_of row.place) ∷ field decimal (entry_of row.place) ∷ [])
 
 -- ---- faults
 

@@ -22,6 +22,7 @@ use Rattle.rib_report.specs.declared.reports.visibility.VisibilityRow.{Visibilit
 use Rattle.rib_report.specs.declared.reports.origins.OriginRow.{OriginRow}
 use Rattle.rib_report.specs.declared.reports.seen.SeenRow.{SeenRow}
 use Rattle.rib_report.specs.declared.reports.churn.ChurnRow.{ChurnRow}
+use Rattle.rib_report.specs.declared.reports.peers.PeerRow.{PeerRow}
 
 -- ---- entries
 
@@ -198,6 +199,23 @@ peer_churn seat = record { peer = seat.key; churn = seat.session.churn }
 
 abbrev pub churn_rows : TablesState → List ChurnRow
 churn_rows tables = map peer_churn tables.seats
+
+-- ---- peers
+
+-- a peer as its units leave it
+abbrev pub peer_row : Seat → PeerRow
+peer_row seat = record {
+  peer = seat.key;
+  is_up = seat.session.up;
+  routes = length seat.session.table;
+  units = seat.session.arrivals.units;
+  first = seat.session.churn.first;
+  last = seat.session.churn.last;
+  place = seat.session.arrivals.first;
+}
+
+abbrev pub peer_rows : TablesState → List PeerRow
+peer_rows tables = map peer_row tables.seats
 
 -- ---- faults
 

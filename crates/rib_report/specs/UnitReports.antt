@@ -1,5 +1,5 @@
 -- The reports over units and refusals alone.
-use Rattle.std.specs.Prelude.{◌≡◌, ℕ, Bool, List, ◌++◌, map, Option}
+use Rattle.std.specs.Prelude.{◌≡◌, ℕ, Bool, List, ◌++◌, length, map, Option}
 use Rattle.std.specs.List.{flat_map, filter, filter_map, count_by, list_any}
 use Rattle.bgp_prefix.specs.Prefixes.{IpPrefix, prefix_cmp, prefix_eq}
 use Rattle.bgp_prefix.specs.Ordered.{in_order}
@@ -8,9 +8,10 @@ use Rattle.bgp_update.specs.declared.route.Route.{Route}
 use Rattle.mrt_body.specs.declared.unit.Damage.{Damage}
 use Rattle.mrt_body.specs.declared.unit.PeerKey.{PeerKey}
 use Rattle.mrt_body.specs.declared.unit.Unit.{Unit as ReplayUnit}
-use Rattle.adj_rib.specs.Steps.{steps_of}
+use Rattle.adj_rib.specs.Steps.{is_up, steps_of}
 use Rattle.adj_rib.specs.Tables.{table_of}
-use Rattle.adj_rib.specs.Churns.{churn_of, damaged_of}
+use Rattle.adj_rib.specs.Arrived.{first_place}
+use Rattle.adj_rib.specs.Churns.{churn_of, damaged_of, stopped}
 use Rattle.peer_tables.specs.Peers.{peers_of, units_of_peer}
 use Rattle.peer_tables.specs.Tables.{TablesState}
 use Rattle.rib_report.specs.Rows.{TableRow}
@@ -18,8 +19,9 @@ use Rattle.rib_report.specs.declared.reports.visibility.VisibilityRow.{Visibilit
 use Rattle.rib_report.specs.declared.reports.origins.OriginRow.{OriginRow}
 use Rattle.rib_report.specs.declared.reports.seen.SeenRow.{SeenRow}
 use Rattle.rib_report.specs.declared.reports.churn.ChurnRow.{ChurnRow}
-use Rattle.rib_report.specs.Reports.{entry_row, is_longest, origin_pair, grouped_origins, has_several, prefix_origin, prefix_origin_cmp, prefix_origin_eq, in_place_order, route_rows, match_rows, visibility_rows, origin_rows, seen_rows, churn_rows, fault_rows}
-use Rattle.rib_report.specs.Lines.{route_line, visibility_line, origin_line, seen_line, churn_line, fault_line}
+use Rattle.rib_report.specs.declared.reports.peers.PeerRow.{PeerRow}
+use Rattle.rib_report.specs.Reports.{entry_row, is_longest, origin_pair, grouped_origins, has_several, prefix_origin, prefix_origin_cmp, prefix_origin_eq, in_place_order, route_rows, match_rows, visibility_rows, origin_rows, seen_rows, churn_rows, peer_rows, fault_rows}
+use Rattle.rib_report.specs.Lines.{route_line, visibility_line, origin_line, seen_line, churn_line, peer_line, fault_line}
 
 -- the table that a peer's own units leave
 abbrev pub table_at : List ReplayUnit → PeerKey → List (RouteKey × Route)
@@ -69,6 +71,23 @@ unit_seen units =
 abbrev pub unit_churn : List ReplayUnit → List ChurnRow
 unit_churn units = map (λ q. record { peer = q; churn = churn_of (units_of_peer units q) }) (peers_of units)
 
+-- a peer as its own units leave it: whether it is up, its routes and units, and when and where these begin
+abbrev pub peer_at : List ReplayUnit → PeerKey → PeerRow
+peer_at units q =
+    let own = units_of_peer units q in
+    record {
+      peer = q;
+      is_up = is_up own;
+      routes = length (table_at units q);
+      units = stopped (length own);
+      first = (churn_of own).first;
+      last = (churn_of own).last;
+      place = first_place own;
+    }
+
+abbrev pub unit_peers : List ReplayUnit → List PeerRow
+unit_peers units = map (peer_at units) (peers_of units)
+
 -- the refusals and every peer's damaged units, in place order
 abbrev pub unit_faults : List ReplayUnit → List Damage → List Damage
 unit_faults units refused =
@@ -82,6 +101,7 @@ pub record HasReportsOf (units : List ReplayUnit) (refused : List Damage) (table
   pub origins : origin_rows tables ≡ unit_origins units
   pub seen : seen_rows tables ≡ unit_seen units
   pub churn : churn_rows tables ≡ unit_churn units
+  pub peers : peer_rows tables ≡ unit_peers units
   pub faults : fault_rows tables ≡ unit_faults units refused
 
 -- The text of each report is the same.
@@ -92,4 +112,5 @@ pub record HaveSameTexts (one other : TablesState) : Type 0 where
   pub origins : flat_map origin_line (origin_rows one) ≡ flat_map origin_line (origin_rows other)
   pub seen : flat_map seen_line (seen_rows one) ≡ flat_map seen_line (seen_rows other)
   pub churn : flat_map churn_line (churn_rows one) ≡ flat_map churn_line (churn_rows other)
+  pub peers : flat_map peer_line (peer_rows one) ≡ flat_map peer_line (peer_rows other)
   pub faults : flat_map fault_line (fault_rows one) ≡ flat_map fault_line (fault_rows other)

@@ -3,13 +3,16 @@
 
 ghost use Rattle.std.specs.Prelude.{◌≡◌, ◌≤◌, ◌+◌, ◌↔◌, ℕ, Bool, IsTrue, List, Option, Some, length, map};
 ghost use Rattle.std.specs.FinMap.{find, is_sorted};
+ghost use Rattle.std.specs.List.{count_by, filter};
 ghost use Rattle.std.specs.List.Sorted.{IsSortedByKey, IsStableByKey};
 ghost use Rattle.bgp_prefix.specs.Prefixes.{IpPrefix, prefix_cmp};
+ghost use Rattle.mrt_body.specs.declared.unit.Damage.{Damage};
 ghost use Rattle.mrt_body.specs.declared.unit.PeerKey.{PeerKey};
 ghost use Rattle.peer_tables.specs.Tables.{TablesState, all_faults};
 ghost use Rattle.rib_report.specs.Rows.{visibility_pair, origins_pair, seen_pair};
 ghost use Rattle.rib_report.specs.Reports.{place_cmp, visibility_of, visibility_rows, origins_of, origin_rows, fault_rows};
 ghost use Rattle.rib_report.specs.Reports.{prefix_origin_cmp, seen_of, seen_rows, origins_seen, share_of, rest_of};
+ghost use Rattle.rib_report.specs.Reports.{route_rows, match_rows, churn_rows, peer_rows};
 
 /// The rows of visibility are exactly the prefixes that are visible at a peer, each once and in order,
 /// with the number of these peers.
@@ -55,6 +58,26 @@ pub fn counts_are_sums_over_shares()
     ensures seen { (tables : TablesState) (is_in : PeerKey → Bool) (prefix : IpPrefix) (origin : Option ℕ) →
         seen_of (share_of is_in tables) (prefix, origin) + seen_of (rest_of is_in tables) (prefix, origin)
         ≡ seen_of tables (prefix, origin) }
+{}
+
+/// The rows of a share of the peers are those that its peers have in the whole report, in the same order.
+pub fn rows_of_shares()
+    ensures tables { (tables : TablesState) (is_in : PeerKey → Bool) →
+        route_rows (share_of is_in tables) ≡ filter (λ row. is_in row.peer) (route_rows tables) }
+    ensures matches { (tables : TablesState) (is_in : PeerKey → Bool) (addr : ℕ) →
+        match_rows (share_of is_in tables) addr ≡ filter (λ row. is_in row.peer) (match_rows tables addr) }
+    ensures churn { (tables : TablesState) (is_in : PeerKey → Bool) →
+        churn_rows (share_of is_in tables) ≡ filter (λ row. is_in row.peer) (churn_rows tables) }
+    ensures peers { (tables : TablesState) (is_in : PeerKey → Bool) →
+        peer_rows (share_of is_in tables) ≡ filter (λ row. is_in row.peer) (peer_rows tables) }
+{}
+
+/// Of the faults that pass any test, a share of the peers and the others list as many as the whole report, and the
+/// refusals twice: each peer's faults are in one of them, and each has all refusals.
+pub fn faults_of_shares()
+    ensures { (tables : TablesState) (is_in : PeerKey → Bool) (test : Damage → Bool) →
+        count_by test (fault_rows (share_of is_in tables)) + count_by test (fault_rows (rest_of is_in tables))
+        ≡ count_by test (fault_rows tables) + count_by test tables.refused }
 {}
 
 /// The listed faults are ordered by place. Those of one place are the same, in the same order, as among all

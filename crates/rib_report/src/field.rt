@@ -3,7 +3,7 @@
 ghost use Rattle.std.specs.Prelude.{◌≡◌, ℕ, ◌+◌, ◌-◌, ◌^◌, ◌<◌, ◌≤◌, ◌++◌, [], ◌∷◌, List, decimal, length, min};
 ghost use Rattle.rib_report.specs.Texts.{Formats};
 ghost use Rattle.rib_report.specs.Digits.{field, time_text, ipv6_text};
-ghost use Rattle.rib_report.specs.Lines.{addr_text, peer_text, prefix_text, identifier_text, key_text, next_hop_text, origin_text, aggregator_text, atomic_text};
+ghost use Rattle.rib_report.specs.Lines.{addr_text, peer_text, prefix_text, identifier_text, key_text, next_hop_text, origin_text, aggregator_text, atomic_text, state_text};
 
 use crate::format::{
     format_byte, format_front, format_ipv4, format_ipv6, format_number, format_short, format_six,
@@ -194,6 +194,26 @@ impl Field for Microseconds {
     }
 }
 
+/// Returns a time as a field.
+pub(crate) fn time_field(time: Option<u64>) -> Option<Microseconds>
+    ensures { field (λ t. time_text t.0) result ≡ field time_text time }
+{
+    match time {
+        Some(time) => Some(Microseconds(time)),
+        None => None,
+    }
+}
+
+/// Returns the number of an entry as a field.
+pub(crate) fn entry_field(entry: Option<u16>) -> Option<u32>
+    ensures { result ≡ entry }
+{
+    match entry {
+        Some(number) => Some(number as u32),
+        None => None,
+    }
+}
+
 // ---- peers and keys
 
 impl Field for PeerAddr {
@@ -229,6 +249,28 @@ impl Field for PeerKey {
         let at = format_number(bytes, at, shorts, self.asn);
         let at = format_byte(bytes, at, b' ');
         self.addr.format(bytes, at, shorts)
+    }
+}
+
+/// Whether a peer is up.
+#[derive(Clone, Copy)]
+pub(crate) struct SessionUp(pub(crate) bool);
+
+impl Field for SessionUp {
+    ghost text_of = { λ s. state_text s.0 };
+
+    ghost longest = { 4 };
+
+    fn longest() -> usize {
+        4
+    }
+
+    fn format(self, bytes: &mut [u8], at: usize, _shorts: &ShortTexts) -> usize {
+        if self.0 {
+            format_text(bytes, at, b"up")
+        } else {
+            format_text(bytes, at, b"down")
+        }
     }
 }
 

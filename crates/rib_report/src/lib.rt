@@ -1,4 +1,4 @@
-//! Seven reports over the tables of all peers, and their lines.
+//! Eight reports over the tables of all peers, and their lines.
 //!
 //! A report is a function from tables to rows, stated over whole lists and sets; a line is a function of a row. Laws
 //! state the rows without an order of work, and tables that stand for units have the reports that are defined over
@@ -44,8 +44,9 @@ mod standing;
 mod write;
 
 pub use defined::{
-    counts_are_sums_over_shares, faults_stand_by_place, origins_are_of_all_routes,
-    origins_are_of_seen_rows, seen_counts_peers, visibility_counts_peers,
+    counts_are_sums_over_shares, faults_of_shares, faults_stand_by_place,
+    origins_are_of_all_routes, origins_are_of_seen_rows, rows_of_shares, seen_counts_peers,
+    visibility_counts_peers,
 };
 pub use peer_tables::{
     Gathered, Seated, Tables, collect, collected_stand_for_units, lanes_make_no_difference,
@@ -55,6 +56,7 @@ pub use reports::churn::{ChurnRow, churn, write_churn};
 pub use reports::faults::{faults, write_faults};
 pub use reports::matches::matches;
 pub use reports::origins::{OriginRow, origins, origins_with_threads, write_origins};
+pub use reports::peers::{PeerRow, peers, write_peers};
 pub use reports::seen::{SeenRow, seen, seen_with_threads, write_seen};
 pub use reports::tables::{TableRow, list_tables, table_rows, write_rows};
 pub use reports::visibility::{

@@ -1,9 +1,10 @@
-//! The seven reports, by the names that users know.
+//! The eight reports, by the names that users know.
 
 pub(crate) mod churn;
 pub(crate) mod faults;
 pub(crate) mod matches;
 pub(crate) mod origins;
+pub(crate) mod peers;
 pub(crate) mod seen;
 pub(crate) mod tables;
 pub(crate) mod visibility;

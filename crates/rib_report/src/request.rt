@@ -11,6 +11,8 @@ pub enum Request {
     Seen,
     /// For each peer, what its units did to its table.
     Churn,
+    /// The peers, whether each is up, its numbers of routes and units, and when and where these begin.
+    Peers,
     /// For each peer, the routes of the longest prefix that contains this address.
     Match(u32),
     /// The records and units that are damaged.

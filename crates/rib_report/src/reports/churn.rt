@@ -9,7 +9,7 @@ ghost use Rattle.rib_report.specs.Lines.{churn_line};
 ghost use Rattle.rib_report.specs.Texts.{IsOutput, Writes};
 
 use crate::buffer::TextBuffer;
-use crate::field::{Ended, Microseconds};
+use crate::field::{Ended, time_field};
 use crate::line::Line;
 use crate::write::write_lines;
 use adj_rib::{Churn, SharedRoute};
@@ -41,16 +41,6 @@ pub fn churn<M: PrefixMap<SharedRoute>>(
         })?;
     }
     Ok(rows)
-}
-
-/// Returns a time as a field.
-fn time_field(time: Option<u64>) -> Option<Microseconds>
-    ensures { field (λ t. time_text t.0) result ≡ field time_text time }
-{
-    match time {
-        Some(time) => Some(Microseconds(time)),
-        None => None,
-    }
 }
 
 impl Line for ChurnRow {

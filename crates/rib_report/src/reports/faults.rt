@@ -11,6 +11,7 @@ ghost use Rattle.rib_report.specs.Lines.{fault_line};
 ghost use Rattle.rib_report.specs.Texts.{IsOutput, Writes};
 
 use crate::buffer::TextBuffer;
+use crate::field::entry_field;
 use crate::line::Line;
 use crate::write::write_lines;
 use adj_rib::SharedRoute;
@@ -44,16 +45,6 @@ pub fn faults<M: PrefixMap<SharedRoute>>(
     let mut rows = gather_faults(alloc, tables)?;
     rows.sort_by_key(|damage| damage.place)?;
     Ok(rows)
-}
-
-/// Returns the number of an entry as a field.
-fn entry_field(entry: Option<u16>) -> Option<u32>
-    ensures { result ≡ entry }
-{
-    match entry {
-        Some(number) => Some(number as u32),
-        None => None,
-    }
 }
 
 /// Adds the type of an attribute, in parentheses.

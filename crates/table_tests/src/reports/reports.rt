@@ -6,9 +6,9 @@ use bgp_prefix::{Flat, PrefixMap, Radix};
 use mrt_body::{Damage, Place};
 use mrt_frame::{Counted, Fault, ReplayError, Sink};
 use rib_report::{
-    Tables, churn, faults, list_tables, matches, origins_with_threads, seen_with_threads,
-    table_rows, visibility_with_threads, write_churn, write_faults, write_origins, write_rows,
-    write_seen, write_visibility,
+    Tables, churn, faults, list_tables, matches, origins_with_threads, peers, seen_with_threads,
+    table_rows, visibility_with_threads, write_churn, write_faults, write_origins, write_peers,
+    write_rows, write_seen, write_visibility,
 };
 use std::alloc::Global;
 use std::process::Abort;
@@ -21,6 +21,7 @@ pub enum Report {
     Origins,
     Seen,
     Churn,
+    Peers,
     Match(u32),
     Faults,
 }
@@ -89,6 +90,13 @@ const THREE_PEERS: Case<'static> = Case {
 65000 192.0.2.3|1|0|0|0|0|0|0|0|1.000000|1.000000
 ",
         ),
+        (
+            Report::Peers,
+            "65000 192.0.2.1|up|1|2|1.000000|1.000000|1|0|-
+65000 192.0.2.2|up|1|2|1.000000|1.000000|1|0|-
+65000 192.0.2.3|up|1|1|1.000000|1.000000|1|0|-
+",
+        ),
         (Report::Faults, ""),
     ],
 };
@@ -120,6 +128,13 @@ const LONGEST: Case<'static> = Case {
         (
             Report::Visibility,
             "0.0.0.0/0|1\n10.0.0.0/8|2\n10.1.0.0/16|1\n",
+        ),
+        (
+            Report::Peers,
+            "65000 192.0.2.1|up|3|1|1.000000|1.000000|1|0|-
+65000 192.0.2.2|up|0|0|-|-|-|-|-
+65000 192.0.2.3|up|1|1|1.000000|1.000000|1|0|-
+",
         ),
         (
             Report::Churn,
@@ -245,6 +260,13 @@ const DAMAGED: Case<'static> = Case {
 65000 192.0.2.3|0|0|0|0|0|0|0|1|1.000000|1.000000
 ",
         ),
+        (
+            Report::Peers,
+            "65000 192.0.2.1|up|1|2|1.000000|1.000000|1|0|-
+65000 192.0.2.2|up|1|2|1.000000|1.000000|1|0|-
+65000 192.0.2.3|up|0|1|1.000000|1.000000|1|0|-
+",
+        ),
         (Report::Visibility, "10.0.0.0/8|2\n"),
     ],
 };
@@ -273,6 +295,7 @@ pub fn write_report<M: PrefixMap<SharedRoute> + Sync, T: Threads + Sync, W: Sink
             write_seen(out, rows.as_slice())
         }
         Report::Churn => write_churn(out, churn(alloc, tables)?.as_slice()),
+        Report::Peers => write_peers(out, peers(alloc, tables)?.as_slice()),
         Report::Match(addr) => write_rows(out, matches(alloc, tables, addr)?.as_slice()),
         Report::Faults => write_faults(out, faults(alloc, tables)?.as_slice()),
     }

@@ -61,12 +61,13 @@ const PEERS: Peers<'static> = [
     &["bad-segment-kind", "announcement"],
 ];
 
-const REPORTS: [Report; 7] = [
+const REPORTS: [Report; 8] = [
     Report::Tables,
     Report::Visibility,
     Report::Origins,
     Report::Seen,
     Report::Churn,
+    Report::Peers,
     Report::Match(0x0A01_0000),
     Report::Faults,
 ];

@@ -1,0 +1,127 @@
+//! The report `peers`: the peers as their units leave them. A line holds a peer, whether it is up, its numbers of routes
+//! and units, the times of its first and last unit, and the place of the first one. Peers are numbered by these places,
+//! so the lines of several runs on different peers can be put in the order of one run.
+
+ghost use Rattle.std.specs.Prelude.{◌≡◌, IfOk};
+ghost use Rattle.std.specs.List.{flat_map};
+ghost use Rattle.peer_tables.specs.Seats.{seat_of};
+ghost use Rattle.rib_report.specs.Reports.{peer_row, peer_rows};
+ghost use Rattle.rib_report.specs.Digits.{field, time_text};
+ghost use Rattle.rib_report.specs.Lines.{entry_of, file_of, offset_of, peer_line, state_text};
+ghost use Rattle.rib_report.specs.Texts.{IsOutput, Writes};
+
+use crate::buffer::TextBuffer;
+use crate::field::{Ended, SessionUp, entry_field, time_field};
+use crate::line::Line;
+use crate::write::write_lines;
+use adj_rib::SharedRoute;
+use bgp_prefix::{Memory, PrefixMap};
+use mrt_body::{PeerKey, Place};
+use mrt_frame::{ReplayError, Sink};
+use peer_tables::{Seated, Tables};
+use std::alloc::Global;
+
+/// A peer as its units leave it.
+#[derive(Drop)]
+pub struct PeerRow {
+    pub peer: PeerKey,
+    /// Whether its last state change led to Established, or there was none.
+    pub is_up: bool,
+    /// The routes in its table.
+    pub routes: usize,
+    /// Its units of every kind.
+    pub units: u64,
+    /// The time of its first unit, in microseconds since 1970 UTC.
+    pub first: Option<u64>,
+    /// The time of its last unit.
+    pub last: Option<u64>,
+    /// The place of its first unit.
+    pub place: Option<Place>,
+}
+
+/// Returns the row of a peer.
+fn row_of<M: PrefixMap<SharedRoute>>(seat: &Seated<M>) -> PeerRow
+    ensures { result ≡ peer_row (seat_of seat.now) }
+{
+    let churn = seat.session.churn();
+    let arrivals = seat.session.arrivals();
+    PeerRow {
+        peer: seat.key,
+        is_up: seat.session.is_up(),
+        routes: seat.session.table().len(),
+        units: arrivals.units,
+        first: churn.first,
+        last: churn.last,
+        place: arrivals.first,
+    }
+}
+
+/// Returns the peers, by number.
+pub fn peers<M: PrefixMap<SharedRoute>>(
+    alloc: Global,
+    tables: &Tables<M>,
+) -> Result<Vec<PeerRow>, Memory>
+    ensures { IfOk result (λ rows. rows.items ≡ peer_rows tables.now) }
+{
+    let mut rows = Vec::new(alloc);
+    for seat in tables.seats() {
+        rows.push(row_of(seat))?;
+    }
+    Ok(rows)
+}
+
+/// Returns the number of a place's file, from 1.
+fn file_field(place: Option<Place>) -> Option<u128>
+    ensures { result ≡ file_of place }
+{
+    match place {
+        Some(place) => Some(place.file as u128 + 1),
+        None => None,
+    }
+}
+
+/// Returns the offset of a place's record, in bytes.
+fn offset_field(place: Option<Place>) -> Option<u128>
+    ensures { result ≡ offset_of place }
+{
+    match place {
+        Some(place) => Some(place.offset as u128),
+        None => None,
+    }
+}
+
+/// Returns the number of a place's entry, if it is that of an entry.
+fn place_entry_field(place: Option<Place>) -> Option<u32>
+    ensures { result ≡ entry_of place }
+{
+    match place {
+        Some(place) => entry_field(place.entry),
+        None => None,
+    }
+}
+
+impl Line for PeerRow {
+    ghost line = { peer_line };
+
+    fn prefetch(&self) -> usize {
+        0
+    }
+
+    fn put<W: Sink>(&self, text: &mut TextBuffer, out: &mut W) {
+        let place = (
+            file_field(self.place),
+            (offset_field(self.place), place_entry_field(self.place)),
+        );
+        let times = (time_field(self.first), (time_field(self.last), place));
+        let counts = (self.routes as u128, (self.units as u128, times));
+        text.put(out, Ended((self.peer, (SessionUp(self.is_up), counts))));
+    }
+}
+
+/// Writes the rows of `peers`. If it returns `Write`, a leading part of the text has been written.
+pub fn write_peers<W: Sink>(out: &mut W, rows: &[PeerRow]) -> Result<(), ReplayError>
+    ensures { IsOutput (W.contents out.old) (W.failure_count out.old) (W.contents out.new) (W.failure_count out.new)
+        (flat_map peer_line rows.now) result }
+{
+    write_lines(out, rows)
+}
