@@ -9,21 +9,21 @@ ghost use Rattle.adj_rib.specs.Selecting.{chooses, selected_entries};
 
 use crate::shared_route::SharedRoute;
 use bgp_prefix::{Memory, PrefixMap, RouteKey};
-use mrt_body::{PrefixChoice, is_chosen};
+use mrt_body::ChosenPrefixes;
 use std::alloc::Global;
 
 /// Returns the keys of these entries that aren't chosen.
 fn unchosen_keys(
     alloc: Global,
-    choices: &[PrefixChoice],
+    chosen: &ChosenPrefixes,
     entries: &[(RouteKey, &SharedRoute)],
 ) -> Result<Vec<RouteKey>, Memory>
-    ensures { IfOk result (λ v. v.items ≡ filter (λ k. not (chooses choices.now k))
+    ensures { IfOk result (λ v. v.items ≡ filter (λ k. not (chooses chosen.now k))
         (map (λ (e : Key × Route). e.0) (map (λ e. (e.0, e.1.now)) entries.now))) }
 {
     let mut keys = Vec::new(alloc);
     for (key, _) in entries {
-        if !is_chosen(choices, &key.prefix) {
+        if !chosen.takes(&key.prefix) {
             keys.push(*key)?;
         }
     }
@@ -33,14 +33,14 @@ fn unchosen_keys(
 /// Returns the keys of a table that aren't chosen.
 fn other_keys<M: PrefixMap<SharedRoute>>(
     alloc: Global,
-    choices: &[PrefixChoice],
+    chosen: &ChosenPrefixes,
     table: &M,
 ) -> Result<Vec<RouteKey>, Memory>
-    ensures { IfOk result (λ v. v.items ≡ filter (λ k. not (chooses choices.now k))
+    ensures { IfOk result (λ v. v.items ≡ filter (λ k. not (chooses chosen.now k))
         (map (λ e. e.0) (finite.entries (M.contents table.now)))) }
 {
     let entries = table.entries(alloc)?;
-    unchosen_keys(alloc, choices, entries.as_slice())
+    unchosen_keys(alloc, chosen, entries.as_slice())
 }
 
 /// Removes each of these keys.
@@ -55,13 +55,13 @@ fn remove_all<M: PrefixMap<SharedRoute>>(table: &mut M, keys: &[RouteKey])
 /// Removes the routes of prefixes that aren't chosen.
 pub(crate) fn retain_chosen<M: PrefixMap<SharedRoute>>(
     alloc: Global,
-    choices: &[PrefixChoice],
+    chosen: &ChosenPrefixes,
     table: &mut M,
 ) -> Result<(), Memory>
     ensures { OnOk result (finite.entries (M.contents table.new)
-        ≡ selected_entries (chooses choices.now) (finite.entries (M.contents table.old))) }
+        ≡ selected_entries (chooses chosen.now) (finite.entries (M.contents table.old))) }
 {
-    let keys = other_keys(alloc, choices, table)?;
+    let keys = other_keys(alloc, chosen, table)?;
     remove_all(table, keys.as_slice());
     Ok(())
 }

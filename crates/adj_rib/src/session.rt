@@ -14,7 +14,7 @@ use crate::retaining::retain_chosen;
 use crate::rib_in::RibIn;
 use crate::shared_route::SharedRoute;
 use bgp_prefix::{Memory, PrefixMap};
-use mrt_body::{Damage, LentUnit, PrefixChoice, Unit};
+use mrt_body::{ChosenPrefixes, Damage, LentUnit, Unit};
 use std::alloc::Global;
 use std::marker::Model;
 
@@ -128,10 +128,10 @@ impl<M: PrefixMap<SharedRoute>> Session<M> {
 
     /// Removes the routes of prefixes that aren't chosen. The session is for reading then: it no longer stands for its
     /// units. After an `Err` the table is as it was.
-    pub fn retain(&mut self, alloc: Global, choices: &[PrefixChoice]) -> Result<(), Memory>
-        ensures { OnOk result (self.new ≡ chosen_session choices.now self.old) }
+    pub fn retain(&mut self, alloc: Global, chosen: &ChosenPrefixes) -> Result<(), Memory>
+        ensures { OnOk result (self.new ≡ chosen_session chosen.now self.old) }
     {
-        retain_chosen(alloc, choices, &mut self.rib.table)
+        retain_chosen(alloc, chosen, &mut self.rib.table)
     }
 
     /// What the units did to the table.

@@ -43,7 +43,7 @@ use command_line::{Job, Usage, read_words, wrapped};
 use counts::Counts;
 use input::{Input, OpenError, Watched, open_all};
 use lane_deal::{ByTurns, Plan};
-use mrt_body::{PrefixChoice, Reach, Selection};
+use mrt_body::{ChosenPrefixes, PrefixChoice, Reach, Selection};
 use mrt_frame::Counted;
 use mrt_replay::{run, status};
 use output::{Report, columns};
@@ -129,7 +129,8 @@ fn selection_of(alloc: Global, job: &Job) -> Result<Selection, Memory>
       share = job.now.share;
     }) }
 {
-    let prefixes = Vec::from_slice(alloc, &job.prefixes)?;
+    let choices = Vec::from_slice(alloc, &job.prefixes)?;
+    let prefixes = ChosenPrefixes::new(alloc, choices)?;
     let peers = Vec::from_slice(alloc, &job.peers)?;
     Ok(
         Selection::all(alloc)

@@ -24,3 +24,4 @@ pub mod HeadParts
 pub mod EventLaws
 pub mod ReadingLaws
 pub mod OpenLaws
+pub mod NamedLaws

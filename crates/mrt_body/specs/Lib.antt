@@ -5,6 +5,7 @@ pub mod Indexes
 pub mod RibRecords
 pub mod Bgp4mp
 pub mod Choices
+pub mod Named
 pub mod Selections
 pub mod Units
 pub mod Lent

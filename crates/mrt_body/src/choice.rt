@@ -1,8 +1,7 @@
 //! What a selection names.
 
 ghost use Rattle.std.specs.Prelude.{◌≡◌};
-ghost use Rattle.std.specs.List.{list_any};
-ghost use Rattle.mrt_body.specs.Choices.{addr_eq, is_chosen, is_chosen_peer, names_peer, takes_prefix};
+ghost use Rattle.mrt_body.specs.Choices.{addr_eq, is_chosen_peer, names_peer, takes_prefix};
 
 use crate::unit::{PeerAddr, PeerKey};
 use bgp_prefix::Prefix;
@@ -38,21 +37,6 @@ impl PrefixChoice {
             Reach::Around => prefix.covers(&self.prefix),
         }
     }
-}
-
-/// Whether one of the choices takes this prefix, or there is none.
-pub fn is_chosen(choices: &[PrefixChoice], prefix: &Prefix) -> bool
-    ensures { result ≡ is_chosen choices.now prefix.now }
-{
-    if choices.is_empty() {
-        return true;
-    }
-    for choice in choices {
-        if choice.takes(prefix) {
-            return true;
-        }
-    }
-    false
 }
 
 /// The peer of an AS number and an address, or all peers of an AS number.

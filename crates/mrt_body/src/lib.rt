@@ -30,6 +30,7 @@
 mod agreement;
 mod at;
 mod choice;
+mod chosen_prefixes;
 mod content;
 mod entries;
 mod in_force;
@@ -52,7 +53,8 @@ mod unit;
 mod units;
 
 pub use agreement::{bodies_agree_with_their_forms, events_agree_with_their_payloads};
-pub use choice::{PeerChoice, PrefixChoice, Reach, is_chosen};
+pub use choice::{PeerChoice, PrefixChoice, Reach};
+pub use chosen_prefixes::ChosenPrefixes;
 pub use content::{Content, content_of};
 pub use interpret::event;
 pub use lent::{LentPayload, LentUnit};

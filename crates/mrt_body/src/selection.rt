@@ -8,7 +8,8 @@ ghost use Rattle.mrt_body.specs.Selections.{concerns, has_chosen, is_past, is_se
 ghost use Rattle.mrt_body.specs.declared.meaning.Event.TheVariants as events;
 ghost use Rattle.std.specs.Prelude.{Ok};
 
-use crate::choice::{PeerChoice, PrefixChoice, is_chosen, is_chosen_peer};
+use crate::choice::{PeerChoice, is_chosen_peer};
+use crate::chosen_prefixes::ChosenPrefixes;
 use crate::lent::LentPayload;
 use crate::packed_meaning::{PackedEvent, packed_event};
 use crate::session_unit::SessionUnit;
@@ -27,9 +28,9 @@ pub struct Selection {
     /// The last second of which units are returned, in seconds since 1970 UTC. A unit is skipped if the
     /// whole second of its time is past it. With `None` no time is.
     until: Option<u64>,
-    /// Which prefixes are chosen: those that one of these takes, or all if there are none. A unit that can't concern a
-    /// chosen prefix is skipped: a RIB entry of another prefix, or an UPDATE that speaks of others only.
-    prefixes: Vec<PrefixChoice>,
+    /// Which prefixes are chosen. A unit that can't concern a chosen prefix is skipped: a RIB entry of another prefix,
+    /// or an UPDATE that speaks of others only.
+    prefixes: ChosenPrefixes,
     /// Which peers are chosen: those that one of these takes, or all if there are none.
     peers: Vec<PeerChoice>,
     /// Of the chosen peers those in this share alone, or all with `None`.
@@ -43,28 +44,18 @@ impl Model for Selection {
 
     ghost view = { λ s. record {
       until = s.until;
-      prefixes = s.prefixes.items;
+      prefixes = s.prefixes;
       peers = s.peers.items;
       share = s.share;
     } };
 }
 
-/// Whether no prefix is named.
-fn is_open(choices: &[PrefixChoice]) -> bool
-    ensures { result ≡ is_open choices.now }
-{
-    match choices {
-        [] => true,
-        _ => false,
-    }
-}
-
 /// Whether one of the keys has a chosen prefix.
-fn has_chosen(choices: &[PrefixChoice], keys: &[RouteKey]) -> bool
-    ensures { result ≡ has_chosen choices.now keys.now }
+fn has_chosen(chosen: &ChosenPrefixes, keys: &[RouteKey]) -> bool
+    ensures { result ≡ has_chosen chosen.now keys.now }
 {
     for key in keys {
-        if is_chosen(choices, &key.prefix) {
+        if chosen.takes(&key.prefix) {
             return true;
         }
     }
@@ -72,32 +63,32 @@ fn has_chosen(choices: &[PrefixChoice], keys: &[RouteKey]) -> bool
 }
 
 /// Whether an UPDATE speaks of a chosen prefix.
-fn speaks_of(choices: &[PrefixChoice], update: &PackedUpdate) -> bool
-    ensures { result ≡ speaks_of choices.now (Ok (events.Change (plain_update update.now))) }
+fn speaks_of(chosen: &ChosenPrefixes, update: &PackedUpdate) -> bool
+    ensures { result ≡ speaks_of chosen.now (Ok (events.Change (plain_update update.now))) }
 {
-    has_chosen(choices, update.withdrawn.as_slice())
-        || has_chosen(choices, update.announced.as_slice())
-        || has_chosen(choices, update.reached.as_slice())
+    has_chosen(chosen, update.withdrawn.as_slice())
+        || has_chosen(chosen, update.announced.as_slice())
+        || has_chosen(chosen, update.reached.as_slice())
 }
 
 /// Whether a payload can concern a chosen prefix. A message is read by way of a buffer, whose contents are replaced.
 fn concerns(
     alloc: Global,
     buffer: &mut Vec<u8>,
-    choices: &[PrefixChoice],
+    chosen: &ChosenPrefixes,
     payload: &LentPayload<'_>,
 ) -> Result<bool, Memory>
-    ensures { IfOk result (λ concerned. concerned ≡ concerns choices.now (lent_payload payload.now)) }
+    ensures { IfOk result (λ concerned. concerned ≡ concerns chosen.now (lent_payload payload.now)) }
 {
     match payload {
         LentPayload::State { .. } => Ok(true),
-        LentPayload::Entry { key, .. } => Ok(is_chosen(choices, &key.prefix)),
+        LentPayload::Entry { key, .. } => Ok(chosen.takes(&key.prefix)),
         LentPayload::Message { .. } => {
-            if is_open(choices) {
+            if chosen.is_open() {
                 return Ok(true);
             }
             match packed_event(alloc, buffer, payload) {
-                Ok(PackedEvent::Change(update)) => Ok(speaks_of(choices, &update)),
+                Ok(PackedEvent::Change(update)) => Ok(speaks_of(chosen, &update)),
                 Ok(PackedEvent::Other) => Ok(false),
                 Ok(_) => Ok(true),
                 Err(AttrError::Bad(_)) => Ok(true),
@@ -124,7 +115,7 @@ impl Selection {
     {
         Selection {
             until: None,
-            prefixes: Vec::new(alloc),
+            prefixes: ChosenPrefixes::all(alloc),
             peers: Vec::new(alloc),
             share: None,
         }
@@ -138,9 +129,9 @@ impl Selection {
         self
     }
 
-    /// Returns the same selection of what can concern these prefixes, or any prefix if there are none.
-    pub fn of_prefixes(mut self, prefixes: Vec<PrefixChoice>) -> Selection
-        ensures { result ≡ record self { prefixes = prefixes.items } }
+    /// Returns the same selection of what can concern the chosen prefixes.
+    pub fn of_prefixes(mut self, prefixes: ChosenPrefixes) -> Selection
+        ensures { result ≡ record self { prefixes = prefixes } }
     {
         self.prefixes = prefixes;
         self
@@ -162,18 +153,18 @@ impl Selection {
         self
     }
 
-    /// The prefixes that are chosen, or none for all.
-    pub fn prefixes(&self) -> &[PrefixChoice]
+    /// The prefixes that are chosen.
+    pub fn prefixes(&self) -> &ChosenPrefixes
         ensures { result.now ≡ self.now.prefixes }
     {
-        self.prefixes.as_slice()
+        &self.prefixes
     }
 
     /// Whether no prefix is named, so that all are chosen.
     pub(crate) fn is_open(&self) -> bool
         ensures { result ≡ is_open self.now.prefixes }
     {
-        is_open(&self.prefixes)
+        self.prefixes.is_open()
     }
 
     /// Whether neither peers nor a share are named, so that each peer is taken.
@@ -234,7 +225,7 @@ impl Selection {
         if self.is_past(time) {
             return false;
         }
-        is_chosen(&self.prefixes, prefix)
+        self.prefixes.takes(prefix)
     }
 
     /// Whether all units of this time, in microseconds since 1970 UTC, are skipped.

@@ -9,9 +9,9 @@ ghost use Rattle.lane_deal.specs.Playing.{shown};
 ghost use Rattle.mrt_replay.specs.Replays.{HasPlayed, IsReplayOf, StopsFiles, StopsReplay};
 
 use adj_rib::SharedRoute;
-use bgp_prefix::{Memory, PrefixMap};
+use bgp_prefix::PrefixMap;
 use lane_deal::{Dealing, Gate, Plan, Replayer, Step};
-use mrt_body::{PrefixChoice, Selection, Units};
+use mrt_body::{Selection, Units};
 use mrt_frame::{ReplayError, Source};
 use rib_report::Tables;
 use std::alloc::Global;
@@ -36,13 +36,6 @@ fn is_end(step: Step) -> bool
         Step::End => true,
         _ => false,
     }
-}
-
-/// Returns a copy of the prefixes that are chosen.
-fn copied(alloc: Global, choices: &[PrefixChoice]) -> Result<Vec<PrefixChoice>, Memory>
-    ensures { IfOk result (λ copy. copy.items ≡ choices.now) }
-{
-    Ok(Vec::from_slice(alloc, choices)?)
 }
 
 /// Runs rounds until the files end.
@@ -116,7 +109,7 @@ where
         (StopsReplay plan.now.max_records (map R.remaining files.old) (map R.failure_count files.old)
         (map R.failure_count files.new)) }
 {
-    let choices = copied(alloc, selection.prefixes())?;
+    let chosen = selection.prefixes().copied(alloc)?;
     let mut units = Units::new(files.len(), plan.max_records, selection);
     let mut replayer = Replayer::<M, &D>::new(alloc, *plan, dealing)?;
     if let Err(error) = play(rt, alloc, &mut units, files, &mut replayer, gate) {
@@ -130,7 +123,7 @@ where
     let Ok(mut tables) = replayer.into_tables(alloc) else {
         return Err(ReplayError::Memory);
     };
-    let Ok(()) = tables.retain(alloc, choices.as_slice()) else {
+    let Ok(()) = tables.retain(alloc, &chosen) else {
         return Err(ReplayError::Memory);
     };
     Ok(Replayed {

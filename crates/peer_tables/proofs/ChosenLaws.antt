@@ -1,6 +1,7 @@
 -- Where no prefix is named all routes are chosen.
-use Rattle.std.proofs.Common.{◌≡◌, ℕ, zero, suc, ◌+◌, ◌<◌, List, [], ◌∷◌, map, length, set, get_or, refl, sym, ap, ◌∙◌, arith}
+use Rattle.std.proofs.Common.{◌≡◌, true, ℕ, zero, suc, ◌+◌, ◌<◌, List, [], ◌∷◌, map, length, set, get_or, refl, sym, ap, ◌∙◌, arith}
 use Rattle.mrt_body.specs.declared.choice.PrefixChoice.{PrefixChoice}
+use Rattle.mrt_body.specs.Choices.{is_open}
 use Rattle.bgp_prefix.specs.declared.key.RouteKey.{RouteKey}
 use Rattle.bgp_update.specs.declared.route.Route.{Route}
 use Rattle.adj_rib.specs.Selecting.{chooses, selected_entries}
@@ -47,6 +48,6 @@ chosen_next choices n m first seats d e h up =
     let one : suc n ≡ m = omega (arith, up) in
     ap (λ l. set l n (chosen_seat choices (get_or l n d))) e ∙ next_from choices n first d h ∙ ap (λ k. chosen_first choices k first) one
 
-pub open_where : (choices : List PrefixChoice) (tables : TablesState) → length choices ≡ 0 → tables ≡ chosen_tables choices tables
+pub open_where : (choices : List PrefixChoice) (tables : TablesState) → is_open choices ≡ true → tables ≡ chosen_tables choices tables
 open_where [] tables e = sym (open_tables tables)
-open_where (choice ∷ choices) tables e = absurd (omega (arith, e))
+open_where (choice ∷ choices) tables e = cc

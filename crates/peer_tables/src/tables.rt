@@ -10,7 +10,7 @@ ghost use Rattle.peer_tables.specs.Seats.{seat_of};
 
 use adj_rib::{Session, SharedRoute};
 use bgp_prefix::{Memory, PrefixMap, Sequence};
-use mrt_body::{Damage, PeerKey, PrefixChoice};
+use mrt_body::{ChosenPrefixes, Damage, PeerKey};
 use std::alloc::Global;
 use std::marker::Model;
 
@@ -81,13 +81,13 @@ impl<M: PrefixMap<SharedRoute>> Tables<M> {
 
     /// Removes the routes of prefixes that aren't chosen.
     #[tactic(auto, using(crate::proofs::ChosenLaws::open_tables))]
-    pub fn retain(&mut self, alloc: Global, choices: &[PrefixChoice]) -> Result<(), Memory>
-        ensures { OnOk result (self.new ≡ chosen_tables choices.now self.old) }
+    pub fn retain(&mut self, alloc: Global, chosen: &ChosenPrefixes) -> Result<(), Memory>
+        ensures { OnOk result (self.new ≡ chosen_tables chosen.now self.old) }
     {
-        if choices.is_empty() {
+        if chosen.is_open() {
             return Ok(());
         }
-        retain_seats(alloc, choices, &mut self.seats)
+        retain_seats(alloc, chosen, &mut self.seats)
     }
 
     /// The number of routes in all tables. Saturates at `u64::MAX`.
@@ -102,13 +102,13 @@ impl<M: PrefixMap<SharedRoute>> Tables<M> {
 #[tactic(auto, using(crate::proofs::ChosenLaws::chosen_none, crate::proofs::ChosenLaws::chosen_all))]
 fn retain_seats<M: PrefixMap<SharedRoute>>(
     alloc: Global,
-    choices: &[PrefixChoice],
+    chosen: &ChosenPrefixes,
     seats: &mut [Seated<M>],
 ) -> Result<(), Memory>
-    ensures { OnOk result (map seat_of seats.new ≡ map (chosen_seat choices.now) (map seat_of seats.old)) }
+    ensures { OnOk result (map seat_of seats.new ≡ map (chosen_seat chosen.now) (map seat_of seats.old)) }
 {
     for at in 0..seats.len() {
-        seats[at].session.retain(alloc, choices)?;
+        seats[at].session.retain(alloc, chosen)?;
     }
     Ok(())
 }

@@ -3,3 +3,5 @@
 
 #[cfg(test)]
 mod bodies;
+#[cfg(test)]
+mod chosen;

@@ -5,7 +5,7 @@ use bgp_prefix::{Flat, PrefixMap, Radix};
 use command_line::{read_address, read_words};
 use fixtures::{Dripping, bytes_of};
 use lane_deal::{ByTurns, NoGate, Plan};
-use mrt_body::{PeerChoice, PrefixChoice, Selection, Share};
+use mrt_body::{ChosenPrefixes, PeerChoice, PrefixChoice, Selection, Share};
 use mrt_frame::{Counted, ReplayError, Source};
 use mrt_replay::{Summary, run, status};
 use prefix_shelf::Shelf;
@@ -141,7 +141,8 @@ impl<'a> Row<'a> {
 
     /// Which units count.
     fn selection(&self, alloc: Global) -> Result<Selection, Fail> {
-        let prefixes = Vec::from_slice(alloc, self.prefixes.as_slice())?;
+        let choices = Vec::from_slice(alloc, self.prefixes.as_slice())?;
+        let prefixes = ChosenPrefixes::new(alloc, choices)?;
         let peers = Vec::from_slice(alloc, self.peers.as_slice())?;
         Ok(
             Selection::all(alloc)

@@ -7,6 +7,6 @@ use Rattle.adj_rib.proofs.retaining.other_keys.Goals as goal
 
 pub returns : goal.returns
 returns g c =
-    subst (λ (es : List (RouteKey × Route)). IfOk c.unchosen_keys.result (λ v. v.items ≡ filter (λ k. not (chooses c.args.choices.now k)) (map (λ (e : RouteKey × Route). e.0) es)))
+    subst (λ (es : List (RouteKey × Route)). IfOk c.unchosen_keys.result (λ v. v.items ≡ filter (λ k. not (chooses c.args.chosen.now k)) (map (λ (e : RouteKey × Route). e.0) es)))
     (ap (λ (es : List (RouteKey × Bor Route)). map (λ e. (e.0, e.1.now)) es) c.as_slice.ensures.value ∙ c.in_ok-entries.ensures)
     c.unchosen_keys.ensures

@@ -10,4 +10,4 @@ pub returns : goal.returns
 returns g c =
     ap finite.entries c.remove_all.ensures
     ∙ ap (λ (ks : List RouteKey). finite.entries (fold finite.remove (g.M.PrefixMap.contents c.args.table.now) ks)) (c.as_slice.ensures.value ∙ c.in_ok-keys.ensures)
-    ∙ entries-retained (chooses c.args.choices.now) (g.M.PrefixMap.contents c.args.table.now)
+    ∙ entries-retained (chooses c.args.chosen.now) (g.M.PrefixMap.contents c.args.table.now)

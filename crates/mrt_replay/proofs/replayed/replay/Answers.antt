@@ -55,7 +55,7 @@ returns-clause-replayed g c contents known =
     (let f = c.in-Ok.ensures.forks (λ e. let k = kept.2 in absurd (cc)) in c.rounds-rounds.ensures ∙ f) in
     let at_most : c.rounds-rounds.result ≤ s.rounds + 1 = omega (arith, up) in
     record {
-      stands = c.in-Ok-retain.ensures ∙ ap (λ l. chosen_tables l c.in-Ok-into_tables.tables) (c.as_slice.ensures.value ∙ c.in_ok-choices.ensures ∙ c.prefixes.ensures)
+      stands = c.in-Ok-retain.ensures ∙ ap (λ l. chosen_tables l c.in-Ok-into_tables.tables) (c.in_ok-chosen.ensures ∙ c.prefixes.ensures)
           ∙ ap (chosen_tables until.prefixes) (c.in-Ok-into_tables.ensures.tables units refused four);
       records_counted = c.records.ensures ∙ records_taken start _ max until c.new-units.ensures.fresh contents told known (DealtAll (λ p w. law r.dealer.dealing.now p w) r.plan.ring) c.play.new.units (shown r) (shown s) played.taken empty cuts;
       units_counted = count;

@@ -8,7 +8,7 @@ use Rattle.peer_tables.proofs.tables.retain_seats.Goals as goal
 
 pub loop-at-preserved : goal.loop-at-preserved
 loop-at-preserved g c =
-    let choices = c.args.choices.now in
+    let choices = c.args.chosen.now in
     let seats = c.loop-at.seats in
     let at = c.loop-at.at in
     let r = c.index-seats-at.result in
@@ -27,4 +27,4 @@ returns g c =
     let size = length-map c.args.seats.now (seat_of {M = g.row.M.Denot}) in
     let end = c.loop-at.auto.at-end in
     let done = c.loop-at-test.false in
-    c.loop-at.invariant ∙ chosen_all c.args.choices.now c.loop-at.at (map (seat_of {M = g.row.M.Denot}) c.args.seats.now) (omega (arith, size, done, end))
+    c.loop-at.invariant ∙ chosen_all c.args.chosen.now c.loop-at.at (map (seat_of {M = g.row.M.Denot}) c.args.seats.now) (omega (arith, size, done, end))
