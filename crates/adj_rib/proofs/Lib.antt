@@ -9,3 +9,4 @@ pub mod Announcements
 mod Examples
 pub mod Selected
 pub mod RetainLaws
+pub mod WatchLaws

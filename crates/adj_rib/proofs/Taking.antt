@@ -130,7 +130,7 @@ pub record Stands (units : List ReplayUnit) (k : Kept) : Type 0 where
   pub churn : k.churn ≡ churn_of units
   pub faults : k.faults ≡ damaged_of units
 
-table_from_entries : (steps : List Step) (table : RouteMap) → finite.entries table ≡ table_of steps → IsTable steps table
+pub table_from_entries : (steps : List Step) (table : RouteMap) → finite.entries table ≡ table_of steps → IsTable steps table
 table_from_entries steps table h p = finite.get-entries table p ∙ ap (find key_cmp p) h ∙ find-table_of steps p
 
 counts_of_churn : (units : List ReplayUnit) (up : Bool) (reading : Result Event Fault) (time : ℕ) → AreCounts (outcomes_of (steps_of units)) (noted up reading (timed time (churn_of units)))

@@ -22,11 +22,15 @@
 //! - An entry of a peer that isn't up is read too, since a damaged one is listed.
 //! - `retain` takes the routes of other prefixes out of a table before a report. It is the last step, since the session
 //!   then no longer stands for its units.
+//! - A `Watch` takes units as a session does, and notes what each does to the keys of chosen prefixes, in the order of
+//!   its steps. It keeps their routes alone, shared as those of a session are: a note and the table own the same one.
 #![tactic(auto)]
 
 mod arrivals;
 mod churn;
 mod holding;
+mod note;
+mod noting;
 mod outcome;
 mod read_ahead;
 mod retaining;
@@ -38,12 +42,15 @@ mod shared_route;
 mod source;
 mod table;
 mod update;
+mod watch;
 
 pub use arrivals::Arrivals;
 pub use churn::Churn;
 pub use holding::table_has_what_holds;
+pub use note::{Note, What};
 pub use read_ahead::ReadAhead;
-pub use selecting::{early_is_late, selections_commute};
+pub use selecting::{early_is_late, notes_are_of_concerned, selections_commute};
 pub use session::Session;
 pub use shared_route::SharedRoute;
 pub use source::routes_come_while_up;
+pub use watch::Watch;

@@ -1,12 +1,14 @@
 //! The laws of selections of keys.
 
-ghost use Rattle.std.specs.Prelude.{◌≡◌, Bool, List};
+ghost use Rattle.std.specs.Prelude.{◌≡◌, [], Bool, List, false};
 ghost use Rattle.bgp_prefix.specs.declared.key.RouteKey.{RouteKey};
 ghost use Rattle.mrt_body.specs.declared.choice.PrefixChoice.{PrefixChoice as Choice};
 ghost use Rattle.mrt_body.specs.declared.unit.Unit.{Unit as ReplayUnit};
+ghost use Rattle.mrt_body.specs.Selections.{concerns};
 ghost use Rattle.adj_rib.specs.Steps.{Step, is_up, steps_of};
 ghost use Rattle.adj_rib.specs.Tables.{table_of};
 ghost use Rattle.adj_rib.specs.Churns.{outcomes_of};
+ghost use Rattle.adj_rib.specs.Histories.{chosen_notes, unit_notes};
 ghost use Rattle.adj_rib.specs.Selecting.{chooses, concerned, selected_steps, selected_entries, selected_outcomes};
 
 /// The table of selected steps is the selection of the table of all steps, and each of them has the outcome that it has
@@ -28,4 +30,14 @@ pub fn early_is_late()
     ensures outcomes { (choices : List Choice) (units : List ReplayUnit) →
         selected_outcomes (chooses choices) (steps_of (concerned choices units))
         ≡ selected_outcomes (chooses choices) (steps_of units) }
+{}
+
+/// A unit that can't concern a chosen prefix does nothing to the keys of these, and makes no difference to what later
+/// units do to them.
+pub fn notes_are_of_concerned()
+    ensures others { (choices : List Choice) (before : List ReplayUnit) (unit : ReplayUnit) →
+        concerns choices unit.payload ≡ false → chosen_notes choices (unit_notes before unit) ≡ [] }
+    ensures early { (choices : List Choice) (before : List ReplayUnit) (unit : ReplayUnit) →
+        chosen_notes choices (unit_notes (concerned choices before) unit)
+        ≡ chosen_notes choices (unit_notes before unit) }
 {}

@@ -1,0 +1,14 @@
+use Rattle.std.proofs.Common.{List, Some, sym, ap, ◌∙◌}
+use Rattle.std.specs.List.{fold}
+use Rattle.adj_rib.specs.Steps.{Step}
+use Rattle.adj_rib.specs.Applied.{RouteMap}
+use Rattle.adj_rib.specs.Selecting.{chooses, selected_steps}
+use Rattle.adj_rib.specs.Watching.{watched}
+use Rattle.adj_rib.specs.declared.note.Note.{Note}
+use Rattle.adj_rib.proofs.Reached.{reached_by}
+use Rattle.adj_rib.proofs.noting.announce_reached.Goals as goal
+
+pub returns-in_ok-announce_keys-in-Some : goal.returns-in_ok-announce_keys-in-Some
+returns-in_ok-announce_keys-in-Some g c = λ by there.
+    let before : RouteMap × List Note = (g.M.PrefixMap.contents c.args.table.now, c.args.notes.now.items) in
+    c.in_ok-announce_keys-in-Some.ensures ∙ ap (λ (steps : List Step). fold watched before (selected_steps (chooses c.args.chosen.now) steps)) (sym (reached_by c.args.keys.now (Some c.in-Some.route) by (λ some. sym c.in-Some.is ∙ there some)))

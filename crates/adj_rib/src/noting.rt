@@ -1,0 +1,301 @@
+//! Changes of a table of chosen prefixes, each with a note of what it did to its key.
+
+ghost use Rattle.std.specs.Prelude.{◌≡◌, ◌≢◌, ◌||◌, ◌++◌, [], Some, map, not, OnOk};
+ghost use Rattle.std.specs.List.{fold, filter};
+ghost use Rattle.std.specs.FinMap as finite;
+ghost use Rattle.bgp_prefix.specs.Keys.{among};
+ghost use Rattle.bgp_update.specs.PackedUpdates.{plain_update};
+ghost use Rattle.bgp_update.specs.declared.route.Route.{Route};
+ghost use Rattle.adj_rib.specs.Steps.{announce, announcements, break, reachings, withdraw, update_steps};
+ghost use Rattle.adj_rib.specs.Selecting.{chooses, selected_steps};
+ghost use Rattle.adj_rib.specs.Histories.{lost_note, what_over, what_without};
+ghost use Rattle.adj_rib.specs.Watching.{watched};
+
+use crate::note::{Note, What};
+use crate::route_set::{HashedRoute, RouteSet};
+use crate::shared_route::SharedRoute;
+use bgp_prefix::{KeySet, Memory, PrefixMap, RouteKey};
+use bgp_update::{PackedRoute, PackedUpdate};
+use mrt_body::ChosenPrefixes;
+use std::alloc::Global;
+
+/// Whether the prefix of a key is chosen.
+pub(crate) fn is_chosen_key(chosen: &ChosenPrefixes, key: &RouteKey) -> bool
+    ensures { result ≡ chooses chosen.now key.now }
+{
+    chosen.takes(&key.prefix)
+}
+
+/// What the announcement of a route does, given the other route, if any, that was there.
+fn what_over(old: &Option<SharedRoute>, route: &SharedRoute) -> What
+    ensures { result ≡ what_over old.now route.now }
+{
+    match old {
+        Some(old) if old.route().is_same(route.route()) => What::Same,
+        Some(_) => What::Changed,
+        None => What::New,
+    }
+}
+
+/// What a withdrawal does, given the route, if any, that was there.
+fn what_without(old: &Option<SharedRoute>) -> What
+    ensures { result ≡ what_without old.now }
+{
+    match old {
+        Some(_) => What::Gone,
+        None => What::Void,
+    }
+}
+
+/// Puts the route into the table, and notes the effect.
+pub(crate) fn note_announcement<M: PrefixMap<SharedRoute>>(
+    alloc: Global,
+    table: &mut M,
+    notes: &mut Vec<Note>,
+    key: RouteKey,
+    route: &SharedRoute,
+) -> Result<(), Memory>
+    ensures { OnOk result ((M.contents table.new, notes.new.items)
+        ≡ watched (M.contents table.old, notes.old.items) (announce key route.now)) }
+{
+    let old = table.insert(alloc, key, route.share(alloc)?)?;
+    let what = what_over(&old, route);
+    notes.push(Note {
+        what,
+        key,
+        route: Some(route.share(alloc)?),
+    })?;
+    Ok(())
+}
+
+/// Removes a key from the table, and notes the effect.
+fn note_withdrawal<M: PrefixMap<SharedRoute>>(
+    table: &mut M,
+    notes: &mut Vec<Note>,
+    key: &RouteKey,
+) -> Result<(), Memory>
+    ensures { OnOk result ((M.contents table.new, notes.new.items)
+        ≡ watched (M.contents table.old, notes.old.items) (withdraw key.now)) }
+{
+    let route = table.remove(key);
+    let what = what_without(&route);
+    notes.push(Note {
+        what,
+        key: *key,
+        route,
+    })?;
+    Ok(())
+}
+
+/// Notes that each of these routes was lost.
+fn note_lost(
+    alloc: Global,
+    entries: &[(RouteKey, &SharedRoute)],
+    notes: &mut Vec<Note>,
+) -> Result<(), Memory>
+    ensures { OnOk result (notes.new.items
+        ≡ notes.old.items ++ map lost_note (map (λ e. (e.0, e.1.now)) entries.now)) }
+{
+    for (key, route) in entries {
+        notes.push(Note {
+            what: What::Lost,
+            key: *key,
+            route: Some(route.share(alloc)?),
+        })?;
+    }
+    Ok(())
+}
+
+/// Notes that each route of the table was lost.
+fn note_table<M: PrefixMap<SharedRoute>>(
+    alloc: Global,
+    table: &M,
+    notes: &mut Vec<Note>,
+) -> Result<(), Memory>
+    ensures { OnOk result (notes.new.items
+        ≡ notes.old.items ++ map lost_note (finite.entries (M.contents table.now))) }
+{
+    let entries = table.entries(alloc)?;
+    note_lost(alloc, entries.as_slice(), notes)
+}
+
+/// Empties the table, and notes each route that it had.
+pub(crate) fn lose_all<M: PrefixMap<SharedRoute>>(
+    alloc: Global,
+    table: &mut M,
+    notes: &mut Vec<Note>,
+) -> Result<(), Memory>
+    ensures { OnOk result ((M.contents table.new, notes.new.items)
+        ≡ watched (M.contents table.old, notes.old.items) break) }
+{
+    note_table(alloc, table, notes)?;
+    table.clear();
+    Ok(())
+}
+
+/// Announces each chosen key with the route.
+fn announce_chosen<M: PrefixMap<SharedRoute>>(
+    alloc: Global,
+    chosen: &ChosenPrefixes,
+    table: &mut M,
+    notes: &mut Vec<Note>,
+    keys: &[RouteKey],
+    route: &SharedRoute,
+) -> Result<(), Memory>
+    ensures { OnOk result ((M.contents table.new, notes.new.items)
+        ≡ fold watched (M.contents table.old, notes.old.items)
+        (selected_steps (chooses chosen.now) (map (λ key. announce key route.now) keys.now))) }
+{
+    for key in keys {
+        if is_chosen_key(chosen, key) {
+            note_announcement(alloc, table, notes, *key, route)?;
+        }
+    }
+    Ok(())
+}
+
+/// Withdraws each chosen key that is neither announced nor reached.
+fn withdraw_chosen<M: PrefixMap<SharedRoute>>(
+    chosen: &ChosenPrefixes,
+    table: &mut M,
+    notes: &mut Vec<Note>,
+    withdrawn: &[RouteKey],
+    announced: &KeySet,
+    reached: &KeySet,
+) -> Result<(), Memory>
+    ensures { OnOk result ((M.contents table.new, notes.new.items)
+        ≡ fold watched (M.contents table.old, notes.old.items)
+        (selected_steps (chooses chosen.now)
+        (map withdraw (filter (λ key. not (among announced.now key || among reached.now key)) withdrawn.now)))) }
+{
+    for key in withdrawn {
+        if !announced.contains(key) && !reached.contains(key) && is_chosen_key(chosen, key) {
+            note_withdrawal(table, notes, key)?;
+        }
+    }
+    Ok(())
+}
+
+/// Withdraws the chosen keys that an UPDATE withdraws but neither announces nor reaches.
+fn withdraw_update<M: PrefixMap<SharedRoute>>(
+    alloc: Global,
+    chosen: &ChosenPrefixes,
+    table: &mut M,
+    notes: &mut Vec<Note>,
+    withdrawn: &[RouteKey],
+    announced: &[RouteKey],
+    reached: &[RouteKey],
+) -> Result<(), Memory>
+    ensures { OnOk result ((M.contents table.new, notes.new.items)
+        ≡ fold watched (M.contents table.old, notes.old.items)
+        (selected_steps (chooses chosen.now)
+        (map withdraw (filter (λ key. not (among announced.now key || among reached.now key)) withdrawn.now)))) }
+{
+    if !withdrawn.is_empty() {
+        let announced = KeySet::from_slice(alloc, announced)?;
+        let reached = KeySet::from_slice(alloc, reached)?;
+        withdraw_chosen(chosen, table, notes, withdrawn, &announced, &reached)?;
+    }
+    Ok(())
+}
+
+/// Announces the chosen ones of these keys, if any, with the one route that they share.
+fn announce_keys<M: PrefixMap<SharedRoute>>(
+    alloc: Global,
+    chosen: &ChosenPrefixes,
+    routes: &mut RouteSet,
+    table: &mut M,
+    notes: &mut Vec<Note>,
+    keys: &[RouteKey],
+    route: PackedRoute,
+) -> Result<(), Memory>
+    ensures { OnOk result ((M.contents table.new, notes.new.items)
+        ≡ fold watched (M.contents table.old, notes.old.items)
+        (selected_steps (chooses chosen.now) (map (λ key. announce key route) keys.now))) }
+{
+    if keys.is_empty() {
+        return Ok(());
+    }
+    let hashed = HashedRoute::new(route);
+    let slot = routes.slot_of(alloc, &hashed)?;
+    announce_chosen(alloc, chosen, table, notes, keys, routes.route_at(slot))?;
+    Ok(())
+}
+
+/// Announces the chosen keys that MP_REACH_NLRI has with their route, which is there if there are keys.
+#[tactic(auto, using(crate::proofs::Reached::reached_by))]
+fn announce_reached<M: PrefixMap<SharedRoute>>(
+    alloc: Global,
+    chosen: &ChosenPrefixes,
+    routes: &mut RouteSet,
+    table: &mut M,
+    notes: &mut Vec<Note>,
+    keys: &[RouteKey],
+    route: Option<PackedRoute>,
+) -> Result<(), Memory>
+    ensures { OnOk result ((by : Route) → (keys.now ≢ [] → route ≡ Some by) → (M.contents table.new, notes.new.items)
+        ≡ fold watched (M.contents table.old, notes.old.items)
+        (selected_steps (chooses chosen.now) (map (λ key. announce key by) keys.now))) }
+{
+    match route {
+        Some(route) => {
+            announce_keys(alloc, chosen, routes, table, notes, keys, route)?;
+            Ok(())
+        }
+        None => Ok(()),
+    }
+}
+
+/// Announces what an UPDATE announces of the chosen keys, and then what it reaches by MP_REACH_NLRI.
+fn announce_update<M: PrefixMap<SharedRoute>>(
+    alloc: Global,
+    chosen: &ChosenPrefixes,
+    routes: &mut RouteSet,
+    table: &mut M,
+    notes: &mut Vec<Note>,
+    update: PackedUpdate,
+) -> Result<(), Memory>
+    ensures { OnOk result ((M.contents table.new, notes.new.items)
+        ≡ fold watched (M.contents table.old, notes.old.items)
+        (selected_steps (chooses chosen.now) (announcements (plain_update update))
+        ++ selected_steps (chooses chosen.now) (reachings (plain_update update)))) }
+{
+    let PackedUpdate {
+        withdrawn: _,
+        announced,
+        reached,
+        route,
+        reached_hop: _,
+        reached_route,
+    } = update;
+    let (announced, reached) = (announced.as_slice(), reached.as_slice());
+    announce_keys(alloc, chosen, routes, table, notes, announced, route)?;
+    announce_reached(alloc, chosen, routes, table, notes, reached, reached_route)?;
+    Ok(())
+}
+
+/// Takes the steps of an UPDATE on chosen keys.
+pub(crate) fn note_update<M: PrefixMap<SharedRoute>>(
+    alloc: Global,
+    chosen: &ChosenPrefixes,
+    routes: &mut RouteSet,
+    table: &mut M,
+    notes: &mut Vec<Note>,
+    update: PackedUpdate,
+) -> Result<(), Memory>
+    ensures { OnOk result ((M.contents table.new, notes.new.items)
+        ≡ fold watched (M.contents table.old, notes.old.items)
+        (selected_steps (chooses chosen.now) (update_steps (plain_update update)))) }
+{
+    withdraw_update(
+        alloc,
+        chosen,
+        table,
+        notes,
+        update.withdrawn.as_slice(),
+        update.announced.as_slice(),
+        update.reached.as_slice(),
+    )?;
+    announce_update(alloc, chosen, routes, table, notes, update)?;
+    Ok(())
+}

@@ -1,0 +1,227 @@
+//! A peer of which some prefixes are watched: their routes, and what happens to them.
+
+ghost use Rattle.std.specs.Prelude.{◌≡◌, [], ◌∷◌, ◌++◌, List, OnOk};
+ghost use Rattle.std.specs.FinMap as finite;
+ghost use Rattle.mrt_body.specs.Lent.{lent_unit};
+ghost use Rattle.mrt_body.specs.declared.choice.PrefixChoice.{PrefixChoice as Choice};
+ghost use Rattle.mrt_body.specs.declared.unit.Unit.{Unit as ReplayUnit};
+ghost use Rattle.adj_rib.specs.Histories.{WatchesFor, chosen_notes, unit_notes};
+
+use crate::note::Note;
+use crate::noting::{is_chosen_key, lose_all, note_announcement, note_update};
+use crate::route_set::{HashedRoute, RouteSet};
+use crate::shared_route::SharedRoute;
+use bgp_prefix::{Memory, PrefixMap, RouteKey};
+use bgp_update::{AttrError, PackedRoute, PackedUpdate};
+use mrt_body::{ChosenPrefixes, Damage, LentPayload, LentUnit, PackedEvent, Place, packed_event};
+use std::alloc::Global;
+use std::marker::Model;
+
+/// The state Established (RFC 4271, 8.2.2).
+const ESTABLISHED_STATE: u16 = 6;
+
+/// A peer's Adj-RIB-In (RFC 4271, 3.2) as far as it is watched: its routes of chosen prefixes, and its damaged units.
+#[derive(Drop)]
+struct WatchedRib<M: PrefixMap<SharedRoute>> {
+    up: bool,
+    table: M,
+    faults: Vec<Damage>,
+    routes: RouteSet,
+}
+
+impl<M: PrefixMap<SharedRoute>> WatchedRib<M> {
+    ghost use Rattle.std.specs.Prelude.{◌≡◌, [], Ok, OnOk, true};
+    ghost use Rattle.std.specs.FinMap as finite;
+    ghost use Rattle.bgp_update.specs.PackedUpdates.{plain_update};
+    ghost use Rattle.mrt_body.specs.Events.{event_in};
+    ghost use Rattle.mrt_body.specs.Lent.{lent_payload};
+    ghost use Rattle.mrt_body.specs.declared.meaning.Event.TheVariants as events;
+    ghost use Rattle.adj_rib.specs.Watching.{watch_after, watch_read, watching_in, with_fault};
+
+    /// Returns that of a peer without units, which is up.
+    fn new(alloc: Global) -> WatchedRib<M>
+        ensures { watching_in M.contents result ≡ record { up = true; table = finite.empty; faults = [] } }
+    {
+        WatchedRib {
+            up: true,
+            table: M::new(alloc),
+            faults: Vec::new(alloc),
+            routes: RouteSet::new(alloc),
+        }
+    }
+
+    /// Takes the steps of a state change, whatever prefixes are chosen: it ends the routes of all.
+    #[tactic(auto, unfolding(crate::specs::Watching::watch_after))]
+    fn change_state(
+        &mut self,
+        alloc: Global,
+        notes: &mut Vec<Note>,
+        old: u16,
+        new: u16,
+    ) -> Result<(), Memory>
+        ensures { (choices : List Choice) → OnOk result ((watching_in M.contents self.new, notes.new.items)
+            ≡ watch_after choices (watching_in M.contents self.old, notes.old.items) (Ok (events.State old new))) }
+    {
+        if old != ESTABLISHED_STATE || new != ESTABLISHED_STATE {
+            lose_all(alloc, &mut self.table, notes)?;
+        }
+        self.up = new == ESTABLISHED_STATE;
+        Ok(())
+    }
+
+    /// Takes the steps of an UPDATE.
+    #[tactic(auto, unfolding(crate::specs::Watching::watch_after))]
+    fn take_update(
+        &mut self,
+        alloc: Global,
+        chosen: &ChosenPrefixes,
+        notes: &mut Vec<Note>,
+        update: PackedUpdate,
+    ) -> Result<(), Memory>
+        ensures { OnOk result ((watching_in M.contents self.new, notes.new.items)
+            ≡ watch_after chosen.now (watching_in M.contents self.old, notes.old.items)
+            (Ok (events.Change (plain_update update)))) }
+    {
+        if !self.up {
+            return Ok(());
+        }
+        note_update(
+            alloc,
+            chosen,
+            &mut self.routes,
+            &mut self.table,
+            notes,
+            update,
+        )
+    }
+
+    /// Takes the steps of a RIB entry.
+    #[tactic(auto, unfolding(crate::specs::Watching::watch_after))]
+    fn take_entry(
+        &mut self,
+        alloc: Global,
+        chosen: &ChosenPrefixes,
+        notes: &mut Vec<Note>,
+        key: RouteKey,
+        route: PackedRoute,
+    ) -> Result<(), Memory>
+        ensures { OnOk result ((watching_in M.contents self.new, notes.new.items)
+            ≡ watch_after chosen.now (watching_in M.contents self.old, notes.old.items) (Ok (events.Rib key route))) }
+    {
+        if self.up && is_chosen_key(chosen, &key) {
+            let slot = self.routes.slot_of(alloc, &HashedRoute::new(route))?;
+            let route = self.routes.route_at(slot);
+            return note_announcement(alloc, &mut self.table, notes, key, route);
+        }
+        Ok(())
+    }
+
+    /// Lists a damaged unit.
+    fn list_damage(&mut self, damage: Damage) -> Result<(), Memory>
+        ensures { OnOk result (watching_in M.contents self.new ≡ with_fault (watching_in M.contents self.old) damage) }
+    {
+        self.faults.push(damage)?;
+        Ok(())
+    }
+
+    /// Takes the unit at a place, whose payload is read by way of a buffer.
+    #[tactic(auto, unfolding(crate::specs::Watching::watch_after))]
+    fn take_payload(
+        &mut self,
+        alloc: Global,
+        buffer: &mut Vec<u8>,
+        chosen: &ChosenPrefixes,
+        place: Place,
+        payload: &LentPayload<'_>,
+        notes: &mut Vec<Note>,
+    ) -> Result<(), Memory>
+        ensures { OnOk result ((watching_in M.contents self.new, notes.new.items)
+            ≡ watch_read chosen.now (watching_in M.contents self.old, notes.old.items) place
+            (event_in (lent_payload payload.now))) }
+    {
+        match packed_event(alloc, buffer, payload) {
+            Ok(PackedEvent::State(old, new)) => {
+                self.change_state(alloc, notes, old, new)?;
+                Ok(())
+            }
+            Ok(PackedEvent::Change(update)) => self.take_update(alloc, chosen, notes, update),
+            Ok(PackedEvent::Rib(key, route)) => self.take_entry(alloc, chosen, notes, key, route),
+            Ok(PackedEvent::Other) => Ok(()),
+            Err(AttrError::Bad(fault)) => self.list_damage(Damage { place, fault }),
+            Err(AttrError::Memory) => Err(Memory),
+        }
+    }
+}
+
+/// A peer of which chosen prefixes are watched: whether it is up, its routes of these prefixes, and its damaged units.
+/// It stands for the units that it took, with the choices that it was passed each time.
+#[derive(Drop)]
+pub struct Watch<M: PrefixMap<SharedRoute>> {
+    rib: WatchedRib<M>,
+}
+
+impl<M: PrefixMap<SharedRoute>> Model for Watch<M> {
+    ghost use Rattle.std.specs.FinMap as finite;
+    ghost use Rattle.adj_rib.specs.Histories.{WatchState};
+
+    ghost Value = { WatchState };
+
+    ghost view = { λ w. record {
+      up = w.rib.up;
+      table = finite.entries (M.contents w.rib.table);
+      faults = w.rib.faults.items;
+    } };
+}
+
+impl<M: PrefixMap<SharedRoute>> Watch<M> {
+    /// Returns the watch on a peer without units, which is up and has no routes. Allocates nothing.
+    pub fn new(alloc: Global) -> Watch<M>
+        ensures { (choices : List Choice) → WatchesFor choices [] result }
+    {
+        Watch {
+            rib: WatchedRib::new(alloc),
+        }
+    }
+
+    /// Takes the next unit, which is read by way of a buffer, whose contents are replaced, and adds what it did to keys
+    /// of chosen prefixes to the notes. A damaged unit is listed. After an `Err` the watch stands for no units any more.
+    pub fn take(
+        &mut self,
+        alloc: Global,
+        buffer: &mut Vec<u8>,
+        chosen: &ChosenPrefixes,
+        unit: &LentUnit<'_>,
+        notes: &mut Vec<Note>,
+    ) -> Result<(), Memory>
+        ensures stands { (before : List ReplayUnit) → WatchesFor chosen.now before self.old →
+            OnOk result (WatchesFor chosen.now (before ++ lent_unit unit.now ∷ []) self.new) }
+        ensures notes { (before : List ReplayUnit) → WatchesFor chosen.now before self.old →
+            OnOk result (notes.new.items
+            ≡ notes.old.items ++ chosen_notes chosen.now (unit_notes before (lent_unit unit.now))) }
+    {
+        self.rib
+            .take_payload(alloc, buffer, chosen, unit.place, &unit.payload, notes)?;
+        Ok(())
+    }
+
+    /// Whether the last state change led to Established, or there was none.
+    pub fn is_up(&self) -> bool
+        ensures { result ≡ self.now.up }
+    {
+        self.rib.up
+    }
+
+    /// The routes of chosen prefixes that the peer announced and neither withdrew nor lost with its session.
+    pub fn table(&self) -> &M
+        ensures { finite.entries (M.contents result.now) ≡ self.now.table }
+    {
+        &self.rib.table
+    }
+
+    /// The damaged units, in the order in which they were taken.
+    pub fn faults(&self) -> &[Damage]
+        ensures { result.now ≡ self.now.faults }
+    {
+        self.rib.faults.as_slice()
+    }
+}
