@@ -4,3 +4,5 @@ pub mod SeatOrder
 pub mod StandingLaws
 pub mod ShareLaws
 pub mod ChosenLaws
+pub mod HistoryLaws
+pub mod WatchLaws

@@ -17,7 +17,7 @@ same_addr (V6 a) (V6 b) e = ap V6 (eqb-true a b e)
 same_addr (V4 a) (V6 b) e = cc
 same_addr (V6 a) (V4 b) e = cc
 
-same_peer : (p q : PeerKey) → peer_eq p q ≡ true → p ≡ q
+pub same_peer : (p q : PeerKey) → peer_eq p q ≡ true → p ≡ q
 same_peer p q e =
     let parts = and_parts _ _ e in
     let asn : p.asn ≡ q.asn = eqb-true _ _ parts.0 in

@@ -4,3 +4,5 @@ pub mod Standing
 pub mod Seats
 pub mod Gathers
 pub mod Shares
+pub mod Histories
+pub mod Watching

@@ -9,15 +9,27 @@
 //! `Tables::retain` leaves the routes of chosen prefixes alone, if any are named, before a report is made: an UPDATE
 //! that concerns a chosen prefix may have announced others.
 //!
+//! `Watches` passes each unit to the watch on its peer, and makes rows of what it did (`HistoryRow`), in the order of the
+//! units: one thread, no lanes. The watches are those of the peers of the units (`watches_of`), each of which took its
+//! peer's own units; a row is of a note that is listed (`history_rows`), and what happened at some of the peers is what
+//! their units did (`histories_are_of_peers`). Where the watch on a peer is, is looked for first where the last peer
+//! with the same index in the index table, or the same hash, was.
+//!
 //! It is a crate of its own, below both the lanes, which make the tables, and the reports, which read them: neither of
 //! these two long proofs waits for the other. `rib_report` re-exports `Tables` and `collect`, so a caller of reports
 //! needs no other name.
 #![tactic(auto)]
 
+mod histories;
+mod history;
 mod shares;
 mod standing;
 mod tables;
+mod watches;
 
+pub use histories::histories_are_of_peers;
+pub use history::{By, HistoryRow, Listing};
 pub use shares::shares_keep_peers;
 pub use standing::{collected_stand_for_units, lanes_make_no_difference, tables_are_of_units};
 pub use tables::{Gathered, Seated, Tables, collect, count_routes};
+pub use watches::{Watched, Watches};

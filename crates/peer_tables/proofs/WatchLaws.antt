@@ -1,0 +1,341 @@
+-- The watches on all peers, one unit after the other.
+use Rattle.std.proofs.Common.{◌≡◌, ℕ, zero, suc, ◌+◌, ◌<◌, ◌||◌, ◌&&◌, not, if◌then◌else◌, Bool, true, false, cond, List, [], ◌∷◌, ◌++◌, map, set, take, get_or, length, Some, refl, sym, ap, ◌∙◌, subst, append-nil, arith}
+use Rattle.std.specs.Prelude.{slice_get, unwrap_or}
+use Rattle.std.specs.List.{filter, list_any}
+use Rattle.std.proofs.Math.Bool.{or-true}
+use Rattle.std.proofs.lemmas.Bool.{and_from, eq-eqb}
+use Rattle.std.proofs.lemmas.List.{map-append}
+use Rattle.std.proofs.lemmas.List.Elements.{filter-append}
+use Rattle.std.proofs.lemmas.List.Folds.{list_any-append}
+use Rattle.mrt_frame.specs.Positions.{flat_map_after}
+use Rattle.mrt_frame.proofs.PositionLaws.{flat_map_after-push}
+use Rattle.mrt_body.specs.declared.choice.PrefixChoice.{PrefixChoice}
+use Rattle.mrt_body.specs.declared.unit.PeerAddr.{PeerAddr}
+use Rattle.mrt_body.specs.declared.unit.PeerAddr.TheVariants.{V4, V6}
+use Rattle.mrt_body.specs.declared.unit.PeerKey.{PeerKey}
+use Rattle.mrt_body.specs.declared.unit.Unit.{Unit as ReplayUnit}
+use Rattle.adj_rib.specs.declared.note.Note.{Note}
+use Rattle.adj_rib.specs.Histories.{WatchState, watch_of, unit_notes, chosen_notes}
+use Rattle.adj_rib.specs.Selecting.{chooses}
+use Rattle.peer_tables.specs.declared.history.HistoryRow.{HistoryRow}
+use Rattle.peer_tables.specs.declared.history.Listing.{Listing}
+use Rattle.peer_tables.specs.Peers.{addr_eq, peer_eq, peers_of, units_of_peer}
+use Rattle.peer_tables.specs.Histories.{PeerWatch, history_of, history_rows, is_asked, is_before, is_listed, row_of, watches_of}
+use Rattle.peer_tables.specs.Watching.{asked_rows, keys_in, listed_rows}
+use Rattle.peer_tables.proofs.ShareLaws.{same_peer}
+
+-- ---- peers
+
+addr_itself : (a : PeerAddr) → addr_eq a a ≡ true
+addr_itself (V4 a) = eq-eqb a a refl
+addr_itself (V6 a) = eq-eqb a a refl
+
+pub peer_itself : (q : PeerKey) → peer_eq q q ≡ true
+peer_itself q = and_from _ _ (eq-eqb q.asn q.asn refl) (addr_itself q.addr)
+
+other_peer : (p q : PeerKey) → peer_eq p q ≡ false → peer_eq q p ≡ false
+other_peer p q e =
+    elim (peer_eq q p) as (λ b. peer_eq q p ≡ b → b ≡ false) [
+      | true ↦ λ same. let clash : false ≡ true = sym e ∙ subst (λ r. peer_eq p r ≡ true) (sym (same_peer q p same)) (peer_itself p) in cc
+      | false ↦ λ apart. refl
+    ] refl
+
+-- a unit of the peer is among these
+abbrev is_seen : List ReplayUnit → PeerKey → Bool
+is_seen units q = list_any (λ u. peer_eq u.peer q) units
+
+abbrev new_peer : List ReplayUnit → ReplayUnit → List PeerKey
+new_peer before unit = if is_seen before unit.peer then [] else unit.peer ∷ []
+
+-- the peers that appear first in the later units
+abbrev new_peers : List ReplayUnit → List ReplayUnit → List PeerKey
+new_peers before units = flat_map_after new_peer before units
+
+seen-push : (before : List ReplayUnit) (x : ReplayUnit) (q : PeerKey) → is_seen (before ++ x ∷ []) q ≡ (is_seen before q || (peer_eq x.peer q || false))
+seen-push before x q = list_any-append (λ u. peer_eq u.peer q) before (x ∷ [])
+
+seen_still : (before : List ReplayUnit) (x : ReplayUnit) (q : PeerKey) → is_seen before q ≡ true → is_seen (before ++ x ∷ []) q ≡ true
+seen_still before x q seen = seen-push before x q ∙ ap (λ b. b || (peer_eq x.peer q || false)) seen
+
+seen_now : (before : List ReplayUnit) (x : ReplayUnit) → is_seen (before ++ x ∷ []) x.peer ≡ true
+seen_now before x = seen-push before x x.peer ∙ ap (λ b. is_seen before x.peer || (b || false)) (peer_itself x.peer) ∙ or-true (is_seen before x.peer)
+
+any_later : (p : PeerKey → Bool) (xs ys : List PeerKey) → list_any p ys ≡ true → list_any p (xs ++ ys) ≡ true
+any_later p xs ys e = list_any-append p xs ys ∙ ap (λ b. list_any p xs || b) e ∙ or-true (list_any p xs)
+
+-- a peer of these units that is new is among their new peers
+listed_when_new : (before xs : List ReplayUnit) (q : PeerKey) → is_seen xs q ≡ true → is_seen before q ≡ false → list_any (peer_eq q) (new_peers before xs) ≡ true
+listed_when_new before [] q seen new = cc
+listed_when_new before (x ∷ xs) q seen new =
+    elim (peer_eq x.peer q) as (λ b. peer_eq x.peer q ≡ b → (b || is_seen xs q) ≡ true → list_any (peer_eq q) (new_peers before (x ∷ xs)) ≡ true) [
+      | true ↦ λ same _.
+          let is : x.peer ≡ q = same_peer x.peer q same in
+          let front : new_peer before x ≡ x.peer ∷ [] = ap (λ b. if b then [] else x.peer ∷ []) (ap (is_seen before) is ∙ new) in
+          ap (λ l. list_any (peer_eq q) (l ++ new_peers (before ++ x ∷ []) xs)) front
+          ∙ ap (λ b. b || list_any (peer_eq q) (new_peers (before ++ x ∷ []) xs)) (ap (peer_eq q) is ∙ peer_itself q)
+      | false ↦ λ apart later.
+          any_later (peer_eq q) (new_peer before x) (new_peers (before ++ x ∷ []) xs)
+          (listed_when_new (before ++ x ∷ []) xs q later (seen-push before x q ∙ ap (λ b. b || (peer_eq x.peer q || false)) new ∙ ap (λ b. b || false) apart))
+    ] refl seen
+
+-- a peer of earlier units isn't among the new ones
+known_from : (before xs : List ReplayUnit) (q : PeerKey) → is_seen before q ≡ true → list_any (peer_eq q) (new_peers before xs) ≡ false
+known_from before [] q seen = refl
+known_from before (x ∷ xs) q seen =
+    let rest = new_peers (before ++ x ∷ []) xs in
+    let later = known_from (before ++ x ∷ []) xs q (seen_still before x q seen) in
+    elim (is_seen before x.peer) as (λ b. is_seen before x.peer ≡ b → list_any (peer_eq q) ((if b then [] else x.peer ∷ []) ++ rest) ≡ false) [
+      | true ↦ λ _. later
+      | false ↦ λ new.
+          elim (peer_eq q x.peer) as (λ b. peer_eq q x.peer ≡ b → (b || list_any (peer_eq q) rest) ≡ false) [
+            | true ↦ λ same. absurd (let clash : true ≡ false = sym seen ∙ ap (is_seen before) (same_peer q x.peer same) ∙ new in cc)
+            | false ↦ λ _. later
+          ] refl
+    ] refl
+
+-- a peer of none of the units is none of their peers
+unseen_from : (before xs : List ReplayUnit) (q : PeerKey) → is_seen xs q ≡ false → list_any (peer_eq q) (new_peers before xs) ≡ false
+unseen_from before [] q e = refl
+unseen_from before (x ∷ xs) q e =
+    elim (peer_eq x.peer q) as (λ b. peer_eq x.peer q ≡ b → (b || is_seen xs q) ≡ false → list_any (peer_eq q) (new_peers before (x ∷ xs)) ≡ false) [
+      | true ↦ λ _ clash. cc
+      | false ↦ λ apart other.
+          let later = unseen_from (before ++ x ∷ []) xs q other in
+          elim (is_seen before x.peer) as (λ b. list_any (peer_eq q) ((if b then [] else x.peer ∷ []) ++ new_peers (before ++ x ∷ []) xs) ≡ false) [
+            | true ↦ later
+            | false ↦ ap (λ b. b || list_any (peer_eq q) (new_peers (before ++ x ∷ []) xs)) (other_peer x.peer q apart) ∙ later
+          ]
+    ] refl e
+
+listed_is_seen : (units : List ReplayUnit) (q : PeerKey) → list_any (peer_eq q) (peers_of units) ≡ is_seen units q
+unfolding peers_of
+listed_is_seen units q =
+    elim (is_seen units q) as (λ b. is_seen units q ≡ b → list_any (peer_eq q) (peers_of units) ≡ b) [
+      | true ↦ λ seen. listed_when_new [] units q seen refl
+      | false ↦ λ unseen. unseen_from [] units q unseen
+    ] refl
+
+peers_of-push : (units : List ReplayUnit) (u : ReplayUnit) → peers_of (units ++ u ∷ []) ≡ peers_of units ++ new_peer units u
+unfolding peers_of
+peers_of-push units u = flat_map_after-push new_peer [] units u
+
+-- no peer stands there twice
+abbrev Apart : List PeerKey → Type 0
+Apart [] = Unit {0}
+Apart (q ∷ qs) = (list_any (peer_eq q) qs ≡ false) × Apart qs
+
+apart_from : (before xs : List ReplayUnit) → Apart (new_peers before xs)
+apart_from before [] = tt
+apart_from before (x ∷ xs) =
+    let rest = apart_from (before ++ x ∷ []) xs in
+    elim (is_seen before x.peer) as (λ b. Apart ((if b then [] else x.peer ∷ []) ++ new_peers (before ++ x ∷ []) xs)) [
+      | true ↦ rest
+      | false ↦ (known_from (before ++ x ∷ []) xs x.peer (seen_now before x), rest)
+    ]
+
+peers_apart : (units : List ReplayUnit) → Apart (peers_of units)
+unfolding peers_of
+peers_apart units = apart_from [] units
+
+-- ---- the peers that a list of watches is on
+
+some_is : {A : Type 0} (x y : A) → Some x ≡ Some y → x ≡ y
+some_is x y e = ap (λ o. unwrap_or o x) e
+
+listed_at : (keys : List PeerKey) (n : ℕ) (q : PeerKey) → slice_get keys n ≡ Some q → list_any (peer_eq q) keys ≡ true
+listed_at [] n q e = cc
+listed_at (k ∷ keys) zero q e = ap (λ b. b || list_any (peer_eq q) keys) (ap (peer_eq q) (some_is k q e) ∙ peer_itself q)
+listed_at (k ∷ keys) (suc n) q e = ap (λ b. peer_eq q k || b) (listed_at keys n q e) ∙ or-true (peer_eq q k)
+
+differs_at : (keys : List PeerKey) (n : ℕ) (p q : PeerKey) → list_any (peer_eq q) keys ≡ false → slice_get keys n ≡ Some p → peer_eq q p ≡ false
+differs_at [] n p q none e = cc
+differs_at (k ∷ keys) zero p q none e =
+    elim (peer_eq q k) as (λ b. peer_eq q k ≡ b → (b || list_any (peer_eq q) keys) ≡ false → peer_eq q p ≡ false) [
+      | true ↦ λ _ clash. cc
+      | false ↦ λ apart _. subst (λ r. peer_eq q r ≡ false) (some_is k p e) apart
+    ] refl none
+differs_at (k ∷ keys) (suc n) p q none e =
+    elim (peer_eq q k) as (λ b. (b || list_any (peer_eq q) keys) ≡ false → peer_eq q p ≡ false) [
+      | true ↦ λ clash. cc
+      | false ↦ λ later. differs_at keys n p q later e
+    ] none
+
+none_passes : {X : Type 0} (p : X → Bool) (xs : List X) → list_any p xs ≡ false → filter p xs ≡ []
+none_passes p [] e = refl
+none_passes p (x ∷ xs) e =
+    elim (p x) as (λ b. (b || list_any p xs) ≡ false → cond b (x ∷ filter p xs) (filter p xs) ≡ []) [ true ↦ λ clash. absurd (cc) | false ↦ λ later. none_passes p xs later ] e
+
+-- ---- one unit more
+
+module _ (choices : List PrefixChoice) (before : List ReplayUnit) (u : ReplayUnit) where
+  abbrev after : List ReplayUnit
+  after = before ++ u ∷ []
+
+  abbrev own : List ReplayUnit
+  own = units_of_peer before u.peer
+
+  abbrev watch_at : List ReplayUnit → PeerKey → PeerWatch
+  watch_at units q = record { key = q; watch = watch_of choices (units_of_peer units q) }
+
+  units_after : (q : PeerKey) → units_of_peer after q ≡ units_of_peer before q ++ cond (peer_eq u.peer q) (u ∷ []) []
+  units_after q = filter-append (λ (v : ReplayUnit). peer_eq v.peer q) before (u ∷ [])
+
+  own_after : units_of_peer after u.peer ≡ own ++ u ∷ []
+  own_after = units_after u.peer ∙ ap (λ b. own ++ cond b (u ∷ []) []) (peer_itself u.peer)
+
+  other_after : (q : PeerKey) → peer_eq u.peer q ≡ false → units_of_peer after q ≡ units_of_peer before q
+  other_after q h = units_after q ∙ ap (λ b. units_of_peer before q ++ cond b (u ∷ []) []) h ∙ append-nil (units_of_peer before q)
+
+  own_watch : (w : WatchState) → w ≡ watch_of choices (own ++ u ∷ []) → record { key = u.peer; watch = w } ≡ watch_at after u.peer
+  own_watch w e = let is : w ≡ watch_of choices (units_of_peer after u.peer) = e ∙ ap (watch_of choices) (sym own_after) in λ i. record { key = u.peer; watch = is i }
+
+  others : (qs : List PeerKey) → list_any (peer_eq u.peer) qs ≡ false → map (watch_at before) qs ≡ map (watch_at after) qs
+  others [] e = refl
+  others (q ∷ qs) e =
+      elim (peer_eq u.peer q) as (λ b. peer_eq u.peer q ≡ b → (b || list_any (peer_eq u.peer) qs) ≡ false → map (watch_at before) (q ∷ qs) ≡ map (watch_at after) (q ∷ qs)) [
+        | true ↦ λ _ clash. cc
+        | false ↦ λ apart later.
+            ap (λ (l : List ReplayUnit). record { key = q; watch = watch_of choices l } ∷ map (watch_at before) qs) (sym (other_after q apart))
+            ∙ ap (λ (l : List PeerWatch). watch_at after q ∷ l) (others qs later)
+      ] refl e
+
+  set_own : (qs : List PeerKey) (n : ℕ) → Apart qs → slice_get qs n ≡ Some u.peer → set (map (watch_at before) qs) n (watch_at after u.peer) ≡ map (watch_at after) qs
+  set_own [] n apart at = cc
+  set_own (q ∷ qs) zero apart at =
+      let is : q ≡ u.peer = some_is q u.peer at in
+      ap (λ (p : PeerKey). watch_at after p ∷ map (watch_at before) qs) (sym is)
+      ∙ ap (λ (l : List PeerWatch). watch_at after q ∷ l) (others qs (subst (λ p. list_any (peer_eq p) qs ≡ false) is apart.0))
+  set_own (q ∷ qs) (suc n) apart at =
+      let other : peer_eq u.peer q ≡ false = other_peer q u.peer (differs_at qs n u.peer q apart.0 at) in
+      ap (λ (l : List ReplayUnit). record { key = q; watch = watch_of choices l } ∷ set (map (watch_at before) qs) n (watch_at after u.peer)) (sym (other_after q other))
+      ∙ ap (λ (l : List PeerWatch). watch_at after q ∷ l) (set_own qs n apart.1 at)
+
+  keys_of : (units : List ReplayUnit) (qs : List PeerKey) → keys_in (map (watch_at units) qs) ≡ qs
+  keys_of units [] = refl
+  keys_of units (q ∷ qs) = ap (λ (l : List PeerKey). q ∷ l) (keys_of units qs)
+
+  module _ (watches : List PeerWatch) (are : watches ≡ watches_of choices before) where
+    keys_are : keys_in watches ≡ peers_of before
+    unfolding watches_of
+    keys_are = ap keys_in are ∙ keys_of before (peers_of before)
+
+    -- the watch on the peer is there
+    pub watch_there : (n : ℕ) (d : PeerWatch) → slice_get (keys_in watches) n ≡ Some u.peer → (get_or watches n d).watch ≡ watch_of choices own
+    unfolding watches_of
+    watch_there n d at = ap (λ (l : List PeerWatch). (get_or l n d).watch) are ∙ found (peers_of before) n (ap (λ l. slice_get l n) (sym keys_are) ∙ at) where
+      found : (qs : List PeerKey) (n : ℕ) → slice_get qs n ≡ Some u.peer → (get_or (map (watch_at before) qs) n d).watch ≡ watch_of choices own
+      found [] n e = cc
+      found (q ∷ qs) zero e = ap (λ p. watch_of choices (units_of_peer before p)) (some_is q u.peer e)
+      found (q ∷ qs) (suc n) e = found qs n e
+
+    pub known_stands : (n : ℕ) (w : WatchState) → slice_get (keys_in watches) n ≡ Some u.peer → w ≡ watch_of choices (own ++ u ∷ []) → set watches n (record { key = u.peer; watch = w }) ≡ watches_of choices after
+    unfolding watches_of
+    known_stands n w at e =
+        let here : slice_get (peers_of before) n ≡ Some u.peer = ap (λ l. slice_get l n) (sym keys_are) ∙ at in
+        let seen : is_seen before u.peer ≡ true = sym (listed_is_seen before u.peer) ∙ listed_at (peers_of before) n u.peer here in
+        let peers : peers_of after ≡ peers_of before = peers_of-push before u ∙ ap (λ b. peers_of before ++ (if b then [] else u.peer ∷ [])) seen ∙ append-nil (peers_of before) in
+        ap (λ (l : List PeerWatch). set l n (record { key = u.peer; watch = w })) are
+        ∙ ap (set (map (watch_at before) (peers_of before)) n) (own_watch w e)
+        ∙ set_own (peers_of before) n (peers_apart before) here
+        ∙ ap (map (watch_at after)) (sym peers)
+
+    unseen : list_any (peer_eq u.peer) (keys_in watches) ≡ false → is_seen before u.peer ≡ false
+    unseen none = sym (listed_is_seen before u.peer) ∙ ap (list_any (peer_eq u.peer)) (sym keys_are) ∙ none
+
+    -- a new watch is on no unit yet
+    pub none_before : list_any (peer_eq u.peer) (keys_in watches) ≡ false → own ≡ []
+    none_before none = none_passes (λ (v : ReplayUnit). peer_eq v.peer u.peer) before (unseen none)
+
+    pub new_stands : (w : WatchState) → list_any (peer_eq u.peer) (keys_in watches) ≡ false → w ≡ watch_of choices (own ++ u ∷ []) → watches ++ record { key = u.peer; watch = w } ∷ [] ≡ watches_of choices after
+    unfolding watches_of
+    new_stands w none e =
+        let peers : peers_of after ≡ peers_of before ++ u.peer ∷ [] = peers_of-push before u ∙ ap (λ b. peers_of before ++ (if b then [] else u.peer ∷ [])) (unseen none) in
+        let absent : list_any (peer_eq u.peer) (peers_of before) ≡ false = ap (list_any (peer_eq u.peer)) (sym keys_are) ∙ none in
+        ap (λ (l : List PeerWatch). l ++ record { key = u.peer; watch = w } ∷ []) (are ∙ others (peers_of before) absent)
+        ∙ ap (λ (p : PeerWatch). map (watch_at after) (peers_of before) ++ p ∷ []) (own_watch w e)
+        ∙ sym (map-append (watch_at after) (peers_of before) (u.peer ∷ []))
+        ∙ ap (map (watch_at after)) (sym peers)
+
+-- ---- rows
+
+module _ (listing : Listing) (choices : List PrefixChoice) (u : ReplayUnit) where
+  abbrev each : Note → ReplayUnit × Note
+  each note = (u, note)
+
+  early_rows : (notes : List Note) → is_before listing.since u.time ≡ true → map row_of (filter (is_listed listing choices) (map each notes)) ≡ []
+  early_rows [] e = refl
+  early_rows (note ∷ notes) e =
+      ap (λ b. map row_of (cond (not b && (chooses choices note.key && is_asked listing.same note.what)) (each note ∷ filter (is_listed listing choices) (map each notes)) (filter (is_listed listing choices) (map each notes)))) e
+      ∙ early_rows notes e
+
+  chosen_rows : (notes : List Note) → is_before listing.since u.time ≡ false → map row_of (filter (is_listed listing choices) (map each notes)) ≡ asked_rows listing.same u (chosen_notes choices notes)
+  chosen_rows [] e = refl
+  chosen_rows (note ∷ notes) e =
+      let rest = filter (is_listed listing choices) (map each notes) in
+      let more = chosen_rows notes e in
+      ap (λ b. map row_of (cond (not b && (chooses choices note.key && is_asked listing.same note.what)) (each note ∷ rest) rest)) e
+      ∙ elim (chooses choices note.key) as (λ b. map row_of (cond (b && is_asked listing.same note.what) (each note ∷ rest) rest) ≡ asked_rows listing.same u (cond b (note ∷ chosen_notes choices notes) (chosen_notes choices notes))) [
+        | true ↦ elim (is_asked listing.same note.what) as (λ b. map row_of (cond b (each note ∷ rest) rest) ≡ map (λ n. row_of (each n)) (cond b (note ∷ filter (λ n. is_asked listing.same n.what) (chosen_notes choices notes)) (filter (λ n. is_asked listing.same n.what) (chosen_notes choices notes)))) [
+          | true ↦ ap (λ (l : List HistoryRow). row_of (each note) ∷ l) more
+          | false ↦ more
+        ]
+        | false ↦ more
+      ]
+
+  unit_rows : (notes : List Note) → map row_of (filter (is_listed listing choices) (map each notes)) ≡ listed_rows listing u (chosen_notes choices notes)
+  unit_rows notes =
+      elim (is_before listing.since u.time) as (λ b. is_before listing.since u.time ≡ b → map row_of (filter (is_listed listing choices) (map each notes)) ≡ (if b then [] else asked_rows listing.same u (chosen_notes choices notes))) [
+        | true ↦ early_rows notes
+        | false ↦ chosen_rows notes
+      ] refl
+
+pub rows_after : (listing : Listing) (choices : List PrefixChoice) (before : List ReplayUnit) (u : ReplayUnit) (rows told : List HistoryRow) (notes : List Note) → notes ≡ chosen_notes choices (unit_notes (units_of_peer before u.peer) u) → told ≡ rows ++ listed_rows listing u notes → rows ≡ history_rows listing choices before
+    → told ≡ history_rows listing choices (before ++ u ∷ [])
+unfolding history_rows history_of
+rows_after listing choices before u rows told notes are more so_far =
+    let own = unit_notes (units_of_peer before u.peer) u in
+    let now : List (ReplayUnit × Note) = map (λ note. (u, note)) own in
+    more ∙ ap (λ n. rows ++ listed_rows listing u n) are
+    ∙ ap (λ l. rows ++ l) (sym (unit_rows listing choices u own))
+    ∙ ap (λ (l : List HistoryRow). l ++ map row_of (filter (is_listed listing choices) now)) so_far
+    ∙ sym (map-append row_of (filter (is_listed listing choices) (history_of before)) (filter (is_listed listing choices) now))
+    ∙ ap (map row_of) (sym (filter-append (is_listed listing choices) (history_of before) now))
+    ∙ ap (λ l. map row_of (filter (is_listed listing choices) l)) (sym (flat_map_after-push (λ (b : List ReplayUnit) (v : ReplayUnit). map (λ note. (v, note)) (unit_notes (units_of_peer b v.peer) v)) [] before u))
+
+-- ---- positions
+
+pub key_of : {W : Type 0} (see : W → PeerWatch) (ws : List W) (n : ℕ) (d : W) → n < length ws → slice_get (keys_in (map see ws)) n ≡ Some (see (get_or ws n d)).key
+key_of see [] n d h = absurd (omega (arith, h))
+key_of see (w ∷ ws) zero d h = refl
+key_of see (w ∷ ws) (suc n) d h = key_of see ws n d (omega (arith, h))
+
+none_after : (keys : List PeerKey) (q : PeerKey) (n : ℕ) (k : PeerKey) → slice_get keys n ≡ Some k → peer_eq q k ≡ false → list_any (peer_eq q) (take n keys) ≡ false → list_any (peer_eq q) (take (suc n) keys) ≡ false
+none_after [] q n k at other none = cc
+none_after (x ∷ keys) q zero k at other none = ap (λ (b : Bool). b || false) (subst (λ r. peer_eq q r ≡ false) (sym (some_is x k at)) other)
+none_after (x ∷ keys) q (suc n) k at other none =
+    elim (peer_eq q x) as (λ b. (b || list_any (peer_eq q) (take n keys)) ≡ false → (b || list_any (peer_eq q) (take (suc n) keys)) ≡ false) [
+      | true ↦ λ clash. cc
+      | false ↦ λ later. none_after keys q n k at other later
+    ] none
+
+-- a search's step: one more position where the peer isn't
+pub none_more : (keys : List PeerKey) (q : PeerKey) (n : ℕ) (k : PeerKey) → slice_get keys n ≡ Some k → peer_eq q k ≡ false → list_any (peer_eq q) (take n keys) ≡ false → list_any (peer_eq q) (take (n + 1) keys) ≡ false
+none_more keys q n k at other none =
+    let next : suc n ≡ n + 1 = omega arith in
+    ap (λ m. list_any (peer_eq q) (take m keys)) (sym next) ∙ none_after keys q n k at other none
+
+-- a position at which a key is found is within the list
+pub within_keys : (watches : List PeerWatch) (n : ℕ) (k : PeerKey) → slice_get (keys_in watches) n ≡ Some k → n < length watches
+within_keys [] n k e = cc
+within_keys (w ∷ watches) zero k e = omega arith
+within_keys (w ∷ watches) (suc n) k e = let later = within_keys watches n k e in omega (arith, later)
+
+pub key_there : (watches : List PeerWatch) (n : ℕ) (k : PeerKey) (d : PeerWatch) → slice_get (keys_in watches) n ≡ Some k → (get_or watches n d).key ≡ k
+key_there [] n k d e = cc
+key_there (w ∷ watches) zero k d e = some_is w.key k e
+key_there (w ∷ watches) (suc n) k d e = key_there watches n k d e
+
+-- no peer of no units has a watch
+pub watches_none : (choices : List PrefixChoice) → [] ≡ watches_of choices []
+unfolding watches_of peers_of
+watches_none choices = refl

@@ -1,0 +1,37 @@
+use Rattle.std.proofs.Common.{◌≡◌, ◌<◌, length, map, set, get_or, sym, ap, ◌∙◌, arith}
+use Rattle.std.proofs.lemmas.List.{length-map, get_or-map, map-set}
+use Rattle.mrt_body.specs.Lent.{lent_unit}
+use Rattle.mrt_body.specs.declared.unit.PeerKey.{PeerKey}
+use Rattle.peer_tables.specs.Histories.{PeerWatch}
+use Rattle.peer_tables.specs.Peers.{units_of_peer}
+use Rattle.peer_tables.specs.Watching.{watch_in}
+use Rattle.peer_tables.proofs.WatchLaws.{watch_there, known_stands, within_keys, key_there}
+use Rattle.peer_tables.proofs.watches.take_known.Goals as goal
+
+pub returns-clause-stands : goal.returns-clause-stands
+returns-clause-stands g c = λ before are.
+    let see = watch_in {M = g.row.M.Denot} in
+    let peers = c.args.peers.now.items in
+    let at = c.args.at in
+    let u = lent_unit c.args.unit.now in
+    let r = c.index_mut.result.now in
+    let w = c.take.new.self in
+    let within : at < length peers = omega (arith, within_keys (map see peers) at u.peer c.requires, length-map peers see) in
+    let here : get_or (map see peers) at (see r) ≡ see r = get_or-map see peers at r (see r) within ∙ ap see (sym c.index_mut.ensures.value) in
+    let stood = sym (ap (λ (p : PeerWatch). p.watch) here) ∙ watch_there c.args.chosen.now before u (map see peers) are at (see r) c.requires in
+    let key = sym (ap (λ (p : PeerWatch). p.key) here) ∙ key_there (map see peers) at u.peer (see r) c.requires in
+    map-set see peers at _
+    ∙ ap (λ (k : PeerKey). set (map see peers) at (record { key = k; watch = w })) key
+    ∙ known_stands c.args.chosen.now before u (map see peers) are at w c.requires (c.in_ok-take.ensures.stands (units_of_peer before u.peer) stood)
+
+pub returns-clause-notes : goal.returns-clause-notes
+returns-clause-notes g c = λ before are.
+    let see = watch_in {M = g.row.M.Denot} in
+    let peers = c.args.peers.now.items in
+    let at = c.args.at in
+    let u = lent_unit c.args.unit.now in
+    let r = c.index_mut.result.now in
+    let within : at < length peers = omega (arith, within_keys (map see peers) at u.peer c.requires, length-map peers see) in
+    let here : get_or (map see peers) at (see r) ≡ see r = get_or-map see peers at r (see r) within ∙ ap see (sym c.index_mut.ensures.value) in
+    let stood = sym (ap (λ (p : PeerWatch). p.watch) here) ∙ watch_there c.args.chosen.now before u (map see peers) are at (see r) c.requires in
+    c.in_ok-take.ensures.notes (units_of_peer before u.peer) stood

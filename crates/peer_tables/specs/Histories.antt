@@ -1,0 +1,82 @@
+-- What happened to the keys of all peers, and which of it is listed.
+use Rattle.std.specs.Prelude.{ℕ, ◌/◌, Bool, true, false, not, ◌&&◌, Option, Some, None, List, [], map, nat_lt}
+use Rattle.std.specs.List.{filter}
+use Rattle.mrt_frame.specs.Positions.{flat_map_after}
+use Rattle.mrt_body.specs.declared.choice.PrefixChoice.{PrefixChoice}
+use Rattle.mrt_body.specs.declared.unit.Payload.{Payload}
+use Rattle.mrt_body.specs.declared.unit.Payload.TheVariants.{State, Message, Entry}
+use Rattle.mrt_body.specs.declared.unit.PeerKey.{PeerKey}
+use Rattle.mrt_body.specs.declared.unit.Unit.{Unit as ReplayUnit}
+use Rattle.adj_rib.specs.declared.note.Note.{Note}
+use Rattle.adj_rib.specs.declared.note.What.{What}
+use Rattle.adj_rib.specs.declared.note.What.TheVariants.{New, Changed, Same, Gone, Void, Lost}
+use Rattle.adj_rib.specs.Histories.{WatchState, unit_notes, watch_of}
+use Rattle.adj_rib.specs.Selecting.{chooses}
+use Rattle.peer_tables.specs.declared.history.By.{By}
+use Rattle.peer_tables.specs.declared.history.By.TheVariants as by
+use Rattle.peer_tables.specs.declared.history.HistoryRow.{HistoryRow}
+use Rattle.peer_tables.specs.declared.history.Listing.{Listing}
+use Rattle.peer_tables.specs.Peers.{peers_of, units_of_peer}
+
+-- ---- what happened
+
+-- What each unit did to the keys of its peer, each beside the unit: in the order of the units, and within a unit in
+-- that of its steps. A unit is taken after its peer's own units before it.
+unfoldable pub history_of : List ReplayUnit → List (ReplayUnit × Note)
+history_of units =
+    flat_map_after (λ before unit. map (λ note. (unit, note)) (unit_notes (units_of_peer before unit.peer) unit)) [] units
+
+-- the same for the units of one peer
+unfoldable pub history_of_own : List ReplayUnit → List (ReplayUnit × Note)
+history_of_own own = flat_map_after (λ before unit. map (λ note. (unit, note)) (unit_notes before unit)) [] own
+
+-- what happened at the peers that pass a test
+abbrev pub history_where : (PeerKey → Bool) → List (ReplayUnit × Note) → List (ReplayUnit × Note)
+history_where takes history = filter (λ e. takes e.0.peer) history
+
+-- ---- which of it is listed
+
+-- what brings about what a unit does
+abbrev pub by_of : Payload → By
+by_of (State from to) = by.State
+by_of (Message bytes width add_path) = by.Update
+by_of (Entry key attrs) = by.Rib
+
+-- the row of what happened
+abbrev pub row_of : ReplayUnit × Note → HistoryRow
+row_of e = record { time = e.0.time; peer = e.0.peer; by = by_of e.0.payload; note = e.1 }
+
+-- whether a time, in microseconds, is before this second
+abbrev pub is_before : Option ℕ → ℕ → Bool
+is_before None time = false
+is_before (Some since) time = nat_lt (time / 1000000) since
+
+-- announcements of the route that was there are listed only if they are asked for
+abbrev pub is_asked : Bool → What → Bool
+is_asked same New = true
+is_asked same Changed = true
+is_asked same Same = same
+is_asked same Gone = true
+is_asked same Void = true
+is_asked same Lost = true
+
+-- what happened to a chosen key, from the first second on
+abbrev pub is_listed : Listing → List PrefixChoice → ReplayUnit × Note → Bool
+is_listed listing choices e =
+    not (is_before listing.since e.0.time) && (chooses choices e.1.key && is_asked listing.same e.1.what)
+
+-- The rows of units: lanes, rings and workers don't occur.
+unfoldable pub history_rows : Listing → List PrefixChoice → List ReplayUnit → List HistoryRow
+history_rows listing choices units = map row_of (filter (is_listed listing choices) (history_of units))
+
+-- ---- the watches on all peers
+
+-- a watch on a peer
+pub record PeerWatch : Type 0 where
+  pub key : PeerKey
+  pub watch : WatchState
+
+-- for each peer of the units, by first appearance, the watch that took the peer's own units
+unfoldable pub watches_of : List PrefixChoice → List ReplayUnit → List PeerWatch
+watches_of choices units =
+    map (λ q. record { key = q; watch = watch_of choices (units_of_peer units q) }) (peers_of units)
