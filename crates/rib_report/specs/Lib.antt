@@ -11,3 +11,4 @@ pub mod Lines
 pub mod LineParts
 pub mod UnitReports
 pub mod ShortTexts
+pub mod HistoryLines

@@ -2,6 +2,7 @@
 
 pub(crate) mod churn;
 pub(crate) mod faults;
+pub(crate) mod history;
 pub(crate) mod matches;
 pub(crate) mod origins;
 pub(crate) mod peers;

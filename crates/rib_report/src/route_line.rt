@@ -133,6 +133,15 @@ fn put_path<W: Sink>(text: &mut TextBuffer, out: &mut W, path: Option<PackedSegm
     }
 }
 
+/// Adds what a line has after the key: the fields of a route, each behind a bar, and the end of the line.
+pub(crate) fn put_route<W: Sink>(text: &mut TextBuffer, out: &mut W, route: &PackedRoute)
+    ensures { Writes W.contents W.failure_count out.old text.old out.new text.new
+        ((124 ∷ field path_text route.now.path) ++ line_end route.now) }
+{
+    put_path(text, out, route.path());
+    text.put_end(out, route);
+}
+
 /// Adds the line of a route.
 pub(crate) fn put_row<W: Sink>(
     text: &mut TextBuffer,

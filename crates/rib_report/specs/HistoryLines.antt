@@ -1,0 +1,35 @@
+-- The lines of what happened.
+use Rattle.std.specs.Prelude.{ℕ, List, [], ◌∷◌, Option, Some, None, codes, decimal}
+use Rattle.bgp_update.specs.declared.route.Route.{Route}
+use Rattle.adj_rib.specs.declared.note.What.{What}
+use Rattle.adj_rib.specs.declared.note.What.TheVariants.{New, Changed, Same, Gone, Void, Lost}
+use Rattle.peer_tables.specs.declared.history.By.{By}
+use Rattle.peer_tables.specs.declared.history.By.TheVariants.{Rib, Update, State}
+use Rattle.peer_tables.specs.declared.history.HistoryRow.{HistoryRow}
+use Rattle.rib_report.specs.Digits.{line, field, time_text}
+use Rattle.rib_report.specs.Lines.{peer_text, key_text, path_text, next_hop_text, origin_text, atomic_text, aggregator_text}
+
+abbrev pub what_text : What → List ℕ
+what_text New = codes "new"
+what_text Changed = codes "changed"
+what_text Same = codes "same"
+what_text Gone = codes "gone"
+what_text Void = codes "void"
+what_text Lost = codes "lost"
+
+abbrev pub by_text : By → List ℕ
+by_text Rib = codes "rib"
+by_text Update = codes "update"
+by_text State = codes "state"
+
+-- path, next hop, origin, MED, LOCAL_PREF, atomic, aggregator; `-` in each where there is no route
+abbrev pub route_fields : Option Route → List (List ℕ)
+route_fields None = codes "-" ∷ codes "-" ∷ codes "-" ∷ codes "-" ∷ codes "-" ∷ codes "-" ∷ codes "-" ∷ []
+route_fields (Some route) = field path_text route.path ∷ field next_hop_text route.next_hop
+    ∷ field origin_text route.origin ∷ field decimal route.med ∷ field decimal route.local_pref
+    ∷ atomic_text route.atomic ∷ field aggregator_text route.aggregator ∷ []
+
+-- time, peer, what happened, what brought it about, key, and the fields of its route
+abbrev pub history_line : HistoryRow → List ℕ
+history_line row = line (time_text row.time ∷ peer_text row.peer ∷ what_text row.note.what ∷ by_text row.by
+    ∷ key_text row.note.key ∷ route_fields row.note.route)

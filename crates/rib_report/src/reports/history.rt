@@ -1,0 +1,85 @@
+//! The report `history`: what happened to each key, in the order in which it did. A line holds the time, the peer, what
+//! happened, what brought it about, the key and its route.
+
+ghost use Rattle.std.specs.Prelude.{◌≡◌, ◌∷◌, ◌++◌, codes};
+ghost use Rattle.std.specs.List.{flat_map};
+ghost use Rattle.rib_report.specs.HistoryLines.{by_text, history_line, what_text};
+ghost use Rattle.rib_report.specs.Texts.{IsOutput, Writes};
+
+use crate::buffer::TextBuffer;
+use crate::field::{Field, Microseconds};
+use crate::format::format_text;
+use crate::line::Line;
+use crate::route_line::put_route;
+use crate::short::ShortTexts;
+use crate::write::write_lines;
+use adj_rib::What;
+use mrt_frame::{ReplayError, Sink};
+use peer_tables::{By, HistoryRow};
+
+impl Field for What {
+    ghost text_of = { what_text };
+
+    ghost longest = { 7 };
+
+    fn longest() -> usize {
+        7
+    }
+
+    fn format(self, bytes: &mut [u8], at: usize, _shorts: &ShortTexts) -> usize {
+        match self {
+            What::New => format_text(bytes, at, b"new"),
+            What::Changed => format_text(bytes, at, b"changed"),
+            What::Same => format_text(bytes, at, b"same"),
+            What::Gone => format_text(bytes, at, b"gone"),
+            What::Void => format_text(bytes, at, b"void"),
+            What::Lost => format_text(bytes, at, b"lost"),
+        }
+    }
+}
+
+impl Field for By {
+    ghost text_of = { by_text };
+
+    ghost longest = { 6 };
+
+    fn longest() -> usize {
+        6
+    }
+
+    fn format(self, bytes: &mut [u8], at: usize, _shorts: &ShortTexts) -> usize {
+        match self {
+            By::Rib => format_text(bytes, at, b"rib"),
+            By::Update => format_text(bytes, at, b"update"),
+            By::State => format_text(bytes, at, b"state"),
+        }
+    }
+}
+
+impl Line for HistoryRow {
+    ghost line = { history_line };
+
+    fn prefetch(&self) -> usize {
+        match &self.note.route {
+            Some(route) => route.route().as_bytes().len(),
+            None => 0,
+        }
+    }
+
+    fn put<W: Sink>(&self, text: &mut TextBuffer, out: &mut W) {
+        let event = (self.note.what, (self.by, self.note.key));
+        text.put(out, (Microseconds(self.time), (self.peer, event)));
+        match &self.note.route {
+            Some(route) => put_route(text, out, route.route()),
+            None => text.put_text(out, b"|-|-|-|-|-|-|-\n"),
+        }
+    }
+}
+
+/// Writes the rows of `history`. If it returns `Write`, a leading part of the text has been written.
+pub fn write_history<W: Sink>(out: &mut W, rows: &[HistoryRow]) -> Result<(), ReplayError>
+    ensures { IsOutput (W.contents out.old) (W.failure_count out.old) (W.contents out.new) (W.failure_count out.new)
+        (flat_map history_line rows.now) result }
+{
+    write_lines(out, rows)
+}
