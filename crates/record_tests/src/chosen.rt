@@ -136,7 +136,12 @@ static CASES: [Case; 9] = [
             (0, 0, Reach::Around),
             (0xffff_fffe, 31, Reach::Around),
         ],
-        taken: &[(0, 0), (0xffff_fffe, 31), (0xffff_ffff, 32), (0x8000_0000, 1)],
+        taken: &[
+            (0, 0),
+            (0xffff_fffe, 31),
+            (0xffff_ffff, 32),
+            (0x8000_0000, 1),
+        ],
         others: &[(0xffff_fffe, 32), (0, 1), (0xffff_fff8, 30), (0, 32)],
     },
     // All forms at once, of nested prefixes.
@@ -225,7 +230,10 @@ fn chosen_prefixes_take_what_a_scan_takes(rt: HostRuntime) -> Result<(), Fail> {
             for bits in 0..8u8 {
                 let len = if bits == 7 { 32 } else { bits };
                 let prefix = prefix_of(&rt, number << 26, len);
-                assert!(rt; made.takes(&prefix) == is_taken(&all, &prefix), "{step} {prefix:?}");
+                assert!(rt;
+                    made.takes(&prefix) == is_taken(&all, &prefix),
+                    "{step} {prefix:?}"
+                );
             }
         }
     }
@@ -252,7 +260,10 @@ fn a_refused_growth_makes_no_choice(rt: HostRuntime) -> Result<(), Fail> {
     }
     for row in case.others {
         let prefix = prefix_of(&rt, row.0, row.1);
-        assert!(rt; !made.takes(&prefix) && !copied.takes(&prefix), "{prefix:?}");
+        assert!(rt;
+            !made.takes(&prefix) && !copied.takes(&prefix),
+            "{prefix:?}"
+        );
     }
     Ok(())
 }
