@@ -19,6 +19,7 @@ _bgp_replay() {
     local options='--peer --peers --until --header --summary --progress --workers --ring --help --version'
     case $command in match) options="--address $options";; esac
     case $command in tables|visibility|origins|seen|peers|match|faults) options="--prefix $options";; esac
+    case $command in tables|visibility|origins|seen|peers|match|faults) options="--prefixes $options";; esac
     mapfile -t COMPREPLY < <(compgen -W "$options" -- "$word")
   else
     compopt -o filenames 2> /dev/null

@@ -32,6 +32,7 @@ _bgp_replay() {
       )
       case ${words[1]} in match) options+=('--address[look up this IPv4 address, as 192.0.2.1]:A:');; esac
       case ${words[1]} in tables|visibility|origins|seen|peers|match|faults) options+=('*--prefix[report on this prefix alone]:PREFIX:');; esac
+      case ${words[1]} in tables|visibility|origins|seen|peers|match|faults) options+=('*--prefixes[report on the prefixes in this file alone]:FILE:_files');; esac
       _arguments $options;;
   esac
 }

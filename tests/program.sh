@@ -287,6 +287,33 @@ lists 'seen --until 1030 --peers 2/2' '198.51.100.0/24|64500|1' '198.51.100.0/25
 printf '%s\n' "$two_24" "$two_25" "$two_203" > wanted; try 0 '' wanted tables --peer '65002 192.0.2.2' --until 1030 eight
 for words in '--peers 0/4' '--peers 5/4' '--peers 1/65537' '--peer AS65001' '--peer 65001,192.0.2' '--prefix 192.0.2.1/24' '--prefix 192.0.2.0/33'; do try 2 '?' nothing tables $words eight; done
 try 2 '?' nothing churn --prefix 198.51.100.0/24 eight
+
+# --prefixes: lines that are passed over, blanks at the ends of others, and files that add up
+printf '# both\r\n\n198.51.100.0/24 \t\r\n  \n203.0.113.128/25-' > one.txt; printf '198.51.100.0/25\n' > two.txt; printf '#\n' > none.txt
+lists 'tables --prefixes one.txt --until 1009' "$one_24" "$one_203" "$two_24"
+lists 'tables --prefixes one.txt --until 1030' "$one_203" "$two_24" "$two_203"
+lists 'tables --prefixes two.txt --until 1030' "$two_25"
+lists 'tables --prefixes two.txt --prefixes one.txt --until 1030' "$one_203" "$two_24" "$two_25" "$two_203"
+lists 'tables --prefixes two.txt --prefix 198.51.100.0/24 --until 1030' "$two_24" "$two_25"
+for words in '--prefixes -' '--prefixes=-'; do printf '%s\n' "$two_25" > wanted; INPUT=two.txt try 0 '' wanted tables $words --until 1030 eight; done
+INPUT=eight try 2 "error: standard input can't be both the prefixes and a dump" nothing tables --prefixes - -
+try 2 "error: '--prefixes none.txt' names no prefix" nothing tables --prefixes none.txt eight
+try 2 "error: '--prefixes standard input' names no prefix" nothing tables --prefixes - eight
+try 2 "error: '--prefixes standard input' names no prefix" nothing tables --prefixes two.txt --prefixes - missing
+bad_line() { # LINE SHOWN WHY
+  printf '198.51.100.0/25\n#\n%b\nsoon\n' "$1" > bad.txt; try 2 "error: invalid line 3 '$2' in '--prefixes bad.txt': $3" nothing tables --prefixes two.txt --prefixes bad.txt eight
+}
+bad_line '192.0.2.1/24' '192.0.2.1/24' 'its address has bits past its length'
+bad_line '192.0.2.0/33+ ' '192.0.2.0/33+' 'its length is not a number of 0 to 32'
+bad_line ' 192.0.2.0/24' ' 192.0.2.0/24' "no IPv4 address stands before its '/'"
+bad_line ' # ours' ' # ours' 'it is no IPv4 address'
+bad_line '192.0.2.0 192.0.2.1' '192.0.2.0 192.0.2.1' 'it is no IPv4 address'
+bad_line '\0377' '\xff' 'it is no IPv4 address'
+bad_line '192.0.2.0/24\r#' '192.0.2.0/24\r#' 'its length is not a number of 0 to 32'
+try 3 'open failed: prefixes 2' nothing tables --prefixes two.txt --prefixes missing eight
+try 3 'read failed: prefixes 1' nothing tables --prefixes . eight
+for words in 'churn --prefixes two.txt eight' 'tables --prefixes' 'tables --prefixes two.txt'; do try 2 '?' nothing $words; done
+tip "  tip: '--prefixes' is an option of tables, visibility, origins, seen, match, faults" churn --prefixes two.txt eight
 lists 'tables --until 1970-01-01T00:17:10Z --prefix 198.51.100.0/24' "$two_24"
 lists 'tables --until 1970-01-02 --prefix 203.0.113.0/24' "$one_203"
 

@@ -224,7 +224,7 @@ def bash(options, commands):
     for option in options:
         if option["offered"]:
             cases.append(f"    --{option['name']}) mapfile -t COMPREPLY < <(compgen -W '{option['offered']}' -- \"$word\"); return;;")
-    rest = "|".join("--" + option["name"] for option in options if option["value"] and not option["offered"])
+    rest = "|".join("--" + option["name"] for option in options if option["value"] not in ("", "FILE") and not option["offered"])
     cases.append(f"    {rest}) return;;")
     general = " ".join("--" + option["name"] for option in options if not owners_of(option))
     owned = []
@@ -277,7 +277,7 @@ def fish(options, commands):
     for option in options:
         owners = owners_of(option)
         seen = quoted("__fish_seen_subcommand_from " + " ".join(owners)) if owners else "$some"
-        takes = " -x" if option["value"] else ""
+        takes = {"": "", "FILE": " -r -F"}.get(option["value"], " -x")
         offered = f" -a {quoted(option['offered'])}" if option["offered"] else ""
         lines.append(f"complete -c bgp_replay -n {seen} -l {option['name']}{takes}{offered} -d {quoted(first_sentence(option['meaning']))}")
     lines.append("complete -c bgp_replay -s h -l help -d 'print a help text'")
@@ -300,7 +300,8 @@ def zsh(options, commands):
         takes = "*" if option["takes"][0] == "Texts" else ""
         spec = f"{takes}--{option['name']}[{zsh_text(first_sentence(option['meaning']))}]"
         if option["value"]:
-            spec += f":{option['value']}:" + (f"({option['offered']})" if option["offered"] else "")
+            values = "_files" if option["value"] == "FILE" else f"({option['offered']})" if option["offered"] else ""
+            spec += f":{option['value']}:{values}"
         if owners_of(option):
             owned.append(f"      case ${{words[1]}} in {'|'.join(owners_of(option))}) options+=({zsh_spec(spec)});; esac")
         else:

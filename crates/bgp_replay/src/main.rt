@@ -33,6 +33,7 @@ ghost use Rattle.lane_deal.specs.Plans.{IsPlan};
 
 mod counts;
 mod input;
+mod lists;
 mod output;
 mod progress;
 mod telling;
@@ -43,6 +44,7 @@ use command_line::{Job, Usage, read_words, wrapped};
 use counts::Counts;
 use input::{Input, OpenError, Watched, open_all};
 use lane_deal::{ByTurns, Plan};
+use lists::add_lists;
 use mrt_body::{ChosenPrefixes, PrefixChoice, Reach, Selection};
 use mrt_frame::Counted;
 use mrt_replay::{run, status};
@@ -88,17 +90,27 @@ const MOST_WORDS: usize = 100_000;
 /// The maximum number of workers.
 const MOST_WORKERS: usize = 64;
 
-/// The shortest prefix whose more specifics are few among all routes.
-const SHORTEST_NARROW: u8 = 8;
+/// The number of addresses, those of a prefix of length 6, whose routes are few among all.
+const MOST_NARROW: u64 = 1 << 26;
+
+/// The number of addresses that a route has in a whole table, more or less: those of a prefix of length 20.
+const ADDRESSES_EACH: u64 = 1 << 12;
+
+/// Returns the number of addresses that have about as many routes as a choice takes.
+fn addresses_of(choice: &PrefixChoice) -> u64 {
+    match choice.reach {
+        Reach::Inside => (1u64 << (32 - choice.prefix.len() as u32)).max(ADDRESSES_EACH),
+        Reach::Exact | Reach::Around => ADDRESSES_EACH,
+    }
+}
 
 /// Whether few routes are chosen. Then nearly all the time goes into reading, and threads only cost.
 fn is_narrow(choices: &[PrefixChoice]) -> bool {
+    let mut addresses = 0u64;
     for choice in choices {
-        if choice.reach == Reach::Inside && choice.prefix.len() < SHORTEST_NARROW {
-            return false;
-        }
+        addresses = addresses.saturating_add(addresses_of(choice));
     }
-    !choices.is_empty()
+    !choices.is_empty() && addresses <= MOST_NARROW
 }
 
 /// Returns as many workers as the arguments ask for, otherwise one if few prefixes are chosen, else one per
@@ -246,7 +258,10 @@ fn given_words(rt: &HostRuntime) -> Result<Vec<String>, u8> {
 fn given_job(rt: &HostRuntime) -> Result<Job, u8> {
     let words = given_words(rt)?;
     match read_words(rt.alloc(), words.as_slice()) {
-        Ok(job) => Ok(job),
+        Ok(mut job) => {
+            add_lists(rt, job.lists.as_slice(), &mut job.prefixes)?;
+            Ok(job)
+        }
         Err(usage) => Err(explain(rt, &usage)),
     }
 }

@@ -32,6 +32,12 @@ pub fn tell_open(rt: &HostRuntime, number: usize, name: &str, error: &io::Error)
     tell_cause(rt, FileName(name), error);
 }
 
+/// Reports that a file of prefixes couldn't be opened or read.
+pub fn tell_list(rt: &HostRuntime, what: &str, number: usize, name: &str, error: &io::Error) {
+    let _ = eprintln!(rt; "{what} failed: prefixes {number}");
+    tell_cause(rt, FileName(name), error);
+}
+
 /// Reports that standard output couldn't be written, unless its reader is gone, as `head` is after
 /// some lines.
 pub fn tell_write(rt: &HostRuntime, error: Option<io::Error>) {

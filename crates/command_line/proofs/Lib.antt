@@ -4,3 +4,4 @@ pub mod Slashes
 pub mod Marks
 pub mod Unique
 pub mod Spelled
+pub mod Lines

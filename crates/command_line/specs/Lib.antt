@@ -1,3 +1,4 @@
 pub mod Addresses
 pub mod Choices
 pub mod Words
+pub mod Lists

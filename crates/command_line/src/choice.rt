@@ -99,20 +99,28 @@ fn split_reach(text: &[u8]) -> (&[u8], Reach)
     (text, Reach::Exact)
 }
 
+/// Returns what these bytes choose.
+pub(crate) fn choice_in(text: &[u8]) -> Option<PrefixChoice>
+    ensures some { IfSome result (SpellsChoice text.now) }
+    ensures none { IfNone result (IsNoChoice text.now) }
+{
+    let (text, reach) = split_reach(text);
+    let prefix = read_prefix(text)?;
+    Some(PrefixChoice { prefix, reach })
+}
+
 /// Returns what `--prefix` chooses: a prefix alone, with `+` itself and more specifics, with `-` itself and less
 /// specifics. Returns `None` for any other text.
 pub fn read_choice(text: &str) -> Option<PrefixChoice>
     ensures some { IfSome result (SpellsChoice text.now) }
     ensures none { IfNone result (IsNoChoice text.now) }
 {
-    let (text, reach) = split_reach(text.as_bytes());
-    let prefix = read_prefix(text)?;
-    Some(PrefixChoice { prefix, reach })
+    choice_in(text.as_bytes())
 }
 
 /// Returns why a text is no choice, in words for whoever wrote it.
-pub fn fault_of_choice(text: &str) -> &'static str {
-    let (text, _) = split_reach(text.as_bytes());
+pub(crate) fn fault_of_choice(text: &[u8]) -> &'static str {
+    let (text, _) = split_reach(text);
     let Some(slash) = first_slash(text) else {
         return "it is no IPv4 address";
     };

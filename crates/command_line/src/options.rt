@@ -50,7 +50,7 @@ pub struct CommandRow {
     pub examples: &'static [&'static str],
 }
 
-pub static OPTIONS: [OptionRow; 10] = [
+pub static OPTIONS: [OptionRow; 11] = [
     OptionRow {
         name: "address",
         value: "A",
@@ -70,6 +70,16 @@ pub static OPTIONS: [OptionRow; 10] = [
         commands: "tables visibility origins seen peers match faults",
         is_required: false,
         meaning: "Report on this prefix alone. 192.0.2.0/24 is that prefix, 192.0.2.0/24+ also its more specifics, and 192.0.2.0/24- also the prefixes that contain it; an address alone has length 32. Given more than once, each prefix adds to the others",
+    },
+    OptionRow {
+        name: "prefixes",
+        value: "FILE",
+        takes: Takes::Texts,
+        default: "",
+        offered: "",
+        commands: "tables visibility origins seen peers match faults",
+        is_required: false,
+        meaning: "Report on the prefixes in this file alone. Each line is one as --prefix takes it; empty lines and lines that begin with # are passed over, and '-' is standard input. They add to those of --prefix and of other files",
     },
     OptionRow {
         name: "peer",

@@ -36,6 +36,8 @@ pub struct Job {
     pub until: Option<u64>,
     /// The prefixes that are chosen, or none for all.
     pub prefixes: Vec<PrefixChoice>,
+    /// The files whose lines add to them; `-` is standard input.
+    pub lists: Vec<String>,
     /// The peers that are chosen, or none for all.
     pub peers: Vec<PeerChoice>,
     /// The share of the peers that is chosen, or none for all.
@@ -138,7 +140,7 @@ fn until_of(alloc: Global, matches: &ArgMatches<'_>) -> Result<Option<u64>, Usag
 fn no_choice(alloc: Global, text: &str) -> Result<Usage, AllocError>
     ensures { IfOk result IsRefusal }
 {
-    let fault = fault_of_choice(text);
+    let fault = fault_of_choice(text.as_bytes());
     Ok(Usage::Words(format!(in alloc;
         "error: invalid value '{text}' for '--prefix <PREFIX>': {fault}\n  it may be 192.0.2.0/24, 192.0.2.0/24+ (more specifics too), 192.0.2.0/24- (less specifics too) or an address\n"
     )?))
@@ -158,6 +160,29 @@ fn prefixes_of(alloc: Global, matches: &ArgMatches<'_>) -> Result<Vec<PrefixChoi
         }
     }
     Ok(choices)
+}
+
+/// Returns the names of the files that `--prefixes` names.
+fn lists_of(alloc: Global, matches: &ArgMatches<'_>) -> Result<Vec<String>, Usage>
+    ensures { IfErr result IsRefusal }
+{
+    let mut lists = Vec::new(alloc);
+    if let Some(names) = matches.get_strs("prefixes") {
+        for name in names {
+            lists.push(String::from_str(alloc, name)?)?;
+        }
+    }
+    Ok(lists)
+}
+
+/// Whether standard input is one of these files.
+fn has_standard_input(names: &[String]) -> bool {
+    for name in names {
+        if name.as_str() == "-" {
+            return true;
+        }
+    }
+    false
 }
 
 /// Returns the peers that are chosen.
@@ -213,6 +238,7 @@ fn job_of(alloc: Global, name: &str, matches: &ArgMatches<'_>) -> Result<Job, Us
     let request = request_of(alloc, name, matches)?;
     let until = until_of(alloc, matches)?;
     let prefixes = prefixes_of(alloc, matches)?;
+    let lists = lists_of(alloc, matches)?;
     let peers = peers_of(alloc, matches)?;
     let share = share_of(alloc, matches)?;
     let files = files_of(alloc, matches)?;
@@ -228,6 +254,12 @@ fn job_of(alloc: Global, name: &str, matches: &ArgMatches<'_>) -> Result<Job, Us
     if files.is_empty() {
         return refused(alloc, "error: no file\n");
     }
+    if has_standard_input(&lists) && has_standard_input(&files) {
+        return refused(
+            alloc,
+            "error: standard input can't be both the prefixes and a dump\n",
+        );
+    }
     Ok(Job {
         request,
         workers,
@@ -235,6 +267,7 @@ fn job_of(alloc: Global, name: &str, matches: &ArgMatches<'_>) -> Result<Job, Us
         ring,
         until,
         prefixes,
+        lists,
         peers,
         share,
         header: matches.get_flag("header"),

@@ -1,7 +1,7 @@
 //! Rows on prefixes as text.
 
-use command_line::{read_choice, read_words};
-use mrt_body::Reach;
+use command_line::{ListError, read_choice, read_list, read_words};
+use mrt_body::{PrefixChoice, Reach};
 use std::alloc::Global;
 use std::test::Fail;
 
@@ -86,6 +86,21 @@ fn another_text_is_no_choice(rt: HostRuntime) {
     }
 }
 
+/// Writes each choice as its address, its length and its reach.
+fn show(shown: &mut String, choices: &[PrefixChoice]) -> Result<(), Fail> {
+    for choice in choices {
+        let reach = match choice.reach {
+            Reach::Exact => "",
+            Reach::Inside => "+",
+            Reach::Around => "-",
+        };
+        let addr = choice.prefix.addr();
+        let len = choice.prefix.len();
+        write!(shown, "{addr}/{len}{reach};")?;
+    }
+    Ok(())
+}
+
 /// The prefixes of a job, each as its address, its length and its reach.
 fn chosen(alloc: Global, text: &str) -> Result<String, Fail> {
     let mut words = Vec::new(alloc);
@@ -95,15 +110,10 @@ fn chosen(alloc: Global, text: &str) -> Result<String, Fail> {
     let mut shown = String::new(alloc);
     match read_words(alloc, words.as_slice()) {
         Ok(job) => {
-            for choice in &job.prefixes {
-                let reach = match choice.reach {
-                    Reach::Exact => "",
-                    Reach::Inside => "+",
-                    Reach::Around => "-",
-                };
-                let addr = choice.prefix.addr();
-                let len = choice.prefix.len();
-                write!(shown, "{addr}/{len}{reach};")?;
+            show(&mut shown, &job.prefixes)?;
+            for name in &job.lists {
+                let name = name.as_str();
+                write!(shown, "{name};")?;
             }
         }
         Err(_) => shown.push_str("refused")?,
@@ -123,11 +133,50 @@ fn prefixes_add_up(rt: HostRuntime) -> Result<(), Fail> {
         ),
         ("seen --prefix 0.0.0.9 --prefix 0.0.0.9 x", "9/32;9/32;"),
         ("churn --prefix 0.0.0.9 x", "refused"),
+        ("tables --prefixes a x --prefixes=-", "a;-;"),
+        (
+            "match --address 0.0.0.1 --prefixes a --prefix 0.0.0.9 --prefixes a x",
+            "9/32;a;a;",
+        ),
+        ("tables --prefixes - x -", "refused"),
+        ("churn --prefixes a x", "refused"),
         ("tables --prefix 0.0.0.9,0.0.0.8 x", "refused"),
         ("tables --prefix 0.0.0.9 --prefix 0.0.0.9/31 x", "refused"),
     ] {
         let shown = chosen(rt.alloc(), text)?;
         assert!(rt; shown.as_str() == expected, "{text}");
+    }
+    Ok(())
+}
+
+/// Each line is a choice or passed over; an error names the first one that is neither.
+#[test]
+fn the_lines_of_a_text_are_choices(rt: HostRuntime) -> Result<(), Fail> {
+    let alloc = rt.alloc();
+    for (text, expected) in [
+        ("", ""),
+        ("\n\n", ""),
+        ("# 0.0.0.9\n #\n", "line 2"),
+        ("0.0.0.9", "9/32;"),
+        ("0.0.0.9\n", "9/32;"),
+        ("0.0.0.9\r\n\r\n0.0.0.8/29+\r\n", "9/32;8/29+;"),
+        (
+            "0.0.0.9 \t \n \t\n#0.0.0.7\n0.0.0.8/29-\n0.0.0.9",
+            "9/32;8/29-;9/32;",
+        ),
+        ("0.0.0.9 # mine\n", "line 1"),
+        ("0.0.0.9\n\n0.0.0.9/31\n0.0.0.9/33\n", "line 3"),
+        ("0.0.0.9\n 0.0.0.9\n", "line 2"),
+        ("0.0.0.9\r0.0.0.8\n", "line 1"),
+        ("0.0.0.9\n#\n\n\n-", "line 5"),
+    ] {
+        let mut shown = String::new(alloc);
+        match read_list(alloc, text.as_bytes()) {
+            Ok(choices) => show(&mut shown, &choices)?,
+            Err(ListError::Line(number)) => write!(shown, "line {number}")?,
+            Err(ListError::Memory) => shown.push_str("memory")?,
+        }
+        assert!(rt; shown.as_str() == expected, "{text:?}: {shown}");
     }
     Ok(())
 }

@@ -1,8 +1,6 @@
-use Rattle.std.proofs.Common.{subst, ◌∙◌}
-use Rattle.command_line.specs.Choices.{SpellsPrefix}
+use Rattle.std.proofs.Common.{subst, IfNone, List, ℕ}
+use Rattle.command_line.specs.Choices.{IsNoChoice}
 use Rattle.command_line.proofs.choice.read_choice.Goals as goal
 
-pub returns-in_err-prefix-clause-none : goal.returns-in_err-prefix-clause-none
-returns-in_err-prefix-clause-none c = rw c.from_residual.ensures (λ choice s.
-    let same = c.split_reach-reach.ensures.only s.front choice.prefix choice.reach s.prefix (c.as_bytes.ensures.value ∙ s.written) in
-    c.in_err-prefix.ensures.none choice.prefix (subst (λ text. SpellsPrefix text choice.prefix) same.0 s.prefix))
+pub returns-clause-none : goal.returns-clause-none
+returns-clause-none c = subst (λ (l : List ℕ). IfNone c.choice_in.result (IsNoChoice l)) c.as_bytes.ensures.value c.choice_in.ensures.none

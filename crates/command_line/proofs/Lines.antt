@@ -1,0 +1,108 @@
+-- The lines of a text, and what they choose.
+use Rattle.std.proofs.Common.{◌≡◌, ℕ, suc, ◌+◌, ◌≤◌, ◌<◌, Bool, true, false, cond, not, ◌||◌, eqb, List, [], ◌∷◌, ◌++◌, length, get_or, map, take, drop, Option, Some, None, refl, sym, ap, subst, ◌∙◌, arith, append_assoc, inl, inr}
+use Rattle.std.specs.List.{AllZip, All, filter, position, position_or_len, slice_split}
+use Rattle.std.proofs.lemmas.Bool.{cases_lt, eqb-true, lt-ltb}
+use Rattle.std.proofs.lemmas.List.{append-nil, get_or-take, get_or_default, length-append, length-take, map-append, take-append-drop}
+use Rattle.std.proofs.lemmas.List.Elements.{filter-append}
+use Rattle.std.proofs.lemmas.List.Quantifiers.{position-Some}
+use Rattle.std.proofs.lemmas.List.Splits.{slice_split_at, slice_split_none}
+use Rattle.std.proofs.lemmas.List.Sums.{fails_before_first}
+use Rattle.std.proofs.Math.Seq.{drop-cons}
+use Rattle.mrt_body.specs.declared.choice.PrefixChoice.{PrefixChoice}
+use Rattle.command_line.specs.Choices.{SpellsChoice, IsNoChoice}
+use Rattle.command_line.specs.Lists.{lines_of, is_blank, in_front, trimmed, is_passed, entries, NameChoices, IsFirstFault}
+
+-- ---- blanks at the end
+
+pub trimmed_blank : (line : List ℕ) (byte : ℕ) → is_blank byte ≡ true → trimmed (line ++ byte ∷ []) ≡ trimmed line
+trimmed_blank [] byte blank = ap (λ b. cond b [] (byte ∷ [])) blank
+trimmed_blank (first ∷ line) byte blank = ap (in_front first) (trimmed_blank line byte blank)
+
+kept_behind : (first : ℕ) (line : List ℕ) (byte : ℕ) → in_front first (line ++ byte ∷ []) ≡ first ∷ (line ++ byte ∷ [])
+kept_behind first [] byte = refl
+kept_behind first (next ∷ line) byte = refl
+
+pub trimmed_kept : (line : List ℕ) (byte : ℕ) → is_blank byte ≡ false → trimmed (line ++ byte ∷ []) ≡ line ++ byte ∷ []
+trimmed_kept [] byte other = ap (λ b. cond b [] (byte ∷ [])) other
+trimmed_kept (first ∷ line) byte other = ap (in_front first) (trimmed_kept line byte other) ∙ kept_behind first line byte
+
+-- ---- the first line
+
+abbrev pub is_feed : ℕ → Bool
+is_feed byte = eqb byte 10
+
+pub line_before : (text : List ℕ) (p : ℕ) → position is_feed text ≡ Some p → lines_of text ≡ take p text ∷ lines_of (drop (p + 1) text)
+line_before text p found =
+    let at = position-Some is_feed text p 0 found in
+    let byte : get_or text p 0 ≡ 10 = eqb-true (get_or text p 0) 10 at.1 in
+    let whole : text ≡ take p text ++ 10 ∷ drop (p + 1) text = sym (take-append-drop p text) ∙ ap (λ (l : List ℕ). take p text ++ l) (drop-cons text p 0 at.0 ∙ ap (λ b. b ∷ drop (suc p) text) byte ∙ ap (λ k. 10 ∷ drop k text) {x = suc p} {y = p + 1} (omega arith)) in
+    ap lines_of whole ∙ slice_split_at is_feed (take p text) 10 (drop (p + 1) text) (before_feed text p at.0 at.2) refl
+  where
+    before_feed : (text : List ℕ) (p : ℕ) → p < length text → ((k : ℕ) → k < p → is_feed (get_or text k 0) ≡ false) → All (λ b. is_feed b ≡ false) (take p text)
+    before_feed text p inside none k d lt =
+        let low : k < p = omega (arith, lt, length-take p text, inside) in
+        subst (λ b. is_feed b ≡ false) (sym (get_or-take p text k d low ∙ get_or_default text k d 0 (omega (arith, low, inside)))) (none k low)
+
+pub line_alone : (text : List ℕ) → position is_feed text ≡ None → lines_of text ≡ text ∷ []
+line_alone text none = slice_split_none is_feed text (λ k d lt. elim (cases_lt (position_or_len is_feed text) (length text)) [
+  | inl inside ↦ let some : position is_feed text ≡ Some (position_or_len is_feed text) = rw (lt-ltb (position_or_len is_feed text) (length text) inside) refl in cc
+  | inr end ↦ fails_before_first is_feed text k d (omega (arith, lt, end))
+])
+
+-- ---- what lines choose
+
+entries-more : (before : List (List ℕ)) (line : List ℕ) → entries (before ++ line ∷ []) ≡ entries before ++ cond (not (is_passed (trimmed line))) (trimmed line ∷ []) []
+entries-more before line = ap (filter (λ l. not (is_passed l))) (map-append trimmed before (line ∷ [])) ∙ filter-append (λ l. not (is_passed l)) (map trimmed before) (trimmed line ∷ [])
+
+pub passed_over : (before : List (List ℕ)) (line : List ℕ) (choices : List PrefixChoice) → is_passed (trimmed line) ≡ true → NameChoices before choices → NameChoices (before ++ line ∷ []) choices
+passed_over before line choices passed named =
+    subst (λ (l : List (List ℕ)). AllZip SpellsChoice l choices) (sym (entries-more before line ∙ ap (λ b. entries before ++ cond (not b) (trimmed line ∷ []) []) passed ∙ append-nil (entries before))) named
+
+zip_more : (lines : List (List ℕ)) (choices : List PrefixChoice) (line : List ℕ) (choice : PrefixChoice) → AllZip SpellsChoice lines choices → SpellsChoice line choice → AllZip SpellsChoice (lines ++ line ∷ []) (choices ++ choice ∷ [])
+zip_more [] [] line choice all one = (one, tt)
+zip_more [] (c ∷ choices) line choice all one = absurd all
+zip_more (l ∷ lines) [] line choice all one = absurd all
+zip_more (l ∷ lines) (c ∷ choices) line choice all one = (all.0, zip_more lines choices line choice all.1 one)
+
+pub one_named : (before : List (List ℕ)) (line : List ℕ) (choices : List PrefixChoice) (choice : PrefixChoice) → is_passed (trimmed line) ≡ false → SpellsChoice (trimmed line) choice → NameChoices before choices → NameChoices (before ++ line ∷ []) (choices ++ choice ∷ [])
+one_named before line choices choice other spelled named =
+    subst (λ (l : List (List ℕ)). AllZip SpellsChoice l (choices ++ choice ∷ [])) (sym (entries-more before line ∙ ap (λ b. entries before ++ cond (not b) (trimmed line ∷ []) []) other)) (zip_more (entries before) choices (trimmed line) choice named spelled)
+
+-- ---- line after line
+
+-- what was read before the line of this number, and what is left
+pub record IsRead (text rest : List ℕ) (number : ℕ) (choices : List PrefixChoice) : Type 0 where
+  pub before : List (List ℕ)
+  pub whole : lines_of text ≡ before ++ lines_of rest
+  pub counted : number ≡ length before + 1
+  pub named : NameChoices before choices
+  pub short : number + length rest ≤ length text + 1
+
+pub nothing_read : (text : List ℕ) → IsRead text text 1 []
+nothing_read text = record { before = []; whole = refl; counted = omega arith; named = tt; short = omega arith }
+
+module _ (text rest : List ℕ) (number : ℕ) (choices : List PrefixChoice) (so_far : IsRead text rest number choices) (line : List ℕ) where
+  pub read_on : (left : List ℕ) (more : List PrefixChoice) → lines_of rest ≡ line ∷ lines_of left → length left < length rest → ((before : List (List ℕ)) → NameChoices before choices → NameChoices (before ++ line ∷ []) more) → IsRead text left (number + 1) more
+  read_on left more first shorter taken = record {
+    before = so_far.before ++ line ∷ [];
+    whole = so_far.whole ∙ ap (λ (l : List (List ℕ)). so_far.before ++ l) first ∙ sym (append_assoc so_far.before (line ∷ []) (lines_of left));
+    counted = omega (arith, so_far.counted, length-append so_far.before (line ∷ []));
+    named = taken so_far.before so_far.named;
+    short = omega (arith, so_far.short, shorter);
+  }
+
+  pub read_all : (more : List PrefixChoice) → lines_of rest ≡ line ∷ [] → ((before : List (List ℕ)) → NameChoices before choices → NameChoices (before ++ line ∷ []) more) → NameChoices (lines_of text) more
+  read_all more last taken = subst (λ (l : List (List ℕ)). NameChoices l more) (sym (so_far.whole ∙ ap (λ (l : List (List ℕ)). so_far.before ++ l) last)) (taken so_far.before so_far.named)
+
+  pub first_fault : (behind : List (List ℕ)) → lines_of rest ≡ line ∷ behind → is_passed (trimmed line) ≡ false → IsNoChoice (trimmed line) → IsFirstFault (lines_of text) number
+  first_fault behind first entry none = record {
+    before = so_far.before;
+    line = line;
+    behind = behind;
+    whole = so_far.whole ∙ ap (λ (l : List (List ℕ)). so_far.before ++ l) first;
+    counted = so_far.counted;
+    choices = choices;
+    named = so_far.named;
+    read = entry;
+    none = none;
+  }
