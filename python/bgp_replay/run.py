@@ -1,0 +1,197 @@
+"""Runs of the program: its text goes through a pipe into frames, its errors become exceptions."""
+
+import bz2
+import functools
+import gzip
+import os
+import re
+import shutil
+import signal
+import subprocess
+import sys
+import tempfile
+import warnings
+
+from . import frames
+from .errors import DamagedError, DamagedWarning, UnpackError, error_of
+from .reports import REPORTS, Report, names_of, words_of
+from .summary import read_summary
+from .unpacking import MAGIC, Unpacking, packing
+
+_NOTHING_PACKED = {"gzip": gzip.compress(b"", mtime=0), "bzip2": bz2.compress(b"")}
+
+
+def program():
+    """The program's name: the variable BGP_REPLAY, else `bgp_replay` on the PATH. FileNotFoundError: there is none."""
+    found = os.environ.get("BGP_REPLAY") or shutil.which("bgp_replay")
+    if not found:
+        raise FileNotFoundError("bgp_replay isn't on the PATH, and the variable BGP_REPLAY isn't set")
+    return found
+
+
+def _asked(name, *words, given=b""):
+    return subprocess.run([name, *words], input=given, capture_output=True)
+
+
+def _once_for_each_program(ask):
+    """`ask(program, ..)` is asked once for each program, until that is another file."""
+    kept = functools.lru_cache(maxsize=64)(lambda name, _state, *words: ask(name, *words))
+
+    @functools.wraps(ask)
+    def asked(*words):
+        name = program()
+        state = os.stat(name)
+        return kept(name, (state.st_mtime_ns, state.st_size, state.st_ino), *words)
+
+    return asked
+
+
+@_once_for_each_program
+def has(name, report, option=None):
+    """Whether the program has a report, and for it an option, by what its help says: `has("tables", "family")`."""
+    words = _asked(name, "--help").stdout.decode()
+    commands = re.findall(r"^  ([a-z_]+)", words.partition("\nCommands:\n")[2].partition("\n\n")[0], re.MULTILINE)
+    if report not in commands or option is None:
+        return report in commands
+    return re.search(rf"^ +(-., )?--{option}\b", _asked(name, report, "--help").stdout.decode(), re.MULTILINE) is not None
+
+
+@_once_for_each_program
+def reads(name, kind):
+    """Whether the program reads files of this packing by itself: it takes an empty one for an empty dump."""
+    empty = _NOTHING_PACKED.get(kind)
+    return empty is not None and _asked(name, "faults", "-", given=empty).returncode == 0
+
+
+class Replay:
+    """One run of the program. Its frames come by iterating, at most `rows` rows each, or as one by `frame()`.
+
+    A report is whole once the iteration has come to its end: what is wrong is raised there, and the last frame is held
+    back until then. Afterwards `summary` has the counts, and `notes` what else the program said. `damaged` says what
+    damage is: "warn" warns with DamagedWarning, "raise" raises DamagedError, "ignore" does neither. `unpackers` is the
+    number of threads that unpack files which the program doesn't read by itself. Options are those of the reports.
+    """
+
+    def __init__(self, report, files, *, rows=frames.ROWS, damaged="warn", unpackers=None, **options):
+        if damaged not in ("warn", "raise", "ignore"):
+            raise ValueError("damaged is one of 'warn', 'raise' and 'ignore'")
+        self.report, self.files, self.rows = report, names_of(files), rows
+        self.damaged, self.unpackers, self.options = damaged, unpackers, words_of(options)
+        self.kinds = REPORTS.get(report, Report("rows")).kinds
+        self.summary = self.notes = self.unpacking = self.child = None
+
+    def _pieces(self):
+        """The frames with the program's own columns; the last one once the program has ended well."""
+        name_of_program = program()
+        kinds = {kind for kind in set(map(packing, self.files)) - {None} if not reads(kind)}
+        names = ["./-" if name == "-" else name for name in self.files]
+        self.unpacking = Unpacking(names, kinds, self.unpackers)
+        last = None
+        with tempfile.TemporaryFile() as said:
+            child = None
+            try:
+                words = [name_of_program, self.report, "--header", "--summary", *self.options, "--", *self.unpacking.names]
+                child = self.child = subprocess.Popen(words, stdin=subprocess.DEVNULL, stdout=subprocess.PIPE, stderr=said,
+                                                      pass_fds=self.unpacking.fds, bufsize=0)
+                self.unpacking.start(child.kill)
+                try:
+                    for piece in frames.pieces(self.kinds, child.stdout, self.rows):
+                        if last is not None:
+                            yield last
+                        last = piece
+                except (ValueError, OverflowError):  # a line that is cut off, if the program says why
+                    while child.stdout.read(1 << 20):
+                        pass
+                    if child.wait() in (0, 1):
+                        raise
+                status = child.wait()
+            finally:
+                if child is not None:
+                    child.kill()
+                    child.stdout.close()
+                    child.wait()
+                self.unpacking.stop()
+            said.seek(0)
+            self._judge(status, said.read().decode(errors="replace"))
+        if last is not None:
+            yield last
+
+    def _judge(self, status, said):
+        """Raises what the run's end means, or keeps its summary."""
+        summary, others = read_summary(said, self.files)
+        if self.unpacking.errors and status in (0, 1, -signal.SIGKILL):
+            path, cause = self.unpacking.errors[0]
+            raise UnpackError(f"unpacking failed: file {self.files.index(path) + 1}\n  {path}: {cause}")
+        if status not in (0, 1):
+            for name, path in zip(self.unpacking.names, self.files):
+                if name.startswith("/dev/fd/"):
+                    others = re.sub(rf"(?m)^  {name}:", lambda _: f"  {path}:", others)
+            raise error_of(status, others)
+        self.summary, self.notes = summary, [line.strip() for line in others.split("\n") if line.strip()]
+        if status == 1:
+            self._tell_damage()
+
+    def _tell_damage(self):
+        counts = {}
+        for file in self.summary.files:
+            if file.faults:
+                counts[file.name] = counts.get(file.name, 0) + file.faults
+        words = "\n  ".join([f"damaged: {self.summary.damaged}", *(f"{name}: {n}" for name, n in counts.items()), *self.notes])
+        if self.damaged == "raise":
+            raise DamagedError(words, counts=counts)
+        if self.damaged == "warn":
+            warnings.warn(DamagedWarning(words, counts), stacklevel=_level())
+
+    def __iter__(self):
+        for piece in self._pieces():
+            yield frames.shaped(self.kinds, piece, self.files)
+
+    def frame(self):
+        """The whole report."""
+        return frames.shaped(self.kinds, frames.joined(list(self._pieces())), self.files)
+
+
+def _level():
+    """How far up the caller is that isn't of this package, for a warning."""
+    level, at = 1, sys._getframe(1)
+    while at.f_back and at.f_globals.get("__name__", "").startswith(__package__ + "."):
+        level, at = level + 1, at.f_back
+    return level
+
+
+def summary(files, **options):
+    """What the program says of the files it read (`--summary`), as a Summary, by a run of `churn`."""
+    replay = Replay("churn", files, damaged=options.pop("damaged", "ignore"), **options)
+    for _ in replay._pieces():
+        pass
+    return replay.summary
+
+
+def _report(name, doc, **defaults):
+    def run(files, **options):
+        return Replay(name, files, **(defaults | options)).frame()
+
+    run.__name__ = run.__qualname__ = name
+    run.__doc__ = doc
+    return run
+
+
+_ROUTE = """peer_asn uint32, peer_ip, prefix, path_id uint32 (0: none), as_path (empty, and missing, are two things),
+    next_hop, origin (IGP, EGP, INCOMPLETE), med and local_pref UInt32, atomic bool, aggr_asn UInt32, aggr_ip."""
+
+tables = _report("tables", f"Every route of every peer: {_ROUTE}")
+visibility = _report("visibility", "How many peers have each prefix: prefix, peers uint32.")
+seen = _report("seen", "How many peers have each prefix by origin AS: prefix, origin_asn UInt32 (none: NA), peers uint32.")
+origins = _report("origins", "The prefixes with two origin ASes or more: prefix, origin_asns, lists of numbers.")
+churn = _report("churn", """What each peer did: peer_asn uint32, peer_ip, the counts new, changed, same, gone, void,
+    resets, idle, refused as uint64, first and last as datetime64 in UTC.""")
+faults = _report("faults", """The damaged records and messages: file (its name), offset in bytes uint64, entry UInt32
+    (NA: a record or message), number uint8, fault.""", damaged="ignore")
+history = _report("history", f"What happened to chosen prefixes: timestamp, what, by, and {_ROUTE}")
+peers = _report("peers", """The peers: peer_asn uint32, peer_ip, state, routes and units uint64, first and last as
+    datetime64 in UTC, and the place of its first unit: file, offset uint64, entry UInt32.""")
+
+
+def match(files, address, **options):
+    """For each peer the routes of the longest prefix that contains the address, with the columns of `tables`."""
+    return Replay("match", files, address=address, **options).frame()

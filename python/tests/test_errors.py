@@ -1,0 +1,109 @@
+"""What goes wrong is an exception with the program's words, and nothing of the report is returned."""
+
+import pickle
+import warnings
+
+import pytest
+from conftest import frame_of, lines, text_of
+
+import bgp_replay
+from bgp_replay import run
+
+
+def test_a_missing_file(sample):
+    with pytest.raises(bgp_replay.OpenError, match=r"^open failed: file 2\n  nofile: No such file or directory$") as error:
+        bgp_replay.tables([sample[0], "nofile"])
+    assert isinstance(error.value, OSError) and error.value.status == 3
+
+
+def test_what_the_program_refuses(sample):
+    with pytest.raises(bgp_replay.UsageError, match="^bad address: 10.0.0$"):
+        bgp_replay.match(sample, "10.0.0")
+    with pytest.raises(ValueError, match="65"):
+        bgp_replay.tables(sample, workers=65)
+    for options in ({"share": (3, 2)}, {"peers": [(65003, "192.0.2")]}, {"prefixes": "192.0.2.1/24"}, {"until": -1}):
+        with pytest.raises(bgp_replay.UsageError) as error:
+            bgp_replay.tables(sample, **options)
+        assert error.value.status == 2 and error.value.words
+    with pytest.raises(bgp_replay.UsageError):
+        bgp_replay.tables([])
+
+
+def test_damage(sample):
+    with pytest.warns(bgp_replay.DamagedWarning, match=r"^damaged: 1\n  .*updates.mrt: 1$") as warned:
+        frame = bgp_replay.visibility(sample)
+    assert warned[0].filename == __file__ and warned[0].message.counts == {sample[1]: 1}
+    assert lines(frame) == text_of("visibility", sample)
+    with pytest.raises(bgp_replay.DamagedError, match="damaged: 1") as error:
+        bgp_replay.visibility(sample, damaged="raise")
+    assert error.value.counts == {sample[1]: 1}
+    with warnings.catch_warnings():
+        warnings.simplefilter("error")
+        bgp_replay.visibility(sample, damaged="ignore")
+        bgp_replay.visibility(sample[0])
+    with pytest.raises(ValueError, match="'warn', 'raise' and 'ignore'"):
+        bgp_replay.visibility(sample, damaged="no")
+
+
+@pytest.mark.parametrize("size, status", [(30, 1), (5000, 1)])
+def test_a_truncated_file(size, status, sample, tmp_path):
+    """What stands before the end is replayed, with a warning."""
+    with open(sample[0], "rb") as file:
+        (tmp_path / "cut").write_bytes(file.read(size))
+    with pytest.warns(bgp_replay.DamagedWarning, match="^damaged: 1\n  .*cut: 1$"):
+        frame = bgp_replay.tables(tmp_path / "cut")
+    assert lines(frame) == text_of("tables", [tmp_path / "cut"])
+    assert bgp_replay.faults(tmp_path / "cut")["fault"].tolist() == ["ShortBody"]
+
+
+HEAD = "printf 'prefix|peers\\n10.0.0.0/8|1\\n10.0.0.0/9|"
+
+
+@pytest.mark.parametrize("end, words, status", [
+    ("'; echo 'no memory' >&2; exit 3", "no memory", 3),
+    ("1\\n'; echo 'read failed: file 1' >&2; exit 3", "read failed: file 1", 3),
+    ("1\\n'; kill -9 $$", "bgp_replay was ended by signal 9", -9),
+    ("1\\n10.'; exit 3", "bgp_replay ended with status 3", 3),
+])
+def test_a_program_that_fails_while_it_writes(end, words, status, stand_in, sample):
+    stand_in(HEAD + end)
+    for rows in (1, 100):
+        with pytest.raises(bgp_replay.ReplayError) as error:
+            bgp_replay.Replay("visibility", sample, rows=rows).frame()
+        assert (str(error.value), error.value.status) == (words, status)
+    parts = []
+    with pytest.raises(bgp_replay.ReplayError):
+        parts += bgp_replay.Replay("visibility", sample)
+    assert parts == []
+
+
+def test_a_text_that_is_no_report(stand_in, sample):
+    stand_in(HEAD + "many\\n'")
+    with pytest.raises(ValueError):
+        bgp_replay.visibility(sample)
+
+
+def test_no_program(monkeypatch, sample):
+    monkeypatch.delenv("BGP_REPLAY", raising=False)
+    monkeypatch.setenv("PATH", "/nowhere")
+    with pytest.raises(FileNotFoundError, match="isn't on the PATH"):
+        bgp_replay.tables(sample)
+
+
+@pytest.mark.parametrize("error", [
+    bgp_replay.ReplayError("a", 3, "rrc00"), bgp_replay.OpenError("b\n  c", 3), bgp_replay.UsageError("d", 2),
+    bgp_replay.UnpackError("e"), bgp_replay.DamagedError("f", counts={"x": 2}), bgp_replay.GapError([1], ["g"]),
+    bgp_replay.DamagedWarning("h", {"y": 3}),
+], ids=lambda error: type(error).__name__)
+def test_errors_can_be_pickled(error):
+    error.collector = "rrc01"
+    again = pickle.loads(pickle.dumps(error))
+    assert type(again) is type(error) and str(again) == str(error)
+    for name in ("words", "status", "counts", "moments", "names"):
+        assert getattr(again, name, None) == getattr(error, name, None)
+    assert str(again).startswith("rrc01: ") == isinstance(error, bgp_replay.ReplayError)
+
+
+def test_what_the_program_has():
+    assert bgp_replay.has("tables") and bgp_replay.has("tables", "until") and not bgp_replay.has("tables", "unti")
+    assert not bgp_replay.has("nothing") and not bgp_replay.has("nothing", "until") and not run.reads("xz")

@@ -1,0 +1,215 @@
+"""Frames hold what the program prints, with real types; rows worked out by hand from examples/README.md."""
+
+import os
+import subprocess
+import sys
+from datetime import date, datetime, timedelta, timezone
+
+import pandas
+import pytest
+from conftest import ADDRESS, FIRST, PYTHON, frame_of, lines, said, text_of
+
+import bgp_replay
+
+REPORTS = ["tables", "visibility", "seen", "origins", "churn", "match", "faults"]
+COMING = ["history", "peers"]
+UTC = timezone.utc
+
+
+def skip_without(report, option=None):
+    if not bgp_replay.has(report, *([option] if option else [])):
+        pytest.skip(f"the program has no {option or report} yet")
+
+
+@pytest.mark.parametrize("report", REPORTS + COMING)
+def test_a_frame_is_the_text(report, drawn, sample):
+    skip_without(report)
+    for files in (*drawn.values(), sum(drawn.values(), []), sample, sample[1:]):
+        assert lines(frame_of(report, files), files) == text_of(report, files)
+
+
+@pytest.mark.parametrize("report", REPORTS)
+def test_options_are_the_programs(report, drawn):
+    files, peer = drawn["rrc00"], next(bgp_replay.churn(drawn["rrc00"]).itertuples())
+    moment = datetime.fromtimestamp(FIRST, UTC)
+    prefixes = ["0.0.0.0/1+", f"{ADDRESS}-"]
+    for options, words in [
+        ({"until": moment}, [f"--until={FIRST}"]),
+        ({"peers": [(peer.peer_asn, peer.peer_ip), 64513]}, [f"--peer={peer.peer_asn},{peer.peer_ip}", "--peer=64513"]),
+        ({"share": (2, 3), "workers": 2, "ring": 64}, ["--peers=2/3"]),
+        ({"prefixes": prefixes}, [f"--prefix={prefix}" for prefix in prefixes]),
+    ]:
+        if "prefixes" in options and not bgp_replay.has(report, "prefix"):
+            with pytest.raises(bgp_replay.UsageError, match="--prefix"):
+                frame_of(report, files, **options)
+            continue
+        expected = text_of(report, files, *words)
+        assert expected != text_of(report, files) or report == "faults"
+        assert lines(frame_of(report, files, **options), files) == expected
+
+
+def test_since(drawn):
+    skip_without("churn", "since")
+    since = datetime.fromtimestamp(FIRST, UTC) + timedelta(seconds=1)
+    assert lines(frame_of("churn", drawn["rrc00"], since=since)) == text_of("churn", drawn["rrc00"], f"--since={FIRST + 1}")
+
+
+def test_a_moment_in_all_its_forms(sample):
+    moment = datetime(2026, 11, 22, 7, 5)
+    forms = [moment, moment.replace(tzinfo=UTC), pandas.Timestamp(moment), pandas.Timestamp(moment, tz="Asia/Tokyo").tz_localize(None),
+             moment.replace(tzinfo=timezone(timedelta(hours=2))) + timedelta(hours=2), 1795331100, "2026-11-22T07:05:00Z",
+             moment + timedelta(microseconds=900_000)]
+    for form in forms:  # the announcement of 07:05:00 counts, the withdrawal of 07:06:00 doesn't
+        assert frame_of("churn", sample, until=form)[["changed", "gone"]].sum().tolist() == [1, 0]
+    assert len(frame_of("tables", sample, until=date(2026, 11, 22))) == 0
+    assert len(frame_of("tables", sample, until=0)) == 0
+
+
+def test_rows_by_hand(sample):
+    """examples/README.md: what the seven records after the RIB dump say."""
+    churn = frame_of("churn", sample).set_index(["peer_asn", "peer_ip"])
+    counts = churn[["changed", "gone", "resets", "idle", "refused"]].astype(int)
+    assert counts.loc[(200104, "192.0.2.104")].tolist() == [1, 0, 0, 0, 0]
+    assert counts.loc[(65101, "192.0.2.105")].tolist() == [0, 1, 0, 0, 0]
+    assert counts.loc[(64502, "192.0.2.102")].tolist() == [0, 0, 0, 0, 1]
+    assert counts.loc[(65107, "192.0.2.5")].tolist() == [0, 0, 1, 1, 0]
+    assert churn["first"].unique().tolist() == [pandas.Timestamp("2026-11-22 07:01:16", tz="UTC")]
+    assert churn["last"][65003, "192.0.2.3"] == pandas.Timestamp("2026-11-22 07:07:00.25", tz="UTC")
+    faults = frame_of("faults", sample)
+    assert faults.astype(object).where(faults.notna(), None).values.tolist() == [[sample[1], 288, None, 14, "BadAttribute(1)"]]
+    seen = frame_of("visibility", sample).set_index("prefix")["peers"]
+    assert seen["203.0.113.0/24"] == 1 and "192.0.2.0/24" not in seen.index
+    found = bgp_replay.match(sample, "203.0.113.9", peers=[(65003, "192.0.2.3")], damaged="ignore").iloc[0]
+    assert found.drop(["med", "local_pref", "aggr_asn", "aggr_ip"]).tolist() == [
+        65003, "192.0.2.3", "203.0.113.0/24", 0, "65003 64496", "192.0.2.3", "IGP", False]
+    assert found[["med", "local_pref", "aggr_asn", "aggr_ip"]].isna().all()
+
+
+def message(octet, attributes):
+    """An UPDATE of AS 65000, 10.0.0.1, in a BGP4MP record: it announces octet.0.0.0/8."""
+    body = b"\0\0" + len(attributes).to_bytes(2, "big") + attributes + bytes([8, octet])
+    body = b"\0\0\xfd\xe8\0\0\xfb\xf0\0\0\0\x01\x0a\0\0\x01\xc0\0\2\1" + b"\xff" * 16 + bytes([0, 19 + len(body), 2]) + body
+    return b"\0\0\0\1\0\x10\0\4" + len(body).to_bytes(4, "big") + body
+
+
+def test_an_absent_path_is_not_an_empty_one(tmp_path):
+    (tmp_path / "a").write_bytes(message(1, b"\x40\x02\x00") + message(2, b"") + message(3, b"\x80\x04\x04\xff\xff\xff\xff"))
+    frame = bgp_replay.tables(tmp_path / "a")
+    assert frame["as_path"][0] == "" and frame["as_path"].isna().tolist() == [False, True, True]
+    assert frame["med"].isna().tolist() == [True, True, False] and frame["med"][2] == 2**32 - 1
+    assert frame["prefix"].tolist() == ["1.0.0.0/8", "2.0.0.0/8", "3.0.0.0/8"] and set(frame["peer_asn"]) == {65000}
+    seen = bgp_replay.seen(tmp_path / "a")
+    assert seen["origin_asn"].isna().all() and seen["peers"].tolist() == [1, 1, 1]
+
+
+def test_types(drawn):
+    types = {name: str(dtype) for name, dtype in frame_of("tables", drawn["rrc00"]).dtypes.items()}
+    assert types == {
+        "peer_asn": "uint32", "peer_ip": "category", "prefix": "category", "path_id": "uint32", "as_path": "category",
+        "next_hop": "category", "origin": "category", "med": "UInt32", "local_pref": "UInt32", "atomic": "bool",
+        "aggr_asn": "UInt32", "aggr_ip": "category"}
+    for report in REPORTS:
+        full, empty = frame_of(report, drawn["rrc01"]), frame_of(report, os.devnull)
+        assert len(full) and not len(empty), report
+        assert [str(dtype) for dtype in full.dtypes] == [str(dtype) for dtype in empty.dtypes], report
+    assert str(frame_of("churn", drawn["rrc00"])["first"].dtype) == "datetime64[ns, UTC]"
+    assert {"origin_asn": "UInt32", "peers": "uint32"}.items() <= dict(frame_of("seen", os.devnull).dtypes.astype(str)).items()
+
+
+def test_pieces_are_the_whole(drawn):
+    whole = frame_of("tables", drawn["rrc00"])
+    run = bgp_replay.Replay("tables", drawn["rrc00"], rows=100)
+    parts = list(run)
+    assert [len(part) for part in parts] == [100] * (len(whole) // 100) + [len(whole) % 100] * (len(whole) % 100 > 0)
+    assert "".join(map(lines, parts)) == lines(whole) == lines(bgp_replay.Replay("tables", drawn["rrc00"], rows=100).frame())
+    assert run.summary.routes == len(whole)
+
+
+MANY = """[ "$1" != churn ] || exec "$REAL" "$@"
+echo 'peer|prefix|as_path|next_hop|origin|med|local_pref|atomic|aggregator'
+exec awk 'BEGIN { for (i = 0; i < 600000; i++) printf "6500%d 192.0.2.%d|10.%d.%d.0/24|65000 %d 64500|192.0.2.1|IGP|-|-|-|-\\n", i % 9, i % 9, i / 256 % 256, i % 256, i % 999 }'
+"""
+
+
+def test_leaving_early_ends_the_program(stand_in, sample):
+    stand_in(MANY)
+    replay = bgp_replay.Replay("tables", sample, rows=10)
+    run = iter(replay)
+    next(run)
+    run.close()
+    assert replay.child.poll() is not None and replay.summary is None
+
+
+def test_memory_is_bounded(stand_in, sample):
+    """Of 38 MB of text, 600,000 lines, pieces of 20,000 lines take some MB."""
+    stand_in(MANY)
+    script = """if True:
+        import resource, sys, bgp_replay
+        most = lambda: resource.getrusage(resource.RUSAGE_SELF).ru_maxrss
+        rows = 0
+        for number, part in enumerate(bgp_replay.Replay("tables", sys.argv[1], rows=20_000)):
+            rows += len(part)
+            if number == 3: before = most()
+        print(rows, most() - before)
+    """
+    run = subprocess.run([sys.executable, "-c", script, sample[0]], capture_output=True, text=True, check=True,
+                         env=os.environ | {"PYTHONPATH": str(PYTHON)})
+    rows, kib = map(int, run.stdout.split())
+    assert rows == 600_000 and kib < 20_000
+
+
+@pytest.mark.parametrize("name", ["--header", "-", "a b", "a\nfile 1 damaged: 7", "a|b", "'\"\\", "ü", "a: b", " "])
+def test_names(name, tmp_path, monkeypatch, sample):
+    monkeypatch.chdir(tmp_path)
+    with open(name, "wb") as file, open(sample[1], "rb") as updates:
+        file.write(updates.read())
+    with pytest.warns(bgp_replay.DamagedWarning) as warned:
+        assert len(bgp_replay.tables(name)) == 2
+    assert warned[0].message.counts == {name: 1}
+    assert bgp_replay.faults([sample[0], name])["file"].tolist() == [name]
+    assert [file.name for file in bgp_replay.summary([name, sample[1]]).files] == [name, sample[1]]
+
+
+def test_a_file_that_is_given_again(sample):
+    assert bgp_replay.faults([sample[1]] * 2)["file"].tolist() == [sample[1], f"{sample[1]} (2)"]
+
+
+def test_summary(sample):
+    """Sizes and times are those of examples/README.md."""
+    found = bgp_replay.summary(sample)
+    assert (found.damaged, found.bytes, found.records, found.peers) == (1, 5551 + 491, 19 + 7, 9)
+    second = found.files[1]
+    assert (second.bytes, second.records, second.aside, second.damaged, second.refused) == (491, 7, 1, 1, 0)
+    assert second.aside_kinds == {"BGP4MP BGP4MP_MESSAGE_AS4_LOCAL": 1}
+    frame = found.frame()
+    assert frame["last"][1] == pandas.Timestamp("2026-11-22 07:13:00", tz="UTC") and frame["units"].sum() == found.units
+    assert bgp_replay.summary(os.devnull).frame()["first"].isna().all()
+
+
+def test_reports_to_come(sample):
+    """What the program has no report for is refused in its own words."""
+    for report in COMING:
+        if bgp_replay.has(report):
+            assert len(frame_of(report, sample))
+        else:
+            with pytest.raises(bgp_replay.UsageError, match=f"unrecognized subcommand '{report}'"):
+                frame_of(report, sample)
+    if not bgp_replay.has("tables", "family"):
+        with pytest.raises(bgp_replay.UsageError, match="--family"):
+            frame_of("tables", sample, family="ipv6")
+    with pytest.raises(TypeError, match="no option 'untill'"):
+        bgp_replay.tables(sample, untill=1)
+
+
+def test_history_by_hand(sample):
+    skip_without("history")
+    rows = frame_of("history", sample, prefixes="203.0.113.0/24")
+    assert rows[["peer_asn", "what", "by", "as_path"]].values.tolist() == [[65003, "new", "update", "65003 64496"]]
+    assert rows["timestamp"].tolist() == [pandas.Timestamp("2026-11-22 07:07:00.25", tz="UTC")]
+
+
+def test_peers_by_hand(sample):
+    skip_without("peers")
+    rows = frame_of("peers", sample).set_index("peer_asn")
+    assert rows.loc[65107, ["state", "routes"]].tolist() == ["down", 0]
+    assert rows.loc[65003, ["state", "routes"]].tolist() == ["up", 6]
