@@ -19,9 +19,9 @@ sys.path[:0] = [str(PYTHON), str(PYTHON / "tests")]
 
 import bgp_replay
 
-ADDRESS = "198.51.100.1"
+ADDRESS = "174.56.0.1"  # the drawn dumps have 174.56.0.0/16
 FIRST = 1717200000  # the second of the drawn RIB dumps
-PACK = {"gz": gzip.compress, "bz2": bz2.compress, "xz": lzma.compress,
+PACK = {"gz": gzip.compress, "bz2": bz2.compress, "xz": lambda text: lzma.compress(text, preset=0),
         "zst": lambda text: subprocess.run(["zstd", "-q"], input=text, capture_output=True, check=True).stdout}
 
 
@@ -129,7 +129,7 @@ def drawn(gen_mrt, tmp_path_factory):
     """Three collectors with peers of their own: name -> [RIB dump, updates]. Of the second one's two messages are damaged."""
     folder, found = tmp_path_factory.mktemp("drawn"), {}
     for number in range(3):
-        rib, updates = gen_mrt("rib", 40, 9, 7), gen_mrt("updates", 1100, 40, 9, 7 + number)
+        rib, updates = gen_mrt("rib", 120, 9, 7), gen_mrt("updates", 5000, 120, 9, 7 + number)
         updates = of_collector(updates, number)
         files = found[f"rrc{number:02}"] = [folder / f"{number}.rib.mrt", folder / f"{number}.updates.mrt"]
         files[0].write_bytes(of_collector(rib, number))

@@ -9,7 +9,7 @@ import time
 
 import pandas
 import pytest
-from conftest import ADDRESS, frame_of, lines, text_of
+from conftest import ADDRESS, PYTHON, frame_of, lines, text_of
 
 import bgp_replay
 from bgp_replay.collectors import Collectors, by_place
@@ -40,7 +40,7 @@ def check(report, files, **options):
 @pytest.fixture(scope="module")
 def cluster():
     """Two processes, started by distributed."""
-    options = dict(n_workers=2, threads_per_worker=1, processes=True, dashboard_address=None)
+    options = dict(n_workers=2, threads_per_worker=1, processes=True, dashboard_address="127.0.0.1:0")
     with distributed.LocalCluster(**options) as local, distributed.Client(local) as client:
         yield client
 
@@ -54,13 +54,13 @@ def machines(tmp_path_factory):
     def start(module, *words):
         command = [sys.executable, "-m", f"distributed.cli.{module}", "--scheduler-file", str(contact), *words]
         with open(folder / "log", "ab") as log:
-            return subprocess.Popen(command, stdout=log, stderr=log, cwd=folder)
+            return subprocess.Popen(command, stdout=log, stderr=log, cwd=folder, env=os.environ | {"PYTHONPATH": str(PYTHON)})
 
     started = [start("dask_scheduler", "--host", "127.0.0.1", "--port", "0", "--no-dashboard")]
     while not contact.exists():
         assert started[0].poll() is None, (folder / "log").read_text()
         time.sleep(0.05)
-    started += [start("dask_worker", "--nthreads", "1", "--no-dashboard", "--local-directory", str(folder)) for _ in range(2)]
+    started += [start("dask_worker", "--nthreads", "1", "--no-dashboard", "--no-nanny", "--local-directory", str(folder)) for _ in range(2)]
     try:
         with distributed.Client(scheduler_file=str(contact), timeout=30) as client:
             client.wait_for_workers(2)
@@ -68,7 +68,8 @@ def machines(tmp_path_factory):
     finally:
         for process in reversed(started):
             process.terminate()
-            process.wait()
+        for process in reversed(started):
+            process.wait(20)
 
 
 @pytest.mark.parametrize("report", REPORTS)
@@ -189,7 +190,7 @@ def test_a_worker_that_dies(drawn, tmp_path, stand_in):
     flag = tmp_path / "begun"
     stand_in(f'case "$*" in *2.rib*) [ -e {flag} ] || {{ echo $PPID $$ > {flag}.tmp; mv {flag}.tmp {flag}; exec sleep 60; }};; esac\n'
              'exec "$REAL" "$@"')
-    options = dict(n_workers=2, threads_per_worker=1, processes=True, dashboard_address=None)
+    options = dict(n_workers=2, threads_per_worker=1, processes=True, dashboard_address="127.0.0.1:0")
     with distributed.LocalCluster(**options) as local, distributed.Client(local) as client:
 
         def kill():

@@ -7,7 +7,7 @@ from datetime import date, datetime, timedelta, timezone
 
 import pandas
 import pytest
-from conftest import ADDRESS, FIRST, PYTHON, frame_of, lines, said, text_of
+from conftest import FIRST, PYTHON, frame_of, lines, said, text_of
 
 import bgp_replay
 
@@ -32,7 +32,7 @@ def test_a_frame_is_the_text(report, drawn, sample):
 def test_options_are_the_programs(report, drawn):
     files, peer = drawn["rrc00"], next(bgp_replay.churn(drawn["rrc00"]).itertuples())
     moment = datetime.fromtimestamp(FIRST, UTC)
-    prefixes = ["0.0.0.0/1+", f"{ADDRESS}-"]
+    prefixes = ["0.0.0.0/1+", "193.0.0.0/8-"]
     for options, words in [
         ({"until": moment}, [f"--until={FIRST}"]),
         ({"peers": [(peer.peer_asn, peer.peer_ip), 64513]}, [f"--peer={peer.peer_asn},{peer.peer_ip}", "--peer=64513"]),
@@ -127,7 +127,7 @@ def test_pieces_are_the_whole(drawn):
 
 MANY = """[ "$1" != churn ] || exec "$REAL" "$@"
 echo 'peer|prefix|as_path|next_hop|origin|med|local_pref|atomic|aggregator'
-exec awk 'BEGIN { for (i = 0; i < 600000; i++) printf "6500%d 192.0.2.%d|10.%d.%d.0/24|65000 %d 64500|192.0.2.1|IGP|-|-|-|-\\n", i % 9, i % 9, i / 256 % 256, i % 256, i % 999 }'
+exec awk 'BEGIN { for (i = 0; i < 240000; i++) printf "6500%d 192.0.2.%d|10.%d.%d.0/24|65000 %d 64500|192.0.2.1|IGP|-|-|-|-\\n", i % 9, i % 9, i / 256 % 256, i % 256, i % 999 }'
 """
 
 
@@ -141,13 +141,13 @@ def test_leaving_early_ends_the_program(stand_in, sample):
 
 
 def test_memory_is_bounded(stand_in, sample):
-    """Of 38 MB of text, 600,000 lines, pieces of 20,000 lines take some MB."""
+    """Of 15 MB of text, 240,000 lines, pieces of 10,000 lines take some MB."""
     stand_in(MANY)
     script = """if True:
         import resource, sys, bgp_replay
         most = lambda: resource.getrusage(resource.RUSAGE_SELF).ru_maxrss
         rows = 0
-        for number, part in enumerate(bgp_replay.Replay("tables", sys.argv[1], rows=20_000)):
+        for number, part in enumerate(bgp_replay.Replay("tables", sys.argv[1], rows=10_000)):
             rows += len(part)
             if number == 3: before = most()
         print(rows, most() - before)
@@ -155,7 +155,7 @@ def test_memory_is_bounded(stand_in, sample):
     run = subprocess.run([sys.executable, "-c", script, sample[0]], capture_output=True, text=True, check=True,
                          env=os.environ | {"PYTHONPATH": str(PYTHON)})
     rows, kib = map(int, run.stdout.split())
-    assert rows == 600_000 and kib < 20_000
+    assert rows == 240_000 and kib < 6_000
 
 
 @pytest.mark.parametrize("name", ["--header", "-", "a b", "a\nfile 1 damaged: 7", "a|b", "'\"\\", "ü", "a: b", " "])
