@@ -31,10 +31,11 @@ help:
 	@echo 'make              builds bin/bgp_replay (a first build proves every crate below: fifteen to thirty minutes on 4 cores)'
 	@echo 'make quick        builds bin/quick/bgp_replay in two minutes, with no proof: slower, and never installed or packed'
 	@echo 'make run          replays the sample by `tables`'
-	@echo 'make check        the gate: every proof, must-fail edit, test and run from nothing, make scripts and make quick-check'
+	@echo 'make check        the gate: every proof, must-fail edit, test and run from nothing, make scripts, make quick-check and make python-check'
 	@echo 'make verdict      each crate from nothing, with its tests'
 	@echo 'make scripts      tries lines and statuses, the packages, recipes, shares of the peers, and what the build records and refuses'
 	@echo 'make quick-check  builds that program, and tries it'
+	@echo 'make python-check tries the Python package, with pandas and Dask (Debian packages that it installs as root)'
 	@echo 'make refusals     fails each allocation, read, write and thread start in turn'
 	@echo 'make growths      fails each allocation of the test programs that state what is left then'
 	@echo 'make same         every number of workers and ring gives the same bytes'
@@ -47,6 +48,7 @@ help:
 	@echo 'make uninstall    removes these'
 	@echo 'make dist         a tarball of them in dist/, and its sum in dist/SHA256SUMS'
 	@echo 'make deb          a Debian package of them in dist/, and its sum in dist/SHA256SUMS'
+	@echo 'make python-deb   a Debian package of the Python package in dist/, which needs that of the program'
 	@echo 'make clean        removes what was built'
 
 run: $(PROGRAM)
@@ -57,6 +59,7 @@ check:
 	rt ci
 	$(MAKE) --no-print-directory scripts BINARY='$(BUILT)'
 	$(MAKE) --no-print-directory quick-check
+	$(MAKE) --no-print-directory python-check BINARY='$(BUILT)'
 
 verdict:
 	rt all verdict
@@ -90,6 +93,10 @@ dist: proved
 deb: proved
 	tools/pack.sh deb '$(BINARY)' '$(DIST)'
 
+# The Python package is for the program of the same version.
+python-deb: $(BINARY)
+	tools/pack.sh python-deb '$(BINARY)' '$(DIST)'
+
 # Lines and statuses, packages, recipes, what the build records and refuses, and pages that are made: quick.
 scripts: $(BINARY)
 	tests/program.sh '$(BINARY)'
@@ -104,6 +111,10 @@ scripts: $(BINARY)
 quick-check: $(QUICK)
 	tests/quick.sh $(QUICK)
 	tests/recipes.sh $(QUICK)
+
+# The Python package, on pandas and Dask, and the examples of its page.
+python-check: $(BINARY)
+	tests/python.sh '$(BINARY)'
 
 # Each allocation, read, write and thread start of whole runs fails in turn, on the program as it is built.
 refusals: $(BINARY)
@@ -138,5 +149,5 @@ bench: $(PROGRAM)
 clean:
 	rm -rf bin dist bench/out crates/*/out
 
-.PHONY: all help quick run check verdict quick-check edits install uninstall dist deb scripts refusals growths maps same fuzz hostile bench clean
+.PHONY: all help quick run check verdict quick-check python-check edits install uninstall dist deb python-deb scripts refusals growths maps same fuzz hostile bench clean
 .PHONY: proved

@@ -148,6 +148,23 @@ if has dpkg-deb; then
   first_change=$(sed -n '/^## /,$ { s/^- //p }' CHANGELOG.md | head -n 1)
   check 'its changelog has the first change' grep -qF "  * ${first_change:0:40}" "$work/changelog"
   if has lintian; then check 'lintian finds no error' lintian --fail-on error "$work/deb/$package"; fi
+
+  # that of the Python package, which is unpacked over the program's
+  check 'make python-deb' made python-deb DIST="$work/python"
+  package=python3-bgp-replay_${version}_all.deb; site=$work/unpacked/usr/lib/python3/dist-packages
+  check 'python-deb: its sum stands beside it' summed "$work/python"
+  check 'make python-deb once more' later python-deb DIST="$work/python-again"
+  check 'make python-deb: the same bytes' cmp "$work/python/$package" "$work/python-again/$package"
+  check 'python-deb needs the program of this version' grep -qF "bgp-replay (= $version)" <(dpkg-deb -f "$work/python/$package" Depends)
+  check 'dpkg-deb opens the Python package' dpkg-deb -x "$work/python/$package" "$work/unpacked"
+  for file in python/bgp_replay/*.py; do check "$file is packed" cmp "$file" "$site/bgp_replay/${file##*/}"; done
+  check 'the Python package is of this version' grep -qx "Version: $version" "$site/bgp_replay-$version.dist-info/METADATA"
+  check 'its page is compressed' cmp <(gzip -dc "$work/unpacked/usr/share/doc/python3-bgp-replay/PYTHON.md.gz") docs/PYTHON.md
+  if has /usr/bin/python3 && /usr/bin/python3 -c 'import pandas' > "$work/log" 2>&1; then
+    check 'it is imported, and finds the program' env -C "$work" PATH="$work/unpacked/usr/bin:$PATH" PYTHONPATH="$site" PYTHONDONTWRITEBYTECODE=1 \
+      /usr/bin/python3 -c "import sys, bgp_replay; assert bgp_replay.__file__.startswith('$site') and len(bgp_replay.tables(sys.argv[1]))" "$top/examples/sample.mrt"
+  else echo "not tried: pandas isn't installed"; fi
+  if has lintian; then check 'lintian finds no error in it' lintian --fail-on error "$work/python/$package"; fi
 fi
 
 echo "$passed passed, $failed failed"

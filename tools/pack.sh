@@ -2,6 +2,8 @@
 # Packs the program, its manual page, completions and documents, as `make install` lays them out: the same bytes from
 # the same files. The program is stripped of symbols where `strip` is installed.
 #   tools/pack.sh tarball|deb PROGRAM DIRECTORY
+# Or the Python package of python/, which needs the program's Debian package of the same version:
+#   tools/pack.sh python-deb PROGRAM DIRECTORY
 # All is dated by SOURCE_DATE_EPOCH, or else by the commit, or else by the manual page. DIRECTORY/SHA256SUMS gets the
 # sum of each package in DIRECTORY. Needs make, tar and gzip, and for `deb` python3 and dpkg-deb. The last line is the
 # package's name. A program whose `--version` says `(not proved)` isn't packed: status 2.
@@ -55,24 +57,36 @@ blocks() {
     awk '$1 == "f" { count += int(($2 + 1023) / 1024) } $1 != "f" { count++ } END { print count }'
 }
 
+maintainer='Ravmekos maintainers <maintainers@users.noreply.ravmekos.example>'
+copyright() {
+  printf 'Format: https://www.debian.org/doc/packaging-manuals/copyright-format/1.0/\n\n'
+  printf 'Files: *\nCopyright: 2026 the Ravmekos authors\nLicense: Expat\n'
+  sed -n '/^Permission/,$ { s/^$/./; s/^/ /; p }' LICENSE
+}
+
+# Builds the package NAME of what is staged below $work/root, with the sums of its files.
+build_deb() { # NAME
+  (cd "$work/root" && find usr -type f -printf '%p\0' | sort -z | xargs -0 md5sum > DEBIAN/md5sums)
+  date_all "$work/root"
+  dpkg-deb --root-owner-group --build "$work/root" "$work/packed" > "$work/none"
+  mkdir -p "$to"; mv "$work/packed" "$to/$1"; sum_all
+  echo "$to/$1"
+}
+
 pack_deb() {
-  local root=$work/root documents=$work/root/usr/share/doc/bgp-replay maintainer architecture
+  local root=$work/root documents=$work/root/usr/share/doc/bgp-replay architecture
   architecture=$(dpkg --print-architecture)
-  maintainer='Ravmekos maintainers <maintainers@users.noreply.ravmekos.example>'
   stage "$root" /usr
   mv "$root/usr/share/doc/bgp_replay" "$documents"
   mkdir "$root/usr/share/zsh/vendor-completions"
   mv "$root/usr/share/zsh/site-functions/_bgp_replay" "$root/usr/share/zsh/vendor-completions/_bgp_replay"
   rmdir "$root/usr/share/zsh/site-functions"
-  { printf 'Format: https://www.debian.org/doc/packaging-manuals/copyright-format/1.0/\n\n'
-    printf 'Files: *\nCopyright: 2026 the Ravmekos authors\nLicense: Expat\n'
-    sed -n '/^Permission/,$ { s/^$/./; s/^/ /; p }' LICENSE; } > "$documents/copyright"
+  copyright > "$documents/copyright"
   rm "$documents/LICENSE"
   tools/debian_changelog.py CHANGELOG.md bgp-replay "$maintainer" "$SOURCE_DATE_EPOCH" > "$documents/changelog"
   gzip -9n "$documents/changelog" "$documents/CHANGELOG.md"
   local size; size=$(blocks "$root")
   mkdir "$root/DEBIAN"
-  (cd "$root" && find usr -type f -printf '%p\0' | sort -z | xargs -0 md5sum > DEBIAN/md5sums)
   cat > "$root/DEBIAN/control" <<END
 Package: bgp-replay
 Version: $version
@@ -87,14 +101,49 @@ Description: replay of MRT dumps of BGP route collectors
  into one routing table for each peer, and prints the tables, the prefixes'
  visibility and origins, churn, longest matches or the damaged records.
 END
-  date_all "$root"
-  dpkg-deb --root-owner-group --build "$root" "$work/packed" > "$work/none"
-  mkdir -p "$to"; mv "$work/packed" "$to/bgp-replay_${version}_$architecture.deb"; sum_all
-  echo "$to/bgp-replay_${version}_$architecture.deb"
+  build_deb "bgp-replay_${version}_$architecture.deb"
+}
+
+pack_python_deb() {
+  local root=$work/root name=python3-bgp-replay size site documents
+  site=$root/usr/lib/python3/dist-packages documents=$root/usr/share/doc/$name
+  grep -qx "__version__ = \"$version\"" python/bgp_replay/__init__.py ||
+    { echo "tools/pack.sh: python/bgp_replay isn't of version $version, which $program is of" >&2; exit 2; }
+  install -d "$site/bgp_replay" "$site/bgp_replay-$version.dist-info" "$documents" "$root/DEBIAN"
+  install -m 644 python/bgp_replay/*.py "$site/bgp_replay"
+  printf 'Metadata-Version: 2.1\nName: bgp-replay\nVersion: %s\nRequires-Dist: numpy\nRequires-Dist: pandas\n' "$version" \
+    > "$site/bgp_replay-$version.dist-info/METADATA"
+  echo dpkg > "$site/bgp_replay-$version.dist-info/INSTALLER"
+  install -m 644 docs/PYTHON.md "$documents"
+  copyright > "$documents/copyright"
+  tools/debian_changelog.py CHANGELOG.md $name "$maintainer" "$SOURCE_DATE_EPOCH" > "$documents/changelog"
+  gzip -9n "$documents/changelog" "$documents/PYTHON.md"
+  size=$(blocks "$root/usr")
+  cat > "$root/DEBIAN/control" <<END
+Package: $name
+Version: $version
+Architecture: all
+Maintainer: $maintainer
+Installed-Size: $size
+Depends: python3 (>= 3.10), python3-numpy, python3-pandas, bgp-replay (= $version)
+Recommends: python3-dask, python3-distributed, python3-matplotlib
+Suggests: zstd
+Section: python
+Priority: optional
+Description: replay of MRT dumps of BGP route collectors (Python 3)
+ The reports of bgp_replay as pandas frames: tables, visibility, origins,
+ churn, longest matches and damaged records, of plain or compressed dumps, of
+ one collector or, on Dask, of many.
+END
+  printf '#!/bin/sh\nset -e\nif [ "$1" = configure ] && command -v py3compile > /dev/null; then py3compile -p %s; fi\n' $name > "$root/DEBIAN/postinst"
+  printf '#!/bin/sh\nset -e\nif command -v py3clean > /dev/null; then py3clean -p %s; fi\n' $name > "$root/DEBIAN/prerm"
+  chmod 755 "$root/DEBIAN/postinst" "$root/DEBIAN/prerm"
+  build_deb "${name}_${version}_all.deb"
 }
 
 case $kind in
   tarball) pack_tarball ;;
   deb) pack_deb ;;
-  *) echo 'usage: tools/pack.sh tarball|deb PROGRAM DIRECTORY' >&2; exit 2 ;;
+  python-deb) pack_python_deb ;;
+  *) echo 'usage: tools/pack.sh tarball|deb|python-deb PROGRAM DIRECTORY' >&2; exit 2 ;;
 esac

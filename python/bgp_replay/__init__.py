@@ -7,8 +7,8 @@
 `tables`, `visibility`, `seen`, `origins`, `churn`, `match`, `faults`, `history` and `peers` are the program's reports,
 `Replay` one of them in pieces, `summary` its counts. Files are one name or several, plain or packed (gzip, bzip2, xz,
 zstd). Options: until and since (a datetime, UTC without a zone; a date; seconds since 1970 UTC; the program's text),
-prefixes (one or several, as `192.0.2.0/24+`), peers (a list of AS or (AS, address)), share (I, N), workers, and those of
-`reports.OPTIONS`. `bgp_replay.collectors` has reports of many collectors, `bgp_replay.plots` pictures.
+prefixes (one or several, as `192.0.2.0/24+`), peers (a list of AS or (AS, address)), share (I, N), workers, and others
+of `reports.OPTIONS`. `bgp_replay.collectors` has reports of many collectors, `bgp_replay.plots` pictures.
 """
 
 from .errors import DamagedError, DamagedWarning, OpenError, ReplayError, UnpackError, UsageError

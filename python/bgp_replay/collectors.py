@@ -152,9 +152,9 @@ def _in_order(counts):
         address, _, length = prefix.partition("/")
         return socket.inet_pton(socket.AF_INET6 if ":" in address else socket.AF_INET, address) + bytes([int(length)])
 
-    texts, codes = numpy.unique(counts["prefix"].to_numpy(object), return_inverse=True) if len(counts) else ([], [])
-    ranks = numpy.argsort(numpy.argsort(numpy.array([key(text) for text in texts], "S17"), kind="stable"))
-    order = {"rank": ranks[codes] if len(counts) else []}
+    codes, texts = pandas.factorize(counts["prefix"])
+    ranks = numpy.argsort(numpy.argsort(numpy.array([key(text) for text in texts], "S17")))
+    order = {"rank": ranks[codes]}
     if "origin_asn" in counts:
         order["origin"] = counts["origin_asn"].where(counts["origin_asn"] >= 0, 1 << 32).to_numpy()
     counts = counts.iloc[pandas.DataFrame(order).sort_values(list(order)).index].reset_index(drop=True)
@@ -169,8 +169,10 @@ def _origins(counts):
     """The prefixes with two origin ASes or more, of what `seen` counts."""
     counts = _in_order(counts[counts["origin_asn"] >= 0])
     counts = counts[counts.duplicated("prefix", keep=False)]
-    lists = counts.groupby(counts["prefix"].astype(object), sort=False)["origin_asn"].agg(lambda asns: [int(a) for a in asns])
-    return pandas.DataFrame({"prefix": pandas.Categorical(lists.index), "origin_asns": pandas.Series(list(lists), dtype=object)})
+    prefixes = counts["prefix"].astype(object)
+    lists = counts.groupby(prefixes, sort=False)["origin_asn"].agg(lambda asns: [int(asn) for asn in asns])
+    columns = {"prefix": pandas.Categorical(lists.index), "origin_asns": pandas.Series(list(lists), dtype=object)}
+    return pandas.DataFrame(columns)
 
 
 def _partition(ask, names, name, files, number):

@@ -1,4 +1,4 @@
-"""What can go wrong, in the program's own words. All of these can be pickled, so a worker's error reaches its caller."""
+"""What can go wrong, in the program's own words. All of these can be pickled: a worker's error reaches its caller."""
 
 
 class ReplayError(Exception):

@@ -1,8 +1,8 @@
 """The program's lines as frames with real types.
 
-pandas' C parser reads the text, in pieces, so text and frame are never in memory side by side. Texts that repeat (peers,
-prefixes, paths, next hops) become categories: a code a row, and each text once. What has two values in one column of
-the program, as `65003 192.0.2.3`, is taken apart once for each category.
+pandas' C parser reads the text, in pieces, so text and frame are never in memory side by side. Texts that repeat
+(peers, prefixes, paths, next hops) become categories: a code a row, and each text once. What has two values in one
+column of the program, as `65003 192.0.2.3`, is taken apart once for each category.
 """
 
 import typing

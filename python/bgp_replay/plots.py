@@ -33,8 +33,8 @@ def churn(frame, axes=None, most=20):
 def visibility(frames, axes=None, most=10):
     """Steps of how many peers have each prefix over time, the `most` that most peers have at some moment.
 
-    `frames` has by moment (a time in UTC) the frame of `visibility()`, or of `seen()`: then each origin has a line of its
-    own. Moments and prefixes are few: `visibility(files, until=moment, prefixes=..)`. Returns the axes, as `churn` does.
+    `frames` has by moment (a time in UTC) the frame of `visibility()`, or of `seen()`: then each origin has a line of
+    its own. Moments and prefixes are few: `visibility(files, until=moment, prefixes=..)`. Returns the axes, as `churn`.
     """
     import pandas
     from matplotlib import dates, pyplot

@@ -98,7 +98,7 @@ OPTIONS = {
 
 
 def words_of(options):
-    """The program's options for these arguments; None is as if it weren't given. TypeError: there is no such argument."""
+    """The program's options for these arguments; None is as if not given. TypeError: there is no such argument."""
     words = []
     for name, value in options.items():
         if name not in OPTIONS:

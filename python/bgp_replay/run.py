@@ -53,7 +53,8 @@ def has(name, report, option=None):
     commands = re.findall(r"^  ([a-z_]+)", words.partition("\nCommands:\n")[2].partition("\n\n")[0], re.MULTILINE)
     if report not in commands or option is None:
         return report in commands
-    return re.search(rf"^ +(-., )?--{option}\b", _asked(name, report, "--help").stdout.decode(), re.MULTILINE) is not None
+    words = _asked(name, report, "--help").stdout.decode()
+    return re.search(rf"^ +(-., )?--{option}\b", words, re.MULTILINE) is not None
 
 
 @_once_for_each_program
@@ -82,7 +83,7 @@ class Replay:
 
     def _pieces(self):
         """The frames with the program's own columns; the last one once the program has ended well."""
-        name_of_program = program()
+        command = [program(), self.report, "--header", "--summary", *self.options, "--"]
         kinds = {kind for kind in set(map(packing, self.files)) - {None} if not reads(kind)}
         names = ["./-" if name == "-" else name for name in self.files]
         self.unpacking = Unpacking(names, kinds, self.unpackers)
@@ -90,9 +91,9 @@ class Replay:
         with tempfile.TemporaryFile() as said:
             child = None
             try:
-                words = [name_of_program, self.report, "--header", "--summary", *self.options, "--", *self.unpacking.names]
-                child = self.child = subprocess.Popen(words, stdin=subprocess.DEVNULL, stdout=subprocess.PIPE, stderr=said,
-                                                      pass_fds=self.unpacking.fds, bufsize=0)
+                child = self.child = subprocess.Popen(
+                    [*command, *self.unpacking.names], stdin=subprocess.DEVNULL, stdout=subprocess.PIPE, stderr=said,
+                    pass_fds=self.unpacking.fds, bufsize=0)
                 self.unpacking.start(child.kill)
                 try:
                     for piece in frames.pieces(self.kinds, child.stdout, self.rows):
@@ -136,7 +137,8 @@ class Replay:
         for file in self.summary.files:
             if file.faults:
                 counts[file.name] = counts.get(file.name, 0) + file.faults
-        words = "\n  ".join([f"damaged: {self.summary.damaged}", *(f"{name}: {n}" for name, n in counts.items()), *self.notes])
+        by_file = [f"{name}: {count}" for name, count in counts.items()]
+        words = "\n  ".join([f"damaged: {self.summary.damaged}", *by_file, *self.notes])
         if self.damaged == "raise":
             raise DamagedError(words, counts=counts)
         if self.damaged == "warn":
@@ -181,7 +183,7 @@ _ROUTE = """peer_asn uint32, peer_ip, prefix, path_id uint32 (0: none), as_path 
 
 tables = _report("tables", f"Every route of every peer: {_ROUTE}")
 visibility = _report("visibility", "How many peers have each prefix: prefix, peers uint32.")
-seen = _report("seen", "How many peers have each prefix by origin AS: prefix, origin_asn UInt32 (none: NA), peers uint32.")
+seen = _report("seen", "How many peers have each prefix by origin AS: prefix, origin_asn UInt32 (NA: none), peers.")
 origins = _report("origins", "The prefixes with two origin ASes or more: prefix, origin_asns, lists of numbers.")
 churn = _report("churn", """What each peer did: peer_asn uint32, peer_ip, the counts new, changed, same, gone, void,
     resets, idle, refused as uint64, first and last as datetime64 in UTC.""")

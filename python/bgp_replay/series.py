@@ -48,12 +48,12 @@ def _expected(moments, start, until, step):
 
 
 def series(folder, since, until, *, gaps="raise"):
-    """The names of a collector's files for a period: the last RIB dump at or before `since`, then its updates to `until`.
+    """The names of a collector's files for a period: the last RIB dump at or before `since`, then updates to `until`.
 
     `folder` is searched with its folders, as 2026.11/RIBS and 2026.11/UPDATES of RouteViews or 2026.11 of RIPE RIS are;
     it has one collector. Times without a zone are in UTC. Which files of updates there should be is told by the step
-    that most of them keep. GapError: some aren't there; with gaps="leave" they are left out. FileNotFoundError: there is
-    no RIB dump. ValueError: two files for one moment.
+    that most of them keep. GapError: some aren't there; with gaps="leave" they are left out. FileNotFoundError: there
+    is no RIB dump. ValueError: files of one kind and moment in two folders.
     """
     since, until = (time.replace(tzinfo=timezone.utc) if time.tzinfo is None else time for time in (since, until))
     found = _found(folder)

@@ -32,7 +32,7 @@ class FileSummary:
 
 @dataclasses.dataclass
 class Summary:
-    """What was read in a run: `seconds` of wall time, `peak_kib` of memory, and the others as docs/USAGE.md has them."""
+    """What was read in a run: `seconds` of wall time, `peak_kib` of memory; the others are those of docs/USAGE.md."""
 
     files: list = dataclasses.field(default_factory=list)
     bytes: int = 0
@@ -67,7 +67,7 @@ def _value(text):
 
 
 def read_summary(text, names):
-    """Reads what the program said: the summary, and the other lines as text. Files have the names they were given by."""
+    """Reads what the program said: the summary, and the other lines as text. Files are called as in `names`."""
     summary, others = Summary([FileSummary(name) for name in names]), []
     for line in text.rstrip("\n").split("\n"):
         key, _, value = line.partition(": ")

@@ -1,8 +1,8 @@
-"""Compressed files that the program doesn't read by itself, unpacked ahead of it through pipes: no disk, bounded memory.
+"""Packed files that the program doesn't read by itself, unpacked ahead of it through pipes: no disk, bounded memory.
 
 Each such file has a pipe, which the program is given as /dev/fd/N, so files keep their number, their ends and their
-faults. A few threads unpack files in order, each one file: what its pipe doesn't take yet waits in memory, at most AHEAD
-chunks a thread.
+faults. A few threads unpack files in order, each one file: what its pipe doesn't take yet waits in memory, at most
+AHEAD chunks a thread.
 """
 
 import bz2
@@ -50,7 +50,8 @@ class _Zstd:
         if not shutil.which("zstd"):
             raise OSError("zstd isn't installed")
         with open(path, "rb") as file:
-            self.process = subprocess.Popen(["zstd", "-dcq"], stdin=file, stdout=subprocess.PIPE, stderr=subprocess.PIPE)
+            pipes = {"stdout": subprocess.PIPE, "stderr": subprocess.PIPE}
+            self.process = subprocess.Popen(["zstd", "-dcq"], stdin=file, **pipes)
 
     def read(self, size):
         chunk = self.process.stdout.read(size)

@@ -126,7 +126,7 @@ def gen_mrt(tmp_path_factory):
 
 @pytest.fixture(scope="session")
 def drawn(gen_mrt, tmp_path_factory):
-    """Three collectors with peers of their own: name -> [RIB dump, updates]. Of the second one's two messages are damaged."""
+    """Three collectors with peers of their own: name -> [RIB dump, updates]. The second has two damaged messages."""
     folder, found = tmp_path_factory.mktemp("drawn"), {}
     for number in range(3):
         rib, updates = gen_mrt("rib", 120, 9, 7), gen_mrt("updates", 5000, 120, 9, 7 + number)

@@ -54,13 +54,15 @@ def machines(tmp_path_factory):
     def start(module, *words):
         command = [sys.executable, "-m", f"distributed.cli.{module}", "--scheduler-file", str(contact), *words]
         with open(folder / "log", "ab") as log:
-            return subprocess.Popen(command, stdout=log, stderr=log, cwd=folder, env=os.environ | {"PYTHONPATH": str(PYTHON)})
+            path = {"PYTHONPATH": str(PYTHON)}
+            return subprocess.Popen(command, stdout=log, stderr=log, cwd=folder, env=os.environ | path)
 
     started = [start("dask_scheduler", "--host", "127.0.0.1", "--port", "0", "--no-dashboard")]
     while not contact.exists():
         assert started[0].poll() is None, (folder / "log").read_text()
         time.sleep(0.05)
-    started += [start("dask_worker", "--nthreads", "1", "--no-dashboard", "--no-nanny", "--local-directory", str(folder)) for _ in range(2)]
+    worker = ["--nthreads", "1", "--no-dashboard", "--no-nanny", "--local-directory", str(folder)]
+    started += [start("dask_worker", *worker) for _ in range(2)]
     try:
         with distributed.Client(scheduler_file=str(contact), timeout=30) as client:
             client.wait_for_workers(2)
@@ -186,10 +188,12 @@ def test_progress(drawn, cluster):
 
 
 def test_a_worker_that_dies(drawn, tmp_path, stand_in):
-    """The program sleeps in the middle of a replay, its worker is killed, and the task is run again by the other one."""
+    """The program sleeps in the middle of a replay, its worker is killed, and the other worker runs the task again."""
     flag = tmp_path / "begun"
-    stand_in(f'case "$*" in *2.rib*) [ -e {flag} ] || {{ echo $PPID $$ > {flag}.tmp; mv {flag}.tmp {flag}; exec sleep 60; }};; esac\n'
-             'exec "$REAL" "$@"')
+    stand_in(f'''case "$*" in *2.rib*)
+        [ -e {flag} ] || {{ echo $PPID $$ > {flag}.tmp; mv {flag}.tmp {flag}; exec sleep 60; }};;
+        esac
+        exec "$REAL" "$@"''')
     options = dict(n_workers=2, threads_per_worker=1, processes=True, dashboard_address="127.0.0.1:0")
     with distributed.LocalCluster(**options) as local, distributed.Client(local) as client:
 

@@ -56,9 +56,9 @@ def test_since(drawn):
 
 def test_a_moment_in_all_its_forms(sample):
     moment = datetime(2026, 11, 22, 7, 5)
-    forms = [moment, moment.replace(tzinfo=UTC), pandas.Timestamp(moment), pandas.Timestamp(moment, tz="Asia/Tokyo").tz_localize(None),
-             moment.replace(tzinfo=timezone(timedelta(hours=2))) + timedelta(hours=2), 1795331100, "2026-11-22T07:05:00Z",
-             moment + timedelta(microseconds=900_000)]
+    forms = [moment, moment.replace(tzinfo=UTC), pandas.Timestamp(moment), pandas.Timestamp(moment, tz="UTC"),
+             moment.replace(tzinfo=timezone(timedelta(hours=2))) + timedelta(hours=2), 1795331100,
+             "2026-11-22T07:05:00Z", moment + timedelta(microseconds=900_000)]
     for form in forms:  # the announcement of 07:05:00 counts, the withdrawal of 07:06:00 doesn't
         assert frame_of("churn", sample, until=form)[["changed", "gone"]].sum().tolist() == [1, 0]
     assert len(frame_of("tables", sample, until=date(2026, 11, 22))) == 0
