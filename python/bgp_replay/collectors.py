@@ -278,6 +278,14 @@ class Collectors:
         """The damaged records and messages; the first column is the collector."""
         return self.report("faults")
 
+    def history(self):
+        """What happened to chosen prefixes (`prefixes=`); the first column is the collector."""
+        return self.report("history")
+
+    def peers(self):
+        """The peers, and the place of each one's first unit; the first column is the collector."""
+        return self.report("peers")
+
     def tables(self):
         """Every route of every peer as a Dask frame, with a partition for each share of each collector, in this order.
 

@@ -122,6 +122,27 @@ def test_by_place():
     assert by_place(frame, places)["row"].tolist() == [5, 2, 4, 3, 0, 1]
 
 
+@pytest.mark.parametrize("report", ["churn", "match", "peers"])
+def test_shares_by_place(report, drawn, stand_in, tmp_path):
+    """A stand-in for a program that has `peers`: its places are in the order of the whole `churn`."""
+    files = drawn["rrc00"]
+    wanted = text_of("churn" if report == "peers" else report, files)
+    names = [line.partition("|")[0] for line in text_of("churn", files).splitlines()]
+    places = "".join(f"{name}|up|0|1|5.000000|6.000000|1|{number * 7}|{number}\n" for number, name in enumerate(names))
+    (tmp_path / "places").write_text(places)
+    stand_in(f'''case "$1" in
+        --help) "$REAL" --help | sed 's/^  faults /  peers       Print\\n&/';;
+        peers) shift; echo 'peer|state|routes|units|first|last|file|offset|entry'
+            "$REAL" churn "$@" | cut -d'|' -f1 | grep -v peer | tac > {tmp_path}/own.$$
+            grep -F -f {tmp_path}/own.$$ {tmp_path}/places | sort -r;;
+        *) exec "$REAL" "$@";; esac''')
+    frame = merged(report, Collectors({"one": files}, shares=4))
+    if report == "peers":
+        assert lines(frame, files) == places
+    else:
+        assert lines(frame) == wanted and len(frame) > 4
+
+
 def test_a_peer_of_two_collectors_has_two_tables(drawn):
     twice = Collectors({"a": drawn["rrc00"], "b": drawn["rrc00"]})
     assert (twice.visibility()["peers"] == 2 * frame_of("visibility", drawn["rrc00"])["peers"]).all()
