@@ -1,0 +1,239 @@
+-- CRC-32 is linear, so a byte's share of it can be looked up.
+use Rattle.std.proofs.Common.{◌≡◌, ℕ, ◌+◌, ◌-◌, ◌*◌, ◌/◌, ◌%◌, ◌^◌, ◌<◌, ◌≤◌, zero, suc, List, [], ◌∷◌, ◌++◌, length, slice_index, slice_set, take, drop, drop-cons, refl, sym, ◌∙◌, ap, arith}
+use Rattle.std.specs.Int.Bits.{bit_xor, xor_assoc, xor_zero_l, xor_zero_r}
+use Rattle.std.proofs.lemmas.Nat.{xor_comm, xor_shr, xor_mod, xor_block}
+use Rattle.std.proofs.lemmas.Grind.{common_steps}
+use Rattle.byteorder.specs.Endian.{little_from}
+use Rattle.gzip_reader.specs.Crc.{crc_bit, crc_bits, crc, IsTable}
+
+-- the sums of four, in another order
+pub xor_four : (a b c d : ℕ) → bit_xor (bit_xor a b) (bit_xor c d) ≡ bit_xor (bit_xor a c) (bit_xor b d)
+xor_four a b c d =
+    xor_assoc a b (bit_xor c d)
+    ∙ ap (λ (n : ℕ). bit_xor a n) (sym (xor_assoc b c d) ∙ ap (λ (n : ℕ). bit_xor n d) (xor_comm b c) ∙ xor_assoc c b d)
+    ∙ sym (xor_assoc a c (bit_xor b d))
+
+pub bit_times : (a b : ℕ) → a < 2 → b < 2 → bit_xor a b * 0xEDB88320 ≡ bit_xor (a * 0xEDB88320) (b * 0xEDB88320)
+bit_times zero zero _ _ = refl
+bit_times zero (suc zero) _ _ = refl
+bit_times (suc zero) zero _ _ = refl
+bit_times (suc zero) (suc zero) _ _ = refl
+bit_times (suc (suc a)) b p q = absurd (omega arith)
+bit_times a (suc (suc b)) p q = absurd (omega arith)
+
+pub bit_linear : (x y : ℕ) → crc_bit (bit_xor x y) ≡ bit_xor (crc_bit x) (crc_bit y)
+unfolding crc_bit
+bit_linear x y =
+    let half : bit_xor x y / 2 ≡ bit_xor (x / 2) (y / 2) = xor_shr x y 1 in
+    let odd : bit_xor x y % 2 ≡ bit_xor (x % 2) (y % 2) = xor_mod x y 1 in
+    let times = bit_times (x % 2) (y % 2) (omega arith) (omega arith) in
+    rw (half, odd, times) (xor_four (x / 2) (y / 2) (x % 2 * 0xEDB88320) (y % 2 * 0xEDB88320))
+
+pub bits_linear : (n x y : ℕ) → crc_bits n (bit_xor x y) ≡ bit_xor (crc_bits n x) (crc_bits n y)
+unfolding crc_bits
+bits_linear zero x y = refl
+bits_linear (suc n) x y = ap (crc_bits n) (bit_linear x y) ∙ bits_linear n (crc_bit x) (crc_bit y)
+
+pub bit_even : (m : ℕ) → crc_bit (m * 2) ≡ m
+unfolding crc_bit
+bit_even m =
+    let half : m * 2 / 2 ≡ m = omega arith in
+    let even : m * 2 % 2 ≡ 0 = omega arith in
+    rw (half, even) (xor_zero_r m)
+
+-- eight bits move a byte out
+pub bits_byte : (q : ℕ) → crc_bits 8 (q * 256) ≡ q
+unfolding crc_bits
+bits_byte q =
+    let e1 : crc_bit (q * 256) ≡ q * 128 = ap crc_bit (omega arith) ∙ bit_even (q * 128) in
+    let e2 : crc_bit (q * 128) ≡ q * 64 = ap crc_bit (omega arith) ∙ bit_even (q * 64) in
+    let e3 : crc_bit (q * 64) ≡ q * 32 = ap crc_bit (omega arith) ∙ bit_even (q * 32) in
+    let e4 : crc_bit (q * 32) ≡ q * 16 = ap crc_bit (omega arith) ∙ bit_even (q * 16) in
+    let e5 : crc_bit (q * 16) ≡ q * 8 = ap crc_bit (omega arith) ∙ bit_even (q * 8) in
+    let e6 : crc_bit (q * 8) ≡ q * 4 = ap crc_bit (omega arith) ∙ bit_even (q * 4) in
+    let e7 : crc_bit (q * 4) ≡ q * 2 = ap crc_bit (omega arith) ∙ bit_even (q * 2) in
+    rw (e1, e2, e3, e4, e5, e6, e7) (bit_even q)
+
+pub bits_more : (m n c : ℕ) → crc_bits (m + n) c ≡ crc_bits n (crc_bits m c)
+unfolding crc_bits
+bits_more zero n c = let e : 0 + n ≡ n = omega arith in rw e refl
+bits_more (suc m) n c = let e : suc m + n ≡ suc (m + n) = omega arith in rw e (bits_more m n (crc_bit c))
+
+pub bits_one : (n c : ℕ) → crc_bits (n + 1) c ≡ crc_bit (crc_bits n c)
+unfolding crc_bits
+bits_one n c = bits_more n 1 c
+
+-- a number is its lowest byte and the others
+pub byte_split : (x : ℕ) → bit_xor (x / 256 * 256) (x % 256) ≡ x
+byte_split x =
+    let l : x / 256 * 256 ≡ x / 256 * 2 ^ 8 + 0 = omega arith in
+    let r : x % 256 ≡ 0 * 2 ^ 8 + x % 256 = omega arith in
+    let b : x % 256 < 2 ^ 8 = omega arith in
+    ap (λ (n : ℕ). bit_xor n (x % 256)) l ∙ ap (λ (n : ℕ). bit_xor (x / 256 * 2 ^ 8 + 0) n) r
+    ∙ xor_block 8 (x / 256) 0 0 (x % 256) (omega arith) b
+    ∙ ap (λ (n : ℕ). n * 2 ^ 8 + bit_xor 0 (x % 256)) (xor_zero_r (x / 256))
+    ∙ ap (λ (n : ℕ). x / 256 * 2 ^ 8 + n) (xor_zero_l (x % 256))
+    ∙ omega arith
+
+-- the share of the lowest byte, and that of the others, which comes a byte later
+pub bits_split : (n x : ℕ) → crc_bits (8 + n) x ≡ bit_xor (crc_bits n (x / 256)) (crc_bits (8 + n) (x % 256))
+bits_split n x =
+    ap (crc_bits (8 + n)) (sym (byte_split x))
+    ∙ bits_linear (8 + n) (x / 256 * 256) (x % 256)
+    ∙ ap (λ (v : ℕ). bit_xor v (crc_bits (8 + n) (x % 256))) (bits_more 8 n (x / 256 * 256) ∙ ap (crc_bits n) (bits_byte (x / 256)))
+
+-- the number that bytes make, the lowest first
+unfoldable pub low_first : List ℕ → ℕ
+low_first [] = 0
+low_first (b ∷ bs) = bit_xor b (low_first bs * 256)
+
+pub crc_low_first : (c : ℕ) (bs : List ℕ) → crc c bs ≡ crc_bits (8 * length bs) (bit_xor c (low_first bs))
+unfolding crc crc_bits low_first
+crc_low_first c [] = sym (xor_zero_r c)
+crc_low_first c (b ∷ bs) =
+    let e : 8 * suc (length bs) ≡ 8 + 8 * length bs = omega arith in
+    let move : crc_bits 8 (bit_xor c (bit_xor b (low_first bs * 256))) ≡ bit_xor (crc_bits 8 (bit_xor c b)) (low_first bs) =
+    ap (crc_bits 8) (sym (xor_assoc c b (low_first bs * 256))) ∙ bits_linear 8 (bit_xor c b) (low_first bs * 256)
+    ∙ ap (λ (v : ℕ). bit_xor (crc_bits 8 (bit_xor c b)) v) (bits_byte (low_first bs)) in
+    crc_low_first (crc_bits 8 (bit_xor c b)) bs
+    ∙ ap (crc_bits (8 * length bs)) (sym move)
+    ∙ sym (bits_more 8 (8 * length bs) (bit_xor c (bit_xor b (low_first bs * 256))))
+    ∙ ap (λ (n : ℕ). crc_bits n (bit_xor c (bit_xor b (low_first bs * 256)))) (sym e)
+
+pub crc_append : (c : ℕ) (xs ys : List ℕ) → crc c (xs ++ ys) ≡ crc (crc c xs) ys
+unfolding crc
+crc_append c [] ys = refl
+crc_append c (x ∷ xs) ys = crc_append (crc_bits 8 (bit_xor c x)) xs ys
+
+pub bits_byte_first : (n x : ℕ) → crc_bits (8 + n) x ≡ bit_xor (crc_bits (8 + n) (x % 256)) (crc_bits n (x / 256))
+bits_byte_first n x = bits_split n x ∙ xor_comm (crc_bits n (x / 256)) (crc_bits (8 + n) (x % 256))
+
+-- one look-up
+pub bits_look_up : (x : ℕ) → bit_xor (x / 256) (crc_bits 8 (x % 256)) ≡ crc_bits 8 x
+unfolding crc_bits
+bits_look_up x = sym (bits_split 0 x)
+
+-- eight look-ups
+pub bits_eight : (w a b c d e f g : ℕ) → a ≡ w / 256 → b ≡ a / 256 → c ≡ b / 256 → d ≡ c / 256 → e ≡ d / 256 → f ≡ e / 256 → g ≡ f / 256 →
+    crc_bits 64 w ≡ bit_xor (crc_bits 64 (w % 256)) (bit_xor (crc_bits 56 (a % 256)) (bit_xor (crc_bits 48 (b % 256)) (bit_xor (crc_bits 40 (c % 256))
+    (bit_xor (crc_bits 32 (d % 256)) (bit_xor (crc_bits 24 (e % 256)) (bit_xor (crc_bits 16 (f % 256)) (crc_bits 8 g)))))))
+bits_eight w a b c d e f g pa pb pc pd pe pf pg =
+    rw (pg, pf, pe, pd, pc, pb, pa)
+    (bits_byte_first 56 w ∙ ap (λ (v : ℕ). bit_xor (crc_bits 64 (w % 256)) v)
+    (bits_byte_first 48 _ ∙ ap (λ (v : ℕ). bit_xor (crc_bits 56 (w / 256 % 256)) v)
+    (bits_byte_first 40 _ ∙ ap (λ (v : ℕ). bit_xor (crc_bits 48 (w / 256 / 256 % 256)) v)
+    (bits_byte_first 32 _ ∙ ap (λ (v : ℕ). bit_xor (crc_bits 40 (w / 256 / 256 / 256 % 256)) v)
+    (bits_byte_first 24 _ ∙ ap (λ (v : ℕ). bit_xor (crc_bits 32 (w / 256 / 256 / 256 / 256 % 256)) v)
+    (bits_byte_first 16 _ ∙ ap (λ (v : ℕ). bit_xor (crc_bits 24 (w / 256 / 256 / 256 / 256 / 256 % 256)) v)
+    (bits_byte_first 8 _)))))))
+
+pub table_at : (t : List ℕ) (j b : ℕ) → IsTable 2048 t → j < 8 → b < 256 → slice_index t (256 * j + b) ≡ crc_bits (8 * j + 8) b
+table_at t j b is p q =
+    let row : (256 * j + b) / 256 ≡ j = omega arith in
+    let column : (256 * j + b) % 256 ≡ b = omega arith in
+    let at : slice_index t (256 * j + b) ≡ crc_bits (8 * ((256 * j + b) / 256) + 8) ((256 * j + b) % 256) = is (256 * j + b) (omega arith) in
+    at ∙ ap (λ (n : ℕ). crc_bits (8 * n + 8) ((256 * j + b) % 256)) row ∙ ap (λ (n : ℕ). crc_bits (8 * j + 8) n) column
+
+pub table_more : (t : List ℕ) (i v : ℕ) → i < length t → IsTable i t → v ≡ crc_bits (8 * (i / 256) + 8) (i % 256) → IsTable (i + 1) (slice_set t i v)
+table_more t i v inside is e k below = grind (arith, common_steps, is k)
+
+-- the first table
+pub table_first : (i v : ℕ) → i < 256 → v ≡ crc_bits 8 i → v ≡ crc_bits (8 * (i / 256) + 8) (i % 256)
+table_first i v small e =
+    let row : 8 * (i / 256) + 8 ≡ 8 = omega arith in
+    let column : i % 256 ≡ i = omega arith in
+    e ∙ ap (λ (n : ℕ). crc_bits 8 n) (sym column) ∙ ap (λ (n : ℕ). crc_bits n (i % 256)) (sym row)
+
+-- a further table, from the one before
+pub table_next : (t : List ℕ) (i before : ℕ) → 256 ≤ i → i < 2048 → IsTable i t → before ≡ slice_index t (i - 256) →
+    bit_xor (before / 256) (slice_index t (before % 256)) ≡ crc_bits (8 * (i / 256) + 8) (i % 256)
+table_next t i before low high is e =
+    let at : slice_index t (before % 256) ≡ crc_bits 8 (before % 256) =
+    is (before % 256) (omega arith) ∙ sym (table_first (before % 256) (crc_bits 8 (before % 256)) (omega arith) refl) in
+    let old : before ≡ crc_bits (8 * ((i - 256) / 256) + 8) ((i - 256) % 256) = e ∙ is (i - 256) (omega arith) in
+    let row : 8 * ((i - 256) / 256) + 8 + 8 ≡ 8 * (i / 256) + 8 = omega arith in
+    let column : (i - 256) % 256 ≡ i % 256 = omega arith in
+    ap (λ (v : ℕ). bit_xor (before / 256) v) at ∙ bits_look_up before ∙ ap (crc_bits 8) old
+    ∙ sym (bits_more (8 * ((i - 256) / 256) + 8) 8 ((i - 256) % 256))
+    ∙ ap (λ (n : ℕ). crc_bits n ((i - 256) % 256)) row ∙ ap (crc_bits (8 * (i / 256) + 8)) column
+
+-- ---- bytes as a number
+abbrev pub low_sum : List ℕ → ℕ
+low_sum [] = 0
+low_sum (b ∷ bs) = b + 256 * low_sum bs
+
+pub little_tail : (i n x : ℕ) (xs : List ℕ) → little_from (suc i) n (x ∷ xs) ≡ little_from i n xs
+little_tail i zero x xs = refl
+little_tail i (suc n) x xs = ap (λ (v : ℕ). slice_index xs i + 256 * v) (little_tail (suc i) n x xs)
+
+pub little_sum : (xs : List ℕ) → little_from 0 (length xs) xs ≡ low_sum xs
+little_sum [] = refl
+little_sum (x ∷ xs) = ap (λ (v : ℕ). x + 256 * v) (little_tail 0 (length xs) x xs ∙ little_sum xs)
+
+pub byte_join : (b r : ℕ) → b < 256 → bit_xor b (r * 256) ≡ b + 256 * r
+byte_join b r small =
+    let l : b ≡ 0 * 2 ^ 8 + b = omega arith in
+    let h : r * 256 ≡ r * 2 ^ 8 + 0 = omega arith in
+    let s : b < 2 ^ 8 = omega arith in
+    ap (λ (n : ℕ). bit_xor n (r * 256)) l ∙ ap (λ (n : ℕ). bit_xor (0 * 2 ^ 8 + b) n) h
+    ∙ xor_block 8 0 r b 0 s (omega arith)
+    ∙ ap (λ (n : ℕ). n * 2 ^ 8 + bit_xor b 0) (xor_zero_l r) ∙ ap (λ (n : ℕ). r * 2 ^ 8 + n) (xor_zero_r b) ∙ omega arith
+
+pub low_first_sum : (xs : List ℕ) → ((k : ℕ) → slice_index xs k < 256) → low_first xs ≡ low_sum xs
+unfolding low_first
+low_first_sum [] small = refl
+low_first_sum (x ∷ xs) small =
+    byte_join x (low_first xs) (small 0) ∙ ap (λ (v : ℕ). x + 256 * v) (low_first_sum xs (λ k. small (suc k)))
+
+-- eight bytes at once
+pub crc_eight : (r w : ℕ) (bs : List ℕ) → length bs ≡ 8 → ((k : ℕ) → slice_index bs k < 256) → w ≡ bit_xor (little_from 0 8 bs) r → crc r bs ≡ crc_bits 64 w
+crc_eight r w bs long small e =
+    let l : little_from 0 8 bs ≡ low_first bs = ap (λ (n : ℕ). little_from 0 n bs) (sym long) ∙ little_sum bs ∙ sym (low_first_sum bs small) in
+    crc_low_first r bs ∙ ap (λ (n : ℕ). crc_bits (8 * n) (bit_xor r (low_first bs))) long
+    ∙ ap (crc_bits 64) (xor_comm r (low_first bs) ∙ ap (λ (n : ℕ). bit_xor n r) (sym l) ∙ sym e)
+
+pub xor_both : (a b c d : ℕ) → a ≡ b → c ≡ d → bit_xor a c ≡ bit_xor b d
+xor_both a b c d p q = ap (λ (n : ℕ). bit_xor n c) p ∙ ap (λ (n : ℕ). bit_xor b n) q
+
+pub eight_look_ups : (t bs : List ℕ) (r w : ℕ) → IsTable 2048 t → w < 2 ^ 64 → length bs ≡ 8 → ((k : ℕ) → slice_index bs k < 256) → w ≡ bit_xor (little_from 0 8 bs) r →
+    bit_xor (slice_index t (1792 + w % 256)) (bit_xor (slice_index t (1536 + w / 256 % 256)) (bit_xor (slice_index t (1280 + w / 256 / 256 % 256))
+    (bit_xor (slice_index t (1024 + w / 256 / 256 / 256 % 256)) (bit_xor (slice_index t (768 + w / 256 / 256 / 256 / 256 % 256))
+    (bit_xor (slice_index t (512 + w / 256 / 256 / 256 / 256 / 256 % 256)) (bit_xor (slice_index t (256 + w / 256 / 256 / 256 / 256 / 256 / 256 % 256))
+    (slice_index t (w / 256 / 256 / 256 / 256 / 256 / 256 / 256)))))))) ≡ crc r bs
+eight_look_ups t bs r w is fits long small e =
+    let g : ℕ = w / 256 / 256 / 256 / 256 / 256 / 256 / 256 in
+    let last : g < 256 = omega arith in
+    let z : g ≡ 256 * 0 + g = omega arith in
+    xor_both _ _ _ _ (table_at t 7 (w % 256) is (omega arith) (omega arith))
+    (xor_both _ _ _ _ (table_at t 6 (w / 256 % 256) is (omega arith) (omega arith))
+    (xor_both _ _ _ _ (table_at t 5 (w / 256 / 256 % 256) is (omega arith) (omega arith))
+    (xor_both _ _ _ _ (table_at t 4 (w / 256 / 256 / 256 % 256) is (omega arith) (omega arith))
+    (xor_both _ _ _ _ (table_at t 3 (w / 256 / 256 / 256 / 256 % 256) is (omega arith) (omega arith))
+    (xor_both _ _ _ _ (table_at t 2 (w / 256 / 256 / 256 / 256 / 256 % 256) is (omega arith) (omega arith))
+    (xor_both _ _ _ _ (table_at t 1 (w / 256 / 256 / 256 / 256 / 256 / 256 % 256) is (omega arith) (omega arith))
+    (ap (λ (n : ℕ). slice_index t n) z ∙ table_at t 0 g is (omega arith) last)))))))
+    ∙ sym (bits_eight w _ _ _ _ _ _ _ refl refl refl refl refl refl refl)
+    ∙ sym (crc_eight r w bs long small e)
+
+pub take_two : (m n : ℕ) (bs : List ℕ) → take (m + n) bs ≡ take m bs ++ take n (drop m bs)
+take_two zero n bs = let e : 0 + n ≡ n = omega arith in rw e refl
+take_two (suc m) n [] = grind (arith, common_steps)
+take_two (suc m) n (b ∷ bs) = let e : suc m + n ≡ suc (m + n) = omega arith in rw e (ap (λ (l : List ℕ). b ∷ l) (take_two m n bs))
+
+pub crc_more : (r v u at n : ℕ) (bs : List ℕ) → v ≡ crc r (take at bs) → u ≡ crc v (take n (drop at bs)) → u ≡ crc r (take (at + n) bs)
+crc_more r v u at n bs p q =
+    q ∙ ap (λ (x : ℕ). crc x (take n (drop at bs))) p ∙ sym (crc_append r (take at bs) (take n (drop at bs)))
+    ∙ ap (crc r) (sym (take_two at n bs))
+
+pub crc_one : (r v u at : ℕ) (bs : List ℕ) → at < length bs → v ≡ crc r (take at bs) → u ≡ crc_bits 8 (bit_xor v (slice_index bs at)) → u ≡ crc r (take (at + 1) bs)
+unfolding crc
+crc_one r v u at bs inside p q =
+    let front : take 1 (drop at bs) ≡ slice_index bs at ∷ [] = grind (arith, common_steps, drop-cons bs at 0 inside) in
+    crc_more r v u at 1 bs p (q ∙ ap (crc v) (sym front))
+
+pub step_look_up : (s t : List ℕ) (mixed : ℕ) → s ≡ t → IsTable 2048 t → bit_xor (mixed / 256) (slice_index s (mixed % 256)) ≡ crc_bits 8 mixed
+step_look_up s t mixed same is =
+    let z : mixed % 256 ≡ 256 * 0 + mixed % 256 = omega arith in
+    ap (λ (l : List ℕ). bit_xor (mixed / 256) (slice_index l (mixed % 256))) same
+    ∙ ap (λ (v : ℕ). bit_xor (mixed / 256) v) (ap (λ (n : ℕ). slice_index t n) z ∙ table_at t 0 (mixed % 256) is (omega arith) (omega arith))
+    ∙ bits_look_up mixed
