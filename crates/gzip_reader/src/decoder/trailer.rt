@@ -1,6 +1,6 @@
 //! The trailers of members (RFC 1952, 2.3.1): the CRC-32 and the length of what the member holds.
 
-ghost use Rattle.std.specs.Prelude.{◌≡◌, ◌≢◌, ◌↔◌, OnOk, Err};
+ghost use Rattle.std.specs.Prelude.{◌≡◌, ◌≢◌, OnOk, OnErr, Err};
 ghost use Rattle.gzip_reader.specs.Crc.{crc_value};
 ghost use Rattle.gzip_reader.specs.declared.fault.Flaw.TheVariants.{Checksum, Length};
 
@@ -22,22 +22,28 @@ impl Decoder {
             return Ok(Step::Pause);
         }
         self.input.align();
-        let check = self.input.take(32)?;
-        let length = self.input.take(32)?;
-        check_trailer(check, length, self.register, self.count)?;
+        check_crc(self.input.take(32)?, self.register)?;
+        check_length(self.input.take(32)?, self.count)?;
         Ok(Step::To(Phase::BetweenMembers))
     }
 }
 
-/// Compares the numbers of a trailer with the register and the count of its member.
-fn check_trailer(check: u32, length: u32, register: u32, count: u32) -> Result<(), Flaw>
-    ensures ok { OnOk result ((check ≡ crc_value register) × (length ≡ count)) }
-    ensures checksum { (result ≡ Err Checksum) ↔ (check ≢ crc_value register) }
-    ensures length { (result ≡ Err Length) ↔ ((check ≡ crc_value register) × (length ≢ count)) }
+/// Compares the field CRC32 with the register of the member.
+fn check_crc(check: u32, register: u32) -> Result<(), Flaw>
+    ensures ok { OnOk result (check ≡ crc_value register) }
+    ensures err { OnErr result ((result ≡ Err Checksum) × (check ≢ crc_value register)) }
 {
     if check != register ^ u32::MAX {
         return Err(Flaw::Checksum);
     }
+    Ok(())
+}
+
+/// Compares the field ISIZE with the number of bytes that were decoded of the member.
+fn check_length(length: u32, count: u32) -> Result<(), Flaw>
+    ensures ok { OnOk result (length ≡ count) }
+    ensures err { OnErr result ((result ≡ Err Length) × (length ≢ count)) }
+{
     if length != count {
         return Err(Flaw::Length);
     }
