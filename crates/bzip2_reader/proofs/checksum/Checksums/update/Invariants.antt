@@ -1,0 +1,15 @@
+use Rattle.std.proofs.Common.{length, ◌-◌, ◌≤◌, ◌≡◌, take}
+use Rattle.bzip2_reader.specs.Checksums.{crc}
+use Rattle.bzip2_reader.proofs.checksum.Checksums.update.Given as goal
+
+abbrev pub invariant-loop-at : goal.invariant-loop-at
+invariant-loop-at l = record { within : l.at ≤ length l.bytes; sum : l.value ≡ crc l.register (take l.at l.bytes) }
+
+abbrev pub decreases-loop-at : goal.decreases-loop-at
+decreases-loop-at l = length l.bytes - l.at
+
+abbrev pub invariant-loop-at-2 : goal.invariant-loop-at-2
+invariant-loop-at-2 l = record { within : l.at ≤ length l.bytes; sum : l.value ≡ crc l.register (take l.at l.bytes) }
+
+abbrev pub decreases-loop-at-2 : goal.decreases-loop-at-2
+decreases-loop-at-2 l = length l.bytes - l.at

@@ -1,0 +1,22 @@
+-- What a reader is after a read.
+use Rattle.std.specs.Prelude.{◌≡◌, ◌<◌, IsTrue, Option}
+use Rattle.bzip2_reader.specs.declared.fault.Damage.{Damage}
+use Rattle.bzip2_reader.specs.declared.phase.Phase.TheVariants.{Ended, Broken}
+use Rattle.bzip2_reader.specs.declared.reader.Bunzip.{Bunzip}
+use Rattle.bzip2_reader.specs.Endings.{agrees}
+
+-- what ended the bytes, if it was not the end of the last stream
+abbrev pub damage_of : {D : Type 0} → Bunzip D → Option Damage
+damage_of b = b.ending.damage
+
+-- all bytes were given: there is no damage, or one of the data
+abbrev pub HasEnded : {D : Type 0} → Bunzip D → Type 0
+HasEnded b = (b.ending.phase ≡ Ended) × IsTrue (agrees Ended (damage_of b))
+
+-- reading failed: there is a damage, which is that the device failed or memory ran out
+abbrev pub HasFailed : {D : Type 0} → Bunzip D → Type 0
+HasFailed b = (b.ending.phase ≡ Broken) × IsTrue (agrees Broken (damage_of b))
+
+-- neither the phase nor the damage changes
+abbrev pub StaysSo : {D : Type 0} → Bunzip D → Bunzip D → Type 0
+StaysSo old new = (new.ending.phase ≡ old.ending.phase) × (damage_of new ≡ damage_of old)

@@ -1,0 +1,157 @@
+// One block.
+ghost use Rattle.std.specs.Prelude.{◌≡◌, ◌<◌, ◌≤◌, ◌+◌, ◌*◌, ◌^◌, ℕ, length, IfOk, vec_len};
+ghost use Rattle.bzip2_reader.specs.Bits.{bits_at};
+ghost use Rattle.bzip2_reader.specs.Checksums.{checksum_of};
+
+use crate::bits::Cursor;
+use crate::checksum::Checksums;
+use crate::codes::{Codes, read_codes, read_selectors};
+use crate::fault::{BlockFault, Cause};
+use crate::scan::MAGIC;
+use crate::symbols::{decode_symbols, read_used};
+use crate::transform::{expand, link};
+use std::alloc::{AllocError, Global};
+
+/// The most bytes of a block before its runs are written out.
+pub(crate) const MOST_SIZE: usize = 900_000;
+
+/// What a block's head says.
+#[derive(Drop)]
+struct Head {
+    checksum: u32,
+    origin: u32,
+}
+
+/// Reads the head: 48 bits, the checksum, the bit of shuffled blocks, and the place of the first byte.
+fn read_head(cursor: &mut Cursor<'_>) -> Result<Head, BlockFault>
+    ensures bytes { cursor.new.bytes.now ≡ cursor.old.bytes.now }
+    ensures named { IfOk result (λ h. h.checksum ≡ bits_at cursor.old.bytes.now (cursor.old.at + 48) 32) }
+{
+    let high = cursor.take(24)?;
+    let low = cursor.take(24)?;
+    if (u64::from(high) << 24) | u64::from(low) != MAGIC {
+        return Err(BlockFault::NoBlock);
+    }
+    let checksum = cursor.take(32)?;
+    if cursor.take_flag()? {
+        return Err(BlockFault::Randomised);
+    }
+    let origin = cursor.take(24)?;
+    Ok(Head { checksum, origin })
+}
+
+/// Reads the symbols of a block into the low bytes of links, and returns how many there are.
+fn read_symbols(
+    cursor: &mut Cursor<'_>,
+    codes: &mut Codes,
+    links: &mut [u32],
+) -> Result<usize, BlockFault>
+    ensures within { IfOk result (λ n. n ≤ length links.new) }
+{
+    let mut order = [0u8; 256];
+    let used = read_used(cursor, &mut order)?;
+    if used == 0 {
+        return Err(BlockFault::NoSymbols);
+    }
+    let tables = cursor.take(3)? as usize;
+    if tables < 2 || tables > 6 {
+        return Err(BlockFault::BadTables);
+    }
+    read_selectors(cursor, tables, codes)?;
+    for table in 0..tables {
+        read_codes(cursor, codes, table, used + 2)?;
+    }
+    let decoded = decode_symbols(
+        cursor.bytes,
+        cursor.at,
+        codes,
+        codes.selectors(),
+        &mut order,
+        (used + 1) as u16,
+        links,
+    )?;
+    cursor.move_to(decoded.end)?;
+    Ok(decoded.count)
+}
+
+/// What links are.
+#[derive(Clone, Copy, Drop)]
+pub(crate) struct Text {
+    /// The checksum that the block names.
+    pub(crate) checksum: u32,
+    /// How many bytes the block has before its runs are written out.
+    pub(crate) size: usize,
+    /// The first byte's link.
+    pub(crate) first: u32,
+    /// The bit after the block.
+    pub(crate) end: usize,
+}
+
+/// Reads the block that begins at this bit into links.
+pub(crate) fn read_text(
+    codes: &mut Codes,
+    links: &mut [u32],
+    bytes: &[u8],
+    at: usize,
+) -> Result<Text, BlockFault>
+    ensures named { IfOk result (λ t. t.checksum ≡ bits_at bytes.now (at + 48) 32) }
+    ensures size { IfOk result (λ t. t.size ≤ 900000) }
+{
+    let Some(mut cursor) = Cursor::new(bytes, at) else {
+        return Err(BlockFault::ShortBlock);
+    };
+    let head = read_head(&mut cursor)?;
+    let size = read_symbols(&mut cursor, codes, links)?;
+    if size > MOST_SIZE {
+        return Err(BlockFault::LongBlock);
+    }
+    let links = &mut links[..size];
+    link(links);
+    let Some(first) = links.get(head.origin as usize) else {
+        return Err(BlockFault::BadOrigin);
+    };
+    Ok(Text {
+        checksum: head.checksum,
+        size,
+        first: *first >> 8,
+        end: cursor.at,
+    })
+}
+
+/// The bytes of a block, whose checksum is the one that the block names.
+#[derive(Drop)]
+pub(crate) struct Block {
+    pub(crate) bytes: Vec<u8>,
+    pub(crate) checksum: u32,
+    ghost checked: { checksum ≡ checksum_of bytes.items },
+}
+
+impl Block {
+    /// No bytes.
+    pub(crate) fn new(alloc: Global) -> Block {
+        Block {
+            bytes: Vec::new(alloc),
+            checksum: 0,
+        }
+    }
+
+    /// Writes the runs out, in place of the bytes before, if that gives the bytes that the block's checksum is of.
+    pub(crate) fn write_out(
+        raw: &[u8],
+        checksum: u32,
+        sums: &Checksums,
+        mut bytes: Vec<u8>,
+    ) -> Result<Block, Cause>
+        ensures named { IfOk result (λ b. b.checksum ≡ checksum) }
+        ensures bound { IfOk result (λ b. vec_len b.bytes ≤ 52 * length raw.now) }
+    {
+        bytes.clear();
+        if expand(raw, &mut bytes).is_err() {
+            return Err(Cause::Memory);
+        }
+        if sums.of(bytes.as_slice()) != checksum {
+            return Err(Cause::Block(BlockFault::BadChecksum));
+        }
+        Ok(Block { bytes, checksum })
+    }
+}
