@@ -1,5 +1,5 @@
 -- How the bytes of a file end.
-use Rattle.std.specs.Prelude.{◌≡◌, Bool, true, false, Option, None, Some, not, if◌then◌else◌}
+use Rattle.std.specs.Prelude.{Bool, true, false, Option, None, Some, not, if◌then◌else◌}
 use Rattle.bzip2_reader.specs.declared.fault.Cause.{Cause}
 use Rattle.bzip2_reader.specs.declared.fault.Cause.TheVariants.{Device, Memory}
 use Rattle.bzip2_reader.specs.declared.fault.Damage.{Damage}

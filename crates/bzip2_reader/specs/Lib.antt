@@ -1,6 +1,7 @@
 pub mod Bits
 pub mod Checksums
-pub mod Links
 pub mod Endings
 pub mod Fronts
+pub mod Links
 pub mod Reading
+pub mod Windows

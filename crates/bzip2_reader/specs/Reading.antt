@@ -1,7 +1,7 @@
 -- What a reader is after a read.
-use Rattle.std.specs.Prelude.{◌≡◌, ◌<◌, IsTrue, Option}
+use Rattle.std.specs.Prelude.{◌≡◌, ◌≤◌, ◌-◌, ℕ, List, IsTrue, Option, None, drop, take}
 use Rattle.bzip2_reader.specs.declared.fault.Damage.{Damage}
-use Rattle.bzip2_reader.specs.declared.phase.Phase.TheVariants.{Ended, Broken}
+use Rattle.bzip2_reader.specs.declared.phase.Phase.TheVariants.{Open, Ended, Broken}
 use Rattle.bzip2_reader.specs.declared.reader.Bunzip.{Bunzip}
 use Rattle.bzip2_reader.specs.Endings.{agrees}
 
@@ -20,3 +20,11 @@ HasFailed b = (b.ending.phase ≡ Broken) × IsTrue (agrees Broken (damage_of b)
 -- neither the phase nor the damage changes
 abbrev pub StaysSo : {D : Type 0} → Bunzip D → Bunzip D → Type 0
 StaysSo old new = (new.ending.phase ≡ old.ending.phase) × (damage_of new ≡ damage_of old)
+
+-- nothing was read yet, or not the end
+abbrev pub IsOpen : {D : Type 0} → Bunzip D → Type 0
+IsOpen b = (b.ending.phase ≡ Open) × (damage_of b ≡ None)
+
+-- so many bytes in front of the buffer are the last of those given of a block, whose bytes have the checksum that it names
+abbrev pub Gives : {D : Type 0} → Bunzip D → ℕ → List ℕ → Type 0
+Gives b n buffer = (n ≤ b.streams.given) × (take n buffer ≡ take n (drop (b.streams.given - n) b.streams.block.bytes.items))

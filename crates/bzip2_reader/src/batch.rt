@@ -1,6 +1,7 @@
 // Blocks that are decoded side by side.
 ghost use denote.Param.Send.{IsSync};
-ghost use Rattle.std.specs.Prelude.{◌≡◌, ◌≤◌, ℕ, IfOk};
+ghost use Rattle.std.specs.Prelude.{◌≡◌, ◌≤◌, ◌+◌, ◌*◌, ℕ, IfOk};
+ghost use Rattle.bzip2_reader.specs.Bits.{bits_at};
 
 use crate::block::{MOST_SIZE, Text, read_text};
 use crate::codes::Codes;
@@ -31,7 +32,12 @@ impl Lane {
         }
     }
 
-    fn read(&mut self, codes: &mut Codes, bytes: &[u8]) {
+    /// Reads the block.
+    fn read(&mut self, codes: &mut Codes, bytes: &[u8])
+        ensures start { self.new.start ≡ self.old.start }
+        ensures named { IfOk self.new.text (λ t. t.checksum ≡ bits_at bytes.now (self.old.start + 48) 32) }
+        ensures size { IfOk self.new.text (λ t. t.size ≤ 900000) }
+    {
         self.text = read_text(codes, self.links.as_mut_slice(), bytes, self.start);
     }
 

@@ -27,7 +27,8 @@ pub(crate) struct Ending {
 impl Ending {
     /// There may be more.
     pub(crate) fn open() -> Ending
-        ensures { result.phase ≡ Open }
+        ensures phase { result.phase ≡ Open }
+        ensures damage { result.damage ≡ None }
     {
         Ending {
             phase: Phase::Open,

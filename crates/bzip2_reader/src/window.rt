@@ -1,8 +1,11 @@
 // A stretch of a device's bytes.
-ghost use Rattle.std.specs.Prelude.{◌≤◌, vec_len};
+ghost use Rattle.std.specs.Prelude.{◌≡◌, ◌≤◌, take, vec_len};
 
 use mrt_frame::Source;
 use std::alloc::AllocError;
+
+/// How many bytes are read at first.
+const FIRST: usize = 65_536;
 
 /// Whether more bytes of the device can come.
 #[derive(Clone, Copy, PartialEq, Eq, Drop)]
@@ -34,7 +37,9 @@ impl Window {
         }
     }
 
-    pub(crate) fn bytes(&self) -> &[u8] {
+    pub(crate) fn bytes(&self) -> &[u8]
+        ensures { result.now ≡ take self.now.filled self.now.block.items }
+    {
         &self.block.as_slice()[..self.filled]
     }
 
@@ -53,10 +58,11 @@ impl Window {
         self.rest == Rest::Failed
     }
 
-    /// Makes the block of memory this long.
-    fn make_room(&mut self, size: usize) -> Result<(), AllocError> {
-        if self.block.len() < size {
-            self.block.resize(size, 0)?;
+    /// Makes the block of memory longer, but not longer than this.
+    fn grow(&mut self, size: usize) -> Result<(), AllocError> {
+        let more = self.block.len().saturating_mul(2).max(FIRST).min(size);
+        if self.block.len() < more {
+            self.block.resize(more, 0)?;
         }
         Ok(())
     }
@@ -77,10 +83,12 @@ impl Window {
         size: usize,
     ) -> Result<(), AllocError> {
         self.drop_front(used);
-        self.make_room(size)?;
         for _ in 0..u64::MAX {
-            if self.is_last() || self.filled >= self.block.len() {
+            if self.is_last() || self.filled >= size {
                 break;
+            }
+            if self.filled >= self.block.len() {
+                self.grow(size)?;
             }
             match device.read_some(&mut self.block.as_mut_slice()[self.filled..]) {
                 Ok(0) => self.rest = Rest::None,

@@ -1,4 +1,3 @@
-use Rattle.std.proofs.Common.{◌≡◌}
 use Rattle.bzip2_reader.proofs.ChecksumLaws.{look_up}
 use Rattle.bzip2_reader.proofs.checksum.after_byte.Goals as goal
 

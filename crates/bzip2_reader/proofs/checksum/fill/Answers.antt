@@ -1,4 +1,4 @@
-use Rattle.std.proofs.Common.{◌≡◌, ◌*◌, ◌%◌, ◌^◌, ◌-◌, ◌<◌, ℕ, refl, sym, ◌∙◌, ap, arith, slice_index}
+use Rattle.std.proofs.Common.{◌≡◌, ◌*◌, ◌%◌, ◌^◌, ◌-◌, refl, ◌∙◌, ap, arith, slice_index}
 use Rattle.bzip2_reader.specs.Checksums.{crc_bits}
 use Rattle.bzip2_reader.proofs.ChecksumLaws.{table_first, table_more, table_next}
 use Rattle.bzip2_reader.proofs.checksum.fill.Goals as goal

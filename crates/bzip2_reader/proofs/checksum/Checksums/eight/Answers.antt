@@ -1,4 +1,4 @@
-use Rattle.std.proofs.Common.{◌≡◌, ◌-◌, ℕ, ◌∙◌, sym, ap, arith, take, drop}
+use Rattle.std.proofs.Common.{◌-◌, ℕ, ◌∙◌, sym, ap, arith, take, drop}
 use Rattle.byteorder.specs.Endian.{big_from}
 use Rattle.bzip2_reader.proofs.ChecksumLaws.{crc_eight, xor_both}
 use Rattle.bzip2_reader.proofs.checksum.Checksums.eight.Goals as goal

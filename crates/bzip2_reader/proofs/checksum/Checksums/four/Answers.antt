@@ -1,4 +1,3 @@
-use Rattle.std.proofs.Common.{◌≡◌}
 use Rattle.bzip2_reader.proofs.ChecksumLaws.{four_look_ups}
 use Rattle.bzip2_reader.proofs.checksum.Checksums.four.Goals as goal
 

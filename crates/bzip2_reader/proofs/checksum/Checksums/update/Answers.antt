@@ -1,4 +1,4 @@
-use Rattle.std.proofs.Common.{◌≡◌, ◌+◌, ◌-◌, ℕ, refl, sym, ◌∙◌, ap, arith, take, drop, take_all}
+use Rattle.std.proofs.Common.{◌≡◌, ◌+◌, ◌-◌, ℕ, refl, ◌∙◌, ap, arith, take, drop}
 use Rattle.bzip2_reader.specs.Checksums.{crc}
 use Rattle.bzip2_reader.proofs.ChecksumLaws.{crc_more, crc_one}
 use Rattle.bzip2_reader.proofs.checksum.Checksums.update.Goals as goal
