@@ -9,6 +9,10 @@ use Rattle.bzip2_reader.specs.Endings.{agrees}
 abbrev pub damage_of : {D : Type 0} → Bunzip D → Option Damage
 damage_of b = b.ending.damage
 
+-- the device that it reads from
+abbrev pub device_of : {D : Type 0} → Bunzip D → D
+device_of b = b.streams.device
+
 -- all bytes were given: there is no damage, or one of the data
 abbrev pub HasEnded : {D : Type 0} → Bunzip D → Type 0
 HasEnded b = (b.ending.phase ≡ Ended) × IsTrue (agrees Ended (damage_of b))
