@@ -1,0 +1,91 @@
+-- What the first bytes of a file tell of all.
+use Rattle.std.proofs.Common.{◌≡◌, ◌≤◌, ◌+◌, ◌⊎◌, inl, inr, ℕ, List, [], ◌++◌, Option, None, Some, Result, refl, sym, ap, ◌∙◌, append_assoc, length, take, drop, subst, take-append-drop, arith}
+use Rattle.std.proofs.lemmas.Grind.{common_steps}
+use Rattle.std.proofs.lemmas.List.{drop-drop}
+use lib.Seq.{take-append_seam}
+use Rattle.std.specs.Io.KnownBytes.{Consumes, IsAtEnd, Keeps, ReadConsumes, prepend_known}
+use Rattle.std.proofs.KnownBytes.{Keeps-refl, prepend_known-nil}
+use Rattle.packed_io.specs.Formats.{format_of, told_in, told_of}
+use Rattle.packed_io.specs.declared.format.Format.{Format}
+use Rattle.packed_io.specs.declared.format.Format.TheVariants.{Plain, Gzip, Bzip2}
+
+-- first bytes that were read are first of the known ones
+pub added : (start a b : Option (List ℕ)) (head bytes new : List ℕ) → Keeps start (prepend_known head a) → Consumes a b bytes → new ≡ head ++ bytes → Keeps start (prepend_known new b)
+added None a b head bytes new k c e = tt
+added (Some x) None b head bytes new k c e = absurd k
+added (Some x) (Some y) None head bytes new k c e = absurd c
+added (Some x) (Some y) (Some z) head bytes new k c e = ap (λ l. l ++ z) e ∙ append_assoc head bytes z ∙ ap (λ l. head ++ l) (sym c) ∙ k
+
+-- none were read
+pub waits : (start a b : Option (List ℕ)) (head : List ℕ) → Keeps start (prepend_known head a) → Keeps a b → Keeps start (prepend_known head b)
+waits None a b head k s = tt
+waits (Some x) None b head k s = absurd k
+waits (Some x) (Some y) None head k s = absurd s
+waits (Some x) (Some y) (Some z) head k s = ap (λ l. head ++ l) s ∙ k
+
+-- some of the first bytes were given
+pub gave : (known : Option (List ℕ)) (left given now : List ℕ) → left ≡ given ++ now → Consumes (prepend_known left known) (prepend_known now known) given
+gave None left given now e = tt
+gave (Some x) left given now e = ap (λ l. l ++ x) e ∙ append_assoc given now x
+
+-- after the first bytes come the device's
+pub behind : {E : Type 0} (left : List ℕ) (a b : Option (List ℕ)) (result : Result ℕ E) (buffer : List ℕ) → left ≡ [] → ReadConsumes a b result buffer → ReadConsumes (prepend_known left a) (prepend_known left b) result buffer
+behind left a b result buffer e h =
+    let first = subst (λ (x : Option (List ℕ)). ReadConsumes x b result buffer) (sym (prepend_known-nil a)) h in
+    let both = subst (λ (x : Option (List ℕ)). ReadConsumes (prepend_known [] a) x result buffer) (sym (prepend_known-nil b)) first in
+    subst (λ (l : List ℕ). ReadConsumes (prepend_known l a) (prepend_known l b) result buffer) (sym e) both
+
+front_whole : (head rest : List ℕ) → length head ≡ 10 → take 10 (head ++ rest) ≡ head
+front_whole head rest e = subst (λ n. take n (head ++ rest) ≡ head) e (take-append_seam head rest)
+
+front_all : (head rest : List ℕ) → length head ≤ 10 → rest ≡ [] → take 10 (head ++ rest) ≡ head
+front_all head rest h e = grind (arith, common_steps)
+
+front : (head rest : List ℕ) → length head ≤ 10 → (length head ≡ 10) ⊎ (rest ≡ []) → take 10 (head ++ rest) ≡ head
+front head rest h (inl e) = front_whole head rest e
+front head rest h (inr e) = front_all head rest h e
+
+nothing_told : (form : Format) → told_in form None ≡ None
+nothing_told Plain = refl
+nothing_told Gzip = refl
+nothing_told Bzip2 = refl
+
+-- ten first bytes, or all of a shorter file, tell of all
+told_whole : (head : List ℕ) (known : Option (List ℕ)) → length head ≤ 10 → (length head ≡ 10) ⊎ IsAtEnd known → told_of (prepend_known head known) ≡ told_in (format_of head) (prepend_known head known)
+told_whole head None h w = sym (nothing_told (format_of head))
+told_whole head (Some rest) h w = ap (λ l. told_in (format_of l) (Some (head ++ rest))) (front head rest h w)
+
+told_as : (head : List ℕ) (known : Option (List ℕ)) (form : Format) → length head ≤ 10 → (length head ≡ 10) ⊎ IsAtEnd known → form ≡ format_of head → told_of (prepend_known head known) ≡ told_in form (prepend_known head known)
+told_as head known form h w e = told_whole head known h w ∙ ap (λ f. told_in f (prepend_known head known)) (sym e)
+
+-- a file that is read as it is gives all
+pub opens_plain : (head : List ℕ) (known now : Option (List ℕ)) (form : Format) → length head ≤ 10 → (length head ≡ 10) ⊎ IsAtEnd known → form ≡ format_of head → form ≡ Plain → now ≡ prepend_known head known → Keeps (told_of (prepend_known head known)) now
+opens_plain head known now form h w e p n =
+    let told = told_as head known form h w e ∙ ap (λ f. told_in f (prepend_known head known)) p in
+    subst (λ (x : Option (List ℕ)). Keeps x now) (sym told) (subst (λ (x : Option (List ℕ)). Keeps (prepend_known head known) x) (sym n) (Keeps-refl (prepend_known head known)))
+
+packed_none : (form : Format) (known : Option (List ℕ)) → (form ≡ Gzip) ⊎ (form ≡ Bzip2) → told_in form known ≡ None
+packed_none form known (inl e) = ap (λ f. told_in f known) e
+packed_none form known (inr e) = ap (λ f. told_in f known) e
+
+-- of a packed one nothing is told
+pub opens_packed : (head : List ℕ) (known : Option (List ℕ)) (form : Format) → length head ≤ 10 → (length head ≡ 10) ⊎ IsAtEnd known → form ≡ format_of head → (form ≡ Gzip) ⊎ (form ≡ Bzip2) → Keeps (told_of (prepend_known head known)) None
+opens_packed head known form h w e p =
+    subst (λ (x : Option (List ℕ)). Keeps x None) (sym (told_as head known form h w e ∙ packed_none form (prepend_known head known) p)) tt
+
+-- some of the first bytes were given: which these are
+pub split_front : (all rest taken : List ℕ) (given count : ℕ) → rest ≡ drop given all → taken ≡ take count rest → drop given all ≡ taken ++ drop (given + count) all
+split_front all rest taken given count e t =
+    sym (take-append-drop count (drop given all)) ∙ ap (λ l. l ++ drop count (drop given all)) (sym (t ∙ ap (take count) e)) ∙ ap (λ l. taken ++ l) (drop-drop count given all)
+
+-- a read after what loses nothing
+pub then_consumes : (a b c : Option (List ℕ)) (bytes : List ℕ) → Keeps a b → Consumes b c bytes → Consumes a c bytes
+then_consumes None b c bytes k s = tt
+then_consumes (Some x) None c bytes k s = absurd k
+then_consumes (Some x) (Some y) None bytes k s = absurd s
+then_consumes (Some x) (Some y) (Some z) bytes k s = sym k ∙ s
+
+-- where nothing is told, any bytes may come
+pub untold_consumes : (a c : Option (List ℕ)) (bytes : List ℕ) → Keeps a None → Consumes a c bytes
+untold_consumes None c bytes k = tt
+untold_consumes (Some x) c bytes k = absurd k

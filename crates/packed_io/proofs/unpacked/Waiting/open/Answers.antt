@@ -1,0 +1,21 @@
+use Rattle.std.proofs.Common.{◌≤◌, length, refl, ap, ◌∙◌, subst}
+use Rattle.packed_io.specs.Devices.{head_bytes, place_remaining}
+use Rattle.std.specs.Io.KnownBytes.{prepend_known}
+use Rattle.packed_io.specs.Formats.{format_of}
+use Rattle.packed_io.proofs.HeadLaws.{opens_packed, opens_plain}
+use Rattle.packed_io.proofs.unpacked.Waiting.open.Goals as goal
+
+pub returns-in-Plain-clause-opened : goal.returns-in-Plain-clause-opened
+returns-in-Plain-clause-opened g c =
+    let head = head_bytes c.args.self.now.head in
+    let size = subst (λ l. length l ≤ 10) c.as_slice.ensures.bytes c.as_slice.ensures.size in
+    let form = c.format_of-format.ensures ∙ ap format_of c.as_slice.ensures.bytes in
+    let now = c.new.ensures ∙ ap (λ p. prepend_known head (place_remaining g.D.Read.remaining p)) c.take_out.ensures in
+    (tt, refl, opens_plain head _ _ _ size c.requires form c.in-Plain.is now)
+
+pub returns-in_ok-decoder-in-Gzip : goal.returns-in_ok-decoder-in-Gzip
+returns-in_ok-decoder-in-Gzip g c =
+    let head = head_bytes c.args.self.now.head in
+    let size = subst (λ l. length l ≤ 10) c.as_slice.ensures.bytes c.as_slice.ensures.size in
+    let form = c.format_of-format.ensures ∙ ap format_of c.as_slice.ensures.bytes in
+    record { opened = (tt, refl, opens_packed head _ _ size c.requires form c.in-Gzip.is); kept = tt }

@@ -1,0 +1,5 @@
+pub mod Devices
+pub mod Faults
+pub mod Formats
+pub mod Reading
+pub mod Stages

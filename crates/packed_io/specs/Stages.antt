@@ -1,0 +1,79 @@
+-- How far a file was read.
+use Rattle.std.specs.Prelude.{◌≡◌, ◌<◌, ◌≤◌, ◌⊎◌, ⊤, ℕ, Bool, true, not, List, [], Option, Some, None, length}
+use Rattle.std.specs.Io.KnownBytes.{IsAtEnd, Keeps, prepend_known}
+use Rattle.run_io.specs.Readers.{blocks_remaining}
+use Rattle.packed_io.specs.Devices.{first_remaining, head_bytes, place_remaining}
+use Rattle.packed_io.specs.Faults.{EndsTheData, FailsReading, ends_by, format_of_fault}
+use Rattle.packed_io.specs.Formats.{told_of}
+use Rattle.packed_io.specs.declared.decoder.Outcome.{Outcome}
+use Rattle.packed_io.specs.declared.decoder.Outcome.TheVariants as outcome
+use Rattle.packed_io.specs.declared.fault.PackedFault.{PackedFault}
+use Rattle.packed_io.specs.declared.format.Format.{Format}
+use Rattle.packed_io.specs.declared.format.Format.TheVariants as format
+use Rattle.packed_io.specs.declared.unpacked.Stage.{Stage}
+use Rattle.packed_io.specs.declared.unpacked.Stage.TheVariants.{Waiting, Plain, Packed, Ended, Failed}
+use Rattle.packed_io.specs.declared.unpacked.Waiting as waiting
+
+-- what a read of a packed file comes to: bytes, none only where there is no room; an end; a failure
+abbrev pub IsOutcome : Outcome → List ℕ → Type 0
+IsOutcome (outcome.Gave n) buffer = (n ≤ length buffer) × (n ≡ 0 → 0 < length buffer → ⊥)
+IsOutcome (outcome.Ended fault) buffer = EndsTheData fault
+IsOutcome (outcome.Failed fault error) buffer = FailsReading (Some fault)
+
+-- the first bytes of a file, as far as they were read, and then those of its device, where these are known
+abbrev pub known_bytes : {D : Type 0} → (D → Option (List ℕ)) → waiting.Waiting D → Option (List ℕ)
+known_bytes remaining w = prepend_known (head_bytes w.head) (place_remaining remaining w.place)
+
+-- ten first bytes were read, or all that the device has
+abbrev pub IsWhole : {D : Type 0} → (D → Option (List ℕ)) → waiting.Waiting D → Type 0
+IsWhole remaining w = (length (head_bytes w.head) ≡ 10) ⊎ IsAtEnd (place_remaining remaining w.place)
+
+abbrev pub stage_remaining : {D : Type 0} → (D → Option (List ℕ)) → Stage D → Option (List ℕ)
+stage_remaining remaining (Waiting w) = told_of (known_bytes remaining w)
+stage_remaining remaining (Plain blocks) = blocks_remaining (first_remaining remaining) blocks
+stage_remaining remaining (Packed form decoder) = None
+stage_remaining remaining (Ended form fault) = Some []
+stage_remaining remaining (Failed fault error) = None
+
+abbrev pub StageWaits : {D : Type 0} → Stage D → Type 0
+StageWaits (Waiting w) = ⊤
+StageWaits other = ⊥
+
+abbrev pub StageBegun : {D : Type 0} → Stage D → Type 0
+StageBegun (Waiting w) = ⊥
+StageBegun other = ⊤
+
+abbrev pub StagePacked : {D : Type 0} → Stage D → Type 0
+StagePacked (Waiting w) = ⊥
+StagePacked (Plain blocks) = ⊥
+StagePacked other = ⊤
+
+abbrev pub StageEnded : {D : Type 0} → Stage D → Type 0
+StageEnded (Ended form fault) = EndsTheData fault
+StageEnded other = ⊥
+
+abbrev pub StageFailed : {D : Type 0} → Stage D → Type 0
+StageFailed (Failed fault error) = FailsReading (Some fault)
+StageFailed other = ⊥
+
+-- whether the fault agrees with how it ended
+abbrev pub is_told : {D : Type 0} → Stage D → Bool
+is_told (Ended form fault) = ends_by fault
+is_told (Failed fault error) = not (ends_by (Some fault))
+is_told other = true
+
+-- what begins to give the file's bytes tells the same of them
+abbrev pub Opens : {D : Type 0} → (D → Option (List ℕ)) → waiting.Waiting D → Stage D → Type 0
+Opens remaining w stage = StageBegun stage × (is_told stage ≡ true) × Keeps (told_of (known_bytes remaining w)) (stage_remaining remaining stage)
+
+abbrev pub stage_format : {D : Type 0} → Stage D → Option Format
+stage_format (Waiting w) = None
+stage_format (Plain blocks) = Some format.Plain
+stage_format (Packed form decoder) = Some form
+stage_format (Ended form fault) = Some form
+stage_format (Failed fault error) = Some (format_of_fault fault)
+
+abbrev pub stage_fault : {D : Type 0} → Stage D → Option PackedFault
+stage_fault (Ended form fault) = fault
+stage_fault (Failed fault error) = Some fault
+stage_fault other = None

@@ -1,0 +1,149 @@
+//! What unpacks a file.
+
+ghost use Rattle.std.specs.Prelude.{◌≡◌, OnErr};
+ghost use Rattle.packed_io.specs.Stages.{IsOutcome};
+
+use crate::fault::{PackedCause, PackedFault};
+use crate::format::Format;
+use crate::head::Head;
+use crate::place::Place;
+use bzip2_reader::{Bunzip, Cause, Damage};
+use gzip_reader::{Fault, Gunzip};
+use mrt_frame::{Counted, Source};
+use std::alloc::{AllocError, Global};
+use std::io::{self, ErrorKind, Read};
+
+/// What a read of a packed file comes to.
+pub(crate) enum Outcome {
+    /// It gave so many bytes: none only where there is no room.
+    Gave(usize),
+    /// All bytes were given.
+    Ended(Option<PackedFault>),
+    Failed(PackedFault, io::Error),
+}
+
+/// What unpacks a file.
+#[derive(Drop)]
+pub(crate) enum Decoder<D> {
+    /// It isn't made yet: a file of no bytes.
+    Empty,
+    Gzip(Gunzip<Counted<Place<D>>>),
+    Bzip2(Bunzip<Counted<Place<D>>>),
+}
+
+/// The fault of a gzip file.
+fn gzip_fault(fault: Fault) -> PackedFault
+    ensures offset { result.offset ≡ fault.offset }
+    ensures cause { result.cause ≡ PackedCause.Gzip fault.flaw }
+{
+    PackedFault {
+        offset: fault.offset,
+        cause: PackedCause::Gzip(fault.flaw),
+    }
+}
+
+/// The fault of a bzip2 file.
+fn bzip2_fault(damage: Damage) -> PackedFault
+    ensures offset { result.offset ≡ damage.offset }
+    ensures cause { result.cause ≡ PackedCause.Bzip2 damage.cause }
+{
+    PackedFault {
+        offset: damage.offset,
+        cause: PackedCause::Bzip2(damage.cause),
+    }
+}
+
+/// The error of a read that failed by this fault: the device's own, if it was that.
+fn error_of(fault: PackedFault, device: Option<io::Error>) -> io::Error {
+    match (fault.cause, device) {
+        (PackedCause::Gzip(gzip_reader::Flaw::Device), Some(error)) => error,
+        (PackedCause::Bzip2(Cause::Device), Some(error)) => error,
+        (PackedCause::Bzip2(Cause::Memory), _) => io::Error::from(ErrorKind::OutOfMemory),
+        _ => io::Error::new(ErrorKind::InvalidData, fault.words()),
+    }
+}
+
+fn read_gzip<D: Read>(gunzip: &mut Gunzip<Counted<Place<D>>>, buf: &mut [u8]) -> Outcome
+    ensures { IsOutcome result buf.new }
+{
+    match gunzip.read_some(buf) {
+        Ok(0) if !buf.is_empty() => Outcome::Ended(gunzip.fault().map(gzip_fault)),
+        Ok(count) => Outcome::Gave(count),
+        Err(_) => match gunzip.fault() {
+            Some(fault) => {
+                let fault = gzip_fault(fault);
+                Outcome::Failed(fault, error_of(fault, gunzip.source().device().error()))
+            }
+            None => unreachable!(),
+        },
+    }
+}
+
+fn read_bzip2<D: Read>(bunzip: &mut Bunzip<Counted<Place<D>>>, buf: &mut [u8]) -> Outcome
+    ensures { IsOutcome result buf.new }
+{
+    match bunzip.read_some(buf) {
+        Ok(0) if !buf.is_empty() => Outcome::Ended(bunzip.damage().map(bzip2_fault)),
+        Ok(count) => Outcome::Gave(count),
+        Err(_) => match bunzip.damage() {
+            Some(damage) => {
+                let fault = bzip2_fault(damage);
+                Outcome::Failed(fault, error_of(fault, bunzip.device().device().error()))
+            }
+            None => unreachable!(),
+        },
+    }
+}
+
+impl<D: Read + Drop> Decoder<D> {
+    /// Makes what unpacks a file of this form with these first bytes, and takes the device out of its place. Without
+    /// memory for it the device stays there.
+    pub(crate) fn make(
+        alloc: Global,
+        format: Format,
+        head: &Head,
+        place: &mut Place<D>,
+    ) -> Result<Box<Decoder<D>>, AllocError>
+        ensures kept { OnErr result (place.new ≡ place.old) }
+    {
+        let mut made = Box::new(alloc, Decoder::Empty)?;
+        match format {
+            Format::Plain => {}
+            Format::Gzip => {
+                let gunzip = Gunzip::with_head(alloc, head.as_slice(), ())?;
+                *made = Decoder::Gzip(gunzip.over(Counted::new(place.take_out())));
+            }
+            Format::Bzip2 => {
+                let front = Vec::from_slice(alloc, head.as_slice())?;
+                *made = Decoder::Bzip2(Bunzip::with_front(
+                    front,
+                    Counted::new(place.take_out()),
+                    1,
+                ));
+            }
+        }
+        Ok(made)
+    }
+}
+
+impl<D: Read> Decoder<D> {
+    /// How many bytes were read of the device.
+    pub(crate) fn bytes_read(&self) -> u64 {
+        match self {
+            Decoder::Empty => 0,
+            Decoder::Gzip(gunzip) => gunzip.source().device().bytes_read(),
+            Decoder::Bzip2(bunzip) => bunzip.device().device().bytes_read(),
+        }
+    }
+
+    /// Reads some bytes.
+    pub(crate) fn read(&mut self, buf: &mut [u8]) -> Outcome
+        ensures { IsOutcome result buf.new }
+    {
+        match self {
+            Decoder::Empty => Outcome::Ended(None),
+            Decoder::Gzip(gunzip) => read_gzip(gunzip, buf),
+            Decoder::Bzip2(bunzip) => read_bzip2(bunzip, buf),
+        }
+    }
+}

@@ -1,0 +1,221 @@
+//! A reader of files that may be packed.
+
+ghost use Rattle.std.specs.Prelude.{◌≡◌, ◌<◌, length, true, IfOk, IsErr, IsOk, OnErr, OnOk};
+ghost use Rattle.std.specs.Io.{ReadsAtMost};
+ghost use Rattle.std.specs.Io.KnownBytes.{Keeps, ReadConsumes};
+ghost use Rattle.packed_io.specs.Formats.{told_of};
+ghost use Rattle.packed_io.specs.Faults.{EndsTheData, FailsReading};
+ghost use Rattle.packed_io.specs.Stages.{IsWhole, Opens, is_told, known_bytes};
+
+use crate::decoder::{Decoder, Outcome};
+use crate::fault::PackedFault;
+use crate::format::{Format, format_of};
+use crate::head::{Head, HeadFirst, TELLING};
+use crate::place::Place;
+use run_io::Blocks;
+use std::alloc::Global;
+use std::io::{self, Read};
+
+/// A file of which only first bytes were read.
+#[derive(Drop)]
+struct Waiting<D> {
+    head: Head,
+    place: Place<D>,
+}
+
+impl<D: Read> Waiting<D> {
+    /// Reads until there are ten first bytes, or the file ends. What was read before a failure stays.
+    fn fill(&mut self) -> io::Result<()>
+        ensures kept { Keeps (known_bytes D.remaining self.old) (known_bytes D.remaining self.new) }
+        ensures whole { OnOk result (IsWhole D.remaining self.new) }
+    {
+        for _reads in 0..TELLING {
+            let room = self.head.room();
+            if room == 0 {
+                break;
+            }
+            let mut bytes = [0u8; TELLING];
+            let count = self.place.read(&mut bytes[..room])?;
+            if count == 0 {
+                break;
+            }
+            self.head.add(&bytes[..count]);
+        }
+        Ok(())
+    }
+}
+
+/// How far a file was read.
+#[derive(Drop)]
+enum Stage<D> {
+    Waiting(Waiting<D>),
+    /// It is read as it is.
+    Plain(Blocks<HeadFirst<D>>),
+    Packed(Format, Box<Decoder<D>>),
+    /// A packed file was read to its end.
+    Ended(Format, Option<PackedFault>),
+    /// A packed file can't be read on.
+    Failed(PackedFault, io::Error),
+}
+
+impl<D: Read> Waiting<D> {
+    /// Begins to give the file's bytes, after its first ones were read. Without memory nothing changes.
+    fn open(&mut self, alloc: Global) -> io::Result<Stage<D>>
+    where
+        D: Drop,
+        requires { IsWhole D.remaining self.old }
+        ensures opened { IfOk result (λ stage. Opens D.remaining self.old stage) }
+        ensures kept { OnErr result (self.new ≡ self.old) }
+    {
+        let format = format_of(self.head.as_slice());
+        match format {
+            Format::Plain => Ok(Stage::Plain(Blocks::new(
+                alloc,
+                HeadFirst {
+                    head: self.head,
+                    given: 0,
+                    place: self.place.take_out(),
+                },
+            ))),
+            Format::Gzip | Format::Bzip2 => {
+                let decoder = Decoder::make(alloc, format, &self.head, &mut self.place)?;
+                Ok(Stage::Packed(format, decoder))
+            }
+        }
+    }
+}
+
+/// A reader of a file that may be packed. Its first ten bytes tell whether it is one of gzip or of bzip2, whose data is
+/// then given unpacked; any other file is given as it is, in blocks of 64 KiB. Memory for it exists only while it is
+/// read. The device is dropped at its end, and once a packed file can't be read on.
+#[derive(Drop)]
+pub struct Unpacked<D> {
+    alloc: Global,
+    stage: Stage<D>,
+    /// How many bytes were read of a packed file that is over, or given of a plain one.
+    bytes: u64,
+    ghost told: { is_told stage ≡ true },
+}
+
+impl<D: Read> Unpacked<D> {
+    ghost use Rattle.packed_io.specs.Reading.{HasEnded, HasFailed, IsBegun, IsWaiting, fault_told, format_told, unpacked_remaining};
+
+    pub fn new(alloc: Global, device: D) -> Unpacked<D>
+        ensures { unpacked_remaining D.remaining result ≡ told_of (D.remaining device) }
+    {
+        Unpacked {
+            alloc,
+            stage: Stage::Waiting(Waiting {
+                head: Head::new(),
+                place: Place::of(device),
+            }),
+            bytes: 0,
+        }
+    }
+
+    /// In which form the file is, once its first bytes were read.
+    pub fn format(&self) -> Option<Format>
+        ensures { result ≡ format_told self.now }
+    {
+        match &self.stage {
+            Stage::Waiting(_) => None,
+            Stage::Plain(_) => Some(Format::Plain),
+            Stage::Packed(format, _) | Stage::Ended(format, _) => Some(*format),
+            Stage::Failed(fault, _) => Some(fault.format()),
+        }
+    }
+
+    /// How many bytes of the file were read, which are compressed if it is packed. Of a plain file it is how many were
+    /// given.
+    pub fn packed_bytes(&self) -> u64 {
+        match &self.stage {
+            Stage::Waiting(waiting) => waiting.place.bytes_read(),
+            Stage::Packed(_, decoder) => decoder.bytes_read(),
+            _ => self.bytes,
+        }
+    }
+
+    /// What is wrong with a packed file, once its end or a failure was told.
+    pub fn fault(&self) -> Option<PackedFault>
+        ensures told { result ≡ fault_told self.now }
+        ensures ended { HasEnded self.now → EndsTheData result }
+        ensures failed { HasFailed self.now → FailsReading result }
+    {
+        match &self.stage {
+            Stage::Ended(_, fault) => *fault,
+            Stage::Failed(fault, _) => Some(*fault),
+            _ => None,
+        }
+    }
+
+    /// Reads the first bytes, and makes what gives the file's. What fails leaves all to be given.
+    fn begin(&mut self) -> io::Result<()>
+    where
+        D: Drop,
+        ensures kept { Keeps (unpacked_remaining D.remaining self.old) (unpacked_remaining D.remaining self.new) }
+        ensures begun { OnOk result (IsBegun self.new) }
+        ensures waiting { OnErr result (IsWaiting self.new) }
+        ensures same { IsBegun self.old → IsOk result × (self.new ≡ self.old) }
+    {
+        if let Stage::Waiting(waiting) = &mut self.stage {
+            waiting.fill()?;
+            self.stage = waiting.open(self.alloc)?;
+        }
+        Ok(())
+    }
+}
+
+impl<D: Read + Drop> Read for Unpacked<D> {
+    ghost use Rattle.packed_io.specs.Reading.{HasEnded, HasFailed, IsPacked, unpacked_remaining};
+
+    ghost remaining = { unpacked_remaining D.remaining };
+
+    fn read(&mut self, buf: &mut [u8]) -> io::Result<usize>
+        ensures bound { ReadsAtMost result buf.new }
+        ensures bytes { ReadConsumes (unpacked_remaining D.remaining self.old) (unpacked_remaining D.remaining self.new) result buf.new }
+        // Of a packed file the end and a failure are told by `fault`, and are final.
+        ensures fails { OnErr result (IsPacked self.new → HasFailed self.new) }
+        ensures ends { result ≡ Ok 0 → 0 < length buf.new → IsPacked self.new → HasEnded self.new }
+        ensures stays_failed { HasFailed self.old → IsErr result × (self.new ≡ self.old) }
+        ensures stays_ended { HasEnded self.old → (result ≡ Ok 0) × (self.new ≡ self.old) }
+    {
+        self.begin()?;
+        match &mut self.stage {
+            Stage::Waiting(_) => unreachable!(),
+            Stage::Plain(blocks) => match blocks.read(buf) {
+                Ok(count) => {
+                    self.bytes = self.bytes.saturating_add(count as u64);
+                    Ok(count)
+                }
+                Err(error) => Err(error),
+            },
+            Stage::Packed(format, decoder) => {
+                let format = *format;
+                let outcome = decoder.read(buf);
+                self.bytes = decoder.bytes_read();
+                match outcome {
+                    Outcome::Gave(count) => Ok(count),
+                    Outcome::Ended(fault) => {
+                        self.stage = Stage::Ended(format, fault);
+                        Ok(0)
+                    }
+                    Outcome::Failed(fault, error) => {
+                        self.stage = Stage::Failed(fault, error);
+                        Err(error)
+                    }
+                }
+            }
+            Stage::Ended(_, _) => Ok(0),
+            Stage::Failed(_, error) => Err(*error),
+        }
+    }
+}
+
+impl<D: Read + Drop> Unpacked<D> {
+    ghost use Rattle.packed_io.specs.Reading.{unpacked_remaining};
+
+    /// What is known of the bytes to come: all of a file that is read as it is, and nothing of one that is packed.
+    pub fn gives_its_bytes(&self)
+        ensures { ⟦<Unpacked<D> as Read>⟧.remaining self.now ≡ unpacked_remaining D.remaining self.now }
+    {}
+}
