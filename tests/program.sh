@@ -318,10 +318,10 @@ lists 'tables --until 1970-01-01T00:17:10Z --prefix 198.51.100.0/24' "$two_24"
 lists 'tables --until 1970-01-02 --prefix 203.0.113.0/24' "$one_203"
 
 # what isn't MRT is named
-printf 'PK\3\4\24\0\0\0\10\0 and so on' > packed.zip; printf '\37\213\10\0\0\0\0\0\0\3' > packed.gz; printf 'TABLE_DUMP2|1|B|\n' > lines.txt
+printf 'PK\3\4\24\0\0\0\10\0 and so on' > packed.zip; printf '\375\067zXZ\0\0\4' > packed.xz; printf 'TABLE_DUMP2|1|B|\n' > lines.txt
 try 1 'damaged: 1' nothing tables packed.zip; [ "$(tail -n +2 said)" = '  packed.zip: looks like zip data; try: bgp_replay tables <(unzip -p packed.zip)' ] && right || wrong "zip data: $(tail -n +2 said)"
 INPUT=packed.zip try 1 'damaged: 1' something faults -; [ "$(tail -n +2 said)" = '  standard input: looks like zip data; try: unzip -p FILE | bgp_replay faults -' ] && right || wrong "zip data: $(tail -n +2 said)"
-try 1 'damaged: 1' nothing tables packed.gz; [ "$(tail -n +2 said)" = '  packed.gz: looks like gzip data; try: bgp_replay tables <(zcat packed.gz)' ] && right || wrong "gzip data: $(tail -n +2 said)"
+try 1 'damaged: 1' nothing tables packed.xz; [ "$(tail -n +2 said)" = '  packed.xz: looks like xz data; try: bgp_replay tables <(xzcat packed.xz)' ] && right || wrong "xz data: $(tail -n +2 said)"
 try 1 'damaged: 1' nothing tables lines.txt; [ "$(tail -n +2 said)" = '  lines.txt: looks like text, and not like an MRT dump' ] && right || wrong "text: $(tail -n +2 said)"
 
 # --summary: lines of a key and a value

@@ -1,14 +1,15 @@
 //! The dumps that are read, and the failures to open them.
 
 ghost use Rattle.std.specs.Prelude.{◌≡◌};
-ghost use Rattle.bgp_replay.specs.Devices.{dump_blocks, dump_remaining};
+ghost use Rattle.packed_io.specs.Formats.{told_of};
+ghost use Rattle.bgp_replay.specs.Devices.{dump_contents, dump_remaining};
 
 use crate::counts::Counts;
 use crate::progress::{Board, LOOK, ReadSoFar};
 use bgp_prefix::Memory;
 use command_line::{FirstBytes, Kind, Records};
 use mrt_frame::Counted;
-use run_io::Blocks;
+use packed_io::{Format, PackedFault, Unpacked};
 use std::fs::File;
 use std::io::{self, Read, Stdin};
 
@@ -99,8 +100,8 @@ impl Watched<'_> {
     }
 }
 
-/// A dump that is read in blocks of 64 KiB from a device. Its block of memory exists only while it is being read, and
-/// it is closed at its end.
+/// A dump that is read from a device, and unpacked if its first bytes are those of gzip or bzip2. Memory for it exists
+/// only while it is being read, and it is closed at its end.
 #[derive(Drop)]
 pub struct Dump<'a, D> {
     name: &'a str,
@@ -108,9 +109,10 @@ pub struct Dump<'a, D> {
     number: usize,
     /// Its size in bytes, if known.
     size: Option<u64>,
-    blocks: Blocks<D>,
+    contents: Unpacked<D>,
     /// Whether it has been read.
     is_begun: bool,
+    /// How many bytes were read so far, unpacked.
     bytes: u64,
     /// Whether its end has been read.
     is_at_end: bool,
@@ -132,7 +134,7 @@ impl<'a, D: Read> Dump<'a, D> {
         size: Option<u64>,
         watched: Watched<'a>,
     ) -> Dump<'a, D>
-        ensures { dump_remaining D.remaining result ≡ D.remaining device }
+        ensures { dump_remaining D.remaining result ≡ told_of (D.remaining device) }
     {
         let watch = if watched.is_any() {
             Some(Watch::new(rt, watched.board))
@@ -143,7 +145,7 @@ impl<'a, D: Read> Dump<'a, D> {
             name,
             number,
             size,
-            blocks: Blocks::new(rt.alloc(), device),
+            contents: Unpacked::new(rt.alloc(), device),
             is_begun: false,
             bytes: 0,
             is_at_end: false,
@@ -159,9 +161,22 @@ impl<'a, D: Read> Dump<'a, D> {
         self.name
     }
 
-    /// The number of bytes read so far.
+    /// The number of bytes read so far, unpacked.
     pub fn bytes(&self) -> u64 {
         self.bytes
+    }
+
+    /// In which form it is packed, and how many bytes of it were read so far, if it is packed.
+    pub fn packed(&self) -> Option<(Format, u64)> {
+        match self.contents.format() {
+            None | Some(Format::Plain) => None,
+            Some(format) => Some((format, self.contents.packed_bytes())),
+        }
+    }
+
+    /// What is wrong with the packed data, if anything is.
+    pub fn packed_fault(&self) -> Option<PackedFault> {
+        self.contents.fault()
     }
 
     /// Its records, if they are counted.
@@ -172,10 +187,16 @@ impl<'a, D: Read> Dump<'a, D> {
         }
     }
 
-    /// The number of its bytes that are in no whole record, if its size is known or its end was read.
+    /// The number of its bytes, unpacked, that are in no whole record, if it is known how many it has: it isn't packed
+    /// and its size is known, or its end was read.
     pub fn unread(&self) -> Option<u64> {
         let whole = self.records()?.whole_bytes();
-        match self.size {
+        let size = if self.packed().is_some() {
+            None
+        } else {
+            self.size
+        };
+        match size {
             Some(size) => Some(size.max(self.bytes).saturating_sub(whole)),
             None if self.is_at_end => Some(self.bytes.saturating_sub(whole)),
             None => None,
@@ -194,14 +215,18 @@ impl<'a, D: Read> Dump<'a, D> {
 
     /// Counts the bytes that were read, where someone wants to know.
     fn watch(&mut self, bytes: &[u8])
-        ensures { dump_blocks self.new ≡ dump_blocks self.old }
+        ensures { dump_contents self.new ≡ dump_contents self.old }
     {
+        let of_file = match self.packed() {
+            Some((_, packed_bytes)) => packed_bytes,
+            None => self.bytes,
+        };
         if let Some(watch) = &mut self.watch {
             if watch.take(bytes) {
                 watch.tell(ReadSoFar {
                     name: self.name,
                     number: self.number,
-                    bytes: self.bytes,
+                    bytes: of_file,
                     size: self.size,
                 });
             }
@@ -210,7 +235,7 @@ impl<'a, D: Read> Dump<'a, D> {
 
     /// Tells who counts that its units come now, before it is read.
     fn begin(&mut self)
-        ensures { dump_blocks self.new ≡ dump_blocks self.old }
+        ensures { dump_contents self.new ≡ dump_contents self.old }
     {
         if self.is_begun {
             return;
@@ -223,7 +248,7 @@ impl<'a, D: Read> Dump<'a, D> {
 
     /// Notes the bytes that were read.
     fn note(&mut self, bytes: &[u8])
-        ensures { dump_blocks self.new ≡ dump_blocks self.old }
+        ensures { dump_contents self.new ≡ dump_contents self.old }
     {
         self.first.take(bytes);
         self.bytes = self.bytes.saturating_add(bytes.len() as u64);
@@ -236,7 +261,7 @@ impl<D: Read + Drop> Read for Dump<'_, D> {
 
     fn read(&mut self, buf: &mut [u8]) -> io::Result<usize> {
         self.begin();
-        match self.blocks.read(buf) {
+        match self.contents.read(buf) {
             Ok(count) => {
                 self.note(&buf[..count]);
                 if count == 0 && !buf.is_empty() {
@@ -253,8 +278,8 @@ impl<D: Read + Drop> Read for Dump<'_, D> {
 }
 
 impl<'a, D: Read + Drop> Dump<'a, D> {
-    /// What is known of the bytes to come: what wasn't given yet of the block, and what is still to be read of the
-    /// device.
+    /// What is known of the bytes to come: what wasn't given yet of a block, and what is still to be read of the device;
+    /// nothing of a packed one.
     pub fn gives_its_bytes(&self)
         ensures { ⟦<Dump<'a, D> as Read>⟧.remaining self.now ≡ dump_remaining D.remaining self.now }
     {}

@@ -58,7 +58,7 @@ use std::marker::Sync;
 use std::process::ExitCode;
 use std::thread::{Threads, available_parallelism};
 use std::time::{Duration, Instant};
-use telling::{tell, tell_memory, tell_open, tell_summary, tell_write};
+use telling::{has_ended_early, tell, tell_memory, tell_open, tell_summary, tell_write};
 
 /// How many units are dealt in a round for each worker. Each round starts its threads anew, and at its end the dealer
 /// waits for the slowest worker. Routes are counted between rounds.
@@ -80,6 +80,9 @@ const MAX_RECORDS: u64 = 1 << 47;
 
 /// The exit status for bad arguments.
 const REFUSED: u8 = 2;
+
+/// The exit status if the dumps are damaged.
+const DAMAGED: u8 = 1;
 
 /// The exit status if a file, the writer or memory failed.
 const FAILED: u8 = 3;
@@ -363,7 +366,10 @@ fn replay_job(rt: &HostRuntime, threads: &(impl Threads + Sync), job: &Job) -> u
             elapsed,
         );
     }
-    status(&outcome)
+    match status(&outcome) {
+        0 if has_ended_early(inputs.as_slice()) => DAMAGED,
+        code => code,
+    }
 }
 
 fn main(rt: HostRuntime) -> ExitCode {

@@ -7,6 +7,7 @@ use crate::output::Output;
 use command_line::{FileName, Kind, Records};
 use mrt_frame::ReplayError;
 use mrt_replay::Summary;
+use packed_io::{Effect, Format, PackedFault};
 use rib_report::Request;
 use std::fmt::Display;
 use std::io::{self, ErrorKind};
@@ -53,8 +54,45 @@ pub fn tell_write(rt: &HostRuntime, error: Option<io::Error>) {
     }
 }
 
-/// Reports that a file couldn't be read, or that memory ran out if the allocation of its block
-/// failed.
+/// Returns the name of a form in which files are packed.
+fn name_of(format: Format) -> &'static str {
+    match format {
+        Format::Plain => "plain",
+        Format::Gzip => "gzip",
+        Format::Bzip2 => "bzip2",
+    }
+}
+
+/// Reports what is wrong with packed data, and where, in bytes of the compressed file.
+fn tell_packed(rt: &HostRuntime, name: &str, fault: &PackedFault) {
+    let shown = FileName(name);
+    let format = name_of(fault.format());
+    let offset = fault.offset;
+    let words = fault.words();
+    let _ = eprintln!(rt; "  {shown}: {format} data, offset {offset}: {words}");
+}
+
+/// Reports where packed files ended early.
+fn tell_ended(rt: &HostRuntime, inputs: &[Input<'_>]) {
+    for input in inputs {
+        let dump = input.device();
+        if let Some(fault) = dump.packed_fault() {
+            tell_packed(rt, dump.name(), &fault);
+        }
+    }
+}
+
+/// Whether the data of a packed file ended early, so that the report is without what stood behind.
+pub fn has_ended_early(inputs: &[Input<'_>]) -> bool {
+    for input in inputs {
+        if input.device().packed_fault().is_some() {
+            return true;
+        }
+    }
+    false
+}
+
+/// Reports that a file couldn't be read, or that memory ran out if an allocation for it failed.
 fn tell_read(rt: &HostRuntime, file: usize, inputs: &[Input<'_>]) {
     let number = file.saturating_add(1);
     let dump = inputs.get(file).map(|input| input.device());
@@ -65,7 +103,12 @@ fn tell_read(rt: &HostRuntime, file: usize, inputs: &[Input<'_>]) {
         }
         (Some(dump), Some(error)) => {
             let _ = eprintln!(rt; "read failed: file {number}");
-            tell_cause(rt, FileName(dump.name()), &error);
+            match dump.packed_fault() {
+                Some(fault) if fault.effect() == Effect::Failed => {
+                    tell_packed(rt, dump.name(), &fault);
+                }
+                _ => tell_cause(rt, FileName(dump.name()), &error),
+            }
         }
         _ => {
             let _ = eprintln!(rt; "read failed: file {number}");
@@ -133,6 +176,7 @@ pub fn tell(
             if damaged > 0 {
                 let _ = eprintln!(rt; "damaged: {damaged}");
             }
+            tell_ended(rt, inputs);
             if damaged > 0 || summary.units == 0 {
                 tell_kinds(rt, request, inputs);
             }
@@ -188,6 +232,12 @@ fn tell_file(rt: &HostRuntime, number: usize, dump: &Dump<'_, Device<'_>>) {
     let name = FileName(dump.name());
     let bytes = dump.bytes();
     let _ = eprintln!(rt; "file {number}: {name}\nfile {number} bytes: {bytes}");
+    if let Some((format, packed_bytes)) = dump.packed() {
+        let format = name_of(format);
+        let _ = eprintln!(rt;
+            "file {number} packed: {format}\nfile {number} packed bytes: {packed_bytes}"
+        );
+    }
     tell_or_none(rt, number, "unread", dump.unread());
     if let Some(records) = dump.records() {
         tell_records(rt, number, records);

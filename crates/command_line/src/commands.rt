@@ -15,7 +15,7 @@ static AFTER: &str = "Examples:
   bgp_replay origins rib.mrt
   bgp_replay churn --until 2024-01-01T01:00:00Z updates.mrt
   bgp_replay match --address 192.0.2.1 rib.mrt
-  bzcat updates.bz2 | bgp_replay faults -
+  bgp_replay churn rib.bz2 updates.gz
 
 Each command's help says what its columns are: bgp_replay tables --help
 
@@ -101,7 +101,9 @@ fn file_words<'a>(alloc: Global) -> Arg<'a> {
         .num_args(1..)
         .required(true)
         .action(ArgAction::Append)
-        .help("MRT dumps, uncompressed, replayed in this order; '-' is standard input")
+        .help(
+            "MRT dumps, plain or packed by gzip or bzip2, replayed in this order; '-' is standard input",
+        )
 }
 
 fn report_command<'a>(

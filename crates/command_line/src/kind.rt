@@ -8,8 +8,6 @@ const LOOKED_AT: usize = 8;
 /// A kind of data that is mistaken for a dump.
 #[derive(Clone, Copy, Debug, PartialEq, Eq)]
 pub enum Kind {
-    Gzip,
-    Bzip2,
     Xz,
     Zstd,
     Zip,
@@ -21,8 +19,6 @@ impl Kind {
     /// Its name, as in 'looks like'.
     pub fn name(self) -> &'static str {
         match self {
-            Kind::Gzip => "gzip data",
-            Kind::Bzip2 => "bzip2 data",
             Kind::Xz => "xz data",
             Kind::Zstd => "zstd data",
             Kind::Zip => "zip data",
@@ -34,8 +30,6 @@ impl Kind {
     /// The command that unpacks it, if it is a packed file.
     pub fn unpacker(self) -> Option<&'static str> {
         match self {
-            Kind::Gzip => Some("zcat"),
-            Kind::Bzip2 => Some("bzcat"),
             Kind::Xz => Some("xzcat"),
             Kind::Zstd => Some("zstdcat"),
             Kind::Zip => Some("unzip -p"),
@@ -75,8 +69,6 @@ impl FirstBytes {
     /// its time, and the fifth is 0.
     pub fn kind(&self) -> Option<Kind> {
         match &self.bytes[..self.len] {
-            [0x1f, 0x8b, 0x08, ..] => Some(Kind::Gzip),
-            [b'B', b'Z', b'h', b'1'..=b'9', ..] => Some(Kind::Bzip2),
             [0xfd, b'7', b'z', b'X', b'Z', 0, ..] => Some(Kind::Xz),
             [0x28, 0xb5, 0x2f, 0xfd, ..] => Some(Kind::Zstd),
             [b'P', b'K', 3, 4, ..] => Some(Kind::Zip),
