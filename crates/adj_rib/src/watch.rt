@@ -184,7 +184,7 @@ impl<M: PrefixMap<SharedRoute>> Watch<M> {
     }
 
     /// Takes the next unit, which is read by way of a buffer, whose contents are replaced, and adds what it did to keys
-    /// of chosen prefixes to the notes. A damaged unit is listed. After an `Err` the watch stands for no units any more.
+    /// of chosen prefixes to the notes. A damaged unit is listed. After an `Err` the watch no longer stands for units.
     pub fn take(
         &mut self,
         alloc: Global,

@@ -278,8 +278,8 @@ impl<D: Read + Drop> Read for Dump<'_, D> {
 }
 
 impl<'a, D: Read + Drop> Dump<'a, D> {
-    /// What is known of the bytes to come: what wasn't given yet of a block, and what is still to be read of the device;
-    /// nothing of a packed one.
+    /// What is known of the bytes to come: what wasn't given yet of a block, and what is still to be read of the
+    /// device; nothing of a packed one.
     pub fn gives_its_bytes(&self)
         ensures { ⟦<Dump<'a, D> as Read>⟧.remaining self.now ≡ dump_remaining D.remaining self.now }
     {}

@@ -20,8 +20,8 @@
 //! - `--prefix` takes a prefix, alone or with `+` (itself and more specifics) or `-` (itself and what contains it); an
 //!   address alone is the prefix of length 32. Bits past the length are refused: they are mostly a typing error. Each
 //!   `--prefix` adds to the others, while of other options the last one counts.
-//! - `--prefixes` takes files with a prefix in each line. `read_list` reads such a text and is exact in both directions;
-//!   a job has the files' names, which the program opens and reads.
+//! - `--prefixes` takes files with a prefix in each line. `read_list` reads such a text and is exact in both
+//!   directions; a job has the files' names, which the program opens and reads.
 //! - Of a word that is no option, `clap` says how to pass it as a file. The refusal says so only where the word may
 //!   be one.
 //! - `--peer` and `--peers` choose peers by AS number and address, and a share of the peers. Their readers are tested.

@@ -227,8 +227,8 @@ impl<M: PrefixMap<SharedRoute> + Drop> Watches<M> {
         })
     }
 
-    /// Takes the next unit, and adds the rows of what it did to keys of chosen prefixes. After an `Err` the watches stand
-    /// for no units any more, and some of the unit's rows may have been added.
+    /// Takes the next unit, and adds the rows of what it did to keys of chosen prefixes. After an `Err` the watches no
+    /// longer stand for units, and some of the unit's rows may have been added.
     pub fn take(
         &mut self,
         alloc: Global,

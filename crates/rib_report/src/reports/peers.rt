@@ -1,6 +1,6 @@
-//! The report `peers`: the peers as their units leave them. A line holds a peer, whether it is up, its numbers of routes
-//! and units, the times of its first and last unit, and the place of the first one. Peers are numbered by these places,
-//! so the lines of several runs on different peers can be put in the order of one run.
+//! The report `peers`: the peers as their units leave them. A line holds a peer, whether it is up, its numbers of
+//! routes and units, the times of its first and last unit, and the place of the first one. Peers are numbered by these
+//! places, so the lines of several runs on different peers can be put in the order of one run.
 
 ghost use Rattle.std.specs.Prelude.{◌≡◌, IfOk};
 ghost use Rattle.std.specs.List.{flat_map};
