@@ -121,8 +121,8 @@ class Replay:
         """Raises what the run's end means, or keeps its summary."""
         summary, others = read_summary(said, self.files)
         if self.unpacking.errors and status in (0, 1, -signal.SIGKILL):
-            path, cause = self.unpacking.errors[0]
-            raise UnpackError(f"unpacking failed: file {self.files.index(path) + 1}\n  {path}: {cause}")
+            number, cause = self.unpacking.errors[0]
+            raise UnpackError(f"unpacking failed: file {number}\n  {self.files[number - 1]}: {cause}")
         if status not in (0, 1):
             for name, path in zip(self.unpacking.names, self.files):
                 if name.startswith("/dev/fd/"):

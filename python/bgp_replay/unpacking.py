@@ -67,8 +67,8 @@ class _Zstd:
 
 
 class _Packed:
-    def __init__(self, path, kind):
-        self.path, self.kind, self.written = path, kind, 0
+    def __init__(self, number, path, kind):
+        self.number, self.path, self.kind, self.written = number, path, kind, 0
         self.reader, self.writer = os.pipe()
         os.set_blocking(self.writer, False)
 
@@ -82,8 +82,8 @@ class _Packed:
 class Unpacking:
     """Unpacks those of some files that are packed as one of `kinds` says. `names` are the program's, `fds` its pipes.
 
-    `errors` has what went wrong, as (name, words): a report on what came before it isn't one on the file. OpenError:
-    there are more packed files than this process may have open, at two a file.
+    `errors` has what went wrong, as (number of the file from 1, words): a report on what came before it isn't one on
+    the file. OpenError: there are more packed files than this process may have open, at two a file.
     """
 
     def __init__(self, files, kinds, threads=None):
@@ -97,7 +97,7 @@ class Unpacking:
         try:
             for path, kind in zip(files, found):
                 if kind in kinds:
-                    self.packed.append(_Packed(path, kind))
+                    self.packed.append(_Packed(len(self.names) + 1, path, kind))
                 self.names.append(f"/dev/fd/{self.packed[-1].reader}" if kind in kinds else path)
         except OSError as error:
             self.stop()
@@ -140,7 +140,7 @@ class Unpacking:
                     self._write(at, waiting, AHEAD)
             self._write(at, waiting, 0)
         except Exception as error:  # OSError, EOFError, zlib.error, lzma.LZMAError: each module has its own
-            self.errors.append((file.path, str(error) or type(error).__name__))
+            self.errors.append((file.number, str(error) or type(error).__name__))
             self.fail()
         finally:
             self._hold(-sum(map(len, waiting)))

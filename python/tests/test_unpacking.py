@@ -41,7 +41,7 @@ def test_damaged_packing(kind, how, drawn, tmp_path):
     content = packed.read_bytes()
     half = len(content) // 2
     packed.write_bytes(content[:-9] if how == "cut" else content[:half] + b"XXXX" + content[half + 4 :])
-    files = [drawn["rrc00"][0], packed]
+    files = [drawn["rrc00"][0], packed.rename(tmp_path / f"-.{kind}")]
     if run.reads(KIND[kind]):  # the program's own words, as a failure or as damage
         with pytest.raises(bgp_replay.ReplayError):
             bgp_replay.visibility(files, damaged="raise")
