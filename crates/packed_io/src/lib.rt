@@ -1,4 +1,17 @@
-//! The device that a dump is read from, whether it is packed or not.
+//! The device that a dump is read from, over any reader of std: `Unpacked`. By the first ten bytes of a file it tells
+//! whether it is one of gzip, one of bzip2, or to be read as it is, and gives the bytes that it holds.
+//!
+//! The ten bytes are read in as many reads as the device takes, and what was read before a failure stays. Then there
+//! is memory for a block of 64 KiB, or for what unpacks the file, until its end. It is allocated before the device is
+//! moved there, so that a read that finds no memory may be tried again. The device is dropped at its end, and once a
+//! packed file can't be read on: whoever writes into a pipe is then told that nobody reads.
+//!
+//! `Unpacked::fault` tells what is wrong with a packed file, once its end or a failure was returned: where it is, its
+//! cause in words, and its effect. A fault that ends the data comes with `Ok(0)`, after all that was unpacked before;
+//! any other one, of the data, the device or the memory, comes with an error, at this read and at all later ones.
+//!
+//! What a file will give is told to the contracts if it is read as it is: the first bytes that weren't given yet, and
+//! then what the device tells. Of a packed one nothing is told.
 #![tactic(auto)]
 
 mod decoder;
