@@ -3,3 +3,4 @@ pub mod Premises
 pub mod Replays
 pub mod Reports
 pub mod Statuses
+pub mod Tellings

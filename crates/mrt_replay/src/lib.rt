@@ -18,6 +18,8 @@
 mod replay;
 mod replayed;
 mod summary;
+mod told;
 
 pub use replay::run;
 pub use summary::{Summary, status};
+pub use told::{Told, tell};

@@ -1,0 +1,131 @@
+//! The replay of files into rows of what happened, in one thread and in the order of the files.
+
+ghost use Rattle.std.specs.Prelude.{◌≡◌, [], ◌∷◌, ◌++◌, IfErr, IfOk, List, OnOk, length, map};
+ghost use Rattle.std.specs.List.{filter_map};
+ghost use Rattle.mrt_body.specs.Lent.{lent_unit};
+ghost use Rattle.mrt_body.specs.Units.{damage_of, unit_of};
+ghost use Rattle.mrt_body.specs.declared.choice.PrefixChoice.{PrefixChoice as Choice};
+ghost use Rattle.mrt_body.specs.declared.standing.Standing.TheVariants.{Going};
+ghost use Rattle.mrt_body.specs.declared.unit.Damage.{Damage as AnyDamage};
+ghost use Rattle.mrt_body.specs.declared.unit.Unit.{Unit as ReplayUnit};
+ghost use Rattle.peer_tables.specs.declared.history.Listing.{Listing as AnyListing};
+ghost use Rattle.mrt_replay.specs.Replays.{HasTakenFiles, StopsFiles};
+ghost use Rattle.mrt_replay.specs.Tellings.{Tells};
+
+use adj_rib::SharedRoute;
+use bgp_prefix::{Memory, PrefixMap};
+use mrt_body::{ChosenPrefixes, Damage, Found, LentUnit, Units};
+use mrt_frame::{ReplayError, Source};
+use peer_tables::{HistoryRow, Listing, Watches};
+use std::alloc::Global;
+
+/// What a replay of files into rows leaves: the watches on all peers, the rows, the refusals, and how many units there
+/// were, which stops at `u64::MAX`.
+#[derive(Drop)]
+pub struct Told<M: PrefixMap<SharedRoute>> {
+    pub watches: Watches<M>,
+    pub rows: Vec<HistoryRow>,
+    pub refused: Vec<Damage>,
+    pub units: u64,
+}
+
+impl<M: PrefixMap<SharedRoute> + Drop> Told<M> {
+    ghost use Rattle.std.specs.Prelude.{◌≡◌, [], IfOk};
+
+    /// Before the first unit.
+    pub fn new(alloc: Global) -> Result<Told<M>, Memory>
+        ensures { IfOk result (λ told. (choices : List Choice) (listing : AnyListing) → Tells choices listing told [] []) }
+    {
+        Ok(Told {
+            watches: Watches::new(alloc)?,
+            rows: Vec::new(alloc),
+            refused: Vec::new(alloc),
+            units: 0,
+        })
+    }
+
+    /// Takes the next unit.
+    fn take_unit(
+        &mut self,
+        alloc: Global,
+        chosen: &ChosenPrefixes,
+        listing: Listing,
+        unit: &LentUnit<'_>,
+    ) -> Result<(), Memory>
+        ensures { (units : List ReplayUnit) (refused : List AnyDamage) → Tells chosen.now listing self.old units refused →
+            OnOk result (Tells chosen.now listing self.new (units ++ lent_unit unit.now ∷ []) refused) }
+    {
+        self.watches
+            .take(alloc, chosen, listing, unit, &mut self.rows)?;
+        self.units = self.units.saturating_add(1);
+        Ok(())
+    }
+
+    /// Lists the next refusal.
+    fn list_refusal(&mut self, damage: Damage) -> Result<(), Memory>
+        ensures { (choices : List Choice) (listing : AnyListing) (units : List ReplayUnit) (refused : List AnyDamage) →
+            Tells choices listing self.old units refused →
+            OnOk result (Tells choices listing self.new units (refused ++ damage ∷ [])) }
+    {
+        self.refused.push(damage)?;
+        Ok(())
+    }
+
+    /// Takes what comes next.
+    fn take(
+        &mut self,
+        alloc: Global,
+        chosen: &ChosenPrefixes,
+        listing: Listing,
+        found: Found,
+    ) -> Result<(), Memory>
+        ensures { (units : List ReplayUnit) (refused : List AnyDamage) → Tells chosen.now listing self.old units refused →
+            OnOk result (Tells chosen.now listing self.new (units ++ filter_map unit_of (found ∷ []))
+            (refused ++ filter_map damage_of (found ∷ []))) }
+    {
+        match found {
+            Found::Unit(unit) => {
+                self.take_unit(alloc, chosen, listing, &unit.lend())?;
+                Ok(())
+            }
+            Found::Refused(damage) => {
+                self.list_refusal(damage)?;
+                Ok(())
+            }
+        }
+    }
+}
+
+/// Takes all that the files still hold.
+pub fn tell<M, R>(
+    alloc: Global,
+    units: &mut Units,
+    files: &mut [R],
+    chosen: &ChosenPrefixes,
+    listing: Listing,
+    told: &mut Told<M>,
+) -> Result<(), ReplayError>
+where
+    M: PrefixMap<SharedRoute> + Drop,
+    R: Source,
+    requires files { length files.old ≡ units.old.count }
+    requires going { units.old.standing ≡ Going }
+    ensures told { OnOk result (HasTakenFiles (Tells chosen.now listing) units.old units.new
+        (map R.remaining files.old) told.old told.new) }
+    ensures sound { OnOk result (map R.failure_count files.new ≡ map R.failure_count files.old) }
+    ensures cause { IfErr result
+        (StopsFiles units.old (map R.remaining files.old) (map R.failure_count files.old)
+        (map R.failure_count files.new)) }
+{
+    'files: loop {
+        match units.next(alloc, files) {
+            Ok(Some(found)) => {
+                let Ok(()) = told.take(alloc, chosen, listing, found) else {
+                    return Err(ReplayError::Memory);
+                };
+            }
+            Ok(None) => return Ok(()),
+            Err(error) => return Err(error),
+        }
+    }
+}
