@@ -7,3 +7,4 @@ pub mod ReportLaws
 pub mod RoundsTaken
 pub mod RunLaws
 pub mod ToldLaws
+pub mod HistoryLaws

@@ -1,5 +1,5 @@
 -- A run: its report, what it counts, and how it stops.
-use Rattle.std.proofs.Common.{◌≡◌, ◌⊎◌, inl, inr, ℕ, ◌+◌, ◌-◌, ◌^◌, true, false, cond, min, List, [], ◌∷◌, ◌++◌, map, Option, Result, Ok, Err, refl, sym, ap, ◌∙◌, subst, arith, length, is_err, OnOk}
+use Rattle.std.proofs.Common.{◌≡◌, ◌⊎◌, inl, inr, ℕ, ◌+◌, ◌-◌, ◌^◌, true, false, cond, min, List, [], ◌∷◌, ◌++◌, map, Option, Some, None, Result, Ok, Err, refl, sym, ap, ◌∙◌, subst, arith, length, is_err, OnOk}
 use Rattle.std.specs.List.{enumerate_from, flat_map}
 use Rattle.std.specs.Io.KnownBytes.{Appends, Keeps}
 use Rattle.std.specs.Ordering.{is_lt}
@@ -15,12 +15,13 @@ use Rattle.mrt_body.specs.declared.unit.Damage.{Damage}
 use Rattle.mrt_body.specs.declared.unit.Unit.{Unit as ReplayUnit}
 use Rattle.mrt_body.specs.Units.{units_of, refused_of}
 use Rattle.adj_rib.specs.Churns.{stopped}
+use Rattle.peer_tables.specs.declared.history.Listing.{Listing}
 use Rattle.peer_tables.specs.Peers.{peers_of}
 use Rattle.mrt_body.specs.declared.choice.PrefixChoice.{PrefixChoice}
 use Rattle.peer_tables.specs.Tables.{Seat, TablesState, tables_of, chosen_seat, chosen_tables, all_faults, all_routes}
 use Rattle.rib_report.specs.Reports.{place_cmp, placed, in_place_order}
 use Rattle.rib_report.specs.declared.request.Request.{Request}
-use Rattle.mrt_replay.specs.Reports.{lines_of, text, report, listed_faults}
+use Rattle.mrt_replay.specs.Reports.{lines_of, listing_of, text_by, text, report, listed_faults}
 use Rattle.std.proofs.KnownBytes.{Keeps-refl}
 use Rattle.mrt_replay.specs.Premises.{AreHonest}
 use Rattle.mrt_replay.specs.Replays.{StopsReplay}
@@ -31,9 +32,10 @@ abbrev of_files : UnitSelection → List (List ℕ) → TablesState
 of_files selection files = tables_of (units_of selection files) (refused_of selection files)
 
 -- the lines on tables that stand for the files are the report
-pub lines_are_report : (request : Request) (selection : UnitSelection) (files : List (List ℕ)) (tables : TablesState) → tables ≡ chosen_tables selection.prefixes (tables_of (units_of selection files) (refused_of selection files)) → lines_of request tables ≡ report request selection files
+pub lines_are_report : (request : Request) (selection : UnitSelection) (files : List (List ℕ)) (tables : TablesState) → listing_of request ≡ None → tables ≡ chosen_tables selection.prefixes (tables_of (units_of selection files) (refused_of selection files)) → lines_of request tables ≡ report request selection files
 unfolding report text
-lines_are_report request selection files tables stands = ap (lines_of request) stands
+lines_are_report request selection files tables none stands =
+    ap (lines_of request) stands ∙ sym (ap (λ (l : Option Listing). text_by l request selection.prefixes (units_of selection files) (refused_of selection files)) none)
 
 -- ---- counts
 
@@ -45,7 +47,7 @@ length_placed d (e ∷ ds) =
       | false ↦ omega arith
     ]
 
-length_in_order : (ds : List Damage) → length (in_place_order ds) ≡ length ds
+pub length_in_order : (ds : List Damage) → length (in_place_order ds) ≡ length ds
 length_in_order [] = refl
 length_in_order (d ∷ ds) = let later = length_in_order ds in omega (arith, length_placed d (in_place_order ds), later)
 

@@ -33,7 +33,7 @@ pub record RunState : Type 0 where
 -- It wrote byte for byte the report that is defined over the records alone, and counted them.
 pub record IsReplayed (run : RunState) (files : List (List ℕ)) (summary : Summary) : Type 0 where
   pub written : Appends run.held run.held_after (report run.request run.selection files)
-  pub counted : IsSummary run.selection run.plan files summary
+  pub counted : IsSummary run.request run.selection run.plan files summary
 
 -- For every list of files, every plan and every dealing, a run that completes has replayed them.
 abbrev pub Headline : RunState → Type 0

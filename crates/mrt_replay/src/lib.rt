@@ -15,6 +15,7 @@
 //!   `WritesFront`, which say something about known bytes only.
 #![tactic(auto)]
 
+mod history;
 mod replay;
 mod replayed;
 mod summary;
@@ -22,4 +23,3 @@ mod told;
 
 pub use replay::run;
 pub use summary::{Summary, status};
-pub use told::{Told, tell};

@@ -1,25 +1,27 @@
 //! The replay of dumps into a report.
 
-ghost use Rattle.std.specs.Prelude.{◌≡◌, ◌⊎◌, Err, IfErr, OnOk, map};
+ghost use Rattle.std.specs.Prelude.{◌≡◌, ◌⊎◌, Err, IfErr, None, OnOk, Some, map};
 ghost use Rattle.std.specs.Io.KnownBytes.{Appends};
 ghost use Rattle.mrt_frame.specs.Devices.{HasFailed};
 ghost use Rattle.mrt_frame.specs.Writes.{WritesFront};
 ghost use Rattle.mrt_frame.specs.declared.error.ReplayError.TheVariants as errors;
 ghost use Rattle.lane_deal.specs.Plans.{IsPlan};
 ghost use Rattle.mrt_replay.specs.Headline.{IsPromised};
-ghost use Rattle.mrt_replay.specs.Reports.{lines_of};
+ghost use Rattle.mrt_replay.specs.Reports.{lines_of, listing_of};
 
+use crate::history::{count_faults, count_routes, list_history};
 use crate::replayed::replay;
 use crate::summary::Summary;
 use adj_rib::SharedRoute;
 use bgp_prefix::PrefixMap;
 use lane_deal::{Dealing, Gate, Plan};
-use mrt_body::Selection;
+use mrt_body::{Damage, Selection};
 use mrt_frame::{ReplayError, Sink, Source};
+use peer_tables::{Listing, Watched};
 use rib_report::{
     Request, Tables, churn, faults, list_tables, matches, origins_with_threads, peers,
-    seen_with_threads, visibility_with_threads, write_churn, write_faults, write_origins,
-    write_peers, write_rows, write_seen, write_visibility,
+    seen_with_threads, visibility_with_threads, write_churn, write_faults, write_history,
+    write_origins, write_peers, write_rows, write_seen, write_visibility,
 };
 use std::alloc::Global;
 use std::marker::Sync;
@@ -71,6 +73,70 @@ where
     // Any error except the writer's leaves it untouched.
     ensures untouched { IfErr result (λ e. (e ≡ errors.Write → ⊥) → out.new ≡ out.old) }
 {
+    match listing_of(request) {
+        Some(listing) => run_history::<M, R, W, G>(
+            alloc, files, request, listing, selection, plan, gate, out,
+        ),
+        None => run_on_tables::<M, T, R, W, D, G>(
+            rt, alloc, files, request, selection, plan, dealing, gate, out,
+        ),
+    }
+}
+
+/// Returns which of the things that happened are asked for, if a history is.
+fn listing_of(request: &Request) -> Option<Listing>
+    ensures { result ≡ listing_of request.now }
+{
+    match request {
+        Request::History(listing) => Some(*listing),
+        Request::Tables => None,
+        Request::Visibility => None,
+        Request::Origins => None,
+        Request::Seen => None,
+        Request::Churn => None,
+        Request::Peers => None,
+        Request::Match(_) => None,
+        Request::Faults => None,
+    }
+}
+
+/// Replays the files into tables, by workers in lanes, and writes the report on them.
+fn run_on_tables<M, T, R, W, D, G>(
+    rt: &T,
+    alloc: Global,
+    files: &mut [R],
+    request: &Request,
+    selection: Selection,
+    plan: &Plan,
+    dealing: &D,
+    gate: &G,
+    out: &mut W,
+) -> Result<Summary, ReplayError>
+where
+    M: PrefixMap<SharedRoute> + Send + Sync + Drop,
+    T: Threads + Sync,
+    R: Source + Send,
+    W: Sink,
+    D: Dealing + Sync,
+    G: Gate,
+    requires plan { IsPlan plan.now }
+    requires tables { listing_of request.now ≡ None }
+    ensures promised { IsPromised (record {
+      request = request.now;
+      selection = selection;
+      plan = plan.now;
+      told = map R.remaining files.old;
+      held = W.contents out.old;
+      held_after = W.contents out.new;
+      readers = map R.failure_count files.old;
+      readers_after = map R.failure_count files.new;
+      writer = W.failure_count out.old;
+      writer_after = W.failure_count out.new;
+      flushed_after = W.is_flushed out.new;
+      result = result;
+    }) }
+    ensures untouched { IfErr result (λ e. (e ≡ errors.Write → ⊥) → out.new ≡ out.old) }
+{
     let replayed = match replay::<M, T, R, D, G>(rt, alloc, files, selection, plan, dealing, gate) {
         Ok(replayed) => replayed,
         Err(error) => return Err(error),
@@ -94,6 +160,82 @@ where
     // Tables aren't taken apart route by route, since the process ends after the run (docs/DECISIONS.md).
     mem::forget(replayed);
     Ok(summary)
+}
+
+/// Replays the files into rows of what happened, in one thread, and writes them.
+fn run_history<M, R, W, G>(
+    alloc: Global,
+    files: &mut [R],
+    request: &Request,
+    listing: Listing,
+    selection: Selection,
+    plan: &Plan,
+    gate: &G,
+    writer: &mut W,
+) -> Result<Summary, ReplayError>
+where
+    M: PrefixMap<SharedRoute> + Drop,
+    R: Source,
+    W: Sink,
+    G: Gate,
+    requires plan { IsPlan plan.now }
+    requires history { listing_of request.now ≡ Some listing }
+    ensures promised { IsPromised (record {
+      request = request.now;
+      selection = selection;
+      plan = plan.now;
+      told = map R.remaining files.old;
+      held = W.contents writer.old;
+      held_after = W.contents writer.new;
+      readers = map R.failure_count files.old;
+      readers_after = map R.failure_count files.new;
+      writer = W.failure_count writer.old;
+      writer_after = W.failure_count writer.new;
+      flushed_after = W.is_flushed writer.new;
+      result = result;
+    }) }
+    ensures untouched { IfErr result (λ e. (e ≡ errors.Write → ⊥) → writer.new ≡ writer.old) }
+{
+    let history = match list_history::<M, R>(alloc, files, listing, selection, plan.max_records) {
+        Ok(history) => history,
+        Err(cause) => return Err(cause),
+    };
+    if let Err(error) = write_history(writer, history.told.rows.as_slice()) {
+        return Err(error);
+    }
+    if writer.flush_all().is_err() {
+        return Err(ReplayError::Write);
+    }
+    let watches = history.told.watches.watched();
+    let refused = history.told.refused.as_slice();
+    tell_history_faults(gate, refused, watches);
+    let summary = Summary {
+        records: history.records,
+        units: history.told.units,
+        aside: history.aside,
+        damaged: count_faults(refused.len() as u64, watches),
+        rounds: 0,
+        peers: watches.len(),
+        routes: count_routes(watches),
+    };
+    mem::forget(history);
+    Ok(summary)
+}
+
+/// Reports each listed fault to the gate.
+fn tell_history_faults<M: PrefixMap<SharedRoute>, G: Gate>(
+    gate: &G,
+    refused: &[Damage],
+    watches: &[Watched<M>],
+) {
+    for damage in refused {
+        gate.listed(damage, true);
+    }
+    for watched in watches {
+        for damage in watched.watch.faults() {
+            gate.listed(damage, false);
+        }
+    }
 }
 
 /// Reports each listed fault to the gate.
@@ -144,5 +286,6 @@ fn write_report<M: PrefixMap<SharedRoute> + Sync + Drop, T: Threads + Sync, W: S
         Request::Peers => write_peers(out, peers(alloc, tables)?.as_slice()),
         Request::Match(addr) => write_rows(out, matches(alloc, tables, *addr)?.as_slice()),
         Request::Faults => write_faults(out, faults(alloc, tables)?.as_slice()),
+        Request::History(_) => Ok(()),
     }
 }

@@ -8,6 +8,7 @@ use lane_deal::{ByTurns, NoGate, Plan};
 use mrt_body::{ChosenPrefixes, PeerChoice, PrefixChoice, Selection, Share};
 use mrt_frame::{Counted, ReplayError, Source};
 use mrt_replay::{Summary, run, status};
+use peer_tables::Listing;
 use prefix_shelf::Shelf;
 use rib_report::Request;
 use std::alloc::Global;
@@ -299,6 +300,18 @@ fn request_of(line: &str) -> Option<Request> {
         "seen" => Some(Request::Seen),
         "churn" => Some(Request::Churn),
         "peers" => Some(Request::Peers),
+        "history" => Some(Request::History(Listing {
+            since: None,
+            same: false,
+        })),
+        "history-same" => Some(Request::History(Listing {
+            since: None,
+            same: true,
+        })),
+        "history-since-1020" => Some(Request::History(Listing {
+            since: Some(1020),
+            same: false,
+        })),
         "faults" => Some(Request::Faults),
         _ => match line.strip_prefix("match ") {
             Some(address) => read_address(address).map(Request::Match),

@@ -1,3 +1,5 @@
+use peer_tables::Listing;
+
 /// Which report is asked for.
 #[derive(Clone, Copy, Debug, PartialEq, Eq)]
 pub enum Request {
@@ -17,4 +19,6 @@ pub enum Request {
     Match(u32),
     /// The records and units that are damaged.
     Faults,
+    /// What happened to each key, as far as it is listed.
+    History(Listing),
 }

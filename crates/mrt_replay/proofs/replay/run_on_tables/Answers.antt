@@ -6,9 +6,10 @@ use Rattle.mrt_frame.specs.Writes.{WritesFront}
 use Rattle.mrt_frame.specs.declared.error.ReplayError.TheVariants as errors
 use Rattle.mrt_replay.specs.Headline.{RunState}
 use Rattle.mrt_replay.proofs.HeadlineLaws.{stopped}
+use Rattle.mrt_replay.proofs.HistoryLaws.{rounds_of_tables}
 use Rattle.mrt_replay.specs.Reports.{lines_of}
 use Rattle.mrt_replay.proofs.RunLaws.{lines_are_report, damaged_counted, peers_counted, routes_counted, flush_failed, flush_succeeded, flush_unfailed, front_whole, stops_writing, stops_reading}
-use Rattle.mrt_replay.proofs.replay.run.Goals as goal
+use Rattle.mrt_replay.proofs.replay.run_on_tables.Goals as goal
 
 pub returns-in-Err-clause-promised : goal.returns-in-Err-clause-promised
 returns-in-Err-clause-promised g c =
@@ -51,7 +52,7 @@ returns-in-Err-write_report-clause-promised g c =
     stopped run error refl (stops_writing run error h.errors
     (λ s. subst (λ o. Keeps (g.W.Sink.contents c.args.out.now) (g.W.Sink.contents o)) (sym (h.untouched (ap (λ x. Err x) s))) (Keeps-refl (g.W.Sink.contents c.args.out.now)))
     (λ s. h.risen (ap (λ x. Err x) s))
-    (λ files honest s. subst (WritesFront (g.W.Sink.contents c.args.out.now) (g.W.Sink.contents c.write_report.new.out)) (lines_are_report request c.args.selection files tables (c.in-Ok.ensures.replayed files honest.readers_tell).stands) (h.front (ap (λ x. Err x) s))))
+    (λ files honest s. subst (WritesFront (g.W.Sink.contents c.args.out.now) (g.W.Sink.contents c.write_report.new.out)) (lines_are_report request c.args.selection files tables c.requires.tables (c.in-Ok.ensures.replayed files honest.readers_tell).stands) (h.front (ap (λ x. Err x) s))))
 
 pub returns-then-is_err-clause-promised : goal.returns-then-is_err-clause-promised
 returns-then-is_err-clause-promised g c =
@@ -72,7 +73,7 @@ returns-then-is_err-clause-promised g c =
     } in
     stopped run errors.Write refl (
       flush_failed c.flush_all.result _ _ _ c.in_default.ensures.sound (sym c.is_err.ensures.value ∙ c.if-is_err.true) c.flush_all.ensures.counted,
-      λ files honest. front_whole _ _ _ (subst (Appends (g.W.Sink.contents c.args.out.now) (g.W.Sink.contents c.flush_all.new.self)) (lines_are_report c.args.request.now c.args.selection files c.in-Ok.replayed.tables (c.in-Ok.ensures.replayed files honest.readers_tell).stands) wrote),
+      λ files honest. front_whole _ _ _ (subst (Appends (g.W.Sink.contents c.args.out.now) (g.W.Sink.contents c.flush_all.new.self)) (lines_are_report c.args.request.now c.args.selection files c.in-Ok.replayed.tables c.requires.tables (c.in-Ok.ensures.replayed files honest.readers_tell).stands) wrote),
     )
 
 pub returns-clause-promised : goal.returns-clause-promised
@@ -83,7 +84,7 @@ returns-clause-promised g c = record {
       let tables = c.in-Ok.replayed.tables in
       let wrote = Appends-kept (g.W.Sink.contents c.args.out.now) (g.W.Sink.contents c.write_report.new.out) (g.W.Sink.contents c.flush_all.new.self) (lines_of c.args.request.now tables) c.in_default.ensures.ok c.flush_all.ensures.bytes in
       record {
-        written = subst (Appends (g.W.Sink.contents c.args.out.now) (g.W.Sink.contents c.flush_all.new.self)) (lines_are_report c.args.request.now until files tables p.stands) wrote;
+        written = subst (Appends (g.W.Sink.contents c.args.out.now) (g.W.Sink.contents c.flush_all.new.self)) (lines_are_report c.args.request.now until files tables c.requires.tables p.stands) wrote;
         counted = record {
           records = p.records_counted;
           units = p.units_counted;
@@ -91,9 +92,7 @@ returns-clause-promised g c = record {
           damaged = damaged_counted until files tables c.damaged.result p.stands c.damaged.ensures;
           routes = routes_counted until files tables c.routes.result p.stands c.routes.ensures;
           peers = peers_counted until.prefixes (units_of until files) (refused_of until files) tables c.peers.result p.stands c.peers.ensures;
-          rounds = p.few_rounds;
-          two_rounds = p.two_rounds;
-          enough_rounds = p.enough_rounds;
+          rounds = rounds_of_tables c.args.request.now c.args.plan.now _ c.requires.tables (record { few = p.few_rounds; two = p.two_rounds; enough = p.enough_rounds });
         };
       };
   flushed = flush_succeeded c.flush_all.result (sym c.is_err.ensures.value ∙ c.if-is_err.false) c.flush_all.ensures.flushed;
