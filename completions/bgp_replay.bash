@@ -1,25 +1,27 @@
 # Completion of bgp_replay for bash. Made by tools/options.py.
 _bgp_replay() {
   local word=${COMP_WORDS[COMP_CWORD]} before=${COMP_WORDS[COMP_CWORD-1]} command='' i
-  local commands='tables visibility origins seen churn peers match faults'
+  local commands='tables visibility origins seen churn peers match history faults'
   for ((i = 1; i < COMP_CWORD; i++)); do
     case ${COMP_WORDS[i]} in
-      tables|visibility|origins|seen|churn|peers|match|faults) command=${COMP_WORDS[i]}; break;;
+      tables|visibility|origins|seen|churn|peers|match|history|faults) command=${COMP_WORDS[i]}; break;;
     esac
   done
   COMPREPLY=()
   case $before in
     --workers) mapfile -t COMPREPLY < <(compgen -W '1 2 4 8 16 32 64' -- "$word"); return;;
     --ring) mapfile -t COMPREPLY < <(compgen -W '1 64 1024 65536' -- "$word"); return;;
-    --address|--prefix|--peer|--peers|--until) return;;
+    --address|--prefix|--peer|--peers|--until|--since) return;;
   esac
   if [[ -z $command ]]; then
     mapfile -t COMPREPLY < <(compgen -W "$commands help --help --version" -- "$word")
   elif [[ $word == -* ]]; then
     local options='--peer --peers --until --header --summary --progress --workers --ring --help --version'
     case $command in match) options="--address $options";; esac
-    case $command in tables|visibility|origins|seen|peers|match|faults) options="--prefix $options";; esac
-    case $command in tables|visibility|origins|seen|peers|match|faults) options="--prefixes $options";; esac
+    case $command in tables|visibility|origins|seen|peers|match|history|faults) options="--prefix $options";; esac
+    case $command in tables|visibility|origins|seen|peers|match|history|faults) options="--prefixes $options";; esac
+    case $command in history) options="--since $options";; esac
+    case $command in history) options="--same $options";; esac
     mapfile -t COMPREPLY < <(compgen -W "$options" -- "$word")
   else
     compopt -o filenames 2> /dev/null

@@ -11,6 +11,7 @@ _bgp_replay() {
     'churn:count what each peer announced and withdrew'
     'peers:list the peers, whether they are up, their routes, and where they begin'
     'match:print each peer'\''s routes of the longest prefix that contains an address'
+    'history:list what happened to each prefix, when and at which peer'
     'faults:list the damaged records of the dumps'
   )
   _arguments -C '(- *)'{-h,--help}'[print a help text]' '(- *)'{-V,--version}'[print the version]' '1: :->command' '*:: :->words'
@@ -31,8 +32,10 @@ _bgp_replay() {
         '*:dump:_files'
       )
       case ${words[1]} in match) options+=('--address[look up this IPv4 address, as 192.0.2.1]:A:');; esac
-      case ${words[1]} in tables|visibility|origins|seen|peers|match|faults) options+=('*--prefix[report on this prefix alone]:PREFIX:');; esac
-      case ${words[1]} in tables|visibility|origins|seen|peers|match|faults) options+=('*--prefixes[report on the prefixes in this file alone]:FILE:_files');; esac
+      case ${words[1]} in tables|visibility|origins|seen|peers|match|history|faults) options+=('*--prefix[report on this prefix alone]:PREFIX:');; esac
+      case ${words[1]} in tables|visibility|origins|seen|peers|match|history|faults) options+=('*--prefixes[report on the prefixes in this file alone]:FILE:_files');; esac
+      case ${words[1]} in history) options+=('--since[list what was recorded from this second on]:TIME:');; esac
+      case ${words[1]} in history) options+=('--same[list announcements of the very route that was there, too]');; esac
       _arguments $options;;
   esac
 }

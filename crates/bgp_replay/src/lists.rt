@@ -85,17 +85,14 @@ fn choices_of(rt: &HostRuntime, number: usize, name: &str) -> Result<Vec<PrefixC
     }
 }
 
-/// Appends what the lines of these files choose, in order. An error is the status to exit with.
-pub fn add_lists(
-    rt: &HostRuntime,
-    names: &[String],
-    choices: &mut Vec<PrefixChoice>,
-) -> Result<(), u8> {
+/// Returns what the lines of these files choose, in order, or the status to exit with.
+pub fn listed_prefixes(rt: &HostRuntime, names: &[String]) -> Result<Vec<PrefixChoice>, u8> {
+    let mut choices = Vec::new(rt.alloc());
     for (i, name) in names.iter().enumerate() {
         let mut listed = choices_of(rt, i.saturating_add(1), name.as_str())?;
         if choices.append(&mut listed).is_err() {
             return Err(without_memory(rt));
         }
     }
-    Ok(())
+    Ok(choices)
 }

@@ -44,13 +44,14 @@ use command_line::{Job, Usage, read_words, wrapped};
 use counts::Counts;
 use input::{Input, OpenError, Watched, open_all};
 use lane_deal::{ByTurns, Plan};
-use lists::add_lists;
+use lists::listed_prefixes;
 use mrt_body::{ChosenPrefixes, PrefixChoice, Reach, Selection};
 use mrt_frame::Counted;
 use mrt_replay::{run, status};
 use output::{Report, columns};
 use prefix_shelf::Shelf;
 use progress::{Board, Counter, terminal_width};
+use rib_report::Request;
 use std::alloc::Global;
 use std::env::{Env, FillError};
 use std::io::ErrorKind;
@@ -116,8 +117,16 @@ fn is_narrow(choices: &[PrefixChoice]) -> bool {
     !choices.is_empty() && addresses <= MOST_NARROW
 }
 
-/// Returns as many workers as the arguments ask for, otherwise one if few prefixes are chosen, else one per
-/// processor; if the system doesn't report how many there are, as many as the job has.
+/// Whether what happened is listed, which one thread does.
+fn is_history(request: &Request) -> bool {
+    match request {
+        Request::History(_) => true,
+        _ => false,
+    }
+}
+
+/// Returns as many workers as the arguments ask for, otherwise one if few prefixes are chosen or what happened is
+/// listed, else one per processor; if the system doesn't report how many there are, as many as the job has.
 fn workers_of(threads: &impl Threads, job: &Job) -> usize
     ensures least { 1 ≤ result }
     ensures most { result ≤ 64 }
@@ -126,7 +135,7 @@ fn workers_of(threads: &impl Threads, job: &Job) -> usize
     if job.has_workers {
         return job.workers;
     }
-    if is_narrow(&job.prefixes) {
+    if is_narrow(&job.prefixes) || is_history(&job.request) {
         return 1;
     }
     match available_parallelism(threads) {
@@ -262,7 +271,10 @@ fn given_job(rt: &HostRuntime) -> Result<Job, u8> {
     let words = given_words(rt)?;
     match read_words(rt.alloc(), words.as_slice()) {
         Ok(mut job) => {
-            add_lists(rt, job.lists.as_slice(), &mut job.prefixes)?;
+            let mut listed = listed_prefixes(rt, job.lists.as_slice())?;
+            if job.prefixes.append(&mut listed).is_err() {
+                return Err(without_memory(rt, "the prefixes were read"));
+            }
             Ok(job)
         }
         Err(usage) => Err(explain(rt, &usage)),

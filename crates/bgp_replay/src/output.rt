@@ -10,6 +10,9 @@ use rib_report::Request;
 use run_io::Headed;
 use std::io::{self, Stdout, Write};
 
+static HISTORY_COLUMNS: &str =
+    "time|peer|what|by|prefix|as_path|next_hop|origin|med|local_pref|atomic|aggregator\n";
+
 static ROUTE_COLUMNS: &str =
     "peer|prefix|as_path|next_hop|origin|med|local_pref|atomic|aggregator\n";
 
@@ -22,6 +25,7 @@ pub fn columns(request: &Request) -> &'static str {
         Request::Seen => "prefix|origin|peers\n",
         Request::Churn => { "peer|new|changed|same|gone|void|resets|idle|refused|first|last\n" }
         Request::Peers => "peer|state|routes|units|first|last|file|offset|entry\n",
+        Request::History(_) => HISTORY_COLUMNS,
         Request::Faults => "file|offset|entry|number|fault\n",
     }
 }

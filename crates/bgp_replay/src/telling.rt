@@ -126,6 +126,7 @@ fn command_of(request: &Request) -> &'static str {
         Request::Churn => "churn",
         Request::Peers => "peers",
         Request::Match(_) => "match --address A",
+        Request::History(_) => "history",
         Request::Faults => "faults",
     }
 }

@@ -50,7 +50,7 @@ pub struct CommandRow {
     pub examples: &'static [&'static str],
 }
 
-pub static OPTIONS: [OptionRow; 11] = [
+pub static OPTIONS: [OptionRow; 13] = [
     OptionRow {
         name: "address",
         value: "A",
@@ -67,7 +67,7 @@ pub static OPTIONS: [OptionRow; 11] = [
         takes: Takes::Texts,
         default: "",
         offered: "",
-        commands: "tables visibility origins seen peers match faults",
+        commands: "tables visibility origins seen peers match history faults",
         is_required: false,
         meaning: "Report on this prefix alone. 192.0.2.0/24 is that prefix, 192.0.2.0/24+ also its more specifics, and 192.0.2.0/24- also the prefixes that contain it; an address alone has length 32. Given more than once, each prefix adds to the others",
     },
@@ -77,7 +77,7 @@ pub static OPTIONS: [OptionRow; 11] = [
         takes: Takes::Texts,
         default: "",
         offered: "",
-        commands: "tables visibility origins seen peers match faults",
+        commands: "tables visibility origins seen peers match history faults",
         is_required: false,
         meaning: "Report on the prefixes in this file alone. Each line is one as --prefix takes it; empty lines and lines that begin with # are passed over, and '-' is standard input. They add to those of --prefix and of other files",
     },
@@ -110,6 +110,26 @@ pub static OPTIONS: [OptionRow; 11] = [
         commands: "",
         is_required: false,
         meaning: "Leave out messages, state changes and entries recorded after this second. TIME is a number of seconds since 1970 UTC, a date, as 2024-01-01 (its midnight in UTC), or a date and time with an offset from UTC, as 2024-01-01T01:00:00Z, where a blank may stand for the T",
+    },
+    OptionRow {
+        name: "since",
+        value: "TIME",
+        takes: Takes::Text,
+        default: "",
+        offered: "",
+        commands: "history",
+        is_required: false,
+        meaning: "List what was recorded from this second on. What was recorded before is replayed, and not listed. TIME is as that of --until",
+    },
+    OptionRow {
+        name: "same",
+        value: "",
+        takes: Takes::Nothing,
+        default: "",
+        offered: "",
+        commands: "history",
+        is_required: false,
+        meaning: "List announcements of the very route that was there, too",
     },
     OptionRow {
         name: "header",
@@ -325,6 +345,57 @@ const PEERS_COLUMNS: &[ColumnRow] = &[
     },
 ];
 
+const HISTORY_COLUMNS: &[ColumnRow] = &[
+    ColumnRow {
+        name: "time",
+        meaning: "seconds since 1970 UTC, with six digits behind the point",
+    },
+    ColumnRow {
+        name: "peer",
+        meaning: "the peer's AS, a space, its address",
+    },
+    ColumnRow {
+        name: "what",
+        meaning: "`new`, `changed` or `same`: announced, where the table had no route, another one or this one; `gone` or `void`: withdrawn, where it had a route or none; `lost`: taken by a change of the session's state",
+    },
+    ColumnRow {
+        name: "by",
+        meaning: "`rib`: an entry of a table; `update`: a message; `state`: a change of the session's state",
+    },
+    ColumnRow {
+        name: "prefix",
+        meaning: "ADDRESS/LENGTH, and #ID behind it where the route has a path identifier (ADD-PATH)",
+    },
+    ColumnRow {
+        name: "as_path",
+        meaning: "that of the route after it, or, where it is gone or lost, of the route before; the columns behind are of the same route",
+    },
+    ColumnRow {
+        name: "next_hop",
+        meaning: "as of tables",
+    },
+    ColumnRow {
+        name: "origin",
+        meaning: "IGP, EGP or INCOMPLETE",
+    },
+    ColumnRow {
+        name: "med",
+        meaning: "MULTI_EXIT_DISC",
+    },
+    ColumnRow {
+        name: "local_pref",
+        meaning: "LOCAL_PREF",
+    },
+    ColumnRow {
+        name: "atomic",
+        meaning: "`atomic` where the route has ATOMIC_AGGREGATE",
+    },
+    ColumnRow {
+        name: "aggregator",
+        meaning: "its AS, a space, its address",
+    },
+];
+
 const FAULTS_COLUMNS: &[ColumnRow] = &[
     ColumnRow {
         name: "file",
@@ -348,7 +419,7 @@ const FAULTS_COLUMNS: &[ColumnRow] = &[
     },
 ];
 
-pub static COMMANDS: [CommandRow; 8] = [
+pub static COMMANDS: [CommandRow; 9] = [
     CommandRow {
         name: "tables",
         meaning: "Print every route of every peer",
@@ -418,6 +489,16 @@ pub static COMMANDS: [CommandRow; 8] = [
         examples: &[
             "match --address 192.0.2.1 rib.mrt",
             "match --address 192.0.2.1 --until 1704070800 rib.mrt updates.mrt",
+        ],
+    },
+    CommandRow {
+        name: "history",
+        meaning: "List what happened to each prefix, when and at which peer",
+        columns: HISTORY_COLUMNS,
+        order: "Lines come as the dumps record it, and those of one message as it changes the table: withdrawals first.",
+        examples: &[
+            "history --prefix 192.0.2.0/24+ rib.mrt updates.mrt",
+            "history --prefix 192.0.2.0/24 --since 2024-01-01T01:00:00Z rib.mrt updates.mrt",
         ],
     },
     CommandRow {

@@ -15,6 +15,7 @@ use crate::refusal::refusal_of;
 use clap::error::ErrorKind;
 use clap::{ArgMatches, Error};
 use mrt_body::{PeerChoice, PrefixChoice, Share};
+use peer_tables::Listing;
 use rib_report::Request;
 use std::alloc::{AllocError, AllocFailed, Global};
 
@@ -106,11 +107,32 @@ fn request_of(alloc: Global, name: &str, matches: &ArgMatches<'_>) -> Result<Req
         "churn" => Ok(Request::Churn),
         "peers" => Ok(Request::Peers),
         "faults" => Ok(Request::Faults),
+        "history" => Ok(Request::History(listing_of(alloc, matches)?)),
         "match" => {
             let text = matches.get_str("address").unwrap_or("");
             Ok(Request::Match(address_of(alloc, text)?))
         }
         _ => Ok(Request::Tables),
+    }
+}
+
+/// Returns which of the things that happened are listed.
+fn listing_of(alloc: Global, matches: &ArgMatches<'_>) -> Result<Listing, Usage>
+    ensures { IfErr result IsRefusal }
+{
+    Ok(Listing {
+        since: second_of(alloc, "since", matches)?,
+        same: matches.get_flag("same"),
+    })
+}
+
+/// Whether a report lists what was recorded from a second on that is after the last one.
+fn is_never(request: &Request, until: Option<u64>) -> bool {
+    match (request, until) {
+        (Request::History(listing), Some(until)) => {
+            listing.since.is_some_and(|since| since > until)
+        }
+        _ => false,
     }
 }
 
@@ -121,17 +143,17 @@ fn refused(alloc: Global, text: &str) -> Result<Job, Usage>
     Err(Usage::Words(String::from_str(alloc, text)?))
 }
 
-/// Returns the second that `--until` names, if it is given.
-fn until_of(alloc: Global, matches: &ArgMatches<'_>) -> Result<Option<u64>, Usage>
+/// Returns the second that an option names, `--until` or `--since`, if it is given.
+fn second_of(alloc: Global, name: &str, matches: &ArgMatches<'_>) -> Result<Option<u64>, Usage>
     ensures { IfErr result IsRefusal }
 {
-    let Some(text) = matches.get_str("until") else {
+    let Some(text) = matches.get_str(name) else {
         return Ok(None);
     };
     match read_second(text) {
         Some(second) => Ok(Some(second)),
         None => Err(Usage::Words(format!(in alloc;
-            "error: invalid value '{text}' for '--until <TIME>': neither seconds since 1970 UTC, nor a date, nor a date and time with its offset from UTC\n  it may be 1704070800, 2024-01-01, 2024-01-01T01:00:00Z or 2024-01-01T02:00:00+01:00\n"
+            "error: invalid value '{text}' for '--{name} <TIME>': neither seconds since 1970 UTC, nor a date, nor a date and time with its offset from UTC\n  it may be 1704070800, 2024-01-01, 2024-01-01T01:00:00Z or 2024-01-01T02:00:00+01:00\n"
         )?)),
     }
 }
@@ -236,7 +258,10 @@ fn job_of(alloc: Global, name: &str, matches: &ArgMatches<'_>) -> Result<Job, Us
     ensures { IfErr result IsRefusal }
 {
     let request = request_of(alloc, name, matches)?;
-    let until = until_of(alloc, matches)?;
+    let until = second_of(alloc, "until", matches)?;
+    if is_never(&request, until) {
+        return refused(alloc, "error: --since is after --until\n");
+    }
     let prefixes = prefixes_of(alloc, matches)?;
     let lists = lists_of(alloc, matches)?;
     let peers = peers_of(alloc, matches)?;

@@ -1,6 +1,7 @@
 //! Rows on words, addresses and statuses.
 
 use command_line::{FileName, FirstBytes, Job, Kind, Usage, read_address, read_second, read_words};
+use peer_tables::Listing;
 use rib_report::Request;
 use std::alloc::Global;
 use std::test::Fail;
@@ -45,6 +46,10 @@ fn wrong_words_are_refused(rt: HostRuntime) -> Result<(), Fail> {
         ("tables --prefix 192.0.2.0/24 --prefix soon x", "words"),
         ("tables --prefix", "words"),
         ("churn --prefix 192.0.2.0/24 x", "words"),
+        ("history --since soon x", "words"),
+        ("history --since 5 --until 4 x", "words"),
+        ("tables --since 5 x", "words"),
+        ("tables --same x", "words"),
         ("tables --peer AS65001 x", "words"),
         ("tables --peer 65001,192.0.2 x", "words"),
         ("tables --peers 0/4 x", "words"),
@@ -114,6 +119,26 @@ fn words_ask_for_a_job(rt: HostRuntime) -> Result<(), Fail> {
             Request::Peers,
             (4, 65_536),
             Some(5),
+            "x;",
+        ),
+        (
+            "history --since 3 --until 5 --same --ring 65536 x",
+            Request::History(Listing {
+                since: Some(3),
+                same: true,
+            }),
+            (4, 65_536),
+            Some(5),
+            "x;",
+        ),
+        (
+            "history --ring 65536 x",
+            Request::History(Listing {
+                since: None,
+                same: false,
+            }),
+            (4, 65_536),
+            None,
             "x;",
         ),
         (
