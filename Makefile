@@ -104,6 +104,7 @@ scripts: $(BINARY)
 	tests/recipes.sh '$(BINARY)'
 	tests/shares.sh '$(BINARY)'
 	tests/packed.sh '$(BINARY)'
+	python3 tests/history.py '$(BINARY)'
 	tests/build.sh
 	python3 tools/model_index.py --check
 	python3 tools/options.py --check

@@ -1,5 +1,5 @@
 #!/usr/bin/env bash
-# Replays damaged dumps: mutate.c makes one of each seed, and all eight reports on it are compared by same.c.
+# Replays damaged dumps: mutate.c makes one of each seed, and all nine reports on it are compared by same.c.
 #   tests/fuzz.sh PROGRAM [FILES] [FIRST]     seeds FIRST (1) to FIRST + FILES - 1 (800 files, 13 runs each)
 #   tests/fuzz.sh --seed N PROGRAM            writes the dump of a seed to fuzz-N.mrt in the current directory, and tries it by all pairs
 # A run fails where it doesn't end with status 0 or 1, or says anything but `damaged: N` with as many lines in `faults`, where 1 or 4

@@ -24,7 +24,7 @@ check 'the version is a version' grep -qE '^[0-9]+\.[0-9]+\.[0-9]+$' <<< "$versi
 check 'the first change is of this version' grep -qxE "## ${version//./\\.}( - [0-9]{4}-[0-9]{2}-[0-9]{2})?" <(grep -m 1 '^## ' CHANGELOG.md)
 check 'the manual page is of this version' grep -q "^\.TH BGP_REPLAY 1 [0-9-]* \"bgp_replay $version\"" man/bgp_replay.1
 "$program" --help > "$work/help"; commands=$(sed -n '/^Commands:/,/^$/s/^  \([a-z]*\) .*/\1/p' "$work/help" | grep -v '^help$')
-check 'help names eight commands' [ "$(wc -w <<< "$commands")" = 8 ]
+check 'help names nine commands' [ "$(wc -w <<< "$commands")" = 9 ]
 for command in $commands; do
   check "the manual page has $command" grep -q "^\.B $command$" man/bgp_replay.1
   for shell in bash zsh fish; do check "$shell completes $command" grep -qw -- "$command" completions/bgp_replay.$shell; done
@@ -74,7 +74,7 @@ completed() { # WORDS..: what bash offers for the last word
 }
 offers() { local wanted=$1; shift; echo "offered: $(completed "$@")"; [ "$(completed "$@")" = "$wanted" ]; }
 check 'bash: a command' offers 'tables ' bgp_replay ta
-check 'bash: all commands' offers '--help --version churn faults help match origins peers seen tables visibility ' bgp_replay ''
+check 'bash: all commands' offers '--help --version churn faults help history match origins peers seen tables visibility ' bgp_replay ''
 check 'bash: an option' offers '--workers ' bgp_replay tables --w
 check 'bash: an option of match' offers '--address ' bgp_replay match --a
 check 'bash: none of match for tables' offers ' ' bgp_replay tables --a

@@ -39,10 +39,10 @@ try() { # STATUS LINE WRITES WORDS..
 }
 
 # 0: whole
-for report in tables visibility origins seen churn peers faults 'match --address 17.150.214.7'; do
+for report in tables visibility origins seen churn peers history faults 'match --address 17.150.214.7'; do
   ./bgp_replay $report sample > "whole-${report%% *}" 2> said; judge "$report sample" 0 '' any $?
 done
-for report in tables visibility origins seen churn peers match; do cp whole-$report out; : > said; judge "$report isn't empty" 0 '' something 0; done
+for report in tables visibility origins seen churn peers history match; do cp whole-$report out; : > said; judge "$report isn't empty" 0 '' something 0; done
 cp whole-faults out; : > said; judge 'faults is empty' 0 '' nothing 0
 try 0 '' nothing tables empty
 try 0 '' nothing churn empty empty
@@ -78,7 +78,7 @@ done
 
 # help: no line is wider than the terminal, and the columns are those of --header
 widest() { awk '{ if (length > most) most = length } END { print most + 0 }'; }
-for words in --help 'tables --help' 'visibility --help' 'origins --help' 'seen --help' 'churn --help' 'peers --help' 'match --help' 'faults --help'; do
+for words in --help 'tables --help' 'visibility --help' 'origins --help' 'seen --help' 'churn --help' 'peers --help' 'history --help' 'match --help' 'faults --help'; do
   for width in 80 60 40; do
     most=$(COLUMNS=$width ./bgp_replay $words | widest); if [ "$most" -le $width ]; then right; else wrong "$words with $width columns: a line of $most"; fi
   done
@@ -87,7 +87,7 @@ for words in --help 'tables --help' 'visibility --help' 'origins --help' 'seen -
   most=$(COLUMNS=500 ./bgp_replay $words | widest); if [ "$most" -gt 80 ]; then right; else wrong "$words with 500 columns: no line is wider than $most"; fi
   if cmp -s <(env -u COLUMNS ./bgp_replay $words | tr -s ' \n' '  ') <(COLUMNS=50 ./bgp_replay $words | tr -s ' \n' '  '); then right; else wrong "$words: other words with 50 columns"; fi
 done
-for report in tables visibility origins seen churn peers faults 'match --address 10.0.0.1'; do
+for report in tables visibility origins seen churn peers history faults 'match --address 10.0.0.1'; do
   told=$(./bgp_replay ${report%% *} --help | sed -n '/^Columns/,/^[^ C]/s/^  \([a-z_][a-z_]*\) .*/\1/p' | paste -sd '|')
   if [ "$told" = "$(./bgp_replay $report --header empty)" ]; then right; else wrong "$report --help has the columns $told"; fi
 done
@@ -166,7 +166,7 @@ case $(head -n 1 said) in 'open failed: file 2') judge 'a directory behind a fil
 ./bgp_replay tables - > out 2> said 0> writable; judge 'standard input that is for writing' 3 'read failed: file 1' nothing $?
 
 # 3: a write failed
-for report in tables visibility origins seen churn peers 'match --address 17.150.214.7'; do
+for report in tables visibility origins seen churn peers history 'match --address 17.150.214.7'; do
   : > out; ./bgp_replay $report sample > /dev/full 2> said; judge "$report to a full device" 3 'write failed' nothing $?
 done
 ./bgp_replay faults cut > /dev/full 2> said; judge 'faults to a full device' 3 'write failed' nothing $?
@@ -241,6 +241,7 @@ lists() { # WORDS LINE..
 one_24='65001 192.0.2.1|198.51.100.0/24|65001 64500|192.0.2.1|IGP|-|-|-|-'
 one_203='65001 192.0.2.1|203.0.113.0/24|65001 64500|192.0.2.1|IGP|-|-|-|-'
 two_24='65002 192.0.2.2|198.51.100.0/24|65002 64500|192.0.2.2|IGP|-|-|-|-'
+of_one=${one_24#*|} of_two=${two_24#*|}
 two_25='65002 192.0.2.2|198.51.100.0/25|65002 64999|192.0.2.2|IGP|-|-|-|-'
 two_203='65002 192.0.2.2|203.0.113.0/24|65002 64999|192.0.2.2|IGP|-|-|-|-'
 lists tables "$one_203"
@@ -281,12 +282,18 @@ lists peers '65001 192.0.2.1|up|1|3|1000.000000|1020.000000|1|46|1' '65002 192.0
 lists 'peers --until 1030' '65001 192.0.2.1|up|1|3|1000.000000|1020.000000|1|46|1' '65002 192.0.2.2|up|3|3|1000.000000|1030.000000|1|46|2'
 lists 'peers --until 1030 --peers 2/2' '65002 192.0.2.2|up|3|3|1000.000000|1030.000000|1|46|2'
 lists 'peers --until 1030 --prefix 198.51.100.0/25' '65002 192.0.2.2|up|1|1|1010.000000|1010.000000|1|186|-'
+lists 'history --prefix 198.51.100.0/24' "1000.000000|65001 192.0.2.1|new|rib|$of_one" "1000.000000|65002 192.0.2.2|new|rib|$of_two" \
+  "1020.000000|65001 192.0.2.1|gone|update|$of_one" "1040.000000|65002 192.0.2.2|lost|state|$of_two"
+lists 'history --prefix 198.51.100.0/24 --same' "1000.000000|65001 192.0.2.1|new|rib|$of_one" "1000.000000|65002 192.0.2.2|new|rib|$of_two" \
+  "1020.000000|65001 192.0.2.1|gone|update|$of_one" "1030.000000|65002 192.0.2.2|same|update|$of_two" "1040.000000|65002 192.0.2.2|lost|state|$of_two"
+lists 'history --prefix 198.51.100.0/24 --since 1020 --until 1039' "1020.000000|65001 192.0.2.1|gone|update|$of_one"
+lists 'history --prefix 192.0.2.0/25' '1020.000000|65001 192.0.2.1|void|update|192.0.2.0/25|-|-|-|-|-|-|-'
 lists 'seen --until 1000' '198.51.100.0/24|64500|2' '203.0.113.0/24|64500|1'
 lists 'seen --until 1030' '198.51.100.0/24|64500|1' '198.51.100.0/25|64999|1' '203.0.113.0/24|64500|1' '203.0.113.0/24|64999|1'
 lists 'seen --until 1030 --peers 2/2' '198.51.100.0/24|64500|1' '198.51.100.0/25|64999|1' '203.0.113.0/24|64999|1'
 printf '%s\n' "$two_24" "$two_25" "$two_203" > wanted; try 0 '' wanted tables --peer '65002 192.0.2.2' --until 1030 eight
 for words in '--peers 0/4' '--peers 5/4' '--peers 1/65537' '--peer AS65001' '--peer 65001,192.0.2' '--prefix 192.0.2.1/24' '--prefix 192.0.2.0/33'; do try 2 '?' nothing tables $words eight; done
-try 2 '?' nothing churn --prefix 198.51.100.0/24 eight
+for words in 'churn --prefix 198.51.100.0/24' 'history --since 5 --until 4' 'history --since soon' 'tables --since 5' 'tables --same'; do try 2 '?' nothing $words eight; done
 
 # --prefixes: lines that are passed over, blanks at the ends of others, and files that add up
 printf '# both\r\n\n198.51.100.0/24 \t\r\n  \n203.0.113.128/25-' > one.txt; printf '198.51.100.0/25\n' > two.txt; printf '#\n' > none.txt

@@ -36,8 +36,8 @@ tries() {
     set -- $lanes; step=1; [ $1 = 64 ] && step=7
     by="--workers $1 --ring $2"
     for file in three-peers table-and-update; do
-      for request in tables visibility origins seen churn peers 'match --address 10.0.0.1' faults; do echo memory $step 1 $file $request $by $file; done
-      for request in tables seen peers; do echo memory $step 1 $file $request --prefix 10.0.0.0/8+ --prefix 10.0.0.0/7 --peer 65000 --peers 1/1 $by $file; done
+      for request in tables visibility origins seen churn peers history 'match --address 10.0.0.1' faults; do echo memory $step 1 $file $request $by $file; done
+      for request in tables seen peers 'history --same'; do echo memory $step 1 $file $request --prefix 10.0.0.0/8+ --prefix 10.0.0.0/7 --peer 65000 --peers 1/1 $by $file; done
       echo memory-on $step 1 $file tables $by $file
       for kind in read-EIO read-EINTR; do echo $kind 1 1 $file tables $by $file; echo $kind 1 1 $file churn $by -; done
       for kind in thread thread-on short-reads short-writes; do echo $kind 1 1 $file tables $by $file; done
@@ -53,10 +53,10 @@ tries() {
   echo memory-on 7 1 large tables --workers 4 --ring 1024 large
   for kind in write-EIO write-none; do echo $kind 997 1 large tables --workers 4 --ring 1024 large; done
   for kind in write-EIO write-ENOSPC write-EINTR write-EPIPE write-none; do
-    for request in tables visibility origins seen churn peers 'match --address 17.150.214.7'; do echo $kind 1 1 sample $request sample; done
+    for request in tables visibility origins seen churn peers history 'match --address 17.150.214.7'; do echo $kind 1 1 sample $request sample; done
     echo $kind 1 1 table-and-update faults table-and-update
   done
-  for request in tables visibility origins seen churn peers 'match --address 17.150.214.7'; do echo short-writes 1 1 sample $request sample; done
+  for request in tables visibility origins seen churn peers history 'match --address 17.150.214.7'; do echo short-writes 1 1 sample $request sample; done
 }
 tries > tries
 xargs -P "$(nproc)" -L 1 ./refusals ./program ./refuse.so < <(shuf --random-source=sample tries 2> none || cat tries) > lines

@@ -1,4 +1,4 @@
-/* Runs all eight reports on dumps, by several numbers of workers and sizes of rings, and compares what they write.
+/* Runs all nine reports on dumps, by several numbers of workers and sizes of rings, and compares what they write.
      same [-w N,N..] [-r N,N..] [-p SEED] [-b LIBRARY] [-v MEGABYTES] [-m MEGABYTES] PROGRAM DUMP..
    The first run of a report has one worker and a ring of 65,536. Its status must be 0 with nothing on standard error, or 1 with `damaged: N`, where N is
    the number of lines of `faults`; never a signal. Each run by workers of -w and rings of -r must give the same bytes and status.
@@ -8,8 +8,8 @@
    Prints a line for each run that failed, and then `tried RUNS FAILED DUMPS`. */
 #include "run.h"
 
-static char *reports[] = { "tables", "visibility", "origins", "churn", "faults", "match", "seen", "peers" };
-enum { REPORTS = 8, MOST = 16 };
+static char *reports[] = { "tables", "visibility", "origins", "churn", "faults", "match", "seen", "peers", "history" };
+enum { REPORTS = 9, MOST = 16 };
 static char address[40] = "10.0.0.1";
 static long runs, failed;
 

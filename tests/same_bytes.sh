@@ -1,5 +1,5 @@
 #!/usr/bin/env bash
-# Every number of workers and every ring gives the same bytes: all eight reports on each dump by workers 1, 2, 3, 4, 8, 64 and rings
+# Every number of workers and every ring gives the same bytes: all nine reports on each dump by workers 1, 2, 3, 4, 8, 64 and rings
 # 1, 2, 1024, 65536 (24 pairs) against one worker and a ring of 65536.
 #   tests/same_bytes.sh PROGRAM
 # The dumps are examples/sample.mrt, the front of a generated RIB dump and of generated updates, and of each file in the directory that the

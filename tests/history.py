@@ -1,0 +1,292 @@
+#!/usr/bin/env python3
+"""Compares what `history` lists with a plain model, written from docs/FORMATS.md alone, on drawn dumps.
+
+usage: tests/history.py PROGRAM [DUMPS]
+
+Each dump is drawn from its seed as a list of units (RIB entries, UPDATEs with attributes 14 and 15, state changes,
+messages of other types, damaged UPDATEs) of a few peers and prefixes, and written as MRT records into one or two files.
+The model takes the drawn units and not the bytes. Options are drawn too: --prefix in its forms, --peer, --peers, --since,
+--until, --same. The last line is `N passed, M failed`. Needs Python 3 and nothing else.
+"""
+import random
+import struct
+import subprocess
+import sys
+import tempfile
+
+MARKER = b"\xff" * 16
+PEERS = [(65001, "192.0.2.1"), (65002, "192.0.2.2"), (4200000003, "192.0.2.3"), (65001, "192.0.2.4")]
+PREFIXES = ["0.0.0.0/0", "10.0.0.0/8", "10.0.0.0/9", "10.64.0.0/10", "10.64.7.0/24", "10.128.0.0/9", "192.0.2.0/24",
+            "192.0.2.128/25", "192.0.2.129/32", "203.0.113.0/24"]
+
+
+def number(address):
+    return int.from_bytes(bytes(map(int, address.split("."))), "big")
+
+
+def key_of(prefix, identifier):
+    """A key: address, length and path identifier, which is also its place in a table."""
+    address, length = prefix.split("/")
+    return number(address), int(length), identifier
+
+
+def key_text(key):
+    address = ".".join(map(str, key[0].to_bytes(4, "big")))
+    return f"{address}/{key[1]}" + (f"#{key[2]}" if key[2] else "")
+
+
+def covers(outer, inner):
+    return outer[1] <= inner[1] and (outer[0] ^ inner[0]) >> (32 - outer[1]) == 0 if outer[1] else True
+
+
+# ---- what is drawn
+
+
+class Route:
+    """A route with its fields as columns, and its path attributes as bytes."""
+
+    def __init__(self, draw):
+        self.path = [draw.choice([64500, 64501, 4200000009]) for _ in range(draw.randrange(1, 3))]
+        self.hop = draw.choice(["192.0.2.9", "192.0.2.10"])
+        self.med = draw.choice([None, None, 0, 7])
+        self.atomic = draw.random() < 0.2
+
+    def columns(self, hop=None):
+        med = "-" if self.med is None else str(self.med)
+        return "|".join([" ".join(map(str, self.path)), hop or self.hop, "IGP", med, "-", "atomic" if self.atomic else "-", "-"])
+
+    def attributes(self):
+        path = b"".join(struct.pack(">I", asn) for asn in self.path)
+        parts = [b"\x40\x01\x01\x00", bytes([0x40, 2, 2 + len(path), 2, len(self.path)]) + path,
+                 b"\x40\x03\x04" + number(self.hop).to_bytes(4, "big")]
+        if self.med is not None:
+            parts.append(b"\x80\x04\x04" + struct.pack(">I", self.med))
+        if self.atomic:
+            parts.append(b"\x40\x06\x00")
+        return b"".join(parts)
+
+
+def nlri(keys, add_path):
+    parts = []
+    for address, length, identifier in keys:
+        size = (length + 7) // 8
+        parts.append((struct.pack(">I", identifier) if add_path else b"") + bytes([length]) + address.to_bytes(4, "big")[:size])
+    return b"".join(parts)
+
+
+def attribute(code, value):
+    return bytes([0x90, code]) + struct.pack(">H", len(value)) + value
+
+
+def record(draw, micros, subtype, body):
+    """A record of BGP4MP, with microseconds where the time has some."""
+    seconds, rest = divmod(micros, 1_000_000)
+    if rest or draw.random() < 0.3:
+        return struct.pack(">IHHII", seconds, 17, subtype, len(body) + 4, rest) + body
+    return struct.pack(">IHHI", seconds, 16, subtype, len(body)) + body
+
+
+def session(peer):
+    return struct.pack(">IIHH", peer[0], 65535, 0, 1) + number(peer[1]).to_bytes(4, "big") + number("192.0.2.254").to_bytes(4, "big")
+
+
+def message(kind, body):
+    return MARKER + struct.pack(">HB", 19 + len(body), kind) + body
+
+
+def some_keys(draw, most, add_path):
+    return [key_of(draw.choice(PREFIXES), draw.choice([0, 1, 5]) if add_path else 0) for _ in range(draw.randrange(most))]
+
+
+def drawn_update(draw, micros, peer):
+    add_path = draw.random() < 0.25
+    route = Route(draw)
+    withdrawn, announced = some_keys(draw, 3, add_path), some_keys(draw, 4, add_path)
+    reached = some_keys(draw, 3, add_path) if draw.random() < 0.4 else []
+    unreached = some_keys(draw, 3, add_path) if draw.random() < 0.4 else []
+    attributes = route.attributes()
+    if draw.random() < 0.1:
+        attributes = b"\x40\x01\x01\x03" + attributes[4:]
+        unit = ("damaged", peer, micros)
+    else:
+        unit = ("update", peer, micros, withdrawn + unreached, announced, route, reached, "198.51.100.7")
+    if unreached:
+        attributes += attribute(15, b"\x00\x01\x01" + nlri(unreached, add_path))
+    if reached:
+        attributes += attribute(14, b"\x00\x01\x01\x04" + number("198.51.100.7").to_bytes(4, "big") + b"\x00" + nlri(reached, add_path))
+    if not announced and not reached and unit[0] == "update" and not unreached:
+        attributes = b""
+    lost = nlri(withdrawn, add_path)
+    body = struct.pack(">H", len(lost)) + lost + struct.pack(">H", len(attributes)) + attributes + nlri(announced, add_path)
+    return [unit], record(draw, micros, 9 if add_path else 4, session(peer) + message(2, body))
+
+
+def drawn_state(draw, micros, peer):
+    old, new = draw.choice([(6, 1), (5, 6), (6, 6), (3, 4), (1, 6)])
+    return [("state", peer, micros, old, new)], record(draw, micros, 5, session(peer) + struct.pack(">HH", old, new))
+
+
+def drawn_entries(draw, micros):
+    """A RIB record. Its time has whole seconds."""
+    add_path = draw.random() < 0.3
+    prefix = key_of(draw.choice(PREFIXES), 0)
+    units, entries = [], []
+    for index in draw.sample(range(len(PEERS)), draw.randrange(1, len(PEERS) + 1)):
+        identifier = draw.choice([0, 1, 5]) if add_path else 0
+        route = Route(draw)
+        attributes = route.attributes()
+        units.append(("entry", PEERS[index], micros, (prefix[0], prefix[1], identifier), route))
+        entries.append(struct.pack(">HI", index, 900) + (struct.pack(">I", identifier) if add_path else b"")
+                       + struct.pack(">H", len(attributes)) + attributes)
+    body = struct.pack(">I", 0) + nlri([prefix], False) + struct.pack(">H", len(entries)) + b"".join(entries)
+    return units, struct.pack(">IHHI", micros // 1_000_000, 13, 8 if add_path else 2, len(body)) + body
+
+
+def index_table():
+    peers = b"".join(b"\x02" + number(address).to_bytes(4, "big") * 2 + struct.pack(">I", asn) for asn, address in PEERS)
+    body = number("192.0.2.254").to_bytes(4, "big") + struct.pack(">HH", 0, len(PEERS)) + peers
+    return struct.pack(">IHHI", 1000, 13, 1, len(body)) + body
+
+
+def drawn_file(draw, count):
+    units, data = [], [index_table()]
+    for _ in range(count):
+        micros = draw.randrange(1000, 1060) * 1_000_000 + draw.choice([0, 0, 0, 250_000, 999_999])
+        peer = draw.choice(PEERS)
+        what = draw.random()
+        if what < 0.3:
+            more, written = drawn_entries(draw, micros - micros % 1_000_000)
+        elif what < 0.8:
+            more, written = drawn_update(draw, micros, peer)
+        elif what < 0.95:
+            more, written = drawn_state(draw, micros, peer)
+        else:
+            more, written = [("other", peer, micros)], record(draw, micros, 4, session(peer) + message(4, b""))
+        units += more
+        data.append(written)
+    return units, b"".join(data)
+
+
+# ---- the model
+
+
+def announced(table, key, columns):
+    """What an announcement is, and the table after it."""
+    what = "new" if key not in table else "same" if table[key] == columns else "changed"
+    table[key] = columns
+    return (what, key, columns)
+
+
+def events_of(unit, table, up):
+    """What a unit does to the keys of its peer, in order."""
+    kind = unit[0]
+    if kind == "state" and (unit[3], unit[4]) != (6, 6):
+        lost = [("lost", key, table[key]) for key in sorted(table)]
+        table.clear()
+        return lost
+    if not up:
+        return []
+    if kind == "entry":
+        return [announced(table, unit[3], unit[4].columns())]
+    events = []
+    if kind == "update":
+        _, _, _, withdrawn, plain, route, reached, hop = unit
+        for key in withdrawn:
+            if key not in plain and key not in reached:
+                events.append(("gone", key, table.pop(key)) if key in table else ("void", key, "-|-|-|-|-|-|-"))
+        events += [announced(table, key, route.columns()) for key in plain]
+        events += [announced(table, key, route.columns(hop)) for key in reached]
+    return events
+
+
+def history(units):
+    """What happened: time, peer, what, by, key, columns, in the order of the units."""
+    tables, up, rows = {}, {}, []
+    for unit in units:
+        kind, peer, micros = unit[:3]
+        by = {"entry": "rib", "state": "state"}.get(kind, "update")
+        table = tables.setdefault(peer, {})
+        rows += [(micros, peer, what, by, key, columns) for what, key, columns in events_of(unit, table, up.get(peer, True))]
+        if kind == "state":
+            up[peer] = unit[4] == 6
+    return rows
+
+
+def share_of(peer, count):
+    return ((peer[0] + number(peer[1])) * 2654435761 % 2**32) // 65536 % count
+
+
+def drawn_options(draw):
+    """Options as words, and the tests of a row that they stand for."""
+    words, tests = [], [lambda row: row[2] != "same"]
+    if draw.random() < 0.5:
+        words.append("--same")
+        tests = []
+    choices = []
+    for _ in range(draw.choice([0, 0, 1, 1, 2, 3])):
+        prefix, mark = draw.choice(PREFIXES + ["10.64.0.0/16", "192.0.0.0/8"]), draw.choice(["", "+", "-"])
+        words += ["--prefix", prefix + mark]
+        choices.append((key_of(prefix, 0), mark))
+    if choices:
+        def chosen(row):
+            key = row[4]
+            return any(covers(p, key) if mark == "+" else covers(key, p) if mark == "-" else key[:2] == p[:2] for p, mark in choices)
+        tests.append(chosen)
+    if draw.random() < 0.2:
+        peer = draw.choice(PEERS)
+        words += ["--peer", f"{peer[0]},{peer[1]}"]
+        tests.append(lambda row: row[1] == peer)
+    if draw.random() < 0.2:
+        count = draw.randrange(1, 4)
+        share = draw.randrange(count)
+        words += ["--peers", f"{share + 1}/{count}"]
+        tests.append(lambda row: share_of(row[1], count) == share)
+    since = draw.randrange(1000, 1060)
+    if draw.random() < 0.3:
+        words += ["--since", str(since)]
+        tests.append(lambda row: row[0] // 1_000_000 >= since)
+    if draw.random() < 0.3:
+        until = draw.randrange(since, 1061)
+        words += ["--until", str(until)]
+        return words, tests, until
+    return words, tests, None
+
+
+def line(row):
+    micros, peer, what, by, key, columns = row
+    return f"{micros // 1_000_000}.{micros % 1_000_000:06}|{peer[0]} {peer[1]}|{what}|{by}|{key_text(key)}|{columns}\n"
+
+
+def main():
+    program, dumps = sys.argv[1], int(sys.argv[2]) if len(sys.argv) > 2 else 150
+    passed = failed = 0
+    with tempfile.TemporaryDirectory() as folder:
+        for seed in range(dumps):
+            draw = random.Random(seed)
+            units, names = [], []
+            for i in range(draw.randrange(1, 3)):
+                more, data = drawn_file(draw, draw.randrange(1, 60))
+                units += more
+                names.append(f"{folder}/{i}")
+                with open(names[-1], "wb") as file:
+                    file.write(data)
+            for _ in range(4):
+                words, tests, until = drawn_options(draw)
+                kept = [unit for unit in units if until is None or unit[2] // 1_000_000 <= until]
+                wanted = "".join(line(row) for row in history(kept) if all(test(row) for test in tests))
+                run = subprocess.run([program, "history", *words, *names], capture_output=True, text=True, check=False)
+                if run.returncode in (0, 1) and run.stdout == wanted:
+                    passed += 1
+                else:
+                    failed += 1
+                    print(f"wrong: seed {seed}: history {' '.join(words)}: status {run.returncode} {run.stderr.strip()}")
+                    for mine, other in zip(wanted.splitlines(), run.stdout.splitlines() + [""]):
+                        if mine != other:
+                            print(f"  {other}\n  in place of {mine}")
+                            break
+    print(f"{passed} passed, {failed} failed")
+    return 0 if failed == 0 and passed else 1
+
+
+if __name__ == "__main__":
+    sys.exit(main())
