@@ -70,7 +70,8 @@ if has gzip; then
   "$program" tables --summary updates.gz > out 2> said
   grep -qx 'file 1 packed: gzip' said && grep -qx "file 1 packed bytes: $size" said && grep -qx "file 1 bytes: $(wc -c < updates.mrt)" said && right || wrong "--summary of gzip data: $(head -c 300 said)"
   : | gzip -nc > empty.gz; for i in {1..2000}; do cat empty.gz; done > many.gz; cat updates.gz >> many.gz; same 'two thousand empty members' updates-tables tables many.gz
-  head -c 300000000 /dev/zero | gzip -9c > bomb.gz; ( ulimit -v 200000; exec "$program" faults --workers 1 bomb.gz > out 2> said ); [ $? = 1 ] && right || wrong "a bomb of gzip: $(head -c 200 said)"
+  head -c 300000001 /dev/zero | gzip -9c > bomb.gz; ( ulimit -v 200000; exec "$program" faults --workers 1 bomb.gz > out 2> said )
+  [ $? = 1 ] && [ "$(< out)" = '1|300000000|-|1|ShortHeader' ] && right || wrong "a bomb of gzip: $(head -c 200 said)"
 fi
 if has bzip2; then
   bzip2 -9c updates.mrt > updates.bz2; size=$(wc -c < updates.bz2)
@@ -81,7 +82,8 @@ if has bzip2; then
   { cat updates.bz2; echo more; } > trailing.bz2
   told 'bytes behind the last stream' 1 "  trailing.bz2: bzip2 data, offset $size: other data follows the last stream" tables trailing.bz2
   : | bzip2 -c > empty.bz2; for i in {1..2000}; do cat empty.bz2; done > many.bz2; cat updates.bz2 >> many.bz2; same 'two thousand empty streams' updates-tables tables many.bz2
-  head -c 300000000 /dev/zero | bzip2 -9c > bomb.bz2; ( ulimit -v 400000; exec "$program" faults --workers 1 bomb.bz2 > out 2> said ); [ $? = 1 ] && right || wrong "a bomb of bzip2: $(head -c 200 said)"
+  head -c 300000001 /dev/zero | bzip2 -9c > bomb.bz2; ( ulimit -v 400000; exec "$program" faults --workers 1 bomb.bz2 > out 2> said )
+  [ $? = 1 ] && [ "$(< out)" = '1|300000000|-|1|ShortHeader' ] && right || wrong "a bomb of bzip2: $(head -c 200 said)"
 fi
 
 # each front and each bit of a small file: nothing but the plain one's lines with status 0

@@ -320,7 +320,7 @@ bad_line '192.0.2.0/24\r#' '192.0.2.0/24\r#' 'its length is not a number of 0 to
 try 3 'open failed: prefixes 2' nothing tables --prefixes two.txt --prefixes missing eight
 try 3 'read failed: prefixes 1' nothing tables --prefixes . eight
 for words in 'churn --prefixes two.txt eight' 'tables --prefixes' 'tables --prefixes two.txt'; do try 2 '?' nothing $words; done
-tip "  tip: '--prefixes' is an option of tables, visibility, origins, seen, match, faults" churn --prefixes two.txt eight
+tip "  tip: '--prefixes' is an option of tables, visibility, origins, seen, peers, match, history, faults" churn --prefixes two.txt eight
 lists 'tables --until 1970-01-01T00:17:10Z --prefix 198.51.100.0/24' "$two_24"
 lists 'tables --until 1970-01-02 --prefix 203.0.113.0/24' "$one_203"
 
