@@ -1,0 +1,11 @@
+//! Tests of the device that a dump is read from.
+#![tactic(auto)]
+
+#[cfg(test)]
+mod faults;
+#[cfg(test)]
+mod files;
+#[cfg(test)]
+mod reading;
+#[cfg(test)]
+mod unpacking;
