@@ -10,7 +10,7 @@
 //! that concerns a chosen prefix may have announced others.
 //!
 //! `Watches` passes each unit to the watch on its peer, and makes rows of what it did (`HistoryRow`), in the order of
-//! the units: one thread, no lanes. The watches are those of the peers of the units (`watches_of`), each of which took its
+//! the units: one thread, no lanes. The watches are those of the units' peers (`watches_of`), each of which took its
 //! peer's own units; a row is of a note that is listed (`history_rows`), and what happened at some of the peers is what
 //! their units did (`histories_are_of_peers`). Where the watch on a peer is, is looked for first where the last peer
 //! with the same index in the index table, or the same hash, was.
