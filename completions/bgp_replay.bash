@@ -16,11 +16,9 @@ _bgp_replay() {
   if [[ -z $command ]]; then
     mapfile -t COMPREPLY < <(compgen -W "$commands help --help --version" -- "$word")
   elif [[ $word == -* ]]; then
-    local options='--peer --peers --until --header --summary --progress --workers --ring --help --version'
+    local options='--prefix --prefixes --peer --peers --until --header --summary --progress --workers --ring --help --version'
     case $command in match) options="--address $options";; esac
-    case $command in tables|visibility|origins|seen|peers|match|history|faults) options="--prefix $options";; esac
-    case $command in tables|visibility|origins|seen|peers|match|history|faults) options="--prefixes $options";; esac
-    case $command in history) options="--since $options";; esac
+    case $command in churn|history) options="--since $options";; esac
     case $command in history) options="--same $options";; esac
     mapfile -t COMPREPLY < <(compgen -W "$options" -- "$word")
   else

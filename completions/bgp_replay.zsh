@@ -19,6 +19,8 @@ _bgp_replay() {
     command) _describe -t commands command commands;;
     words)
       options=(
+        '*--prefix[report on this prefix alone]:PREFIX:'
+        '*--prefixes[report on the prefixes in this file alone]:FILE:_files'
         '*--peer[report on this peer alone]:PEER:'
         '--peers[report on the Ith of N shares of the peers alone]:I/N:'
         '--until[leave out messages, state changes and entries recorded after this second]:TIME:'
@@ -32,9 +34,7 @@ _bgp_replay() {
         '*:dump:_files'
       )
       case ${words[1]} in match) options+=('--address[look up this IPv4 address, as 192.0.2.1]:A:');; esac
-      case ${words[1]} in tables|visibility|origins|seen|peers|match|history|faults) options+=('*--prefix[report on this prefix alone]:PREFIX:');; esac
-      case ${words[1]} in tables|visibility|origins|seen|peers|match|history|faults) options+=('*--prefixes[report on the prefixes in this file alone]:FILE:_files');; esac
-      case ${words[1]} in history) options+=('--since[list what was recorded from this second on]:TIME:');; esac
+      case ${words[1]} in churn|history) options+=('--since[list or count what was recorded from this second on]:TIME:');; esac
       case ${words[1]} in history) options+=('--same[list announcements of the very route that was there, too]');; esac
       _arguments $options;;
   esac

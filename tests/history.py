@@ -1,12 +1,13 @@
 #!/usr/bin/env python3
-"""Compares what `history` lists with a plain model, written from docs/FORMATS.md alone, on drawn dumps.
+"""Compares what `history` lists and `churn` counts with a plain model, written from docs/FORMATS.md alone, on drawn dumps.
 
 usage: tests/history.py PROGRAM [DUMPS]
 
 Each dump is drawn from its seed as a list of units (RIB entries, UPDATEs with attributes 14 and 15, state changes,
 messages of other types, damaged UPDATEs) of a few peers and prefixes, and written as MRT records into one or two files.
 The model takes the drawn units and not the bytes. Options are drawn too: --prefix in its forms, --peer, --peers, --since,
---until, --same. The last line is `N passed, M failed`. Needs Python 3 and nothing else.
+--until, --same. What `churn` counts by --prefix and --since is compared with the lines of `history --same`, by peer and
+by what happened, and with the breaks, idle and damaged units that the model finds. The last line is `N passed, M failed`. Needs Python 3 and nothing else.
 """
 import random
 import struct
@@ -212,44 +213,85 @@ def history(units):
     return rows
 
 
+def concerns(unit, chosen):
+    """Whether a unit concerns the chosen prefixes. `chosen` tells of a row whether its key is one of them, or is None."""
+    if unit[0] in ("state", "damaged") or chosen is None:
+        return True
+    keys = [unit[3]] if unit[0] == "entry" else unit[3] + unit[4] + unit[6] if unit[0] == "update" else []
+    return any(chosen((None, None, None, None, key)) for key in keys)
+
+
+def churn(units, chosen, takes_peer, since):
+    """The lines of `churn`: peers by their first unit that is selected, and what their units did from the second on."""
+    def within(micros):
+        return since is None or micros // 1_000_000 >= since
+
+    events = [row for row in history(units) if within(row[0]) and (chosen is None or chosen(row))]
+    up, peers = {}, {}
+    for unit in units:
+        kind, peer, micros = unit[:3]
+        was_up = up.get(peer, True)
+        if kind == "state":
+            up[peer] = unit[4] == 6
+        if not takes_peer(peer) or not concerns(unit, chosen):
+            continue
+        resets, idle, refused, times = peers.setdefault(peer, [0, 0, 0, []])
+        if within(micros):
+            resets += kind == "state" and unit[3:5] != (6, 6)
+            idle += kind in ("entry", "update") and not was_up
+            refused += kind == "damaged"
+            peers[peer] = [resets, idle, refused, times + [micros]]
+    lines = []
+    for peer, (resets, idle, refused, times) in peers.items():
+        counts = [sum(row[1] == peer and row[2] == what for row in events) for what in ("new", "changed", "same", "gone", "void")]
+        ends = [f"{times[at] // 1_000_000}.{times[at] % 1_000_000:06}" if times else "-" for at in (0, -1)]
+        lines.append("|".join([f"{peer[0]} {peer[1]}", *map(str, counts), str(resets), str(idle), str(refused), *ends]) + "\n")
+    return "".join(lines)
+
+
 def share_of(peer, count):
     return ((peer[0] + number(peer[1])) * 2654435761 % 2**32) // 65536 % count
 
 
-def drawn_options(draw):
-    """Options as words, and the tests of a row that they stand for."""
-    words, tests = [], [lambda row: row[2] != "same"]
-    if draw.random() < 0.5:
-        words.append("--same")
-        tests = []
-    choices = []
-    for _ in range(draw.choice([0, 0, 1, 1, 2, 3])):
-        prefix, mark = draw.choice(PREFIXES + ["10.64.0.0/16", "192.0.0.0/8"]), draw.choice(["", "+", "-"])
-        words += ["--prefix", prefix + mark]
-        choices.append((key_of(prefix, 0), mark))
-    if choices:
-        def chosen(row):
-            key = row[4]
-            return any(covers(p, key) if mark == "+" else covers(key, p) if mark == "-" else key[:2] == p[:2] for p, mark in choices)
-        tests.append(chosen)
-    if draw.random() < 0.2:
-        peer = draw.choice(PEERS)
-        words += ["--peer", f"{peer[0]},{peer[1]}"]
-        tests.append(lambda row: row[1] == peer)
-    if draw.random() < 0.2:
-        count = draw.randrange(1, 4)
-        share = draw.randrange(count)
-        words += ["--peers", f"{share + 1}/{count}"]
-        tests.append(lambda row: share_of(row[1], count) == share)
-    since = draw.randrange(1000, 1060)
-    if draw.random() < 0.3:
-        words += ["--since", str(since)]
-        tests.append(lambda row: row[0] // 1_000_000 >= since)
-    if draw.random() < 0.3:
-        until = draw.randrange(since, 1061)
-        words += ["--until", str(until)]
-        return words, tests, until
-    return words, tests, None
+class Options:
+    """Drawn options: their words, without --same, and what they stand for."""
+
+    def __init__(self, draw):
+        self.words, self.chosen, self.since, self.until = [], None, None, None
+        self.same = draw.random() < 0.5
+        choices = []
+        for _ in range(draw.choice([0, 0, 1, 1, 2, 3])):
+            prefix, mark = draw.choice(PREFIXES + ["10.64.0.0/16", "192.0.0.0/8"]), draw.choice(["", "+", "-"])
+            self.words += ["--prefix", prefix + mark]
+            choices.append((key_of(prefix, 0), mark))
+        if choices:
+            def chosen(row):
+                key = row[4]
+                return any(covers(p, key) if mark == "+" else covers(key, p) if mark == "-" else key[:2] == p[:2] for p, mark in choices)
+            self.chosen = chosen
+        peers = []
+        if draw.random() < 0.2:
+            one = draw.choice(PEERS)
+            self.words += ["--peer", f"{one[0]},{one[1]}"]
+            peers.append(lambda peer: peer == one)
+        if draw.random() < 0.2:
+            count = draw.randrange(1, 4)
+            share = draw.randrange(count)
+            self.words += ["--peers", f"{share + 1}/{count}"]
+            peers.append(lambda peer: share_of(peer, count) == share)
+        self.takes_peer = lambda peer: all(test(peer) for test in peers)
+        since = draw.randrange(1000, 1060)
+        if draw.random() < 0.3:
+            self.words += ["--since", str(since)]
+            self.since = since
+        if draw.random() < 0.3:
+            self.until = draw.randrange(since, 1061)
+            self.words += ["--until", str(self.until)]
+
+    def takes(self, row):
+        """Whether `history` lists what happened."""
+        return ((self.same or row[2] != "same") and (self.chosen is None or self.chosen(row)) and self.takes_peer(row[1])
+                and (self.since is None or row[0] // 1_000_000 >= self.since))
 
 
 def line(row):
@@ -257,8 +299,21 @@ def line(row):
     return f"{micros // 1_000_000}.{micros % 1_000_000:06}|{peer[0]} {peer[1]}|{what}|{by}|{key_text(key)}|{columns}\n"
 
 
+def is_as_wanted(seed, words, names, wanted):
+    """Whether the program writes this report. What it writes in place of it is told."""
+    run = subprocess.run([sys.argv[1], *words, *names], capture_output=True, text=True, check=False)
+    if run.returncode in (0, 1) and run.stdout == wanted:
+        return True
+    print(f"wrong: seed {seed}: {' '.join(words)}: status {run.returncode} {run.stderr.strip()}")
+    for mine, other in zip(wanted.splitlines() + [""], run.stdout.splitlines() + [""]):
+        if mine != other:
+            print(f"  {other}\n  in place of {mine}")
+            break
+    return False
+
+
 def main():
-    program, dumps = sys.argv[1], int(sys.argv[2]) if len(sys.argv) > 2 else 150
+    dumps = int(sys.argv[2]) if len(sys.argv) > 2 else 150
     passed = failed = 0
     with tempfile.TemporaryDirectory() as folder:
         for seed in range(dumps):
@@ -271,19 +326,15 @@ def main():
                 with open(names[-1], "wb") as file:
                     file.write(data)
             for _ in range(4):
-                words, tests, until = drawn_options(draw)
-                kept = [unit for unit in units if until is None or unit[2] // 1_000_000 <= until]
-                wanted = "".join(line(row) for row in history(kept) if all(test(row) for test in tests))
-                run = subprocess.run([program, "history", *words, *names], capture_output=True, text=True, check=False)
-                if run.returncode in (0, 1) and run.stdout == wanted:
-                    passed += 1
-                else:
-                    failed += 1
-                    print(f"wrong: seed {seed}: history {' '.join(words)}: status {run.returncode} {run.stderr.strip()}")
-                    for mine, other in zip(wanted.splitlines(), run.stdout.splitlines() + [""]):
-                        if mine != other:
-                            print(f"  {other}\n  in place of {mine}")
-                            break
+                options = Options(draw)
+                kept = [unit for unit in units if options.until is None or unit[2] // 1_000_000 <= options.until]
+                listed = "".join(line(row) for row in history(kept) if options.takes(row))
+                counted = churn(kept, options.chosen, options.takes_peer, options.since)
+                for words, wanted in [(["history", *["--same"] * options.same], listed), (["churn"], counted)]:
+                    if is_as_wanted(seed, words + options.words, names, wanted):
+                        passed += 1
+                    else:
+                        failed += 1
     print(f"{passed} passed, {failed} failed")
     return 0 if failed == 0 and passed else 1
 

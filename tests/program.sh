@@ -274,6 +274,13 @@ lists 'tables --peer 65001,192.0.2.2 --until 1009'
 lists 'tables --peer 65002 --peer 65001,192.0.2.1 --until 1030' "$one_203" "$two_24" "$two_25" "$two_203"
 lists 'tables --peer 65002 --prefix 198.51.100.0/24 --until 1009' "$two_24"
 lists 'churn --peer 65001' '65001 192.0.2.1|2|0|0|1|1|0|0|0|1000.000000|1020.000000'
+lists 'churn --since 1020' '65001 192.0.2.1|0|0|0|1|1|0|0|0|1020.000000|1020.000000' '65002 192.0.2.2|0|0|1|0|0|1|1|0|1030.000000|1050.000000'
+lists 'churn --since 1041' '65001 192.0.2.1|0|0|0|0|0|0|0|0|-|-' '65002 192.0.2.2|0|0|0|0|0|0|1|0|1050.000000|1050.000000'
+lists 'churn --since 1020 --until 1039 --peer 65002' '65002 192.0.2.2|0|0|1|0|0|0|0|0|1030.000000|1030.000000'
+lists 'churn --prefix 198.51.100.0/24' '65001 192.0.2.1|1|0|0|1|0|0|0|0|1000.000000|1020.000000' '65002 192.0.2.2|1|0|1|0|0|1|1|0|1000.000000|1050.000000'
+lists 'churn --prefix 198.51.100.0/24+' '65001 192.0.2.1|1|0|0|1|0|0|0|0|1000.000000|1020.000000' '65002 192.0.2.2|2|0|1|0|0|1|1|0|1000.000000|1050.000000'
+lists 'churn --prefix 192.0.2.0/25 --since 1020' '65001 192.0.2.1|0|0|0|0|1|0|0|0|1020.000000|1020.000000' '65002 192.0.2.2|0|0|0|0|0|1|0|0|1040.000000|1040.000000'
+lists 'churn --since 0' '65001 192.0.2.1|2|0|0|1|1|0|0|0|1000.000000|1020.000000' '65002 192.0.2.2|3|0|1|0|0|1|1|0|1000.000000|1050.000000'
 lists 'visibility --until 1030 --peers 1/2' '203.0.113.0/24|1'
 lists 'visibility --until 1030 --peers 2/2' '198.51.100.0/24|1' '198.51.100.0/25|1' '203.0.113.0/24|1'
 lists 'origins --until 1030 --peers 1/2'
@@ -293,7 +300,7 @@ lists 'seen --until 1030' '198.51.100.0/24|64500|1' '198.51.100.0/25|64999|1' '2
 lists 'seen --until 1030 --peers 2/2' '198.51.100.0/24|64500|1' '198.51.100.0/25|64999|1' '203.0.113.0/24|64999|1'
 printf '%s\n' "$two_24" "$two_25" "$two_203" > wanted; try 0 '' wanted tables --peer '65002 192.0.2.2' --until 1030 eight
 for words in '--peers 0/4' '--peers 5/4' '--peers 1/65537' '--peer AS65001' '--peer 65001,192.0.2' '--prefix 192.0.2.1/24' '--prefix 192.0.2.0/33'; do try 2 '?' nothing tables $words eight; done
-for words in 'churn --prefix 198.51.100.0/24' 'history --since 5 --until 4' 'history --since soon' 'tables --since 5' 'tables --same'; do try 2 '?' nothing $words eight; done
+for words in 'churn --prefix 198.51.100.1/24' 'churn --since 5 --until 4' 'churn --since soon' 'churn --same' 'peers --since 5' 'history --since 5 --until 4' 'history --since soon' 'tables --since 5' 'tables --same'; do try 2 '?' nothing $words eight; done
 
 # --prefixes: lines that are passed over, blanks at the ends of others, and files that add up
 printf '# both\r\n\n198.51.100.0/24 \t\r\n  \n203.0.113.128/25-' > one.txt; printf '198.51.100.0/25\n' > two.txt; printf '#\n' > none.txt
@@ -319,8 +326,9 @@ bad_line '\0377' '\xff' 'it is no IPv4 address'
 bad_line '192.0.2.0/24\r#' '192.0.2.0/24\r#' 'its length is not a number of 0 to 32'
 try 3 'open failed: prefixes 2' nothing tables --prefixes two.txt --prefixes missing eight
 try 3 'read failed: prefixes 1' nothing tables --prefixes . eight
-for words in 'churn --prefixes two.txt eight' 'tables --prefixes' 'tables --prefixes two.txt'; do try 2 '?' nothing $words; done
-tip "  tip: '--prefixes' is an option of tables, visibility, origins, seen, peers, match, history, faults" churn --prefixes two.txt eight
+for words in 'tables --prefixes' 'tables --prefixes two.txt'; do try 2 '?' nothing $words; done
+tip "  tip: '--since' is an option of churn, history" tables --since 5 eight
+lists 'churn --prefixes two.txt' '65002 192.0.2.2|1|0|0|0|0|1|0|0|1010.000000|1040.000000'
 lists 'tables --until 1970-01-01T00:17:10Z --prefix 198.51.100.0/24' "$two_24"
 lists 'tables --until 1970-01-02 --prefix 203.0.113.0/24' "$one_203"
 

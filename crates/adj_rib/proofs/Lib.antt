@@ -10,3 +10,4 @@ mod Examples
 pub mod Selected
 pub mod RetainLaws
 pub mod WatchLaws
+pub mod WindowLaws

@@ -29,7 +29,7 @@ use Rattle.adj_rib.specs.declared.arrivals.Arrivals.{Arrivals}
 use Rattle.adj_rib.specs.declared.churn.Churn.{Churn}
 use Rattle.adj_rib.specs.Steps.{Step, ESTABLISHED, new_state, is_up, reading_steps, unit_steps, steps_of}
 use Rattle.adj_rib.specs.Tables.{IsTable, table_of}
-use Rattle.adj_rib.specs.Churns.{outcomes_of, is_routing, reading_of, idle_flags, damage_in, damaged_of, stopped, first_time, churn_of}
+use Rattle.adj_rib.specs.Churns.{outcomes_of, is_routing, reading_of, idle_flags, damage_in, damaged_of, stopped, first_time, last_time, churn_of}
 use Rattle.adj_rib.specs.Arrived.{first_place, arrivals_of, no_arrivals, arrived}
 use Rattle.adj_rib.specs.Sessions.{SessionState, session_of}
 use Rattle.adj_rib.specs.Applied.{counted_if, RouteMap, applied, timed, noted, up_after, Kept, START, followed, listed, taken, read_as, refused}
@@ -109,14 +109,11 @@ idle-push units unit =
     ap (λ flags. stopped (count_by (λ flag. flag) flags)) (flat_map_after-push (λ before u. idle_flag (is_up before) u ∷ []) [] units unit)
     ∙ stopped-count_by-push (λ (flag : Bool). flag) (idle_flags units) (idle_flag (is_up units) unit)
 
-first_time-push : (units : List ReplayUnit) (unit : ReplayUnit) → first_time (units ++ unit ∷ []) ≡ Some (unwrap_or (first_time units) unit.time)
+pub first_time-push : (units : List ReplayUnit) (unit : ReplayUnit) → first_time (units ++ unit ∷ []) ≡ Some (unwrap_or (first_time units) unit.time)
 first_time-push [] unit = refl
 first_time-push (u ∷ units) unit = refl
 
-abbrev last_time : List ReplayUnit → Option ℕ
-last_time units = option_map (λ (unit : ReplayUnit). unit.time) (last_or None (filter_map (λ (unit : ReplayUnit). Some unit) units))
-
-last_time-push : (units : List ReplayUnit) (unit : ReplayUnit) → last_time (units ++ unit ∷ []) ≡ Some unit.time
+pub last_time-push : (units : List ReplayUnit) (unit : ReplayUnit) → last_time (units ++ unit ∷ []) ≡ Some unit.time
 last_time-push units unit =
     ap (λ us. option_map (λ (u : ReplayUnit). u.time) (last_or None us)) (filter_map-append (λ (u : ReplayUnit). Some u) units (unit ∷ []))
     ∙ ap (option_map (λ (u : ReplayUnit). u.time)) (last_or-append None (filter_map (λ (u : ReplayUnit). Some u) units) (unit ∷ []))

@@ -1,5 +1,5 @@
 -- A watch on chosen prefixes has their routes, and notes what the definitions say of them.
-use Rattle.std.proofs.Common.{◌≡◌, Bool, true, false, cond, List, [], ◌∷◌, ◌++◌, map, Ok, Err, refl, sym, ap, subst, ◌∙◌, append_assoc, append-nil}
+use Rattle.std.proofs.Common.{◌≡◌, ℕ, Option, Bool, true, false, cond, List, [], ◌∷◌, ◌++◌, map, Ok, Err, refl, sym, ap, subst, ◌∙◌, append_assoc, append-nil}
 use Rattle.std.specs.List.{filter, fold}
 use Rattle.std.specs.FinMap as finite
 use Rattle.std.proofs.lemmas.List.Elements.{filter-append}
@@ -7,18 +7,22 @@ use Rattle.bgp_prefix.specs.declared.key.RouteKey.{RouteKey}
 use Rattle.bgp_update.specs.declared.route.Route.{Route}
 use Rattle.mrt_body.specs.declared.choice.PrefixChoice.{PrefixChoice}
 use Rattle.mrt_body.specs.declared.unit.Unit.{Unit as ReplayUnit}
+use Rattle.adj_rib.specs.declared.churn.Churn.{Churn}
 use Rattle.adj_rib.specs.declared.note.Note.{Note}
+use Rattle.adj_rib.specs.declared.outcome.UnitKind.{UnitKind}
 use Rattle.adj_rib.specs.Steps.{Step, break, announce, withdraw, is_up, unit_steps, reading_steps, steps_of}
 use Rattle.adj_rib.specs.Tables.{IsTable, route_at, table_of}
 use Rattle.adj_rib.specs.Churns.{damage_in, damaged_of, reading_of}
-use Rattle.adj_rib.specs.Applied.{RouteMap, listed, up_after}
+use Rattle.adj_rib.specs.Applied.{RouteMap, listed, no_churn, up_after}
+use Rattle.adj_rib.specs.Counting.{counted_within, kind_of}
 use Rattle.adj_rib.specs.Selecting.{keeps, selected_steps, selected_entries, chooses}
-use Rattle.adj_rib.specs.Histories.{announced_note, withdrawn_note, lost_note, noted_after, noted_behind, unit_notes, chosen_notes, WatchState, WatchesFor, watch_of}
+use Rattle.adj_rib.specs.Histories.{announced_note, withdrawn_note, lost_note, noted_after, noted_behind, unit_notes, chosen_notes, churn_within, idle_within, notes_within, WatchState, WatchesFor, watch_of}
 use Rattle.adj_rib.specs.Watching.{Watching, noted_on, watched, watch_after, watch_read}
 use Rattle.adj_rib.proofs.TableLaws.{entries-IsTable, IsTable_start}
 use Rattle.adj_rib.proofs.Stepping.{table_step}
 use Rattle.adj_rib.proofs.After.{steps_of-push}
 use Rattle.adj_rib.proofs.Taking.{damaged_of-push, is_up-push, table_from_entries}
+use Rattle.adj_rib.proofs.WindowLaws.{churn_within-push}
 use Rattle.mrt_body.specs.Selections.{concerns}
 use Rattle.adj_rib.specs.Selecting.{concerned}
 use Rattle.adj_rib.proofs.Selected.{route_at-selected, table_of-selected, is_up-concerned, steps_of-concerned, quiet_unit}
@@ -93,23 +97,27 @@ pub record Watches (choices : List PrefixChoice) (units : List ReplayUnit) (watc
   pub table : IsTable (selected_steps (chooses choices) (steps_of units)) watch.table
   pub faults : watch.faults ≡ damaged_of units
 
--- what contracts see of a watch
-abbrev pub seen_as : Watching → WatchState
-seen_as watch = record { up = watch.up; table = finite.entries watch.table; faults = watch.faults }
+-- what contracts see of a watch with its counts
+abbrev pub seen_as : Churn → Watching → WatchState
+seen_as churn watch = record { up = watch.up; table = finite.entries watch.table; churn = churn; faults = watch.faults }
 
-from_seen : (choices : List PrefixChoice) (units : List ReplayUnit) (watch : Watching) → WatchesFor choices units (seen_as watch) → Watches choices units watch
+from_seen : (since : Option ℕ) (choices : List PrefixChoice) (units : List ReplayUnit) (churn : Churn) (watch : Watching) → WatchesFor since choices units (seen_as churn watch) → Watches choices units watch
 unfolding watch_of
-from_seen choices units watch h = record {
+from_seen since choices units churn watch h = record {
   up = ap (λ (w : WatchState). w.up) h;
   table = table_from_entries (selected_steps (chooses choices) (steps_of units)) watch.table (ap (λ (w : WatchState). w.table) h ∙ sym (table_of-selected (chooses choices) (steps_of units)));
   faults = ap (λ (w : WatchState). w.faults) h;
 }
 
-to_seen : (choices : List PrefixChoice) (units : List ReplayUnit) (watch : Watching) → Watches choices units watch → WatchesFor choices units (seen_as watch)
+churn_seen : (since : Option ℕ) (choices : List PrefixChoice) (units : List ReplayUnit) (churn : Churn) (watch : Watching) → WatchesFor since choices units (seen_as churn watch) → churn ≡ churn_within since choices units
 unfolding watch_of
-to_seen choices units watch h =
+churn_seen since choices units churn watch h = ap (λ (w : WatchState). w.churn) h
+
+to_seen : (since : Option ℕ) (choices : List PrefixChoice) (units : List ReplayUnit) (churn : Churn) (watch : Watching) → churn ≡ churn_within since choices units → Watches choices units watch → WatchesFor since choices units (seen_as churn watch)
+unfolding watch_of
+to_seen since choices units churn watch counts h =
     let table = entries-IsTable (selected_steps (chooses choices) (steps_of units)) watch.table h.table ∙ table_of-selected (chooses choices) (steps_of units) in
-    λ i. record { up = h.up i; table = table i; faults = h.faults i }
+    λ i. record { up = h.up i; table = table i; churn = counts i; faults = h.faults i }
 
 module _ (choices : List PrefixChoice) (before : List ReplayUnit) (unit : ReplayUnit) (watch : Watching) (notes : List Note) (h : Watches choices before watch) where
   abbrev more_now : Bool → List Step
@@ -149,22 +157,34 @@ module _ (choices : List PrefixChoice) (before : List ReplayUnit) (unit : Replay
       ∙ ap (λ up. notes ++ chosen_notes choices (noted_behind (steps_of before) (reading_steps up (reading_of unit)))) h.up
 
 -- a watch on no unit yet
-pub watch_at_start : (choices : List PrefixChoice) → WatchesFor choices [] (seen_as (record { up = true; table = finite.empty; faults = [] }))
-watch_at_start choices = to_seen choices [] (record { up = true; table = finite.empty; faults = [] }) (record { up = refl; table = (unfold steps_of in IsTable_start); faults = (unfold damaged_of in refl) })
+no_churn_yet : (since : Option ℕ) (choices : List PrefixChoice) → no_churn ≡ churn_within since choices []
+unfolding churn_within notes_within idle_within
+no_churn_yet since choices = refl
+
+pub watch_at_start : (since : Option ℕ) (choices : List PrefixChoice) → WatchesFor since choices [] (seen_as no_churn (record { up = true; table = finite.empty; faults = [] }))
+watch_at_start since choices =
+    to_seen since choices [] no_churn (record { up = true; table = finite.empty; faults = [] }) (no_churn_yet since choices)
+    (record { up = refl; table = (unfold steps_of in IsTable_start); faults = (unfold damaged_of in refl) })
 
 -- a watch that took the next unit
-module _ (choices : List PrefixChoice) (before : List ReplayUnit) (unit : ReplayUnit) (watch now : Watching) (notes told : List Note) (e : (now, told) ≡ watch_read choices (watch, notes) unit.place (reading_of unit)) (h : WatchesFor choices before (seen_as watch)) where
+module _ (since : Option ℕ) (choices : List PrefixChoice) (before : List ReplayUnit) (unit : ReplayUnit) (watch now : Watching) (churn : Churn) (notes told : List Note) (none : notes ≡ []) (e : (now, told) ≡ watch_read choices (watch, notes) unit.place (reading_of unit)) (h : WatchesFor since choices before (seen_as churn watch)) where
   abbrev stood : Watches choices before watch
-  stood = from_seen choices before watch h
+  stood = from_seen since choices before churn watch h
 
   abbrev both : (now, told) ≡ followed_then choices before unit watch notes stood
   both = e ∙ read_as_followed choices before unit watch notes stood
 
-  pub watch_stands : WatchesFor choices (before ++ unit ∷ []) (seen_as now)
-  watch_stands = to_seen choices (before ++ unit ∷ []) now (subst (Watches choices (before ++ unit ∷ [])) (sym (ap (λ (s : Watching × List Note). s.0) both)) (watches_then choices before unit watch notes stood))
+  pub watch_notes : told ≡ chosen_notes choices (unit_notes before unit)
+  watch_notes = ap (λ (s : Watching × List Note). s.1) both ∙ notes_then choices before unit watch notes stood ∙ ap (λ l. l ++ chosen_notes choices (unit_notes before unit)) none
 
-  pub watch_notes : told ≡ notes ++ chosen_notes choices (unit_notes before unit)
-  watch_notes = ap (λ (s : Watching × List Note). s.1) both ∙ notes_then choices before unit watch notes stood
+  pub watch_stands : (counts : Churn) (kind : UnitKind) (seen : List Note) → kind ≡ kind_of watch.up (reading_of unit) → seen ≡ told → counts ≡ counted_within since unit.time kind seen churn → WatchesFor since choices (before ++ unit ∷ []) (seen_as counts now)
+  watch_stands counts kind seen is same counted =
+      let counts_are : counts ≡ churn_within since choices (before ++ unit ∷ []) =
+      counted
+      ∙ (λ i. counted_within since unit.time (is i) (same i) (churn_seen since choices before churn watch h i))
+      ∙ (λ i. counted_within since unit.time (kind_of (stood.up i) (reading_of unit)) (watch_notes i) (churn_within since choices before))
+      ∙ sym (churn_within-push since choices before unit) in
+      to_seen since choices (before ++ unit ∷ []) counts now counts_are (subst (Watches choices (before ++ unit ∷ [])) (sym (ap (λ (s : Watching × List Note). s.0) both)) (watches_then choices before unit watch notes stood))
 
 -- ---- early and late
 

@@ -13,7 +13,7 @@ use Rattle.adj_rib.specs.declared.churn.Churn.{Churn}
 use Rattle.adj_rib.specs.declared.outcome.Outcome.{Outcome}
 use Rattle.adj_rib.specs.declared.outcome.Outcome.TheVariants.{Added, Changed, Same, Gone, Void, Reset}
 use Rattle.bgp_update.specs.Equality.{route_eq}
-use Rattle.adj_rib.specs.Steps.{Step, break, announce, withdraw, is_up, steps_of}
+use Rattle.adj_rib.specs.Steps.{Step, break, announce, withdraw, ESTABLISHED, is_up, steps_of}
 use Rattle.adj_rib.specs.Tables.{route_at}
 
 abbrev pub announced_over : Option Route → Route → Outcome
@@ -51,6 +51,14 @@ is_routing (Ok (event.State old new)) = false
 is_routing (Ok event.Other) = false
 is_routing (Err fault) = false
 
+-- a state change that is a break, whole
+abbrev pub is_break : Result Event Fault → Bool
+is_break (Ok (event.State old new)) = not ((old == ESTABLISHED) && (new == ESTABLISHED))
+is_break (Ok (event.Change update)) = false
+is_break (Ok (event.Rib key route)) = false
+is_break (Ok event.Other) = false
+is_break (Err fault) = false
+
 abbrev pub reading_of : ReplayUnit → Result Event Fault
 reading_of unit = event_in unit.payload
 
@@ -74,6 +82,9 @@ abbrev pub first_time : List ReplayUnit → Option ℕ
 first_time [] = None
 first_time (unit ∷ units) = Some unit.time
 
+abbrev pub last_time : List ReplayUnit → Option ℕ
+last_time units = option_map (λ unit. unit.time) (last_or None (filter_map (λ (unit : ReplayUnit). Some unit) units))
+
 unfoldable pub churn_of : List ReplayUnit → Churn
 churn_of units =
     let outcomes = outcomes_of (steps_of units) in
@@ -87,5 +98,5 @@ churn_of units =
       idle = stopped (count_by (λ flag. flag) (idle_flags units));
       refused = stopped (count_by (λ unit. is_err (reading_of unit)) units);
       first = first_time units;
-      last = option_map (λ unit. unit.time) (last_or None (filter_map (λ (unit : ReplayUnit). Some unit) units));
+      last = last_time units;
     }

@@ -1,7 +1,7 @@
 -- What happened to each key of a peer: a note of each announcement and withdrawal, and of each route that a break ended
 -- (RFC 4271, 3.2, 4.3 and 9).
-use Rattle.std.specs.Prelude.{◌≡◌, Bool, List, [], ◌∷◌, map, Option, Some, None, if◌then◌else◌}
-use Rattle.std.specs.List.{filter}
+use Rattle.std.specs.Prelude.{◌≡◌, ℕ, ◌/◌, Bool, false, not, ◌&&◌, List, [], ◌∷◌, map, Option, Some, None, is_err, nat_lt, if◌then◌else◌}
+use Rattle.std.specs.List.{count_by, filter}
 use Rattle.mrt_frame.specs.Positions.{flat_map_after}
 use Rattle.bgp_prefix.specs.declared.key.RouteKey.{RouteKey}
 use Rattle.bgp_update.specs.declared.route.Route.{Route}
@@ -9,12 +9,15 @@ use Rattle.bgp_update.specs.Equality.{route_eq}
 use Rattle.mrt_body.specs.declared.choice.PrefixChoice.{PrefixChoice}
 use Rattle.mrt_body.specs.declared.unit.Damage.{Damage}
 use Rattle.mrt_body.specs.declared.unit.Unit.{Unit as ReplayUnit}
+use Rattle.adj_rib.specs.declared.churn.Churn.{Churn}
 use Rattle.adj_rib.specs.declared.note.Note.{Note}
 use Rattle.adj_rib.specs.declared.note.What.{What}
 use Rattle.adj_rib.specs.declared.note.What.TheVariants.{New, Changed, Same, Gone, Void, Lost}
+use Rattle.adj_rib.specs.declared.outcome.Outcome.{Outcome}
+use Rattle.adj_rib.specs.declared.outcome.Outcome.TheVariants as outcome
 use Rattle.adj_rib.specs.Steps.{Step, break, announce, withdraw, is_up, unit_steps, steps_of}
 use Rattle.adj_rib.specs.Tables.{route_at, table_of}
-use Rattle.adj_rib.specs.Churns.{damaged_of}
+use Rattle.adj_rib.specs.Churns.{damaged_of, first_time, is_break, is_outcome, is_routing, last_time, reading_of, stopped}
 use Rattle.adj_rib.specs.Selecting.{chooses, selected_entries}
 
 -- ---- what a step does to keys
@@ -61,22 +64,86 @@ unit_notes before unit = noted_behind (steps_of before) (unit_steps (is_up befor
 abbrev pub chosen_notes : List PrefixChoice → List Note → List Note
 chosen_notes choices notes = filter (λ note. chooses choices note.key) notes
 
+-- ---- what is counted of it
+
+-- whether a time, in microseconds, is before this second
+abbrev pub is_before : Option ℕ → ℕ → Bool
+is_before None time = false
+is_before (Some since) time = nat_lt (time / 1000000) since
+
+-- the units from this second on
+abbrev pub units_within : Option ℕ → List ReplayUnit → List ReplayUnit
+units_within since units = filter (λ unit. not (is_before since unit.time)) units
+
+-- what the units from this second on did to chosen keys, each after all the peer's units before it
+unfoldable pub notes_within : Option ℕ → List PrefixChoice → List ReplayUnit → List Note
+notes_within since choices units =
+    flat_map_after
+    (λ before unit. if is_before since unit.time then [] else chosen_notes choices (unit_notes before unit)) [] units
+
+-- whether each unit from this second on is an UPDATE or RIB entry of a peer that isn't up
+unfoldable pub idle_within : Option ℕ → List ReplayUnit → List Bool
+idle_within since units =
+    flat_map_after
+    (λ before unit. if is_before since unit.time then [] else (is_routing (reading_of unit) && not (is_up before)) ∷ [])
+    [] units
+
+-- the outcome of an announcement or a withdrawal; the break that ends a route is counted once and not for each route
+abbrev pub outcome_noted : What → Option Outcome
+outcome_noted New = Some outcome.Added
+outcome_noted Changed = Some outcome.Changed
+outcome_noted Same = Some outcome.Same
+outcome_noted Gone = Some outcome.Gone
+outcome_noted Void = Some outcome.Void
+outcome_noted Lost = None
+
+-- this outcome, where there is one
+abbrev pub is_this : Outcome → Option Outcome → Bool
+is_this o None = false
+is_this o (Some other) = is_outcome o other
+
+abbrev pub has_outcome : Outcome → Note → Bool
+has_outcome o note = is_this o (outcome_noted note.what)
+
+-- the counts of these notes, of whether each unit is idle, and of the units
+abbrev pub churn_by : List Note → List Bool → List ReplayUnit → Churn
+churn_by notes flags units = record {
+  added = stopped (count_by (has_outcome outcome.Added) notes);
+  changed = stopped (count_by (has_outcome outcome.Changed) notes);
+  same = stopped (count_by (has_outcome outcome.Same) notes);
+  gone = stopped (count_by (has_outcome outcome.Gone) notes);
+  void = stopped (count_by (has_outcome outcome.Void) notes);
+  resets = stopped (count_by (λ unit. is_break (reading_of unit)) units);
+  idle = stopped (count_by (λ flag. flag) flags);
+  refused = stopped (count_by (λ unit. is_err (reading_of unit)) units);
+  first = first_time units;
+  last = last_time units;
+}
+
+-- What a peer's units from this second on did to chosen keys, counted over a replay from the beginning; and how many of
+-- them were breaks, idle or damaged, and the times of the first and the last.
+unfoldable pub churn_within : Option ℕ → List PrefixChoice → List ReplayUnit → Churn
+churn_within since choices units =
+    churn_by (notes_within since choices units) (idle_within since units) (units_within since units)
+
 -- ---- what a watch is
 
 -- what is kept of a peer of which some prefixes are watched, the table as its entries in order
 pub record WatchState : Type 0 where
   pub up : Bool
   pub table : List (RouteKey × Route)
+  pub churn : Churn
   pub faults : List Damage
 
--- what a watch on chosen prefixes is that took these units, in this order
-unfoldable pub watch_of : List PrefixChoice → List ReplayUnit → WatchState
-watch_of choices units = record {
+-- what a watch on chosen prefixes is that took these units, in this order, and counts from this second on
+unfoldable pub watch_of : Option ℕ → List PrefixChoice → List ReplayUnit → WatchState
+watch_of since choices units = record {
   up = is_up units;
   table = selected_entries (chooses choices) (table_of (steps_of units));
+  churn = churn_within since choices units;
   faults = damaged_of units;
 }
 
--- a watch on chosen prefixes that took these units
-abbrev pub WatchesFor : List PrefixChoice → List ReplayUnit → WatchState → Type 0
-WatchesFor choices units watch = watch ≡ watch_of choices units
+-- a watch on chosen prefixes that took these units, and counts from this second on
+abbrev pub WatchesFor : Option ℕ → List PrefixChoice → List ReplayUnit → WatchState → Type 0
+WatchesFor since choices units watch = watch ≡ watch_of since choices units

@@ -1,6 +1,20 @@
 //! What a peer's units did to its table, in counts and times.
 
-use crate::outcome::Outcome;
+ghost use Rattle.std.specs.Prelude.{◌≡◌};
+ghost use Rattle.adj_rib.specs.Histories.{is_before};
+
+use crate::note::{Note, What};
+use crate::outcome::{Outcome, UnitKind};
+
+/// Whether a time, in microseconds since 1970 UTC, is before this second.
+pub fn is_before(since: Option<u64>, time: u64) -> bool
+    ensures { result ≡ is_before since time }
+{
+    match since {
+        Some(since) => time / 1_000_000 < since,
+        None => false,
+    }
+}
 
 /// What a peer's units did to its table. Each count stops at `u64::MAX`; times are in microseconds
 /// since 1970 UTC.
@@ -30,7 +44,10 @@ pub struct Churn {
 
 impl Churn {
     ghost use Rattle.std.specs.Prelude.{◌≡◌, None};
+    ghost use Rattle.std.specs.List.{fold};
     ghost use Rattle.adj_rib.specs.Applied.{counted, no_churn, timed};
+    ghost use Rattle.adj_rib.specs.Counting.{counted_note, counted_this, counted_unit, counted_within};
+    ghost use Rattle.adj_rib.specs.Histories.{outcome_noted};
 
     /// Returns the churn of no unit.
     pub(crate) fn new() -> Churn
@@ -72,5 +89,58 @@ impl Churn {
     {
         self.first = Some(self.first.unwrap_or(time));
         self.last = Some(time);
+    }
+    /// Counts what happened to a key. A route that a state change ended isn't counted: the state change is.
+    fn count_what(&mut self, what: What)
+        ensures { self.new ≡ counted_this (outcome_noted what) self.old }
+    {
+        match what {
+            What::New => self.count(Outcome::Added),
+            What::Changed => self.count(Outcome::Changed),
+            What::Same => self.count(Outcome::Same),
+            What::Gone => self.count(Outcome::Gone),
+            What::Void => self.count(Outcome::Void),
+            What::Lost => {}
+        }
+    }
+
+    /// Counts what happened to keys.
+    fn count_notes(&mut self, notes: &[Note])
+        ensures { self.new ≡ fold counted_note self.old notes.now }
+    {
+        for note in notes {
+            self.count_what(note.what);
+        }
+    }
+
+    /// Counts a unit as what it is, beside what it does to keys.
+    #[tactic(auto, unfolding(crate::specs::Counting::counted_unit))]
+    fn count_unit(&mut self, kind: UnitKind)
+        ensures { self.new ≡ counted_unit kind self.old }
+    {
+        match kind {
+            UnitKind::Break => self.resets = self.resets.saturating_add(1),
+            UnitKind::Idle => self.idle = self.idle.saturating_add(1),
+            UnitKind::Damaged => self.refused = self.refused.saturating_add(1),
+            UnitKind::Other => {}
+        }
+    }
+
+    /// Counts a unit and what it did to keys, unless it is before this second.
+    pub(crate) fn count_within(
+        &mut self,
+        since: Option<u64>,
+        time: u64,
+        kind: UnitKind,
+        notes: &[Note],
+    )
+        ensures { self.new ≡ counted_within since time kind notes.now self.old }
+    {
+        if is_before(since, time) {
+            return;
+        }
+        self.note_time(time);
+        self.count_unit(kind);
+        self.count_notes(notes);
     }
 }

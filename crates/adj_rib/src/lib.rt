@@ -24,6 +24,7 @@
 //!   then no longer stands for its units.
 //! - A `Watch` takes units as a session does, and notes what each does to the keys of chosen prefixes, in the order of
 //!   its steps. It keeps their routes alone, shared as those of a session are: a note and the table own the same one.
+//!   It counts these notes, and what each unit is beside them (`UnitKind`), from a second on (`churn_within`).
 #![tactic(auto)]
 
 mod arrivals;
@@ -45,11 +46,13 @@ mod update;
 mod watch;
 
 pub use arrivals::Arrivals;
-pub use churn::Churn;
+pub use churn::{Churn, is_before};
 pub use holding::table_has_what_holds;
 pub use note::{Note, What};
 pub use read_ahead::ReadAhead;
-pub use selecting::{early_is_late, notes_are_of_concerned, selections_commute};
+pub use selecting::{
+    counts_are_of_all_units, early_is_late, notes_are_of_concerned, selections_commute,
+};
 pub use session::Session;
 pub use shared_route::SharedRoute;
 pub use source::routes_come_while_up;

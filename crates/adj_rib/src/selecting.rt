@@ -1,14 +1,14 @@
 //! The laws of selections of keys.
 
-ghost use Rattle.std.specs.Prelude.{◌≡◌, [], Bool, List, false};
+ghost use Rattle.std.specs.Prelude.{◌≡◌, [], Bool, List, None, false};
 ghost use Rattle.bgp_prefix.specs.declared.key.RouteKey.{RouteKey};
 ghost use Rattle.mrt_body.specs.declared.choice.PrefixChoice.{PrefixChoice as Choice};
 ghost use Rattle.mrt_body.specs.declared.unit.Unit.{Unit as ReplayUnit};
 ghost use Rattle.mrt_body.specs.Selections.{concerns};
 ghost use Rattle.adj_rib.specs.Steps.{Step, is_up, steps_of};
 ghost use Rattle.adj_rib.specs.Tables.{table_of};
-ghost use Rattle.adj_rib.specs.Churns.{outcomes_of};
-ghost use Rattle.adj_rib.specs.Histories.{chosen_notes, unit_notes};
+ghost use Rattle.adj_rib.specs.Churns.{churn_of, outcomes_of};
+ghost use Rattle.adj_rib.specs.Histories.{chosen_notes, churn_within, unit_notes};
 ghost use Rattle.adj_rib.specs.Selecting.{chooses, concerned, selected_steps, selected_entries, selected_outcomes};
 
 /// The table of selected steps is the selection of the table of all steps, and each of them has the outcome that it has
@@ -40,4 +40,9 @@ pub fn notes_are_of_concerned()
     ensures early { (choices : List Choice) (before : List ReplayUnit) (unit : ReplayUnit) →
         chosen_notes choices (unit_notes (concerned choices before) unit)
         ≡ chosen_notes choices (unit_notes before unit) }
+{}
+
+/// Where no second and no prefix is named, what is counted by notes is what is counted of all units by their steps.
+pub fn counts_are_of_all_units()
+    ensures { (units : List ReplayUnit) → churn_within None [] units ≡ churn_of units }
 {}

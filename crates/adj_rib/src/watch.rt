@@ -1,14 +1,17 @@
 //! A peer of which some prefixes are watched: their routes, and what happens to them.
 
-ghost use Rattle.std.specs.Prelude.{◌≡◌, [], ◌∷◌, ◌++◌, List, OnOk};
+ghost use Rattle.std.specs.Prelude.{◌≡◌, [], ◌∷◌, ◌++◌, List, OnOk, Option, ℕ};
 ghost use Rattle.std.specs.FinMap as finite;
 ghost use Rattle.mrt_body.specs.Lent.{lent_unit};
 ghost use Rattle.mrt_body.specs.declared.choice.PrefixChoice.{PrefixChoice as Choice};
 ghost use Rattle.mrt_body.specs.declared.unit.Unit.{Unit as ReplayUnit};
+ghost use Rattle.adj_rib.specs.Counting.{change_kind, kind_of, routing_kind};
 ghost use Rattle.adj_rib.specs.Histories.{WatchesFor, chosen_notes, unit_notes};
 
+use crate::churn::Churn;
 use crate::note::Note;
 use crate::noting::{is_chosen_key, lose_all, note_announcement, note_update};
+use crate::outcome::UnitKind;
 use crate::route_set::{HashedRoute, RouteSet};
 use crate::shared_route::SharedRoute;
 use bgp_prefix::{Memory, PrefixMap, RouteKey};
@@ -20,6 +23,24 @@ use std::marker::Model;
 /// The state Established (RFC 4271, 8.2.2).
 const ESTABLISHED_STATE: u16 = 6;
 
+/// Returns what a state change is counted as.
+fn kind_of_change(old: u16, new: u16) -> UnitKind
+    ensures { result ≡ change_kind old new }
+{
+    if old == ESTABLISHED_STATE && new == ESTABLISHED_STATE {
+        UnitKind::Other
+    } else {
+        UnitKind::Break
+    }
+}
+
+/// Returns what an UPDATE or a RIB entry, undamaged, of a peer that is up or not is counted as.
+fn kind_of_routing(up: bool) -> UnitKind
+    ensures { result ≡ routing_kind up }
+{
+    if up { UnitKind::Other } else { UnitKind::Idle }
+}
+
 /// A peer's Adj-RIB-In (RFC 4271, 3.2) as far as it is watched: its routes of chosen prefixes, and its damaged units.
 #[derive(Drop)]
 struct WatchedRib<M: PrefixMap<SharedRoute>> {
@@ -30,7 +51,7 @@ struct WatchedRib<M: PrefixMap<SharedRoute>> {
 }
 
 impl<M: PrefixMap<SharedRoute>> WatchedRib<M> {
-    ghost use Rattle.std.specs.Prelude.{◌≡◌, [], Ok, OnOk, true};
+    ghost use Rattle.std.specs.Prelude.{◌≡◌, [], IfOk, Ok, OnOk, true};
     ghost use Rattle.std.specs.FinMap as finite;
     ghost use Rattle.bgp_update.specs.PackedUpdates.{plain_update};
     ghost use Rattle.mrt_body.specs.Events.{event_in};
@@ -124,7 +145,7 @@ impl<M: PrefixMap<SharedRoute>> WatchedRib<M> {
         Ok(())
     }
 
-    /// Takes the unit at a place, whose payload is read by way of a buffer.
+    /// Takes the unit at a place, whose payload is read by way of a buffer, and returns what the unit is counted as.
     #[tactic(auto, unfolding(crate::specs::Watching::watch_after))]
     fn take_payload(
         &mut self,
@@ -134,30 +155,43 @@ impl<M: PrefixMap<SharedRoute>> WatchedRib<M> {
         place: Place,
         payload: &LentPayload<'_>,
         notes: &mut Vec<Note>,
-    ) -> Result<(), Memory>
-        ensures { OnOk result ((watching_in M.contents self.new, notes.new.items)
+    ) -> Result<UnitKind, Memory>
+        ensures watched { OnOk result ((watching_in M.contents self.new, notes.new.items)
             ≡ watch_read chosen.now (watching_in M.contents self.old, notes.old.items) place
             (event_in (lent_payload payload.now))) }
+        ensures kind { IfOk result (λ kind. kind ≡ kind_of self.old.up (event_in (lent_payload payload.now))) }
     {
+        let up = self.up;
         match packed_event(alloc, buffer, payload) {
             Ok(PackedEvent::State(old, new)) => {
                 self.change_state(alloc, notes, old, new)?;
-                Ok(())
+                Ok(kind_of_change(old, new))
             }
-            Ok(PackedEvent::Change(update)) => self.take_update(alloc, chosen, notes, update),
-            Ok(PackedEvent::Rib(key, route)) => self.take_entry(alloc, chosen, notes, key, route),
-            Ok(PackedEvent::Other) => Ok(()),
-            Err(AttrError::Bad(fault)) => self.list_damage(Damage { place, fault }),
+            Ok(PackedEvent::Change(update)) => {
+                self.take_update(alloc, chosen, notes, update)?;
+                Ok(kind_of_routing(up))
+            }
+            Ok(PackedEvent::Rib(key, route)) => {
+                self.take_entry(alloc, chosen, notes, key, route)?;
+                Ok(kind_of_routing(up))
+            }
+            Ok(PackedEvent::Other) => Ok(UnitKind::Other),
+            Err(AttrError::Bad(fault)) => {
+                self.list_damage(Damage { place, fault })?;
+                Ok(UnitKind::Damaged)
+            }
             Err(AttrError::Memory) => Err(Memory),
         }
     }
 }
 
-/// A peer of which chosen prefixes are watched: whether it is up, its routes of these prefixes, and its damaged units.
-/// It stands for the units that it took, with the choices that it was passed each time.
+/// A peer of which chosen prefixes are watched: whether it is up, its routes of these prefixes, its damaged units, and
+/// what its units did, counted from a second on. It stands for the units that it took, with the choices and the second
+/// that it was passed each time.
 #[derive(Drop)]
 pub struct Watch<M: PrefixMap<SharedRoute>> {
     rib: WatchedRib<M>,
+    churn: Churn,
 }
 
 impl<M: PrefixMap<SharedRoute>> Model for Watch<M> {
@@ -169,6 +203,7 @@ impl<M: PrefixMap<SharedRoute>> Model for Watch<M> {
     ghost view = { λ w. record {
       up = w.rib.up;
       table = finite.entries (M.contents w.rib.table);
+      churn = w.churn;
       faults = w.rib.faults.items;
     } };
 }
@@ -176,31 +211,37 @@ impl<M: PrefixMap<SharedRoute>> Model for Watch<M> {
 impl<M: PrefixMap<SharedRoute>> Watch<M> {
     /// Returns the watch on a peer without units, which is up and has no routes. Allocates nothing.
     pub fn new(alloc: Global) -> Watch<M>
-        ensures { (choices : List Choice) → WatchesFor choices [] result }
+        ensures { (since : Option ℕ) (choices : List Choice) → WatchesFor since choices [] result }
     {
         Watch {
             rib: WatchedRib::new(alloc),
+            churn: Churn::new(),
         }
     }
 
-    /// Takes the next unit, which is read by way of a buffer, whose contents are replaced, and adds what it did to keys
-    /// of chosen prefixes to the notes. A damaged unit is listed. After an `Err` the watch no longer stands for units.
+    /// Takes the next unit, which is read by way of a buffer, whose contents are replaced, and replaces the notes by
+    /// what the unit did to keys of chosen prefixes. A damaged unit is listed. The unit is counted unless it is before
+    /// the second `since`, since 1970 UTC. After an `Err` the watch no longer stands for units.
     pub fn take(
         &mut self,
         alloc: Global,
         buffer: &mut Vec<u8>,
         chosen: &ChosenPrefixes,
+        since: Option<u64>,
         unit: &LentUnit<'_>,
         notes: &mut Vec<Note>,
     ) -> Result<(), Memory>
-        ensures stands { (before : List ReplayUnit) → WatchesFor chosen.now before self.old →
-            OnOk result (WatchesFor chosen.now (before ++ lent_unit unit.now ∷ []) self.new) }
-        ensures notes { (before : List ReplayUnit) → WatchesFor chosen.now before self.old →
-            OnOk result (notes.new.items
-            ≡ notes.old.items ++ chosen_notes chosen.now (unit_notes before (lent_unit unit.now))) }
+        ensures stands { (before : List ReplayUnit) → WatchesFor since chosen.now before self.old →
+            OnOk result (WatchesFor since chosen.now (before ++ lent_unit unit.now ∷ []) self.new) }
+        ensures notes { (before : List ReplayUnit) → WatchesFor since chosen.now before self.old →
+            OnOk result (notes.new.items ≡ chosen_notes chosen.now (unit_notes before (lent_unit unit.now))) }
     {
-        self.rib
+        notes.clear();
+        let kind = self
+            .rib
             .take_payload(alloc, buffer, chosen, unit.place, &unit.payload, notes)?;
+        self.churn
+            .count_within(since, unit.time, kind, notes.as_slice());
         Ok(())
     }
 
@@ -216,6 +257,13 @@ impl<M: PrefixMap<SharedRoute>> Watch<M> {
         ensures { finite.entries (M.contents result.now) ≡ self.now.table }
     {
         &self.rib.table
+    }
+
+    /// What the units did, counted.
+    pub fn churn(&self) -> Churn
+        ensures { result ≡ self.now.churn }
+    {
+        self.churn
     }
 
     /// The damaged units, in the order in which they were taken.

@@ -117,16 +117,17 @@ fn is_narrow(choices: &[PrefixChoice]) -> bool {
     !choices.is_empty() && addresses <= MOST_NARROW
 }
 
-/// Whether what happened is listed, which one thread does.
-fn is_history(request: &Request) -> bool {
+/// Whether what happened is listed, or a part of it counted, which one thread does.
+fn is_history(request: &Request, choices: &[PrefixChoice]) -> bool {
     match request {
-        Request::History(_) => true,
+        Request::History { since: _, same: _ } => true,
+        Request::Churn { since } => since.is_some() || !choices.is_empty(),
         _ => false,
     }
 }
 
 /// Returns as many workers as the arguments ask for, otherwise one if few prefixes are chosen or what happened is
-/// listed, else one per processor; if the system doesn't report how many there are, as many as the job has.
+/// listed or a part of it counted, else one per processor; if the system doesn't report how many there are, as many as the job has.
 fn workers_of(threads: &impl Threads, job: &Job) -> usize
     ensures least { 1 ≤ result }
     ensures most { result ≤ 64 }
@@ -135,7 +136,7 @@ fn workers_of(threads: &impl Threads, job: &Job) -> usize
     if job.has_workers {
         return job.workers;
     }
-    if is_narrow(&job.prefixes) || is_history(&job.request) {
+    if is_narrow(&job.prefixes) || is_history(&job.request, &job.prefixes) {
         return 1;
     }
     match available_parallelism(threads) {

@@ -23,9 +23,11 @@ pub fn columns(request: &Request) -> &'static str {
         Request::Visibility => "prefix|peers\n",
         Request::Origins => "prefix|origins\n",
         Request::Seen => "prefix|origin|peers\n",
-        Request::Churn => { "peer|new|changed|same|gone|void|resets|idle|refused|first|last\n" }
+        Request::Churn { since: _ } => {
+            "peer|new|changed|same|gone|void|resets|idle|refused|first|last\n"
+        }
         Request::Peers => "peer|state|routes|units|first|last|file|offset|entry\n",
-        Request::History(_) => HISTORY_COLUMNS,
+        Request::History { since: _, same: _ } => HISTORY_COLUMNS,
         Request::Faults => "file|offset|entry|number|fault\n",
     }
 }

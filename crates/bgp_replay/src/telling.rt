@@ -123,10 +123,10 @@ fn command_of(request: &Request) -> &'static str {
         Request::Visibility => "visibility",
         Request::Origins => "origins",
         Request::Seen => "seen",
-        Request::Churn => "churn",
+        Request::Churn { since: _ } => "churn",
         Request::Peers => "peers",
         Request::Match(_) => "match --address A",
-        Request::History(_) => "history",
+        Request::History { since: _, same: _ } => "history",
         Request::Faults => "faults",
     }
 }

@@ -67,7 +67,7 @@ pub static OPTIONS: [OptionRow; 13] = [
         takes: Takes::Texts,
         default: "",
         offered: "",
-        commands: "tables visibility origins seen peers match history faults",
+        commands: "",
         is_required: false,
         meaning: "Report on this prefix alone. 192.0.2.0/24 is that prefix, 192.0.2.0/24+ also its more specifics, and 192.0.2.0/24- also the prefixes that contain it; an address alone has length 32. Given more than once, each prefix adds to the others",
     },
@@ -77,7 +77,7 @@ pub static OPTIONS: [OptionRow; 13] = [
         takes: Takes::Texts,
         default: "",
         offered: "",
-        commands: "tables visibility origins seen peers match history faults",
+        commands: "",
         is_required: false,
         meaning: "Report on the prefixes in this file alone. Each line is one as --prefix takes it; empty lines and lines that begin with # are passed over, and '-' is standard input. They add to those of --prefix and of other files",
     },
@@ -117,9 +117,9 @@ pub static OPTIONS: [OptionRow; 13] = [
         takes: Takes::Text,
         default: "",
         offered: "",
-        commands: "history",
+        commands: "churn history",
         is_required: false,
-        meaning: "List what was recorded from this second on. What was recorded before is replayed, and not listed. TIME is as that of --until",
+        meaning: "List or count what was recorded from this second on. What was recorded before is replayed, and neither listed nor counted. TIME is as that of --until",
     },
     OptionRow {
         name: "same",
@@ -169,7 +169,7 @@ pub static OPTIONS: [OptionRow; 13] = [
         offered: "1 2 4 8 16 32 64",
         commands: "",
         is_required: false,
-        meaning: "Replay with this many threads, 1 to 64. The report doesn't depend on it [default: one for each processor, or one alone where few prefixes are chosen]",
+        meaning: "Replay with this many threads, 1 to 64. The report doesn't depend on it; one thread alone makes history, and churn with prefixes or --since [default: one for each processor, or one alone where few prefixes are chosen]",
     },
     OptionRow {
         name: "ring",
@@ -298,7 +298,7 @@ const CHURN_COLUMNS: &[ColumnRow] = &[
     },
     ColumnRow {
         name: "first",
-        meaning: "seconds since 1970 UTC of the peer's first record, with six digits behind the point",
+        meaning: "seconds since 1970 UTC of the peer's first record that counts, with six digits behind the point",
     },
     ColumnRow {
         name: "last",
@@ -469,6 +469,7 @@ pub static COMMANDS: [CommandRow; 9] = [
         examples: &[
             "churn --header updates.mrt",
             "churn --until 2024-01-01T01:00:00Z rib.mrt updates.mrt",
+            "churn --prefix 192.0.2.0/24+ --since 2024-01-01T01:00:00Z rib.mrt updates.mrt",
         ],
     },
     CommandRow {

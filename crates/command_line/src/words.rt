@@ -15,7 +15,6 @@ use crate::refusal::refusal_of;
 use clap::error::ErrorKind;
 use clap::{ArgMatches, Error};
 use mrt_body::{PeerChoice, PrefixChoice, Share};
-use peer_tables::Listing;
 use rib_report::Request;
 use std::alloc::{AllocError, AllocFailed, Global};
 
@@ -104,10 +103,15 @@ fn request_of(alloc: Global, name: &str, matches: &ArgMatches<'_>) -> Result<Req
         "visibility" => Ok(Request::Visibility),
         "origins" => Ok(Request::Origins),
         "seen" => Ok(Request::Seen),
-        "churn" => Ok(Request::Churn),
+        "churn" => Ok(Request::Churn {
+            since: second_of(alloc, "since", matches)?,
+        }),
         "peers" => Ok(Request::Peers),
         "faults" => Ok(Request::Faults),
-        "history" => Ok(Request::History(listing_of(alloc, matches)?)),
+        "history" => Ok(Request::History {
+            since: second_of(alloc, "since", matches)?,
+            same: matches.get_flag("same"),
+        }),
         "match" => {
             let text = matches.get_str("address").unwrap_or("");
             Ok(Request::Match(address_of(alloc, text)?))
@@ -116,22 +120,19 @@ fn request_of(alloc: Global, name: &str, matches: &ArgMatches<'_>) -> Result<Req
     }
 }
 
-/// Returns which of the things that happened are listed.
-fn listing_of(alloc: Global, matches: &ArgMatches<'_>) -> Result<Listing, Usage>
-    ensures { IfErr result IsRefusal }
-{
-    Ok(Listing {
-        since: second_of(alloc, "since", matches)?,
-        same: matches.get_flag("same"),
-    })
+/// Returns the second from which on a report lists or counts, if it has one.
+fn since_of(request: &Request) -> Option<u64> {
+    match request {
+        Request::Churn { since } => *since,
+        Request::History { since, same: _ } => *since,
+        _ => None,
+    }
 }
 
-/// Whether a report lists what was recorded from a second on that is after the last one.
+/// Whether a report lists or counts what was recorded from a second on that is after the last one.
 fn is_never(request: &Request, until: Option<u64>) -> bool {
-    match (request, until) {
-        (Request::History(listing), Some(until)) => {
-            listing.since.is_some_and(|since| since > until)
-        }
+    match (since_of(request), until) {
+        (Some(since), Some(until)) => since > until,
         _ => false,
     }
 }

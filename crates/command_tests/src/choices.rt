@@ -132,14 +132,14 @@ fn prefixes_add_up(rt: HostRuntime) -> Result<(), Fail> {
             "9/32;3221225984/24-;0/0;",
         ),
         ("seen --prefix 0.0.0.9 --prefix 0.0.0.9 x", "9/32;9/32;"),
-        ("churn --prefix 0.0.0.9 x", "refused"),
+        ("churn --prefix 0.0.0.9 x", "9/32;"),
         ("tables --prefixes a x --prefixes=-", "a;-;"),
         (
             "match --address 0.0.0.1 --prefixes a --prefix 0.0.0.9 --prefixes a x",
             "9/32;a;a;",
         ),
         ("tables --prefixes - x -", "refused"),
-        ("churn --prefixes a x", "refused"),
+        ("churn --prefixes a x", "a;"),
         ("tables --prefix 0.0.0.9,0.0.0.8 x", "refused"),
         ("tables --prefix 0.0.0.9 --prefix 0.0.0.9/31 x", "refused"),
     ] {

@@ -1,7 +1,6 @@
 //! Rows on words, addresses and statuses.
 
 use command_line::{FileName, FirstBytes, Job, Kind, Usage, read_address, read_second, read_words};
-use peer_tables::Listing;
 use rib_report::Request;
 use std::alloc::Global;
 use std::test::Fail;
@@ -45,7 +44,11 @@ fn wrong_words_are_refused(rt: HostRuntime) -> Result<(), Fail> {
         ("tables --prefix 192.0.2/24 x", "words"),
         ("tables --prefix 192.0.2.0/24 --prefix soon x", "words"),
         ("tables --prefix", "words"),
-        ("churn --prefix 192.0.2.0/24 x", "words"),
+        ("churn --prefix 192.0.2.1/24 x", "words"),
+        ("churn --same x", "words"),
+        ("churn --since soon x", "words"),
+        ("churn --since 5 --until 4 x", "words"),
+        ("peers --since 5 x", "words"),
         ("history --since soon x", "words"),
         ("history --since 5 --until 4 x", "words"),
         ("tables --since 5 x", "words"),
@@ -109,7 +112,14 @@ fn words_ask_for_a_job(rt: HostRuntime) -> Result<(), Fail> {
         ),
         (
             "churn --until 5 --ring 65536 x",
-            Request::Churn,
+            Request::Churn { since: None },
+            (4, 65_536),
+            Some(5),
+            "x;",
+        ),
+        (
+            "churn --since 5 --until 5 --ring 65536 x",
+            Request::Churn { since: Some(5) },
             (4, 65_536),
             Some(5),
             "x;",
@@ -123,20 +133,20 @@ fn words_ask_for_a_job(rt: HostRuntime) -> Result<(), Fail> {
         ),
         (
             "history --since 3 --until 5 --same --ring 65536 x",
-            Request::History(Listing {
+            Request::History {
                 since: Some(3),
                 same: true,
-            }),
+            },
             (4, 65_536),
             Some(5),
             "x;",
         ),
         (
             "history --ring 65536 x",
-            Request::History(Listing {
+            Request::History {
                 since: None,
                 same: false,
-            }),
+            },
             (4, 65_536),
             None,
             "x;",

@@ -53,7 +53,7 @@ one_file : AreReports (
     ∷ row Tables (hex (codes "00000001 000C 0001 00000000") ++ announcement) (plain_line ∷ [])
     ∷ row Tables extended_announcement (plain_line ∷ [])
     ∷ row Churn extended_announcement (codes "65000 192.0.2.1|1|0|0|0|0|0|0|0|2.000000|2.000000" ∷ [])
-    ∷ record { request = Churn; until = Some 1; files = extended_announcement ∷ []; told = [] }
+    ∷ record { request = Churn None; until = Some 1; files = extended_announcement ∷ []; told = [] }
     ∷ [])
 unfolding digits report text units_of refused_of found_in cuts cuts_within found_at content_of message_unit states_unit session_peer_at session_at states_in index_in index_head_at peers_in written_peer_at rib_in rib_head_at entry_at items_after attribute_at attributes_in value_fault route_from route_in path_in segment_at segment_field_at written_key_at keys_in route_keys_in key_at reach_in reach_at unreach_in next_hop_of reached_keys unreached_keys fields_in said_update update_in message_in message_event_in event_in unit_steps steps_of route_eq outcomes_of churn_of damaged_of table_of session_of peers_of tables_of
 one_file = refl

@@ -1,4 +1,4 @@
--- A run that lists what happened: its report and what it counts.
+-- A run that lists or counts what happened: its report and what it counts.
 use Rattle.std.proofs.Common.{◌≡◌, ℕ, ◌+◌, ◌-◌, ◌^◌, min, List, [], ◌∷◌, ◌++◌, map, Option, Some, None, refl, sym, ap, ◌∙◌, subst, arith, length, length-append}
 use Rattle.std.specs.List.{flat_map}
 use Rattle.std.proofs.lemmas.List.{length-map}
@@ -20,64 +20,64 @@ use Rattle.peer_tables.specs.Peers.{peers_of, units_of_peer}
 use Rattle.peer_tables.specs.Tables.{Seat, tables_of, chosen_seat, chosen_tables, all_faults, all_routes}
 use Rattle.peer_tables.proofs.RowLaws.{flat_map_twice}
 use Rattle.peer_tables.proofs.StandingLaws.{peer_seat, seats_from}
-use Rattle.rib_report.specs.HistoryLines.{history_line}
 use Rattle.rib_report.specs.declared.request.Request.{Request}
 use Rattle.lane_deal.specs.declared.plan.Plan.{Plan}
-use Rattle.mrt_replay.specs.Reports.{listing_of, text_by, text, report, listed_faults, AreRounds, RoundsOf}
+use Rattle.mrt_replay.specs.Reports.{listing_of, told_lines, text_by, text, report, listed_faults, AreRounds, RoundsOf}
 use Rattle.mrt_replay.specs.Tellings.{watch_faults, watch_routes}
 use Rattle.mrt_replay.specs.declared.summary.Summary.{Summary}
 use Rattle.mrt_replay.proofs.RunLaws.{length_in_order}
 
 -- ---- the report
 
-pub history_is_report : (request : Request) (listing : Listing) (selection : UnitSelection) (files : List (List ℕ)) (rows : List HistoryRow) → listing_of request ≡ Some listing → rows ≡ history_rows listing selection.prefixes (units_of selection files) → flat_map history_line rows ≡ report request selection files
+pub history_is_report : (request : Request) (listing : Listing) (selection : UnitSelection) (files : List (List ℕ)) (rows : List HistoryRow) (watches : List PeerWatch) → listing_of request selection.prefixes ≡ Some listing → rows ≡ history_rows listing selection.prefixes (units_of selection files)
+    → watches ≡ watches_of listing.since selection.prefixes (units_of selection files) → told_lines listing.listed rows watches ≡ report request selection files
 unfolding report text
-history_is_report request listing selection files rows asked is =
-    ap (flat_map history_line) is ∙ sym (ap (λ (l : Option Listing). text_by l request selection.prefixes (units_of selection files) (refused_of selection files)) asked)
+history_is_report request listing selection files rows watches asked is took =
+    (λ i. told_lines listing.listed (is i) (took i)) ∙ sym (ap (λ (l : Option Listing). text_by l request selection.prefixes (units_of selection files) (refused_of selection files)) asked)
 
-pub rounds_of_tables : (request : Request) (plan : Plan) (s : Summary) → listing_of request ≡ None → AreRounds plan s → RoundsOf (listing_of request) plan s
-rounds_of_tables request plan s none rounds = subst (λ (l : Option Listing). RoundsOf l plan s) (sym none) rounds
+pub rounds_of_tables : (request : Request) (choices : List PrefixChoice) (plan : Plan) (s : Summary) → listing_of request choices ≡ None → AreRounds plan s → RoundsOf (listing_of request choices) plan s
+rounds_of_tables request choices plan s none rounds = subst (λ (l : Option Listing). RoundsOf l plan s) (sym none) rounds
 
-pub no_rounds : (request : Request) (listing : Listing) (plan : Plan) (s : Summary) → listing_of request ≡ Some listing → s.rounds ≡ 0 → RoundsOf (listing_of request) plan s
-no_rounds request listing plan s asked rounds = subst (λ (l : Option Listing). RoundsOf l plan s) (sym asked) rounds
+pub no_rounds : (request : Request) (choices : List PrefixChoice) (listing : Listing) (plan : Plan) (s : Summary) → listing_of request choices ≡ Some listing → s.rounds ≡ 0 → RoundsOf (listing_of request choices) plan s
+no_rounds request choices listing plan s asked rounds = subst (λ (l : Option Listing). RoundsOf l plan s) (sym asked) rounds
 
 -- ---- counts
 
-abbrev peer_watch : List PrefixChoice → List ReplayUnit → PeerKey → PeerWatch
-peer_watch choices units q = record { key = q; watch = watch_of choices (units_of_peer units q) }
+abbrev peer_watch : Option ℕ → List PrefixChoice → List ReplayUnit → PeerKey → PeerWatch
+peer_watch since choices units q = record { key = q; watch = watch_of since choices (units_of_peer units q) }
 
-pieces_alike : {Y : Type 0} (choices : List PrefixChoice) (units : List ReplayUnit) (g : Seat → List Y) (f : PeerWatch → List Y) → ((n : ℕ) (q : PeerKey) → g (peer_seat units (n, q)) ≡ f (peer_watch choices units q))
-    → (n : ℕ) (qs : List PeerKey) → flat_map g (seats_from units n qs) ≡ flat_map f (map (peer_watch choices units) qs)
-pieces_alike choices units g f same n [] = refl
-pieces_alike choices units g f same n (q ∷ qs) =
-    ap (λ l. l ++ flat_map g (seats_from units (n + 1) qs)) (same n q) ∙ ap (λ l. f (peer_watch choices units q) ++ l) (pieces_alike choices units g f same (n + 1) qs)
+pieces_alike : {Y : Type 0} (since : Option ℕ) (choices : List PrefixChoice) (units : List ReplayUnit) (g : Seat → List Y) (f : PeerWatch → List Y) → ((n : ℕ) (q : PeerKey) → g (peer_seat units (n, q)) ≡ f (peer_watch since choices units q))
+    → (n : ℕ) (qs : List PeerKey) → flat_map g (seats_from units n qs) ≡ flat_map f (map (peer_watch since choices units) qs)
+pieces_alike since choices units g f same n [] = refl
+pieces_alike since choices units g f same n (q ∷ qs) =
+    ap (λ l. l ++ flat_map g (seats_from units (n + 1) qs)) (same n q) ∙ ap (λ l. f (peer_watch since choices units q) ++ l) (pieces_alike since choices units g f same (n + 1) qs)
 
-faults_of_watches : (choices : List PrefixChoice) (units : List ReplayUnit) (refused : List Damage) → all_faults (tables_of units refused) ≡ refused ++ watch_faults (watches_of choices units)
+faults_of_watches : (since : Option ℕ) (choices : List PrefixChoice) (units : List ReplayUnit) (refused : List Damage) → all_faults (tables_of units refused) ≡ refused ++ watch_faults (watches_of since choices units)
 unfolding tables_of session_of watches_of watch_of
-faults_of_watches choices units refused = ap (λ l. refused ++ l) (pieces_alike choices units (λ s. s.session.faults) (λ p. p.watch.faults) (λ n q. refl) 0 (peers_of units))
+faults_of_watches since choices units refused = ap (λ l. refused ++ l) (pieces_alike since choices units (λ s. s.session.faults) (λ p. p.watch.faults) (λ n q. refl) 0 (peers_of units))
 
-routes_of_watches : (choices : List PrefixChoice) (units : List ReplayUnit) (refused : List Damage) → all_routes (chosen_tables choices (tables_of units refused)) ≡ watch_routes (watches_of choices units)
+routes_of_watches : (since : Option ℕ) (choices : List PrefixChoice) (units : List ReplayUnit) (refused : List Damage) → all_routes (chosen_tables choices (tables_of units refused)) ≡ watch_routes (watches_of since choices units)
 unfolding tables_of session_of watches_of watch_of
-routes_of_watches choices units refused =
+routes_of_watches since choices units refused =
     sym (flat_map_twice (chosen_seat choices) (λ s. s.session.table) (seats_from units 0 (peers_of units)))
-    ∙ pieces_alike choices units (λ s. (chosen_seat choices s).session.table) (λ p. p.watch.table) (λ n q. refl) 0 (peers_of units)
+    ∙ pieces_alike since choices units (λ s. (chosen_seat choices s).session.table) (λ p. p.watch.table) (λ n q. refl) 0 (peers_of units)
 
-pub damaged_told : (selection : UnitSelection) (files : List (List ℕ)) (refused : List Damage) (watches : List PeerWatch) (r n : ℕ) → refused ≡ refused_of selection files → r ≡ length refused → watches ≡ watches_of selection.prefixes (units_of selection files)
+pub damaged_told : (since : Option ℕ) (selection : UnitSelection) (files : List (List ℕ)) (refused : List Damage) (watches : List PeerWatch) (r n : ℕ) → refused ≡ refused_of selection files → r ≡ length refused → watches ≡ watches_of since selection.prefixes (units_of selection files)
     → n ≡ min (r + length (watch_faults watches)) (2 ^ 64 - 1) → n ≡ stopped (length (listed_faults selection files))
-damaged_told selection files refused watches r n kept size stands count =
+damaged_told since selection files refused watches r n kept size stands count =
     let units = units_of selection files in
     let whole : length (refused ++ watch_faults watches) ≡ length (all_faults (tables_of units (refused_of selection files))) =
-    (λ i. length (kept i ++ watch_faults (stands i))) ∙ ap length (sym (faults_of_watches selection.prefixes units (refused_of selection files))) in
+    (λ i. length (kept i ++ watch_faults (stands i))) ∙ ap length (sym (faults_of_watches since selection.prefixes units (refused_of selection files))) in
     let order = length_in_order (all_faults (tables_of units (refused_of selection files))) in
     let parts = length-append refused (watch_faults watches) in
     omega (arith, count, size, whole, order, parts)
 
-pub routes_told : (selection : UnitSelection) (files : List (List ℕ)) (watches : List PeerWatch) (n : ℕ) → watches ≡ watches_of selection.prefixes (units_of selection files)
+pub routes_told : (since : Option ℕ) (selection : UnitSelection) (files : List (List ℕ)) (watches : List PeerWatch) (n : ℕ) → watches ≡ watches_of since selection.prefixes (units_of selection files)
     → n ≡ min (length (watch_routes watches)) (2 ^ 64 - 1) → n ≡ stopped (length (all_routes (chosen_tables selection.prefixes (tables_of (units_of selection files) (refused_of selection files)))))
-routes_told selection files watches n stands count =
+routes_told since selection files watches n stands count =
     count ∙ ap (λ ws. stopped (length (watch_routes ws))) stands
-    ∙ ap (λ (l : List (RouteKey × Route)). stopped (length l)) (sym (routes_of_watches selection.prefixes (units_of selection files) (refused_of selection files)))
+    ∙ ap (λ (l : List (RouteKey × Route)). stopped (length l)) (sym (routes_of_watches since selection.prefixes (units_of selection files) (refused_of selection files)))
 
-pub peers_told : (choices : List PrefixChoice) (units : List ReplayUnit) (watches : List PeerWatch) (n : ℕ) → watches ≡ watches_of choices units → n ≡ length watches → n ≡ length (peers_of units)
+pub peers_told : (since : Option ℕ) (choices : List PrefixChoice) (units : List ReplayUnit) (watches : List PeerWatch) (n : ℕ) → watches ≡ watches_of since choices units → n ≡ length watches → n ≡ length (peers_of units)
 unfolding watches_of
-peers_told choices units watches n stands count = count ∙ ap length stands ∙ length-map (peers_of units) (peer_watch choices units)
+peers_told since choices units watches n stands count = count ∙ ap length stands ∙ length-map (peers_of units) (peer_watch since choices units)

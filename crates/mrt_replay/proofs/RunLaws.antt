@@ -32,7 +32,7 @@ abbrev of_files : UnitSelection → List (List ℕ) → TablesState
 of_files selection files = tables_of (units_of selection files) (refused_of selection files)
 
 -- the lines on tables that stand for the files are the report
-pub lines_are_report : (request : Request) (selection : UnitSelection) (files : List (List ℕ)) (tables : TablesState) → listing_of request ≡ None → tables ≡ chosen_tables selection.prefixes (tables_of (units_of selection files) (refused_of selection files)) → lines_of request tables ≡ report request selection files
+pub lines_are_report : (request : Request) (selection : UnitSelection) (files : List (List ℕ)) (tables : TablesState) → listing_of request selection.prefixes ≡ None → tables ≡ chosen_tables selection.prefixes (tables_of (units_of selection files) (refused_of selection files)) → lines_of request tables ≡ report request selection files
 unfolding report text
 lines_are_report request selection files tables none stands =
     ap (lines_of request) stands ∙ sym (ap (λ (l : Option Listing). text_by l request selection.prefixes (units_of selection files) (refused_of selection files)) none)

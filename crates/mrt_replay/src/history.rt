@@ -1,4 +1,4 @@
-//! A run that lists what happened, in one thread and in the order of the files.
+//! A run that lists and counts what happened, in one thread and in the order of the files.
 
 ghost use Rattle.std.specs.Prelude.{◌≡◌, ◌+◌, ◌-◌, ◌^◌, ◌<◌, ◌≤◌, IfErr, IfOk, List, OnOk, Some, ℕ, length, map, min};
 ghost use Rattle.peer_tables.specs.Watching.{watch_in};

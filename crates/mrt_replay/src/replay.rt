@@ -7,21 +7,22 @@ ghost use Rattle.mrt_frame.specs.Writes.{WritesFront};
 ghost use Rattle.mrt_frame.specs.declared.error.ReplayError.TheVariants as errors;
 ghost use Rattle.lane_deal.specs.Plans.{IsPlan};
 ghost use Rattle.mrt_replay.specs.Headline.{IsPromised};
-ghost use Rattle.mrt_replay.specs.Reports.{lines_of, listing_of};
+ghost use Rattle.mrt_replay.specs.Reports.{counting_of, lines_of, listed_by, listing_of, told_lines};
 
 use crate::history::{count_faults, count_routes, list_history};
 use crate::replayed::replay;
 use crate::summary::Summary;
+use crate::told::Told;
 use adj_rib::SharedRoute;
 use bgp_prefix::PrefixMap;
 use lane_deal::{Dealing, Gate, Plan};
-use mrt_body::{Damage, Selection};
+use mrt_body::{ChosenPrefixes, Damage, Selection};
 use mrt_frame::{ReplayError, Sink, Source};
-use peer_tables::{Listing, Watched};
+use peer_tables::{Listed, Listing, Watched};
 use rib_report::{
     Request, Tables, churn, faults, list_tables, matches, origins_with_threads, peers,
-    seen_with_threads, visibility_with_threads, write_churn, write_faults, write_history,
-    write_origins, write_peers, write_rows, write_seen, write_visibility,
+    seen_with_threads, visibility_with_threads, watched_churn, write_churn, write_faults,
+    write_history, write_origins, write_peers, write_rows, write_seen, write_visibility,
 };
 use std::alloc::Global;
 use std::marker::Sync;
@@ -73,7 +74,7 @@ where
     // Any error except the writer's leaves it untouched.
     ensures untouched { IfErr result (λ e. (e ≡ errors.Write → ⊥) → out.new ≡ out.old) }
 {
-    match listing_of(request) {
+    match listing_of(request, selection.prefixes()) {
         Some(listing) => run_history::<M, R, W, G>(
             alloc, files, request, listing, selection, plan, gate, out,
         ),
@@ -83,17 +84,40 @@ where
     }
 }
 
-/// Returns which of the things that happened are asked for, if a history is.
-fn listing_of(request: &Request) -> Option<Listing>
-    ensures { result ≡ listing_of request.now }
+/// Returns from when on what happened is counted, if a second or prefixes are named.
+fn counting_of(since: Option<u64>, chosen: &ChosenPrefixes) -> Option<Listing>
+    ensures { result ≡ counting_of since chosen.now }
+{
+    if since.is_some() || !chosen.is_open() {
+        return Some(Listing {
+            since,
+            listed: Listed::Nothing,
+        });
+    }
+    None
+}
+
+/// Returns what a history lists: announcements of the route that was there only if they are asked for.
+fn listed_by(same: bool) -> Listed
+    ensures { result ≡ listed_by same }
+{
+    if same { Listed::All } else { Listed::Changes }
+}
+
+/// Returns which of the things that happened are asked for, if a history is, or counts of a part of them.
+fn listing_of(request: &Request, chosen: &ChosenPrefixes) -> Option<Listing>
+    ensures { result ≡ listing_of request.now chosen.now }
 {
     match request {
-        Request::History(listing) => Some(*listing),
+        Request::Churn { since } => counting_of(*since, chosen),
+        Request::History { since, same } => Some(Listing {
+            since: *since,
+            listed: listed_by(*same),
+        }),
         Request::Tables => None,
         Request::Visibility => None,
         Request::Origins => None,
         Request::Seen => None,
-        Request::Churn => None,
         Request::Peers => None,
         Request::Match(_) => None,
         Request::Faults => None,
@@ -120,7 +144,7 @@ where
     D: Dealing + Sync,
     G: Gate,
     requires plan { IsPlan plan.now }
-    requires tables { listing_of request.now ≡ None }
+    requires tables { listing_of request.now selection.prefixes ≡ None }
     ensures promised { IsPromised (record {
       request = request.now;
       selection = selection;
@@ -162,7 +186,7 @@ where
     Ok(summary)
 }
 
-/// Replays the files into rows of what happened, in one thread, and writes them.
+/// Replays the files into rows of what happened and its counts, in one thread, and writes what is asked for of these.
 fn run_history<M, R, W, G>(
     alloc: Global,
     files: &mut [R],
@@ -179,7 +203,7 @@ where
     W: Sink,
     G: Gate,
     requires plan { IsPlan plan.now }
-    requires history { listing_of request.now ≡ Some listing }
+    requires history { listing_of request.now selection.prefixes ≡ Some listing }
     ensures promised { IsPromised (record {
       request = request.now;
       selection = selection;
@@ -200,7 +224,7 @@ where
         Ok(history) => history,
         Err(cause) => return Err(cause),
     };
-    if let Err(error) = write_history(writer, history.told.rows.as_slice()) {
+    if let Err(error) = write_told(alloc, listing.listed, &history.told, writer) {
         return Err(error);
     }
     if writer.flush_all().is_err() {
@@ -220,6 +244,32 @@ where
     };
     mem::forget(history);
     Ok(summary)
+}
+
+/// Writes the rows of what happened, or where none is listed the counts of the watches.
+fn write_told<M: PrefixMap<SharedRoute> + Drop, W: Sink>(
+    alloc: Global,
+    listed: Listed,
+    told: &Told<M>,
+    out: &mut W,
+) -> Result<(), ReplayError>
+    ensures ok { OnOk result (Appends (W.contents out.old) (W.contents out.new)
+        (told_lines listed told.now.rows.items told.now.watches)) }
+    ensures sound { OnOk result (W.failure_count out.new ≡ W.failure_count out.old) }
+    ensures errors { IfErr result (λ e. (e ≡ errors.Memory) ⊎ (e ≡ errors.Write)) }
+    ensures untouched { result ≡ Err errors.Memory → out.new ≡ out.old }
+    ensures front { result ≡ Err errors.Write → WritesFront (W.contents out.old) (W.contents out.new)
+        (told_lines listed told.now.rows.items told.now.watches) }
+    ensures risen { result ≡ Err errors.Write → HasFailed (W.failure_count out.old) (W.failure_count out.new) }
+{
+    match listed {
+        Listed::Nothing => write_churn(
+            out,
+            watched_churn(alloc, told.watches.watched())?.as_slice(),
+        ),
+        Listed::Changes => write_history(out, told.rows.as_slice()),
+        Listed::All => write_history(out, told.rows.as_slice()),
+    }
 }
 
 /// Reports each listed fault to the gate.
@@ -282,10 +332,10 @@ fn write_report<M: PrefixMap<SharedRoute> + Sync + Drop, T: Threads + Sync, W: S
             let rows = seen_with_threads(rt, alloc, workers, tables)?;
             write_seen(out, rows.as_slice())
         }
-        Request::Churn => write_churn(out, churn(alloc, tables)?.as_slice()),
+        Request::Churn { since: _ } => write_churn(out, churn(alloc, tables)?.as_slice()),
         Request::Peers => write_peers(out, peers(alloc, tables)?.as_slice()),
         Request::Match(addr) => write_rows(out, matches(alloc, tables, *addr)?.as_slice()),
         Request::Faults => write_faults(out, faults(alloc, tables)?.as_slice()),
-        Request::History(_) => Ok(()),
+        Request::History { since: _, same: _ } => Ok(()),
     }
 }

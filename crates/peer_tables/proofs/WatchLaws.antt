@@ -1,5 +1,5 @@
 -- The watches on all peers, one unit after the other.
-use Rattle.std.proofs.Common.{◌≡◌, ℕ, zero, suc, ◌+◌, ◌<◌, ◌||◌, ◌&&◌, not, if◌then◌else◌, Bool, true, false, cond, List, [], ◌∷◌, ◌++◌, map, set, take, get_or, length, Some, refl, sym, ap, ◌∙◌, subst, append-nil, arith}
+use Rattle.std.proofs.Common.{◌≡◌, ℕ, zero, suc, ◌+◌, ◌<◌, ◌||◌, ◌&&◌, not, if◌then◌else◌, Bool, true, false, cond, List, [], ◌∷◌, ◌++◌, map, set, take, get_or, length, Option, Some, refl, sym, ap, ◌∙◌, subst, append-nil, arith}
 use Rattle.std.specs.Prelude.{slice_get, unwrap_or}
 use Rattle.std.specs.List.{filter, list_any}
 use Rattle.std.proofs.Math.Bool.{or-true}
@@ -15,12 +15,12 @@ use Rattle.mrt_body.specs.declared.unit.PeerAddr.TheVariants.{V4, V6}
 use Rattle.mrt_body.specs.declared.unit.PeerKey.{PeerKey}
 use Rattle.mrt_body.specs.declared.unit.Unit.{Unit as ReplayUnit}
 use Rattle.adj_rib.specs.declared.note.Note.{Note}
-use Rattle.adj_rib.specs.Histories.{WatchState, watch_of, unit_notes, chosen_notes}
+use Rattle.adj_rib.specs.Histories.{WatchState, is_before, watch_of, unit_notes, chosen_notes}
 use Rattle.adj_rib.specs.Selecting.{chooses}
 use Rattle.peer_tables.specs.declared.history.HistoryRow.{HistoryRow}
 use Rattle.peer_tables.specs.declared.history.Listing.{Listing}
 use Rattle.peer_tables.specs.Peers.{addr_eq, peer_eq, peers_of, units_of_peer}
-use Rattle.peer_tables.specs.Histories.{PeerWatch, history_of, history_rows, is_asked, is_before, is_listed, row_of, watches_of}
+use Rattle.peer_tables.specs.Histories.{PeerWatch, history_of, history_rows, is_asked, is_listed, row_of, watches_of}
 use Rattle.peer_tables.specs.Watching.{asked_rows, keys_in, listed_rows}
 use Rattle.peer_tables.proofs.ShareLaws.{same_peer}
 
@@ -167,7 +167,7 @@ none_passes p (x ∷ xs) e =
 
 -- ---- one unit more
 
-module _ (choices : List PrefixChoice) (before : List ReplayUnit) (u : ReplayUnit) where
+module _ (since : Option ℕ) (choices : List PrefixChoice) (before : List ReplayUnit) (u : ReplayUnit) where
   abbrev after : List ReplayUnit
   after = before ++ u ∷ []
 
@@ -175,7 +175,7 @@ module _ (choices : List PrefixChoice) (before : List ReplayUnit) (u : ReplayUni
   own = units_of_peer before u.peer
 
   abbrev watch_at : List ReplayUnit → PeerKey → PeerWatch
-  watch_at units q = record { key = q; watch = watch_of choices (units_of_peer units q) }
+  watch_at units q = record { key = q; watch = watch_of since choices (units_of_peer units q) }
 
   units_after : (q : PeerKey) → units_of_peer after q ≡ units_of_peer before q ++ cond (peer_eq u.peer q) (u ∷ []) []
   units_after q = filter-append (λ (v : ReplayUnit). peer_eq v.peer q) before (u ∷ [])
@@ -186,8 +186,8 @@ module _ (choices : List PrefixChoice) (before : List ReplayUnit) (u : ReplayUni
   other_after : (q : PeerKey) → peer_eq u.peer q ≡ false → units_of_peer after q ≡ units_of_peer before q
   other_after q h = units_after q ∙ ap (λ b. units_of_peer before q ++ cond b (u ∷ []) []) h ∙ append-nil (units_of_peer before q)
 
-  own_watch : (w : WatchState) → w ≡ watch_of choices (own ++ u ∷ []) → record { key = u.peer; watch = w } ≡ watch_at after u.peer
-  own_watch w e = let is : w ≡ watch_of choices (units_of_peer after u.peer) = e ∙ ap (watch_of choices) (sym own_after) in λ i. record { key = u.peer; watch = is i }
+  own_watch : (w : WatchState) → w ≡ watch_of since choices (own ++ u ∷ []) → record { key = u.peer; watch = w } ≡ watch_at after u.peer
+  own_watch w e = let is : w ≡ watch_of since choices (units_of_peer after u.peer) = e ∙ ap (watch_of since choices) (sym own_after) in λ i. record { key = u.peer; watch = is i }
 
   others : (qs : List PeerKey) → list_any (peer_eq u.peer) qs ≡ false → map (watch_at before) qs ≡ map (watch_at after) qs
   others [] e = refl
@@ -195,7 +195,7 @@ module _ (choices : List PrefixChoice) (before : List ReplayUnit) (u : ReplayUni
       elim (peer_eq u.peer q) as (λ b. peer_eq u.peer q ≡ b → (b || list_any (peer_eq u.peer) qs) ≡ false → map (watch_at before) (q ∷ qs) ≡ map (watch_at after) (q ∷ qs)) [
         | true ↦ λ _ clash. cc
         | false ↦ λ apart later.
-            ap (λ (l : List ReplayUnit). record { key = q; watch = watch_of choices l } ∷ map (watch_at before) qs) (sym (other_after q apart))
+            ap (λ (l : List ReplayUnit). record { key = q; watch = watch_of since choices l } ∷ map (watch_at before) qs) (sym (other_after q apart))
             ∙ ap (λ (l : List PeerWatch). watch_at after q ∷ l) (others qs later)
       ] refl e
 
@@ -207,28 +207,28 @@ module _ (choices : List PrefixChoice) (before : List ReplayUnit) (u : ReplayUni
       ∙ ap (λ (l : List PeerWatch). watch_at after q ∷ l) (others qs (subst (λ p. list_any (peer_eq p) qs ≡ false) is apart.0))
   set_own (q ∷ qs) (suc n) apart at =
       let other : peer_eq u.peer q ≡ false = other_peer q u.peer (differs_at qs n u.peer q apart.0 at) in
-      ap (λ (l : List ReplayUnit). record { key = q; watch = watch_of choices l } ∷ set (map (watch_at before) qs) n (watch_at after u.peer)) (sym (other_after q other))
+      ap (λ (l : List ReplayUnit). record { key = q; watch = watch_of since choices l } ∷ set (map (watch_at before) qs) n (watch_at after u.peer)) (sym (other_after q other))
       ∙ ap (λ (l : List PeerWatch). watch_at after q ∷ l) (set_own qs n apart.1 at)
 
   keys_of : (units : List ReplayUnit) (qs : List PeerKey) → keys_in (map (watch_at units) qs) ≡ qs
   keys_of units [] = refl
   keys_of units (q ∷ qs) = ap (λ (l : List PeerKey). q ∷ l) (keys_of units qs)
 
-  module _ (watches : List PeerWatch) (are : watches ≡ watches_of choices before) where
+  module _ (watches : List PeerWatch) (are : watches ≡ watches_of since choices before) where
     keys_are : keys_in watches ≡ peers_of before
     unfolding watches_of
     keys_are = ap keys_in are ∙ keys_of before (peers_of before)
 
     -- the watch on the peer is there
-    pub watch_there : (n : ℕ) (d : PeerWatch) → slice_get (keys_in watches) n ≡ Some u.peer → (get_or watches n d).watch ≡ watch_of choices own
+    pub watch_there : (n : ℕ) (d : PeerWatch) → slice_get (keys_in watches) n ≡ Some u.peer → (get_or watches n d).watch ≡ watch_of since choices own
     unfolding watches_of
     watch_there n d at = ap (λ (l : List PeerWatch). (get_or l n d).watch) are ∙ found (peers_of before) n (ap (λ l. slice_get l n) (sym keys_are) ∙ at) where
-      found : (qs : List PeerKey) (n : ℕ) → slice_get qs n ≡ Some u.peer → (get_or (map (watch_at before) qs) n d).watch ≡ watch_of choices own
+      found : (qs : List PeerKey) (n : ℕ) → slice_get qs n ≡ Some u.peer → (get_or (map (watch_at before) qs) n d).watch ≡ watch_of since choices own
       found [] n e = cc
-      found (q ∷ qs) zero e = ap (λ p. watch_of choices (units_of_peer before p)) (some_is q u.peer e)
+      found (q ∷ qs) zero e = ap (λ p. watch_of since choices (units_of_peer before p)) (some_is q u.peer e)
       found (q ∷ qs) (suc n) e = found qs n e
 
-    pub known_stands : (n : ℕ) (w : WatchState) → slice_get (keys_in watches) n ≡ Some u.peer → w ≡ watch_of choices (own ++ u ∷ []) → set watches n (record { key = u.peer; watch = w }) ≡ watches_of choices after
+    pub known_stands : (n : ℕ) (w : WatchState) → slice_get (keys_in watches) n ≡ Some u.peer → w ≡ watch_of since choices (own ++ u ∷ []) → set watches n (record { key = u.peer; watch = w }) ≡ watches_of since choices after
     unfolding watches_of
     known_stands n w at e =
         let here : slice_get (peers_of before) n ≡ Some u.peer = ap (λ l. slice_get l n) (sym keys_are) ∙ at in
@@ -246,7 +246,7 @@ module _ (choices : List PrefixChoice) (before : List ReplayUnit) (u : ReplayUni
     pub none_before : list_any (peer_eq u.peer) (keys_in watches) ≡ false → own ≡ []
     none_before none = none_passes (λ (v : ReplayUnit). peer_eq v.peer u.peer) before (unseen none)
 
-    pub new_stands : (w : WatchState) → list_any (peer_eq u.peer) (keys_in watches) ≡ false → w ≡ watch_of choices (own ++ u ∷ []) → watches ++ record { key = u.peer; watch = w } ∷ [] ≡ watches_of choices after
+    pub new_stands : (w : WatchState) → list_any (peer_eq u.peer) (keys_in watches) ≡ false → w ≡ watch_of since choices (own ++ u ∷ []) → watches ++ record { key = u.peer; watch = w } ∷ [] ≡ watches_of since choices after
     unfolding watches_of
     new_stands w none e =
         let peers : peers_of after ≡ peers_of before ++ u.peer ∷ [] = peers_of-push before u ∙ ap (λ b. peers_of before ++ (if b then [] else u.peer ∷ [])) (unseen none) in
@@ -265,17 +265,17 @@ module _ (listing : Listing) (choices : List PrefixChoice) (u : ReplayUnit) wher
   early_rows : (notes : List Note) → is_before listing.since u.time ≡ true → map row_of (filter (is_listed listing choices) (map each notes)) ≡ []
   early_rows [] e = refl
   early_rows (note ∷ notes) e =
-      ap (λ b. map row_of (cond (not b && (chooses choices note.key && is_asked listing.same note.what)) (each note ∷ filter (is_listed listing choices) (map each notes)) (filter (is_listed listing choices) (map each notes)))) e
+      ap (λ b. map row_of (cond (not b && (chooses choices note.key && is_asked listing.listed note.what)) (each note ∷ filter (is_listed listing choices) (map each notes)) (filter (is_listed listing choices) (map each notes)))) e
       ∙ early_rows notes e
 
-  chosen_rows : (notes : List Note) → is_before listing.since u.time ≡ false → map row_of (filter (is_listed listing choices) (map each notes)) ≡ asked_rows listing.same u (chosen_notes choices notes)
+  chosen_rows : (notes : List Note) → is_before listing.since u.time ≡ false → map row_of (filter (is_listed listing choices) (map each notes)) ≡ asked_rows listing.listed u (chosen_notes choices notes)
   chosen_rows [] e = refl
   chosen_rows (note ∷ notes) e =
       let rest = filter (is_listed listing choices) (map each notes) in
       let more = chosen_rows notes e in
-      ap (λ b. map row_of (cond (not b && (chooses choices note.key && is_asked listing.same note.what)) (each note ∷ rest) rest)) e
-      ∙ elim (chooses choices note.key) as (λ b. map row_of (cond (b && is_asked listing.same note.what) (each note ∷ rest) rest) ≡ asked_rows listing.same u (cond b (note ∷ chosen_notes choices notes) (chosen_notes choices notes))) [
-        | true ↦ elim (is_asked listing.same note.what) as (λ b. map row_of (cond b (each note ∷ rest) rest) ≡ map (λ n. row_of (each n)) (cond b (note ∷ filter (λ n. is_asked listing.same n.what) (chosen_notes choices notes)) (filter (λ n. is_asked listing.same n.what) (chosen_notes choices notes)))) [
+      ap (λ b. map row_of (cond (not b && (chooses choices note.key && is_asked listing.listed note.what)) (each note ∷ rest) rest)) e
+      ∙ elim (chooses choices note.key) as (λ b. map row_of (cond (b && is_asked listing.listed note.what) (each note ∷ rest) rest) ≡ asked_rows listing.listed u (cond b (note ∷ chosen_notes choices notes) (chosen_notes choices notes))) [
+        | true ↦ elim (is_asked listing.listed note.what) as (λ b. map row_of (cond b (each note ∷ rest) rest) ≡ map (λ n. row_of (each n)) (cond b (note ∷ filter (λ n. is_asked listing.listed n.what) (chosen_notes choices notes)) (filter (λ n. is_asked listing.listed n.what) (chosen_notes choices notes)))) [
           | true ↦ ap (λ (l : List HistoryRow). row_of (each note) ∷ l) more
           | false ↦ more
         ]
@@ -284,7 +284,7 @@ module _ (listing : Listing) (choices : List PrefixChoice) (u : ReplayUnit) wher
 
   unit_rows : (notes : List Note) → map row_of (filter (is_listed listing choices) (map each notes)) ≡ listed_rows listing u (chosen_notes choices notes)
   unit_rows notes =
-      elim (is_before listing.since u.time) as (λ b. is_before listing.since u.time ≡ b → map row_of (filter (is_listed listing choices) (map each notes)) ≡ (if b then [] else asked_rows listing.same u (chosen_notes choices notes))) [
+      elim (is_before listing.since u.time) as (λ b. is_before listing.since u.time ≡ b → map row_of (filter (is_listed listing choices) (map each notes)) ≡ (if b then [] else asked_rows listing.listed u (chosen_notes choices notes))) [
         | true ↦ early_rows notes
         | false ↦ chosen_rows notes
       ] refl
@@ -336,6 +336,6 @@ key_there (w ∷ watches) zero k d e = some_is w.key k e
 key_there (w ∷ watches) (suc n) k d e = key_there watches n k d e
 
 -- no peer of no units has a watch
-pub watches_none : (choices : List PrefixChoice) → [] ≡ watches_of choices []
+pub watches_none : (since : Option ℕ) (choices : List PrefixChoice) → [] ≡ watches_of since choices []
 unfolding watches_of peers_of
-watches_none choices = refl
+watches_none since choices = refl

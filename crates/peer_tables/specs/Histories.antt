@@ -1,5 +1,5 @@
 -- What happened to the keys of all peers, and which of it is listed.
-use Rattle.std.specs.Prelude.{ℕ, ◌/◌, Bool, true, false, not, ◌&&◌, Option, Some, None, List, [], map, nat_lt}
+use Rattle.std.specs.Prelude.{ℕ, Bool, true, false, not, ◌&&◌, Option, List, [], map}
 use Rattle.std.specs.List.{filter}
 use Rattle.mrt_frame.specs.Positions.{flat_map_after}
 use Rattle.mrt_body.specs.declared.choice.PrefixChoice.{PrefixChoice}
@@ -10,11 +10,13 @@ use Rattle.mrt_body.specs.declared.unit.Unit.{Unit as ReplayUnit}
 use Rattle.adj_rib.specs.declared.note.Note.{Note}
 use Rattle.adj_rib.specs.declared.note.What.{What}
 use Rattle.adj_rib.specs.declared.note.What.TheVariants.{New, Changed, Same, Gone, Void, Lost}
-use Rattle.adj_rib.specs.Histories.{WatchState, unit_notes, watch_of}
+use Rattle.adj_rib.specs.Histories.{WatchState, is_before, unit_notes, watch_of}
 use Rattle.adj_rib.specs.Selecting.{chooses}
 use Rattle.peer_tables.specs.declared.history.By.{By}
 use Rattle.peer_tables.specs.declared.history.By.TheVariants as by
 use Rattle.peer_tables.specs.declared.history.HistoryRow.{HistoryRow}
+use Rattle.peer_tables.specs.declared.history.Listed.{Listed}
+use Rattle.peer_tables.specs.declared.history.Listed.TheVariants.{Nothing, Changes, All}
 use Rattle.peer_tables.specs.declared.history.Listing.{Listing}
 use Rattle.peer_tables.specs.Peers.{peers_of, units_of_peer}
 
@@ -46,24 +48,25 @@ by_of (Entry key attrs) = by.Rib
 abbrev pub row_of : ReplayUnit × Note → HistoryRow
 row_of e = record { time = e.0.time; peer = e.0.peer; by = by_of e.0.payload; note = e.1 }
 
--- whether a time, in microseconds, is before this second
-abbrev pub is_before : Option ℕ → ℕ → Bool
-is_before None time = false
-is_before (Some since) time = nat_lt (time / 1000000) since
+-- more than an announcement of the route that was there
+abbrev pub is_change : What → Bool
+is_change New = true
+is_change Changed = true
+is_change Same = false
+is_change Gone = true
+is_change Void = true
+is_change Lost = true
 
--- announcements of the route that was there are listed only if they are asked for
-abbrev pub is_asked : Bool → What → Bool
-is_asked same New = true
-is_asked same Changed = true
-is_asked same Same = same
-is_asked same Gone = true
-is_asked same Void = true
-is_asked same Lost = true
+-- whether what happened has a row
+abbrev pub is_asked : Listed → What → Bool
+is_asked Nothing what = false
+is_asked Changes what = is_change what
+is_asked All what = true
 
 -- what happened to a chosen key, from the first second on
 abbrev pub is_listed : Listing → List PrefixChoice → ReplayUnit × Note → Bool
 is_listed listing choices e =
-    not (is_before listing.since e.0.time) && (chooses choices e.1.key && is_asked listing.same e.1.what)
+    not (is_before listing.since e.0.time) && (chooses choices e.1.key && is_asked listing.listed e.1.what)
 
 -- The rows of units: lanes, rings and workers don't occur.
 unfoldable pub history_rows : Listing → List PrefixChoice → List ReplayUnit → List HistoryRow
@@ -76,7 +79,8 @@ pub record PeerWatch : Type 0 where
   pub key : PeerKey
   pub watch : WatchState
 
--- for each peer of the units, by first appearance, the watch that took the peer's own units
-unfoldable pub watches_of : List PrefixChoice → List ReplayUnit → List PeerWatch
-watches_of choices units =
-    map (λ q. record { key = q; watch = watch_of choices (units_of_peer units q) }) (peers_of units)
+-- for each peer of the units, by first appearance, the watch that took the peer's own units, and counts from this
+-- second on
+unfoldable pub watches_of : Option ℕ → List PrefixChoice → List ReplayUnit → List PeerWatch
+watches_of since choices units =
+    map (λ q. record { key = q; watch = watch_of since choices (units_of_peer units q) }) (peers_of units)

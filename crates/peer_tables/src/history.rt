@@ -2,10 +2,10 @@
 
 ghost use Rattle.std.specs.Prelude.{◌≡◌, ◌++◌, OnOk};
 ghost use Rattle.mrt_body.specs.Lent.{lent_payload, lent_unit};
-ghost use Rattle.peer_tables.specs.Histories.{by_of, is_asked, is_before};
+ghost use Rattle.peer_tables.specs.Histories.{by_of, is_asked, is_change};
 ghost use Rattle.peer_tables.specs.Watching.{asked_rows, listed_rows};
 
-use adj_rib::{Note, What};
+use adj_rib::{Note, What, is_before};
 use bgp_prefix::Memory;
 use mrt_body::{LentPayload, LentUnit, PeerKey};
 use std::alloc::Global;
@@ -31,13 +31,24 @@ pub struct HistoryRow {
     pub note: Note,
 }
 
-/// Which of the things that happened are listed.
+/// Which of the things that happened have rows.
+#[derive(Clone, Copy, Debug, PartialEq, Eq)]
+pub enum Listed {
+    /// None of them: they are counted alone.
+    Nothing,
+    /// All but announcements of the route that was there.
+    Changes,
+    /// All.
+    All,
+}
+
+/// From when on what happened is listed and counted, and what of it has rows.
 #[derive(Clone, Copy, Debug, PartialEq, Eq)]
 pub struct Listing {
-    /// The second from which on they are listed, since 1970 UTC. With `None` all are.
+    /// The second from which on it is listed and counted, since 1970 UTC. With `None` all is.
     pub since: Option<u64>,
-    /// Whether announcements of the route that was there are listed too.
-    pub same: bool,
+    /// What has rows.
+    pub listed: Listed,
 }
 
 /// Returns what brings about what a unit does.
@@ -51,38 +62,39 @@ fn by_of(payload: &LentPayload<'_>) -> By
     }
 }
 
-/// Whether a time, in microseconds, is before this second.
-fn is_before(since: Option<u64>, time: u64) -> bool
-    ensures { result ≡ is_before since time }
+/// Whether it is more than an announcement of the route that was there.
+fn is_change(what: What) -> bool
+    ensures { result ≡ is_change what }
 {
-    match since {
-        Some(since) => time / 1_000_000 < since,
-        None => false,
+    match what {
+        What::Same => false,
+        What::New | What::Changed | What::Gone | What::Void | What::Lost => true,
     }
 }
 
 /// Whether what happened is asked for.
-fn is_asked(same: bool, what: What) -> bool
-    ensures { result ≡ is_asked same what }
+fn is_asked(listed: Listed, what: What) -> bool
+    ensures { result ≡ is_asked listed what }
 {
-    match what {
-        What::Same => same,
-        What::New | What::Changed | What::Gone | What::Void | What::Lost => true,
+    match listed {
+        Listed::Nothing => false,
+        Listed::Changes => is_change(what),
+        Listed::All => true,
     }
 }
 
 /// Adds a row of each of the notes that is asked for.
 fn list_notes(
     alloc: Global,
-    same: bool,
+    listed: Listed,
     unit: &LentUnit<'_>,
     notes: &[Note],
     rows: &mut Vec<HistoryRow>,
 ) -> Result<(), Memory>
-    ensures { OnOk result (rows.new.items ≡ rows.old.items ++ asked_rows same (lent_unit unit.now) notes.now) }
+    ensures { OnOk result (rows.new.items ≡ rows.old.items ++ asked_rows listed (lent_unit unit.now) notes.now) }
 {
     for note in notes {
-        if is_asked(same, note.what) {
+        if is_asked(listed, note.what) {
             rows.push(HistoryRow {
                 time: unit.time,
                 peer: unit.peer,
@@ -107,5 +119,5 @@ pub(crate) fn list_unit(
     if is_before(listing.since, unit.time) {
         return Ok(());
     }
-    list_notes(alloc, listing.same, unit, notes, rows)
+    list_notes(alloc, listing.listed, unit, notes, rows)
 }

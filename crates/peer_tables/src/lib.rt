@@ -12,7 +12,7 @@
 //! `Watches` passes each unit to the watch on its peer, and makes rows of what it did (`HistoryRow`), in the order of
 //! the units: one thread, no lanes. The watches are those of the units' peers (`watches_of`), each of which took its
 //! peer's own units; a row is of a note that is listed (`history_rows`), and what happened at some of the peers is what
-//! their units did (`histories_are_of_peers`). Where the watch on a peer is, is looked for first where the last peer
+//! their units did (`histories_are_of_peers`). Each watch counts what its units did from the same second on. Where the watch on a peer is, is looked for first where the last peer
 //! with the same index in the index table, or the same hash, was.
 //!
 //! It is a crate of its own, below both the lanes, which make the tables, and the reports, which read them: neither of
@@ -28,7 +28,7 @@ mod tables;
 mod watches;
 
 pub use histories::histories_are_of_peers;
-pub use history::{By, HistoryRow, Listing};
+pub use history::{By, HistoryRow, Listed, Listing};
 pub use shares::shares_keep_peers;
 pub use standing::{collected_stand_for_units, lanes_make_no_difference, tables_are_of_units};
 pub use tables::{Gathered, Seated, Tables, collect, count_routes};

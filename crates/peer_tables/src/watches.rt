@@ -105,45 +105,49 @@ fn position_of<M: PrefixMap<SharedRoute>>(
     search(peers, peer)
 }
 
-/// Passes the unit to the watch at this position.
+/// Passes the unit to the watch at this position, which replaces the notes.
 fn take_known<M: PrefixMap<SharedRoute>>(
     alloc: Global,
     buffer: &mut Vec<u8>,
     chosen: &ChosenPrefixes,
+    since: Option<u64>,
     peers: &mut Vec<Watched<M>>,
     at: usize,
     unit: &LentUnit<'_>,
     notes: &mut Vec<Note>,
 ) -> Result<(), Memory>
     requires { slice_get (keys_in (map watch_in peers.old.items)) at ≡ Some (lent_unit unit.now).peer }
-    ensures stands { (before : List ReplayUnit) → map watch_in peers.old.items ≡ watches_of chosen.now before →
-        OnOk result (map watch_in peers.new.items ≡ watches_of chosen.now (before ++ lent_unit unit.now ∷ [])) }
-    ensures notes { (before : List ReplayUnit) → map watch_in peers.old.items ≡ watches_of chosen.now before →
-        OnOk result (notes.new.items ≡ notes.old.items ++ chosen_notes chosen.now
+    ensures stands { (before : List ReplayUnit) → map watch_in peers.old.items ≡ watches_of since chosen.now before →
+        OnOk result (map watch_in peers.new.items ≡ watches_of since chosen.now (before ++ lent_unit unit.now ∷ [])) }
+    ensures notes { (before : List ReplayUnit) → map watch_in peers.old.items ≡ watches_of since chosen.now before →
+        OnOk result (notes.new.items ≡ chosen_notes chosen.now
         (unit_notes (units_of_peer before (lent_unit unit.now).peer) (lent_unit unit.now))) }
 {
-    peers[at].watch.take(alloc, buffer, chosen, unit, notes)?;
+    peers[at]
+        .watch
+        .take(alloc, buffer, chosen, since, unit, notes)?;
     Ok(())
 }
 
-/// Passes the unit to a new watch.
+/// Passes the unit to a new watch, which replaces the notes.
 fn take_new<M: PrefixMap<SharedRoute> + Drop>(
     alloc: Global,
     buffer: &mut Vec<u8>,
     chosen: &ChosenPrefixes,
+    since: Option<u64>,
     peers: &mut Vec<Watched<M>>,
     unit: &LentUnit<'_>,
     notes: &mut Vec<Note>,
 ) -> Result<(), Memory>
     requires { list_any (peer_eq (lent_unit unit.now).peer) (keys_in (map watch_in peers.old.items)) ≡ false }
-    ensures stands { (before : List ReplayUnit) → map watch_in peers.old.items ≡ watches_of chosen.now before →
-        OnOk result (map watch_in peers.new.items ≡ watches_of chosen.now (before ++ lent_unit unit.now ∷ [])) }
-    ensures notes { (before : List ReplayUnit) → map watch_in peers.old.items ≡ watches_of chosen.now before →
-        OnOk result (notes.new.items ≡ notes.old.items ++ chosen_notes chosen.now
+    ensures stands { (before : List ReplayUnit) → map watch_in peers.old.items ≡ watches_of since chosen.now before →
+        OnOk result (map watch_in peers.new.items ≡ watches_of since chosen.now (before ++ lent_unit unit.now ∷ [])) }
+    ensures notes { (before : List ReplayUnit) → map watch_in peers.old.items ≡ watches_of since chosen.now before →
+        OnOk result (notes.new.items ≡ chosen_notes chosen.now
         (unit_notes (units_of_peer before (lent_unit unit.now).peer) (lent_unit unit.now))) }
 {
     let mut watch = Watch::new(alloc);
-    watch.take(alloc, buffer, chosen, unit, notes)?;
+    watch.take(alloc, buffer, chosen, since, unit, notes)?;
     peers.push(Watched {
         key: unit.peer,
         watch,
@@ -156,15 +160,16 @@ fn take_unit<M: PrefixMap<SharedRoute> + Drop>(
     alloc: Global,
     buffer: &mut Vec<u8>,
     chosen: &ChosenPrefixes,
+    since: Option<u64>,
     peers: &mut Vec<Watched<M>>,
     recent: &mut [usize],
     unit: &LentUnit<'_>,
     notes: &mut Vec<Note>,
 ) -> Result<(), Memory>
-    ensures stands { (before : List ReplayUnit) → map watch_in peers.old.items ≡ watches_of chosen.now before →
-        OnOk result (map watch_in peers.new.items ≡ watches_of chosen.now (before ++ lent_unit unit.now ∷ [])) }
-    ensures notes { (before : List ReplayUnit) → map watch_in peers.old.items ≡ watches_of chosen.now before →
-        OnOk result (notes.new.items ≡ notes.old.items ++ chosen_notes chosen.now
+    ensures stands { (before : List ReplayUnit) → map watch_in peers.old.items ≡ watches_of since chosen.now before →
+        OnOk result (map watch_in peers.new.items ≡ watches_of since chosen.now (before ++ lent_unit unit.now ∷ [])) }
+    ensures notes { (before : List ReplayUnit) → map watch_in peers.old.items ≡ watches_of since chosen.now before →
+        OnOk result (notes.new.items ≡ chosen_notes chosen.now
         (unit_notes (units_of_peer before (lent_unit unit.now).peer) (lent_unit unit.now))) }
 {
     let slot = recent_slot(&unit.peer, unit.peer_index);
@@ -172,12 +177,12 @@ fn take_unit<M: PrefixMap<SharedRoute> + Drop>(
     match position_of(peers.as_slice(), first, &unit.peer) {
         Some(at) => {
             remember(recent, slot, at);
-            take_known(alloc, buffer, chosen, peers, at, unit, notes)?;
+            take_known(alloc, buffer, chosen, since, peers, at, unit, notes)?;
             Ok(())
         }
         None => {
             remember(recent, slot, peers.len());
-            take_new(alloc, buffer, chosen, peers, unit, notes)?;
+            take_new(alloc, buffer, chosen, since, peers, unit, notes)?;
             Ok(())
         }
     }
@@ -213,11 +218,11 @@ impl<M: PrefixMap<SharedRoute>> Model for Watches<M> {
 }
 
 impl<M: PrefixMap<SharedRoute> + Drop> Watches<M> {
-    ghost use Rattle.std.specs.Prelude.{◌≡◌, [], IfOk};
+    ghost use Rattle.std.specs.Prelude.{◌≡◌, [], IfOk, Option, ℕ};
 
     /// Returns no watch.
     pub fn new(alloc: Global) -> Result<Watches<M>, Memory>
-        ensures { IfOk result (λ watches. (choices : List Choice) → watches ≡ watches_of choices []) }
+        ensures { IfOk result (λ watches. (since : Option ℕ) (choices : List Choice) → watches ≡ watches_of since choices []) }
     {
         Ok(Watches {
             peers: Vec::new(alloc),
@@ -237,17 +242,17 @@ impl<M: PrefixMap<SharedRoute> + Drop> Watches<M> {
         unit: &LentUnit<'_>,
         rows: &mut Vec<HistoryRow>,
     ) -> Result<(), Memory>
-        ensures stands { (before : List ReplayUnit) → self.old ≡ watches_of chosen.now before →
-            OnOk result (self.new ≡ watches_of chosen.now (before ++ lent_unit unit.now ∷ [])) }
-        ensures rows { (before : List ReplayUnit) → self.old ≡ watches_of chosen.now before →
+        ensures stands { (before : List ReplayUnit) → self.old ≡ watches_of listing.since chosen.now before →
+            OnOk result (self.new ≡ watches_of listing.since chosen.now (before ++ lent_unit unit.now ∷ [])) }
+        ensures rows { (before : List ReplayUnit) → self.old ≡ watches_of listing.since chosen.now before →
             rows.old.items ≡ history_rows listing chosen.now before →
             OnOk result (rows.new.items ≡ history_rows listing chosen.now (before ++ lent_unit unit.now ∷ [])) }
     {
-        self.notes.clear();
         take_unit(
             alloc,
             &mut self.buffer,
             chosen,
+            listing.since,
             &mut self.peers,
             self.recent.as_mut_slice(),
             unit,

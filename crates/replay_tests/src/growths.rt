@@ -83,7 +83,7 @@ fn a_run_of_each_request_writes_its_report_or_wants_memory(rt: HostRuntime) -> R
         (Request::Visibility, "10.0.0.0/8|2\n"),
         (Request::Origins, ""),
         (Request::Seen, "10.0.0.0/8|65000|2\n"),
-        (Request::Churn, churns),
+        (Request::Churn { since: None }, churns),
         (Request::Peers, peers),
         (Request::Match(0x0A00_0001), lines),
         (Request::Faults, "1|56|2|14|BadAttribute(1)\n"),

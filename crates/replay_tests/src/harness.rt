@@ -8,7 +8,6 @@ use lane_deal::{ByTurns, NoGate, Plan};
 use mrt_body::{ChosenPrefixes, PeerChoice, PrefixChoice, Selection, Share};
 use mrt_frame::{Counted, ReplayError, Source};
 use mrt_replay::{Summary, run, status};
-use peer_tables::Listing;
 use prefix_shelf::Shelf;
 use rib_report::Request;
 use std::alloc::Global;
@@ -298,20 +297,22 @@ fn request_of(line: &str) -> Option<Request> {
         "visibility" => Some(Request::Visibility),
         "origins" => Some(Request::Origins),
         "seen" => Some(Request::Seen),
-        "churn" => Some(Request::Churn),
+        "churn" => Some(Request::Churn { since: None }),
+        "churn-since-1020" => Some(Request::Churn { since: Some(1020) }),
+        "churn-since-1041" => Some(Request::Churn { since: Some(1041) }),
         "peers" => Some(Request::Peers),
-        "history" => Some(Request::History(Listing {
+        "history" => Some(Request::History {
             since: None,
             same: false,
-        })),
-        "history-same" => Some(Request::History(Listing {
+        }),
+        "history-same" => Some(Request::History {
             since: None,
             same: true,
-        })),
-        "history-since-1020" => Some(Request::History(Listing {
+        }),
+        "history-since-1020" => Some(Request::History {
             since: Some(1020),
             same: false,
-        })),
+        }),
         "faults" => Some(Request::Faults),
         _ => match line.strip_prefix("match ") {
             Some(address) => read_address(address).map(Request::Match),

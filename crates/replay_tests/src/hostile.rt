@@ -68,7 +68,8 @@ fn each_prefix_of_the_longest_message_is_taken(rt: HostRuntime) -> Result<(), Fa
     let mut bytes = bytes_of(alloc, "longest-message-without-nlri")?;
     bytes.resize(bytes.len().saturating_add(65_492), 0)?;
     let file = [bytes];
-    let outcome = replay::<Radix<SharedRoute>>(&rt, alloc, &file, &Request::Churn, &PLAN)?;
+    let request = Request::Churn { since: None };
+    let outcome = replay::<Radix<SharedRoute>>(&rt, alloc, &file, &request, &PLAN)?;
     let line = b"65000 192.0.2.1|1|0|65491|0|0|0|0|0|1.000000|1.000000\n";
     assert!(rt; outcome.text.as_slice() == line.as_slice());
     Ok(())

@@ -18,7 +18,8 @@ fn a_run_whose_first_route_is_refused_writes_nothing(rt: HostRuntime) -> Result<
             Request::Tables,
             Request::Visibility,
             Request::Origins,
-            Request::Churn,
+            Request::Churn { since: None },
+            Request::Churn { since: Some(0) },
             Request::Match(0x0A00_0001),
             Request::Faults,
         ] {

@@ -15,6 +15,7 @@ use Rattle.bgp_update.specs.Paths.{origin_as_of}
 use Rattle.mrt_body.specs.declared.unit.PeerKey.{PeerKey}
 use Rattle.mrt_body.specs.declared.unit.Place.{Place}
 use Rattle.mrt_body.specs.declared.unit.Damage.{Damage}
+use Rattle.peer_tables.specs.Histories.{PeerWatch}
 use Rattle.peer_tables.specs.Tables.{Seat, TablesState, all_faults}
 use Rattle.rib_report.specs.Rows.{TableRow}
 use Rattle.rib_report.specs.Runs.{pair_cmp}
@@ -199,6 +200,13 @@ peer_churn seat = record { peer = seat.key; churn = seat.session.churn }
 
 abbrev pub churn_rows : TablesState → List ChurnRow
 churn_rows tables = map peer_churn tables.seats
+
+-- what a watch counted, and what each of these did
+abbrev pub watch_churn : PeerWatch → ChurnRow
+watch_churn watched = record { peer = watched.key; churn = watched.watch.churn }
+
+abbrev pub watch_churns : List PeerWatch → List ChurnRow
+watch_churns watches = map watch_churn watches
 
 -- ---- peers
 

@@ -49,10 +49,10 @@ pub use defined::{
     visibility_counts_peers,
 };
 pub use peer_tables::{
-    By, Gathered, HistoryRow, Listing, Seated, Tables, collect, collected_stand_for_units,
+    By, Gathered, HistoryRow, Listed, Listing, Seated, Tables, collect, collected_stand_for_units,
     lanes_make_no_difference, tables_are_of_units,
 };
-pub use reports::churn::{ChurnRow, churn, write_churn};
+pub use reports::churn::{ChurnRow, churn, watched_churn, write_churn};
 pub use reports::faults::{faults, write_faults};
 pub use reports::history::write_history;
 pub use reports::matches::matches;

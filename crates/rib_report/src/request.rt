@@ -1,5 +1,3 @@
-use peer_tables::Listing;
-
 /// Which report is asked for.
 #[derive(Clone, Copy, Debug, PartialEq, Eq)]
 pub enum Request {
@@ -11,14 +9,15 @@ pub enum Request {
     Origins,
     /// For each prefix and origin AS, the number of peers that have such a route.
     Seen,
-    /// For each peer, what its units did to its table.
-    Churn,
+    /// For each peer, what its units did to its table, from this second on, since 1970 UTC; with `None` all of it.
+    Churn { since: Option<u64> },
     /// The peers, whether each is up, its numbers of routes and units, and when and where these begin.
     Peers,
     /// For each peer, the routes of the longest prefix that contains this address.
     Match(u32),
     /// The records and units that are damaged.
     Faults,
-    /// What happened to each key, as far as it is listed.
-    History(Listing),
+    /// What happened to each key, from this second on, since 1970 UTC; with `None` all of it. Announcements of the
+    /// route that was there are listed only with `same`.
+    History { since: Option<u64>, same: bool },
 }

@@ -1,9 +1,10 @@
 //! The report `churn`: what each peer's units did to its table. A line holds a peer, eight counts, and the times of its
 //! first and last unit.
 
-ghost use Rattle.std.specs.Prelude.{◌≡◌, IfOk};
+ghost use Rattle.std.specs.Prelude.{◌≡◌, IfOk, map};
 ghost use Rattle.std.specs.List.{flat_map};
-ghost use Rattle.rib_report.specs.Reports.{churn_rows};
+ghost use Rattle.peer_tables.specs.Watching.{watch_in};
+ghost use Rattle.rib_report.specs.Reports.{churn_rows, watch_churns};
 ghost use Rattle.rib_report.specs.Digits.{field, time_text};
 ghost use Rattle.rib_report.specs.Lines.{churn_line};
 ghost use Rattle.rib_report.specs.Texts.{IsOutput, Writes};
@@ -16,7 +17,7 @@ use adj_rib::{Churn, SharedRoute};
 use bgp_prefix::{Memory, PrefixMap};
 use mrt_body::PeerKey;
 use mrt_frame::{ReplayError, Sink};
-use peer_tables::Tables;
+use peer_tables::{Tables, Watched};
 use std::alloc::Global;
 
 /// What a peer's units did.
@@ -38,6 +39,23 @@ pub fn churn<M: PrefixMap<SharedRoute>>(
         rows.push(ChurnRow {
             peer: seat.key,
             churn: seat.session.churn(),
+        })?;
+    }
+    Ok(rows)
+}
+
+/// Returns the churn that each watch counted, in the order of the watches.
+pub fn watched_churn<M: PrefixMap<SharedRoute>>(
+    alloc: Global,
+    watches: &[Watched<M>],
+) -> Result<Vec<ChurnRow>, Memory>
+    ensures { IfOk result (λ rows. rows.items ≡ watch_churns (map watch_in watches.now)) }
+{
+    let mut rows = Vec::new(alloc);
+    for watched in watches {
+        rows.push(ChurnRow {
+            peer: watched.key,
+            churn: watched.watch.churn(),
         })?;
     }
     Ok(rows)

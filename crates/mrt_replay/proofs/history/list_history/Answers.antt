@@ -29,7 +29,7 @@ returns-clause-listed g c contents known =
     let few : length (units_of until contents) ≤ 2 ^ 63 = few_units_of start _ max until c.new-units.ensures.fresh contents told known (Tells chosen c.args.listing) c.tell.new.units c.in_ok-told.told c.tell.new.told taken empty all c.requires.1 in
     record {
       rows = took.rows ∙ ap (λ l. history_rows c.args.listing l (units_of until contents)) same;
-      watches = took.watches ∙ ap (λ l. watches_of l (units_of until contents)) same;
+      watches = took.watches ∙ ap (λ l. watches_of c.args.listing.since l (units_of until contents)) same;
       refused_kept = took.refused_kept;
       records_counted = c.records.ensures ∙ records_taken start _ max until c.new-units.ensures.fresh contents told known (Tells chosen c.args.listing) c.tell.new.units c.in_ok-told.told c.tell.new.told taken empty cuts;
       units_counted = omega (arith, took.counted, few);

@@ -1,48 +1,50 @@
 use Rattle.std.proofs.Common.{◌≡◌, List, sym, ap, ◌∙◌, subst, Err, map, refl}
-use Rattle.std.specs.List.{flat_map}
-use Rattle.std.specs.Io.KnownBytes.{Appends}
-use Rattle.std.proofs.KnownBytes.{Appends-kept}
+use Rattle.std.specs.Io.KnownBytes.{Appends, Keeps}
+use Rattle.std.proofs.KnownBytes.{Appends-kept, Keeps-refl}
 use Rattle.std.proofs.lemmas.List.{length-map}
 use Rattle.mrt_body.specs.Units.{units_of}
 use Rattle.mrt_frame.specs.Writes.{WritesFront}
 use Rattle.mrt_frame.specs.declared.error.ReplayError.TheVariants as errors
 use Rattle.peer_tables.specs.Histories.{watches_of}
 use Rattle.peer_tables.specs.Watching.{watch_in}
-use Rattle.rib_report.specs.HistoryLines.{history_line}
-use Rattle.mrt_replay.specs.Headline.{RunState, IsStopped}
+use Rattle.mrt_replay.specs.Headline.{RunState}
+use Rattle.mrt_replay.specs.Reports.{told_lines}
 use Rattle.mrt_replay.proofs.HeadlineLaws.{stopped}
 use Rattle.mrt_replay.proofs.HistoryLaws.{history_is_report, no_rounds, damaged_told, routes_told, peers_told}
-use Rattle.mrt_replay.proofs.RunLaws.{flush_failed, flush_succeeded, flush_unfailed, front_whole}
+use Rattle.mrt_replay.proofs.RunLaws.{flush_failed, flush_succeeded, flush_unfailed, front_whole, stops_writing}
 use Rattle.mrt_replay.proofs.replay.run_history.Goals as goal
 
-pub returns-in-Err-write_history-clause-promised : goal.returns-in-Err-write_history-clause-promised
-returns-in-Err-write_history-clause-promised g c =
-    let error = c.in-Err-write_history.error in
-    let h = c.in-Err-write_history.ensures in
+pub returns-in-Err-write_told-clause-promised : goal.returns-in-Err-write_told-clause-promised
+returns-in-Err-write_told-clause-promised g c =
+    let error = c.in-Err-write_told.error in
+    let told = c.in-Ok.history.told in
+    let h = c.in-Err-write_told.ensures in
     let run : RunState = record {
       request = c.args.request.now;
       selection = c.args.selection;
       plan = c.args.plan.now;
       told = map g.R.Source.remaining c.args.files.now;
       held = g.W.Sink.contents c.args.writer.now;
-      held_after = g.W.Sink.contents c.write_history.new.out;
+      held_after = g.W.Sink.contents c.write_told.new.out;
       readers = map g.R.Failures.failure_count c.args.files.now;
       readers_after = map g.R.Failures.failure_count c.list_history.new.files;
       writer = g.W.Failures.failure_count c.args.writer.now;
-      writer_after = g.W.Failures.failure_count c.write_history.new.out;
-      flushed_after = g.W.Sink.is_flushed c.write_history.new.out;
+      writer_after = g.W.Failures.failure_count c.write_told.new.out;
+      flushed_after = g.W.Sink.is_flushed c.write_told.new.out;
       result = Err error;
     } in
-    let is : error ≡ errors.Write = (let same = h.write refl in cc) in
-    stopped run error refl (subst (IsStopped run) (sym is) (
-      h.risen,
-      λ files honest. subst (WritesFront (g.W.Sink.contents c.args.writer.now) (g.W.Sink.contents c.write_history.new.out))
-          (history_is_report c.args.request.now c.args.listing c.args.selection files c.as_slice.result.now c.requires.history (c.as_slice.ensures.value ∙ (c.in-Ok.ensures.listed files honest.readers_tell).rows)) h.front,
-    ))
+    stopped run error refl (stops_writing run error h.errors
+    (λ s. subst (λ o. Keeps (g.W.Sink.contents c.args.writer.now) (g.W.Sink.contents o)) (sym (h.untouched (ap (λ x. Err x) s))) (Keeps-refl (g.W.Sink.contents c.args.writer.now)))
+    (λ s. h.risen (ap (λ x. Err x) s))
+    (λ files honest s.
+    let p = c.in-Ok.ensures.listed files honest.readers_tell in
+    subst (WritesFront (g.W.Sink.contents c.args.writer.now) (g.W.Sink.contents c.write_told.new.out))
+    (history_is_report c.args.request.now c.args.listing c.args.selection files told.rows.items told.watches c.requires.history p.rows p.watches) (h.front (ap (λ x. Err x) s))))
 
 pub returns-then-is_err-clause-promised : goal.returns-then-is_err-clause-promised
 returns-then-is_err-clause-promised g c =
-    let wrote = Appends-kept (g.W.Sink.contents c.args.writer.now) (g.W.Sink.contents c.write_history.new.out) (g.W.Sink.contents c.flush_all.new.self) (flat_map history_line c.as_slice.result.now) c.in_default.ensures.ok c.flush_all.ensures.bytes in
+    let told = c.in-Ok.history.told in
+    let wrote = Appends-kept (g.W.Sink.contents c.args.writer.now) (g.W.Sink.contents c.write_told.new.out) (g.W.Sink.contents c.flush_all.new.self) (told_lines c.args.listing.listed told.rows.items told.watches) c.in_default.ensures.ok c.flush_all.ensures.bytes in
     let run : RunState = record {
       request = c.args.request.now;
       selection = c.args.selection;
@@ -59,29 +61,33 @@ returns-then-is_err-clause-promised g c =
     } in
     stopped run errors.Write refl (
       flush_failed c.flush_all.result _ _ _ c.in_default.ensures.sound (sym c.is_err.ensures.value ∙ c.if-is_err.true) c.flush_all.ensures.counted,
-      λ files honest. front_whole _ _ _ (subst (Appends (g.W.Sink.contents c.args.writer.now) (g.W.Sink.contents c.flush_all.new.self))
-          (history_is_report c.args.request.now c.args.listing c.args.selection files c.as_slice.result.now c.requires.history (c.as_slice.ensures.value ∙ (c.in-Ok.ensures.listed files honest.readers_tell).rows)) wrote),
+      λ files honest.
+          let p = c.in-Ok.ensures.listed files honest.readers_tell in
+          front_whole _ _ _ (subst (Appends (g.W.Sink.contents c.args.writer.now) (g.W.Sink.contents c.flush_all.new.self))
+          (history_is_report c.args.request.now c.args.listing c.args.selection files told.rows.items told.watches c.requires.history p.rows p.watches) wrote),
     )
 
 pub returns-clause-promised : goal.returns-clause-promised
 returns-clause-promised g c = record {
   headline = λ files honest.
       let p = c.in-Ok.ensures.listed files honest.readers_tell in
+      let told = c.in-Ok.history.told in
       let until = c.args.selection in
+      let since = c.args.listing.since in
       let watches = map watch_in c.watched-watches.result.now in
-      let stands : watches ≡ watches_of until.prefixes (units_of until files) = c.watched-watches.ensures ∙ p.watches in
-      let wrote = Appends-kept (g.W.Sink.contents c.args.writer.now) (g.W.Sink.contents c.write_history.new.out) (g.W.Sink.contents c.flush_all.new.self) (flat_map history_line c.as_slice.result.now) c.in_default.ensures.ok c.flush_all.ensures.bytes in
+      let stands : watches ≡ watches_of since until.prefixes (units_of until files) = c.watched-watches.ensures ∙ p.watches in
+      let wrote = Appends-kept (g.W.Sink.contents c.args.writer.now) (g.W.Sink.contents c.write_told.new.out) (g.W.Sink.contents c.flush_all.new.self) (told_lines c.args.listing.listed told.rows.items told.watches) c.in_default.ensures.ok c.flush_all.ensures.bytes in
       record {
         written = subst (Appends (g.W.Sink.contents c.args.writer.now) (g.W.Sink.contents c.flush_all.new.self))
-            (history_is_report c.args.request.now c.args.listing until files c.as_slice.result.now c.requires.history (c.as_slice.ensures.value ∙ p.rows)) wrote;
+            (history_is_report c.args.request.now c.args.listing until files told.rows.items told.watches c.requires.history p.rows p.watches) wrote;
         counted = record {
           records = p.records_counted;
           units = p.units_counted;
           aside = p.aside_counted;
-          damaged = damaged_told until files c.as_slice-refused.result.now watches _ c.count_faults.result (c.as_slice-refused.ensures.value ∙ p.refused_kept) refl stands c.count_faults.ensures;
-          routes = routes_told until files watches c.count_routes.result stands c.count_routes.ensures;
-          peers = peers_told until.prefixes (units_of until files) watches _ stands (sym (length-map c.watched-watches.result.now watch_in));
-          rounds = no_rounds c.args.request.now c.args.listing c.args.plan.now _ c.requires.history refl;
+          damaged = damaged_told since until files c.as_slice-refused.result.now watches _ c.count_faults.result (c.as_slice-refused.ensures.value ∙ p.refused_kept) refl stands c.count_faults.ensures;
+          routes = routes_told since until files watches c.count_routes.result stands c.count_routes.ensures;
+          peers = peers_told since until.prefixes (units_of until files) watches _ stands (sym (length-map c.watched-watches.result.now watch_in));
+          rounds = no_rounds c.args.request.now until.prefixes c.args.listing c.args.plan.now _ c.requires.history refl;
         };
       };
   flushed = flush_succeeded c.flush_all.result (sym c.is_err.ensures.value ∙ c.if-is_err.false) c.flush_all.ensures.flushed;

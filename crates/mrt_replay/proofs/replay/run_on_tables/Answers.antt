@@ -92,7 +92,7 @@ returns-clause-promised g c = record {
           damaged = damaged_counted until files tables c.damaged.result p.stands c.damaged.ensures;
           routes = routes_counted until files tables c.routes.result p.stands c.routes.ensures;
           peers = peers_counted until.prefixes (units_of until files) (refused_of until files) tables c.peers.result p.stands c.peers.ensures;
-          rounds = rounds_of_tables c.args.request.now c.args.plan.now _ c.requires.tables (record { few = p.few_rounds; two = p.two_rounds; enough = p.enough_rounds });
+          rounds = rounds_of_tables c.args.request.now until.prefixes c.args.plan.now _ c.requires.tables (record { few = p.few_rounds; two = p.two_rounds; enough = p.enough_rounds });
         };
       };
   flushed = flush_succeeded c.flush_all.result (sym c.is_err.ensures.value ∙ c.if-is_err.false) c.flush_all.ensures.flushed;

@@ -10,18 +10,20 @@ use Rattle.peer_tables.proofs.watches.take_new.Goals as goal
 pub returns-clause-stands : goal.returns-clause-stands
 returns-clause-stands g c = λ before are.
     let see = watch_in {M = g.row.M.Denot} in
+    let since = c.args.since in
     let choices = c.args.chosen.now in
     let peers = c.args.peers.now.items in
     let u = lent_unit c.args.unit.now in
-    let fresh = c.new-watch.ensures choices ∙ ap (watch_of choices) (sym (none_before choices before u (map see peers) are c.requires)) in
+    let fresh = c.new-watch.ensures since choices ∙ ap (watch_of since choices) (sym (none_before since choices before u (map see peers) are c.requires)) in
     ap (map see) c.in_ok-push.ensures.items ∙ map-append see peers _
-    ∙ new_stands choices before u (map see peers) are c.take.new.self c.requires (c.in_ok-take.ensures.stands (units_of_peer before u.peer) fresh)
+    ∙ new_stands since choices before u (map see peers) are c.take.new.self c.requires (c.in_ok-take.ensures.stands (units_of_peer before u.peer) fresh)
 
 pub returns-clause-notes : goal.returns-clause-notes
 returns-clause-notes g c = λ before are.
     let see = watch_in {M = g.row.M.Denot} in
+    let since = c.args.since in
     let choices = c.args.chosen.now in
     let peers = c.args.peers.now.items in
     let u = lent_unit c.args.unit.now in
-    let fresh = c.new-watch.ensures choices ∙ ap (watch_of choices) (sym (none_before choices before u (map see peers) are c.requires)) in
+    let fresh = c.new-watch.ensures since choices ∙ ap (watch_of since choices) (sym (none_before since choices before u (map see peers) are c.requires)) in
     c.in_ok-take.ensures.notes (units_of_peer before u.peer) fresh

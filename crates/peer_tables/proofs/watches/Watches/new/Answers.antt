@@ -4,4 +4,4 @@ use Rattle.peer_tables.proofs.WatchLaws.{watches_none}
 use Rattle.peer_tables.proofs.watches.Watches.new.Goals as goal
 
 pub returns : goal.returns
-returns g c = λ choices. ap (map watch_in) c.new.ensures.items ∙ watches_none choices
+returns g c = λ since choices. ap (map watch_in) c.new.ensures.items ∙ watches_none since choices

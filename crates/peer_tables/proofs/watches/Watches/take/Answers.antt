@@ -1,7 +1,5 @@
-use Rattle.std.proofs.Common.{◌++◌, ap, ◌∙◌}
+use Rattle.std.proofs.Common.{◌∙◌}
 use Rattle.mrt_body.specs.Lent.{lent_unit}
-use Rattle.adj_rib.specs.Histories.{chosen_notes, unit_notes}
-use Rattle.peer_tables.specs.Peers.{units_of_peer}
 use Rattle.peer_tables.proofs.WatchLaws.{rows_after}
 use Rattle.peer_tables.proofs.watches.Watches.take.Goals as goal
 
@@ -9,6 +7,5 @@ pub returns-clause-rows : goal.returns-clause-rows
 returns-clause-rows g c = λ before are so_far.
     let choices = c.args.chosen.now in
     let u = lent_unit c.args.unit.now in
-    let own = chosen_notes choices (unit_notes (units_of_peer before u.peer) u) in
-    let notes_are = c.as_slice.ensures.value ∙ c.in_ok-take_unit.ensures.notes before (c.self.view_is ∙ are) ∙ ap (λ l. l ++ own) c.clear.ensures.items in
+    let notes_are = c.as_slice.ensures.value ∙ c.in_ok-take_unit.ensures.notes before (c.self.view_is ∙ are) in
     rows_after c.args.listing choices before u c.args.rows.now.items _ _ notes_are c.in_ok-list_unit.ensures so_far

@@ -1,0 +1,297 @@
+-- What is counted within a time, of one more unit; and without a second and prefixes it is what is counted of all units.
+use Rattle.std.proofs.Common.{◌≡◌, ℕ, ◌+◌, ◌==◌, ◌&&◌, ◌||◌, not, Bool, true, false, cond, List, [], ◌∷◌, ◌++◌, map, Option, Some, None, Result, Ok, Err, refl, sym, ap, ◌∙◌, append_assoc, if◌then◌else◌}
+use Rattle.std.specs.Prelude.{is_err}
+use Rattle.std.specs.List.{count_by, filter, fold}
+use Rattle.std.proofs.lemmas.List.{append-nil}
+use Rattle.std.proofs.lemmas.List.Elements.{filter-append}
+use Rattle.std.proofs.lemmas.List.Sums.{sum_by-append}
+use Rattle.bgp_prefix.specs.declared.key.RouteKey.{RouteKey}
+use Rattle.bgp_prefix.specs.Keys.{among}
+use Rattle.mrt_frame.specs.Positions.{flat_map_after}
+use Rattle.mrt_frame.specs.declared.fault.Fault.{Fault}
+use Rattle.mrt_frame.proofs.PositionLaws.{flat_map_after-push}
+use Rattle.bgp_update.specs.declared.route.Route.{Route}
+use Rattle.bgp_update.specs.declared.route.Update.{Update}
+use Rattle.bgp_update.specs.Equality.{route_eq}
+use Rattle.bgp_update.specs.Hops.{by_hop}
+use Rattle.mrt_body.specs.declared.choice.PrefixChoice.{PrefixChoice}
+use Rattle.mrt_body.specs.declared.meaning.Event.{Event}
+use Rattle.mrt_body.specs.declared.meaning.Event.TheVariants as event
+use Rattle.mrt_body.specs.declared.unit.Unit.{Unit as ReplayUnit}
+use Rattle.adj_rib.specs.declared.churn.Churn.{Churn}
+use Rattle.adj_rib.specs.declared.note.Note.{Note}
+use Rattle.adj_rib.specs.declared.note.What.{What}
+use Rattle.adj_rib.specs.declared.note.What.TheVariants.{New, Changed, Same, Gone, Void, Lost}
+use Rattle.adj_rib.specs.declared.outcome.Outcome.{Outcome}
+use Rattle.adj_rib.specs.declared.outcome.Outcome.TheVariants as outcome
+use Rattle.adj_rib.specs.declared.outcome.UnitKind.TheVariants.{Break, Other}
+use Rattle.adj_rib.specs.Steps.{Step, break, announce, withdraw, ESTABLISHED, is_up, withdrawals, announcements, reachings, update_steps, reading_steps, unit_steps, steps_of}
+use Rattle.adj_rib.specs.Tables.{route_at, table_of}
+use Rattle.adj_rib.specs.Churns.{announced_over, outcome_of, outcomes_of, is_outcome, count_of, is_break, is_routing, reading_of, first_time, last_time, stopped, churn_of}
+use Rattle.adj_rib.specs.Applied.{counted, counted_if, timed}
+use Rattle.adj_rib.specs.Histories.{announced_note, withdrawn_note, lost_note, noted_after, noted_behind, unit_notes, chosen_notes, is_before, units_within, notes_within, idle_within, outcome_noted, is_this, has_outcome, churn_by, churn_within}
+use Rattle.adj_rib.specs.Counting.{kind_of, counted_unit, counted_this, counted_note, counted_within}
+use Rattle.adj_rib.proofs.After.{steps_of-push}
+use Rattle.adj_rib.proofs.Stepping.{stopped-count_by-push}
+use Rattle.adj_rib.proofs.Taking.{first_time-push, last_time-push}
+
+-- ---- one note more
+
+-- the counts of churn with one more of what a note says
+by_what : (what : What) (c : Churn) → record c {
+  added = counted_if (is_this outcome.Added (outcome_noted what)) c.added;
+  changed = counted_if (is_this outcome.Changed (outcome_noted what)) c.changed;
+  same = counted_if (is_this outcome.Same (outcome_noted what)) c.same;
+  gone = counted_if (is_this outcome.Gone (outcome_noted what)) c.gone;
+  void = counted_if (is_this outcome.Void (outcome_noted what)) c.void;
+} ≡ counted_this (outcome_noted what) c
+unfolding counted
+by_what New c = refl
+by_what Changed c = refl
+by_what Same c = refl
+by_what Gone c = refl
+by_what Void c = refl
+by_what Lost c = refl
+
+module _ (flags : List Bool) (units : List ReplayUnit) where
+  note_more : (notes : List Note) (note : Note) → churn_by (notes ++ note ∷ []) flags units ≡ counted_note (churn_by notes flags units) note
+  note_more notes note =
+      (λ i. record (churn_by notes flags units) {
+        added = stopped-count_by-push (has_outcome outcome.Added) notes note i;
+        changed = stopped-count_by-push (has_outcome outcome.Changed) notes note i;
+        same = stopped-count_by-push (has_outcome outcome.Same) notes note i;
+        gone = stopped-count_by-push (has_outcome outcome.Gone) notes note i;
+        void = stopped-count_by-push (has_outcome outcome.Void) notes note i;
+      })
+      ∙ by_what note.what (churn_by notes flags units)
+
+  notes_more : (notes more : List Note) → churn_by (notes ++ more) flags units ≡ fold counted_note (churn_by notes flags units) more
+  notes_more notes [] = ap (λ l. churn_by l flags units) (append-nil notes)
+  notes_more notes (note ∷ more) =
+      ap (λ l. churn_by l flags units) (sym (append_assoc notes (note ∷ []) more))
+      ∙ notes_more (notes ++ note ∷ []) more
+      ∙ ap (λ c. fold counted_note c more) (note_more notes note)
+
+-- ---- one unit more
+
+-- the counts with one more of what a reading is counted as
+by_kind : (up : Bool) (r : Result Event Fault) (c : Churn) → record c {
+  resets = counted_if (is_break r) c.resets;
+  idle = counted_if (is_routing r && not up) c.idle;
+  refused = counted_if (is_err r) c.refused;
+} ≡ counted_unit (kind_of up r) c
+unfolding counted_unit
+by_kind up (Ok (event.State old new)) c =
+    elim ((old == ESTABLISHED) && (new == ESTABLISHED)) as (λ b. record c { resets = counted_if (not b) c.resets } ≡ counted_unit (if b then Other else Break) c) [
+      | true ↦ refl
+      | false ↦ refl
+    ]
+by_kind true (Ok (event.Change update)) c = refl
+by_kind false (Ok (event.Change update)) c = refl
+by_kind true (Ok (event.Rib key route)) c = refl
+by_kind false (Ok (event.Rib key route)) c = refl
+by_kind up (Ok event.Other) c = refl
+by_kind up (Err fault) c = refl
+
+unit_more : (notes : List Note) (flags : List Bool) (units : List ReplayUnit) (up : Bool) (u : ReplayUnit) → churn_by notes (flags ++ (is_routing (reading_of u) && not up) ∷ []) (units ++ u ∷ []) ≡ counted_unit (kind_of up (reading_of u)) (timed u.time (churn_by notes flags units))
+unfolding timed
+unit_more notes flags units up u =
+    (λ i. record (churn_by notes flags units) {
+      resets = stopped-count_by-push (λ (v : ReplayUnit). is_break (reading_of v)) units u i;
+      idle = stopped-count_by-push (λ (flag : Bool). flag) flags (is_routing (reading_of u) && not up) i;
+      refused = stopped-count_by-push (λ (v : ReplayUnit). is_err (reading_of v)) units u i;
+      first = first_time-push units u i;
+      last = last_time-push units u i;
+    })
+    ∙ by_kind up (reading_of u) (timed u.time (churn_by notes flags units))
+
+module _ (since : Option ℕ) (choices : List PrefixChoice) (before : List ReplayUnit) (u : ReplayUnit) where
+  abbrev own : List Note
+  own = chosen_notes choices (unit_notes before u)
+
+  abbrev is_idle : Bool
+  is_idle = is_routing (reading_of u) && not (is_up before)
+
+  notes_then : notes_within since choices (before ++ u ∷ []) ≡ notes_within since choices before ++ (if is_before since u.time then [] else own)
+  unfolding notes_within
+  notes_then = flat_map_after-push (λ (b : List ReplayUnit) (v : ReplayUnit). if is_before since v.time then [] else chosen_notes choices (unit_notes b v)) [] before u
+
+  idle_then : idle_within since (before ++ u ∷ []) ≡ idle_within since before ++ (if is_before since u.time then [] else is_idle ∷ [])
+  unfolding idle_within
+  idle_then = flat_map_after-push (λ (b : List ReplayUnit) (v : ReplayUnit). if is_before since v.time then [] else (is_routing (reading_of v) && not (is_up b)) ∷ []) [] before u
+
+  units_then : units_within since (before ++ u ∷ []) ≡ units_within since before ++ cond (not (is_before since u.time)) (u ∷ []) []
+  units_then = filter-append (λ (v : ReplayUnit). not (is_before since v.time)) before (u ∷ [])
+
+  -- what is counted of one more unit
+  pub churn_within-push : churn_within since choices (before ++ u ∷ []) ≡ counted_within since u.time (kind_of (is_up before) (reading_of u)) own (churn_within since choices before)
+  unfolding churn_within
+  churn_within-push =
+      let notes = notes_within since choices before in
+      let flags = idle_within since before in
+      let units = units_within since before in
+      let kind = kind_of (is_up before) (reading_of u) in
+      (λ i. churn_by (notes_then i) (idle_then i) (units_then i))
+      ∙ elim (is_before since u.time) as (λ b. churn_by (notes ++ (if b then [] else own)) (flags ++ (if b then [] else is_idle ∷ [])) (units ++ cond (not b) (u ∷ []) []) ≡ (if b then churn_by notes flags units else fold counted_note (counted_unit kind (timed u.time (churn_by notes flags units))) own)) [
+        | true ↦ λ i. churn_by (append-nil notes i) (append-nil flags i) (append-nil units i)
+        | false ↦
+            notes_more (flags ++ is_idle ∷ []) (units ++ u ∷ []) notes own
+            ∙ ap (λ c. fold counted_note c own) (unit_more notes flags units (is_up before) u)
+      ]
+
+-- ---- without a second and prefixes
+
+abbrev outcomes_behind : List Step → List Step → List Outcome
+outcomes_behind before steps = flat_map_after (λ b s. outcome_of b s ∷ []) before steps
+
+abbrev steps_behind : List ReplayUnit → List ReplayUnit → List Step
+steps_behind before units = flat_map_after (λ b u. unit_steps (is_up b) u) before units
+
+after_more : {A B : Type 0} (f : List A → A → List B) (before xs ys : List A) → flat_map_after f before (xs ++ ys) ≡ flat_map_after f before xs ++ flat_map_after f (before ++ xs) ys
+after_more f before [] ys = ap (λ b. flat_map_after f b ys) (sym (append-nil before))
+after_more f before (x ∷ xs) ys =
+    ap (λ r. f before x ++ r) (after_more f (before ++ x ∷ []) xs ys)
+    ∙ sym (append_assoc (f before x) (flat_map_after f (before ++ x ∷ []) xs) (flat_map_after f ((before ++ x ∷ []) ++ xs) ys))
+    ∙ ap (λ b. (f before x ++ flat_map_after f (before ++ x ∷ []) xs) ++ flat_map_after f b ys) (append_assoc before (x ∷ []) xs)
+
+count-append : {A : Type 0} (p : A → Bool) (xs ys : List A) → count_by p (xs ++ ys) ≡ count_by p xs + count_by p ys
+count-append p xs ys = sum_by-append (λ x. cond (p x) 1 0) xs ys
+
+all_chosen : (notes : List Note) → chosen_notes [] notes ≡ notes
+all_chosen [] = refl
+all_chosen (note ∷ notes) = ap (λ (l : List Note). note ∷ l) (all_chosen notes)
+
+all_within : (units : List ReplayUnit) → units_within None units ≡ units
+all_within [] = refl
+all_within (u ∷ units) = ap (λ (l : List ReplayUnit). u ∷ l) (all_within units)
+
+-- as many notes have an outcome of announcements or withdrawals as steps have it
+module _ (which : Outcome) (other : is_outcome which outcome.Reset ≡ false) where
+  none_lost : (table : List (RouteKey × Route)) → count_by (has_outcome which) (map lost_note table) ≡ 0
+  none_lost [] = refl
+  none_lost (e ∷ table) = none_lost table
+
+  announced : (old : Option Route) (k : RouteKey) (route : Route) → count_by (has_outcome which) (announced_note old k route ∷ []) ≡ count_by (is_outcome which) (announced_over old route ∷ [])
+  announced None k route = refl
+  announced (Some old) k route =
+      elim (route_eq old route) as (λ b. count_by (has_outcome which) (record { what = if b then Same else Changed; key = k; route = Some route } ∷ []) ≡ count_by (is_outcome which) ((if b then outcome.Same else outcome.Changed) ∷ [])) [
+        | true ↦ refl
+        | false ↦ refl
+      ]
+
+  withdrawn : (old : Option Route) (before : List Step) (k : RouteKey) → route_at before k ≡ old → count_by (has_outcome which) (withdrawn_note old k ∷ []) ≡ count_by (is_outcome which) (outcome_of before (withdraw k) ∷ [])
+  withdrawn None before k h = rw h refl
+  withdrawn (Some old) before k h = rw h refl
+
+  step_counts : (before : List Step) (step : Step) → count_by (has_outcome which) (noted_after before step) ≡ count_by (is_outcome which) (outcome_of before step ∷ [])
+  step_counts before break = none_lost (table_of before) ∙ ap (λ b. 0 + cond b 1 0) (sym other)
+  step_counts before (announce k route) = announced (route_at before k) k route
+  step_counts before (withdraw k) = withdrawn (route_at before k) before k refl
+
+  steps_counts : (before steps : List Step) → count_by (has_outcome which) (noted_behind before steps) ≡ count_by (is_outcome which) (outcomes_behind before steps)
+  steps_counts before [] = refl
+  steps_counts before (step ∷ steps) =
+      count-append (has_outcome which) (noted_after before step) (noted_behind (before ++ step ∷ []) steps)
+      ∙ (λ i. step_counts before step i + steps_counts (before ++ step ∷ []) steps i)
+      ∙ sym (count-append (is_outcome which) (outcome_of before step ∷ []) (outcomes_behind (before ++ step ∷ []) steps))
+
+  unit_counts : (before : List ReplayUnit) (u : ReplayUnit) → count_by (has_outcome which) (chosen_notes [] (unit_notes before u)) ≡ count_by (is_outcome which) (outcomes_behind (steps_of before) (unit_steps (is_up before) u))
+  unfolding unit_notes
+  unit_counts before u = ap (count_by (has_outcome which)) (all_chosen (unit_notes before u)) ∙ steps_counts (steps_of before) (unit_steps (is_up before) u)
+
+  abbrev notes_behind : List ReplayUnit → List ReplayUnit → List Note
+  notes_behind before units = flat_map_after (λ b u. chosen_notes [] (unit_notes b u)) before units
+
+  units_counts : (before units : List ReplayUnit) → count_by (has_outcome which) (notes_behind before units) ≡ count_by (is_outcome which) (outcomes_behind (steps_of before) (steps_behind before units))
+  units_counts before [] = refl
+  units_counts before (u ∷ units) =
+      let now = unit_steps (is_up before) u in
+      let later = steps_behind (before ++ u ∷ []) units in
+      count-append (has_outcome which) (chosen_notes [] (unit_notes before u)) (notes_behind (before ++ u ∷ []) units)
+      ∙ (λ i. unit_counts before u i + units_counts (before ++ u ∷ []) units i)
+      ∙ ap (λ s. count_by (is_outcome which) (outcomes_behind (steps_of before) now) + count_by (is_outcome which) (outcomes_behind s later)) (steps_of-push before u)
+      ∙ sym (count-append (is_outcome which) (outcomes_behind (steps_of before) now) (outcomes_behind (steps_of before ++ now) later))
+      ∙ ap (count_by (is_outcome which)) (sym (after_more (λ (b : List Step) (s : Step). outcome_of b s ∷ []) (steps_of before) now later))
+
+  same_count : (units : List ReplayUnit) → count_by (has_outcome which) (notes_within None [] units) ≡ count_of which (outcomes_of (steps_of units))
+  unfolding notes_within outcomes_of steps_of
+  same_count units = units_counts [] units
+
+-- as many units are breaks as steps are
+abbrev resets : List Step → List Step → ℕ
+resets before steps = count_by (is_outcome outcome.Reset) (outcomes_behind before steps)
+
+no_reset : (old : Option Route) (route : Route) → is_outcome outcome.Reset (announced_over old route) ≡ false
+no_reset None route = refl
+no_reset (Some old) route = elim (route_eq old route) as (λ b. is_outcome outcome.Reset (if b then outcome.Same else outcome.Changed) ≡ false) [ true ↦ refl | false ↦ refl ]
+
+none_withdrawn : (old : Option Route) (before : List Step) (k : RouteKey) → route_at before k ≡ old → is_outcome outcome.Reset (outcome_of before (withdraw k)) ≡ false
+none_withdrawn None before k h = rw h refl
+none_withdrawn (Some old) before k h = rw h refl
+
+resets-append : (before xs ys : List Step) → resets before (xs ++ ys) ≡ resets before xs + resets (before ++ xs) ys
+resets-append before xs ys =
+    ap (count_by (is_outcome outcome.Reset)) (after_more (λ (b : List Step) (s : Step). outcome_of b s ∷ []) before xs ys)
+    ∙ count-append (is_outcome outcome.Reset) (outcomes_behind before xs) (outcomes_behind (before ++ xs) ys)
+
+announcing : (before : List Step) (route : Route) (keys : List RouteKey) → resets before (map (λ key. announce key route) keys) ≡ 0
+announcing before route [] = refl
+announcing before route (k ∷ keys) =
+    let first : resets before (announce k route ∷ []) ≡ 0 = ap (λ b. 0 + cond b 1 0) (no_reset (route_at before k) route) in
+    resets-append before (announce k route ∷ []) (map (λ key. announce key route) keys)
+    ∙ (λ i. first i + announcing (before ++ announce k route ∷ []) route keys i)
+
+withdrawing : (before : List Step) (keys : List RouteKey) → resets before (map withdraw keys) ≡ 0
+withdrawing before [] = refl
+withdrawing before (k ∷ keys) =
+    let first : resets before (withdraw k ∷ []) ≡ 0 = ap (λ b. 0 + cond b 1 0) (none_withdrawn (route_at before k) before k refl) in
+    resets-append before (withdraw k ∷ []) (map withdraw keys)
+    ∙ (λ i. first i + withdrawing (before ++ withdraw k ∷ []) keys i)
+
+updating : (before : List Step) (u : Update) → resets before (update_steps u) ≡ 0
+updating before u =
+    let front = withdrawals u ++ announcements u in
+    resets-append before front (reachings u)
+    ∙ ap (λ n. n + resets (before ++ front) (reachings u)) (resets-append before (withdrawals u) (announcements u))
+    ∙ (λ i. (withdrawing before (filter (λ key. not (among u.announced key || among u.reached key)) u.withdrawn) i + announcing (before ++ withdrawals u) u.route u.announced i) + announcing (before ++ front) (by_hop u.route u.reached_hop) u.reached i)
+
+reading_resets : (before : List Step) (up : Bool) (r : Result Event Fault) → resets before (reading_steps up r) ≡ 0 + cond (is_break r) 1 0
+reading_resets before up (Ok (event.State old new)) =
+    elim ((old == ESTABLISHED) && (new == ESTABLISHED)) as (λ b. resets before (if b then [] else break ∷ []) ≡ 0 + cond (not b) 1 0) [ true ↦ refl | false ↦ refl ]
+reading_resets before true (Ok (event.Change update)) = updating before update
+reading_resets before false (Ok (event.Change update)) = refl
+reading_resets before true (Ok (event.Rib key route)) = ap (λ b. 0 + cond b 1 0) (no_reset (route_at before key) route)
+reading_resets before false (Ok (event.Rib key route)) = refl
+reading_resets before up (Ok event.Other) = refl
+reading_resets before up (Err fault) = refl
+
+breaks_from : (before units : List ReplayUnit) → count_by (λ (u : ReplayUnit). is_break (reading_of u)) units ≡ resets (steps_of before) (steps_behind before units)
+breaks_from before [] = refl
+breaks_from before (u ∷ units) =
+    let now = unit_steps (is_up before) u in
+    let later = steps_behind (before ++ u ∷ []) units in
+    let own : 0 + cond (is_break (reading_of u)) 1 0 ≡ resets (steps_of before) now = (unfold unit_steps in sym (reading_resets (steps_of before) (is_up before) (reading_of u))) in
+    count-append (λ (v : ReplayUnit). is_break (reading_of v)) (u ∷ []) units
+    ∙ (λ i. own i + breaks_from (before ++ u ∷ []) units i)
+    ∙ ap (λ s. resets (steps_of before) now + resets s later) (steps_of-push before u)
+    ∙ sym (resets-append (steps_of before) now later)
+
+breaks_are : (units : List ReplayUnit) → count_by (λ (u : ReplayUnit). is_break (reading_of u)) units ≡ count_of outcome.Reset (outcomes_of (steps_of units))
+unfolding outcomes_of steps_of
+breaks_are units = breaks_from [] units
+
+-- what is counted without a second and prefixes is what is counted of all units
+pub churn_within-all : (units : List ReplayUnit) → churn_within None [] units ≡ churn_of units
+unfolding churn_within churn_of idle_within
+churn_within-all units = λ i. record {
+  added = stopped (same_count outcome.Added refl units i);
+  changed = stopped (same_count outcome.Changed refl units i);
+  same = stopped (same_count outcome.Same refl units i);
+  gone = stopped (same_count outcome.Gone refl units i);
+  void = stopped (same_count outcome.Void refl units i);
+  resets = stopped ((ap (count_by (λ (u : ReplayUnit). is_break (reading_of u))) (all_within units) ∙ breaks_are units) i);
+  idle = stopped (count_by (λ flag. flag) (idle_within None units));
+  refused = stopped (count_by (λ (u : ReplayUnit). is_err (reading_of u)) (all_within units i));
+  first = first_time (all_within units i);
+  last = last_time (all_within units i);
+}
