@@ -172,7 +172,7 @@ def _in_order(counts):
     if "origin_asn" in counts:
         order["origin"] = counts["origin_asn"].where(counts["origin_asn"] >= 0, 1 << 32).to_numpy()
     counts = counts.iloc[pandas.DataFrame(order).sort_values(list(order)).index].reset_index(drop=True)
-    counts = counts.assign(prefix=counts["prefix"].astype("category"), peers=counts["peers"].astype("uint32"))
+    counts = counts.assign(prefix=frames.in_runs(counts["prefix"]), peers=counts["peers"].astype("uint32"))
     if "origin_asn" in counts:
         asn = counts["origin_asn"].astype("Int64")
         counts["origin_asn"] = asn.mask(asn < 0).astype("UInt32")

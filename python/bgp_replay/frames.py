@@ -82,7 +82,16 @@ def _as_it_is(name, column, _files):
     return {name: column}
 
 
+def in_runs(texts):
+    """Categories of texts of which equal ones are neighbours, in this order: nothing is searched or sorted."""
+    texts = numpy.asarray(texts, dtype=object)
+    begins = numpy.ones(len(texts), bool)
+    begins[1:] = texts[1:] != texts[:-1]
+    return pandas.Categorical.from_codes(numpy.cumsum(begins) - 1, texts[begins])
+
+
 TEXT = Kind("category", _as_it_is)
+TEXT_IN_RUNS = Kind(object, lambda name, column, _files: {name: in_runs(column)})
 COUNT = Kind("uint64", _as_it_is)
 PEERS = Kind("uint32", _as_it_is)
 ORIGIN_ASN = Kind("UInt32", lambda _name, column, _files: {"origin_asn": column})

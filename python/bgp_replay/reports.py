@@ -25,7 +25,7 @@ class Report:
     is_divided: bool = True
 
 
-_PREFIXES = {"prefix": frames.TEXT}
+_PREFIXES = {"prefix": frames.TEXT_IN_RUNS}  # in order
 REPORTS = {
     "tables": Report("rows", is_by_peer=True),
     "visibility": Report("sum", _PREFIXES),
