@@ -48,8 +48,8 @@ def spans(history, until=None):
 
     A row has the columns prefix, collector (where `history` has it), peer_asn, peer_ip, origins (a text: those of all
     the peer's paths), since and until. A peer without a route has no row for this time. What is there at the end lasts
-    to `until`, a time in UTC, or else to the last row of `history`. Take `history` from the RIB dump on, without `since`:
-    what was there before its first row isn't known.
+    to `until`, a time in UTC, or else to the last row of `history`. Take `history` from the RIB dump on, without
+    `since`: what was there before its first row isn't known.
     """
     import pandas
 
@@ -85,7 +85,8 @@ def origins(history, prefix=None, axes=None, until=None):
     """Who saw which origin AS of a prefix over time: a line for each peer, which has the colour of the origin.
 
     `history` is the frame of `history(files, prefixes=..)`, of one collector or several, as `spans` takes it; where it
-    has several prefixes, `prefix` names one. Where a peer's line is broken, it had no route. Returns the axes, as `churn`.
+    has several prefixes, `prefix` names one. Where a peer's line is broken, it had no route. Returns the axes, as
+    `churn`.
     """
     from matplotlib import dates, pyplot
 

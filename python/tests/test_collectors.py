@@ -38,7 +38,8 @@ def check(report, files, **options):
     frame = merged(report, Collectors(files, **options))
     assert lines(frame, all_of(files)) == text_of(report, all_of(files))
     if report not in SUMS:
-        assert frame.columns[0] == "collector" and set(frame["collector"]) == (set(files) if report != "faults" else {"rrc01"})
+        named = {"rrc01"} if report == "faults" else set(files)
+        assert frame.columns[0] == "collector" and set(frame["collector"]) == named
 
 
 @pytest.fixture(scope="module")
@@ -221,7 +222,8 @@ def test_names_of_files(drawn, cluster, tmp_path, monkeypatch):
         assert lines(frame, all_of(files)) == text_of(report, all_of(files))
     here = Collectors({name: name for name in names})
     assert lines(here.churn()) == text_of("churn", all_of(files))
-    assert {name: [summary.damaged for summary in all] for name, all in here.summaries.items()} == dict(zip(names, [[0], [2], [0]]))
+    counts = {name: [summary.damaged for summary in all] for name, all in here.summaries.items()}
+    assert counts == dict(zip(names, [[0], [2], [0]]))
 
 
 def test_damage_is_counted(drawn):
