@@ -115,6 +115,19 @@ def test_an_absent_path_is_not_an_empty_one(tmp_path):
     assert seen["origin_asn"].isna().all() and seen["peers"].tolist() == [1, 1, 1]
 
 
+@pytest.mark.parametrize("micros, nanoseconds", [
+    (0, 4294967295_000000_000), (1, 4294967295_000001_000), (999_999, 4294967295_999999_000),
+    (2**32 - 1, 4294971589_967295_000),  # they carry
+])
+def test_the_latest_times(micros, nanoseconds, tmp_path):
+    """Of the last second of 32 bits, in a record of BGP4MP_ET."""
+    plain = message(1, b"")
+    record = b"\xff" * 4 + b"\0\x11\0\4" + (len(plain) - 8).to_bytes(4, "big") + micros.to_bytes(4, "big") + plain[12:]
+    (tmp_path / "a").write_bytes(record)
+    for report, name in (("churn", "first"), ("churn", "last"), ("peers", "first"), ("history", "timestamp")):
+        assert frame_of(report, tmp_path / "a")[name].tolist() == [pandas.Timestamp(nanoseconds, tz="UTC")]
+
+
 def test_types(drawn):
     types = {name: str(dtype) for name, dtype in frame_of("tables", drawn["rrc00"]).dtypes.items()}
     assert types == {
