@@ -79,10 +79,10 @@ def test_a_moment_in_all_its_forms(sample):
 
 
 def test_rows_by_hand(sample):
-    """examples/README.md: what the seven records after the RIB dump say."""
+    """examples/README.md: what the eleven records after the RIB dump say."""
     churn = frame_of("churn", sample).set_index(["peer_asn", "peer_ip"])
     counts = churn[["changed", "gone", "resets", "idle", "refused"]].astype(int)
-    assert counts.loc[(200104, "192.0.2.104")].tolist() == [1, 0, 0, 0, 0]
+    assert counts.loc[(200104, "192.0.2.104")].tolist() == [1, 1, 0, 0, 0]
     assert counts.loc[(65101, "192.0.2.105")].tolist() == [0, 1, 0, 0, 0]
     assert counts.loc[(64502, "192.0.2.102")].tolist() == [0, 0, 0, 0, 1]
     assert counts.loc[(65107, "192.0.2.5")].tolist() == [0, 0, 1, 1, 0]
@@ -205,12 +205,12 @@ def test_a_file_that_is_given_again(sample):
 def test_summary(sample):
     """Sizes and times are those of examples/README.md."""
     found = bgp_replay.summary(sample)
-    assert (found.damaged, found.bytes, found.records, found.peers) == (1, 5551 + 491, 19 + 7, 9)
+    assert (found.damaged, found.bytes, found.records, found.peers) == (1, 5551 + 787, 19 + 11, 9)
     second = found.files[1]
-    assert (second.bytes, second.records, second.aside, second.damaged, second.refused) == (491, 7, 1, 1, 0)
+    assert (second.bytes, second.records, second.aside, second.damaged, second.refused) == (787, 11, 1, 1, 0)
     assert second.aside_kinds == {"BGP4MP BGP4MP_MESSAGE_AS4_LOCAL": 1}
     frame = found.frame()
-    assert frame["last"][1] == pandas.Timestamp("2026-11-22 07:13:00", tz="UTC") and frame["units"].sum() == found.units
+    assert frame["last"][1] == pandas.Timestamp("2026-11-22 07:13:41", tz="UTC") and frame["units"].sum() == found.units
     assert bgp_replay.summary(os.devnull).frame()["first"].isna().all()
 
 
@@ -231,6 +231,7 @@ def test_peers_by_hand(sample):
     assert rows["file"].unique().tolist() == [sample[0]] and rows["entry"].notna().all()
     updates = frame_of("peers", sample[1])
     assert updates[["peer_asn", "peer_ip", "state", "routes", "units", "offset"]].values.tolist() == [
-        [200104, "192.0.2.104", "up", 1, 1, 0], [65101, "192.0.2.105", "up", 0, 1, 91], [65003, "192.0.2.3", "up", 1, 1, 150],
-        [64502, "192.0.2.102", "up", 0, 1, 288], [65107, "192.0.2.5", "down", 0, 2, 372]]
+        [200104, "192.0.2.104", "up", 1, 3, 0], [65101, "192.0.2.105", "up", 0, 1, 91], [65003, "192.0.2.3", "up", 1, 1, 150],
+        [64502, "192.0.2.102", "up", 0, 1, 288], [65107, "192.0.2.5", "down", 0, 2, 372],
+        [196618, "192.0.2.4", "up", 0, 2, 579]]
     assert updates["entry"].isna().all() and updates["last"][4] == pandas.Timestamp("2026-11-22 07:13:00", tz="UTC")

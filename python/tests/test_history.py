@@ -89,7 +89,7 @@ def test_rows_by_hand(sample):
     found = frame_of("history", sample, since="2026-11-22 07:05:00Z", until="2026-11-22 07:06:59Z")
     assert found[["peer_asn", "what", "by", "prefix"]].values.tolist() == [
         [200104, "changed", "update", "17.150.214.0/24"], [65101, "gone", "update", "189.139.172.0/24"]]
-    lost = frame_of("history", sample, since="2026-11-22 07:08:00Z")
+    lost = frame_of("history", sample, since="2026-11-22 07:08:00Z", until="2026-11-22 07:13:00Z")
     assert set(zip(lost["peer_asn"], lost["what"], lost["by"])) == {(65107, "lost", "state")}
     before = frame_of("tables", sample, peers=[65107], until="2026-11-22 07:11:00Z")
     assert lost["prefix"].tolist() == before["prefix"].tolist() and len(lost) > 1

@@ -148,11 +148,11 @@ def test_three_thousand_files(sample, tmp_path):
             (tmp_path / "file").write_bytes(PACK.get(kind, bytes)(file.read()))
         if kind != "xz":
             done = many(names, 512, 512)
-            assert done.stdout.split() == ["3000", "21000"], done.stderr
+            assert done.stdout.split() == ["3000", "33000"], done.stderr
     hard = resource.getrlimit(resource.RLIMIT_NOFILE)[1]
     if hard == resource.RLIM_INFINITY or hard >= 9300:
         done = many(names, 512, hard)
-        assert done.stdout.split() == ["3000", "21000"], done.stderr
+        assert done.stdout.split() == ["3000", "33000"], done.stderr
     done = many(names, 512, 4000)
     assert done.stdout == "" and "OpenError: open failed: file " in done.stderr and "Too many open files" in done.stderr
 
