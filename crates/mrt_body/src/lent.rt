@@ -94,6 +94,8 @@ impl<'a> LentPayload<'a> {
 
 impl LentUnit<'_> {
     /// Returns the unit with a copy of its bytes. Up to 112 of them allocate nothing.
+    // Inlined, since for a call every lent unit would be kept in memory, padding and all.
+    #[inline(always)]
     pub fn to_unit(&self, alloc: Global) -> Result<Unit, Memory>
         ensures copies { IfOk result (λ unit. unit ≡ lent_unit self.now) }
         ensures short { length (payload_bytes (lent_payload self.now.payload)) ≤ 112 → IsOk result }

@@ -1,11 +1,20 @@
 -- What the first bytes of a file tell of all.
-use Rattle.std.proofs.Common.{◌≡◌, ◌≤◌, ◌+◌, ◌⊎◌, inl, inr, ℕ, List, [], ◌++◌, Option, None, Some, Result, refl, sym, ap, ◌∙◌, append_assoc, length, take, drop, subst, take-append-drop, arith}
+use Rattle.std.proofs.Common.{◌≡◌, ◌≤◌, ◌+◌, ◌⊎◌, inl, inr, ℕ, List, [], ◌++◌, Option, None, Some, Result, Ok, Err, refl, sym, ap, ◌∙◌, append_assoc, length, take, drop, subst, take-append-drop, arith, true, OnErr}
 use Rattle.std.proofs.lemmas.Grind.{common_steps}
 use Rattle.std.proofs.lemmas.List.{drop-drop}
+use Rattle.std.proofs.Math.Bool.{Bool-set}
 use lib.Seq.{take-append_seam}
 use Rattle.std.specs.Io.KnownBytes.{Consumes, IsAtEnd, Keeps, ReadConsumes, prepend_known}
-use Rattle.std.proofs.KnownBytes.{Keeps-refl, prepend_known-nil}
+use Rattle.std.proofs.KnownBytes.{Keeps-refl, Keeps-trans, prepend_known-nil}
 use Rattle.packed_io.specs.Formats.{format_of, told_in, told_of}
+use Rattle.run_io.specs.Readers.{blocks_remaining}
+use Rattle.run_io.specs.declared.blocks.Blocks.{Blocks}
+use Rattle.packed_io.specs.Devices.{first_remaining}
+use Rattle.packed_io.specs.Reading.{unpacked_remaining}
+use Rattle.packed_io.specs.Stages.{is_told, stage_remaining}
+use Rattle.packed_io.specs.declared.head.HeadFirst.{HeadFirst}
+use Rattle.packed_io.specs.declared.unpacked.Stage.TheVariants as stages
+use Rattle.packed_io.specs.declared.unpacked.Unpacked.{Unpacked}
 use Rattle.packed_io.specs.declared.format.Format.{Format}
 use Rattle.packed_io.specs.declared.format.Format.TheVariants.{Plain, Gzip, Bzip2}
 
@@ -85,7 +94,26 @@ then_consumes (Some x) None c bytes k s = absurd k
 then_consumes (Some x) (Some y) None bytes k s = absurd s
 then_consumes (Some x) (Some y) (Some z) bytes k s = sym k ∙ s
 
+-- the same of a read's result
+pub kept_consumes : {E : Type 0} (a b c : Option (List ℕ)) (result : Result ℕ E) (buffer : List ℕ) → Keeps a b → ReadConsumes b c result buffer → ReadConsumes a c result buffer
+kept_consumes a b c (Ok n) buffer k h = (then_consumes a b c _ k h.0, h.1)
+kept_consumes a b c (Err e) buffer k h = Keeps-trans a b c k h
+
 -- where nothing is told, any bytes may come
 pub untold_consumes : (a c : Option (List ℕ)) (bytes : List ℕ) → Keeps a None → Consumes a c bytes
 untold_consumes None c bytes k = tt
 untold_consumes (Some x) c bytes k = absurd k
+
+-- a read of a file that is read as it is, after what loses nothing
+pub plain_consumes : {D : Type 0} (remaining : D → Option (List ℕ)) (old now : Unpacked D) (blocks : Blocks (HeadFirst D)) (after : Option (List ℕ)) {E : Type 0} (result : Result ℕ E) (buffer : List ℕ) → Keeps (unpacked_remaining remaining old) (unpacked_remaining remaining now) → now.stage ≡ stages.Plain blocks → ReadConsumes (blocks_remaining (first_remaining remaining) blocks) after result buffer → ReadConsumes (unpacked_remaining remaining old) after result buffer
+plain_consumes remaining old now blocks after result buffer k e h =
+    kept_consumes _ _ after result buffer (subst (λ stage. Keeps (unpacked_remaining remaining old) (stage_remaining remaining stage)) e k) h
+
+-- what holds at every error holds of some
+pub at_errors : {E : Type 0} (A B : Type 0) (result : Result ℕ E) → OnErr result B → OnErr result (A → B)
+at_errors A B (Ok n) h = tt
+at_errors A B (Err e) h = λ _. h
+
+-- a reader is told by what it holds: of its invariant there is one proof
+pub same_told : {D : Type 0} (u : Unpacked D) (told : is_told u.stage ≡ true) → record { alloc = u.alloc; stage = u.stage; bytes = u.bytes; told = told } ≡ u
+same_told u told = ap (λ t. record { alloc = u.alloc; stage = u.stage; bytes = u.bytes; told = t }) (Bool-set _ _ told u.told)

@@ -77,6 +77,8 @@ impl<D: Read> Read for HeadFirst<D> {
 
     ghost remaining = { first_remaining D.remaining };
 
+    // A block is read at once, so this is called seldom: its locals are no part of each read.
+    #[inline(never)]
     fn read(&mut self, buf: &mut [u8]) -> io::Result<usize> {
         let rest = self.head.from(self.given);
         if rest.is_empty() {

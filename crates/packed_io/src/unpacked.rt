@@ -92,13 +92,13 @@ impl<D: Read> Waiting<D> {
 pub struct Unpacked<D> {
     alloc: Global,
     stage: Stage<D>,
-    /// How many bytes were read of a packed file that is over, or given of a plain one.
+    /// How many bytes were read of a packed file.
     bytes: u64,
     ghost told: { is_told stage ≡ true },
 }
 
 impl<D: Read> Unpacked<D> {
-    ghost use Rattle.packed_io.specs.Reading.{HasEnded, HasFailed, IsBegun, IsWaiting, fault_told, format_told, unpacked_remaining};
+    ghost use Rattle.packed_io.specs.Reading.{HasEnded, HasFailed, IsBegun, IsPacked, IsWaiting, fault_told, format_told, unpacked_remaining};
 
     pub fn new(alloc: Global, device: D) -> Unpacked<D>
         ensures { unpacked_remaining D.remaining result ≡ told_of (D.remaining device) }
@@ -125,8 +125,7 @@ impl<D: Read> Unpacked<D> {
         }
     }
 
-    /// How many bytes of the file were read, which are compressed if it is packed. Of a plain file it is how many were
-    /// given.
+    /// How many bytes of a packed file were read. Those of a plain file aren't counted.
     pub fn packed_bytes(&self) -> u64 {
         match &self.stage {
             Stage::Waiting(waiting) => waiting.place.bytes_read(),
@@ -149,6 +148,7 @@ impl<D: Read> Unpacked<D> {
     }
 
     /// Reads the first bytes, and makes what gives the file's. What fails leaves all to be given.
+    #[inline(never)]
     fn begin(&mut self) -> io::Result<()>
     where
         D: Drop,
@@ -163,32 +163,23 @@ impl<D: Read> Unpacked<D> {
         }
         Ok(())
     }
-}
 
-impl<D: Read + Drop> Read for Unpacked<D> {
-    ghost use Rattle.packed_io.specs.Reading.{HasEnded, HasFailed, IsPacked, unpacked_remaining};
-
-    ghost remaining = { unpacked_remaining D.remaining };
-
-    fn read(&mut self, buf: &mut [u8]) -> io::Result<usize>
+    /// Reads some bytes of a packed file.
+    #[inline(never)]
+    fn read_packed(&mut self, buf: &mut [u8]) -> io::Result<usize>
+    where
+        D: Drop,
+        requires { IsPacked self.old }
         ensures bound { ReadsAtMost result buf.new }
         ensures bytes { ReadConsumes (unpacked_remaining D.remaining self.old) (unpacked_remaining D.remaining self.new) result buf.new }
-        // Of a packed file the end and a failure are told by `fault`, and are final.
-        ensures fails { OnErr result (IsPacked self.new → HasFailed self.new) }
-        ensures ends { result ≡ Ok 0 → 0 < length buf.new → IsPacked self.new → HasEnded self.new }
+        ensures packed { IsPacked self.new }
+        ensures fails { OnErr result (HasFailed self.new) }
+        ensures ends { result ≡ Ok 0 → 0 < length buf.new → HasEnded self.new }
         ensures stays_failed { HasFailed self.old → IsErr result × (self.new ≡ self.old) }
         ensures stays_ended { HasEnded self.old → (result ≡ Ok 0) × (self.new ≡ self.old) }
     {
-        self.begin()?;
         match &mut self.stage {
-            Stage::Waiting(_) => unreachable!(),
-            Stage::Plain(blocks) => match blocks.read(buf) {
-                Ok(count) => {
-                    self.bytes = self.bytes.saturating_add(count as u64);
-                    Ok(count)
-                }
-                Err(error) => Err(error),
-            },
+            Stage::Waiting(_) | Stage::Plain(_) => unreachable!(),
             Stage::Packed(format, decoder) => {
                 let format = *format;
                 let outcome = decoder.read(buf);
@@ -208,6 +199,32 @@ impl<D: Read + Drop> Read for Unpacked<D> {
             Stage::Ended(_, _) => Ok(0),
             Stage::Failed(_, error) => Err(*error),
         }
+    }
+}
+
+impl<D: Read + Drop> Read for Unpacked<D> {
+    ghost use Rattle.packed_io.specs.Reading.{HasEnded, HasFailed, IsPacked, unpacked_remaining};
+
+    ghost remaining = { unpacked_remaining D.remaining };
+
+    fn read(&mut self, buf: &mut [u8]) -> io::Result<usize>
+        ensures bound { ReadsAtMost result buf.new }
+        ensures bytes { ReadConsumes (unpacked_remaining D.remaining self.old) (unpacked_remaining D.remaining self.new) result buf.new }
+        // Of a packed file the end and a failure are told by `fault`, and are final.
+        ensures fails { OnErr result (IsPacked self.new → HasFailed self.new) }
+        ensures ends { result ≡ Ok 0 → 0 < length buf.new → IsPacked self.new → HasEnded self.new }
+        ensures stays_failed { HasFailed self.old → IsErr result × (self.new ≡ self.old) }
+        ensures stays_ended { HasEnded self.old → (result ≡ Ok 0) × (self.new ≡ self.old) }
+    {
+        if let Stage::Waiting(_) = &self.stage {
+            self.begin()?;
+        }
+        // A plain file is read here, and all else in functions that aren't inlined: their many locals would slow down
+        // each read of it.
+        if let Stage::Plain(blocks) = &mut self.stage {
+            return blocks.read(buf);
+        }
+        self.read_packed(buf)
     }
 }
 
