@@ -15,8 +15,8 @@ import numpy
 import pandas
 
 from . import frames, run
-from .errors import ReplayError
-from .reports import REPORTS, names_of
+from .errors import ReplayError, UnpackError
+from .reports import OPTIONS, REPORTS, names_of
 
 AT_ONCE = 8  # parts that are merged by one task
 
@@ -48,14 +48,23 @@ class _Ask:
         return "seen" if self.report == "origins" else self.report
 
 
-def _replayed(ask, name, files, number):
-    """One share of one collector: a Part, or the error with the collector's name."""
+class _Replay(run.Replay):
+    """A run that fails where a packed file ends early, whether the program or this package unpacks it."""
+
+    def _tell_damage(self):
+        if self.cut:
+            raise UnpackError("\n  ".join(["unpacking failed", *self.cut]), 1)
+        super()._tell_damage()
+
+
+def _replayed(ask, name, files, number, is_placed=True):
+    """One share of one collector: a Part, or the error with the collector's name. `is_placed` asks for `places` too."""
     options = ask.of_share(number)
     try:
-        replay = run.Replay(ask.run(), files, **options)
+        replay = _Replay(ask.run(), files, **options)
         frame, places = replay.frame(), None
-        if ask.shares > 1 and REPORTS[ask.report].is_by_peer and run.has("peers"):
-            places = frame if ask.report == "peers" else run.peers(files, **_without(options, "address"))
+        if is_placed and ask.shares > 1 and REPORTS[ask.report].is_by_peer:
+            places = frame if ask.report == "peers" else run.peers(files, **_of_peers(options))
     except ReplayError as error:
         error.collector = name
         if ask.errors == "raise":
@@ -64,8 +73,9 @@ def _replayed(ask, name, files, number):
     return Part(_counts(frame) if REPORTS[ask.run()].merge == "sum" else frame, places, {name: [replay.summary]})
 
 
-def _without(options, name):
-    return {key: value for key, value in options.items() if key != name}
+def _of_peers(options):
+    """Those of a report's options that `peers` has too: the others don't choose units."""
+    return {name: value for name, value in options.items() if name not in OPTIONS or run.has("peers", OPTIONS[name][0])}
 
 
 def _counts(frame):
@@ -97,8 +107,12 @@ def by_place(frame, places):
     if not len(frame):
         return frame
     rank = _places_of(places)
-    ranks = [rank[peer] for peer in zip(frame["peer_asn"], frame["peer_ip"])]
-    return frame.iloc[numpy.argsort(ranks, kind="stable")].reset_index(drop=True)
+    codes = frame.groupby(["peer_asn", "peer_ip"], sort=False, observed=True).ngroup().to_numpy()
+    numbers, firsts = numpy.unique(codes, return_index=True)
+    peers = frame.iloc[firsts]
+    ranks = numpy.empty(len(numbers), "int64")
+    ranks[numbers] = [rank[peer] for peer in zip(peers["peer_asn"], peers["peer_ip"])]
+    return frame.iloc[numpy.argsort(ranks[codes], kind="stable")].reset_index(drop=True)
 
 
 def _one_list(frame):
@@ -119,7 +133,7 @@ def _together(ask, name, *shares):
     frame = frames.joined(parts)
     if len(parts) > 1 and merge == "list":
         frame = _one_list(frame)
-    if all(part.places is not None for part in shares):
+    elif len(parts) > 1:  # only reports by peer are divided
         frame = by_place(frame, [part.places for part in shares])
     return Part(_named(frame, [name], 0), None, _summaries(shares))
 
@@ -158,7 +172,7 @@ def _in_order(counts):
     if "origin_asn" in counts:
         order["origin"] = counts["origin_asn"].where(counts["origin_asn"] >= 0, 1 << 32).to_numpy()
     counts = counts.iloc[pandas.DataFrame(order).sort_values(list(order)).index].reset_index(drop=True)
-    counts = counts.assign(prefix=counts["prefix"].astype("category"), peers=counts["peers"].astype("uint32"))
+    counts = counts.assign(prefix=frames.in_runs(counts["prefix"]), peers=counts["peers"].astype("uint32"))
     if "origin_asn" in counts:
         asn = counts["origin_asn"].astype("Int64")
         counts["origin_asn"] = asn.mask(asn < 0).astype("UInt32")
@@ -176,7 +190,7 @@ def _origins(counts):
 
 
 def _partition(ask, names, name, files, number):
-    return _named(_replayed(ask, name, files, number).frame, names, names.index(name))
+    return _named(_replayed(ask, name, files, number, is_placed=False).frame, names, names.index(name))
 
 
 class Collectors:
@@ -189,11 +203,12 @@ class Collectors:
 
     `errors` says what a collector does that can't be replayed: "raise" ends the report with its error, which has its
     name; "leave" leaves it out. After a report, `failed` has the errors of those by name, and `summaries` lists by name
-    the Summary of each share; damage is counted there and isn't an error. `progress` is called with the tasks that are
-    done, one after the other, and `total=`, and gives them on, as tqdm does. Options are those of the reports.
+    the Summary of each share. Damaged records are counted there and are no error, but with damaged="raise"; a packed
+    file that ends early is one. `progress` is called with the tasks that are done, one after the other, and `total=`,
+    and gives them on, as tqdm does. Options are those of the reports.
 
-    Where a collector has several shares, `churn`, `match` and `peers` have the order of one run if the program has the
-    report `peers`, which tells it, and is run too; else the shares come one after the other.
+    Where a collector has several shares, `churn` and `match` have the order of one run by the report `peers`, which is
+    run too. `history` isn't divided: nothing in its lines tells that order.
     """
 
     def __init__(self, files, *, client=None, errors="raise", shares=1, retries=0, progress=None, **options):
@@ -206,7 +221,7 @@ class Collectors:
         self.failed, self.summaries = {}, {}
 
     def _ask(self, report, options):
-        return _Ask(report, self.options | options, self.errors, self.shares)
+        return _Ask(report, self.options | options, self.errors, self.shares if REPORTS[report].is_divided else 1)
 
     def _watch(self, done, total):
         for _ in self.progress(done, total=total) if self.progress else ():
@@ -215,7 +230,7 @@ class Collectors:
     def _here(self, ask):
         """All tasks on threads of this process."""
         with concurrent.futures.ThreadPoolExecutor(os.cpu_count()) as pool:
-            tasks = [[pool.submit(_replayed, ask, name, files, number) for number in range(1, self.shares + 1)]
+            tasks = [[pool.submit(_replayed, ask, name, files, number) for number in range(1, ask.shares + 1)]
                      for name, files in self.files.items()]
             try:
                 self._watch(concurrent.futures.as_completed(sum(tasks, [])), sum(map(len, tasks)))
@@ -232,7 +247,7 @@ class Collectors:
         def submit(*words):
             return self.client.submit(*words, pure=False, retries=self.retries)
 
-        tasks = [[submit(_replayed, ask, name, files, number) for number in range(1, self.shares + 1)]
+        tasks = [[submit(_replayed, ask, name, files, number) for number in range(1, ask.shares + 1)]
                  for name, files in self.files.items()]
         parts = [submit(_together, ask, name, *shares) for name, shares in zip(self.files, tasks)]
         while len(parts) > 1:
@@ -300,5 +315,5 @@ class Collectors:
         meta = self.client.submit(_partition, *empty, pure=False).result() if self.client else _partition(*empty)
         open_ended = [name for name in meta if meta[name].dtype == "category" and name not in ("collector", "origin")]
         parts = [dask.delayed(_partition, pure=False)(ask, names, name, files, number)
-                 for name, files in self.files.items() for number in range(1, self.shares + 1)]
+                 for name, files in self.files.items() for number in range(1, ask.shares + 1)]
         return dask.dataframe.from_delayed(parts, clear_known_categories(meta, cols=open_ended), verify_meta=False)

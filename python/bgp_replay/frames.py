@@ -59,11 +59,10 @@ def _key(_name, column, _files):
 
 
 def _time(name, column, _files):
-    """Seconds and microseconds: `1795330876.250000`."""
-    seconds, micros = _cut(column.cat.categories, ".")
-    micros = numpy.array(seconds, "int64") * 1_000_000 + numpy.array(micros, "int64")
-    times = pandas.DatetimeIndex(pandas.to_datetime(micros, unit="us", utc=True))
-    return {"timestamp" if name == "time" else name: times.take(column.cat.codes.to_numpy(), allow_fill=True)}
+    """Seconds and microseconds, as `1795330876.250000`: the nearest double is off by less than half a microsecond."""
+    fractions, seconds = numpy.modf(column.to_numpy())
+    micros = seconds.astype("int64") * 1_000_000 + numpy.rint(fractions * 1e6).astype("int64")
+    return {"timestamp" if name == "time" else name: pandas.to_datetime(micros, unit="us", utc=True)}
 
 
 def _asns(_name, column, _files):
@@ -82,12 +81,21 @@ def _as_it_is(name, column, _files):
     return {name: column}
 
 
+def in_runs(texts):
+    """Categories of texts of which equal ones are neighbours, in this order: nothing is searched or sorted."""
+    texts = numpy.asarray(texts, dtype=object)
+    begins = numpy.ones(len(texts), bool)
+    begins[1:] = texts[1:] != texts[:-1]
+    return pandas.Categorical.from_codes(numpy.cumsum(begins) - 1, texts[begins])
+
+
 TEXT = Kind("category", _as_it_is)
+TEXT_IN_RUNS = Kind(object, lambda name, column, _files: {name: in_runs(column)})
 COUNT = Kind("uint64", _as_it_is)
 PEERS = Kind("uint32", _as_it_is)
 ORIGIN_ASN = Kind("UInt32", lambda _name, column, _files: {"origin_asn": column})
 _NUMBER = Kind("UInt32", _as_it_is)
-_TIME = Kind("category", _time)
+_TIME = Kind("float64", _time)
 _ORIGIN = Kind(pandas.CategoricalDtype(["IGP", "EGP", "INCOMPLETE"]), _as_it_is)
 _ATOMIC = Kind("category", lambda name, column, _files: {name: column.notna().to_numpy()})
 _KEY = Kind("category", _key)
@@ -126,7 +134,7 @@ def pieces(kinds, stream, rows=ROWS):
         return
     dtypes = {name: (KINDS | kinds).get(name, TEXT).dtype for name in names}
     options = dict(sep="|", header=None, names=names, dtype=dtypes, na_values=["-"], keep_default_na=False, quoting=3,
-                   skip_blank_lines=False, engine="c", chunksize=rows, low_memory=False)
+                   skip_blank_lines=False, engine="c", chunksize=rows, low_memory=False, float_precision="round_trip")
     count = 0
     try:
         with pandas.read_csv(stream, **options) as reader:

@@ -15,15 +15,17 @@ class Report:
     """How a report's frames of several runs are put together, and which of its columns mean what no other report's do.
 
     `merge` is how: "rows" one after the other, "sum" by key with `peers` added up, "list" each row once, by place.
-    `is_by_peer` says that its rows come by peer, in the order of the peers' first units.
+    `is_by_peer` says that its rows come by peer, in the order of the peers' first units, so that the shares of a
+    collector can be put in the order of one run; `is_divided` that it is run by shares at all.
     """
 
     merge: str
     kinds: dict = dataclasses.field(default_factory=dict)
     is_by_peer: bool = False
+    is_divided: bool = True
 
 
-_PREFIXES = {"prefix": frames.TEXT}
+_PREFIXES = {"prefix": frames.TEXT_IN_RUNS}  # in order
 REPORTS = {
     "tables": Report("rows", is_by_peer=True),
     "visibility": Report("sum", _PREFIXES),
@@ -32,7 +34,7 @@ REPORTS = {
     "churn": Report("rows", is_by_peer=True),
     "match": Report("rows", is_by_peer=True),
     "faults": Report("list"),
-    "history": Report("rows"),
+    "history": Report("rows", is_divided=False),  # by unit, whose place its lines don't have
     "peers": Report("rows", is_by_peer=True),
 }
 

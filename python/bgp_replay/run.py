@@ -18,6 +18,8 @@ from .reports import REPORTS, Report, names_of, words_of
 from .summary import read_summary
 from .unpacking import MAGIC, Unpacking, packing
 
+_AS_WORDS = 1000  # options: Linux refuses a command line of 2 MiB, or of a quarter of the stack's limit
+_CUT = re.compile(r": (gzip|bzip2) data, offset \d+: ")
 _NOTHING_PACKED = {"gzip": gzip.compress(b"", mtime=0), "bzip2": bz2.compress(b"")}
 
 
@@ -69,8 +71,9 @@ class Replay:
 
     A report is whole once the iteration has come to its end: what is wrong is raised there, and the last frame is held
     back until then. Afterwards `summary` has the counts, and `notes` what else the program said. `damaged` says what
-    damage is: "warn" warns with DamagedWarning, "raise" raises DamagedError, "ignore" does neither. `unpackers` is the
-    number of threads that unpack files which the program doesn't read by itself. Options are those of the reports.
+    damage is: "warn" warns with DamagedWarning, "raise" raises DamagedError, "ignore" does neither; a packed file that
+    ends early, which `cut` then has and no report lists, is warned of in any case. `unpackers` is the number of threads
+    that unpack files which the program doesn't read by itself. Options are those of the reports.
     """
 
     def __init__(self, report, files, *, rows=frames.ROWS, damaged="warn", unpackers=None, **options):
@@ -79,21 +82,30 @@ class Replay:
         self.report, self.files, self.rows = report, names_of(files), rows
         self.damaged, self.unpackers, self.options = damaged, unpackers, words_of(options)
         self.kinds = REPORTS.get(report, Report("rows")).kinds
-        self.summary = self.notes = self.unpacking = self.child = None
+        self.summary = self.notes = self.cut = self.unpacking = self.child = None
+
+    def _words(self, listed):
+        """The options as words; a long list of prefixes goes into a file, which the program reads as standard input."""
+        prefixes = [word.partition("=")[2] for word in self.options if word.startswith("--prefix=")]
+        if len(prefixes) < _AS_WORDS or not all(re.fullmatch(r"[0-9./+-]+", prefix) for prefix in prefixes):
+            return self.options
+        listed.write("".join(f"{prefix}\n" for prefix in prefixes).encode())
+        listed.seek(0)
+        return [*(word for word in self.options if not word.startswith("--prefix=")), "--prefixes=-"]
 
     def _pieces(self):
         """The frames with the program's own columns; the last one once the program has ended well."""
-        command = [program(), self.report, "--header", "--summary", *self.options, "--"]
+        command = [program(), self.report, "--header", "--summary"]
         kinds = {kind for kind in set(map(packing, self.files)) - {None} if not reads(kind)}
         names = ["./-" if name == "-" else name for name in self.files]
         self.unpacking = Unpacking(names, kinds, self.unpackers)
         last = None
-        with tempfile.TemporaryFile() as said:
+        with tempfile.TemporaryFile() as said, tempfile.TemporaryFile() as listed:
             child = None
             try:
                 child = self.child = subprocess.Popen(
-                    [*command, *self.unpacking.names], stdin=subprocess.DEVNULL, stdout=subprocess.PIPE, stderr=said,
-                    pass_fds=self.unpacking.fds, bufsize=0)
+                    [*command, *self._words(listed), "--", *self.unpacking.names], stdin=listed, stdout=subprocess.PIPE,
+                    stderr=said, pass_fds=self.unpacking.fds, bufsize=0)
                 self.unpacking.start(child.kill)
                 try:
                     for piece in frames.pieces(self.kinds, child.stdout, self.rows):
@@ -129,6 +141,7 @@ class Replay:
                     others = re.sub(rf"(?m)^  {name}:", lambda _: f"  {path}:", others)
             raise error_of(status, others)
         self.summary, self.notes = summary, [line.strip() for line in others.split("\n") if line.strip()]
+        self.cut = [note for note in self.notes if _CUT.search(note)]
         if status == 1:
             self._tell_damage()
 
@@ -141,7 +154,7 @@ class Replay:
         words = "\n  ".join([f"damaged: {self.summary.damaged}", *by_file, *self.notes])
         if self.damaged == "raise":
             raise DamagedError(words, counts=counts)
-        if self.damaged == "warn":
+        if self.damaged == "warn" or self.cut:
             warnings.warn(DamagedWarning(words, counts), stacklevel=_level())
 
     def __iter__(self):

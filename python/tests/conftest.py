@@ -163,3 +163,9 @@ def pack(path, kind, to):
     out = to / f"{path.name}.{kind}"
     out.write_bytes(PACK[kind](path.read_bytes()))
     return out
+
+
+def cut(packed):
+    """A file that ends early."""
+    packed.write_bytes(packed.read_bytes()[:-9])
+    return packed

@@ -9,15 +9,19 @@ import time
 
 import pandas
 import pytest
-from conftest import ADDRESS, PYTHON, frame_of, lines, text_of
+from conftest import ADDRESS, FIRST, PYTHON, cut, frame_of, lines, pack, text_of
 
 import bgp_replay
 from bgp_replay.collectors import Collectors, by_place
 
-distributed = pytest.importorskip("distributed")
+try:
+    import distributed
+except ImportError:
+    distributed = None
+pytestmark = pytest.mark.skipif(distributed is None, reason="python3-distributed isn't installed")
 
-REPORTS = ["tables", "visibility", "seen", "origins", "churn", "match", "faults"]
-SUMS = ["visibility", "seen", "origins", "faults"]
+REPORTS = ["tables", "visibility", "seen", "origins", "churn", "match", "faults", "history", "peers"]
+SUMS = ["visibility", "seen", "origins"]
 
 
 def merged(report, many):
@@ -33,8 +37,9 @@ def all_of(files):
 def check(report, files, **options):
     frame = merged(report, Collectors(files, **options))
     assert lines(frame, all_of(files)) == text_of(report, all_of(files))
-    if report not in SUMS[:3]:
-        assert list(frame["collector"].cat.categories) == list(files) or report == "faults"
+    if report not in SUMS:
+        named = {"rrc01"} if report == "faults" else set(files)
+        assert frame.columns[0] == "collector" and set(frame["collector"]) == named
 
 
 @pytest.fixture(scope="module")
@@ -92,21 +97,43 @@ def test_on_machines(report, drawn, machines):
 @pytest.mark.parametrize("shares", [1, 2, 5])
 @pytest.mark.parametrize("report", REPORTS)
 def test_shares_are_one_run(report, shares, drawn, sample):
-    """Sums and lists are in the order of one run; rows by peer are too, where the program tells the peers' places."""
-    for files in (drawn["rrc01"], sample):
-        frame = merged(report, Collectors({"one": files}, shares=shares))
-        has, wanted = lines(frame, files), text_of(report, files)
-        if report in SUMS or shares == 1 or (report != "tables" and bgp_replay.has("peers")):
-            assert has == wanted
-        peers = [line.partition("|")[0] for line in has.splitlines()]
-        for peer in set(peers):
-            assert [line for line in has.splitlines() if line.startswith(peer + "|")] == [
-                line for line in wanted.splitlines() if line.startswith(peer + "|")]
-        assert sorted(has.splitlines()) == sorted(wanted.splitlines())
+    """In the order of one run."""
+    for files in (drawn["rrc01"], sample, sample[1:]):
+        words = {"address": ADDRESS} if report == "match" else {}
+        frame = Collectors({"one": files}, shares=shares).report(report, **words)
+        assert lines(frame, files) == text_of(report, files)
 
 
-def test_shares_on_machines(drawn, machines):
-    check("seen", drawn, client=machines, shares=2)
+@pytest.mark.parametrize("shares", [1, 2, 5])
+def test_partitions_are_shares(shares, drawn):
+    """Each peer's routes are in one of them, as they are in one run."""
+    files = drawn["rrc01"]
+    frame = Collectors({"one": files}, shares=shares).tables()
+    parts = [part.compute() for part in frame.partitions]
+    assert len(parts) == shares and sum(map(len, parts)) == len(text_of("tables", files).splitlines())
+    for number, part in enumerate(parts, 1):
+        assert lines(part) == text_of("tables", files, f"--peers={number}/{shares}")
+
+
+@pytest.mark.parametrize("report", [name for name in REPORTS if name != "tables"])
+def test_shares_on_machines(report, drawn, machines):
+    check(report, drawn, client=machines, shares=2)
+
+
+def test_options_of_shares(drawn):
+    """Those of a report that `peers` doesn't have are left out where its places are asked for."""
+    files, prefix = drawn["rrc00"], "174.0.0.0/8+"
+    for report, options, words in [
+        ("match", {"prefixes": prefix}, [f"--prefix={prefix}"]), ("churn", {"until": FIRST}, [f"--until={FIRST}"]),
+        ("tables", {"peers": [64500, 64513, 64526]}, ["--peer=64500", "--peer=64513", "--peer=64526"]),
+        ("churn", {"since": FIRST + 1}, [f"--since={FIRST + 1}"]),
+    ]:
+        if "since" in options and not bgp_replay.has("churn", "since"):
+            continue
+        address = {"address": ADDRESS} if report == "match" else {}
+        frame = Collectors({"one": files}, shares=3, **options).report(report, **address)
+        wanted = text_of(report, files, *words)
+        assert lines(frame, files) == wanted != text_of(report, files)
 
 
 def peers_frame(rows):
@@ -120,27 +147,6 @@ def test_by_place():
     places = [peers_frame([(5, "a", "updates", 20, None), (3, "b", "rib", 100, 2), (4, "a", "updates", 3, None)]),
               peers_frame([(1, "a", "rib", 100, 10), (2, "a", "rib", 20, 11)])]
     assert by_place(frame, places)["row"].tolist() == [5, 2, 4, 3, 0, 1]
-
-
-@pytest.mark.parametrize("report", ["churn", "match", "peers"])
-def test_shares_by_place(report, drawn, stand_in, tmp_path):
-    """A stand-in for a program that has `peers`: its places are in the order of the whole `churn`."""
-    files = drawn["rrc00"]
-    wanted = text_of("churn" if report == "peers" else report, files)
-    names = [line.partition("|")[0] for line in text_of("churn", files).splitlines()]
-    places = "".join(f"{name}|up|0|1|5.000000|6.000000|1|{number * 7}|{number}\n" for number, name in enumerate(names))
-    (tmp_path / "places").write_text(places)
-    stand_in(f'''case "$1" in
-        --help) "$REAL" --help | sed 's/^  faults /  peers       Print\\n&/';;
-        peers) shift; echo 'peer|state|routes|units|first|last|file|offset|entry'
-            "$REAL" churn "$@" | cut -d'|' -f1 | grep -v peer | tac > {tmp_path}/own.$$
-            grep -F -f {tmp_path}/own.$$ {tmp_path}/places | sort -r;;
-        *) exec "$REAL" "$@";; esac''')
-    frame = merged(report, Collectors({"one": files}, shares=4))
-    if report == "peers":
-        assert lines(frame, files) == places
-    else:
-        assert lines(frame) == wanted and len(frame) > 4
 
 
 def test_a_peer_of_two_collectors_has_two_tables(drawn):
@@ -177,13 +183,47 @@ def test_a_missing_file(drawn, cluster):
         Collectors({"x": ["nofile"]}, errors="leave").churn()
 
 
-def test_a_damaged_packed_file(drawn, tmp_path):
-    (tmp_path / "cut.xz").write_bytes(b"\xfd7zXZ\x00\x00\x04damage")
-    files = drawn | {"rrc09": tmp_path / "cut.xz"}
-    with pytest.raises(bgp_replay.UnpackError, match="^rrc09: unpacking failed: file 1\n"):
-        Collectors(files).seen()
-    left = Collectors(files, errors="leave")
-    assert left.seen().equals(Collectors(drawn).seen()) and isinstance(left.failed["rrc09"], bgp_replay.UnpackError)
+@pytest.mark.parametrize("kind", ["gz", "bz2", "xz", "zst"])
+def test_a_truncated_packed_file(kind, drawn, cluster, tmp_path):
+    """By whoever unpacks it."""
+    packed = cut(pack(drawn["rrc00"][1], kind, tmp_path))
+    files = drawn | {"rrc09": [drawn["rrc00"][0], packed]}
+    words = rf"^rrc09: unpacking failed(: file 2)?\n  {packed}: "
+    for options in ({}, {"client": cluster, "shares": 2}):
+        with pytest.raises(bgp_replay.UnpackError, match=words):
+            Collectors(files, **options).seen()
+        left = Collectors(files, errors="leave", **options)
+        assert left.seen().equals(Collectors(drawn).seen()) and list(left.failed) == ["rrc09"]
+        assert isinstance(left.failed["rrc09"], bgp_replay.UnpackError)
+        assert left.churn()["collector"].tolist() == Collectors(drawn).churn()["collector"].tolist()
+    with pytest.raises(bgp_replay.UnpackError, match=words):
+        Collectors(files, client=cluster).tables().compute()
+
+
+@pytest.mark.parametrize("kind", ["gz", "bz2", "xz"])
+def test_a_damaged_packed_file(kind, drawn, tmp_path):
+    """A file of the first bytes of a packed one, and others."""
+    (tmp_path / "bad").write_bytes(pack(drawn["rrc00"][1], kind, tmp_path).read_bytes()[:10] + b"damage" * 10)
+    left = Collectors(drawn | {"rrc09": tmp_path / "bad"}, errors="leave")
+    assert left.seen().equals(Collectors(drawn).seen()) and list(left.failed) == ["rrc09"]
+    assert str(left.failed["rrc09"]).startswith("rrc09: ") and f"{tmp_path}/bad: " in str(left.failed["rrc09"])
+
+
+def test_names_of_files(drawn, cluster, tmp_path, monkeypatch):
+    """Workers get them as they are."""
+    monkeypatch.chdir(tmp_path)
+    names = ["a b", "--summary", "a\nfile 1 damaged: 7"]
+    files = {}
+    for name, [rib, updates] in zip(names, drawn.values()):
+        (tmp_path / name).write_bytes(rib.read_bytes() + updates.read_bytes())
+        files[name] = [f"{tmp_path}/{name}"]
+    for report in ("churn", "faults", "peers"):
+        frame = merged(report, Collectors(files, client=cluster))
+        assert lines(frame, all_of(files)) == text_of(report, all_of(files))
+    here = Collectors({name: name for name in names})
+    assert lines(here.churn()) == text_of("churn", all_of(files))
+    counts = {name: [summary.damaged for summary in all] for name, all in here.summaries.items()}
+    assert counts == dict(zip(names, [[0], [2], [0]]))
 
 
 def test_damage_is_counted(drawn):
@@ -193,6 +233,9 @@ def test_damage_is_counted(drawn):
         "rrc00": [0], "rrc01": [2], "rrc02": [0]}
     with pytest.raises(bgp_replay.DamagedError, match="^rrc01: damaged: 2"):
         Collectors(drawn, damaged="raise").churn()
+    left = Collectors(drawn, damaged="raise", errors="leave")
+    assert set(left.churn()["collector"]) == {"rrc00", "rrc02"}
+    assert left.failed["rrc01"].counts == {str(drawn["rrc01"][1]): 2}
 
 
 def test_progress(drawn, cluster):

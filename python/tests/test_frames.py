@@ -11,19 +11,12 @@ from conftest import FIRST, PYTHON, frame_of, lines, said, text_of
 
 import bgp_replay
 
-REPORTS = ["tables", "visibility", "seen", "origins", "churn", "match", "faults"]
-COMING = ["history", "peers"]
+REPORTS = ["tables", "visibility", "seen", "origins", "churn", "match", "faults", "history", "peers"]
 UTC = timezone.utc
 
 
-def skip_without(report, option=None):
-    if not bgp_replay.has(report, *([option] if option else [])):
-        pytest.skip(f"the program has no {option or report} yet")
-
-
-@pytest.mark.parametrize("report", REPORTS + COMING)
+@pytest.mark.parametrize("report", REPORTS)
 def test_a_frame_is_the_text(report, drawn, sample):
-    skip_without(report)
     for files in (*drawn.values(), sum(drawn.values(), []), sample, sample[1:]):
         assert lines(frame_of(report, files), files) == text_of(report, files)
 
@@ -48,10 +41,30 @@ def test_options_are_the_programs(report, drawn):
         assert lines(frame_of(report, files, **options), files) == expected
 
 
-def test_since(drawn):
-    skip_without("churn", "since")
-    since = datetime.fromtimestamp(FIRST, UTC) + timedelta(seconds=1)
-    assert lines(frame_of("churn", drawn["rrc00"], since=since)) == text_of("churn", drawn["rrc00"], f"--since={FIRST + 1}")
+@pytest.mark.parametrize("report, options, words", [
+    ("history", {"same": True}, ["--same"]), ("history", {"since": "after"}, [f"--since={FIRST + 1}"]),
+    ("churn", {"since": "after"}, [f"--since={FIRST + 1}"]), ("tables", {"family": "ipv6"}, ["--family=ipv6"]),
+], ids=["history same", "history since", "churn since", "tables family"])
+def test_options_of_some_reports(report, options, words, drawn):
+    if not bgp_replay.has(report, *options):
+        with pytest.raises(bgp_replay.UsageError, match=words[0].partition("=")[0]):
+            frame_of(report, drawn["rrc00"], **options)
+        pytest.skip(f"the program has no {report} --{' '.join(options)}")
+    if "since" in options:
+        options = {"since": datetime.fromtimestamp(FIRST, UTC) + timedelta(seconds=1)}
+    expected = text_of(report, drawn["rrc00"], *words)
+    assert lines(frame_of(report, drawn["rrc00"], **options)) == expected != text_of(report, drawn["rrc00"])
+
+
+def test_a_long_list_of_prefixes(sample):
+    """131,072 prefixes are more than a command line takes."""
+    prefixes = [f"17.{second}.{third}.0/24" for second in range(256) for third in range(256)] * 2
+    assert frame_of("visibility", sample, prefixes=prefixes)["prefix"].tolist() == ["17.150.214.0/24"]
+    with pytest.raises(bgp_replay.UsageError, match="invalid line 131073 '17.0.0.1/24'"):
+        bgp_replay.visibility(sample, prefixes=[*prefixes, "17.0.0.1/24"])
+    for text in ("#", "", "17.0.0.0/8\n"):  # which a file may have in a line, and an option may not
+        with pytest.raises(bgp_replay.UsageError, match="--prefix <PREFIX>"):
+            bgp_replay.visibility(sample, prefixes=[*prefixes[:2000], text])
 
 
 def test_a_moment_in_all_its_forms(sample):
@@ -66,10 +79,10 @@ def test_a_moment_in_all_its_forms(sample):
 
 
 def test_rows_by_hand(sample):
-    """examples/README.md: what the seven records after the RIB dump say."""
+    """examples/README.md: what the eleven records after the RIB dump say."""
     churn = frame_of("churn", sample).set_index(["peer_asn", "peer_ip"])
     counts = churn[["changed", "gone", "resets", "idle", "refused"]].astype(int)
-    assert counts.loc[(200104, "192.0.2.104")].tolist() == [1, 0, 0, 0, 0]
+    assert counts.loc[(200104, "192.0.2.104")].tolist() == [1, 1, 0, 0, 0]
     assert counts.loc[(65101, "192.0.2.105")].tolist() == [0, 1, 0, 0, 0]
     assert counts.loc[(64502, "192.0.2.102")].tolist() == [0, 0, 0, 0, 1]
     assert counts.loc[(65107, "192.0.2.5")].tolist() == [0, 0, 1, 1, 0]
@@ -102,6 +115,19 @@ def test_an_absent_path_is_not_an_empty_one(tmp_path):
     assert seen["origin_asn"].isna().all() and seen["peers"].tolist() == [1, 1, 1]
 
 
+@pytest.mark.parametrize("micros, nanoseconds", [
+    (0, 4294967295_000000_000), (1, 4294967295_000001_000), (999_999, 4294967295_999999_000),
+    (2**32 - 1, 4294971589_967295_000),  # they carry
+])
+def test_the_latest_times(micros, nanoseconds, tmp_path):
+    """Of the last second of 32 bits, in a record of BGP4MP_ET."""
+    plain = message(1, b"")
+    record = b"\xff" * 4 + b"\0\x11\0\4" + (len(plain) - 8).to_bytes(4, "big") + micros.to_bytes(4, "big") + plain[12:]
+    (tmp_path / "a").write_bytes(record)
+    for report, name in (("churn", "first"), ("churn", "last"), ("peers", "first"), ("history", "timestamp")):
+        assert frame_of(report, tmp_path / "a")[name].tolist() == [pandas.Timestamp(nanoseconds, tz="UTC")]
+
+
 def test_types(drawn):
     types = {name: str(dtype) for name, dtype in frame_of("tables", drawn["rrc00"]).dtypes.items()}
     assert types == {
@@ -125,24 +151,26 @@ def test_pieces_are_the_whole(drawn):
     assert run.summary.routes == len(whole)
 
 
-MANY = """[ "$1" != churn ] || exec "$REAL" "$@"
-echo 'peer|prefix|as_path|next_hop|origin|med|local_pref|atomic|aggregator'
-exec awk 'BEGIN { for (i = 0; i < 240000; i++) printf "6500%d 192.0.2.%d|10.%d.%d.0/24|65000 %d 64500|192.0.2.1|IGP|-|-|-|-\\n", i % 9, i % 9, i / 256 % 256, i % 256, i % 999 }'
-"""
+@pytest.fixture(scope="module")
+def large(gen_mrt, tmp_path_factory):
+    """A RIB dump of some 228,000 routes: 18 MB of `tables`."""
+    path = tmp_path_factory.mktemp("large") / "rib"
+    path.write_bytes(gen_mrt("rib", 12_000, 20, 7))
+    return path
 
 
-def test_leaving_early_ends_the_program(stand_in, sample):
-    stand_in(MANY)
-    replay = bgp_replay.Replay("tables", sample, rows=10)
+def test_leaving_early_ends_the_program(large):
+    replay = bgp_replay.Replay("tables", large, rows=10)
     run = iter(replay)
-    next(run)
+    assert len(next(run)) == 10
+    assert replay.child.poll() is None  # it has more than a pipe takes
     run.close()
     assert replay.child.poll() is not None and replay.summary is None
 
 
-def test_memory_is_bounded(stand_in, sample):
-    """Of 15 MB of text, 240,000 lines, pieces of 10,000 lines take some MB."""
-    stand_in(MANY)
+def test_memory_is_bounded(large):
+    """Pieces of 10,000 lines take some MB of 18 MB of text, and no more after the third."""
+    routes = bgp_replay.summary(large).routes
     script = """if True:
         import resource, sys, bgp_replay
         most = lambda: resource.getrusage(resource.RUSAGE_SELF).ru_maxrss
@@ -152,10 +180,10 @@ def test_memory_is_bounded(stand_in, sample):
             if number == 3: before = most()
         print(rows, most() - before)
     """
-    run = subprocess.run([sys.executable, "-c", script, sample[0]], capture_output=True, text=True, check=True,
+    run = subprocess.run([sys.executable, "-c", script, large], capture_output=True, text=True, check=True,
                          env=os.environ | {"PYTHONPATH": str(PYTHON)})
     rows, kib = map(int, run.stdout.split())
-    assert rows == 240_000 and kib < 6_000
+    assert rows == routes > 200_000 and kib < 6_000
 
 
 @pytest.mark.parametrize("name", ["--header", "-", "a b", "a\nfile 1 damaged: 7", "a|b", "'\"\\", "ü", "a: b", " "])
@@ -177,39 +205,33 @@ def test_a_file_that_is_given_again(sample):
 def test_summary(sample):
     """Sizes and times are those of examples/README.md."""
     found = bgp_replay.summary(sample)
-    assert (found.damaged, found.bytes, found.records, found.peers) == (1, 5551 + 491, 19 + 7, 9)
+    assert (found.damaged, found.bytes, found.records, found.peers) == (1, 5551 + 787, 19 + 11, 9)
     second = found.files[1]
-    assert (second.bytes, second.records, second.aside, second.damaged, second.refused) == (491, 7, 1, 1, 0)
+    assert (second.bytes, second.records, second.aside, second.damaged, second.refused) == (787, 11, 1, 1, 0)
     assert second.aside_kinds == {"BGP4MP BGP4MP_MESSAGE_AS4_LOCAL": 1}
     frame = found.frame()
-    assert frame["last"][1] == pandas.Timestamp("2026-11-22 07:13:00", tz="UTC") and frame["units"].sum() == found.units
+    assert frame["last"][1] == pandas.Timestamp("2026-11-22 07:13:41", tz="UTC") and frame["units"].sum() == found.units
     assert bgp_replay.summary(os.devnull).frame()["first"].isna().all()
 
 
-def test_reports_to_come(sample):
-    """What the program has no report for is refused in its own words."""
-    for report in COMING:
-        if bgp_replay.has(report):
-            assert len(frame_of(report, sample))
-        else:
-            with pytest.raises(bgp_replay.UsageError, match=f"unrecognized subcommand '{report}'"):
-                frame_of(report, sample)
-    if not bgp_replay.has("tables", "family"):
-        with pytest.raises(bgp_replay.UsageError, match="--family"):
-            frame_of("tables", sample, family="ipv6")
+def test_what_the_program_does_not_have(sample):
+    with pytest.raises(bgp_replay.UsageError, match="unrecognized subcommand 'rows'"):
+        bgp_replay.Replay("rows", sample).frame()
+    with pytest.raises(bgp_replay.UsageError, match="--same"):
+        frame_of("tables", sample, same=True)
     with pytest.raises(TypeError, match="no option 'untill'"):
         bgp_replay.tables(sample, untill=1)
 
 
-def test_history_by_hand(sample):
-    skip_without("history")
-    rows = frame_of("history", sample, prefixes="203.0.113.0/24")
-    assert rows[["peer_asn", "what", "by", "as_path"]].values.tolist() == [[65003, "new", "update", "65003 64496"]]
-    assert rows["timestamp"].tolist() == [pandas.Timestamp("2026-11-22 07:07:00.25", tz="UTC")]
-
-
 def test_peers_by_hand(sample):
-    skip_without("peers")
+    """examples/README.md: where each peer's first message of the updates begins."""
     rows = frame_of("peers", sample).set_index("peer_asn")
     assert rows.loc[65107, ["state", "routes"]].tolist() == ["down", 0]
     assert rows.loc[65003, ["state", "routes"]].tolist() == ["up", 6]
+    assert rows["file"].unique().tolist() == [sample[0]] and rows["entry"].notna().all()
+    updates = frame_of("peers", sample[1])
+    assert updates[["peer_asn", "peer_ip", "state", "routes", "units", "offset"]].values.tolist() == [
+        [200104, "192.0.2.104", "up", 1, 3, 0], [65101, "192.0.2.105", "up", 0, 1, 91], [65003, "192.0.2.3", "up", 1, 1, 150],
+        [64502, "192.0.2.102", "up", 0, 1, 288], [65107, "192.0.2.5", "down", 0, 2, 372],
+        [196618, "192.0.2.4", "up", 0, 2, 579]]
+    assert updates["entry"].isna().all() and updates["last"][4] == pandas.Timestamp("2026-11-22 07:13:00", tz="UTC")
