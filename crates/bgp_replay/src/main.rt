@@ -127,7 +127,8 @@ fn is_history(request: &Request, choices: &[PrefixChoice]) -> bool {
 }
 
 /// Returns as many workers as the arguments ask for, otherwise one if few prefixes are chosen or what happened is
-/// listed or a part of it counted, else one per processor; if the system doesn't report how many there are, as many as the job has.
+/// listed or a part of it counted, else one per processor; if the system doesn't report how many there are, as many as
+/// the job has.
 fn workers_of(threads: &impl Threads, job: &Job) -> usize
     ensures least { 1 ≤ result }
     ensures most { result ≤ 64 }
