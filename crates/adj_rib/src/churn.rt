@@ -90,6 +90,7 @@ impl Churn {
         self.first = Some(self.first.unwrap_or(time));
         self.last = Some(time);
     }
+
     /// Counts what happened to a key. A route that a state change ended isn't counted: the state change is.
     fn count_what(&mut self, what: What)
         ensures { self.new ≡ counted_this (outcome_noted what) self.old }

@@ -217,6 +217,9 @@ impl<'a, D: Read> Dump<'a, D> {
     fn watch(&mut self, bytes: &[u8])
         ensures { dump_contents self.new ≡ dump_contents self.old }
     {
+        if self.watch.is_none() {
+            return;
+        }
         let of_file = match self.packed() {
             Some((_, packed_bytes)) => packed_bytes,
             None => self.bytes,

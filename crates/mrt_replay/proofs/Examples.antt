@@ -20,7 +20,9 @@ use Rattle.mrt_body.proofs.Dumps.{marker_16, session_four, plain_attributes, ann
 use Rattle.adj_rib.specs.Steps.{unit_steps, steps_of}
 use Rattle.adj_rib.specs.Tables.{table_of}
 use Rattle.adj_rib.specs.Churns.{outcomes_of, churn_of, damaged_of}
+use Rattle.adj_rib.specs.Histories.{churn_within, idle_within, notes_within, unit_notes, watch_of}
 use Rattle.adj_rib.specs.Sessions.{session_of}
+use Rattle.peer_tables.specs.Histories.{history_of, history_rows, watches_of}
 use Rattle.peer_tables.specs.Peers.{peers_of}
 use Rattle.peer_tables.specs.Tables.{tables_of}
 use Rattle.rib_report.specs.declared.request.Request.TheVariants.{Tables, Visibility, Origins, Churn, Match, Faults}
@@ -43,29 +45,39 @@ one_file : AreReports (
     row Tables [] []
     ∷ row Tables announcement (plain_line ∷ [])
     ∷ row Tables of_host_bits (line_with (codes "10.240.0.0/12|65000|192.0.2.1") ∷ [])
-    ∷ row Churn (announcement ++ announcement) (codes "65000 192.0.2.1|1|0|1|0|0|0|0|0|1.000000|1.000000" ∷ [])
+    ∷ row (Churn None) (announcement ++ announcement) (codes "65000 192.0.2.1|1|0|1|0|0|0|0|0|1.000000|1.000000" ∷ [])
     ∷ row Tables (announcement ++ withdrawal ++ withdrawal) []
-    ∷ row Churn (announcement ++ withdrawal ++ withdrawal) (codes "65000 192.0.2.1|1|0|0|1|1|0|0|0|1.000000|2.000000" ∷ [])
+    ∷ row (Churn None) (announcement ++ withdrawal ++ withdrawal) (codes "65000 192.0.2.1|1|0|0|1|1|0|0|0|1.000000|2.000000" ∷ [])
     ∷ row Tables (announcement ++ by_other_hop) (line_with (codes "10.0.0.0/8|65000|192.0.2.3") ∷ [])
     ∷ row Tables withdrawn_and_announced (plain_line ∷ [])
-    ∷ row Churn withdrawn_and_announced (codes "65000 192.0.2.1|1|0|0|0|0|0|0|0|1.000000|1.000000" ∷ [])
+    ∷ row (Churn None) withdrawn_and_announced (codes "65000 192.0.2.1|1|0|0|0|0|0|0|0|1.000000|1.000000" ∷ [])
     ∷ row Tables (announcement_with marker_16 (hex (codes "002D 04 0000 0014")) plain_attributes) []
     ∷ row Tables (hex (codes "00000001 000C 0001 00000000") ++ announcement) (plain_line ∷ [])
     ∷ row Tables extended_announcement (plain_line ∷ [])
-    ∷ row Churn extended_announcement (codes "65000 192.0.2.1|1|0|0|0|0|0|0|0|2.000000|2.000000" ∷ [])
+    ∷ row (Churn None) extended_announcement (codes "65000 192.0.2.1|1|0|0|0|0|0|0|0|2.000000|2.000000" ∷ [])
     ∷ record { request = Churn None; until = Some 1; files = extended_announcement ∷ []; told = [] }
     ∷ [])
 unfolding digits report text units_of refused_of found_in cuts cuts_within found_at content_of message_unit states_unit session_peer_at session_at states_in index_in index_head_at peers_in written_peer_at rib_in rib_head_at entry_at items_after attribute_at attributes_in value_fault route_from route_in path_in segment_at segment_field_at written_key_at keys_in route_keys_in key_at reach_in reach_at unreach_in next_hop_of reached_keys unreached_keys fields_in said_update update_in message_in message_event_in event_in unit_steps steps_of route_eq outcomes_of churn_of damaged_of table_of session_of peers_of tables_of
 one_file = refl
 
+-- counts from a second on, over a replay from the beginning
+from_the_second_on : AreReports (
+    row (Churn (Some 2)) (announcement ++ withdrawal ++ withdrawal) (codes "65000 192.0.2.1|0|0|0|1|1|0|0|0|2.000000|2.000000" ∷ [])
+    ∷ row (Churn (Some 3)) (announcement ++ withdrawal) (codes "65000 192.0.2.1|0|0|0|0|0|0|0|0|-|-" ∷ [])
+    ∷ row (Churn (Some 0)) (announcement ++ announcement) (codes "65000 192.0.2.1|1|0|1|0|0|0|0|0|1.000000|1.000000" ∷ [])
+    ∷ row (Churn (Some 2)) (announcement ++ state_change (hex (codes "0006 0001")) ++ announcement) (codes "65000 192.0.2.1|0|0|0|0|0|1|0|0|2.000000|2.000000" ∷ [])
+    ∷ [])
+unfolding digits report text units_of refused_of found_in cuts cuts_within found_at content_of message_unit states_unit session_peer_at session_at states_in index_in index_head_at peers_in written_peer_at rib_in rib_head_at entry_at items_after attribute_at attributes_in value_fault route_from route_in path_in segment_at segment_field_at written_key_at keys_in route_keys_in key_at reach_in reach_at unreach_in next_hop_of reached_keys unreached_keys fields_in said_update update_in message_in message_event_in event_in unit_steps steps_of route_eq outcomes_of churn_of damaged_of table_of session_of peers_of tables_of churn_within notes_within idle_within unit_notes watch_of watches_of history_rows history_of
+from_the_second_on = refl
+
 -- a session that leaves Established, and comes back
 state_changes : AreReports (
     row Tables (announcement ++ state_change (hex (codes "0006 0001")) ++ announcement) []
-    ∷ row Churn (announcement ++ state_change (hex (codes "0006 0001")) ++ announcement) (codes "65000 192.0.2.1|1|0|0|0|0|1|1|0|1.000000|1.000000" ∷ [])
+    ∷ row (Churn None) (announcement ++ state_change (hex (codes "0006 0001")) ++ announcement) (codes "65000 192.0.2.1|1|0|0|0|0|1|1|0|1.000000|1.000000" ∷ [])
     ∷ row Tables (announcement ++ state_change (hex (codes "0006 0001")) ++ announcement ++ state_change (hex (codes "0005 0006")) ++ announcement) (plain_line ∷ [])
-    ∷ row Churn (announcement ++ state_change (hex (codes "0006 0001")) ++ announcement ++ state_change (hex (codes "0005 0006")) ++ announcement) (codes "65000 192.0.2.1|2|0|0|0|0|2|1|0|1.000000|1.000000" ∷ [])
+    ∷ row (Churn None) (announcement ++ state_change (hex (codes "0006 0001")) ++ announcement ++ state_change (hex (codes "0005 0006")) ++ announcement) (codes "65000 192.0.2.1|2|0|0|0|0|2|1|0|1.000000|1.000000" ∷ [])
     ∷ row Tables (announcement ++ state_change (hex (codes "0006 0006"))) (plain_line ∷ [])
-    ∷ row Churn (announcement ++ state_change (hex (codes "0006 0006"))) (codes "65000 192.0.2.1|1|0|0|0|0|0|0|0|1.000000|2.000000" ∷ [])
+    ∷ row (Churn None) (announcement ++ state_change (hex (codes "0006 0006"))) (codes "65000 192.0.2.1|1|0|0|0|0|0|0|0|1.000000|2.000000" ∷ [])
     ∷ [])
 unfolding digits report text units_of refused_of found_in cuts cuts_within found_at content_of message_unit states_unit session_peer_at session_at states_in index_in index_head_at peers_in written_peer_at rib_in rib_head_at entry_at items_after attribute_at attributes_in value_fault route_from route_in path_in segment_at segment_field_at written_key_at keys_in route_keys_in key_at reach_in reach_at unreach_in next_hop_of reached_keys unreached_keys fields_in said_update update_in message_in message_event_in event_in unit_steps steps_of route_eq outcomes_of churn_of damaged_of table_of session_of peers_of tables_of
 state_changes = refl
@@ -100,7 +112,7 @@ rib_records : AreReports (
     ∷ row Tables (rib_record ++ announcement) (plain_line ∷ [])
     ∷ row Tables (peer_table ++ rib_record) (codes "65000 2001:0db8:0000:0000:0000:0000:0000:0001|10.0.0.0/8|65000|192.0.2.1|IGP|-|-|-|-" ∷ [])
     ∷ row Faults (peer_table ++ rib_record) (codes "1|56|2|14|BadAttribute(1)" ∷ [])
-    ∷ row Churn (peer_table ++ rib_record) (codes "65000 2001:0db8:0000:0000:0000:0000:0000:0001|1|0|0|0|0|0|0|0|3.000000|3.000000" ∷ codes "70000 192.0.2.2|0|0|0|0|0|0|0|1|3.000000|3.000000" ∷ [])
+    ∷ row (Churn None) (peer_table ++ rib_record) (codes "65000 2001:0db8:0000:0000:0000:0000:0000:0001|1|0|0|0|0|0|0|0|3.000000|3.000000" ∷ codes "70000 192.0.2.2|0|0|0|0|0|0|0|1|3.000000|3.000000" ∷ [])
     ∷ record { request = Faults; until = None; files = take 76 announcement ∷ announcement ∷ []; told = codes "1|0|-|2|ShortBody" ++ 10 ∷ [] }
     ∷ record { request = Tables; until = None; files = take 76 announcement ∷ announcement ∷ []; told = plain_line ++ 10 ∷ [] }
     ∷ row Faults (announcement ++ hex (codes "000000")) (codes "1|77|-|1|ShortHeader" ∷ [])
@@ -113,9 +125,9 @@ path_identifiers : AreReports (
     row Tables (announcement ++ of_seven) (plain_line ∷ seven_line ∷ [])
     ∷ row (Match 0x0A000001) (announcement ++ of_seven) (plain_line ∷ seven_line ∷ [])
     ∷ row Visibility (announcement ++ of_seven) (codes "10.0.0.0/8|1" ∷ [])
-    ∷ row Churn (announcement ++ of_seven) (codes "65000 192.0.2.1|2|0|0|0|0|0|0|0|1.000000|1.000000" ∷ [])
+    ∷ row (Churn None) (announcement ++ of_seven) (codes "65000 192.0.2.1|2|0|0|0|0|0|0|0|1.000000|1.000000" ∷ [])
     ∷ row Tables (announcement ++ of_seven ++ withdrawal_of_seven) (plain_line ∷ [])
-    ∷ row Churn (announcement ++ of_seven ++ withdrawal_of_seven) (codes "65000 192.0.2.1|2|0|0|1|0|0|0|0|1.000000|2.000000" ∷ [])
+    ∷ row (Churn None) (announcement ++ of_seven ++ withdrawal_of_seven) (codes "65000 192.0.2.1|2|0|0|1|0|0|0|0|1.000000|2.000000" ∷ [])
     ∷ row Tables (peer_table ++ rib_of_seven) (codes "65000 2001:0db8:0000:0000:0000:0000:0000:0001|10.0.0.0/8#7|65000|192.0.2.1|IGP|-|-|-|-" ∷ [])
     ∷ row Faults cut_identifier (codes "1|0|-|9|BadPrefix" ∷ [])
     ∷ [])
@@ -127,14 +139,14 @@ multiprotocol : AreReports (
     row Tables reached (line_with (codes "10.0.0.0/8|65000|192.0.2.9") ∷ [])
     ∷ row Tables reached_by_ipv6 (line_with (codes "10.0.0.0/8|65000|2001:0db8:0000:0000:0000:0000:0000:0009") ∷ [])
     ∷ row Tables (announcement ++ unreached) []
-    ∷ row Churn (announcement ++ unreached) (codes "65000 192.0.2.1|1|0|0|1|0|0|0|0|1.000000|2.000000" ∷ [])
+    ∷ row (Churn None) (announcement ++ unreached) (codes "65000 192.0.2.1|1|0|0|1|0|0|0|0|1.000000|2.000000" ∷ [])
     ∷ row Faults reached_twice (codes "1|0|-|14|BadAttribute(14)" ∷ [])
     ∷ row Tables (reached_with (hex (codes "0002")) (hex (codes "04"))) []
     ∷ row Faults (reached_with (hex (codes "0002")) (hex (codes "04"))) []
     ∷ row Faults (reached_with (hex (codes "0001")) (hex (codes "05"))) (codes "1|0|-|14|BadAttribute(14)" ∷ [])
     ∷ row Tables (announcement ++ reached) (line_with (codes "10.0.0.0/8|65000|192.0.2.9") ∷ [])
-    ∷ row Churn (announcement ++ reached) (codes "65000 192.0.2.1|1|1|0|0|0|0|0|0|1.000000|1.000000" ∷ [])
-    ∷ row Churn (announcement ++ state_change (hex (codes "0006 0001")) ++ reached) (codes "65000 192.0.2.1|1|0|0|0|0|1|1|0|1.000000|1.000000" ∷ [])
+    ∷ row (Churn None) (announcement ++ reached) (codes "65000 192.0.2.1|1|1|0|0|0|0|0|0|1.000000|1.000000" ∷ [])
+    ∷ row (Churn None) (announcement ++ state_change (hex (codes "0006 0001")) ++ reached) (codes "65000 192.0.2.1|1|0|0|0|0|1|1|0|1.000000|1.000000" ∷ [])
     ∷ [])
 unfolding digits report text units_of refused_of found_in cuts cuts_within found_at content_of message_unit states_unit session_peer_at session_at states_in index_in index_head_at peers_in written_peer_at rib_in rib_head_at entry_at items_after attribute_at attributes_in value_fault route_from route_in path_in segment_at segment_field_at written_key_at keys_in route_keys_in key_at reach_in reach_at unreach_in next_hop_of reached_keys unreached_keys fields_in said_update update_in message_in message_event_in event_in unit_steps steps_of route_eq outcomes_of churn_of damaged_of table_of session_of peers_of tables_of
 multiprotocol = refl

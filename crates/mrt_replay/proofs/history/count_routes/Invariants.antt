@@ -1,5 +1,5 @@
 -- those of the watches so far
-use Rattle.std.proofs.Common.{◌≡◌, ◌+◌, ◌-◌, ◌^◌, length, map, take}
+use Rattle.std.proofs.Common.{◌≡◌, ◌-◌, ◌^◌, length, take}
 use Rattle.std.specs.Prelude.{min}
 use Rattle.std.specs.List.{flat_map}
 use Rattle.peer_tables.specs.Watching.{watch_in}

@@ -1,4 +1,4 @@
-use Rattle.std.proofs.Common.{◌≡◌, List, sym, ap, ◌∙◌, subst, Err, map, refl}
+use Rattle.std.proofs.Common.{◌≡◌, sym, ap, ◌∙◌, subst, Err, map, refl}
 use Rattle.std.specs.Io.KnownBytes.{Appends, Keeps}
 use Rattle.std.proofs.KnownBytes.{Appends-kept, Keeps-refl}
 use Rattle.std.proofs.lemmas.List.{length-map}
