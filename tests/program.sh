@@ -302,6 +302,56 @@ printf '%s\n' "$two_24" "$two_25" "$two_203" > wanted; try 0 '' wanted tables --
 for words in '--peers 0/4' '--peers 5/4' '--peers 1/65537' '--peer AS65001' '--peer 65001,192.0.2' '--prefix 192.0.2.1/24' '--prefix 192.0.2.0/33'; do try 2 '?' nothing tables $words eight; done
 for words in 'churn --prefix 198.51.100.1/24' 'churn --since 5 --until 4' 'churn --since soon' 'churn --same' 'peers --since 5' 'history --since 5 --until 4' 'history --since soon' 'tables --since 5' 'tables --same'; do try 2 '?' nothing $words eight; done
 
+# What happened at three peers, in two files. Before the RIB dump the first peer announces two prefixes, and one of them
+# again by another path; the second announces one of them; the third one two paths of it, of which it withdraws one, and
+# one that it never had. The RIB dump agrees with both routes of the first peer and differs from the second's. Then the
+# first announces a third prefix, and leaves Established with three routes.
+sed 's/../\\x&/g' > hex << 'END'
+000007d0001000040000004b0000fde90000fa0100000001c0000201c00002feffffffffffffffffffffffffffffffff003702000000184001010040020a02020000fde90000fbf4400304c000020118c6336418cb0071
+000007d100100004000000470000fdea0000fa0100000001c0000202c00002feffffffffffffffffffffffffffffffff003302000000184001010040020a02020000fdea0000fbf4400304c000020218c63364
+000007d200100004000000470000fde90000fa0100000001c0000201c00002feffffffffffffffffffffffffffffffff003302000000184001010040020a02020000fde90000fde7400304c000020118c63364
+000007d200100009000000530000fdeb0000fa0100000001c0000203c00002feffffffffffffffffffffffffffffffff003f02000000184001010040020a02020000fdeb0000fbf4400304c00002030000000118c633640000000218c63364
+000007d3001000090000003b0000fdeb0000fa0100000001c0000203c00002feffffffffffffffffffffffffffffffff00270200100000000118c633640000000718c633640000
+END
+while read -r record; do printf "$record"; done < hex > before
+sed 's/../\\x&/g' > hex << 'END'
+000007da000d00010000002fc00002fa0000000302c0000201c00002010000fde902c0000202c00002020000fdea02c0000203c00002030000fdeb
+000007da000d00020000004a0000000018c6336400020000000005dc00184001010040020a02020000fde90000fde7400304c00002010001000005dc00184001010040020a02020000fdea0000fde7400304c0000202
+000007da000d00020000002a0000000118cb007100010000000005dc00184001010040020a02020000fde90000fbf4400304c0000201
+000007e400100004000000480000fde90000fa0100000001c0000201c00002feffffffffffffffffffffffffffffffff003402000000184001010040020a02020000fde90000fbf4400304c000020119c0000200
+000007ee00100005000000180000fde90000fa0100000001c0000201c00002fe00060001
+END
+while read -r record; do printf "$record"; done < hex > after
+tells() { local words=$1; shift; printf '%s\n' "$@" > wanted; try 0 '' wanted $words before after; } # WORDS LINE..
+one='65001 192.0.2.1' two='65002 192.0.2.2' three='65003 192.0.2.3'
+by_one='192.0.2.1|IGP|-|-|-|-' by_two='192.0.2.2|IGP|-|-|-|-' by_three='192.0.2.3|IGP|-|-|-|-'
+happened=(
+  "2000.000000|$one|new|update|198.51.100.0/24|65001 64500|$by_one"
+  "2000.000000|$one|new|update|203.0.113.0/24|65001 64500|$by_one"
+  "2001.000000|$two|new|update|198.51.100.0/24|65002 64500|$by_two"
+  "2002.000000|$one|changed|update|198.51.100.0/24|65001 64999|$by_one"
+  "2002.000000|$three|new|update|198.51.100.0/24#1|65003 64500|$by_three"
+  "2002.000000|$three|new|update|198.51.100.0/24#2|65003 64500|$by_three"
+  "2003.000000|$three|gone|update|198.51.100.0/24#1|65003 64500|$by_three"
+  "2003.000000|$three|void|update|198.51.100.0/24#7|-|-|-|-|-|-|-"
+  "2010.000000|$one|same|rib|198.51.100.0/24|65001 64999|$by_one"
+  "2010.000000|$two|changed|rib|198.51.100.0/24|65002 64999|$by_two"
+  "2010.000000|$one|same|rib|203.0.113.0/24|65001 64500|$by_one"
+  "2020.000000|$one|new|update|192.0.2.0/25|65001 64500|$by_one"
+  "2030.000000|$one|lost|state|192.0.2.0/25|65001 64500|$by_one"
+  "2030.000000|$one|lost|state|198.51.100.0/24|65001 64999|$by_one"
+  "2030.000000|$one|lost|state|203.0.113.0/24|65001 64500|$by_one")
+tells 'history --same' "${happened[@]}"
+tells 'history' "${happened[@]:0:8}" "${happened[9]}" "${happened[@]:11}"
+tells 'history --since 2002 --until 2010' "${happened[@]:3:5}" "${happened[9]}"
+tells 'history --since 2003 --until 2003 --same' "${happened[@]:6:2}"
+tells 'history --prefix 203.0.113.0/24 --same' "${happened[1]}" "${happened[10]}" "${happened[14]}"
+tells 'history --peer 65003 --peer 65002' "${happened[2]}" "${happened[@]:4:4}" "${happened[9]}"
+tells churn "$one|3|1|2|0|0|1|0|0|2000.000000|2030.000000" "$two|1|1|0|0|0|0|0|0|2001.000000|2010.000000" "$three|2|0|0|1|1|0|0|0|2002.000000|2003.000000"
+tells 'churn --since 2010' "$one|1|0|2|0|0|1|0|0|2010.000000|2030.000000" "$two|0|1|0|0|0|0|0|0|2010.000000|2010.000000" "$three|0|0|0|0|0|0|0|0|-|-"
+tells 'churn --since 2002 --until 2010 --prefix 198.51.100.0/24' "$one|0|1|1|0|0|0|0|0|2002.000000|2010.000000" \
+  "$two|0|1|0|0|0|0|0|0|2010.000000|2010.000000" "$three|2|0|0|1|1|0|0|0|2002.000000|2003.000000"
+
 # --prefixes: lines that are passed over, blanks at the ends of others, and files that add up
 printf '# both\r\n\n198.51.100.0/24 \t\r\n  \n203.0.113.128/25-' > one.txt; printf '198.51.100.0/25\n' > two.txt; printf '#\n' > none.txt
 lists 'tables --prefixes one.txt --until 1009' "$one_24" "$one_203" "$two_24"
