@@ -1,0 +1,61 @@
+#!/usr/bin/env bash
+# Measures `churn` of packed dumps: a RIB dump, and updates cut into a series of files, each packed by gzip and by bzip2,
+# next to the same dumps plain, to `gzip -dc` and `bzip2 -dc` alone, and to a shell loop that unpacks the series into
+# standard input. Prints the wall and processor time and the peak memory of the fastest of alternating runs, and how the
+# processor time that unpacking adds compares with that of the tool.
+#   bench/packed.sh PROGRAM [PREFIXES] [PEERS] [MESSAGES] [FILES]
+# Defaults: 200,000 prefixes x 20 peers, and 1,500,000 messages in 64 files. Needs cc, gzip, bzip2 and GNU time.
+# ROUNDS (3) can be set in the environment.
+set -eu
+program=$(realpath "$1"); prefixes=${2:-200000}; peers=${3:-20}; messages=${4:-1500000}; files=${5:-64}
+here=$(dirname "$(realpath "$0")"); out=$here/out; mkdir -p "$out"
+cc -O2 -o "$out/gen_mrt" "$here/gen_mrt.c" -lm
+rib=$out/rib-$prefixes-$peers.mrt; series=$out/series-$messages-$peers-$files
+[ -f "$rib" ] || "$out/gen_mrt" rib "$prefixes" "$peers" 1 > "$rib"
+if [ ! -d "$series" ]; then
+  rm -rf "$series.new"; mkdir "$series.new"
+  for number in $(seq -w "$files"); do # the same session goes on in each, with other messages
+    "$out/gen_mrt" updates $((messages / files)) $((prefixes * 3 / 2)) "$peers" "$((10#$number))" > "$series.new/$number.mrt"
+  done
+  mv "$series.new" "$series"
+fi
+for file in "$rib" "$series"/*.mrt; do
+  [ -f "$file.gz" ] || { gzip -c "$file" > "$file.new"; mv "$file.new" "$file.gz"; }
+  [ -f "$file.bz2" ] || { bzip2 -c "$file" > "$file.new"; mv "$file.new" "$file.bz2"; }
+done
+times=$(mktemp -d); trap 'rm -rf "$times"' EXIT
+
+# One run: its name, and the command. Adds wall, user and system seconds and KiB to the list of that name.
+run() {
+  local name=$1; shift
+  command time -q -f '%e %U %S %M' -o "$times/one" "$@" > "$times/said"
+  tail -1 "$times/one" >> "$times/$name"
+}
+fastest() { sort -n "$times/$1" | head -1; }
+processor() { fastest "$1" | awk '{ print $2 + $3 }'; }
+
+measure() { # LABEL FILE..
+  local label=$1 form name; shift
+  local packed=("${@/%/.gz}") bzipped=("${@/%/.bz2}")
+  rm -f "$times"/*
+  for _ in $(seq "${ROUNDS:-3}"); do
+    run plain "$program" churn --workers 1 "$@"
+    run gzip "$program" churn --workers 1 "${packed[@]}"
+    run bzip2 "$program" churn --workers 1 "${bzipped[@]}"
+    run gzip-dc gzip -dc "${packed[@]}"
+    run bzip2-dc bzip2 -dc "${bzipped[@]}"
+    run gzip-loop sh -c 'program=$1; shift; for file; do gzip -dc "$file"; done | "$program" churn --workers 1 -' sh "$program" "${packed[@]}"
+    run bzip2-loop sh -c 'program=$1; shift; for file; do bzip2 -dc "$file"; done | "$program" churn --workers 1 -' sh "$program" "${bzipped[@]}"
+  done
+  printf '%-24s %8s %8s %8s\n' "$label" 'wall s' 'cpu s' 'peak MB'
+  for name in plain gzip gzip-dc gzip-loop bzip2 bzip2-dc bzip2-loop; do
+    fastest "$name" | awk -v name="$name" '{ printf "%-24s %8.2f %8.2f %8.1f\n", name, $1, $2 + $3, $4 / 1024 }'
+  done
+  for form in gzip bzip2; do
+    awk -v form="$form" -v ours="$(processor "$form")" -v plain="$(processor plain)" -v tool="$(processor "$form-dc")" \
+      'BEGIN { if (tool > 0) printf "unpacking %s takes %.2f times the processor time of %s -dc\n", form, (ours - plain) / tool, form }'
+  done
+}
+
+measure "RIB dump" "$rib"
+measure "$files files of updates" "$series"/*.mrt
