@@ -54,12 +54,10 @@ help:
 run: $(PROGRAM)
 	$(PROGRAM) tables examples/sample.mrt
 
-# The gate, and then the scripts that are quick, on the program that the gate built.
+# The gate, and then what is quick, side by side, on the program that the gate built.
 check:
 	rt ci
-	$(MAKE) --no-print-directory scripts BINARY='$(BUILT)'
-	$(MAKE) --no-print-directory quick-check
-	$(MAKE) --no-print-directory python-check BINARY='$(BUILT)'
+	$(MAKE) --no-print-directory -j3 --output-sync=target scripts quick-check python-check BINARY='$(BUILT)'
 
 verdict:
 	rt all verdict
