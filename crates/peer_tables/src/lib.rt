@@ -10,10 +10,10 @@
 //! that concerns a chosen prefix may have announced others.
 //!
 //! `Watches` passes each unit to the watch on its peer, and makes rows of what it did (`HistoryRow`), in the order of
-//! the units: one thread, no lanes. The watches are those of the units' peers (`watches_of`), each of which took its
-//! peer's own units; a row is of a note that is listed (`history_rows`), and what happened at some of the peers is what
-//! their units did (`histories_are_of_peers`). Each watch counts what its units did from the same second on. Where the watch on a peer is, is looked for first where the last peer
-//! with the same index in the index table, or the same hash, was.
+//! the units: one thread, no lanes. The watches are those of the units' peers (`watches_of`): each took its peer's own
+//! units, and counts what they did from the same second on. A row is of a note that is listed (`history_rows`), and
+//! what happened at some of the peers is what their units did (`histories_are_of_peers`). A peer's watch is looked for
+//! first where that of the last peer with its index in the index table, or its hash, was.
 //!
 //! It is a crate of its own, below both the lanes, which make the tables, and the reports, which read them: neither of
 //! these two long proofs waits for the other. `rib_report` re-exports `Tables` and `collect`, so a caller of reports
