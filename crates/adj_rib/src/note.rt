@@ -1,10 +1,7 @@
 //! What happened to a key.
 
-ghost use Rattle.std.specs.Prelude.{◌≡◌, IfOk};
-
 use crate::shared_route::SharedRoute;
-use bgp_prefix::{Memory, RouteKey};
-use std::alloc::Global;
+use bgp_prefix::RouteKey;
 
 /// What happened to a key.
 #[derive(Clone, Copy, Debug, PartialEq, Eq)]
@@ -30,21 +27,4 @@ pub struct Note {
     pub key: RouteKey,
     /// The route that the key has from then on, or the one that went. A withdrawal of a key without a route has none.
     pub route: Option<SharedRoute>,
-}
-
-impl Note {
-    /// Returns a copy, which owns the same route.
-    pub fn share(&self, alloc: Global) -> Result<Note, Memory>
-        ensures { IfOk result (λ note. note ≡ self.now) }
-    {
-        let route = match &self.route {
-            Some(route) => Some(route.share(alloc)?),
-            None => None,
-        };
-        Ok(Note {
-            what: self.what,
-            key: self.key,
-            route,
-        })
-    }
 }

@@ -13,9 +13,8 @@ use Rattle.mrt_body.specs.Units.{units_of, refused_of}
 use Rattle.adj_rib.specs.Churns.{stopped}
 use Rattle.adj_rib.specs.Histories.{watch_of}
 use Rattle.adj_rib.specs.Sessions.{session_of}
-use Rattle.peer_tables.specs.declared.history.HistoryRow.{HistoryRow}
 use Rattle.peer_tables.specs.declared.history.Listing.{Listing}
-use Rattle.peer_tables.specs.Histories.{PeerWatch, history_rows, watches_of}
+use Rattle.peer_tables.specs.Histories.{PeerWatch, RowState, history_rows, watches_of}
 use Rattle.peer_tables.specs.Peers.{peers_of, units_of_peer}
 use Rattle.peer_tables.specs.Tables.{Seat, tables_of, chosen_seat, chosen_tables, all_faults, all_routes}
 use Rattle.peer_tables.proofs.RowLaws.{flat_map_twice}
@@ -29,7 +28,7 @@ use Rattle.mrt_replay.proofs.RunLaws.{length_in_order}
 
 -- ---- the report
 
-pub history_is_report : (request : Request) (listing : Listing) (selection : UnitSelection) (files : List (List ℕ)) (rows : List HistoryRow) (watches : List PeerWatch) → listing_of request selection.prefixes ≡ Some listing → rows ≡ history_rows listing selection.prefixes (units_of selection files)
+pub history_is_report : (request : Request) (listing : Listing) (selection : UnitSelection) (files : List (List ℕ)) (rows : List RowState) (watches : List PeerWatch) → listing_of request selection.prefixes ≡ Some listing → rows ≡ history_rows listing selection.prefixes (units_of selection files)
     → watches ≡ watches_of listing.since selection.prefixes (units_of selection files) → told_lines listing.listed rows watches ≡ report request selection files
 unfolding report text
 history_is_report request listing selection files rows watches asked is took =

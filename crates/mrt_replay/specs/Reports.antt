@@ -5,11 +5,10 @@ use Rattle.mrt_body.specs.declared.unit.Damage.{Damage}
 use Rattle.mrt_body.specs.declared.unit.Unit.{Unit as ReplayUnit}
 use Rattle.mrt_body.specs.Units.{units_of, refused_of, records_of, aside_of}
 use Rattle.adj_rib.specs.Churns.{stopped}
-use Rattle.peer_tables.specs.declared.history.HistoryRow.{HistoryRow}
 use Rattle.peer_tables.specs.declared.history.Listed.{Listed}
 use Rattle.peer_tables.specs.declared.history.Listed.TheVariants.{Nothing, Changes, All}
 use Rattle.peer_tables.specs.declared.history.Listing.{Listing}
-use Rattle.peer_tables.specs.Histories.{PeerWatch, history_rows, watches_of}
+use Rattle.peer_tables.specs.Histories.{PeerWatch, RowState, history_rows, watches_of}
 use Rattle.peer_tables.specs.Peers.{peers_of}
 use Rattle.peer_tables.specs.Tables.{TablesState, tables_of, chosen_tables, all_routes}
 use Rattle.mrt_body.specs.declared.choice.PrefixChoice.{PrefixChoice}
@@ -56,7 +55,7 @@ lines_of request.Faults tables = flat_map fault_line (fault_rows tables)
 lines_of (request.History since same) tables = []
 
 -- the lines of the rows of what happened, or where none is listed those of the counts of watches
-abbrev pub told_lines : Listed → List HistoryRow → List PeerWatch → List ℕ
+abbrev pub told_lines : Listed → List RowState → List PeerWatch → List ℕ
 told_lines Nothing rows watches = flat_map churn_line (watch_churns watches)
 told_lines Changes rows watches = flat_map history_line rows
 told_lines All rows watches = flat_map history_line rows

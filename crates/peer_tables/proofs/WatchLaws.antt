@@ -17,10 +17,9 @@ use Rattle.mrt_body.specs.declared.unit.Unit.{Unit as ReplayUnit}
 use Rattle.adj_rib.specs.declared.note.Note.{Note}
 use Rattle.adj_rib.specs.Histories.{WatchState, is_before, watch_of, unit_notes, chosen_notes}
 use Rattle.adj_rib.specs.Selecting.{chooses}
-use Rattle.peer_tables.specs.declared.history.HistoryRow.{HistoryRow}
 use Rattle.peer_tables.specs.declared.history.Listing.{Listing}
 use Rattle.peer_tables.specs.Peers.{addr_eq, peer_eq, peers_of, units_of_peer}
-use Rattle.peer_tables.specs.Histories.{PeerWatch, history_of, history_rows, is_asked, is_listed, row_of, watches_of}
+use Rattle.peer_tables.specs.Histories.{PeerWatch, RowState, history_of, history_rows, is_asked, is_listed, row_of, watches_of}
 use Rattle.peer_tables.specs.Watching.{asked_rows, keys_in, listed_rows}
 use Rattle.peer_tables.proofs.ShareLaws.{same_peer}
 
@@ -165,6 +164,17 @@ none_passes p [] e = refl
 none_passes p (x ∷ xs) e =
     elim (p x) as (λ b. (b || list_any p xs) ≡ false → cond b (x ∷ filter p xs) (filter p xs) ≡ []) [ true ↦ λ clash. absurd (cc) | false ↦ λ later. none_passes p xs later ] e
 
+-- the keys of watches of which one changed and kept its key
+pub keys_set : {X : Type 0} (see : X → PeerWatch) (xs : List X) (n : ℕ) (d y : X) → (see y).key ≡ (see (get_or xs n d)).key → keys_in (map see (set xs n y)) ≡ keys_in (map see xs)
+keys_set see [] n d y e = refl
+keys_set see (x ∷ xs) zero d y e = ap (λ (k : PeerKey). k ∷ keys_in (map see xs)) e
+keys_set see (x ∷ xs) (suc n) d y e = ap (λ (l : List PeerKey). (see x).key ∷ l) (keys_set see xs n d y e)
+
+-- those of watches behind which one more stands
+pub keys_push : {X : Type 0} (see : X → PeerWatch) (xs : List X) (y : X) (q : PeerKey) → (see y).key ≡ q → keys_in (map see (xs ++ y ∷ [])) ≡ keys_in (map see xs) ++ q ∷ []
+keys_push see [] y q e = ap (λ (k : PeerKey). k ∷ []) e
+keys_push see (x ∷ xs) y q e = ap (λ (l : List PeerKey). (see x).key ∷ l) (keys_push see xs y q e)
+
 -- ---- one unit more
 
 module _ (since : Option ℕ) (choices : List PrefixChoice) (before : List ReplayUnit) (u : ReplayUnit) where
@@ -276,7 +286,7 @@ module _ (listing : Listing) (choices : List PrefixChoice) (u : ReplayUnit) wher
       ap (λ b. map row_of (cond (not b && (chooses choices note.key && is_asked listing.listed note.what)) (each note ∷ rest) rest)) e
       ∙ elim (chooses choices note.key) as (λ b. map row_of (cond (b && is_asked listing.listed note.what) (each note ∷ rest) rest) ≡ asked_rows listing.listed u (cond b (note ∷ chosen_notes choices notes) (chosen_notes choices notes))) [
         | true ↦ elim (is_asked listing.listed note.what) as (λ b. map row_of (cond b (each note ∷ rest) rest) ≡ map (λ n. row_of (each n)) (cond b (note ∷ filter (λ n. is_asked listing.listed n.what) (chosen_notes choices notes)) (filter (λ n. is_asked listing.listed n.what) (chosen_notes choices notes)))) [
-          | true ↦ ap (λ (l : List HistoryRow). row_of (each note) ∷ l) more
+          | true ↦ ap (λ (l : List RowState). row_of (each note) ∷ l) more
           | false ↦ more
         ]
         | false ↦ more
@@ -289,7 +299,7 @@ module _ (listing : Listing) (choices : List PrefixChoice) (u : ReplayUnit) wher
         | false ↦ chosen_rows notes
       ] refl
 
-pub rows_after : (listing : Listing) (choices : List PrefixChoice) (before : List ReplayUnit) (u : ReplayUnit) (rows told : List HistoryRow) (notes : List Note) → notes ≡ chosen_notes choices (unit_notes (units_of_peer before u.peer) u) → told ≡ rows ++ listed_rows listing u notes → rows ≡ history_rows listing choices before
+pub rows_after : (listing : Listing) (choices : List PrefixChoice) (before : List ReplayUnit) (u : ReplayUnit) (rows told : List RowState) (notes : List Note) → notes ≡ chosen_notes choices (unit_notes (units_of_peer before u.peer) u) → told ≡ rows ++ listed_rows listing u notes → rows ≡ history_rows listing choices before
     → told ≡ history_rows listing choices (before ++ u ∷ [])
 unfolding history_rows history_of
 rows_after listing choices before u rows told notes are more so_far =
@@ -297,7 +307,7 @@ rows_after listing choices before u rows told notes are more so_far =
     let now : List (ReplayUnit × Note) = map (λ note. (u, note)) own in
     more ∙ ap (λ n. rows ++ listed_rows listing u n) are
     ∙ ap (λ l. rows ++ l) (sym (unit_rows listing choices u own))
-    ∙ ap (λ (l : List HistoryRow). l ++ map row_of (filter (is_listed listing choices) now)) so_far
+    ∙ ap (λ (l : List RowState). l ++ map row_of (filter (is_listed listing choices) now)) so_far
     ∙ sym (map-append row_of (filter (is_listed listing choices) (history_of before)) (filter (is_listed listing choices) now))
     ∙ ap (map row_of) (sym (filter-append (is_listed listing choices) (history_of before) now))
     ∙ ap (λ l. map row_of (filter (is_listed listing choices) l)) (sym (flat_map_after-push (λ (b : List ReplayUnit) (v : ReplayUnit). map (λ note. (v, note)) (unit_notes (units_of_peer b v.peer) v)) [] before u))

@@ -14,7 +14,6 @@ use Rattle.adj_rib.specs.Histories.{WatchState, is_before, unit_notes, watch_of}
 use Rattle.adj_rib.specs.Selecting.{chooses}
 use Rattle.peer_tables.specs.declared.history.By.{By}
 use Rattle.peer_tables.specs.declared.history.By.TheVariants as by
-use Rattle.peer_tables.specs.declared.history.HistoryRow.{HistoryRow}
 use Rattle.peer_tables.specs.declared.history.Listed.{Listed}
 use Rattle.peer_tables.specs.declared.history.Listed.TheVariants.{Nothing, Changes, All}
 use Rattle.peer_tables.specs.declared.history.Listing.{Listing}
@@ -44,8 +43,15 @@ by_of (State from to) = by.State
 by_of (Message bytes width add_path) = by.Update
 by_of (Entry key attrs) = by.Rib
 
+-- one thing that happened to a key of a peer, at a time in microseconds
+pub record RowState : Type 0 where
+  pub time : ℕ
+  pub peer : PeerKey
+  pub by : By
+  pub note : Note
+
 -- the row of what happened
-abbrev pub row_of : ReplayUnit × Note → HistoryRow
+abbrev pub row_of : ReplayUnit × Note → RowState
 row_of e = record { time = e.0.time; peer = e.0.peer; by = by_of e.0.payload; note = e.1 }
 
 -- more than an announcement of the route that was there
@@ -69,7 +75,7 @@ is_listed listing choices e =
     not (is_before listing.since e.0.time) && (chooses choices e.1.key && is_asked listing.listed e.1.what)
 
 -- The rows of units: lanes, rings and workers don't occur.
-unfoldable pub history_rows : Listing → List PrefixChoice → List ReplayUnit → List HistoryRow
+unfoldable pub history_rows : Listing → List PrefixChoice → List ReplayUnit → List RowState
 history_rows listing choices units = map row_of (filter (is_listed listing choices) (history_of units))
 
 -- ---- the watches on all peers

@@ -1,14 +1,16 @@
 //! Rows of what happened.
 
-ghost use Rattle.std.specs.Prelude.{◌≡◌, ◌++◌, OnOk};
+ghost use Rattle.std.specs.Prelude.{◌≡◌, ◌++◌, IfOk, IfSome, IsNone, None, OnOk, Some};
 ghost use Rattle.mrt_body.specs.Lent.{lent_payload, lent_unit};
 ghost use Rattle.peer_tables.specs.Histories.{by_of, is_asked, is_change};
 ghost use Rattle.peer_tables.specs.Watching.{asked_rows, listed_rows};
 
-use adj_rib::{Note, What, is_before};
-use bgp_prefix::Memory;
+use crate::shared_peer::SharedPeer;
+use adj_rib::{Note, SharedRoute, What, is_before};
+use bgp_prefix::{Memory, RouteKey};
 use mrt_body::{LentPayload, LentUnit, PeerKey};
 use std::alloc::Global;
+use std::marker::Model;
 
 /// What brought about that something happened to a key.
 #[derive(Clone, Copy, Debug, PartialEq, Eq)]
@@ -21,14 +23,129 @@ pub enum By {
     State,
 }
 
+/// What a row holds. Whole dumps have as many rows as routes, so a row takes 40 bytes: the fields lie in an order that
+/// leaves no gap, and a row without a route has none.
+#[derive(Drop)]
+enum Held {
+    Routed {
+        by: By,
+        what: What,
+        key: RouteKey,
+        time: u64,
+        peer: SharedPeer,
+        route: SharedRoute,
+    },
+    Routeless {
+        by: By,
+        what: What,
+        key: RouteKey,
+        time: u64,
+        peer: SharedPeer,
+    },
+}
+
 /// One thing that happened to a key of a peer.
 #[derive(Drop)]
 pub struct HistoryRow {
+    held: Held,
+}
+
+impl Model for HistoryRow {
+    ghost use Rattle.peer_tables.specs.Histories.{RowState};
+    ghost use Rattle.peer_tables.specs.Watching.{row_in};
+
+    ghost Value = { RowState };
+
+    ghost view = { λ r. row_in r.held };
+}
+
+impl HistoryRow {
+    /// Returns the row of a note on a key of this peer, at this time in microseconds since 1970 UTC.
+    fn new(
+        alloc: Global,
+        time: u64,
+        peer: &SharedPeer,
+        by: By,
+        note: &Note,
+    ) -> Result<HistoryRow, Memory>
+        ensures { IfOk result (λ row. row ≡ record { time = time; peer = peer.now; by = by; note = note.now }) }
+    {
+        let peer = peer.share(alloc)?;
+        let held = match &note.route {
+            Some(route) => Held::Routed {
+                by,
+                what: note.what,
+                key: note.key,
+                time,
+                peer,
+                route: route.share(alloc)?,
+            },
+            None => Held::Routeless {
+                by,
+                what: note.what,
+                key: note.key,
+                time,
+                peer,
+            },
+        };
+        Ok(HistoryRow { held })
+    }
+
     /// In microseconds since 1970 UTC.
-    pub time: u64,
-    pub peer: PeerKey,
-    pub by: By,
-    pub note: Note,
+    pub fn time(&self) -> u64
+        ensures { result ≡ self.now.time }
+    {
+        match &self.held {
+            Held::Routed { time, .. } | Held::Routeless { time, .. } => *time,
+        }
+    }
+
+    /// The peer whose key it happened to.
+    pub fn peer(&self) -> PeerKey
+        ensures { result ≡ self.now.peer }
+    {
+        match &self.held {
+            Held::Routed { peer, .. } | Held::Routeless { peer, .. } => *peer.key(),
+        }
+    }
+
+    /// What brought it about.
+    pub fn by(&self) -> By
+        ensures { result ≡ self.now.by }
+    {
+        match &self.held {
+            Held::Routed { by, .. } | Held::Routeless { by, .. } => *by,
+        }
+    }
+
+    /// What happened.
+    pub fn what(&self) -> What
+        ensures { result ≡ self.now.note.what }
+    {
+        match &self.held {
+            Held::Routed { what, .. } | Held::Routeless { what, .. } => *what,
+        }
+    }
+
+    /// The key that it happened to.
+    pub fn key(&self) -> RouteKey
+        ensures { result ≡ self.now.note.key }
+    {
+        match &self.held {
+            Held::Routed { key, .. } | Held::Routeless { key, .. } => *key,
+        }
+    }
+
+    /// The route that the key has from then on, or the one that went; none of a withdrawal of a key without one.
+    pub fn route(&self) -> Option<&SharedRoute>
+        ensures none { IsNone result → self.now.note.route ≡ None }
+        ensures some { IfSome result (λ route. self.now.note.route ≡ Some route.now) }
+    {
+        match &self.held {
+            Held::Routed { route, .. } => Some(route),
+            Held::Routeless { .. } => None,
+        }
+    }
 }
 
 /// Which of the things that happened have rows.
@@ -83,41 +200,41 @@ fn is_asked(listed: Listed, what: What) -> bool
     }
 }
 
-/// Adds a row of each of the notes that is asked for.
+/// Adds a row of each of the notes that is asked for, on keys of the unit's peer.
 fn list_notes(
     alloc: Global,
     listed: Listed,
+    peer: &SharedPeer,
     unit: &LentUnit<'_>,
     notes: &[Note],
     rows: &mut Vec<HistoryRow>,
 ) -> Result<(), Memory>
+    requires { peer.now ≡ (lent_unit unit.now).peer }
     ensures { OnOk result (rows.new.items ≡ rows.old.items ++ asked_rows listed (lent_unit unit.now) notes.now) }
 {
     for note in notes {
         if is_asked(listed, note.what) {
-            rows.push(HistoryRow {
-                time: unit.time,
-                peer: unit.peer,
-                by: by_of(&unit.payload),
-                note: note.share(alloc)?,
-            })?;
+            let by = by_of(&unit.payload);
+            rows.push(HistoryRow::new(alloc, unit.time, peer, by, note)?)?;
         }
     }
     Ok(())
 }
 
-/// Adds a row of each of a unit's notes that is listed.
+/// Adds a row of each of a unit's notes that is listed, on keys of its peer.
 pub(crate) fn list_unit(
     alloc: Global,
     listing: Listing,
+    peer: &SharedPeer,
     unit: &LentUnit<'_>,
     notes: &[Note],
     rows: &mut Vec<HistoryRow>,
 ) -> Result<(), Memory>
+    requires { peer.now ≡ (lent_unit unit.now).peer }
     ensures { OnOk result (rows.new.items ≡ rows.old.items ++ listed_rows listing (lent_unit unit.now) notes.now) }
 {
     if is_before(listing.since, unit.time) {
         return Ok(());
     }
-    list_notes(alloc, listing.listed, unit, notes, rows)
+    list_notes(alloc, listing.listed, peer, unit, notes, rows)
 }

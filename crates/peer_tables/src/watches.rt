@@ -1,6 +1,6 @@
 //! The watches on all peers.
 
-ghost use Rattle.std.specs.Prelude.{◌≡◌, [], ◌∷◌, ◌++◌, IfSome, IsNone, List, OnOk, Some, false, length, map, slice_get, true};
+ghost use Rattle.std.specs.Prelude.{◌≡◌, [], ◌∷◌, ◌++◌, IfOk, IfSome, IsNone, List, OnOk, Some, false, length, map, slice_get, true};
 ghost use Rattle.std.specs.List.{list_any};
 ghost use Rattle.mrt_body.specs.Lent.{lent_unit};
 ghost use Rattle.mrt_body.specs.declared.choice.PrefixChoice.{PrefixChoice as Choice};
@@ -11,6 +11,7 @@ ghost use Rattle.peer_tables.specs.Histories.{history_rows, watches_of};
 ghost use Rattle.peer_tables.specs.Watching.{keys_in, watch_in};
 
 use crate::history::{HistoryRow, Listing, list_unit};
+use crate::shared_peer::SharedPeer;
 use adj_rib::{Note, SharedRoute, Watch};
 use bgp_prefix::{Memory, PrefixMap};
 use mrt_body::{ChosenPrefixes, LentUnit, PeerAddr, PeerKey};
@@ -23,7 +24,7 @@ const RECENT: usize = 1_024;
 /// A watch on a peer.
 #[derive(Drop)]
 pub struct Watched<M: PrefixMap<SharedRoute>> {
-    pub key: PeerKey,
+    pub key: SharedPeer,
     pub watch: Watch<M>,
 }
 
@@ -72,7 +73,7 @@ fn is_at<M: PrefixMap<SharedRoute>>(peers: &[Watched<M>], at: usize, peer: &Peer
     ensures { result ≡ true → slice_get (keys_in (map watch_in peers.now)) at ≡ Some peer.now }
 {
     match peers.get(at) {
-        Some(watched) => is_same_peer(peer, &watched.key),
+        Some(watched) => is_same_peer(peer, watched.key.key()),
         None => false,
     }
 }
@@ -83,7 +84,7 @@ fn search<M: PrefixMap<SharedRoute>>(peers: &[Watched<M>], peer: &PeerKey) -> Op
     ensures none { IsNone result → list_any (peer_eq peer.now) (keys_in (map watch_in peers.now)) ≡ false }
 {
     for at in 0..peers.len() {
-        if is_same_peer(peer, &peers[at].key) {
+        if is_same_peer(peer, peers[at].key.key()) {
             return Some(at);
         }
     }
@@ -122,6 +123,7 @@ fn take_known<M: PrefixMap<SharedRoute>>(
     ensures notes { (before : List ReplayUnit) → map watch_in peers.old.items ≡ watches_of since chosen.now before →
         OnOk result (notes.new.items ≡ chosen_notes chosen.now
         (unit_notes (units_of_peer before (lent_unit unit.now).peer) (lent_unit unit.now))) }
+    ensures keys { OnOk result (keys_in (map watch_in peers.new.items) ≡ keys_in (map watch_in peers.old.items)) }
 {
     peers[at]
         .watch
@@ -145,17 +147,18 @@ fn take_new<M: PrefixMap<SharedRoute> + Drop>(
     ensures notes { (before : List ReplayUnit) → map watch_in peers.old.items ≡ watches_of since chosen.now before →
         OnOk result (notes.new.items ≡ chosen_notes chosen.now
         (unit_notes (units_of_peer before (lent_unit unit.now).peer) (lent_unit unit.now))) }
+    ensures keys { OnOk result
+        (keys_in (map watch_in peers.new.items) ≡ keys_in (map watch_in peers.old.items) ++ (lent_unit unit.now).peer ∷ []) }
 {
+    let key = SharedPeer::new(alloc, unit.peer)?;
     let mut watch = Watch::new(alloc);
     watch.take(alloc, buffer, chosen, since, unit, notes)?;
-    peers.push(Watched {
-        key: unit.peer,
-        watch,
-    })?;
+    peers.push(Watched { key, watch })?;
     Ok(())
 }
 
-/// Passes the unit to the watch on its peer, which usually has the position that is tried first.
+/// Passes the unit to the watch on its peer, which usually has the position that is tried first, and returns its
+/// position.
 fn take_unit<M: PrefixMap<SharedRoute> + Drop>(
     alloc: Global,
     buffer: &mut Vec<u8>,
@@ -165,7 +168,8 @@ fn take_unit<M: PrefixMap<SharedRoute> + Drop>(
     recent: &mut [usize],
     unit: &LentUnit<'_>,
     notes: &mut Vec<Note>,
-) -> Result<(), Memory>
+) -> Result<usize, Memory>
+    ensures at { IfOk result (λ at. slice_get (keys_in (map watch_in peers.new.items)) at ≡ Some (lent_unit unit.now).peer) }
     ensures stands { (before : List ReplayUnit) → map watch_in peers.old.items ≡ watches_of since chosen.now before →
         OnOk result (map watch_in peers.new.items ≡ watches_of since chosen.now (before ++ lent_unit unit.now ∷ [])) }
     ensures notes { (before : List ReplayUnit) → map watch_in peers.old.items ≡ watches_of since chosen.now before →
@@ -178,12 +182,13 @@ fn take_unit<M: PrefixMap<SharedRoute> + Drop>(
         Some(at) => {
             remember(recent, slot, at);
             take_known(alloc, buffer, chosen, since, peers, at, unit, notes)?;
-            Ok(())
+            Ok(at)
         }
         None => {
-            remember(recent, slot, peers.len());
+            let at = peers.len();
+            remember(recent, slot, at);
             take_new(alloc, buffer, chosen, since, peers, unit, notes)?;
-            Ok(())
+            Ok(at)
         }
     }
 }
@@ -248,7 +253,7 @@ impl<M: PrefixMap<SharedRoute> + Drop> Watches<M> {
             rows.old.items ≡ history_rows listing chosen.now before →
             OnOk result (rows.new.items ≡ history_rows listing chosen.now (before ++ lent_unit unit.now ∷ [])) }
     {
-        take_unit(
+        let at = take_unit(
             alloc,
             &mut self.buffer,
             chosen,
@@ -258,7 +263,8 @@ impl<M: PrefixMap<SharedRoute> + Drop> Watches<M> {
             unit,
             &mut self.notes,
         )?;
-        list_unit(alloc, listing, unit, self.notes.as_slice(), rows)?;
+        let peer = &self.peers[at].key;
+        list_unit(alloc, listing, peer, unit, self.notes.as_slice(), rows)?;
         Ok(())
     }
 

@@ -5,7 +5,7 @@ use Rattle.adj_rib.specs.declared.note.What.{What}
 use Rattle.adj_rib.specs.declared.note.What.TheVariants.{New, Changed, Same, Gone, Void, Lost}
 use Rattle.peer_tables.specs.declared.history.By.{By}
 use Rattle.peer_tables.specs.declared.history.By.TheVariants.{Rib, Update, State}
-use Rattle.peer_tables.specs.declared.history.HistoryRow.{HistoryRow}
+use Rattle.peer_tables.specs.Histories.{RowState}
 use Rattle.rib_report.specs.Digits.{line, field, time_text}
 use Rattle.rib_report.specs.Lines.{peer_text, key_text, path_text, next_hop_text, origin_text, atomic_text, aggregator_text}
 
@@ -30,6 +30,6 @@ route_fields (Some route) = field path_text route.path ∷ field next_hop_text r
     ∷ atomic_text route.atomic ∷ field aggregator_text route.aggregator ∷ []
 
 -- time, peer, what happened, what brought it about, key, and the fields of its route
-abbrev pub history_line : HistoryRow → List ℕ
+abbrev pub history_line : RowState → List ℕ
 history_line row = line (time_text row.time ∷ peer_text row.peer ∷ what_text row.note.what ∷ by_text row.by
     ∷ key_text row.note.key ∷ route_fields row.note.route)

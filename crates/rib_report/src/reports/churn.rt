@@ -54,7 +54,7 @@ pub fn watched_churn<M: PrefixMap<SharedRoute>>(
     let mut rows = Vec::new(alloc);
     for watched in watches {
         rows.push(ChurnRow {
-            peer: watched.key,
+            peer: *watched.key.key(),
             churn: watched.watch.churn(),
         })?;
     }

@@ -60,16 +60,16 @@ impl Line for HistoryRow {
     ghost line = { history_line };
 
     fn prefetch(&self) -> usize {
-        match &self.note.route {
+        match self.route() {
             Some(route) => route.route().as_bytes().len(),
             None => 0,
         }
     }
 
     fn put<W: Sink>(&self, text: &mut TextBuffer, out: &mut W) {
-        let event = (self.note.what, (self.by, self.note.key));
-        text.put(out, (Microseconds(self.time), (self.peer, event)));
-        match &self.note.route {
+        let event = (self.what(), (self.by(), self.key()));
+        text.put(out, (Microseconds(self.time()), (self.peer(), event)));
+        match self.route() {
             Some(route) => put_route(text, out, route.route()),
             None => text.put_text(out, b"|-|-|-|-|-|-|-\n"),
         }

@@ -11,4 +11,4 @@ returns-in-Some g c = λ same.
     let there = c.in-Some.ensures.lookup in
     key_of (watch_in {M = g.row.M.Denot}) c.args.peers.now c.args.at c.in-Some.watched.now there.3.0
     ∙ ap (λ (w : Watched g.row.M.Denot). Some w.key) (sym there.1)
-    ∙ ap (λ (k : PeerKey). Some k) (sym (same_peer c.args.peer.now _ (sym c.is_same_peer.ensures ∙ same)))
+    ∙ ap (λ (k : PeerKey). Some k) (sym c.key.ensures ∙ sym (same_peer c.args.peer.now _ (sym c.is_same_peer.ensures ∙ same)))

@@ -5,7 +5,7 @@ use Rattle.mrt_body.specs.declared.unit.PeerKey.{PeerKey}
 use Rattle.peer_tables.specs.Histories.{PeerWatch}
 use Rattle.peer_tables.specs.Peers.{units_of_peer}
 use Rattle.peer_tables.specs.Watching.{watch_in}
-use Rattle.peer_tables.proofs.WatchLaws.{watch_there, known_stands, within_keys, key_there}
+use Rattle.peer_tables.proofs.WatchLaws.{watch_there, keys_set, known_stands, within_keys, key_there}
 use Rattle.peer_tables.proofs.watches.take_known.Goals as goal
 
 pub returns-clause-stands : goal.returns-clause-stands
@@ -35,3 +35,8 @@ returns-clause-notes g c = λ before are.
     let here : get_or (map see peers) at (see r) ≡ see r = get_or-map see peers at r (see r) within ∙ ap see (sym c.index_mut.ensures.value) in
     let stood = sym (ap (λ (p : PeerWatch). p.watch) here) ∙ watch_there c.args.since c.args.chosen.now before u (map see peers) are at (see r) c.requires in
     c.in_ok-take.ensures.notes (units_of_peer before u.peer) stood
+
+pub returns-clause-keys : goal.returns-clause-keys
+returns-clause-keys g c =
+    let see = watch_in {M = g.row.M.Denot} in
+    keys_set see c.args.peers.now.items c.args.at c.index_mut.result.now _ (ap (λ w. (see w).key) c.index_mut.ensures.value)
