@@ -33,7 +33,7 @@ help:
 	@echo 'make run          replays the sample by `tables`'
 	@echo 'make check        the gate: every proof, must-fail edit, test and run from nothing, make scripts, make quick-check and make python-check'
 	@echo 'make verdict      each crate from nothing, with its tests'
-	@echo 'make scripts      tries lines and statuses, the packages, recipes, shares of the peers, packed dumps, and what the build records and refuses'
+	@echo 'make scripts      tries lines, notes and statuses, the packages, recipes, shares of the peers, packed dumps, and what the build records and refuses'
 	@echo 'make quick-check  builds that program, and tries it'
 	@echo 'make python-check tries the Python package, with pandas and Dask (Debian packages that it installs as root)'
 	@echo 'make refusals     fails each allocation, read, write and thread start in turn'
@@ -98,6 +98,7 @@ python-deb: $(BINARY)
 # Lines and statuses, packages, recipes, what the build records and refuses, and pages that are made: quick.
 scripts: $(BINARY)
 	tests/program.sh '$(BINARY)'
+	tests/notes.sh '$(BINARY)'
 	tests/packaging.sh '$(BINARY)'
 	tests/recipes.sh '$(BINARY)'
 	tests/shares.sh '$(BINARY)'

@@ -16,9 +16,9 @@ passed=0; failed=0
 right() { passed=$((passed + 1)); }
 wrong() { failed=$((failed + 1)); printf 'wrong: %s\n' "$*"; }
 
-# The first line is this one, and further ones begin with two spaces; an empty line stands for nothing at all.
+# The first line is this one, and further ones begin with two spaces; an empty line stands for nothing at all but notes (notes.sh).
 says() { # FILE LINE
-  if [ -z "$2" ]; then [ ! -s "$1" ]; else [ "$(head -n 1 "$1")" = "$2" ] && ! tail -n +2 "$1" | grep -qv '^  '; fi
+  if [ -z "$2" ]; then ! grep -qv '^  note: ' "$1"; else [ "$(head -n 1 "$1")" = "$2" ] && ! tail -n +2 "$1" | grep -qv '^  '; fi
 }
 # A run of words: its status, its first line, and what it writes: nothing, something, or the bytes of a file.
 judge() { # NAME STATUS LINE WRITES HAD
@@ -89,7 +89,7 @@ for words in --help 'tables --help' 'visibility --help' 'origins --help' 'seen -
 done
 for report in tables visibility origins seen churn peers history faults 'match --address 10.0.0.1'; do
   told=$(./bgp_replay ${report%% *} --help | sed -n '/^Columns/,/^[^ C]/s/^  \([a-z_][a-z_]*\) .*/\1/p' | paste -sd '|')
-  if [ "$told" = "$(./bgp_replay $report --header empty)" ]; then right; else wrong "$report --help has the columns $told"; fi
+  if [ "$told" = "$(./bgp_replay $report --header --quiet empty)" ]; then right; else wrong "$report --help has the columns $told"; fi
 done
 
 # 1: damaged
@@ -384,10 +384,10 @@ lists 'tables --until 1970-01-02 --prefix 203.0.113.0/24' "$one_203"
 
 # what isn't MRT is named
 printf 'PK\3\4\24\0\0\0\10\0 and so on' > packed.zip; printf '\375\067zXZ\0\0\4' > packed.xz; printf 'TABLE_DUMP2|1|B|\n' > lines.txt
-try 1 'damaged: 1' nothing tables packed.zip; [ "$(tail -n +2 said)" = '  packed.zip: looks like zip data; try: bgp_replay tables <(unzip -p packed.zip)' ] && right || wrong "zip data: $(tail -n +2 said)"
-INPUT=packed.zip try 1 'damaged: 1' something faults -; [ "$(tail -n +2 said)" = '  standard input: looks like zip data; try: unzip -p FILE | bgp_replay faults -' ] && right || wrong "zip data: $(tail -n +2 said)"
-try 1 'damaged: 1' nothing tables packed.xz; [ "$(tail -n +2 said)" = '  packed.xz: looks like xz data; try: bgp_replay tables <(xzcat packed.xz)' ] && right || wrong "xz data: $(tail -n +2 said)"
-try 1 'damaged: 1' nothing tables lines.txt; [ "$(tail -n +2 said)" = '  lines.txt: looks like text, and not like an MRT dump' ] && right || wrong "text: $(tail -n +2 said)"
+try 1 'damaged: 1' nothing tables packed.zip; [ "$(tail -n +2 said | grep -v "^  note: ")" = '  packed.zip: looks like zip data; try: bgp_replay tables <(unzip -p packed.zip)' ] && right || wrong "zip data: $(tail -n +2 said)"
+INPUT=packed.zip try 1 'damaged: 1' something faults -; [ "$(tail -n +2 said | grep -v "^  note: ")" = '  standard input: looks like zip data; try: unzip -p FILE | bgp_replay faults -' ] && right || wrong "zip data: $(tail -n +2 said)"
+try 1 'damaged: 1' nothing tables packed.xz; [ "$(tail -n +2 said | grep -v "^  note: ")" = '  packed.xz: looks like xz data; try: bgp_replay tables <(xzcat packed.xz)' ] && right || wrong "xz data: $(tail -n +2 said)"
+try 1 'damaged: 1' nothing tables lines.txt; [ "$(tail -n +2 said | grep -v "^  note: ")" = '  lines.txt: looks like text, and not like an MRT dump' ] && right || wrong "text: $(tail -n +2 said)"
 
 # --summary: lines of a key and a value
 summary() { ./bgp_replay "$@" --summary > out 2> said < "${INPUT:-/dev/null}"; }

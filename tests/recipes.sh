@@ -1,7 +1,7 @@
 #!/usr/bin/env bash
 # Runs the commands of README.md, docs/USAGE.md and docs/RECIPES.md and compares what each one writes with what stands below it there: commands stand in
 # indented blocks, behind `$ `, and a block is run by one shell. Its files are those of examples/, under the names that the recipes give them, and are
-# compressed here. Blocks of one page share a directory.
+# compressed here. Blocks of one page share a directory. Notes count only where the page has one below the command.
 #   tests/recipes.sh PROGRAM
 # Needs bash and coreutils; what needs sqlite3, bzip2, gzip or awk is skipped where that isn't installed, and named. The last line is
 # `N passed, M failed`.
@@ -28,7 +28,8 @@ split_page() { # PAGE FOLDER
 # Runs each command of a block, in one shell, into 1.has, 2.has, ..: what it writes, and behind that what it says on standard error.
 run_block() { # FOLDER COUNT
   for ((i = 1; i <= $2; i++)); do
-    printf '{\n%s\n} > %q 2> %q < /dev/null\ncat %q >> %q\n' "$(cat "$1/$i")" "$1/$i.has" "$1/$i.said" "$1/$i.said" "$1/$i.has"
+    left_out='^  note: '; grep -q "$left_out" "$1/$i.out" && left_out='^$'
+    printf '{\n%s\n} > %q 2> %q < /dev/null\ngrep -v %q %q >> %q\n' "$(cat "$1/$i")" "$1/$i.has" "$1/$i.said" "$left_out" "$1/$i.said" "$1/$i.has"
   done > "$1/all"
   timeout 60 bash "$1/all"
 }

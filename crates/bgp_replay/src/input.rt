@@ -208,6 +208,11 @@ impl<'a, D: Read> Dump<'a, D> {
         self.first.kind()
     }
 
+    /// The second of its first record since 1970 UTC, if that was read whole.
+    pub fn first_second(&self) -> Option<u32> {
+        self.first.first_second(self.bytes)
+    }
+
     /// Why it couldn't be read, after a failure.
     pub fn error(&self) -> Option<io::Error> {
         self.error

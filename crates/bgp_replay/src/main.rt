@@ -34,6 +34,7 @@ ghost use Rattle.lane_deal.specs.Plans.{IsPlan};
 mod counts;
 mod input;
 mod lists;
+mod notes;
 mod output;
 mod progress;
 mod telling;
@@ -48,6 +49,7 @@ use lists::listed_prefixes;
 use mrt_body::{ChosenPrefixes, PrefixChoice, Reach, Selection};
 use mrt_frame::Counted;
 use mrt_replay::{run, status};
+use notes::tell_notes;
 use output::{Report, columns};
 use prefix_shelf::Shelf;
 use progress::{Board, Counter, terminal_width};
@@ -369,6 +371,9 @@ fn replay_job(rt: &HostRuntime, threads: &(impl Threads + Sync), job: &Job) -> u
         board.clear();
     }
     tell(rt, &outcome, &job.request, inputs.as_slice(), &out);
+    if let (Ok(summary), false) = (&outcome, job.quiet) {
+        tell_notes(rt, summary, inputs.as_slice());
+    }
     if job.summary {
         let elapsed = since(rt, start);
         tell_summary(

@@ -255,6 +255,7 @@ fn tell_counts(rt: &HostRuntime, summary: &Summary) {
         rounds,
         peers,
         routes,
+        ..
     } = *summary;
     let _ = eprintln!(rt; "records: {records}\nunits: {units}\naside: {aside}");
     if damaged == 0 {

@@ -2,7 +2,12 @@
 
 ghost use Rattle.std.specs.Prelude.{◌≤◌};
 
-/// How many of the first bytes are examined.
+use mrt_frame::{HEADER_SIZE, Header, is_within_limits};
+
+/// How many of the first bytes are kept: those of a record's header.
+const KEPT: usize = HEADER_SIZE as usize;
+
+/// How many of them are examined for what they look like.
 const LOOKED_AT: usize = 8;
 
 /// A kind of data that is mistaken for a dump.
@@ -41,15 +46,15 @@ impl Kind {
 /// The first bytes of a file, as far as they have been read.
 #[derive(Clone, Copy)]
 pub struct FirstBytes {
-    bytes: [u8; LOOKED_AT],
+    bytes: [u8; KEPT],
     len: usize,
-    ghost within: { len ≤ 8 },
+    ghost within: { len ≤ 12 },
 }
 
 impl FirstBytes {
     pub fn new() -> FirstBytes {
         FirstBytes {
-            bytes: [0; LOOKED_AT],
+            bytes: [0; KEPT],
             len: 0,
         }
     }
@@ -57,7 +62,7 @@ impl FirstBytes {
     /// Takes the next bytes that were read.
     pub fn take(&mut self, bytes: &[u8]) {
         for byte in bytes {
-            if self.len >= LOOKED_AT {
+            if self.len >= KEPT {
                 return;
             }
             self.bytes[self.len] = *byte;
@@ -65,10 +70,23 @@ impl FirstBytes {
         }
     }
 
+    /// Returns the second of the first record since 1970 UTC, if so many bytes hold all of it.
+    pub fn first_second(&self, bytes: u64) -> Option<u32> {
+        if self.len < KEPT {
+            return None;
+        }
+        let header = Header::parse(&self.bytes);
+        let whole = u64::from(HEADER_SIZE).saturating_add(u64::from(header.length));
+        if !is_within_limits(0, header.length) || bytes < whole {
+            return None;
+        }
+        Some(header.seconds)
+    }
+
     /// Returns what they look like, if that is not an MRT dump: in a dump, the first four bytes are a second of
     /// its time, and the fifth is 0.
     pub fn kind(&self) -> Option<Kind> {
-        match &self.bytes[..self.len] {
+        match &self.bytes[..self.len.min(LOOKED_AT)] {
             [0xfd, b'7', b'z', b'X', b'Z', 0, ..] => Some(Kind::Xz),
             [0x28, 0xb5, 0x2f, 0xfd, ..] => Some(Kind::Zstd),
             [b'P', b'K', 3, 4, ..] => Some(Kind::Zip),

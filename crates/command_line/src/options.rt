@@ -50,7 +50,7 @@ pub struct CommandRow {
     pub examples: &'static [&'static str],
 }
 
-pub static OPTIONS: [OptionRow; 13] = [
+pub static OPTIONS: [OptionRow; 14] = [
     OptionRow {
         name: "address",
         value: "A",
@@ -160,6 +160,16 @@ pub static OPTIONS: [OptionRow; 13] = [
         commands: "",
         is_required: false,
         meaning: "Show on standard error how far the reading is",
+    },
+    OptionRow {
+        name: "quiet",
+        value: "",
+        takes: Takes::Nothing,
+        default: "",
+        offered: "",
+        commands: "",
+        is_required: false,
+        meaning: "Leave out the notes on standard error. They tell of dumps that are likely not what was meant, as files in another order",
     },
     OptionRow {
         name: "workers",

@@ -48,6 +48,8 @@ pub struct Job {
     pub summary: bool,
     /// Whether standard error shows the reading progress.
     pub progress: bool,
+    /// Whether nothing is remarked about the dumps.
+    pub quiet: bool,
     /// At least one; `-` is standard input.
     pub files: Vec<String>,
     ghost workers_in: { (1 ≤ workers) × (workers ≤ 64) },
@@ -299,6 +301,7 @@ fn job_of(alloc: Global, name: &str, matches: &ArgMatches<'_>) -> Result<Job, Us
         header: matches.get_flag("header"),
         summary: matches.get_flag("summary"),
         progress: matches.get_flag("progress"),
+        quiet: matches.get_flag("quiet"),
         files,
     })
 }

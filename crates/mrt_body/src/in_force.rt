@@ -70,6 +70,11 @@ impl Index {
         Ok(())
     }
 
+    /// How many peers the index table has, and the entries of the last record that are selected.
+    pub(crate) fn listed(&self) -> (usize, &[ListedEntry]) {
+        (self.peers.len(), self.list.as_slice())
+    }
+
     /// Skips what is still to be returned.
     fn leave_out(&mut self)
         ensures { self.new ≡ without_pending self.old }

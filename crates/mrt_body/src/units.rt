@@ -13,6 +13,7 @@ use crate::at::RecordAt;
 use crate::content::{content_of, is_extended};
 use crate::in_force::Index;
 use crate::lent::LentUnit;
+use crate::remarks::{Remarker, Remarks};
 use crate::selection::Selection;
 use crate::session_unit::SessionUnit;
 use crate::standing::Standing;
@@ -40,6 +41,7 @@ pub struct Units {
     records: u64,
     aside: u64,
     standing: Standing,
+    remarker: Remarker,
 }
 
 impl Model for Units {
@@ -87,6 +89,7 @@ impl Units {
             records: 0,
             aside: 0,
             standing: Standing::Going,
+            remarker: Remarker::new(),
         }
     }
 
@@ -109,6 +112,11 @@ impl Units {
         ensures { result ≡ self.now.aside }
     {
         self.aside
+    }
+
+    /// What is remarkable about the records that were cut. No unit depends on it.
+    pub fn remarks(&self) -> Remarks {
+        *self.remarker.remarks()
     }
 
     /// Returns what comes next: a unit, a record that is refused, or `None` at the end of the last file.
@@ -354,6 +362,8 @@ impl Units {
                     return Err(ReplayError::Records);
                 }
                 self.records += 1;
+                self.remarker
+                    .see_record(self.file, record.kind, record.subtype);
                 Ok(Some(Cut::Whole(record)))
             }
             Ok(end) => {

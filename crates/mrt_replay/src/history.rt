@@ -8,7 +8,7 @@ ghost use Rattle.mrt_replay.specs.Tellings.{IsHistoryOf, watch_faults, watch_rou
 use crate::told::{Told, tell};
 use adj_rib::SharedRoute;
 use bgp_prefix::PrefixMap;
-use mrt_body::{Selection, Units};
+use mrt_body::{Remarks, Selection, Units};
 use mrt_frame::{ReplayError, Source};
 use peer_tables::{Listing, Watched};
 use std::alloc::Global;
@@ -19,6 +19,7 @@ pub struct History<M: PrefixMap<SharedRoute>> {
     pub told: Told<M>,
     pub records: u64,
     pub aside: u64,
+    pub remarks: Remarks,
 }
 
 /// Replays the files in order into the rows of what happened to chosen prefixes.
@@ -53,6 +54,7 @@ where
         told,
         records: units.records(),
         aside: units.aside(),
+        remarks: units.remarks(),
     })
 }
 

@@ -16,10 +16,12 @@
 #![tactic(auto)]
 
 mod history;
+mod idle;
 mod replay;
 mod replayed;
 mod summary;
 mod told;
 
+pub use idle::Idle;
 pub use replay::run;
 pub use summary::{Summary, status};

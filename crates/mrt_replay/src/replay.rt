@@ -10,6 +10,7 @@ ghost use Rattle.mrt_replay.specs.Headline.{IsPromised};
 ghost use Rattle.mrt_replay.specs.Reports.{counting_of, lines_of, listed_by, listing_of, told_lines};
 
 use crate::history::{count_faults, count_routes, list_history};
+use crate::idle::{idle_of_tables, idle_of_watches};
 use crate::replayed::replay;
 use crate::summary::Summary;
 use crate::told::Told;
@@ -180,6 +181,8 @@ where
         rounds: replayed.rounds,
         peers: replayed.tables.peers(),
         routes: replayed.tables.routes(),
+        idle: idle_of_tables(&replayed.tables),
+        remarks: replayed.remarks,
     };
     // Tables aren't taken apart route by route, since the process ends after the run (docs/DECISIONS.md).
     mem::forget(replayed);
@@ -241,6 +244,8 @@ where
         rounds: 0,
         peers: watches.len(),
         routes: count_routes(watches),
+        idle: idle_of_watches(watches),
+        remarks: history.remarks,
     };
     mem::forget(history);
     Ok(summary)

@@ -11,7 +11,7 @@ ghost use Rattle.mrt_replay.specs.Replays.{HasPlayed, IsReplayOf, StopsFiles, St
 use adj_rib::SharedRoute;
 use bgp_prefix::PrefixMap;
 use lane_deal::{Dealing, Gate, Plan, Replayer, Step};
-use mrt_body::{Selection, Units};
+use mrt_body::{Remarks, Selection, Units};
 use mrt_frame::{ReplayError, Source};
 use rib_report::Tables;
 use std::alloc::Global;
@@ -26,6 +26,7 @@ pub struct Replayed<M: PrefixMap<SharedRoute>> {
     pub units: u64,
     pub aside: u64,
     pub rounds: u64,
+    pub remarks: Remarks,
 }
 
 fn is_end(step: Step) -> bool
@@ -132,5 +133,6 @@ where
         units: dealt,
         aside: units.aside(),
         rounds,
+        remarks: units.remarks(),
     })
 }

@@ -1,9 +1,11 @@
 ghost use Rattle.std.specs.Prelude.{◌≡◌, ◌==◌, Ok, Err, if◌then◌else◌};
 ghost use Rattle.mrt_replay.specs.Statuses.{status_of};
 
+use crate::idle::Idle;
+use mrt_body::Remarks;
 use mrt_frame::ReplayError;
 
-/// What a replay counted.
+/// What a replay counted. Nothing is proved of `idle` and `remarks`, from which notes are made.
 #[derive(Clone, Copy, Debug, PartialEq, Eq)]
 pub struct Summary {
     /// Whole records that were cut.
@@ -20,6 +22,10 @@ pub struct Summary {
     pub peers: usize,
     /// Routes in the tables at the end.
     pub routes: u64,
+    /// Units of peers that weren't up.
+    pub idle: Idle,
+    /// What is remarkable about the records.
+    pub remarks: Remarks,
 }
 
 /// Returns the program's exit status after a run: 0 if the dumps are whole, 1 if damaged records were

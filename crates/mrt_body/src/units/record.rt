@@ -44,7 +44,7 @@ impl Units {
     {
         match content {
             Content::IndexTable => self.take_index(alloc, at, body.as_slice()),
-            Content::Rib { add_path } => self.take_rib(at, add_path, body),
+            Content::Rib { add_path } => self.take_rib(alloc, at, add_path, body),
             Content::Message { width, add_path } => {
                 let unit = message_unit(at, is_extended, width, add_path, body);
                 self.found(alloc, at, unit)
@@ -139,6 +139,7 @@ impl Units {
         ensures plan { KeepsPlan self.old self.new }
     {
         self.index = None;
+        self.remarker.see_index();
         match peers_in(alloc, body) {
             Ok(peers) => {
                 self.index = Some(Index::new(alloc, peers));
@@ -155,6 +156,7 @@ impl Units {
     /// Reads a RIB record against the index in force. The entries that are selected are to be returned.
     fn take_rib(
         &mut self,
+        alloc: Global,
         at: RecordAt,
         add_path: bool,
         body: Sequence<u8>,
@@ -173,7 +175,13 @@ impl Units {
             return Ok(Some(refused(at, Fault::NoPeerIndex)));
         };
         match index.read(at, add_path, body, &self.selection) {
-            Ok(()) => Ok(None),
+            Ok(()) => {
+                let is_past = self.selection.is_past(at.time(0));
+                let (peers, entries) = index.listed();
+                self.remarker
+                    .see_rib(alloc, at.file, is_past, add_path, peers, entries);
+                Ok(None)
+            }
             Err(AttrError::Bad(fault)) => Ok(Some(refused(at, fault))),
             Err(AttrError::Memory) => {
                 self.standing = Standing::Spent;

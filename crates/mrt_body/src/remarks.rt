@@ -1,0 +1,152 @@
+//! What is remarkable about the records of files, beside the units that they give. It changes none of these, and nothing
+//! is proved of it but that it is safe to look for.
+
+use crate::rib::ListedEntry;
+use std::alloc::Global;
+
+/// The most files that are told by their numbers.
+const MOST_FILES: usize = 5;
+
+/// How many records are alike, and in which files they are.
+#[derive(Clone, Copy, Debug, PartialEq, Eq)]
+pub struct Marked {
+    records: u64,
+    files: usize,
+    first: [usize; MOST_FILES],
+    last: Option<usize>,
+}
+
+impl Marked {
+    fn new() -> Marked {
+        Marked {
+            records: 0,
+            files: 0,
+            first: [0; MOST_FILES],
+            last: None,
+        }
+    }
+
+    /// How many records there are.
+    pub fn records(&self) -> u64 {
+        self.records
+    }
+
+    /// How many files have one.
+    pub fn files(&self) -> usize {
+        self.files
+    }
+
+    /// The first five of these files, numbered from 0, or all if there are fewer.
+    pub fn first_files(&self) -> &[usize] {
+        &self.first[..self.files.min(MOST_FILES)]
+    }
+
+    /// Counts a record of this file. Those of a file come one after the other.
+    fn add(&mut self, file: usize) {
+        self.records = self.records.saturating_add(1);
+        if self.last == Some(file) {
+            return;
+        }
+        self.last = Some(file);
+        if let Some(place) = self.first.get_mut(self.files) {
+            *place = file;
+        }
+        self.files = self.files.saturating_add(1);
+    }
+}
+
+/// What is remarkable about the records of files.
+#[derive(Clone, Copy, Debug, PartialEq, Eq)]
+pub struct Remarks {
+    /// RIB records of IPv4 unicast routes that were read (RFC 6396, 4.3.2; RFC 8050, 4).
+    pub ribs: u64,
+    /// RIB records of IPv6 unicast routes, which are set aside.
+    pub other_family: Marked,
+    /// RIB dumps: RIB records that are the first ones behind an index table, and aren't past the last second.
+    pub dumps: Marked,
+    /// RIB records without path identifiers of which two entries are one peer's.
+    pub repeats: Marked,
+}
+
+/// Looks at records for what is remarkable.
+#[derive(Drop)]
+pub(crate) struct Remarker {
+    remarks: Remarks,
+    /// Whether a RIB record of the index table in force was seen.
+    is_dump_begun: bool,
+    /// For each number of a peer, the number of the RIB record that named it last.
+    named_by: Option<Vec<u64>>,
+}
+
+impl Remarker {
+    pub(crate) fn new() -> Remarker {
+        Remarker {
+            remarks: Remarks {
+                ribs: 0,
+                other_family: Marked::new(),
+                dumps: Marked::new(),
+                repeats: Marked::new(),
+            },
+            is_dump_begun: false,
+            named_by: None,
+        }
+    }
+
+    /// What was remarkable so far.
+    pub(crate) fn remarks(&self) -> &Remarks {
+        &self.remarks
+    }
+
+    /// Takes note of an index table.
+    pub(crate) fn see_index(&mut self) {
+        self.is_dump_begun = false;
+    }
+
+    /// Takes note of a record of this type and subtype.
+    pub(crate) fn see_record(&mut self, file: usize, kind: u16, subtype: u16) {
+        if kind == 13 && (subtype == 4 || subtype == 10) {
+            self.remarks.other_family.add(file);
+        }
+    }
+
+    /// Takes note of a RIB record with these entries, against an index table of this many peers, and whether it is past
+    /// the last second.
+    pub(crate) fn see_rib(
+        &mut self,
+        alloc: Global,
+        file: usize,
+        is_past: bool,
+        add_path: bool,
+        peers: usize,
+        entries: &[ListedEntry],
+    ) {
+        self.remarks.ribs = self.remarks.ribs.saturating_add(1);
+        if !self.is_dump_begun && !is_past {
+            self.is_dump_begun = true;
+            self.remarks.dumps.add(file);
+        }
+        if !add_path && self.names_twice(alloc, peers, entries) {
+            self.remarks.repeats.add(file);
+        }
+    }
+
+    /// Whether two of the entries are one peer's. Without memory none are said to be.
+    fn names_twice(&mut self, alloc: Global, peers: usize, entries: &[ListedEntry]) -> bool {
+        let record = self.remarks.ribs;
+        let named_by = match &mut self.named_by {
+            Some(named_by) => named_by,
+            None => self.named_by.insert(Vec::new(alloc)),
+        };
+        if named_by.len() < peers && named_by.resize(peers, 0).is_err() {
+            return false;
+        }
+        let mut is_twice = false;
+        for entry in entries {
+            if let Some(last) = named_by.get_mut(entry.peer as usize) {
+                is_twice |= *last == record;
+                *last = record;
+            }
+        }
+        is_twice
+    }
+}

@@ -1,0 +1,121 @@
+#!/usr/bin/env bash
+# Tries the notes on standard error, on the program as it is built: each one where its reason is, its absence where it isn't, five names at most, none
+# with --quiet, the same report and status with and without. What a note says is told here by what the dump was made of.
+#   tests/notes.sh PROGRAM
+# Needs bash and coreutils. The last line is `N passed, M failed`.
+set -u
+program=$(realpath "$1"); work=$(mktemp -d); trap 'rm -rf "$work"' EXIT
+cd "$work" && ln -s "$program" bgp_replay || exit 2
+passed=0; failed=0
+right() { passed=$((passed + 1)); }
+wrong() { failed=$((failed + 1)); printf 'wrong: %s\n' "$*"; }
+bytes() { printf '%b' "$(printf '%s' "$*" | tr -d ' ' | sed 's/../\\x&/g')"; }
+
+# ---- records: RFC 6396 (4.3, 4.4) and RFC 4271 (4.3)
+marker=FFFFFFFFFFFFFFFFFFFFFFFFFFFFFFFF
+attributes=4001010040020602010000FDE8400304C0000201
+session() { printf '0000FDE8 0000FDE9 0000 0001 %s C0000263' "$1"; }
+update() { bytes "$1" 0010 0004 00000041 "$(session "$2")" $marker 002D 02 0000 0014 $attributes 080A; } # SECOND PEER, of 10.0.0.0/8
+states() { bytes "$1" 0010 0005 00000018 "$(session "$2")" "$3" "$4"; } # SECOND PEER OLD NEW
+index() { bytes "$1" 000D 0001 0000001E C0000263 0000 0002 00 C0000201 C0000201 FDE8 00 C0000202 C0000202 FDE8; } # SECOND: two peers
+# SECOND SUBTYPE PEER PEER: a RIB record of 10.0.0.0/8 with two entries; with path identifiers 1 and 2 where the subtype is 0008
+rib() {
+  local first= second= size=00000040; [ "$2" = 0008 ] && first=00000001 second=00000002 size=00000048
+  bytes "$1" 000D "$2" $size 00000000 080A 0002 "$3" 00000000 $first 0014 $attributes "$4" 00000000 $second 0014 $attributes
+}
+rib6() { bytes "$1" 000D "$2" 0000000B 00000000 20 20010DB8 0000; } # SECOND SUBTYPE: of 2001:db8::/32, no entry
+
+run() { ./bgp_replay "$@" > out 2> said; status=$?; }
+# The notes of a run are these lines, in this order; with --quiet there are none, and all else is the same.
+notes() { # NAME STATUS NOTES WORDS..
+  local name=$1 wanted=$2 lines=$3; shift 3
+  run "$@"
+  if [ "$(grep '^  note: ' said)" = "$lines" ]; then right; else wrong "$name: $(grep '^  note: ' said)"; fi
+  if [ $status = "$wanted" ]; then right; else wrong "$name: status $status"; fi
+  cp out report; grep -v '^  note: ' said > others
+  run "$@" --quiet
+  if cmp -s out report && cmp -s said others && [ $status = "$wanted" ]; then right; else wrong "$name with --quiet: $(cat said)"; fi
+}
+idle='units that changed nothing, since their peer wasn'"'"'t up'
+takes='--states established takes them'
+empty='files without a whole record'
+early='files whose first record is older than that of the file named before'
+dumps='RIB dumps that add up in the tables, where routes of a former one stay'
+twice='RIB records without path identifiers that name a peer twice'
+
+# ---- none
+update 00000001 C0000201 > whole
+{ index 00000001; rib 00000001 0002 0000 0001; rib 00000001 0002 0001 0000; rib6 00000001 0004; } > table
+for report in tables visibility origins seen churn peers history faults 'match --address 10.0.0.1' 'tables --prefix 10.0.0.0/8' 'churn --since 1'; do
+  notes "$report" 0 '' $report whole table
+done
+
+# ---- units of peers that weren't up: what FRR writes of a connection that lost
+{ states 00000001 C0000201 0005 0006; states 00000001 C0000201 0003 0008; update 00000002 C0000201; update 00000003 C0000201; } > lost
+for report in tables churn peers history faults 'churn --since 0' 'tables --prefix 10.0.0.0/8'; do
+  notes "idle: $report" 0 "  note: $idle: 2, of 65000 192.0.2.1 (2); $takes" $report lost
+done
+notes 'idle, not of another prefix' 0 '' tables --prefix 11.0.0.0/8 lost
+notes 'idle, not before a second' 0 "  note: $idle: 1, of 65000 192.0.2.1 (1); $takes" churn --since 3 lost
+for peer in 1 2 3 4 5 6 7; do states 00000001 C000020$peer 0006 0001; update 00000002 C000020$peer; done > seven
+named=; for peer in 1 2 3 4 5; do named+="${named:+, }65000 192.0.2.$peer (1)"; done
+for workers in 1 3; do notes "idle peers by $workers" 0 "  note: $idle: 7, of $named and 2 more; $takes" tables --workers $workers seven; done
+# A damaged unit is no idle one, and neither is a state change.
+{ states 00000001 C0000201 0006 0001; states 00000001 C0000201 0001 0002; } > down; notes 'down' 0 '' tables down
+# The address of a peer over IPv6 (RFC 6396, 4.4.2: AFI 2) is written in full, as in reports.
+v6=20010DB8000000000000000000000001
+session6="0000FDE8 0000FDE9 0000 0002 $v6 $v6"
+{ bytes 00000001 0010 0005 00000030 $session6 0006 0001; bytes 00000002 0010 0004 00000059 $session6 $marker 002D 02 0000 0014 $attributes 080A; } > over6
+notes 'idle over IPv6' 0 "  note: $idle: 1, of 65000 2001:0db8:0000:0000:0000:0000:0000:0001 (1); $takes" tables over6
+
+# ---- records of the other family alone
+{ index 00000001; rib6 00000001 0004; rib6 00000001 000A; } > six
+notes 'IPv6 alone' 0 '  note: no RIB record of IPv4 routes, and 2 of IPv6 routes, which aren'"'"'t read: six' tables six
+notes 'IPv6 beside messages' 0 '  note: no RIB record of IPv4 routes, and 4 of IPv6 routes, which aren'"'"'t read: six, six' tables six whole six
+notes 'both families' 0 '' tables table six --until 0
+{ index 00000001; bytes 00000001 000D 0006 00000000; } > generic; notes 'neither family' 0 '' tables generic
+
+# ---- files without a whole record
+: > none; head -c 20 whole > part; head -c 5 whole > stump; bytes 00000001 0010 0004 FFFFFFFF > long
+notes 'no record' 0 "  note: $empty: none" tables none
+notes 'no record in some' 1 "  note: $empty: part, stump, long" tables whole part stump long
+notes 'no record in one of two' 0 "  note: $empty: none" tables none whole
+notes 'no record in seven' 0 "  note: $empty: none, none, none, none, none and 2 more" tables none none none none none none none
+cp none 'a file'; notes 'quoted' 0 "  note: $empty: \"a file\"" tables 'a file'
+run tables - < none; [ "$(cat said)" = "  note: $empty: standard input" ] && right || wrong "standard input: $(cat said)"
+gzip -c none > none.gz; notes 'packed' 0 "  note: $empty: none.gz" tables none.gz
+
+# ---- files that are out of order
+update 00000005 C0000201 > fifth; update 00000009 C0000201 > ninth
+notes 'in order' 0 '' tables whole fifth fifth ninth
+notes 'out of order' 0 "  note: $early: fifth" tables ninth fifth ninth
+notes 'each that is out of order' 0 "  note: $early: fifth, whole" tables ninth fifth whole ninth
+notes 'not behind a file without a record' 0 "  note: $empty: none" tables ninth none fifth
+
+# ---- a second RIB dump
+{ index 00000001; rib 00000001 0002 0000 0001; rib 00000001 0002 0000 0001; } > first
+{ index 00000002; rib 00000002 0002 0000 0001; } > second
+notes 'one dump' 0 '' tables first
+notes 'two dumps' 0 "  note: $dumps: 2, in first, second" tables first second
+cat first second second > three; notes 'three dumps in a file' 0 "  note: $dumps: 3, in three" tables three
+notes 'not past the last second' 0 '' tables --until 1 first second
+{ cat first; index 00000002; } > bare; notes 'an index table alone' 0 '' tables bare
+{ cat first; index 00000002; rib6 00000002 0004; } > mixed; notes 'of the other family' 0 '' tables mixed
+
+# ---- a peer twice in a record
+{ index 00000001; rib 00000001 0002 0001 0001; rib 00000001 0002 0000 0001; rib 00000001 0002 0000 0000; } > repeated
+notes 'a peer twice' 0 "  note: $twice: 2, in repeated" tables repeated
+{ index 00000001; rib 00000001 0008 0001 0001; } > paths; notes 'by two paths' 0 '' tables paths
+{ index 00000001; rib 00000001 0002 0001 0000; } > falling; notes 'in falling order' 0 '' tables falling
+
+# ---- several, in the order of the manual; and none where the run fails
+notes 'several' 0 "  note: $idle: 8, of 65000 192.0.2.1 (8); $takes
+  note: $empty: none
+  note: $early: first
+  note: $dumps: 2, in first, repeated
+  note: $twice: 2, in repeated" tables lost none ninth first repeated
+mkdir folder; run tables folder; grep -q '^  note: ' said && wrong 'a note beside a failure' || right
+run tables whole missing; grep -q '^  note: ' said && wrong 'a note beside a file that is missing' || right
+
+echo "$passed passed, $failed failed"
+[ $failed = 0 ]
