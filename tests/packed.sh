@@ -50,6 +50,13 @@ has python3 && pack python.gz python3 -c 'import sys, zlib
 packer = zlib.compressobj(9, zlib.DEFLATED, 31, 1, zlib.Z_FIXED)
 sys.stdout.buffer.write(packer.compress(sys.stdin.buffer.read()) + packer.flush())'
 
+# long runs take no memory: 100,000,000 zeros, in blocks of 46 MB
+if has bzip2; then
+  head -c 100000000 /dev/zero | bzip2 -9c > runs.bz2
+  "$program" churn --workers 1 --summary runs.bz2 > out 2> said; peak=$(sed -n 's/^peak_kib: //p' said)
+  if [ "$(sed -n 's/^bytes: //p' said)" = 100000000 ] && [ "$peak" -lt 32000 ]; then right; else wrong "long runs: peak $peak KiB, $(head -c 200 said)"; fi
+fi
+
 # what is wrong is told, and the next file is read
 told() { # NAME STATUS LINE WORDS..: the status, and that this line is said
   local name=$1 status=$2 line=$3; shift 3

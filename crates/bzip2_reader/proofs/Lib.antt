@@ -1,3 +1,4 @@
 pub mod BitLaws
 pub mod ChecksumLaws
 pub mod LinkLaws
+pub mod RunLaws

@@ -4,4 +4,5 @@ pub mod Endings
 pub mod Fronts
 pub mod Links
 pub mod Reading
+pub mod Runs
 pub mod Windows

@@ -4,6 +4,7 @@ use Rattle.bzip2_reader.specs.declared.fault.Damage.{Damage}
 use Rattle.bzip2_reader.specs.declared.phase.Phase.TheVariants.{Open, Ended, Broken}
 use Rattle.bzip2_reader.specs.declared.reader.Bunzip.{Bunzip}
 use Rattle.bzip2_reader.specs.Endings.{agrees}
+use Rattle.bzip2_reader.specs.Runs.{count_written, written}
 
 -- what ended the bytes, if it was not the end of the last stream
 abbrev pub damage_of : {D : Type 0} → Bunzip D → Option Damage
@@ -31,4 +32,7 @@ IsOpen b = (b.ending.phase ≡ Open) × (damage_of b ≡ None)
 
 -- so many bytes in front of the buffer are the last of those given of a block, whose bytes have the checksum that it names
 abbrev pub Gives : {D : Type 0} → Bunzip D → ℕ → List ℕ → Type 0
-Gives b n buffer = (n ≤ b.streams.given) × (take n buffer ≡ take n (drop (b.streams.given - n) b.streams.block.bytes.items))
+Gives b n buffer =
+    let block = b.streams.block in
+    let given = count_written block.text.items block.runs in
+    (n ≤ given) × (take n buffer ≡ take n (drop (given - n) (written block.text.items)))

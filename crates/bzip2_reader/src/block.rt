@@ -1,7 +1,8 @@
 // One block.
-ghost use Rattle.std.specs.Prelude.{◌≡◌, ◌<◌, ◌≤◌, ◌+◌, ◌*◌, ◌^◌, ℕ, length, IfOk, vec_len};
+ghost use Rattle.std.specs.Prelude.{◌≡◌, ◌<◌, ◌≤◌, ◌+◌, ◌*◌, ◌^◌, ℕ, length, take, drop, IfOk, vec_len};
 ghost use Rattle.bzip2_reader.specs.Bits.{bits_at};
 ghost use Rattle.bzip2_reader.specs.Checksums.{checksum_of};
+ghost use Rattle.bzip2_reader.specs.Runs.{IsSettled, IsWithin, count_written, written};
 
 use crate::bits::Cursor;
 use crate::checksum::Checksums;
@@ -9,8 +10,9 @@ use crate::codes::{Codes, read_codes, read_selectors};
 use crate::fault::{BlockFault, Cause};
 use crate::scan::MAGIC;
 use crate::symbols::{decode_symbols, read_used};
-use crate::transform::{expand, link};
-use std::alloc::{AllocError, Global};
+use crate::runs::Runs;
+use crate::transform::link;
+use std::alloc::Global;
 
 /// The most bytes of a block before its runs are written out.
 pub(crate) const MOST_SIZE: usize = 900_000;
@@ -118,40 +120,91 @@ pub(crate) fn read_text(
     })
 }
 
-/// The bytes of a block, whose checksum is the one that the block names.
+/// How many bytes the checksum is made of at a time.
+const PIECE: usize = 4096;
+
+/// Returns the checksum of what a text says.
+fn checksum_of(text: &[u8], sums: &Checksums) -> u32
+    ensures { result ≡ checksum_of (written text.now) }
+{
+    let mut piece = [0u8; PIECE];
+    let mut runs = Runs::new();
+    let mut register = Checksums::START;
+    loop {
+        let count = runs.write(text, &mut piece);
+        register = sums.update(register, &piece[..count]);
+        if count < PIECE {
+            return Checksums::end(register);
+        }
+    }
+}
+
+/// A block whose bytes have the checksum that it names. They are written out as they are given: those of long runs take
+/// no memory.
 #[derive(Drop)]
 pub(crate) struct Block {
-    pub(crate) bytes: Vec<u8>,
+    text: Vec<u8>,
     pub(crate) checksum: u32,
-    ghost checked: { checksum ≡ checksum_of bytes.items },
+    /// How far it was given.
+    runs: Runs,
+    ghost checked: { checksum ≡ checksum_of (written text.items) },
+    ghost settled: { IsSettled text.items runs },
+    ghost within: { IsWithin text.items runs },
 }
 
 impl Block {
     /// No bytes.
     pub(crate) fn new(alloc: Global) -> Block {
         Block {
-            bytes: Vec::new(alloc),
+            text: Vec::new(alloc),
             checksum: 0,
+            runs: Runs::new(),
         }
     }
 
-    /// Writes the runs out, in place of the bytes before, if that gives the bytes that the block's checksum is of.
-    pub(crate) fn write_out(
+    /// Takes this text, in the memory of the one before, if the block's checksum is that of what the text says.
+    pub(crate) fn take(
         raw: &[u8],
         checksum: u32,
         sums: &Checksums,
-        mut bytes: Vec<u8>,
+        mut text: Vec<u8>,
     ) -> Result<Block, Cause>
         ensures named { IfOk result (λ b. b.checksum ≡ checksum) }
-        ensures bound { IfOk result (λ b. vec_len b.bytes ≤ 52 * length raw.now) }
+        ensures text { IfOk result (λ b. b.text.items ≡ raw.now) }
     {
-        bytes.clear();
-        if expand(raw, &mut bytes).is_err() {
+        text.clear();
+        if text.extend_from_slice(raw).is_err() {
             return Err(Cause::Memory);
         }
-        if sums.of(bytes.as_slice()) != checksum {
+        if checksum_of(text.as_slice(), sums) != checksum {
             return Err(Cause::Block(BlockFault::BadChecksum));
         }
-        Ok(Block { bytes, checksum })
+        Ok(Block {
+            text,
+            checksum,
+            runs: Runs::new(),
+        })
+    }
+
+    /// Takes out the memory of the text.
+    pub(crate) fn into_text(self) -> Vec<u8> {
+        self.text
+    }
+
+    /// Whether all bytes were given.
+    pub(crate) fn is_given(&self) -> bool {
+        self.runs.is_done(self.text.as_slice())
+    }
+
+    /// Gives the next bytes, or as many of them as there is room for.
+    pub(crate) fn give(&mut self, buf: &mut [u8]) -> usize
+        ensures bound { result ≤ length buf.new }
+        ensures bytes { take result buf.new
+            ≡ take result (drop (count_written self.old.text.items self.old.runs) (written self.old.text.items)) }
+        ensures count { count_written self.new.text.items self.new.runs
+            ≡ count_written self.old.text.items self.old.runs + result }
+        ensures same { (self.new.text ≡ self.old.text) × (self.new.checksum ≡ self.old.checksum) }
+    {
+        self.runs.write(self.text.as_slice(), buf)
     }
 }

@@ -1,6 +1,6 @@
 // The checksum of a block's bytes: CRC-32, most significant bit first, eight bytes at a time.
 ghost use Rattle.std.specs.Prelude.{◌≡◌, ◌⊎◌, ℕ, ◌+◌, ◌-◌, ◌*◌, ◌^◌, ◌<◌, ◌≤◌, length, bit_xor};
-ghost use Rattle.bzip2_reader.specs.Checksums.{IsTable, checksum_of, crc, crc_bits};
+ghost use Rattle.bzip2_reader.specs.Checksums.{IsTable, crc, crc_bits};
 
 use byteorder::{BigEndian, ByteOrder};
 
@@ -18,6 +18,9 @@ pub(crate) struct Checksums {
 }
 
 impl Checksums {
+    /// The register before the first byte.
+    pub(crate) const START: u32 = 0xFFFF_FFFF;
+
     pub(crate) fn new() -> Checksums {
         let mut tables = [0u32; 2048];
         fill(&mut tables);
@@ -56,7 +59,7 @@ impl Checksums {
     }
 
     /// The register after these bytes.
-    fn update(&self, register: u32, bytes: &[u8]) -> u32
+    pub(crate) fn update(&self, register: u32, bytes: &[u8]) -> u32
         ensures { result ≡ crc register bytes.now }
     {
         let mut value = register;
@@ -72,11 +75,11 @@ impl Checksums {
         value
     }
 
-    /// The checksum of a block's bytes.
-    pub(crate) fn of(&self, bytes: &[u8]) -> u32
-        ensures { result ≡ checksum_of bytes.now }
+    /// The checksum of all bytes, by the register after them.
+    pub(crate) fn end(register: u32) -> u32
+        ensures { result ≡ 2 ^ 32 - 1 - register }
     {
-        !self.update(0xFFFF_FFFF, bytes)
+        !register
     }
 }
 
