@@ -3,6 +3,7 @@
 mod devices;
 mod lent;
 mod lines;
+mod remarks;
 mod rows;
 mod sizes;
 
