@@ -9,6 +9,7 @@ _bgp_replay() {
   done
   COMPREPLY=()
   case $before in
+    --states) mapfile -t COMPREPLY < <(compgen -W 'recorded established' -- "$word"); return;;
     --workers) mapfile -t COMPREPLY < <(compgen -W '1 2 4 8 16 32 64' -- "$word"); return;;
     --ring) mapfile -t COMPREPLY < <(compgen -W '1 64 1024 65536' -- "$word"); return;;
     --address|--prefix|--peer|--peers|--until|--since) return;;
@@ -16,7 +17,7 @@ _bgp_replay() {
   if [[ -z $command ]]; then
     mapfile -t COMPREPLY < <(compgen -W "$commands help --help --version" -- "$word")
   elif [[ $word == -* ]]; then
-    local options='--prefix --prefixes --peer --peers --until --header --summary --progress --quiet --workers --ring --help --version'
+    local options='--prefix --prefixes --peer --peers --until --states --header --summary --progress --quiet --workers --ring --help --version'
     case $command in match) options="--address $options";; esac
     case $command in churn|history) options="--since $options";; esac
     case $command in history) options="--same $options";; esac

@@ -24,6 +24,7 @@ _bgp_replay() {
         '*--peer[report on this peer alone]:PEER:'
         '--peers[report on the Ith of N shares of the peers alone]:I/N:'
         '--until[leave out messages, state changes and entries recorded after this second]:TIME:'
+        '--states[say which state changes end a peer'\''s routes]:RULE:(recorded established)'
         '--header[print the columns'\'' names first]'
         '--summary[say on standard error what was read, in lines of a key and a value]'
         '--progress[show on standard error how far the reading is]'

@@ -1,12 +1,12 @@
 #!/usr/bin/env python3
-"""Compares what `history` lists and `churn` counts with a plain model, written from docs/FORMATS.md alone, on drawn dumps.
+"""Compares what `history` lists, `churn` counts and `peers` shows with a plain model, written from docs/FORMATS.md alone, on drawn dumps.
 
 usage: tests/history.py PROGRAM [DUMPS]
 
 Each dump is drawn from its seed as a list of units (RIB entries, UPDATEs with attributes 14 and 15, state changes,
 messages of other types, damaged UPDATEs) of a few peers and prefixes, and written as MRT records into one or two files.
 The model takes the drawn units and not the bytes. Options are drawn too: --prefix in its forms, --peer, --peers, --since,
---until, --same. What `churn` counts by --prefix and --since is compared with the lines of `history --same`, by peer and
+--until, --states, --same. Of the lines of `peers` the place of the first unit isn't compared. What `churn` counts by --prefix and --since is compared with the lines of `history --same`, by peer and
 by what happened, and with the breaks, idle and damaged units that the model finds. The last line is `N passed, M failed`. Needs Python 3 and nothing else.
 """
 import random
@@ -123,7 +123,7 @@ def drawn_update(draw, micros, peer):
 
 
 def drawn_state(draw, micros, peer):
-    old, new = draw.choice([(6, 1), (5, 6), (6, 6), (3, 4), (1, 6)])
+    old, new = draw.choice([(6, 1), (5, 6), (6, 6), (3, 4), (1, 6), (3, 8), (6, 7), (65535, 6), (0, 0)])
     return [("state", peer, micros, old, new)], record(draw, micros, 5, session(peer) + struct.pack(">HH", old, new))
 
 
@@ -171,6 +171,16 @@ def drawn_file(draw, count):
 # ---- the model
 
 
+def is_break(rule, old, new):
+    """Whether a state change ends its peer's routes."""
+    return (old == 6) != (new == 6) if rule == "established" else (old, new) != (6, 6)
+
+
+def is_up_after(rule, new):
+    """Whether units after a state change are taken."""
+    return rule == "established" or new == 6
+
+
 def announced(table, key, columns):
     """What an announcement is, and the table after it."""
     what = "new" if key not in table else "same" if table[key] == columns else "changed"
@@ -178,10 +188,10 @@ def announced(table, key, columns):
     return (what, key, columns)
 
 
-def events_of(unit, table, up):
+def events_of(unit, table, up, rule):
     """What a unit does to the keys of its peer, in order."""
     kind = unit[0]
-    if kind == "state" and (unit[3], unit[4]) != (6, 6):
+    if kind == "state" and is_break(rule, unit[3], unit[4]):
         lost = [("lost", key, table[key]) for key in sorted(table)]
         table.clear()
         return lost
@@ -200,16 +210,16 @@ def events_of(unit, table, up):
     return events
 
 
-def history(units):
+def history(units, rule):
     """What happened: time, peer, what, by, key, columns, in the order of the units."""
     tables, up, rows = {}, {}, []
     for unit in units:
         kind, peer, micros = unit[:3]
         by = {"entry": "rib", "state": "state"}.get(kind, "update")
         table = tables.setdefault(peer, {})
-        rows += [(micros, peer, what, by, key, columns) for what, key, columns in events_of(unit, table, up.get(peer, True))]
+        rows += [(micros, peer, what, by, key, columns) for what, key, columns in events_of(unit, table, up.get(peer, True), rule)]
         if kind == "state":
-            up[peer] = unit[4] == 6
+            up[peer] = is_up_after(rule, unit[4])
     return rows
 
 
@@ -221,32 +231,55 @@ def concerns(unit, chosen):
     return any(chosen((None, None, None, None, key)) for key in keys)
 
 
-def churn(units, chosen, takes_peer, since):
+def churn(units, chosen, takes_peer, since, rule):
     """The lines of `churn`: peers by their first unit that is selected, and what their units did from the second on."""
     def within(micros):
         return since is None or micros // 1_000_000 >= since
 
-    events = [row for row in history(units) if within(row[0]) and (chosen is None or chosen(row))]
+    events = [row for row in history(units, rule) if within(row[0]) and (chosen is None or chosen(row))]
     up, peers = {}, {}
     for unit in units:
         kind, peer, micros = unit[:3]
         was_up = up.get(peer, True)
         if kind == "state":
-            up[peer] = unit[4] == 6
+            up[peer] = is_up_after(rule, unit[4])
         if not takes_peer(peer) or not concerns(unit, chosen):
             continue
         resets, idle, refused, times = peers.setdefault(peer, [0, 0, 0, []])
         if within(micros):
-            resets += kind == "state" and unit[3:5] != (6, 6)
+            resets += kind == "state" and is_break(rule, unit[3], unit[4])
             idle += kind in ("entry", "update") and not was_up
             refused += kind == "damaged"
             peers[peer] = [resets, idle, refused, times + [micros]]
     lines = []
     for peer, (resets, idle, refused, times) in peers.items():
         counts = [sum(row[1] == peer and row[2] == what for row in events) for what in ("new", "changed", "same", "gone", "void")]
-        ends = [f"{times[at] // 1_000_000}.{times[at] % 1_000_000:06}" if times else "-" for at in (0, -1)]
+        ends = [time_text(times[at]) if times else "-" for at in (0, -1)]
         lines.append("|".join([f"{peer[0]} {peer[1]}", *map(str, counts), str(resets), str(idle), str(refused), *ends]) + "\n")
     return "".join(lines)
+
+
+def time_text(micros):
+    return f"{micros // 1_000_000}.{micros % 1_000_000:06}"
+
+
+def peers(units, chosen, takes_peer, rule):
+    """The lines of `peers` up to the time of the last unit. By --states established the last break decides, and else the last
+    state change."""
+    tables, found = {}, {}
+    for micros, peer, what, by, key, columns in history(units, rule):
+        if chosen is None or chosen((micros, peer, what, by, key)):
+            keys = tables.setdefault(peer, set())
+            keys.discard(key) if what in ("gone", "lost", "void") else keys.add(key)
+    for unit in units:
+        kind, peer, micros = unit[:3]
+        if takes_peer(peer) and concerns(unit, chosen):
+            state, times = found.get(peer, ("up", []))
+            if kind == "state" and (rule == "recorded" or is_break(rule, unit[3], unit[4])):
+                state = "up" if unit[4] == 6 else "down"
+            found[peer] = (state, times + [micros])
+    return "".join(f"{peer[0]} {peer[1]}|{state}|{len(tables.get(peer, ()))}|{len(times)}|{time_text(times[0])}|{time_text(times[-1])}\n"
+                   for peer, (state, times) in found.items())
 
 
 def share_of(peer, count):
@@ -257,7 +290,7 @@ class Options:
     """Drawn options: their words, without --same, and what they stand for."""
 
     def __init__(self, draw):
-        self.words, self.chosen, self.since, self.until = [], None, None, None
+        self.words, self.chosen, self.since, self.until, self.times = [], None, None, None, []
         self.same = draw.random() < 0.5
         choices = []
         for _ in range(draw.choice([0, 0, 1, 1, 2, 3])):
@@ -280,9 +313,12 @@ class Options:
             self.words += ["--peers", f"{share + 1}/{count}"]
             peers.append(lambda peer: share_of(peer, count) == share)
         self.takes_peer = lambda peer: all(test(peer) for test in peers)
+        self.rule = draw.choice(["recorded", "established"])
+        if self.rule == "established" or draw.random() < 0.2:
+            self.words += ["--states", self.rule]
         since = draw.randrange(1000, 1060)
         if draw.random() < 0.3:
-            self.words += ["--since", str(since)]
+            self.times = ["--since", str(since)]
             self.since = since
         if draw.random() < 0.3:
             self.until = draw.randrange(since, 1061)
@@ -299,13 +335,14 @@ def line(row):
     return f"{micros // 1_000_000}.{micros % 1_000_000:06}|{peer[0]} {peer[1]}|{what}|{by}|{key_text(key)}|{columns}\n"
 
 
-def is_as_wanted(seed, words, names, wanted):
-    """Whether the program writes this report. What it writes in place of it is told."""
+def is_as_wanted(seed, words, names, wanted, columns=None):
+    """Whether the program writes this report, in its first columns. What it writes in place of it is told."""
     run = subprocess.run([sys.argv[1], *words, *names], capture_output=True, text=True, check=False)
-    if run.returncode in (0, 1) and run.stdout == wanted:
+    written = "".join("|".join(line.split("|")[:columns]) + "\n" for line in run.stdout.splitlines())
+    if run.returncode in (0, 1) and written == wanted:
         return True
     print(f"wrong: seed {seed}: {' '.join(words)}: status {run.returncode} {run.stderr.strip()}")
-    for mine, other in zip(wanted.splitlines() + [""], run.stdout.splitlines() + [""]):
+    for mine, other in zip(wanted.splitlines() + [""], written.splitlines() + [""]):
         if mine != other:
             print(f"  {other}\n  in place of {mine}")
             break
@@ -328,10 +365,13 @@ def main():
             for _ in range(4):
                 options = Options(draw)
                 kept = [unit for unit in units if options.until is None or unit[2] // 1_000_000 <= options.until]
-                listed = "".join(line(row) for row in history(kept) if options.takes(row))
-                counted = churn(kept, options.chosen, options.takes_peer, options.since)
-                for words, wanted in [(["history", *["--same"] * options.same], listed), (["churn"], counted)]:
-                    if is_as_wanted(seed, words + options.words, names, wanted):
+                rule = options.rule
+                listed = "".join(line(row) for row in history(kept, rule) if options.takes(row))
+                counted = churn(kept, options.chosen, options.takes_peer, options.since, rule)
+                shown = peers(kept, options.chosen, options.takes_peer, rule)
+                for words, wanted, columns in [(["history", *["--same"] * options.same, *options.times], listed, None),
+                                               (["churn", *options.times], counted, None), (["peers"], shown, 6)]:
+                    if is_as_wanted(seed, words + options.words, names, wanted, columns):
                         passed += 1
                     else:
                         failed += 1

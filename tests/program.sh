@@ -107,7 +107,7 @@ for words in nothing 'nothing sample' tables match 'match sample' 'match --addre
   'tables --workers -1 sample' 'tables --workers 4x sample' 'tables --workers' 'tables --ring 0 sample' 'tables --ring 65537 sample' 'tables --ring 18446744073709551616 sample' \
   'tables --until -1 sample' 'tables --until 18446744073709551616 sample' 'tables --until soon sample' 'tables --until' 'tables --frobnicate sample' 'tables -x sample' \
   'tables --until 2024-02-30 sample' 'tables --until 2024-1-1 sample' 'tables --until 2024-01-01T00:00:00 sample' 'tables --prefix' \
-  'tables --prefix 192.0.2.0/24 --prefix 192.0.2.1/24 sample' \
+  'tables --prefix 192.0.2.0/24 --prefix 192.0.2.1/24 sample' 'tables --states' 'tables --states up sample' 'churn --states recorded,established sample' \
   'tables --address 10.0.0.1 sample' '--workers 2 tables sample' 'match --address 10.1.2 missing --workers 0'; do
   try 2 '?' nothing $words
 done
@@ -286,6 +286,11 @@ lists 'visibility --until 1030 --peers 2/2' '198.51.100.0/24|1' '198.51.100.0/25
 lists 'origins --until 1030 --peers 1/2'
 lists 'origins --until 1030 --peers 2/2'
 lists peers '65001 192.0.2.1|up|1|3|1000.000000|1020.000000|1|46|1' '65002 192.0.2.2|down|0|5|1000.000000|1050.000000|1|46|2'
+lists 'peers --states established' '65001 192.0.2.1|up|1|3|1000.000000|1020.000000|1|46|1' '65002 192.0.2.2|down|1|5|1000.000000|1050.000000|1|46|2'
+lists 'churn --states established --peer 65002' '65002 192.0.2.2|4|0|1|0|0|1|0|0|1000.000000|1050.000000'
+lists 'churn --states recorded --peer 65002' '65002 192.0.2.2|3|0|1|0|0|1|1|0|1000.000000|1050.000000'
+lists 'tables --states established' "$one_203" "$two_24"
+lists 'history --prefix 198.51.100.0/24 --peer 65002 --since 1040 --states established' "1040.000000|65002 192.0.2.2|lost|state|$of_two" "1050.000000|65002 192.0.2.2|new|update|$of_two"
 lists 'peers --until 1030' '65001 192.0.2.1|up|1|3|1000.000000|1020.000000|1|46|1' '65002 192.0.2.2|up|3|3|1000.000000|1030.000000|1|46|2'
 lists 'peers --until 1030 --peers 2/2' '65002 192.0.2.2|up|3|3|1000.000000|1030.000000|1|46|2'
 lists 'peers --until 1030 --prefix 198.51.100.0/25' '65002 192.0.2.2|up|1|1|1010.000000|1010.000000|1|186|-'

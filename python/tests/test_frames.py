@@ -56,6 +56,13 @@ def test_options_of_some_reports(report, options, words, drawn):
     assert lines(frame_of(report, drawn["rrc00"], **options)) == expected != text_of(report, drawn["rrc00"])
 
 
+def test_state_changes_by_either_rule(sample):
+    """65107 announces a route behind the end of its session."""
+    for states, counts in (None, [9, 1, 1]), ("recorded", [9, 1, 1]), ("established", [10, 1, 0]):
+        found = frame_of("churn", sample, states=states)
+        assert found[found["peer_asn"] == 65107][["new", "resets", "idle"]].values.tolist() == [counts]
+
+
 def test_a_long_list_of_prefixes(sample):
     """131,072 prefixes are more than a command line takes."""
     prefixes = [f"17.{second}.{third}.0/24" for second in range(256) for third in range(256)] * 2

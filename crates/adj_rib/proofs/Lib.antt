@@ -3,6 +3,7 @@ pub mod TableLaws
 pub mod HeldPairs
 pub mod Stepping
 pub mod Taking
+pub mod StateLaws
 pub mod SourceLaws
 pub mod Reached
 pub mod Announcements

@@ -1,7 +1,6 @@
 -- A selection of keys commutes with tables and outcomes, and selecting units early is selecting their steps late.
-use Rattle.std.proofs.Common.{◌≡◌, ℕ, Bool, true, false, not, cond, ◌==◌, ◌||◌, List, [], ◌∷◌, ◌++◌, map, Option, Some, None, Result, Ok, Err, refl, sym, ap, ◌∙◌, append-nil}
+use Rattle.std.proofs.Common.{◌≡◌, ℕ, Bool, true, false, not, cond, ◌||◌, List, [], ◌∷◌, ◌++◌, map, Option, Some, None, Result, Ok, Err, refl, sym, ap, ◌∙◌, append-nil}
 use Rattle.std.specs.Prelude.{unwrap_or}
-use Rattle.std.specs.Option.{option_map_or}
 use Rattle.std.specs.List.{filter, filter_map, cons_option, last_or}
 use Rattle.std.specs.FinMap.Entries.{same_entries, find-where_key, is_sorted-where_key}
 use Rattle.std.specs.declared.cmp.Ordering.TheVariants.{Equal}
@@ -21,14 +20,16 @@ use Rattle.bgp_update.specs.Hops.{by_hop}
 use Rattle.mrt_body.specs.declared.choice.PrefixChoice.{PrefixChoice}
 use Rattle.mrt_body.specs.declared.meaning.Event.{Event}
 use Rattle.mrt_body.specs.declared.meaning.Event.TheVariants as event
+use Rattle.mrt_body.specs.declared.state_rule.StateRule.{StateRule}
 use Rattle.mrt_body.specs.declared.unit.Payload.{Payload}
 use Rattle.mrt_body.specs.declared.unit.Payload.TheVariants.{State, Message, Entry}
 use Rattle.mrt_body.specs.declared.unit.Unit.{Unit as ReplayUnit}
+use Rattle.mrt_body.specs.States.{up_by, established_by}
 use Rattle.mrt_body.specs.Events.{event_in}
 use Rattle.mrt_body.specs.Choices.{is_open, is_chosen}
 use Rattle.mrt_body.specs.Selections.{has_chosen, speaks_of, concerns}
 use Rattle.adj_rib.specs.declared.outcome.Outcome.{Outcome}
-use Rattle.adj_rib.specs.Steps.{Step, break, announce, withdraw, ESTABLISHED, new_state, is_up, withdrawals, announcements, reachings, update_steps, reading_steps, unit_steps, steps_of}
+use Rattle.adj_rib.specs.Steps.{Step, break, announce, withdraw, state_says, last_said, is_up, is_established, withdrawals, announcements, reachings, update_steps, reading_steps, unit_steps, steps_of}
 use Rattle.adj_rib.specs.Tables.{said_of, route_at, table_of}
 use Rattle.adj_rib.specs.Churns.{announced_over, outcome_of, outcomes_of}
 use Rattle.adj_rib.specs.Selecting.{keeps, selected_steps, selected_entries, selected_outcomes, chooses, concerned}
@@ -140,26 +141,34 @@ module _ (choices : List PrefixChoice) where
   abbrev kept_steps : List Step → List Step
   kept_steps steps = selected_steps (chooses choices) steps
 
-  -- what concerns no chosen prefix is no state change
-  quiet_state : (payload : Payload) → concerns choices payload ≡ false → new_state payload ≡ None
-  quiet_state (State from to) h = absurd cc
-  quiet_state (Message bytes width add_path) h = refl
-  quiet_state (Entry key attrs) h = refl
+  module _ (says : StateRule → ℕ → ℕ → Option Bool) where
+    -- what concerns no chosen prefix is no state change
+    quiet_state : (payload : Payload) → concerns choices payload ≡ false → state_says says payload ≡ None
+    quiet_state (State from to rule) h = absurd cc
+    quiet_state (Message bytes width add_path) h = refl
+    quiet_state (Entry key attrs) h = refl
 
-  abbrev states_of : List ReplayUnit → List ℕ
-  states_of units = filter_map (λ u. new_state u.payload) units
+    abbrev said_in : List ReplayUnit → List Bool
+    said_in units = filter_map (λ u. state_says says u.payload) units
 
-  same_states : (units : List ReplayUnit) → states_of (concerned choices units) ≡ states_of units
-  same_states [] = refl
-  same_states (u ∷ units) =
-      elim (concerns choices u.payload) as (λ b. concerns choices u.payload ≡ b → states_of (cond b (u ∷ concerned choices units) (concerned choices units)) ≡ states_of (u ∷ units)) [
-        | true ↦ λ _. ap (cons_option (new_state u.payload)) (same_states units)
-        | false ↦ λ left. same_states units ∙ ap (λ state. cons_option state (states_of units)) (sym (quiet_state u.payload left))
-      ] refl
+    same_said_in : (units : List ReplayUnit) → said_in (concerned choices units) ≡ said_in units
+    same_said_in [] = refl
+    same_said_in (u ∷ units) =
+        elim (concerns choices u.payload) as (λ b. concerns choices u.payload ≡ b → said_in (cond b (u ∷ concerned choices units) (concerned choices units)) ≡ said_in (u ∷ units)) [
+          | true ↦ λ _. ap (cons_option (state_says says u.payload)) (same_said_in units)
+          | false ↦ λ left. same_said_in units ∙ ap (λ said. cons_option said (said_in units)) (sym (quiet_state u.payload left))
+        ] refl
+
+    last_said-concerned : (units : List ReplayUnit) → last_said says (concerned choices units) ≡ last_said says units
+    last_said-concerned units = ap (λ (said : List Bool). unwrap_or (last_or None said) true) (same_said_in units)
 
   -- so the peer is up or not as before
   pub is_up-concerned : (units : List ReplayUnit) → is_up (concerned choices units) ≡ is_up units
-  is_up-concerned units = ap (λ (states : List ℕ). option_map_or (λ state. state == ESTABLISHED) (last_or None states) true) (same_states units)
+  is_up-concerned units = last_said-concerned up_by units
+
+  -- and its session is established or not as before
+  pub is_established-concerned : (units : List ReplayUnit) → is_established (concerned choices units) ≡ is_established units
+  is_established-concerned units = last_said-concerned established_by units
 
   none_announced : (route : Route) (keys : List RouteKey) → has_chosen choices keys ≡ false → kept_steps (map (λ key. announce key route) keys) ≡ []
   none_announced route [] h = refl
@@ -191,7 +200,7 @@ module _ (choices : List PrefixChoice) where
   quiet_reading : (up : Bool) (r : Result Event Fault) → speaks_of choices r ≡ false → kept_steps (reading_steps up r) ≡ []
   quiet_reading true (Ok (event.Change u)) h = quiet_update u h
   quiet_reading false (Ok (event.Change u)) h = refl
-  quiet_reading up (Ok (event.State old new)) h = absurd cc
+  quiet_reading up (Ok (event.State old new rule)) h = absurd cc
   quiet_reading up (Ok (event.Rib key route)) h = absurd cc
   quiet_reading up (Ok event.Other) h = refl
   quiet_reading up (Err fault) h = absurd cc
@@ -203,7 +212,7 @@ module _ (choices : List PrefixChoice) where
 
   quiet_payload : (up : Bool) (payload : Payload) → concerns choices payload ≡ false → kept_steps (reading_steps up (event_in payload)) ≡ []
   unfolding event_in
-  quiet_payload up (State from to) h = absurd cc
+  quiet_payload up (State from to rule) h = absurd cc
   quiet_payload up (Message bytes width add_path) h = quiet_reading up (event_in (Message bytes width add_path)) (or_parts (is_open choices) (speaks_of choices (event_in (Message bytes width add_path))) h).1
   quiet_payload up (Entry key attrs) h = quiet_entry up key (route_in Four attrs) h
 

@@ -1,7 +1,7 @@
 -- A route of the table was announced by a unit that came while the peer was up, and after the last break.
-use Rattle.std.proofs.Common.{◌≡◌, ◌≢◌, ◌⊎◌, ℕ, ◌&&◌, Bool, true, false, cond, not, ◌||◌, List, [], ◌∷◌, ◌++◌, map, Option, Some, None, Result, Ok, Err, refl, sym, ap, ◌∙◌, inl, inr, append_assoc, arith, rules}
+use Rattle.std.proofs.Common.{◌≡◌, ◌≢◌, ◌⊎◌, Bool, true, false, cond, not, ◌||◌, List, [], ◌∷◌, ◌++◌, map, Option, Some, None, Result, Ok, Err, refl, sym, ap, ◌∙◌, inl, inr, append_assoc, arith}
 use Rattle.std.proofs.lemmas.List.{append-nil}
-use Rattle.std.specs.Prelude.{unwrap_or, ◌==◌}
+use Rattle.std.specs.Prelude.{unwrap_or}
 use Rattle.std.specs.List.{Contains, AllByRecursion, filter}
 use Rattle.std.specs.FinMap as finite
 use Rattle.std.specs.FinMap.Entries.{find}
@@ -19,7 +19,8 @@ use Rattle.mrt_body.specs.declared.unit.Unit.{Unit as ReplayUnit}
 use Rattle.mrt_body.specs.declared.meaning.Event.{Event}
 use Rattle.mrt_body.specs.declared.meaning.Event.TheVariants as event
 use Rattle.mrt_body.specs.Events.{event_in}
-use Rattle.adj_rib.specs.Steps.{Step, break, announce, withdraw, ESTABLISHED, is_up, update_steps, withdrawals, announcements, reachings, reading_steps, unit_steps, steps_of}
+use Rattle.mrt_body.specs.States.{breaks}
+use Rattle.adj_rib.specs.Steps.{Step, break, announce, withdraw, is_up, update_steps, withdrawals, announcements, reachings, reading_steps, unit_steps, steps_of}
 use Rattle.adj_rib.specs.Tables.{said_of, route_at, table_of}
 use Rattle.adj_rib.specs.Churns.{reading_of}
 use Rattle.adj_rib.specs.Sources.{Announces, IsBreak, ComesFrom}
@@ -90,9 +91,9 @@ module _ (p : RouteKey) (route : Route) where
         | inr never ↦ absurd (no_item (announce p route) never)
       ]
 
-  never_by_state : (b : Bool) → Contains (cond b [] (break ∷ [])) (announce p route) → ⊥
-  never_by_state true h = no_item (announce p route) h
-  never_by_state false h =
+  never_by_state : (b : Bool) → Contains (cond b (break ∷ []) []) (announce p route) → ⊥
+  never_by_state false h = no_item (announce p route) h
+  never_by_state true h =
       elim (item_cases break [] (announce p route) h) [
         | inl e ↦ cc
         | inr never ↦ no_item (announce p route) never
@@ -108,7 +109,7 @@ module _ (p : RouteKey) (route : Route) where
   announcer_of_reading : (up : Bool) (reading : Result Event Fault) → Contains (reading_steps up reading) (announce p route) → Announcer up reading
   announcer_of_reading up (Err fault) h = absurd (no_item (announce p route) h)
   announcer_of_reading up (Ok event.Other) h = absurd (no_item (announce p route) h)
-  announcer_of_reading up (Ok (event.State old new)) h = absurd (never_by_state ((old == ESTABLISHED) && (new == ESTABLISHED)) h)
+  announcer_of_reading up (Ok (event.State old new rule)) h = absurd (never_by_state (breaks rule old new) h)
   announcer_of_reading true (Ok (event.Change u)) h = record { is_up = refl; meaning = event.Change u; is = refl; announces = announced_by_update u h }
   announcer_of_reading false (Ok (event.Change u)) h = absurd (no_item (announce p route) h)
   announcer_of_reading true (Ok (event.Rib q r)) h = record { is_up = refl; meaning = event.Rib q r; is = refl; announces = announced_by_entry q r h }
@@ -153,13 +154,13 @@ module _ (p : RouteKey) (route : Route) where
 
   -- ---- the units
 
-  kept_by_state : (from to : ℕ) (b : Bool) → ((from == ESTABLISHED) && (to == ESTABLISHED)) ≡ b → NoBreaks (cond b [] (break ∷ [])) → IsBreak (State from to) → ⊥
-  kept_by_state from to true both h broken = broken (search rules)
-  kept_by_state from to false both h broken = h.0 refl
+  kept_by_state : (b : Bool) → NoBreaks (cond b (break ∷ []) []) → b ≡ true → ⊥
+  kept_by_state true h broken = h.0 refl
+  kept_by_state false h broken = cc
 
   kept_by_unit : (up : Bool) (payload : Payload) → NoBreaks (reading_steps up (event_in payload)) → IsBreak payload → ⊥
   unfolding event_in
-  kept_by_unit up (State from to) h broken = kept_by_state from to ((from == ESTABLISHED) && (to == ESTABLISHED)) refl h broken
+  kept_by_unit up (State from to rule) h broken = kept_by_state (breaks rule from to) h broken
   kept_by_unit up (Message bytes width add_path) h broken = broken
   kept_by_unit up (Entry key attrs) h broken = broken
 
@@ -195,13 +196,13 @@ no_entries : finite.entries (finite.empty {X = Route} {R = key_cmp}) ≡ []
 unfolding table_of
 no_entries = entries-IsTable [] finite.empty IsTable_start
 
-broken_steps : (from to : ℕ) (b : Bool) → ((from == ESTABLISHED) && (to == ESTABLISHED)) ≡ b → IsBreak (State from to) → cond b [] (break ∷ []) ≡ break ∷ []
-broken_steps from to true both broken = absurd (broken (search rules))
-broken_steps from to false both broken = refl
+broken_steps : (b : Bool) → b ≡ true → cond b (break ∷ []) [] ≡ break ∷ []
+broken_steps true broken = refl
+broken_steps false broken = absurd cc
 
 steps_of_break : (up : Bool) (payload : Payload) → IsBreak payload → reading_steps up (event_in payload) ≡ break ∷ []
 unfolding event_in
-steps_of_break up (State from to) broken = broken_steps from to ((from == ESTABLISHED) && (to == ESTABLISHED)) refl broken
+steps_of_break up (State from to rule) broken = broken_steps (breaks rule from to) broken
 steps_of_break up (Message bytes width add_path) broken = absurd broken
 steps_of_break up (Entry key attrs) broken = absurd broken
 

@@ -1,7 +1,6 @@
 -- What a session keeps after one more unit is what the definitions say of one more unit.
 use Rattle.std.proofs.Common.{◌≡◌, ℕ, ◌+◌, ◌==◌, Bool, true, false, not, cond, ◌&&◌, List, [], ◌∷◌, ◌++◌, Option, Some, None, Result, Ok, Err, refl, sym, ap, ◌∙◌}
 use Rattle.std.specs.Prelude.{is_err, length, unwrap_or, option_map}
-use Rattle.std.specs.Option.{option_map_or}
 use Rattle.std.specs.List.{fold, count_by, filter_map, cons_option, last_or}
 use Rattle.std.specs.FinMap as finite
 use Rattle.std.specs.FinMap.Entries.{find}
@@ -18,76 +17,93 @@ use Rattle.bgp_update.specs.declared.route.Route.{Route}
 use Rattle.bgp_update.specs.declared.route.Update.{Update}
 use Rattle.bgp_update.specs.Attributes.{route_in}
 use Rattle.bgp_update.specs.Updates.{update_in}
+use Rattle.mrt_body.specs.declared.state_rule.StateRule.{StateRule}
 use Rattle.mrt_body.specs.declared.unit.Payload.{Payload}
 use Rattle.mrt_body.specs.declared.unit.Payload.TheVariants.{State, Message, Entry}
 use Rattle.mrt_body.specs.declared.unit.Unit.{Unit as ReplayUnit}
 use Rattle.mrt_body.specs.declared.unit.Damage.{Damage}
 use Rattle.mrt_body.specs.declared.meaning.Event.{Event}
 use Rattle.mrt_body.specs.declared.meaning.Event.TheVariants as event
+use Rattle.mrt_body.specs.States.{up_by, established_by}
 use Rattle.mrt_body.specs.Events.{UPDATE, message_in, message_event_in, event_in}
 use Rattle.adj_rib.specs.declared.arrivals.Arrivals.{Arrivals}
 use Rattle.adj_rib.specs.declared.churn.Churn.{Churn}
-use Rattle.adj_rib.specs.Steps.{Step, ESTABLISHED, new_state, is_up, reading_steps, unit_steps, steps_of}
+use Rattle.adj_rib.specs.Steps.{Step, state_says, last_said, is_up, is_established, reading_steps, unit_steps, steps_of}
 use Rattle.adj_rib.specs.Tables.{IsTable, table_of}
 use Rattle.adj_rib.specs.Churns.{outcomes_of, is_routing, reading_of, idle_flags, damage_in, damaged_of, stopped, first_time, last_time, churn_of}
 use Rattle.adj_rib.specs.Arrived.{first_place, arrivals_of, no_arrivals, arrived}
 use Rattle.adj_rib.specs.Sessions.{SessionState, session_of}
-use Rattle.adj_rib.specs.Applied.{counted_if, RouteMap, applied, timed, noted, up_after, Kept, START, followed, listed, taken, read_as, refused}
+use Rattle.adj_rib.specs.Applied.{counted_if, RouteMap, applied, timed, noted, up_after, established_after, Kept, START, followed, listed, taken, read_as, refused}
 use Rattle.adj_rib.proofs.TableLaws.{last_or-append, find-table_of, entries-IsTable, IsTable_start}
 use Rattle.adj_rib.proofs.After.{steps_of-push}
 use Rattle.adj_rib.proofs.Stepping.{stopped_more, stopped-count_by-push, AreCounts, AreAfter, AreAfter-steps, AgreeBeside, beside_steps}
 
--- ---- whether the peer is up
+-- ---- what state changes say
 
--- the new state in a reading, if it is a state change
-abbrev state_read : Result Event Fault → Option ℕ
-state_read (Ok (event.State old new)) = Some new
-state_read (Ok (event.Change update)) = None
-state_read (Ok (event.Rib key route)) = None
-state_read (Ok event.Other) = None
-state_read (Err fault) = None
+module _ (says : StateRule → ℕ → ℕ → Option Bool) where
+  -- what a reading says, if it is a state change
+  abbrev said_by : Result Event Fault → Option Bool
+  said_by (Ok (event.State old new rule)) = says rule old new
+  said_by (Ok (event.Change update)) = None
+  said_by (Ok (event.Rib key route)) = None
+  said_by (Ok event.Other) = None
+  said_by (Err fault) = None
 
-no_state_in_update : (r : Result Update Fault) → state_read (r >>= λ update. Ok (event.Change update)) ≡ None
-no_state_in_update (Ok update) = refl
-no_state_in_update (Err fault) = refl
+  no_state_in_update : (r : Result Update Fault) → said_by (r >>= λ update. Ok (event.Change update)) ≡ None
+  no_state_in_update (Ok update) = refl
+  no_state_in_update (Err fault) = refl
 
-no_state_in_route : (key : RouteKey) (r : Result Route Fault) → state_read (r >>= λ route. Ok (event.Rib key route)) ≡ None
-no_state_in_route key (Ok route) = refl
-no_state_in_route key (Err fault) = refl
+  no_state_in_route : (key : RouteKey) (r : Result Route Fault) → said_by (r >>= λ route. Ok (event.Rib key route)) ≡ None
+  no_state_in_route key (Ok route) = refl
+  no_state_in_route key (Err fault) = refl
 
-no_state_in_message : (width : Width) (add_path : Bool) (r : Result (ℕ × List ℕ) Fault) → state_read (r >>= λ m. cond (m.0 == UPDATE) (update_in width add_path m.1 >>= λ update. Ok (event.Change update)) (Ok event.Other)) ≡ None
-no_state_in_message width add_path (Err fault) = refl
-no_state_in_message width add_path (Ok m) =
-    elim (m.0 == UPDATE) as (λ b. state_read (cond b (update_in width add_path m.1 >>= λ update. Ok (event.Change update)) (Ok event.Other)) ≡ None) [
-      | true ↦ no_state_in_update (update_in width add_path m.1)
-      | false ↦ refl
-    ]
+  no_state_in_message : (width : Width) (add_path : Bool) (r : Result (ℕ × List ℕ) Fault) → said_by (r >>= λ m. cond (m.0 == UPDATE) (update_in width add_path m.1 >>= λ update. Ok (event.Change update)) (Ok event.Other)) ≡ None
+  no_state_in_message width add_path (Err fault) = refl
+  no_state_in_message width add_path (Ok m) =
+      elim (m.0 == UPDATE) as (λ b. said_by (cond b (update_in width add_path m.1 >>= λ update. Ok (event.Change update)) (Ok event.Other)) ≡ None) [
+        | true ↦ no_state_in_update (update_in width add_path m.1)
+        | false ↦ refl
+      ]
 
-state_of_reading : (payload : Payload) → new_state payload ≡ state_read (event_in payload)
-unfolding event_in message_event_in
-state_of_reading (State from to) = refl
-state_of_reading (Message bytes width add_path) = sym (no_state_in_message width add_path (message_in bytes))
-state_of_reading (Entry key attrs) = sym (no_state_in_route key (route_in Four attrs))
+  said_of_reading : (payload : Payload) → state_says says payload ≡ said_by (event_in payload)
+  unfolding event_in message_event_in
+  said_of_reading (State from to rule) = refl
+  said_of_reading (Message bytes width add_path) = sym (no_state_in_message width add_path (message_in bytes))
+  said_of_reading (Entry key attrs) = sym (no_state_in_route key (route_in Four attrs))
 
-abbrev up_of : Option ℕ → Bool
-up_of state = option_map_or (λ s. s == ESTABLISHED) state true
+  abbrev said_in : List ReplayUnit → List Bool
+  said_in units = filter_map (λ u. state_says says u.payload) units
 
-up_of_read : (o : Option ℕ) (reading : Result Event Fault) → up_of (last_or o (cons_option (state_read reading) [])) ≡ up_after (up_of o) reading
-up_of_read o (Ok (event.State old new)) = refl
-up_of_read o (Ok (event.Change update)) = refl
-up_of_read o (Ok (event.Rib key route)) = refl
-up_of_read o (Ok event.Other) = refl
-up_of_read o (Err fault) = refl
+  last_of : (o said : Option Bool) → unwrap_or (last_or o (cons_option said [])) true ≡ unwrap_or said (unwrap_or o true)
+  last_of o None = refl
+  last_of o (Some b) = refl
 
-abbrev states_of : List ReplayUnit → List ℕ
-states_of units = filter_map (λ u. new_state u.payload) units
+  last_said-push : (units : List ReplayUnit) (unit : ReplayUnit) → last_said says (units ++ unit ∷ []) ≡ unwrap_or (said_by (reading_of unit)) (last_said says units)
+  last_said-push units unit =
+      ap (λ said. unwrap_or (last_or None said) true) (filter_map-append (λ (u : ReplayUnit). state_says says u.payload) units (unit ∷ []))
+      ∙ ap (λ o. unwrap_or o true) (last_or-append None (said_in units) (cons_option (state_says says unit.payload) []))
+      ∙ ap (λ said. unwrap_or (last_or (last_or None (said_in units)) (cons_option said [])) true) (said_of_reading unit.payload)
+      ∙ last_of (last_or None (said_in units)) (said_by (reading_of unit))
+
+up_of_read : (up : Bool) (reading : Result Event Fault) → unwrap_or (said_by up_by reading) up ≡ up_after up reading
+up_of_read up (Ok (event.State old new rule)) = refl
+up_of_read up (Ok (event.Change update)) = refl
+up_of_read up (Ok (event.Rib key route)) = refl
+up_of_read up (Ok event.Other) = refl
+up_of_read up (Err fault) = refl
 
 pub is_up-push : (units : List ReplayUnit) (unit : ReplayUnit) → is_up (units ++ unit ∷ []) ≡ up_after (is_up units) (reading_of unit)
-is_up-push units unit =
-    ap (λ states. up_of (last_or None states)) (filter_map-append (λ (u : ReplayUnit). new_state u.payload) units (unit ∷ []))
-    ∙ ap up_of (last_or-append None (states_of units) (cons_option (new_state unit.payload) []))
-    ∙ ap (λ state. up_of (last_or (last_or None (states_of units)) (cons_option state []))) (state_of_reading unit.payload)
-    ∙ up_of_read (last_or None (states_of units)) (reading_of unit)
+is_up-push units unit = last_said-push up_by units unit ∙ up_of_read (is_up units) (reading_of unit)
+
+established_of_read : (was : Bool) (reading : Result Event Fault) → unwrap_or (said_by established_by reading) was ≡ established_after was reading
+established_of_read was (Ok (event.State old new rule)) = refl
+established_of_read was (Ok (event.Change update)) = refl
+established_of_read was (Ok (event.Rib key route)) = refl
+established_of_read was (Ok event.Other) = refl
+established_of_read was (Err fault) = refl
+
+is_established-push : (units : List ReplayUnit) (unit : ReplayUnit) → is_established (units ++ unit ∷ []) ≡ established_after (is_established units) (reading_of unit)
+is_established-push units unit = last_said-push established_by units unit ∙ established_of_read (is_established units) (reading_of unit)
 
 -- ---- the faults, and the counts of units
 
@@ -123,6 +139,7 @@ last_time-push units unit =
 -- what is kept stands for the units
 pub record Stands (units : List ReplayUnit) (k : Kept) : Type 0 where
   pub up : k.up ≡ is_up units
+  pub established : k.established ≡ is_established units
   pub table : finite.entries k.table ≡ table_of (steps_of units)
   pub churn : k.churn ≡ churn_of units
   pub faults : k.faults ≡ damaged_of units
@@ -170,10 +187,11 @@ churn_stands units unit table h =
     (unfold churn_of noted timed in rest.first ∙ sym (first_time-push units unit))
     (unfold churn_of noted timed in rest.last ∙ sym (last_time-push units unit))
 
-taken_stands : (units : List ReplayUnit) (unit : ReplayUnit) (table : RouteMap) → finite.entries table ≡ table_of (steps_of units) → Stands (units ++ unit ∷ []) (taken (record { up = is_up units; table = table; churn = churn_of units; faults = damaged_of units }) unit)
+taken_stands : (units : List ReplayUnit) (unit : ReplayUnit) (table : RouteMap) → finite.entries table ≡ table_of (steps_of units) → Stands (units ++ unit ∷ []) (taken (record { up = is_up units; established = is_established units; table = table; churn = churn_of units; faults = damaged_of units }) unit)
 unfolding taken followed
 taken_stands units unit table h = record {
   up = sym (is_up-push units unit);
+  established = sym (is_established-push units unit);
   table = entries-IsTable (steps_of (units ++ unit ∷ [])) (rib_after (is_up units) table (churn_of units) unit).0 (rib_stands units unit table h).table;
   churn = churn_stands units unit table h;
   faults = sym (damaged_of-push units unit);
@@ -181,7 +199,7 @@ taken_stands units unit table h = record {
 
 pub Stands-taken : (units : List ReplayUnit) (unit : ReplayUnit) (k : Kept) → Stands units k → Stands (units ++ unit ∷ []) (taken k unit)
 Stands-taken units unit k h =
-    let same : k ≡ record { up = is_up units; table = k.table; churn = churn_of units; faults = damaged_of units } = λ i. record { up = h.up i; table = k.table; churn = h.churn i; faults = h.faults i } in
+    let same : k ≡ record { up = is_up units; established = is_established units; table = k.table; churn = churn_of units; faults = damaged_of units } = λ i. record { up = h.up i; established = h.established i; table = k.table; churn = h.churn i; faults = h.faults i } in
     rw same (taken_stands units unit k.table h.table)
 
 -- a unit is taken as its reading says
@@ -208,11 +226,11 @@ arrived-push units unit = λ i. record { units = count-push units unit i; first 
 -- ---- the session
 
 abbrev pub session_with : Kept → Arrivals → Bool → SessionState
-session_with k arrivals spent = record { up = k.up; table = finite.entries k.table; churn = k.churn; arrivals = arrivals; faults = k.faults; spent = spent }
+session_with k arrivals spent = record { up = k.up; established = k.established; table = finite.entries k.table; churn = k.churn; arrivals = arrivals; faults = k.faults; spent = spent }
 
 stands_from_session : (units : List ReplayUnit) (k : Kept) (arrivals : Arrivals) (spent : Bool) → session_with k arrivals spent ≡ session_of units → Stands units k
 unfolding session_of
-stands_from_session units k arrivals spent h = record { up = ap (λ s. s.up) h; table = ap (λ s. s.table) h; churn = ap (λ s. s.churn) h; faults = ap (λ s. s.faults) h }
+stands_from_session units k arrivals spent h = record { up = ap (λ s. s.up) h; established = ap (λ s. s.established) h; table = ap (λ s. s.table) h; churn = ap (λ s. s.churn) h; faults = ap (λ s. s.faults) h }
 
 arrivals_from_session : (units : List ReplayUnit) (k : Kept) (arrivals : Arrivals) (spent : Bool) → session_with k arrivals spent ≡ session_of units → arrivals ≡ arrivals_of units
 unfolding session_of
@@ -220,7 +238,7 @@ arrivals_from_session units k arrivals spent h = ap (λ s. s.arrivals) h
 
 session_from_stands : (units : List ReplayUnit) (k : Kept) (arrivals : Arrivals) → Stands units k → arrivals ≡ arrivals_of units → session_with k arrivals false ≡ session_of units
 unfolding session_of
-session_from_stands units k arrivals h came = λ i. record { up = h.up i; table = h.table i; churn = h.churn i; arrivals = came i; faults = h.faults i; spent = false }
+session_from_stands units k arrivals h came = λ i. record { up = h.up i; established = h.established i; table = h.table i; churn = h.churn i; arrivals = came i; faults = h.faults i; spent = false }
 
 -- a session that stands for units stands for one more after it has taken it
 pub session_after : (before : List ReplayUnit) (unit : ReplayUnit) (k after : Kept) (arrivals arrivals' : Arrivals) (spent : Bool) → spent ≡ false → session_with k arrivals spent ≡ session_of before
@@ -233,4 +251,4 @@ session_after before unit k after arrivals arrivals' spent unspent h e came =
 
 pub session_at_start : session_with START no_arrivals false ≡ session_of []
 unfolding steps_of
-session_at_start = session_from_stands [] START no_arrivals (record { up = refl; table = entries-IsTable [] finite.empty IsTable_start; churn = (unfold churn_of outcomes_of steps_of in refl); faults = (unfold damaged_of in refl) }) (unfold arrivals_of in refl)
+session_at_start = session_from_stands [] START no_arrivals (record { up = refl; established = refl; table = entries-IsTable [] finite.empty IsTable_start; churn = (unfold churn_of outcomes_of steps_of in refl); faults = (unfold damaged_of in refl) }) (unfold arrivals_of in refl)

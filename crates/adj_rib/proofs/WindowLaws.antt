@@ -1,5 +1,5 @@
 -- What is counted within a time, of one more unit; and without a second and prefixes it is what is counted of all units.
-use Rattle.std.proofs.Common.{◌≡◌, ℕ, ◌+◌, ◌==◌, ◌&&◌, ◌||◌, not, Bool, true, false, cond, List, [], ◌∷◌, ◌++◌, map, Option, Some, None, Result, Ok, Err, refl, sym, ap, ◌∙◌, append_assoc, if◌then◌else◌}
+use Rattle.std.proofs.Common.{◌≡◌, ℕ, ◌+◌, ◌&&◌, ◌||◌, not, Bool, true, false, cond, List, [], ◌∷◌, ◌++◌, map, Option, Some, None, Result, Ok, Err, refl, sym, ap, ◌∙◌, append_assoc, if◌then◌else◌}
 use Rattle.std.specs.Prelude.{is_err}
 use Rattle.std.specs.List.{count_by, filter, fold}
 use Rattle.std.proofs.lemmas.List.{append-nil}
@@ -25,7 +25,8 @@ use Rattle.adj_rib.specs.declared.note.What.TheVariants.{New, Changed, Same, Gon
 use Rattle.adj_rib.specs.declared.outcome.Outcome.{Outcome}
 use Rattle.adj_rib.specs.declared.outcome.Outcome.TheVariants as outcome
 use Rattle.adj_rib.specs.declared.outcome.UnitKind.TheVariants.{Break, Other}
-use Rattle.adj_rib.specs.Steps.{Step, break, announce, withdraw, ESTABLISHED, is_up, withdrawals, announcements, reachings, update_steps, reading_steps, unit_steps, steps_of}
+use Rattle.mrt_body.specs.States.{breaks}
+use Rattle.adj_rib.specs.Steps.{Step, break, announce, withdraw, is_up, withdrawals, announcements, reachings, update_steps, reading_steps, unit_steps, steps_of}
 use Rattle.adj_rib.specs.Tables.{route_at, table_of}
 use Rattle.adj_rib.specs.Churns.{announced_over, outcome_of, outcomes_of, is_outcome, count_of, is_break, is_routing, reading_of, first_time, last_time, stopped, churn_of}
 use Rattle.adj_rib.specs.Applied.{counted, counted_if, timed}
@@ -81,8 +82,8 @@ by_kind : (up : Bool) (r : Result Event Fault) (c : Churn) → record c {
   refused = counted_if (is_err r) c.refused;
 } ≡ counted_unit (kind_of up r) c
 unfolding counted_unit
-by_kind up (Ok (event.State old new)) c =
-    elim ((old == ESTABLISHED) && (new == ESTABLISHED)) as (λ b. record c { resets = counted_if (not b) c.resets } ≡ counted_unit (if b then Other else Break) c) [
+by_kind up (Ok (event.State old new rule)) c =
+    elim (breaks rule old new) as (λ b. record c { resets = counted_if b c.resets } ≡ counted_unit (if b then Break else Other) c) [
       | true ↦ refl
       | false ↦ refl
     ]
@@ -256,8 +257,8 @@ updating before u =
     ∙ (λ i. (withdrawing before (filter (λ key. not (among u.announced key || among u.reached key)) u.withdrawn) i + announcing (before ++ withdrawals u) u.route u.announced i) + announcing (before ++ front) (by_hop u.route u.reached_hop) u.reached i)
 
 reading_resets : (before : List Step) (up : Bool) (r : Result Event Fault) → resets before (reading_steps up r) ≡ 0 + cond (is_break r) 1 0
-reading_resets before up (Ok (event.State old new)) =
-    elim ((old == ESTABLISHED) && (new == ESTABLISHED)) as (λ b. resets before (if b then [] else break ∷ []) ≡ 0 + cond (not b) 1 0) [ true ↦ refl | false ↦ refl ]
+reading_resets before up (Ok (event.State old new rule)) =
+    elim (breaks rule old new) as (λ b. resets before (if b then break ∷ [] else []) ≡ 0 + cond b 1 0) [ true ↦ refl | false ↦ refl ]
 reading_resets before true (Ok (event.Change update)) = updating before update
 reading_resets before false (Ok (event.Change update)) = refl
 reading_resets before true (Ok (event.Rib key route)) = ap (λ b. 0 + cond b 1 0) (no_reset (route_at before key) route)

@@ -1,5 +1,5 @@
 -- What one step, and one unit, does to what a session keeps: the rules one at a time, as the code follows them.
-use Rattle.std.specs.Prelude.{ℕ, ◌+◌, Bool, true, not, ◌&&◌, List, [], ◌∷◌, ◌++◌, Option, Some, None, Result, Ok, Err, is_some, is_err, unwrap_or, ◌==◌, if◌then◌else◌}
+use Rattle.std.specs.Prelude.{ℕ, ◌+◌, Bool, true, not, ◌&&◌, List, [], ◌∷◌, ◌++◌, Option, Some, None, Result, Ok, Err, is_some, is_err, unwrap_or, if◌then◌else◌}
 use Rattle.std.specs.List.{fold}
 use Rattle.std.specs.FinMap as finite
 use Rattle.bgp_prefix.specs.Keys.{key_cmp}
@@ -10,10 +10,11 @@ use Rattle.mrt_body.specs.declared.unit.Place.{Place}
 use Rattle.mrt_body.specs.declared.unit.Damage.{Damage}
 use Rattle.mrt_body.specs.declared.meaning.Event.{Event}
 use Rattle.mrt_body.specs.declared.meaning.Event.TheVariants as event
+use Rattle.mrt_body.specs.States.{established_by, stays_up}
 use Rattle.adj_rib.specs.declared.churn.Churn.{Churn}
 use Rattle.adj_rib.specs.declared.outcome.Outcome.{Outcome}
 use Rattle.adj_rib.specs.declared.outcome.Outcome.TheVariants.{Added, Changed, Same, Gone, Void, Reset}
-use Rattle.adj_rib.specs.Steps.{Step, break, announce, withdraw, ESTABLISHED, reading_steps}
+use Rattle.adj_rib.specs.Steps.{Step, break, announce, withdraw, reading_steps}
 use Rattle.adj_rib.specs.Churns.{announced_over, is_outcome, is_routing, reading_of, damage_in, stopped}
 
 -- one more where the flag says so
@@ -64,15 +65,24 @@ noted up reading c = record c {
 }
 
 abbrev pub up_after : Bool → Result Event Fault → Bool
-up_after up (Ok (event.State old new)) = new == ESTABLISHED
+up_after up (Ok (event.State old new rule)) = stays_up rule new
 up_after up (Ok (event.Change update)) = up
 up_after up (Ok (event.Rib key route)) = up
 up_after up (Ok event.Other) = up
 up_after up (Err fault) = up
 
+-- whether the session is established after a reading
+abbrev pub established_after : Bool → Result Event Fault → Bool
+established_after was (Ok (event.State old new rule)) = unwrap_or (established_by rule old new) was
+established_after was (Ok (event.Change update)) = was
+established_after was (Ok (event.Rib key route)) = was
+established_after was (Ok event.Other) = was
+established_after was (Err fault) = was
+
 -- what a session keeps beside whether it is spent
 pub record Kept : Type 0 where
   pub up : Bool
+  pub established : Bool
   pub table : RouteMap
   pub churn : Churn
   pub faults : List Damage
@@ -94,13 +104,19 @@ no_churn = record {
 
 -- before the first unit
 abbrev pub START : Kept
-START = record { up = true; table = finite.empty; churn = no_churn; faults = [] }
+START = record { up = true; established = true; table = finite.empty; churn = no_churn; faults = [] }
 
 -- after the steps of a reading
 unfoldable pub followed : Kept → Result Event Fault → Kept
 followed k reading =
     let rib = fold applied (k.table, noted k.up reading k.churn) (reading_steps k.up reading) in
-    record { up = up_after k.up reading; table = rib.0; churn = rib.1; faults = k.faults }
+    record {
+      up = up_after k.up reading;
+      established = established_after k.established reading;
+      table = rib.0;
+      churn = rib.1;
+      faults = k.faults;
+    }
 
 -- the faults after one more, if any
 abbrev pub listed : List Damage → Option Damage → List Damage

@@ -8,12 +8,13 @@ use Rattle.mrt_body.specs.declared.unit.Unit.{Unit as ReplayUnit}
 use Rattle.mrt_body.specs.declared.unit.Damage.{Damage}
 use Rattle.mrt_body.specs.declared.meaning.Event.{Event}
 use Rattle.mrt_body.specs.declared.meaning.Event.TheVariants as event
+use Rattle.mrt_body.specs.States.{breaks}
 use Rattle.mrt_body.specs.Events.{event_in}
 use Rattle.adj_rib.specs.declared.churn.Churn.{Churn}
 use Rattle.adj_rib.specs.declared.outcome.Outcome.{Outcome}
 use Rattle.adj_rib.specs.declared.outcome.Outcome.TheVariants.{Added, Changed, Same, Gone, Void, Reset}
 use Rattle.bgp_update.specs.Equality.{route_eq}
-use Rattle.adj_rib.specs.Steps.{Step, break, announce, withdraw, ESTABLISHED, is_up, steps_of}
+use Rattle.adj_rib.specs.Steps.{Step, break, announce, withdraw, is_up, steps_of}
 use Rattle.adj_rib.specs.Tables.{route_at}
 
 abbrev pub announced_over : Option Route → Route → Outcome
@@ -47,13 +48,13 @@ count_of outcome outcomes = count_by (is_outcome outcome) outcomes
 abbrev pub is_routing : Result Event Fault → Bool
 is_routing (Ok (event.Change update)) = true
 is_routing (Ok (event.Rib key route)) = true
-is_routing (Ok (event.State old new)) = false
+is_routing (Ok (event.State old new rule)) = false
 is_routing (Ok event.Other) = false
 is_routing (Err fault) = false
 
 -- a state change that is a break, whole
 abbrev pub is_break : Result Event Fault → Bool
-is_break (Ok (event.State old new)) = not ((old == ESTABLISHED) && (new == ESTABLISHED))
+is_break (Ok (event.State old new rule)) = breaks rule old new
 is_break (Ok (event.Change update)) = false
 is_break (Ok (event.Rib key route)) = false
 is_break (Ok event.Other) = false

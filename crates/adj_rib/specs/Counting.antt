@@ -1,7 +1,9 @@
 -- What one unit does to the counts of a watch: the rules one at a time, as the code follows them.
-use Rattle.std.specs.Prelude.{ℕ, Bool, true, ◌&&◌, List, Option, Some, None, Result, Ok, Err, ◌==◌, if◌then◌else◌}
+use Rattle.std.specs.Prelude.{ℕ, Bool, true, List, Option, Some, None, Result, Ok, Err, if◌then◌else◌}
 use Rattle.std.specs.List.{fold}
 use Rattle.mrt_frame.specs.declared.fault.Fault.{Fault}
+use Rattle.mrt_body.specs.declared.state_rule.StateRule.{StateRule}
+use Rattle.mrt_body.specs.States.{breaks}
 use Rattle.mrt_body.specs.declared.meaning.Event.{Event}
 use Rattle.mrt_body.specs.declared.meaning.Event.TheVariants as event
 use Rattle.adj_rib.specs.declared.churn.Churn.{Churn}
@@ -9,13 +11,12 @@ use Rattle.adj_rib.specs.declared.note.Note.{Note}
 use Rattle.adj_rib.specs.declared.outcome.Outcome.{Outcome}
 use Rattle.adj_rib.specs.declared.outcome.UnitKind.{UnitKind}
 use Rattle.adj_rib.specs.declared.outcome.UnitKind.TheVariants.{Break, Idle, Damaged, Other}
-use Rattle.adj_rib.specs.Steps.{ESTABLISHED}
 use Rattle.adj_rib.specs.Applied.{counted, counted_if, timed}
 use Rattle.adj_rib.specs.Histories.{is_before, outcome_noted}
 
 -- what a state change is counted as
-abbrev pub change_kind : ℕ → ℕ → UnitKind
-change_kind old new = if (old == ESTABLISHED) && (new == ESTABLISHED) then Other else Break
+abbrev pub change_kind : StateRule → ℕ → ℕ → UnitKind
+change_kind rule old new = if breaks rule old new then Break else Other
 
 -- an UPDATE or RIB entry, whole, of a peer that is up or not
 abbrev pub routing_kind : Bool → UnitKind
@@ -23,7 +24,7 @@ routing_kind up = if up then Other else Idle
 
 -- what a unit is counted as, beside what it does to keys, by whether its peer is up and its reading
 abbrev pub kind_of : Bool → Result Event Fault → UnitKind
-kind_of up (Ok (event.State old new)) = change_kind old new
+kind_of up (Ok (event.State old new rule)) = change_kind rule old new
 kind_of up (Ok (event.Change update)) = routing_kind up
 kind_of up (Ok (event.Rib key route)) = routing_kind up
 kind_of up (Ok event.Other) = Other

@@ -26,7 +26,7 @@ kept_route None = None
 abbrev pub entry_reading : Payload → Option (Result Route Fault)
 entry_reading (Entry key attrs) = Some (route_in Four attrs)
 entry_reading (Message bytes width add_path) = None
-entry_reading (State from to) = None
+entry_reading (State from to rule) = None
 
 -- An UPDATE announces these keys by this route, and does nothing else.
 pub record IsAnnouncement (keys : List RouteKey) (by : Route) (update : Update) : Type 0 where

@@ -6,7 +6,7 @@ use Rattle.mrt_body.specs.declared.unit.Unit.{Unit as ReplayUnit}
 use Rattle.mrt_body.specs.declared.unit.Damage.{Damage}
 use Rattle.adj_rib.specs.declared.arrivals.Arrivals.{Arrivals}
 use Rattle.adj_rib.specs.declared.churn.Churn.{Churn}
-use Rattle.adj_rib.specs.Steps.{is_up, steps_of}
+use Rattle.adj_rib.specs.Steps.{is_up, is_established, steps_of}
 use Rattle.adj_rib.specs.Tables.{table_of}
 use Rattle.mrt_body.specs.declared.choice.PrefixChoice.{PrefixChoice}
 use Rattle.adj_rib.specs.Selecting.{chooses, selected_entries}
@@ -16,6 +16,7 @@ use Rattle.adj_rib.specs.Churns.{churn_of, damaged_of}
 -- the table as its entries in order
 pub record SessionState : Type 0 where
   pub up : Bool
+  pub established : Bool
   pub table : List (RouteKey × Route)
   pub churn : Churn
   pub arrivals : Arrivals
@@ -26,6 +27,7 @@ pub record SessionState : Type 0 where
 unfoldable pub session_of : List ReplayUnit → SessionState
 session_of units = record {
   up = is_up units;
+  established = is_established units;
   table = table_of (steps_of units);
   churn = churn_of units;
   arrivals = arrivals_of units;

@@ -9,7 +9,8 @@ use Rattle.mrt_body.specs.declared.unit.Payload.TheVariants.{State, Message, Ent
 use Rattle.mrt_body.specs.declared.unit.Unit.{Unit as ReplayUnit}
 use Rattle.mrt_body.specs.declared.meaning.Event.{Event}
 use Rattle.mrt_body.specs.declared.meaning.Event.TheVariants as event
-use Rattle.adj_rib.specs.Steps.{ESTABLISHED, is_up}
+use Rattle.mrt_body.specs.States.{breaks}
+use Rattle.adj_rib.specs.Steps.{is_up}
 use Rattle.adj_rib.specs.Churns.{reading_of}
 
 -- an event that announces the key with the route: as a prefix of the message, by its MP_REACH_NLRI, or as a RIB entry
@@ -17,12 +18,12 @@ abbrev pub Announces : Event → RouteKey → Route → Type 0
 Announces (event.Change u) key route =
     (Contains u.announced key × (u.route ≡ route)) ⊎ (Contains u.reached key × (by_hop u.route u.reached_hop ≡ route))
 Announces (event.Rib other entered) key route = (other ≡ key) × (entered ≡ route)
-Announces (event.State old new) key route = ⊥
+Announces (event.State old new rule) key route = ⊥
 Announces event.Other key route = ⊥
 
--- a state change but from Established to Established
+-- a state change that is a break by its rule
 abbrev pub IsBreak : Payload → Type 0
-IsBreak (State from to) = (from ≡ ESTABLISHED) × (to ≡ ESTABLISHED) → ⊥
+IsBreak (State from to rule) = breaks rule from to ≡ true
 IsBreak (Message bytes width add_path) = ⊥
 IsBreak (Entry key attrs) = ⊥
 

@@ -1,7 +1,6 @@
 -- What a peer's units do to its table (RFC 4271, 4.3, 8 and 9; RFC 6396, 4.4; RFC 4760, section 3).
-use Rattle.std.specs.Prelude.{ℕ, Bool, true, not, ◌&&◌, ◌||◌, List, [], ◌∷◌, ◌++◌, map, Option, Some, None, Result, Ok, Err, ◌==◌, if◌then◌else◌}
+use Rattle.std.specs.Prelude.{ℕ, Bool, true, not, ◌||◌, List, [], ◌∷◌, ◌++◌, map, Option, None, Result, Ok, Err, unwrap_or, if◌then◌else◌}
 use Rattle.std.specs.List.{filter, filter_map, last_or}
-use Rattle.std.specs.Option.{option_map_or}
 use Rattle.bgp_prefix.specs.Keys.{among}
 use Rattle.bgp_prefix.specs.declared.key.RouteKey.{RouteKey}
 use Rattle.mrt_frame.specs.Positions.{flat_map_after}
@@ -9,11 +8,13 @@ use Rattle.mrt_frame.specs.declared.fault.Fault.{Fault}
 use Rattle.bgp_update.specs.declared.route.Route.{Route}
 use Rattle.bgp_update.specs.declared.route.Update.{Update}
 use Rattle.bgp_update.specs.Hops.{by_hop}
+use Rattle.mrt_body.specs.declared.state_rule.StateRule.{StateRule}
 use Rattle.mrt_body.specs.declared.unit.Payload.{Payload}
 use Rattle.mrt_body.specs.declared.unit.Payload.TheVariants.{State, Message, Entry}
 use Rattle.mrt_body.specs.declared.unit.Unit.{Unit as ReplayUnit}
 use Rattle.mrt_body.specs.declared.meaning.Event.{Event}
 use Rattle.mrt_body.specs.declared.meaning.Event.TheVariants as event
+use Rattle.mrt_body.specs.States.{breaks, established_by, up_by}
 use Rattle.mrt_body.specs.Events.{event_in}
 
 -- a change of a table
@@ -22,24 +23,27 @@ pub data Step : Type 0 where
   announce : RouteKey → Route → Step
   withdraw : RouteKey → Step
 
--- Established, of RFC 4271's states
-abbrev pub ESTABLISHED : ℕ
-ESTABLISHED = 6
+-- what a payload says by this, if it is a state change and says anything
+abbrev pub state_says : (StateRule → ℕ → ℕ → Option Bool) → Payload → Option Bool
+state_says says (State from to rule) = says rule from to
+state_says says (Message bytes width add_path) = None
+state_says says (Entry key attrs) = None
 
--- the new state in a payload, if it is a state change
-abbrev pub new_state : Payload → Option ℕ
-new_state (State from to) = Some to
-new_state (Message bytes width add_path) = None
-new_state (Entry key attrs) = None
+-- what the last state change says that says anything; true where none does
+abbrev pub last_said : (StateRule → ℕ → ℕ → Option Bool) → List ReplayUnit → Bool
+last_said says units = unwrap_or (last_or None (filter_map (λ u. state_says says u.payload) units)) true
 
--- The last state change has new state Established, or there is none.
+-- The peer is up after the last state change, or there is none.
 abbrev pub is_up : List ReplayUnit → Bool
-is_up units =
-    option_map_or (λ state. state == ESTABLISHED) (last_or None (filter_map (λ u. new_state u.payload) units)) true
+is_up units = last_said up_by units
 
--- a state change is a break unless both states are Established (own)
-abbrev pub state_steps : ℕ → ℕ → List Step
-state_steps old new = if (old == ESTABLISHED) && (new == ESTABLISHED) then [] else break ∷ []
+-- The session is established after the last state change that tells, or none does.
+abbrev pub is_established : List ReplayUnit → Bool
+is_established units = last_said established_by units
+
+-- a break, or nothing
+abbrev pub state_steps : StateRule → ℕ → ℕ → List Step
+state_steps rule old new = if breaks rule old new then break ∷ [] else []
 
 -- what is withdrawn, and neither announced nor reached (own, after 4.3)
 abbrev pub withdrawals : Update → List Step
@@ -59,7 +63,7 @@ update_steps u = withdrawals u ++ announcements u ++ reachings u
 
 -- the steps of an event of a peer that is up or not
 abbrev pub event_steps : Bool → Event → List Step
-event_steps up (event.State old new) = state_steps old new
+event_steps up (event.State old new rule) = state_steps rule old new
 event_steps up (event.Change update) = if up then update_steps update else []
 event_steps up (event.Rib key route) = if up then announce key route ∷ [] else []
 event_steps up event.Other = []

@@ -41,6 +41,7 @@ mod selecting;
 mod session;
 mod shared_route;
 mod source;
+mod states;
 mod table;
 mod update;
 mod watch;
@@ -56,4 +57,5 @@ pub use selecting::{
 pub use session::Session;
 pub use shared_route::SharedRoute;
 pub use source::routes_come_while_up;
+pub use states::{established_sessions_decide, recorded_states_decide};
 pub use watch::Watch;

@@ -12,16 +12,15 @@ use crate::table::announce_route;
 use crate::update::{apply_announcement, apply_update};
 use bgp_prefix::{Memory, PrefixMap, RouteKey};
 use bgp_update::{AttrError, PackedUpdate};
-use mrt_body::{Damage, LentPayload, LentUnit, PackedEvent, Place, packed_event};
+use mrt_body::{Damage, LentPayload, LentUnit, PackedEvent, Place, StateRule, packed_event};
 use std::alloc::Global;
-
-/// The state Established (RFC 4271, 8.2.2).
-const ESTABLISHED_STATE: u16 = 6;
 
 /// A peer's Adj-RIB-In, along with what is counted and listed for the peer.
 #[derive(Drop)]
 pub(crate) struct RibIn<M: PrefixMap<SharedRoute>> {
     pub(crate) up: bool,
+    /// Whether the session is established, as far as state changes tell.
+    pub(crate) established: bool,
     pub(crate) table: M,
     pub(crate) churn: Churn,
     pub(crate) faults: Vec<Damage>,
@@ -45,6 +44,7 @@ impl<M: PrefixMap<SharedRoute>> RibIn<M> {
     {
         RibIn {
             up: true,
+            established: true,
             table: M::new(alloc),
             churn: Churn::new(),
             faults: Vec::new(alloc),
@@ -54,14 +54,17 @@ impl<M: PrefixMap<SharedRoute>> RibIn<M> {
 
     /// Takes the steps of a state change.
     #[tactic(auto, unfolding(crate::specs::Applied::followed, crate::specs::Applied::noted))]
-    fn change_state(&mut self, old: u16, new: u16)
-        ensures { kept_in M.contents self.new ≡ followed (kept_in M.contents self.old) (Ok (events.State old new)) }
+    fn change_state(&mut self, old: u16, new: u16, rule: StateRule)
+        ensures { kept_in M.contents self.new ≡ followed (kept_in M.contents self.old) (Ok (events.State old new rule)) }
     {
-        if old != ESTABLISHED_STATE || new != ESTABLISHED_STATE {
+        if rule.breaks(old, new) {
             self.table.clear();
             self.churn.count(Outcome::Reset);
         }
-        self.up = new == ESTABLISHED_STATE;
+        self.up = rule.stays_up(new);
+        if let Some(established) = rule.established_by(old, new) {
+            self.established = established;
+        }
     }
 
     /// Counts an UPDATE or a RIB entry of a peer that isn't up.
@@ -160,8 +163,8 @@ impl<M: PrefixMap<SharedRoute>> RibIn<M> {
             ≡ read_as (kept_in M.contents self.old) place (event_in (lent_payload payload.now))) }
     {
         match packed_event(alloc, buffer, payload) {
-            Ok(PackedEvent::State(old, new)) => {
-                self.change_state(old, new);
+            Ok(PackedEvent::State(old, new, rule)) => {
+                self.change_state(old, new, rule);
                 Ok(())
             }
             Ok(PackedEvent::Change(update)) => self.take_update(alloc, update),

@@ -5,7 +5,7 @@ ghost use Rattle.bgp_prefix.specs.declared.key.RouteKey.{RouteKey};
 ghost use Rattle.mrt_body.specs.declared.choice.PrefixChoice.{PrefixChoice as Choice};
 ghost use Rattle.mrt_body.specs.declared.unit.Unit.{Unit as ReplayUnit};
 ghost use Rattle.mrt_body.specs.Selections.{concerns};
-ghost use Rattle.adj_rib.specs.Steps.{Step, is_up, steps_of};
+ghost use Rattle.adj_rib.specs.Steps.{Step, is_established, is_up, steps_of};
 ghost use Rattle.adj_rib.specs.Tables.{table_of};
 ghost use Rattle.adj_rib.specs.Churns.{churn_of, outcomes_of};
 ghost use Rattle.adj_rib.specs.Histories.{chosen_notes, churn_within, unit_notes};
@@ -21,9 +21,11 @@ pub fn selections_commute()
 {}
 
 /// Selecting a peer's units before they are taken makes no difference to the chosen prefixes: their routes are the
-/// same, and so is what was done to them; and the peer is up or not as it was.
+/// same, and so is what was done to them; and the peer is up or not as it was, and its session established or not.
 pub fn early_is_late()
     ensures state { (choices : List Choice) (units : List ReplayUnit) → is_up (concerned choices units) ≡ is_up units }
+    ensures established { (choices : List Choice) (units : List ReplayUnit) →
+        is_established (concerned choices units) ≡ is_established units }
     ensures routes { (choices : List Choice) (units : List ReplayUnit) →
         selected_entries (chooses choices) (table_of (steps_of (concerned choices units)))
         ≡ selected_entries (chooses choices) (table_of (steps_of units)) }

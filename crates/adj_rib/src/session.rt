@@ -34,6 +34,7 @@ impl<M: PrefixMap<SharedRoute>> Model for Session<M> {
 
     ghost view = { λ s. record {
       up = s.rib.up;
+      established = s.rib.established;
       table = finite.entries (M.contents s.rib.table);
       churn = s.rib.churn;
       arrivals = s.arrivals;
@@ -112,11 +113,19 @@ impl<M: PrefixMap<SharedRoute>> Session<M> {
         self.rib.prefetch_route(ahead)
     }
 
-    /// Whether the last state change led to Established, or there was none.
+    /// Whether the peer is up after the last state change, by its rule, or there was none: then its units are taken.
     pub fn is_up(&self) -> bool
         ensures { result ≡ self.now.up }
     {
         self.rib.up
+    }
+
+    /// Whether the session is established after the last state change that tells, by its rule, or none does. Where
+    /// state changes are taken as they are recorded, it is so exactly if the peer is up.
+    pub fn is_established(&self) -> bool
+        ensures { result ≡ self.now.established }
+    {
+        self.rib.established
     }
 
     /// The routes that the peer announced and neither withdrew nor lost with its session.

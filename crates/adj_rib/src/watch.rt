@@ -16,21 +16,20 @@ use crate::route_set::{HashedRoute, RouteSet};
 use crate::shared_route::SharedRoute;
 use bgp_prefix::{Memory, PrefixMap, RouteKey};
 use bgp_update::{AttrError, PackedRoute, PackedUpdate};
-use mrt_body::{ChosenPrefixes, Damage, LentPayload, LentUnit, PackedEvent, Place, packed_event};
+use mrt_body::{
+    ChosenPrefixes, Damage, LentPayload, LentUnit, PackedEvent, Place, StateRule, packed_event,
+};
 use std::alloc::Global;
 use std::marker::Model;
 
-/// The state Established (RFC 4271, 8.2.2).
-const ESTABLISHED_STATE: u16 = 6;
-
 /// Returns what a state change is counted as.
-fn kind_of_change(old: u16, new: u16) -> UnitKind
-    ensures { result ≡ change_kind old new }
+fn kind_of_change(old: u16, new: u16, rule: StateRule) -> UnitKind
+    ensures { result ≡ change_kind rule old new }
 {
-    if old == ESTABLISHED_STATE && new == ESTABLISHED_STATE {
-        UnitKind::Other
-    } else {
+    if rule.breaks(old, new) {
         UnitKind::Break
+    } else {
+        UnitKind::Other
     }
 }
 
@@ -79,14 +78,15 @@ impl<M: PrefixMap<SharedRoute>> WatchedRib<M> {
         notes: &mut Vec<Note>,
         old: u16,
         new: u16,
+        rule: StateRule,
     ) -> Result<(), Memory>
         ensures { (choices : List Choice) → OnOk result ((watching_in M.contents self.new, notes.new.items)
-            ≡ watch_after choices (watching_in M.contents self.old, notes.old.items) (Ok (events.State old new))) }
+            ≡ watch_after choices (watching_in M.contents self.old, notes.old.items) (Ok (events.State old new rule))) }
     {
-        if old != ESTABLISHED_STATE || new != ESTABLISHED_STATE {
+        if rule.breaks(old, new) {
             lose_all(alloc, &mut self.table, notes)?;
         }
-        self.up = new == ESTABLISHED_STATE;
+        self.up = rule.stays_up(new);
         Ok(())
     }
 
@@ -163,9 +163,9 @@ impl<M: PrefixMap<SharedRoute>> WatchedRib<M> {
     {
         let up = self.up;
         match packed_event(alloc, buffer, payload) {
-            Ok(PackedEvent::State(old, new)) => {
-                self.change_state(alloc, notes, old, new)?;
-                Ok(kind_of_change(old, new))
+            Ok(PackedEvent::State(old, new, rule)) => {
+                self.change_state(alloc, notes, old, new, rule)?;
+                Ok(kind_of_change(old, new, rule))
             }
             Ok(PackedEvent::Change(update)) => {
                 self.take_update(alloc, chosen, notes, update)?;
@@ -245,7 +245,7 @@ impl<M: PrefixMap<SharedRoute>> Watch<M> {
         Ok(())
     }
 
-    /// Whether the last state change led to Established, or there was none.
+    /// Whether the peer is up after the last state change, by its rule, or there was none.
     pub fn is_up(&self) -> bool
         ensures { result ≡ self.now.up }
     {

@@ -155,6 +155,7 @@ fn selection_of(alloc: Global, job: &Job) -> Result<Selection, Memory>
       prefixes = job.now.prefixes.items;
       peers = job.now.peers.items;
       share = job.now.share;
+      states = job.now.states;
     }) }
 {
     let choices = Vec::from_slice(alloc, &job.prefixes)?;
@@ -165,7 +166,8 @@ fn selection_of(alloc: Global, job: &Job) -> Result<Selection, Memory>
             .up_to(job.until)
             .of_prefixes(prefixes)
             .of_peers(peers)
-            .of_share(job.share),
+            .of_share(job.share)
+            .by_states(job.states),
     )
 }
 

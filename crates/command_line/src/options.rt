@@ -50,7 +50,7 @@ pub struct CommandRow {
     pub examples: &'static [&'static str],
 }
 
-pub static OPTIONS: [OptionRow; 14] = [
+pub static OPTIONS: [OptionRow; 15] = [
     OptionRow {
         name: "address",
         value: "A",
@@ -120,6 +120,16 @@ pub static OPTIONS: [OptionRow; 14] = [
         commands: "churn history",
         is_required: false,
         meaning: "List or count what was recorded from this second on. What was recorded before is replayed, and neither listed nor counted. TIME is as that of --until",
+    },
+    OptionRow {
+        name: "states",
+        value: "RULE",
+        takes: Takes::Text,
+        default: "recorded",
+        offered: "recorded established",
+        commands: "",
+        is_required: false,
+        meaning: "Say which state changes end a peer's routes. With recorded each does but one from 6 (Established) to 6, and the peer is up where the new state is 6. With established, for dumps of FRR, one does where either of its states is 6 and the other isn't, and what comes between is taken whatever the states are",
     },
     OptionRow {
         name: "same",

@@ -14,7 +14,7 @@ use crate::peers::{read_peer, read_share};
 use crate::refusal::refusal_of;
 use clap::error::ErrorKind;
 use clap::{ArgMatches, Error};
-use mrt_body::{PeerChoice, PrefixChoice, Share};
+use mrt_body::{PeerChoice, PrefixChoice, Share, StateRule};
 use rib_report::Request;
 use std::alloc::{AllocError, AllocFailed, Global};
 
@@ -34,6 +34,8 @@ pub struct Job {
     pub ring: usize,
     /// A second since 1970 UTC.
     pub until: Option<u64>,
+    /// By which rule state changes are taken.
+    pub states: StateRule,
     /// The prefixes that are chosen, or none for all.
     pub prefixes: Vec<PrefixChoice>,
     /// The files whose lines add to them; `-` is standard input.
@@ -161,6 +163,19 @@ fn second_of(alloc: Global, name: &str, matches: &ArgMatches<'_>) -> Result<Opti
     }
 }
 
+/// Returns the rule by which state changes are taken.
+fn states_of(alloc: Global, matches: &ArgMatches<'_>) -> Result<StateRule, Usage>
+    ensures { IfErr result IsRefusal }
+{
+    match matches.get_str("states").unwrap_or("recorded") {
+        "recorded" => Ok(StateRule::Recorded),
+        "established" => Ok(StateRule::Established),
+        text => Err(Usage::Words(format!(in alloc;
+            "error: invalid value '{text}' for '--states <RULE>': neither recorded nor established\n"
+        )?)),
+    }
+}
+
 /// Refuses a text that is no prefix.
 fn no_choice(alloc: Global, text: &str) -> Result<Usage, AllocError>
     ensures { IfOk result IsRefusal }
@@ -265,6 +280,7 @@ fn job_of(alloc: Global, name: &str, matches: &ArgMatches<'_>) -> Result<Job, Us
     if is_never(&request, until) {
         return refused(alloc, "error: --since is after --until\n");
     }
+    let states = states_of(alloc, matches)?;
     let prefixes = prefixes_of(alloc, matches)?;
     let lists = lists_of(alloc, matches)?;
     let peers = peers_of(alloc, matches)?;
@@ -294,6 +310,7 @@ fn job_of(alloc: Global, name: &str, matches: &ArgMatches<'_>) -> Result<Job, Us
         has_workers: given.is_some(),
         ring,
         until,
+        states,
         prefixes,
         lists,
         peers,

@@ -1,6 +1,7 @@
 //! Rows on words, addresses and statuses.
 
 use command_line::{FileName, FirstBytes, Job, Kind, Usage, read_address, read_second, read_words};
+use mrt_body::StateRule;
 use rib_report::Request;
 use std::alloc::Global;
 use std::test::Fail;
@@ -53,6 +54,9 @@ fn wrong_words_are_refused(rt: HostRuntime) -> Result<(), Fail> {
         ("history --since 5 --until 4 x", "words"),
         ("tables --since 5 x", "words"),
         ("tables --same x", "words"),
+        ("tables --states x", "words"),
+        ("tables --states up x", "words"),
+        ("churn --states Established x", "words"),
         ("tables --peer AS65001 x", "words"),
         ("tables --peer 65001,192.0.2 x", "words"),
         ("tables --peers 0/4 x", "words"),
@@ -184,6 +188,26 @@ fn words_ask_for_a_job(rt: HostRuntime) -> Result<(), Fail> {
                 }
                 assert!(rt; names.as_str() == files, "{text}");
             }
+            Err(_) => assert!(rt; false, "{text}"),
+        }
+    }
+    Ok(())
+}
+
+#[test]
+fn the_rule_of_state_changes_is_a_word(rt: HostRuntime) -> Result<(), Fail> {
+    let alloc = rt.alloc();
+    for (text, expected) in [
+        ("tables x", StateRule::Recorded),
+        ("churn --states recorded x", StateRule::Recorded),
+        ("peers --states established x", StateRule::Established),
+        (
+            "faults --states recorded x --states established",
+            StateRule::Established,
+        ),
+    ] {
+        match job_of(alloc, text)? {
+            Ok(job) => assert!(rt; job.states == expected, "{text}"),
             Err(_) => assert!(rt; false, "{text}"),
         }
     }

@@ -1,5 +1,6 @@
 -- A schedule of events, by computation.
 use Rattle.std.proofs.Common.{◌≡◌, ℕ, ◌%◌, None, List, [], ◌∷◌, refl}
+use Rattle.mrt_body.specs.declared.state_rule.StateRule.TheVariants.{Recorded}
 use Rattle.mrt_body.specs.declared.unit.PeerAddr.TheVariants.{V4}
 use Rattle.mrt_body.specs.declared.unit.PeerKey.{PeerKey}
 use Rattle.mrt_body.specs.declared.unit.Payload.TheVariants.{State}
@@ -14,7 +15,7 @@ peer_at addr = record { asn = 65000; addr = V4 addr }
 
 -- the unit at an offset, of the peer at an address
 abbrev unit_at : ℕ → ℕ → ReplayUnit
-unit_at offset addr = record { place = record { file = 0; offset = offset; entry = None }; time = 0; peer = peer_at addr; payload = State 5 6 }
+unit_at offset addr = record { place = record { file = 0; offset = offset; entry = None }; time = 0; peer = peer_at addr; payload = State 5 6 Recorded }
 
 -- of three peers, which take turns at two lanes
 abbrev five_units : List ReplayUnit

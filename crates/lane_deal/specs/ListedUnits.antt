@@ -14,7 +14,7 @@ use Rattle.lane_deal.specs.declared.unit_list.LentItem.{LentItem}
 
 -- the payload of this kind with these bytes
 abbrev pub payload_with : PayloadKind → List ℕ → Payload
-payload_with (kinds.State from to) bytes = State (from % 65536) (to % 65536)
+payload_with (kinds.State from to rule) bytes = State (from % 65536) (to % 65536) rule
 payload_with (kinds.Message width add_path) bytes = Message bytes width add_path
 payload_with (kinds.Entry key) bytes = Entry key bytes
 

@@ -7,13 +7,13 @@ ghost use Rattle.lane_deal.specs.ListedUnits.{AreKept, IsListedAt};
 use crate::listed_peer::ListedPeer;
 use bgp_prefix::{Memory, RouteKey};
 use bgp_update::Width;
-use mrt_body::Place;
+use mrt_body::{Place, StateRule};
 
 /// A payload without its bytes.
 #[derive(Clone, Copy)]
 pub enum PayloadKind {
     /// Numbers below 65,536. As long as the fields of a key, they are copied together with these.
-    State { from: u32, to: u32 },
+    State { from: u32, to: u32, rule: StateRule },
     Message { width: Width, add_path: bool },
     Entry { key: RouteKey },
 }

@@ -57,10 +57,11 @@ fn parts_of<'a>(payload: &LentPayload<'a>) -> (PayloadKind, &'a [u8])
     ensures { payload_with result.0 result.1.now ≡ lent_payload payload.now }
 {
     match *payload {
-        LentPayload::State { from, to } => (
+        LentPayload::State { from, to, rule } => (
             PayloadKind::State {
                 from: from as u32,
                 to: to as u32,
+                rule,
             },
             &[],
         ),
@@ -79,9 +80,10 @@ fn with_bytes(kind: PayloadKind, bytes: &[u8]) -> LentPayload<'_>
     ensures { lent_payload result ≡ payload_with kind bytes.now }
 {
     match kind {
-        PayloadKind::State { from, to } => LentPayload::State {
+        PayloadKind::State { from, to, rule } => LentPayload::State {
             from: (from % STATES) as u16,
             to: (to % STATES) as u16,
+            rule,
         },
         PayloadKind::Message { width, add_path } => LentPayload::Message {
             bytes,

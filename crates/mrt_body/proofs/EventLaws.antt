@@ -56,12 +56,12 @@ module _ (width : Width) (add_path : Bool) (bytes : List ℕ) where
     where
       no_update : (kind : ℕ) → kind ≢ UPDATE → eqb kind UPDATE ≡ false
       no_update kind other = grind arith
-  message_event_again (event.State old new) h = absurd h
+  message_event_again (event.State old new rule) h = absurd h
   message_event_again (event.Rib key route) h = absurd h
 
 pub event_takes : (payload : Payload) (e : Event) → IsBytes (payload_bytes payload) → event_in payload ≡ Ok e → IsEvent payload e
 unfolding event_in
-event_takes (State from to) e fine given = sym (ok_is (event.State from to) e given)
+event_takes (State from to rule) e fine given = sym (ok_is (event.State from to rule) e given)
 event_takes (Message bytes width add_path) e fine given = message_event_takes width add_path bytes e fine given
 event_takes (Entry key attrs) e fine given =
     let r = bind_ok (route_in Four attrs) (λ route. Ok (event.Rib key route)) e given in
@@ -70,12 +70,12 @@ event_takes (Entry key attrs) e fine given =
 entry_again : (key : RouteKey) (attrs : List ℕ) (e : Event) → IsEntryEvent key attrs e → (route_in Four attrs >>= λ route. done (event.Rib key route)) ≡ Ok e
 entry_again key attrs (event.Rib other route) h = rw (route_again Four attrs route h.1) (ap (λ (k : RouteKey). done (event.Rib k route)) (sym h.0))
 entry_again key attrs (event.Change update) h = absurd h
-entry_again key attrs (event.State old new) h = absurd h
+entry_again key attrs (event.State old new rule) h = absurd h
 entry_again key attrs event.Other h = absurd h
 
 pub event_again : (payload : Payload) (e : Event) → IsEvent payload e → event_in payload ≡ Ok e
 unfolding event_in
-event_again (State from to) e h = ap (λ (x : Event). done x) (sym h)
+event_again (State from to rule) e h = ap (λ (x : Event). done x) (sym h)
 event_again (Message bytes width add_path) e h = message_event_again width add_path bytes e h
 event_again (Entry key attrs) e h = entry_again key attrs e h
 

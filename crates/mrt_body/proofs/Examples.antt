@@ -16,6 +16,7 @@ use Rattle.bgp_update.specs.Segments.{path_in, segment_at, segment_field_at}
 use Rattle.bgp_update.specs.Multiprotocol.{reached_keys, unreached_keys}
 use Rattle.bgp_update.specs.Attributes.{attribute_at, attributes_in, value_fault, route_from, route_in}
 use Rattle.bgp_update.specs.Updates.{fields_in, said_update, update_in}
+use Rattle.mrt_body.specs.declared.state_rule.StateRule.TheVariants.{Recorded, Established}
 use Rattle.mrt_body.specs.declared.unit.PeerAddr.TheVariants.{V4, V6}
 use Rattle.mrt_body.specs.declared.unit.Payload.TheVariants.{State, Message, Entry}
 use Rattle.mrt_body.specs.declared.unit.Found.{Found}
@@ -47,7 +48,7 @@ found-announcement : found_in everything (announcement ∷ []) ≡ found.Unit (r
 unfolding found_in cuts cuts_within found_at content_of message_unit states_unit session_peer_at session_at states_in index_in index_head_at peers_in written_peer_at rib_in rib_head_at entry_at
 found-announcement = refl
 
-found-state_change : found_in everything (state_change (hex (codes "0006 0001")) ∷ []) ≡ found.Unit (record { place = record { file = 0; offset = 0; entry = None }; time = 2000000; peer = record { asn = 65000; addr = V4 0xC0000201 }; payload = State 6 1 }) ∷ []
+found-state_change : found_in everything (state_change (hex (codes "0006 0001")) ∷ []) ≡ found.Unit (record { place = record { file = 0; offset = 0; entry = None }; time = 2000000; peer = record { asn = 65000; addr = V4 0xC0000201 }; payload = State 6 1 Recorded }) ∷ []
 unfolding found_in cuts cuts_within found_at content_of message_unit states_unit session_peer_at session_at states_in index_in index_head_at peers_in written_peer_at rib_in rib_head_at entry_at
 found-state_change = refl
 
@@ -139,6 +140,11 @@ unfolding cuts cuts_within content_of
 records_counted = refl
 
 -- ---- selections
+
+-- a state change has the rule that is asked for
+found-established : found_in (record all_units { states = Established }) (state_change (hex (codes "0006 0001")) ∷ []) ≡ found.Unit (record { place = record { file = 0; offset = 0; entry = None }; time = 2000000; peer = record { asn = 65000; addr = V4 0xC0000201 }; payload = State 6 1 Established }) ∷ []
+unfolding found_in cuts cuts_within found_at content_of message_unit states_unit session_peer_at session_at states_in index_in index_head_at peers_in written_peer_at rib_in rib_head_at entry_at
+found-established = refl
 
 abbrev of_peers : List PeerChoice → UnitSelection
 of_peers peers = record all_units { peers = peers }

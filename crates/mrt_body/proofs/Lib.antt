@@ -23,5 +23,6 @@ pub mod FilesLaws
 pub mod HeadParts
 pub mod EventLaws
 pub mod ReadingLaws
+pub mod RuleLaws
 pub mod OpenLaws
 pub mod NamedLaws

@@ -101,7 +101,7 @@ module _ (width : Width) (add_path : Bool) (bytes : List ℕ) where
     where
       differ : {x : ℕ × List ℕ} → done x ≡ Err fault → ⊥
       differ e = cc
-  no_event fault read (event.State old new) h = absurd h
+  no_event fault read (event.State old new rule) h = absurd h
   no_event fault read (event.Rib key route) h = absurd h
 
   pub other_found : (kind : ℕ) (body : List ℕ) → IsBytes bytes → message_in bytes ≡ Ok (kind, body) → kind ≢ UPDATE → IsMessageEvent width add_path bytes event.Other
@@ -110,7 +110,7 @@ module _ (width : Width) (add_path : Bool) (bytes : List ℕ) where
   pub other_only : (kind : ℕ) (body : List ℕ) → message_in bytes ≡ Ok (kind, body) → kind ≢ UPDATE → (e : Event) → IsMessageEvent width add_path bytes e → done e ≡ Ok event.Other
   other_only kind body read other (event.Change update) h = absurd (other (same_message bytes kind UPDATE body h.0 read h.1 h.2).0)
   other_only kind body read other event.Other h = refl
-  other_only kind body read other (event.State old new) h = absurd h
+  other_only kind body read other (event.State old new rule) h = absurd h
   other_only kind body read other (event.Rib key route) h = absurd h
 
   pub change_found : (kind : ℕ) (body : List ℕ) (update : Update) → IsBytes bytes → message_in bytes ≡ Ok (kind, body) → kind ≡ UPDATE → ReadsAsUpdate width add_path body update → IsMessageEvent width add_path bytes (event.Change update)
@@ -124,7 +124,7 @@ module _ (width : Width) (add_path : Bool) (bytes : List ℕ) where
       let m = same_message bytes kind UPDATE body h.0 read h.1 h.2 in
       (update, refl, subst (λ (b : List ℕ). ReadsAsUpdate width add_path b update) (sym m.1) h.3)
   change_only kind body read same event.Other h = absurd (h.2 (sym (same_message bytes kind h.0 body h.1 read h.3 h.4).0 ∙ same))
-  change_only kind body read same (event.State old new) h = absurd h
+  change_only kind body read same (event.State old new rule) h = absurd h
   change_only kind body read same (event.Rib key route) h = absurd h
 
   pub change_given : (kind : ℕ) (body : List ℕ) (r : Result Update AttrError) → message_in bytes ≡ Ok (kind, body) → kind ≡ UPDATE
@@ -145,5 +145,5 @@ entry_given key attrs (Ok route) only (event.Rib other said) h = let same = only
 entry_given key attrs (Err errors.Memory) only (event.Rib other said) h = tt
 entry_given key attrs (Err (errors.Bad fault)) only (event.Rib other said) h = let same = only said h.1 in absurd cc
 entry_given key attrs r only (event.Change update) h = absurd h
-entry_given key attrs r only (event.State old new) h = absurd h
+entry_given key attrs r only (event.State old new rule) h = absurd h
 entry_given key attrs r only event.Other h = absurd h

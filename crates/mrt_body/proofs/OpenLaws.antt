@@ -7,7 +7,7 @@ use Rattle.mrt_body.specs.Choices.{is_open}
 use Rattle.mrt_body.specs.Selections.{concerns}
 
 pub open_concerns : (choices : List PrefixChoice) (payload : Payload) → is_open choices ≡ true → concerns choices payload ≡ true
-open_concerns [] (State from to) h = refl
+open_concerns [] (State from to rule) h = refl
 open_concerns [] (Message bytes width add_path) h = refl
 open_concerns [] (Entry key attrs) h = refl
 open_concerns (choice ∷ choices) payload h = absurd cc

@@ -9,6 +9,7 @@ use Rattle.mrt_frame.proofs.FieldLaws.{IsBytes, number_takes, number_at-again}
 use Rattle.bgp_update.specs.declared.width.Width.{Width}
 use Rattle.bgp_update.specs.Segments.{number_len}
 use Rattle.mrt_body.specs.declared.at.RecordAt.{RecordAt}
+use Rattle.mrt_body.specs.declared.state_rule.StateRule.{StateRule}
 use Rattle.mrt_body.specs.declared.unit.PeerAddr.{PeerAddr}
 use Rattle.mrt_body.specs.declared.unit.PeerKey.{PeerKey}
 use Rattle.mrt_body.specs.declared.unit.Payload.TheVariants.{State, Message}
@@ -251,19 +252,19 @@ states_more bytes h =
     rw (first, number_at-again ShortRecord 2 h.to h.more h.to_below) (ended_more (h.from, h.to) h.more h.some)
 
 -- a state change, and then more bytes
-pub record ChangeAndMore (at : RecordAt) (extended : Bool) (width : Width) (body : List ℕ) : Type 0 where
+pub record ChangeAndMore (rule : StateRule) (at : RecordAt) (extended : Bool) (width : Width) (body : List ℕ) : Type 0 where
   pub front : List ℕ
   pub more : List ℕ
   pub unit : ReplayUnit
   pub parts : body ≡ front ++ more
   pub some : 0 < length more
-  pub agrees : IsStatesBody at extended width front unit
+  pub agrees : IsStatesBody rule at extended width front unit
 
 regroup : (a b c d more : List ℕ) → a ++ (b ++ (c ++ (d ++ more))) ≡ (a ++ (b ++ (c ++ d))) ++ more
 regroup a b c d more = sym (simp append_assoc)
 
-module _ (at : RecordAt) (extended : Bool) (width : Width) (body : List ℕ) where
-  change_of : (fault : Fault) (m : ℕ × List ℕ) (p : PeerKey × List ℕ) → IsBytes body → microseconds_at extended body ≡ Ok m → session_peer_at width m.1 ≡ Ok p → StatesAndMore p.1 → ChangeAndMore at extended width body
+module _ (rule : StateRule) (at : RecordAt) (extended : Bool) (width : Width) (body : List ℕ) where
+  change_of : (fault : Fault) (m : ℕ × List ℕ) (p : PeerKey × List ℕ) → IsBytes body → microseconds_at extended body ≡ Ok m → session_peer_at width m.1 ≡ Ok p → StatesAndMore p.1 → ChangeAndMore rule at extended width body
   change_of fault m p fine m_is p_is s =
       let tm = microseconds_take extended body m fine m_is in
       let tp = peer_takes width m.1 p tm.fine p_is in
@@ -272,14 +273,14 @@ module _ (at : RecordAt) (extended : Bool) (width : Width) (body : List ℕ) whe
       record {
         front = a ++ (b ++ (big_bytes 2 s.from ++ big_bytes 2 s.to));
         more = s.more;
-        unit = session_unit at m.0 (session_peer tp.session) (State s.from s.to);
+        unit = session_unit at m.0 (session_peer tp.session) (State s.from s.to rule);
         parts = tm.parts ∙ ap (λ (l : List ℕ). a ++ l) (tp.takes.parts ∙ ap (λ (l : List ℕ). b ++ l) s.parts) ∙ regroup a b (big_bytes 2 s.from) (big_bytes 2 s.to) s.more;
         some = s.some;
         agrees = record { microseconds = m.0; session = tp.session; from = s.from; to = s.to; fits_microseconds = tm.fits; fits_session = tp.takes.fits; fits_from = s.from_below; fits_to = s.to_below; spelled = refl; said = refl };
       }
 
   abbrev pub ChangeFault : Fault → Type 0
-  ChangeFault fault = ((fault ≡ BadFamily) × HasOtherFamily extended width body) ⊎ ((fault ≡ TrailingBytes) × ChangeAndMore at extended width body)
+  ChangeFault fault = ((fault ≡ BadFamily) × HasOtherFamily extended width body) ⊎ ((fault ≡ TrailingBytes) × ChangeAndMore rule at extended width body)
 
   of_family : (fault : Fault) → ((fault ≡ BadFamily) × HasOtherFamily extended width body) ⊎ (fault ≡ ShortRecord) → ChangeFault fault ⊎ (fault ≡ ShortRecord)
   of_family fault (inl h) = inl (inl h)
@@ -289,25 +290,25 @@ module _ (at : RecordAt) (extended : Bool) (width : Width) (body : List ℕ) whe
   of_states fault m p fine m_is p_is (inl h) = inl (inr (h.0, change_of fault m p fine m_is p_is h.1))
   of_states fault m p fine m_is p_is (inr h) = inr h
 
-  pub change_refused : (fault : Fault) → IsBytes body → states_unit at extended width body ≡ Err fault → ChangeFault fault ⊎ (fault ≡ ShortRecord)
+  pub change_refused : (fault : Fault) → IsBytes body → states_unit rule at extended width body ≡ Err fault → ChangeFault fault ⊎ (fault ≡ ShortRecord)
   unfolding states_unit
   change_refused fault fine e =
-      then_short (microseconds_at extended body) (λ m. session_peer_at width m.1 >>= λ peer. states_in peer.1 >>= λ s. Ok (session_unit at m.0 peer.0 (State s.0 s.1))) fault (microseconds_short extended body) (λ m m_is me.
-      by_peer m m_is (bind_err (session_peer_at width m.1) (λ peer. states_in peer.1 >>= λ s. Ok (session_unit at m.0 peer.0 (State s.0 s.1))) fault me)) e
+      then_short (microseconds_at extended body) (λ m. session_peer_at width m.1 >>= λ peer. states_in peer.1 >>= λ s. Ok (session_unit at m.0 peer.0 (State s.0 s.1 rule))) fault (microseconds_short extended body) (λ m m_is me.
+      by_peer m m_is (bind_err (session_peer_at width m.1) (λ peer. states_in peer.1 >>= λ s. Ok (session_unit at m.0 peer.0 (State s.0 s.1 rule))) fault me)) e
     where
-      by_states : (m : ℕ × List ℕ) (p : PeerKey × List ℕ) → microseconds_at extended body ≡ Ok m → session_peer_at width m.1 ≡ Ok p → (states_in p.1 ≡ Err fault) ⊎ ((s : ℕ × ℕ) × (states_in p.1 ≡ Ok s) × (Ok (session_unit at m.0 p.0 (State s.0 s.1)) ≡ Err fault)) → ChangeFault fault ⊎ (fault ≡ ShortRecord)
+      by_states : (m : ℕ × List ℕ) (p : PeerKey × List ℕ) → microseconds_at extended body ≡ Ok m → session_peer_at width m.1 ≡ Ok p → (states_in p.1 ≡ Err fault) ⊎ ((s : ℕ × ℕ) × (states_in p.1 ≡ Ok s) × (Ok (session_unit at m.0 p.0 (State s.0 s.1 rule)) ≡ Err fault)) → ChangeFault fault ⊎ (fault ≡ ShortRecord)
       by_states m p m_is p_is (inl h) = of_states fault m p fine m_is p_is (states_refused p.1 fault (peer_takes width m.1 p (microseconds_take extended body m fine m_is).fine p_is).takes.fine h)
-      by_states m p m_is p_is (inr h) = ok_never (session_unit at m.0 p.0 (State h.0.0 h.0.1)) fault h.2
+      by_states m p m_is p_is (inr h) = ok_never (session_unit at m.0 p.0 (State h.0.0 h.0.1 rule)) fault h.2
 
-      by_peer : (m : ℕ × List ℕ) → microseconds_at extended body ≡ Ok m → (session_peer_at width m.1 ≡ Err fault) ⊎ ((p : PeerKey × List ℕ) × (session_peer_at width m.1 ≡ Ok p) × ((states_in p.1 >>= λ s. Ok (session_unit at m.0 p.0 (State s.0 s.1))) ≡ Err fault)) → ChangeFault fault ⊎ (fault ≡ ShortRecord)
+      by_peer : (m : ℕ × List ℕ) → microseconds_at extended body ≡ Ok m → (session_peer_at width m.1 ≡ Err fault) ⊎ ((p : PeerKey × List ℕ) × (session_peer_at width m.1 ≡ Ok p) × ((states_in p.1 >>= λ s. Ok (session_unit at m.0 p.0 (State s.0 s.1 rule))) ≡ Err fault)) → ChangeFault fault ⊎ (fault ≡ ShortRecord)
       by_peer m m_is (inl h) = of_family fault (other_family extended width body fault m fine m_is h)
-      by_peer m m_is (inr h) = by_states m h.0 m_is h.1 (bind_err (states_in h.0.1) (λ s. Ok (session_unit at m.0 h.0.0 (State s.0 s.1))) fault h.2)
+      by_peer m m_is (inr h) = by_states m h.0 m_is h.1 (bind_err (states_in h.0.1) (λ s. Ok (session_unit at m.0 h.0.0 (State s.0 s.1 rule))) fault h.2)
 
-  pub change_other : HasOtherFamily extended width body → states_unit at extended width body ≡ Err BadFamily
+  pub change_other : HasOtherFamily extended width body → states_unit rule at extended width body ≡ Err BadFamily
   unfolding states_unit
   change_other h = rw (behind_microseconds extended width body h, peer_other width h.peer_as h.local_as h.interface h.family h.rest h.fits_peer_as h.fits_local_as h.fits_interface h.fits_family h.other.0 h.other.1) refl
 
-  pub change_goes_on : (front more : List ℕ) (unit : ReplayUnit) → body ≡ front ++ more → 0 < length more → IsStatesBody at extended width front unit → states_unit at extended width body ≡ Err TrailingBytes
+  pub change_goes_on : (front more : List ℕ) (unit : ReplayUnit) → body ≡ front ++ more → 0 < length more → IsStatesBody rule at extended width front unit → states_unit rule at extended width body ≡ Err TrailingBytes
   unfolding states_unit
   change_goes_on front more unit parts some h =
       let a : List ℕ = microseconds_bytes extended h.microseconds in

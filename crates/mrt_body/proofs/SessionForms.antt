@@ -11,6 +11,7 @@ use Rattle.bgp_update.specs.Segments.{number_len}
 use Rattle.mrt_body.specs.declared.at.RecordAt.{RecordAt}
 use Rattle.mrt_body.specs.declared.unit.PeerAddr.{PeerAddr}
 use Rattle.mrt_body.specs.declared.unit.PeerKey.{PeerKey}
+use Rattle.mrt_body.specs.declared.state_rule.StateRule.{StateRule}
 use Rattle.mrt_body.specs.declared.unit.Payload.TheVariants.{State, Message}
 use Rattle.mrt_body.specs.declared.unit.Unit.{Unit as ReplayUnit}
 use Rattle.mrt_body.specs.Many.{ended}
@@ -192,12 +193,12 @@ states_again from to from_below to_below =
     let second : number_at ShortRecord 2 (big_bytes 2 to) ≡ Ok (to, []) = ap (number_at ShortRecord 2) (append-nil (big_bytes 2 to)) ∙ number_at-again ShortRecord 2 to [] to_below in
     states_are (big_bytes 2 from ++ big_bytes 2 to) (big_bytes 2 to) from to (number_at-again ShortRecord 2 from (big_bytes 2 to) from_below) second
 
-pub states_body-is : (at : RecordAt) (extended : Bool) (width : Width) (body : List ℕ) (unit : ReplayUnit) → IsBytes body → states_unit at extended width body ≡ Ok unit → IsStatesBody at extended width body unit
+pub states_body-is : (rule : StateRule) (at : RecordAt) (extended : Bool) (width : Width) (body : List ℕ) (unit : ReplayUnit) → IsBytes body → states_unit rule at extended width body ≡ Ok unit → IsStatesBody rule at extended width body unit
 unfolding states_unit
-states_body-is at extended width body unit fine e =
-    let m = bind_ok (microseconds_at extended body) (λ m. session_peer_at width m.1 >>= λ peer. states_in peer.1 >>= λ s. Ok (session_unit at m.0 peer.0 (State s.0 s.1))) unit e in
-    let p = bind_ok (session_peer_at width m.0.1) (λ peer. states_in peer.1 >>= λ s. Ok (session_unit at m.0.0 peer.0 (State s.0 s.1))) unit m.2 in
-    let s = bind_ok (states_in p.0.1) (λ s. Ok (session_unit at m.0.0 p.0.0 (State s.0 s.1))) unit p.2 in
+states_body-is rule at extended width body unit fine e =
+    let m = bind_ok (microseconds_at extended body) (λ m. session_peer_at width m.1 >>= λ peer. states_in peer.1 >>= λ s. Ok (session_unit at m.0 peer.0 (State s.0 s.1 rule))) unit e in
+    let p = bind_ok (session_peer_at width m.0.1) (λ peer. states_in peer.1 >>= λ s. Ok (session_unit at m.0.0 peer.0 (State s.0 s.1 rule))) unit m.2 in
+    let s = bind_ok (states_in p.0.1) (λ s. Ok (session_unit at m.0.0 p.0.0 (State s.0 s.1 rule))) unit p.2 in
     let tm = microseconds_take extended body m.0 fine m.1 in
     let tp = peer_takes width m.0.1 p.0 tm.fine p.1 in
     let ts = states_take p.0.1 s.0 tp.takes.fine s.1 in
@@ -211,12 +212,12 @@ states_body-is at extended width body unit fine e =
       fits_from = ts.from_below;
       fits_to = ts.to_below;
       spelled = tm.parts ∙ ap (λ (l : List ℕ). microseconds_bytes extended m.0.0 ++ l) (tp.takes.parts ∙ ap (λ (l : List ℕ). session_bytes width tp.session ++ l) ts.parts);
-      said = sym (ap (λ (peer : PeerKey). session_unit at m.0.0 peer (State s.0.0 s.0.1)) tp.same ∙ ok_is (session_unit at m.0.0 p.0.0 (State s.0.0 s.0.1)) unit s.2);
+      said = sym (ap (λ (peer : PeerKey). session_unit at m.0.0 peer (State s.0.0 s.0.1 rule)) tp.same ∙ ok_is (session_unit at m.0.0 p.0.0 (State s.0.0 s.0.1 rule)) unit s.2);
     }
 
-pub states_body-again : (at : RecordAt) (extended : Bool) (width : Width) (body : List ℕ) (unit : ReplayUnit) → IsStatesBody at extended width body unit → states_unit at extended width body ≡ Ok unit
+pub states_body-again : (rule : StateRule) (at : RecordAt) (extended : Bool) (width : Width) (body : List ℕ) (unit : ReplayUnit) → IsStatesBody rule at extended width body unit → states_unit rule at extended width body ≡ Ok unit
 unfolding states_unit
-states_body-again at extended width body unit h =
+states_body-again rule at extended width body unit h =
     let states : List ℕ = big_bytes 2 h.from ++ big_bytes 2 h.to in
     let m : microseconds_at extended body ≡ Ok (h.microseconds, session_bytes width h.session ++ states) = ap (microseconds_at extended) h.spelled ∙ microseconds_again extended h.microseconds (session_bytes width h.session ++ states) h.fits_microseconds in
     rw (m, peer_again width h.session states h.fits_session, states_again h.from h.to h.fits_from h.fits_to) (ap (λ (u : ReplayUnit). Ok u) (sym h.said))

@@ -64,7 +64,7 @@ module _ (old : UnitsState) (file : ℕ) (r : Record) where
   new_of frames pending = record (mid_of frames) { index = index_with old.index held r.body; pending = pending; aside = old.aside + aside_count held }
 
   stays : (frames : Position) (pending : List ReplayUnit) (given : Option Damage) (bytes rest : List ℕ) → file ≡ old.file → to_come old.frames bytes ≡ whole ∷ to_come frames rest
-      → refusals given ++ as_found pending ≡ found_units old.selection (at_record file r.offset r.seconds) (units_in (at_record file r.offset r.seconds) (is_extended r.kind) old.index held r.body)
+      → refusals given ++ as_found pending ≡ found_units old.selection (at_record file r.offset r.seconds) (units_in old.selection.states (at_record file r.offset r.seconds) (is_extended r.kind) old.index held r.body)
       → StaysInFile old bytes (new_of frames pending) rest (refusals given)
   unfolding found_at
   stays frames pending given bytes rest file_is cuts_are found_is =
@@ -72,7 +72,7 @@ module _ (old : UnitsState) (file : ℕ) (r : Record) where
       record {
         state = refl;
         found = ap (found_from old.file old.selection old.index) cuts_are
-            ∙ ap (λ (f : ℕ). found_units old.selection (at_record f r.offset r.seconds) (units_in (at_record f r.offset r.seconds) (is_extended r.kind) old.index held r.body) ++ found_from old.file old.selection (index_with old.index held r.body) others) (sym file_is)
+            ∙ ap (λ (f : ℕ). found_units old.selection (at_record f r.offset r.seconds) (units_in old.selection.states (at_record f r.offset r.seconds) (is_extended r.kind) old.index held r.body) ++ found_from old.file old.selection (index_with old.index held r.body) others) (sym file_is)
             ∙ ap (λ (l : List Found). l ++ found_from old.file old.selection (index_with old.index held r.body) others) (sym found_is)
             ∙ append_assoc (refusals given) (as_found pending) (found_from old.file old.selection (index_with old.index held r.body) others);
         records = ap (λ (cs : List Cut). old.records + count_by is_whole cs) cuts_are ∙ ap (λ (n : ℕ). old.records + n) (sum_by-cons (λ (c : Cut). cond (is_whole c) 1 0) whole others) ∙ one_more old.records 1 (count_by is_whole others);
@@ -85,9 +85,9 @@ module _ (old : UnitsState) (file : ℕ) (r : Record) where
   new_is : (mid new : UnitsState) → mid ≡ mid_of mid.frames → new ≡ record mid { index = index_with mid.index held r.body; pending = new.pending; aside = mid.aside + aside_count held } → new ≡ new_of mid.frames new.pending
   new_is mid new m n = n ∙ ap (λ (u : UnitsState). record u { frames = mid.frames; index = index_with u.index held r.body; pending = new.pending; aside = u.aside + aside_count held }) m
 
-  found_as : (mid : UnitsState) (l : List Found) → mid ≡ mid_of mid.frames → l ≡ found_units mid.selection (at_record file r.offset r.seconds) (units_in (at_record file r.offset r.seconds) (is_extended r.kind) mid.index held r.body)
-      → l ≡ found_units old.selection (at_record file r.offset r.seconds) (units_in (at_record file r.offset r.seconds) (is_extended r.kind) old.index held r.body)
-  found_as mid l m h = h ∙ ap (λ (u : UnitsState). found_units u.selection (at_record file r.offset r.seconds) (units_in (at_record file r.offset r.seconds) (is_extended r.kind) u.index held r.body)) m
+  found_as : (mid : UnitsState) (l : List Found) → mid ≡ mid_of mid.frames → l ≡ found_units mid.selection (at_record file r.offset r.seconds) (units_in mid.selection.states (at_record file r.offset r.seconds) (is_extended r.kind) mid.index held r.body)
+      → l ≡ found_units old.selection (at_record file r.offset r.seconds) (units_in old.selection.states (at_record file r.offset r.seconds) (is_extended r.kind) old.index held r.body)
+  found_as mid l m h = h ∙ ap (λ (u : UnitsState). found_units u.selection (at_record file r.offset r.seconds) (units_in u.selection.states (at_record file r.offset r.seconds) (is_extended r.kind) u.index held r.body)) m
 
   pub step_record : (mid new : UnitsState) (known left : Option (List ℕ)) (given : Option Damage) → file ≡ old.file → CutsOne old known mid left (Some whole) → TakesRecord mid (at_record file r.offset r.seconds) (is_extended r.kind) held r.body new given → Steps old known new left (refusals given)
   step_record mid new known left given file_is cut t bytes is =

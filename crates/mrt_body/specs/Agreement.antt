@@ -6,6 +6,7 @@ use Rattle.bgp_update.specs.declared.width.Width.{Width}
 use Rattle.mrt_body.specs.declared.at.RecordAt.{RecordAt}
 use Rattle.mrt_body.specs.declared.content.Content.{Content}
 use Rattle.mrt_body.specs.declared.content.Content.TheVariants as content
+use Rattle.mrt_body.specs.declared.state_rule.StateRule.{StateRule}
 use Rattle.mrt_body.specs.declared.unit.PeerKey.{PeerKey}
 use Rattle.mrt_body.specs.declared.unit.Payload.TheVariants.{State, Message}
 use Rattle.mrt_body.specs.declared.unit.Unit.{Unit as ReplayUnit}
@@ -47,9 +48,10 @@ pub record IsMessageBody
   pub spelled : body ≡ microseconds_bytes extended microseconds ++ (session_bytes width session ++ message)
   pub said : unit ≡ session_unit at microseconds (session_peer session) (Message message width add_path)
 
--- microseconds where the timestamp is extended, the session, old state 2, and new state 2
+-- microseconds where the timestamp is extended, the session, old state 2, and new state 2; the unit has the rule that
+-- was asked for
 pub record IsStatesBody
-    (at : RecordAt) (extended : Bool) (width : Width) (body : List ℕ) (unit : ReplayUnit)
+    (rule : StateRule) (at : RecordAt) (extended : Bool) (width : Width) (body : List ℕ) (unit : ReplayUnit)
     : Type 0 where
   pub microseconds : ℕ
   pub session : SessionForm
@@ -61,15 +63,15 @@ pub record IsStatesBody
   pub fits_to : to < 256 ^ 2
   pub spelled : body ≡ microseconds_bytes extended microseconds
       ++ (session_bytes width session ++ (big_bytes 2 from ++ big_bytes 2 to))
-  pub said : unit ≡ session_unit at microseconds (session_peer session) (State from to)
+  pub said : unit ≡ session_unit at microseconds (session_peer session) (State from to rule)
 
 -- a record with this content agrees with its form beside the index in force, and these are its units
-abbrev pub Agrees : RecordAt → Bool → Option (List PeerKey) → Content → List ℕ → List ReplayUnit → Type 0
-Agrees at extended index content.IndexTable body units =
+abbrev pub Agrees : StateRule → RecordAt → Bool → Option (List PeerKey) → Content → List ℕ → List ReplayUnit → Type 0
+Agrees rule at extended index content.IndexTable body units =
     ((peers : List PeerKey) × IsIndexBody body peers) × (units ≡ [])
-Agrees at extended index (content.Rib add_path) body units = IsRibBodyBeside at add_path index body units
-Agrees at extended index (content.Message width add_path) body units =
+Agrees rule at extended index (content.Rib add_path) body units = IsRibBodyBeside at add_path index body units
+Agrees rule at extended index (content.Message width add_path) body units =
     (unit : ReplayUnit) × IsMessageBody at extended width add_path body unit × (units ≡ unit ∷ [])
-Agrees at extended index (content.States width) body units =
-    (unit : ReplayUnit) × IsStatesBody at extended width body unit × (units ≡ unit ∷ [])
-Agrees at extended index content.Aside body units = units ≡ []
+Agrees rule at extended index (content.States width) body units =
+    (unit : ReplayUnit) × IsStatesBody rule at extended width body unit × (units ≡ unit ∷ [])
+Agrees rule at extended index content.Aside body units = units ≡ []

@@ -44,19 +44,19 @@ IsMessageEvent width add_path bytes event.Other =
     × (kind ≢ UPDATE)
     × (bytes ≡ message_bytes kind body)
     × (message_header_len + length body < 256 ^ 2)
-IsMessageEvent width add_path bytes (event.State old new) = ⊥
+IsMessageEvent width add_path bytes (event.State old new rule) = ⊥
 IsMessageEvent width add_path bytes (event.Rib key route) = ⊥
 
 -- a RIB entry's attributes are read with four-octet AS numbers (RFC 6396, 4.3.4)
 abbrev pub IsEntryEvent : RouteKey → List ℕ → Event → Type 0
 IsEntryEvent key attrs (event.Rib other route) = (other ≡ key) × ReadsAsRoute Four attrs route
 IsEntryEvent key attrs (event.Change update) = ⊥
-IsEntryEvent key attrs (event.State old new) = ⊥
+IsEntryEvent key attrs (event.State old new rule) = ⊥
 IsEntryEvent key attrs event.Other = ⊥
 
 -- the event of a payload
 abbrev pub IsEvent : Payload → Event → Type 0
-IsEvent (State from to) e = e ≡ event.State from to
+IsEvent (State from to rule) e = e ≡ event.State from to rule
 IsEvent (Message bytes width add_path) e = IsMessageEvent width add_path bytes e
 IsEvent (Entry key attrs) e = IsEntryEvent key attrs e
 
@@ -64,7 +64,7 @@ IsEvent (Entry key attrs) e = IsEntryEvent key attrs e
 abbrev pub IsWritableEvent : Event → Type 0
 IsWritableEvent (event.Change update) = IsWritable update.route.path
 IsWritableEvent (event.Rib key route) = IsWritable route.path
-IsWritableEvent (event.State old new) = ⊤
+IsWritableEvent (event.State old new rule) = ⊤
 IsWritableEvent event.Other = ⊤
 
 -- ---- reading, with the first fault
@@ -83,6 +83,6 @@ message_event_in width add_path bytes = message_in bytes >>= λ m.
     Ok event.Other
 
 unfoldable pub event_in : Payload → Result Event Fault
-event_in (State from to) = Ok (event.State from to)
+event_in (State from to rule) = Ok (event.State from to rule)
 event_in (Message bytes width add_path) = message_event_in width add_path bytes
 event_in (Entry key attrs) = route_in Four attrs >>= λ route. Ok (event.Rib key route)

@@ -7,7 +7,7 @@ use Rattle.mrt_body.specs.declared.unit.Payload.TheVariants.{State, Message, Ent
 use Rattle.mrt_body.specs.declared.unit.Unit.{Unit as ReplayUnit}
 
 abbrev pub lent_payload : LentPayload → Payload
-lent_payload (lent.State from to) = State from to
+lent_payload (lent.State from to rule) = State from to rule
 lent_payload (lent.Message bytes width add_path) = Message bytes.now width add_path
 lent_payload (lent.Entry key attrs) = Entry key attrs.now
 

@@ -4,6 +4,7 @@ pub mod Many
 pub mod Indexes
 pub mod RibRecords
 pub mod Bgp4mp
+pub mod States
 pub mod Choices
 pub mod Named
 pub mod Selections

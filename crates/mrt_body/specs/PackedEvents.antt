@@ -7,7 +7,7 @@ use Rattle.mrt_body.specs.declared.packed_meaning.PackedEvent.TheVariants as pac
 
 -- the same with routes of fields
 abbrev pub plain_event : PackedEvent → Event
-plain_event (packed.State old new) = events.State old new
+plain_event (packed.State old new rule) = events.State old new rule
 plain_event (packed.Change update) = events.Change (plain_update update)
 plain_event (packed.Rib key route) = events.Rib key route
 plain_event packed.Other = events.Other

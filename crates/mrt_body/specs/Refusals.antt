@@ -10,6 +10,7 @@ use Rattle.bgp_update.specs.Segments.{number_len}
 use Rattle.mrt_body.specs.declared.at.RecordAt.{RecordAt}
 use Rattle.mrt_body.specs.declared.content.Content.{Content}
 use Rattle.mrt_body.specs.declared.content.Content.TheVariants as content
+use Rattle.mrt_body.specs.declared.state_rule.StateRule.{StateRule}
 use Rattle.mrt_body.specs.declared.unit.PeerKey.{PeerKey}
 use Rattle.mrt_body.specs.declared.unit.Unit.{Unit as ReplayUnit}
 use Rattle.mrt_body.specs.Indexes.{asn_bytes}
@@ -19,14 +20,14 @@ use Rattle.mrt_body.specs.Agreement.{Agrees}
 
 -- bytes stand behind a body that agrees
 pub record HasMore
-    (at : RecordAt) (extended : Bool) (index : Option (List PeerKey)) (c : Content) (body : List ℕ)
+    (rule : StateRule) (at : RecordAt) (extended : Bool) (index : Option (List PeerKey)) (c : Content) (body : List ℕ)
     : Type 0 where
   pub front : List ℕ
   pub more : List ℕ
   pub units : List ReplayUnit
   pub parts : body ≡ front ++ more
   pub some : 0 < length more
-  pub agrees : Agrees at extended index c front units
+  pub agrees : Agrees rule at extended index c front units
 
 -- behind the fields before it stands an address family that is neither IPv4 nor IPv6
 pub record HasOtherFamily (extended : Bool) (width : Width) (body : List ℕ) : Type 0 where
@@ -75,30 +76,30 @@ pub record HasUnknownPeer (add_path : Bool) (peers : ℕ) (body : List ℕ) : Ty
       ++ (big_bytes 2 peer ++ rest))))
 
 -- what is wrong with a RIB record beside this index, other than a field that runs past the body
-abbrev pub HasRibFault : RecordAt → Bool → Bool → Option (List PeerKey) → List ℕ → Fault → Type 0
-HasRibFault at extended add_path None body fault = fault ≡ NoPeerIndex
-HasRibFault at extended add_path (Some peers) body fault =
+abbrev pub HasRibFault : StateRule → RecordAt → Bool → Bool → Option (List PeerKey) → List ℕ → Fault → Type 0
+HasRibFault rule at extended add_path None body fault = fault ≡ NoPeerIndex
+HasRibFault rule at extended add_path (Some peers) body fault =
     ((fault ≡ BadPrefix) × HasBadPrefix body)
     ⊎ (((fault ≡ BadPeerIndex) × HasUnknownPeer add_path (length peers) body)
-    ⊎ ((fault ≡ TrailingBytes) × HasMore at extended (Some peers) (content.Rib add_path) body))
+    ⊎ ((fault ≡ TrailingBytes) × HasMore rule at extended (Some peers) (content.Rib add_path) body))
 
 -- what is wrong with a body, other than a field that runs past it
-abbrev pub HasFault : RecordAt → Bool → Option (List PeerKey) → Content → List ℕ → Fault → Type 0
-HasFault at extended index content.IndexTable body fault =
-    (fault ≡ TrailingBytes) × HasMore at extended index content.IndexTable body
-HasFault at extended index (content.Rib add_path) body fault = HasRibFault at extended add_path index body fault
-HasFault at extended index (content.Message width add_path) body fault =
+abbrev pub HasFault : StateRule → RecordAt → Bool → Option (List PeerKey) → Content → List ℕ → Fault → Type 0
+HasFault rule at extended index content.IndexTable body fault =
+    (fault ≡ TrailingBytes) × HasMore rule at extended index content.IndexTable body
+HasFault rule at extended index (content.Rib add_path) body fault = HasRibFault rule at extended add_path index body fault
+HasFault rule at extended index (content.Message width add_path) body fault =
     (fault ≡ BadFamily) × HasOtherFamily extended width body
-HasFault at extended index (content.States width) body fault =
+HasFault rule at extended index (content.States width) body fault =
     ((fault ≡ BadFamily) × HasOtherFamily extended width body)
-    ⊎ ((fault ≡ TrailingBytes) × HasMore at extended index (content.States width) body)
-HasFault at extended index content.Aside body fault = ⊥
+    ⊎ ((fault ≡ TrailingBytes) × HasMore rule at extended index (content.States width) body)
+HasFault rule at extended index content.Aside body fault = ⊥
 
 -- A body that doesn't agree is refused for what is wrong with it, and where nothing else is, for a field that runs
 -- past it.
-abbrev pub IsRefused : RecordAt → Bool → Option (List PeerKey) → Content → List ℕ → Fault → Type 0
-IsRefused at extended index c body fault =
-    HasFault at extended index c body fault
+abbrev pub IsRefused : StateRule → RecordAt → Bool → Option (List PeerKey) → Content → List ℕ → Fault → Type 0
+IsRefused rule at extended index c body fault =
+    HasFault rule at extended index c body fault
     ⊎ ((fault ≡ ShortRecord)
-    × ((units : List ReplayUnit) → Agrees at extended index c body units → ⊥)
-    × ((other : Fault) → HasFault at extended index c body other → ⊥))
+    × ((units : List ReplayUnit) → Agrees rule at extended index c body units → ⊥)
+    × ((other : Fault) → HasFault rule at extended index c body other → ⊥))

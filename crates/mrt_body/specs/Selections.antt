@@ -45,7 +45,7 @@ has_chosen choices keys = list_any (λ key. is_chosen choices key.prefix) keys
 abbrev pub speaks_of : List PrefixChoice → Result Event Fault → Bool
 speaks_of choices (Ok (event.Change u)) =
     has_chosen choices u.withdrawn || (has_chosen choices u.announced || has_chosen choices u.reached)
-speaks_of choices (Ok (event.State old new)) = true
+speaks_of choices (Ok (event.State old new rule)) = true
 speaks_of choices (Ok (event.Rib key route)) = true
 speaks_of choices (Ok event.Other) = false
 speaks_of choices (Err fault) = true
@@ -53,7 +53,7 @@ speaks_of choices (Err fault) = true
 -- Whether a payload can concern a chosen prefix. A state change concerns all of them, a RIB entry that of its key,
 -- whatever its attributes are.
 abbrev pub concerns : List PrefixChoice → Payload → Bool
-concerns choices (State from to) = true
+concerns choices (State from to rule) = true
 concerns choices (Message bytes width add_path) =
     is_open choices || speaks_of choices (event_in (Message bytes width add_path))
 concerns choices (Entry key attrs) = is_chosen choices key.prefix

@@ -10,7 +10,7 @@ use Rattle.mrt_body.specs.declared.session_unit.SessionKind.TheVariants as kinds
 
 -- the payload of this kind with these bytes
 abbrev pub session_payload : SessionKind → List ℕ → Payload
-session_payload (kinds.State from to) bytes = State from to
+session_payload (kinds.State from to rule) bytes = State from to rule
 session_payload (kinds.Message width add_path) bytes = Message bytes width add_path
 
 -- the unit whose bytes are those of a body from this position on

@@ -191,7 +191,7 @@ pub record TakesRecord
     aside = old.aside + aside_count content;
   }
   pub found : refusals refused ++ as_found new.pending
-      ≡ found_units old.selection at (units_in at extended old.index content body)
+      ≡ found_units old.selection at (units_in old.selection.states at extended old.index content body)
 
 -- more of the current file is to come, where it gave these bytes before and gives those now
 pub record StaysInFile

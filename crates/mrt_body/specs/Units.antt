@@ -15,6 +15,7 @@ use Rattle.bgp_update.specs.declared.width.Width.TheVariants.{Two, Four}
 use Rattle.mrt_body.specs.declared.at.RecordAt.{RecordAt}
 use Rattle.mrt_body.specs.declared.content.Content.{Content}
 use Rattle.mrt_body.specs.declared.content.Content.TheVariants as content
+use Rattle.mrt_body.specs.declared.state_rule.StateRule.{StateRule}
 use Rattle.mrt_body.specs.declared.unit.PeerAddr.TheVariants.{V4}
 use Rattle.mrt_body.specs.declared.unit.PeerKey.{PeerKey}
 use Rattle.mrt_body.specs.declared.unit.Place.{Place}
@@ -109,23 +110,25 @@ message_unit at extended width add_path body = do
   peer ← session_peer_at width microseconds.1
   Ok (session_unit at microseconds.0 peer.0 (Message peer.1 width add_path))
 
-unfoldable pub states_unit : RecordAt → Bool → Width → List ℕ → Result ReplayUnit Fault
-states_unit at extended width body = do
+-- with the rule that is asked for
+unfoldable pub states_unit : StateRule → RecordAt → Bool → Width → List ℕ → Result ReplayUnit Fault
+states_unit rule at extended width body = do
   microseconds ← microseconds_at extended body
   peer ← session_peer_at width microseconds.1
   states ← states_in peer.1
-  Ok (session_unit at microseconds.0 peer.0 (State states.0 states.1))
+  Ok (session_unit at microseconds.0 peer.0 (State states.0 states.1 rule))
 
 abbrev pub alone : Result ReplayUnit Fault → Result (List ReplayUnit) Fault
 alone read = read >>= λ unit. Ok (unit ∷ [])
 
--- the units of a whole record, or its fault; index tables and records aside give none
-abbrev pub units_in : RecordAt → Bool → Option (List PeerKey) → Content → List ℕ → Result (List ReplayUnit) Fault
-units_in at extended index content.IndexTable body = peers_in body >>= λ peers. Ok []
-units_in at extended index (content.Rib add_path) body = rib_units_in at add_path index body
-units_in at extended index (content.Message width add_path) body = alone (message_unit at extended width add_path body)
-units_in at extended index (content.States width) body = alone (states_unit at extended width body)
-units_in at extended index content.Aside body = Ok []
+-- The units of a whole record, or its fault; index tables and records aside give none. A state change has the rule that is
+-- asked for.
+abbrev pub units_in : StateRule → RecordAt → Bool → Option (List PeerKey) → Content → List ℕ → Result (List ReplayUnit) Fault
+units_in rule at extended index content.IndexTable body = peers_in body >>= λ peers. Ok []
+units_in rule at extended index (content.Rib add_path) body = rib_units_in at add_path index body
+units_in rule at extended index (content.Message width add_path) body = alone (message_unit at extended width add_path body)
+units_in rule at extended index (content.States width) body = alone (states_unit rule at extended width body)
+units_in rule at extended index content.Aside body = Ok []
 
 -- those of them that are selected; a fault stays
 abbrev pub selected_units : UnitSelection → Result (List ReplayUnit) Fault → Result (List ReplayUnit) Fault
@@ -151,7 +154,7 @@ at_record file offset seconds = record { file = file; offset = offset; seconds =
 unfoldable pub found_at : ℕ → UnitSelection → Option (List PeerKey) → Cut → List Found
 found_at file selection index (Whole r) =
     let at = at_record file r.offset r.seconds in
-    found_units selection at (units_in at (is_extended r.kind) index (content_of r.kind r.subtype) r.body)
+    found_units selection at (units_in selection.states at (is_extended r.kind) index (content_of r.kind r.subtype) r.body)
 found_at file selection index (Broken offset fault) = refused_at (at_record file offset 0) fault ∷ []
 
 -- ---- the index in force
@@ -232,7 +235,7 @@ refused_of selection files = filter_map damage_of (found_in selection files)
 
 -- those of a message, or of an entry's attributes
 abbrev pub payload_bytes : Payload → List ℕ
-payload_bytes (State from to) = []
+payload_bytes (State from to rule) = []
 payload_bytes (Message bytes width add_path) = bytes
 payload_bytes (Entry key attrs) = attrs
 

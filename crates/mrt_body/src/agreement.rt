@@ -6,6 +6,7 @@ ghost use Rattle.mrt_frame.specs.declared.fault.Fault.{Fault};
 ghost use Rattle.mrt_body.specs.declared.at.RecordAt.{RecordAt};
 ghost use Rattle.mrt_body.specs.declared.content.Content.{Content};
 ghost use Rattle.mrt_body.specs.declared.meaning.Event.{Event};
+ghost use Rattle.mrt_body.specs.declared.state_rule.StateRule.{StateRule};
 ghost use Rattle.mrt_body.specs.declared.unit.Payload.{Payload};
 ghost use Rattle.mrt_body.specs.declared.unit.PeerKey.{PeerKey};
 ghost use Rattle.mrt_body.specs.declared.unit.Unit.{Unit as ReplayUnit};
@@ -21,16 +22,16 @@ ghost use Rattle.mrt_body.specs.Refusals.{IsRefused};
 pub fn bodies_agree_with_their_forms()
     ensures peers { (body : List ℕ) (peers : List PeerKey) → AreBytes body →
         (peers_in body ≡ Ok peers) ↔ IsIndexBody body peers }
-    ensures units { (at : RecordAt) (extended : Bool) (index : Option (List PeerKey))
+    ensures units { (rule : StateRule) (at : RecordAt) (extended : Bool) (index : Option (List PeerKey))
         (content : Content) (body : List ℕ) (units : List ReplayUnit) → AreBytes body →
-        (units_in at extended index content body ≡ Ok units) ↔ Agrees at extended index content body units }
-    ensures only { (at : RecordAt) (extended : Bool) (index : Option (List PeerKey))
+        (units_in rule at extended index content body ≡ Ok units) ↔ Agrees rule at extended index content body units }
+    ensures only { (rule : StateRule) (at : RecordAt) (extended : Bool) (index : Option (List PeerKey))
         (content : Content) (body : List ℕ) (units others : List ReplayUnit) →
-        Agrees at extended index content body units →
-        Agrees at extended index content body others → units ≡ others }
-    ensures refused { (at : RecordAt) (extended : Bool) (index : Option (List PeerKey))
+        Agrees rule at extended index content body units →
+        Agrees rule at extended index content body others → units ≡ others }
+    ensures refused { (rule : StateRule) (at : RecordAt) (extended : Bool) (index : Option (List PeerKey))
         (content : Content) (body : List ℕ) (fault : Fault) → AreBytes body →
-        (units_in at extended index content body ≡ Err fault) ↔ IsRefused at extended index content body fault }
+        (units_in rule at extended index content body ≡ Err fault) ↔ IsRefused rule at extended index content body fault }
 {}
 
 /// A payload has an event exactly if reading it yields one, and no event but this one

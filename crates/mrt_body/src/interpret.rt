@@ -64,7 +64,7 @@ fn lent_event(alloc: Global, payload: &LentPayload<'_>) -> Result<Event, AttrErr
     ensures writable { IfOk result IsWritableEvent }
 {
     match *payload {
-        LentPayload::State { from, to } => Ok(Event::State(from, to)),
+        LentPayload::State { from, to, rule } => Ok(Event::State(from, to, rule)),
         LentPayload::Message {
             bytes,
             width,

@@ -5,6 +5,7 @@ ghost use Rattle.mrt_body.specs.Lent.{lent_payload, lent_unit};
 ghost use Rattle.mrt_body.specs.Units.{payload_bytes};
 
 use crate::payload_bytes::PayloadBytes;
+use crate::state_rule::StateRule;
 use crate::unit::{Payload, PeerKey, Place, Unit};
 use bgp_prefix::{Memory, RouteKey};
 use bgp_update::Width;
@@ -13,10 +14,11 @@ use std::alloc::Global;
 /// A payload whose bytes are lent: those of a message, or of the attributes of a RIB entry.
 #[derive(Clone, Copy, Debug)]
 pub enum LentPayload<'a> {
-    /// A state change (RFC 6396, 4.4.1): the old and the new state, any numbers.
+    /// A state change (RFC 6396, 4.4.1): the old and the new state, any numbers, and the rule by which it is taken.
     State {
         from: u16,
         to: u16,
+        rule: StateRule,
     },
     /// A BGP message (RFC 6396, 4.4.2 and 4.4.3; with identifiers RFC 8050, 3).
     Message {
@@ -51,9 +53,10 @@ impl<'a> LentPayload<'a> {
         ensures { lent_payload result ≡ lent_payload self.now }
     {
         match self {
-            LentPayload::State { from, to } => LentPayload::State {
+            LentPayload::State { from, to, rule } => LentPayload::State {
                 from: *from,
                 to: *to,
+                rule: *rule,
             },
             LentPayload::Message {
                 bytes,
@@ -74,7 +77,7 @@ impl<'a> LentPayload<'a> {
         ensures short { length (payload_bytes (lent_payload self.now)) ≤ 112 → IsOk result }
     {
         Ok(match *self {
-            LentPayload::State { from, to } => Payload::State { from, to },
+            LentPayload::State { from, to, rule } => Payload::State { from, to, rule },
             LentPayload::Message {
                 bytes,
                 width,
@@ -115,9 +118,10 @@ impl Payload {
         ensures { lent_payload result ≡ self.now }
     {
         match self {
-            Payload::State { from, to } => LentPayload::State {
+            Payload::State { from, to, rule } => LentPayload::State {
                 from: *from,
                 to: *to,
+                rule: *rule,
             },
             Payload::Message {
                 bytes,

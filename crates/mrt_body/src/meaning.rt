@@ -1,13 +1,14 @@
 //! The events that payloads mean.
 
+use crate::state_rule::StateRule;
 use bgp_prefix::RouteKey;
 use bgp_update::{Route, Update};
 
 /// What a payload means.
 #[derive(Drop)]
 pub enum Event {
-    /// A state change: the old and the new state.
-    State(u16, u16),
+    /// A state change: the old and the new state, and the rule by which it is taken.
+    State(u16, u16, StateRule),
     /// An UPDATE.
     Change(Update),
     /// A RIB entry, which announces its key.

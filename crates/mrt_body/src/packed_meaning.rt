@@ -8,6 +8,7 @@ ghost use Rattle.mrt_body.specs.PackedEvents.{plain_event};
 use crate::interpret::UPDATE;
 use crate::lent::LentPayload;
 use crate::message::message_in;
+use crate::state_rule::StateRule;
 use bgp_prefix::RouteKey;
 use bgp_update::{AttrError, PackedRoute, PackedUpdate, Width, read_packed_update};
 use std::alloc::Global;
@@ -15,8 +16,8 @@ use std::alloc::Global;
 /// What a payload means, as `Event` has it, with packed routes.
 #[derive(Drop)]
 pub enum PackedEvent {
-    /// A state change: the old and the new state.
-    State(u16, u16),
+    /// A state change: the old and the new state, and the rule by which it is taken.
+    State(u16, u16, StateRule),
     /// An UPDATE.
     Change(PackedUpdate),
     /// A RIB entry, which announces its key.
@@ -60,7 +61,7 @@ pub fn packed_event(
     ensures { Gives plain_event result (event_in (lent_payload payload.now)) }
 {
     match *payload {
-        LentPayload::State { from, to } => Ok(PackedEvent::State(from, to)),
+        LentPayload::State { from, to, rule } => Ok(PackedEvent::State(from, to, rule)),
         LentPayload::Message {
             bytes,
             width,

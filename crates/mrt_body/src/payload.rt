@@ -8,6 +8,7 @@ ghost use Rattle.mrt_body.specs.Units.{payload_bytes};
 use crate::at::RecordAt;
 use crate::session::{microseconds_at, session_peer_at, states_in};
 use crate::session_unit::{SessionKind, SessionUnit};
+use crate::state_rule::StateRule;
 use bgp_prefix::Sequence;
 use bgp_update::Width;
 use mrt_frame::Fault;
@@ -39,16 +40,17 @@ pub(crate) fn message_unit(
     })
 }
 
-/// Returns the unit of a state change.
+/// Returns the unit of a state change, which is taken by this rule.
 #[tactic(auto, unfolding(crate::specs::Units::states_unit))]
 pub(crate) fn states_unit(
+    rule: StateRule,
     at: RecordAt,
     is_extended: bool,
     width: Width,
     body: Sequence<u8>,
 ) -> Result<SessionUnit, Fault>
     requires { length body ≤ 16777216 }
-    ensures reads { Reads (λ unit. unit) result (units_spec.states_unit at is_extended width body) }
+    ensures reads { Reads (λ unit. unit) result (units_spec.states_unit rule at is_extended width body) }
     ensures small { IfOk result (λ unit. payload_bytes unit.payload ≡ []) }
 {
     let (microseconds, rest) = microseconds_at(body.as_slice(), is_extended)?;
@@ -58,7 +60,7 @@ pub(crate) fn states_unit(
         place: at.place(None),
         time: at.time(microseconds),
         peer,
-        kind: SessionKind::State { from, to },
+        kind: SessionKind::State { from, to, rule },
         body,
         start: 0,
     })

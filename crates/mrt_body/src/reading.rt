@@ -5,7 +5,8 @@ ghost use Rattle.mrt_frame.specs.declared.error.ReplayError.TheVariants.{Read};
 ghost use Rattle.mrt_body.specs.Choices.{UnitSelection};
 ghost use Rattle.mrt_body.specs.declared.unit.Found.{Found};
 ghost use Rattle.mrt_body.specs.ToCome.{UnitsState, FailsBehind, GivesAllBefore, HasEnded, TakesFound, fresh_units};
-ghost use Rattle.mrt_body.specs.Units.{aside_of, found_in, records_of};
+ghost use Rattle.mrt_body.specs.States.{AreByRule};
+ghost use Rattle.mrt_body.specs.Units.{aside_of, found_in, records_of, units_of};
 
 /// What calls of `Units::next` returned joins, in order. What was returned from `Units::new` on is a front
 /// of what the files hold, even if a call then returns an error, as no later call returns more.
@@ -30,4 +31,10 @@ pub fn readings_give_all_found()
         TakesFound (fresh_units count max_records selection) (map (λ bytes. Some bytes) contents) last left given →
         GivesAllBefore last left stopped after (Read file) →
         FailsBehind (fresh_units count max_records selection) contents stopped after given }
+{}
+
+/// Each state change has the rule that the selection asks for.
+pub fn units_have_their_rule()
+    ensures { (selection : UnitSelection) (files : List (List ℕ)) →
+        AreByRule selection.states (units_of selection files) }
 {}

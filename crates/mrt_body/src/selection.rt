@@ -14,6 +14,7 @@ use crate::lent::LentPayload;
 use crate::packed_meaning::{PackedEvent, packed_event};
 use crate::session_unit::SessionUnit;
 use crate::share::Share;
+use crate::state_rule::StateRule;
 use crate::unit::PeerKey;
 use bgp_prefix::{Memory, Prefix, RouteKey};
 use bgp_update::{AttrError, PackedUpdate};
@@ -22,7 +23,7 @@ use std::marker::Model;
 
 /// Which of the units that records give are returned: those that meet each criterion. Any other unit is
 /// skipped, as if no record gave it. Refused records, index tables and the counts of records are the same
-/// for each selection.
+/// for each selection. It also says by which rule state changes are taken.
 #[derive(Debug, Drop)]
 pub struct Selection {
     /// The last second of which units are returned, in seconds since 1970 UTC. A unit is skipped if the
@@ -35,6 +36,8 @@ pub struct Selection {
     peers: Vec<PeerChoice>,
     /// Of the chosen peers those in this share alone, or all with `None`.
     share: Option<Share>,
+    /// The rule by which state changes are taken. It makes no difference to which units are returned.
+    states: StateRule,
 }
 
 impl Model for Selection {
@@ -47,6 +50,7 @@ impl Model for Selection {
       prefixes = s.prefixes;
       peers = s.peers.items;
       share = s.share;
+      states = s.states;
     } };
 }
 
@@ -109,7 +113,7 @@ fn is_in_share(share: Option<Share>, peer: &PeerKey) -> bool
 }
 
 impl Selection {
-    /// Returns the selection of all units.
+    /// Returns the selection of all units, with state changes taken as they are recorded.
     pub fn all(alloc: Global) -> Selection
         ensures { result ≡ all_units }
     {
@@ -118,6 +122,7 @@ impl Selection {
             prefixes: ChosenPrefixes::all(alloc),
             peers: Vec::new(alloc),
             share: None,
+            states: StateRule::Recorded,
         }
     }
 
@@ -151,6 +156,21 @@ impl Selection {
     {
         self.share = share;
         self
+    }
+
+    /// Returns the same selection, with state changes taken by this rule.
+    pub fn by_states(mut self, states: StateRule) -> Selection
+        ensures { result ≡ record self { states = states } }
+    {
+        self.states = states;
+        self
+    }
+
+    /// The rule by which state changes are taken.
+    pub(crate) fn states(&self) -> StateRule
+        ensures { result ≡ self.now.states }
+    {
+        self.states
     }
 
     /// The prefixes that are chosen.

@@ -2,6 +2,7 @@
 
 use crate::lent::{LentPayload, LentUnit};
 use crate::payload_bytes::PayloadBytes;
+use crate::state_rule::StateRule;
 use crate::unit::{Payload, PeerKey, Place, Unit};
 use bgp_prefix::{Memory, Sequence};
 use bgp_update::Width;
@@ -11,7 +12,7 @@ use std::marker::Model;
 /// A payload without its bytes.
 #[derive(Clone, Copy)]
 pub(crate) enum SessionKind {
-    State { from: u16, to: u16 },
+    State { from: u16, to: u16, rule: StateRule },
     Message { width: Width, add_path: bool },
 }
 
@@ -50,7 +51,7 @@ impl SessionUnit {
         ensures small { IfOk result IsSmallUnit }
     {
         let payload = match self.kind {
-            SessionKind::State { from, to } => Payload::State { from, to },
+            SessionKind::State { from, to, rule } => Payload::State { from, to, rule },
             SessionKind::Message { width, add_path } => Payload::Message {
                 bytes: PayloadBytes::from_slice(alloc, &self.body.as_slice()[self.start..])?,
                 width,
@@ -76,7 +77,7 @@ impl SessionUnit {
             peer: self.peer,
             peer_index: None,
             payload: match self.kind {
-                SessionKind::State { from, to } => LentPayload::State { from, to },
+                SessionKind::State { from, to, rule } => LentPayload::State { from, to, rule },
                 SessionKind::Message { width, add_path } => LentPayload::Message {
                     bytes: &self.body.as_slice()[self.start..],
                     width,

@@ -1,6 +1,7 @@
 //! Units of peers, their payloads and places, and refusals.
 
 use crate::payload_bytes::PayloadBytes;
+use crate::state_rule::StateRule;
 use bgp_prefix::RouteKey;
 use bgp_update::Width;
 use mrt_frame::Fault;
@@ -38,10 +39,12 @@ pub struct Damage {
 /// What a unit says, as it appears in the record: its bytes are not yet interpreted.
 #[derive(Debug, Drop)]
 pub enum Payload {
-    /// A state change (RFC 6396, 4.4.1): the old and the new state, any numbers.
+    /// A state change (RFC 6396, 4.4.1): the old and the new state, any numbers, and the rule by which it is taken, which
+    /// is that of the selection.
     State {
         from: u16,
         to: u16,
+        rule: StateRule,
     },
     /// A BGP message (RFC 6396, 4.4.2 and 4.4.3; with identifiers RFC 8050, 3).
     Message {

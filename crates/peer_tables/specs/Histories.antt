@@ -39,7 +39,7 @@ history_where takes history = filter (λ e. takes e.0.peer) history
 
 -- what brings about what a unit does
 abbrev pub by_of : Payload → By
-by_of (State from to) = by.State
+by_of (State from to rule) = by.State
 by_of (Message bytes width add_path) = by.Update
 by_of (Entry key attrs) = by.Rib
 

@@ -10,7 +10,7 @@ mod sizes;
 use bgp_update::Width;
 use fixtures::{bytes_of, message_of};
 use lines::next_of;
-use mrt_body::{Damage, Found, Payload, PeerAddr, Place, Selection, Unit, Units};
+use mrt_body::{Damage, Found, Payload, PeerAddr, Place, Selection, StateRule, Unit, Units};
 use mrt_frame::{Counted, Fault, ReplayError};
 use std::alloc::Global;
 use std::process::Abort;
@@ -25,9 +25,14 @@ fn announcement_of_subtype(rt: &impl Abort, alloc: Global, subtype: u8) -> Vec<u
 
 /// What a file of these bytes gives.
 fn found_in(rt: &impl Abort, alloc: Global, bytes: &[u8]) -> Vec<Found> {
+    found_by(rt, alloc, bytes, StateRule::Recorded)
+}
+
+/// What it gives with state changes taken by this rule.
+fn found_by(rt: &impl Abort, alloc: Global, bytes: &[u8], rule: StateRule) -> Vec<Found> {
     let mut files = [Counted::new(bytes)];
     let mut all = Vec::new(alloc);
-    let mut units = Units::new(1, 1000, Selection::all(alloc));
+    let mut units = Units::new(1, 1000, Selection::all(alloc).by_states(rule));
     for _ in 0..1000 {
         match next_of(rt, alloc, &mut units, &mut files).expect(rt, "no error") {
             Some(found) => all.push(found).expect(rt, "memory for what is found"),
@@ -114,18 +119,31 @@ fn the_subtype_says_how_a_message_is_read(rt: HostRuntime) {
     let found = found_in(&rt, alloc, bytes.as_slice());
     assert!(rt; found.len() == 4);
     expect_message(&rt, &found[0], message.as_slice(), false);
-    expect_states(&rt, &found[1]);
+    expect_states(&rt, &found[1], StateRule::Recorded);
     expect_message(&rt, &found[2], message.as_slice(), true);
     // 65000 is read as two AS numbers, and the address family is the second half of 65001.
     expect_refused(&rt, &found[3], 77 + 36 + 77, Fault::BadFamily);
 }
 
-/// Expects the change from Established to Idle behind an announcement.
-fn expect_states(rt: &impl Abort, found: &Found) {
+#[test]
+fn a_state_change_has_the_rule_of_the_selection(rt: HostRuntime) {
+    let alloc = rt.alloc();
+    let bytes = messages_and_a_state_change(&rt, alloc);
+    for rule in [StateRule::Recorded, StateRule::Established] {
+        let found = found_by(&rt, alloc, bytes.as_slice(), rule);
+        assert!(rt; found.len() == 4);
+        expect_states(&rt, &found[1], rule);
+    }
+}
+
+/// Expects the change from Established to Idle behind an announcement, which is taken by this rule.
+fn expect_states(rt: &impl Abort, found: &Found, expected: StateRule) {
     let unit = unit_of(rt, found);
     assert!(rt; unit.time == 2_000_000 && unit.place.offset == 77);
     match &unit.payload {
-        Payload::State { from, to } => assert!(rt; *from == 6 && *to == 1),
+        Payload::State { from, to, rule } => {
+            assert!(rt; *from == 6 && *to == 1 && *rule == expected);
+        }
         _ => assert!(rt; false),
     }
 }

@@ -5,7 +5,7 @@ use bgp_prefix::{Flat, PrefixMap, Radix};
 use command_line::{read_address, read_words};
 use fixtures::{Dripping, bytes_of};
 use lane_deal::{ByTurns, NoGate, Plan};
-use mrt_body::{ChosenPrefixes, PeerChoice, PrefixChoice, Selection, Share};
+use mrt_body::{ChosenPrefixes, PeerChoice, PrefixChoice, Selection, Share, StateRule};
 use mrt_frame::{Counted, ReplayError, Source};
 use mrt_replay::{Summary, run, status};
 use prefix_shelf::Shelf;
@@ -108,6 +108,7 @@ struct Row<'a> {
     prefixes: Vec<PrefixChoice>,
     peers: Vec<PeerChoice>,
     share: Option<Share>,
+    states: StateRule,
 }
 
 /// A number of the summary, by its name. Rounds depend on the plan.
@@ -136,6 +137,7 @@ impl<'a> Row<'a> {
             prefixes: Vec::new(alloc),
             peers: Vec::new(alloc),
             share: None,
+            states: StateRule::Recorded,
         }
     }
 
@@ -149,7 +151,8 @@ impl<'a> Row<'a> {
                 .up_to(self.until)
                 .of_prefixes(prefixes)
                 .of_peers(peers)
-                .of_share(self.share),
+                .of_share(self.share)
+                .by_states(self.states),
         )
     }
 
@@ -167,6 +170,7 @@ impl<'a> Row<'a> {
                 self.prefixes = Vec::from_slice(alloc, job.prefixes.as_slice())?;
                 self.peers = Vec::from_slice(alloc, job.peers.as_slice())?;
                 self.share = job.share;
+                self.states = job.states;
             }
             Err(_) => assert!(rt; false, "options {options}"),
         }
@@ -185,6 +189,7 @@ impl<'a> Row<'a> {
         self.prefixes.clear();
         self.peers.clear();
         self.share = None;
+        self.states = StateRule::Recorded;
         if !options.is_empty() {
             self.take_options(rt, alloc, options)?;
         }

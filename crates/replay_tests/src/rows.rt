@@ -89,6 +89,48 @@ churn
 > 65000 192.0.2.1|1|0|0|0|0|0|0|0|1.000000|2.000000
 ";
 
+/// What FRR records of two connections with one peer, and a session that ended.
+const STATES_BY_RULE: &str = "
+row connection-that-lost-a-collision
+file open-confirm-to-established announcement active-to-deleted announcement
+tables
+churn
+> 65000 192.0.2.1|1|0|0|0|0|2|1|0|2.000000|1.000000
+peers
+> 65000 192.0.2.1|down|0|4|2.000000|1.000000|1|0|-
+tables with --states established
+> 65000 192.0.2.1|10.0.0.0/8|65000|192.0.2.1|IGP|-|-|-|-
+churn with --states established
+> 65000 192.0.2.1|1|0|1|0|0|1|0|0|2.000000|1.000000
+peers with --states established
+> 65000 192.0.2.1|up|1|4|2.000000|1.000000|1|0|-
+history-same with --states established
+> 1.000000|65000 192.0.2.1|new|update|10.0.0.0/8|65000|192.0.2.1|IGP|-|-|-|-
+> 1.000000|65000 192.0.2.1|same|update|10.0.0.0/8|65000|192.0.2.1|IGP|-|-|-|-
+churn with --states recorded
+> 65000 192.0.2.1|1|0|0|0|0|2|1|0|2.000000|1.000000
+row units-behind-the-end-of-a-session
+file announcement established-to-idle announcement
+peers
+> 65000 192.0.2.1|down|0|3|1.000000|1.000000|1|0|-
+churn with --states established
+> 65000 192.0.2.1|2|0|0|0|0|1|0|0|1.000000|1.000000
+peers with --states established
+> 65000 192.0.2.1|down|1|3|1.000000|1.000000|1|0|-
+history with --states established
+> 1.000000|65000 192.0.2.1|new|update|10.0.0.0/8|65000|192.0.2.1|IGP|-|-|-|-
+> 2.000000|65000 192.0.2.1|lost|state|10.0.0.0/8|65000|192.0.2.1|IGP|-|-|-|-
+> 1.000000|65000 192.0.2.1|new|update|10.0.0.0/8|65000|192.0.2.1|IGP|-|-|-|-
+row states-without-established
+file announcement zero-to-zero announcement
+churn
+> 65000 192.0.2.1|1|0|0|0|0|1|1|0|1.000000|1.000000
+churn with --states established
+> 65000 192.0.2.1|1|0|1|0|0|0|0|0|1.000000|1.000000
+peers with --states established
+> 65000 192.0.2.1|up|1|3|1.000000|1.000000|1|0|-
+";
+
 const ATTRIBUTES: &str = "
 row two-byte-path-merged
 file two-octet-path
@@ -182,6 +224,7 @@ fn each_row_gives_its_reports(rt: HostRuntime) -> Result<(), Fail> {
     for (table, rows) in [
         (ONE_FILE, 12),
         (STATE_CHANGES, 3),
+        (STATES_BY_RULE, 3),
         (ATTRIBUTES, 5),
         (RIB_RECORDS, 3),
         (SEVERAL_PEERS, 5),

@@ -38,6 +38,7 @@ seat_at number addr table = record {
   key = record { asn = 65000; addr = V4 addr };
   session = record {
     up = true;
+    established = true;
     table = table;
     churn = record { added = 1; changed = 2; same = 3; gone = 4; void = 5; resets = 6; idle = 7; refused = 8; first = Some 1000000; last = Some 2000050 };
     arrivals = record { units = 36; first = Some (record { file = 0; offset = 12; entry = Some 3 }) };
@@ -168,12 +169,12 @@ without_times : churn_line (record { peer = peer; churn = churn_between None Non
 unfolding digits
 without_times = refl
 
-greatest_peer : peer_line (record { peer = last_peer; is_up = false; routes = 0xffffffffffffffff; units = 0xffffffffffffffff; first = Some 0; last = Some 0xffffffffffffffff; place = Some (record { file = 0xffffffffffffffff; offset = 0xffffffffffffffff; entry = Some 65535 }) })
+greatest_peer : peer_line (record { peer = last_peer; is_established = false; routes = 0xffffffffffffffff; units = 0xffffffffffffffff; first = Some 0; last = Some 0xffffffffffffffff; place = Some (record { file = 0xffffffffffffffff; offset = 0xffffffffffffffff; entry = Some 65535 }) })
     ≡ codes "4294967295 ffff:ffff:ffff:ffff:ffff:ffff:ffff:ffff|down|18446744073709551615|18446744073709551615|0.000000|18446744073709.551615|18446744073709551616|18446744073709551615|65535" ++ end
 unfolding digits
 greatest_peer = refl
 
-peer_without_units : peer_line (record { peer = peer; is_up = true; routes = 0; units = 0; first = None; last = None; place = None }) ≡ codes "65000 192.0.2.1|up|0|0|-|-|-|-|-" ++ end
+peer_without_units : peer_line (record { peer = peer; is_established = true; routes = 0; units = 0; first = None; last = None; place = None }) ≡ codes "65000 192.0.2.1|up|0|0|-|-|-|-|-" ++ end
 unfolding digits
 peer_without_units = refl
 

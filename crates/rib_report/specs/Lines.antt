@@ -112,7 +112,7 @@ entry_of place = option_and_then (λ p. p.entry) place
 
 -- peer, up or down, routes, units, first and last time, and the place of the first unit
 abbrev pub peer_line : PeerRow → List ℕ
-peer_line row = line (peer_text row.peer ∷ state_text row.is_up ∷ decimal row.routes ∷ decimal row.units
+peer_line row = line (peer_text row.peer ∷ state_text row.is_established ∷ decimal row.routes ∷ decimal row.units
     ∷ field time_text row.first ∷ field time_text row.last
     ∷ field decimal (file_of row.place) ∷ field decimal (offset_of row.place) ∷ field decimal (entry_of row.place) ∷ [])
 

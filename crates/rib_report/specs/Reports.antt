@@ -214,7 +214,7 @@ watch_churns watches = map watch_churn watches
 abbrev pub peer_row : Seat → PeerRow
 peer_row seat = record {
   peer = seat.key;
-  is_up = seat.session.up;
+  is_established = seat.session.established;
   routes = length seat.session.table;
   units = seat.session.arrivals.units;
   first = seat.session.churn.first;

@@ -8,7 +8,7 @@ use Rattle.bgp_update.specs.declared.route.Route.{Route}
 use Rattle.mrt_body.specs.declared.unit.Damage.{Damage}
 use Rattle.mrt_body.specs.declared.unit.PeerKey.{PeerKey}
 use Rattle.mrt_body.specs.declared.unit.Unit.{Unit as ReplayUnit}
-use Rattle.adj_rib.specs.Steps.{is_up, steps_of}
+use Rattle.adj_rib.specs.Steps.{is_established, steps_of}
 use Rattle.adj_rib.specs.Tables.{table_of}
 use Rattle.adj_rib.specs.Arrived.{first_place}
 use Rattle.adj_rib.specs.Churns.{churn_of, damaged_of, stopped}
@@ -71,13 +71,14 @@ unit_seen units =
 abbrev pub unit_churn : List ReplayUnit → List ChurnRow
 unit_churn units = map (λ q. record { peer = q; churn = churn_of (units_of_peer units q) }) (peers_of units)
 
--- a peer as its own units leave it: whether it is up, its routes and units, and when and where these begin
+-- a peer as its own units leave it: whether its session is established, its routes and units, and when and where these
+-- begin
 abbrev pub peer_at : List ReplayUnit → PeerKey → PeerRow
 peer_at units q =
     let own = units_of_peer units q in
     record {
       peer = q;
-      is_up = is_up own;
+      is_established = is_established own;
       routes = length (table_at units q);
       units = stopped (length own);
       first = (churn_of own).first;

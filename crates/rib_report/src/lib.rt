@@ -64,4 +64,4 @@ pub use reports::visibility::{
     VisibilityRow, visibility, visibility_with_threads, write_visibility,
 };
 pub use request::Request;
-pub use standing::reports_are_of_units;
+pub use standing::{recorded_peers_are_shown_as_they_are, reports_are_of_units};

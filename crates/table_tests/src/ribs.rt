@@ -2,4 +2,5 @@
 
 mod rows;
 mod sessions;
+mod states;
 mod units;

@@ -50,7 +50,7 @@ impl Units {
                 self.found(alloc, at, unit)
             }
             Content::States { width } => {
-                let unit = states_unit(at, is_extended, width, body);
+                let unit = states_unit(self.selection.states(), at, is_extended, width, body);
                 self.found(alloc, at, unit)
             }
             Content::Aside => {

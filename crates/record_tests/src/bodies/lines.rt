@@ -24,7 +24,7 @@ fn push_peer(rt: &impl Abort, text: &mut String, asn: u32, addr: PeerAddr) {
 
 fn push_payload(rt: &impl Abort, text: &mut String, payload: &Payload) {
     match payload {
-        Payload::State { from, to } => writeln!(text, "state {from} {to}"),
+        Payload::State { from, to, rule: _ } => writeln!(text, "state {from} {to}"),
         Payload::Message {
             bytes,
             width,

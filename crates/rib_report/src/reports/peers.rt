@@ -25,8 +25,8 @@ use std::alloc::Global;
 #[derive(Drop)]
 pub struct PeerRow {
     pub peer: PeerKey,
-    /// Whether its last state change led to Established, or there was none.
-    pub is_up: bool,
+    /// Whether the last state change that tells led to Established, or none does: then it is shown as up.
+    pub is_established: bool,
     /// The routes in its table.
     pub routes: usize,
     /// Its units of every kind.
@@ -47,7 +47,7 @@ fn row_of<M: PrefixMap<SharedRoute>>(seat: &Seated<M>) -> PeerRow
     let arrivals = seat.session.arrivals();
     PeerRow {
         peer: seat.key,
-        is_up: seat.session.is_up(),
+        is_established: seat.session.is_established(),
         routes: seat.session.table().len(),
         units: arrivals.units,
         first: churn.first,
@@ -114,7 +114,10 @@ impl Line for PeerRow {
         );
         let times = (time_field(self.first), (time_field(self.last), place));
         let counts = (self.routes as u128, (self.units as u128, times));
-        text.put(out, Ended((self.peer, (SessionUp(self.is_up), counts))));
+        text.put(
+            out,
+            Ended((self.peer, (SessionUp(self.is_established), counts))),
+        );
     }
 }
 

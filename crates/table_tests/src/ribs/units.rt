@@ -4,7 +4,7 @@ use crate::payloads::message_in;
 use adj_rib::{Session, SharedRoute};
 use bgp_prefix::{Memory, Prefix, PrefixMap, RouteKey};
 use fixtures::bytes_of;
-use mrt_body::{Payload, PayloadBytes, PeerAddr, PeerKey, Place, Unit};
+use mrt_body::{Payload, PayloadBytes, PeerAddr, PeerKey, Place, StateRule, Unit};
 use std::alloc::Global;
 use std::process::Abort;
 
@@ -33,9 +33,14 @@ fn ten(id: u32) -> RouteKey {
     RouteKey { prefix, id }
 }
 
-/// A change from one state to another, in second 2.
-fn state_change(from: u16, to: u16) -> Unit {
-    unit(2, Payload::State { from, to })
+/// A change from one state to another, in second 2, taken by this rule.
+pub fn state_change(from: u16, to: u16, rule: StateRule) -> Unit {
+    unit(2, Payload::State { from, to, rule })
+}
+
+/// One that is taken as it is recorded.
+fn recorded_change(from: u16, to: u16) -> Unit {
+    state_change(from, to, StateRule::Recorded)
 }
 
 /// An entry of 10.0.0.0/8 in a RIB record of second 3.
@@ -62,9 +67,9 @@ pub fn unit_of(alloc: Global, name: &str) -> Result<Unit, Memory> {
         "entry-with-identifier" => entry_with(alloc, 7, "plain-attributes"),
         "entry-with-med" => entry_with(alloc, 0, "plain-attributes 800404 0000000A"),
         "damaged-entry" => entry_with(alloc, 0, "40010103"),
-        "established-to-idle" => Ok(state_change(6, 1)),
-        "open-confirm-to-established" => Ok(state_change(5, 6)),
-        "established-to-established" => Ok(state_change(6, 6)),
+        "established-to-idle" => Ok(recorded_change(6, 1)),
+        "open-confirm-to-established" => Ok(recorded_change(5, 6)),
+        "established-to-established" => Ok(recorded_change(6, 6)),
         "withdrawal" | "withdrawal-with-identifier" | "unreached" => {
             Ok(unit(2, message_in(alloc, name)?))
         }

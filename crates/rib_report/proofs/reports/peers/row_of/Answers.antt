@@ -8,7 +8,7 @@ returns g c =
     let size : c.len.result ≡ length session.table = c.len.ensures ∙ len-entries (g.M.PrefixMap.contents c.table.result.now) ∙ ap length c.table.ensures in
     λ i. record {
       peer = c.args.seat.now.key;
-      is_up = c.is_up.ensures i;
+      is_established = c.is_established.ensures i;
       routes = size i;
       units = (c.arrivals-arrivals.ensures i).units;
       first = (c.churn-churn.ensures i).first;
