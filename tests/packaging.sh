@@ -34,7 +34,7 @@ for command in $commands; do
     check "fish completes $option" grep -qE -- "-l ${option#--}( |\$)" completions/bgp_replay.fish
   done
 done
-"$program" churn --summary examples/updates.mrt 2>&1 > "$work/none" | sed -n 's/^\(file 1 \)*\([a-z_]*\)[ a-zA-Z0-9_]*: .*/\2/p' | grep -vx file | sort -u > "$work/keys"
+"$program" churn --summary --quiet examples/updates.mrt 2>&1 > "$work/none" | sed -n 's/^\(file 1 \)*\([a-z_]*\)[ a-zA-Z0-9_]*: .*/\2/p' | grep -vx file | sort -u > "$work/keys"
 check '--summary has its keys' [ "$(wc -l < "$work/keys")" -ge 14 ]
 while read -r key; do
   check "the manual page has the key $key" grep -qw -- "$key" <(sed -n '/^\.SH SUMMARY/,/^\.SH EXIT/p' man/bgp_replay.1)

@@ -151,7 +151,8 @@ class Replay:
             if file.faults:
                 counts[file.name] = counts.get(file.name, 0) + file.faults
         by_file = [f"{name}: {count}" for name, count in counts.items()]
-        words = "\n  ".join([f"damaged: {self.summary.damaged}", *by_file, *self.notes])
+        others = [note for note in self.notes if not note.startswith("note: ")]
+        words = "\n  ".join([f"damaged: {self.summary.damaged}", *by_file, *others])
         if self.damaged == "raise":
             raise DamagedError(words, counts=counts)
         if self.damaged == "warn" or self.cut:

@@ -78,12 +78,27 @@ fn a_run_of_each_request_writes_its_report_or_wants_memory(rt: HostRuntime) -> R
 70000 192.0.2.2|up|0|1|3.000000|3.000000|1|56|2
 65000 192.0.2.1|up|1|1|1.000000|1.000000|1|116|-
 ";
+    let rows =
+        "3.000000|65000 2001:0db8:0000:0000:0000:0000:0000:0001|new|rib|10.0.0.0/8|65000|192.0.2.1|IGP|-|-|-|-
+1.000000|65000 192.0.2.1|new|update|10.0.0.0/8|65000|192.0.2.1|IGP|-|-|-|-
+";
+    let all = Request::History {
+        since: None,
+        same: true,
+    };
+    let changes = Request::History {
+        since: None,
+        same: false,
+    };
     for (request, expected) in [
         (Request::Tables, lines),
         (Request::Visibility, "10.0.0.0/8|2\n"),
         (Request::Origins, ""),
         (Request::Seen, "10.0.0.0/8|65000|2\n"),
         (Request::Churn { since: None }, churns),
+        (Request::Churn { since: Some(1) }, churns),
+        (all, rows),
+        (changes, rows),
         (Request::Peers, peers),
         (Request::Match(0x0A00_0001), lines),
         (Request::Faults, "1|56|2|14|BadAttribute(1)\n"),

@@ -1,5 +1,6 @@
 //! Lines by typed values, reports on sessions, and writers that fail.
 
+mod histories;
 mod lines;
 mod peers;
 mod reports;

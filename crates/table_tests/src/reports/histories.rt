@@ -1,0 +1,111 @@
+//! The rows of what happened at two peers, as watches make them.
+
+use super::peers::peer_of;
+use crate::payloads::message_in;
+use adj_rib::{SharedRoute, What};
+use bgp_prefix::{Flat, Memory, Prefix, PrefixMap, Radix, RouteKey};
+use mrt_body::{ChosenPrefixes, Payload, PeerKey, Place, StateRule, Unit};
+use peer_tables::{By, HistoryRow, Listed, Listing, Watches};
+use std::alloc::Global;
+use std::mem::size_of;
+use std::process::Abort;
+
+/// A row of each route of a whole dump has to fit beside the tables.
+const ROW_BYTES: usize = 40;
+
+/// The number of a peer, a second, and the payload.
+fn unit_of(number: u32, seconds: u64, payload: Payload) -> Unit {
+    Unit {
+        place: Place {
+            file: 0,
+            offset: 0,
+            entry: None,
+        },
+        time: seconds.wrapping_mul(1_000_000),
+        peer: peer_of(number),
+        payload,
+    }
+}
+
+/// What happened: the second, the number of the peer, what it was, what brought it about, and whether a route is told.
+type Told = (u64, u32, What, By, bool);
+
+/// The first peer announces 10.0.0.0/8 twice and withdraws it twice, and the second one loses it. An announcement of the
+/// same route is no change.
+static TOLD: [Told; 5] = [
+    (1, 0, What::New, By::Update, true),
+    (2, 1, What::New, By::Update, true),
+    (4, 0, What::Gone, By::Update, true),
+    (5, 0, What::Void, By::Update, false),
+    (6, 1, What::Lost, By::State, true),
+];
+
+fn units(alloc: Global) -> Result<[Unit; 6], Memory> {
+    Ok([
+        unit_of(0, 1, message_in(alloc, "announcement")?),
+        unit_of(1, 2, message_in(alloc, "announcement")?),
+        unit_of(0, 3, message_in(alloc, "announcement")?),
+        unit_of(0, 4, message_in(alloc, "withdrawal")?),
+        unit_of(0, 5, message_in(alloc, "withdrawal")?),
+        unit_of(
+            1,
+            6,
+            Payload::State {
+                from: 6,
+                to: 1,
+                rule: StateRule::Recorded,
+            },
+        ),
+    ])
+}
+
+/// Compares a row with what it should tell, of 10.0.0.0/8.
+fn expect_row(rt: &impl Abort, row: &HistoryRow, told: &Told) {
+    let (seconds, number, what, by, has_route) = *told;
+    let peer: PeerKey = peer_of(number);
+    let key = RouteKey {
+        prefix: Prefix::new(0x0A00_0000, 8).expect(rt, "a prefix"),
+        id: 0,
+    };
+    assert!(rt; row.time() == seconds.wrapping_mul(1_000_000) && row.peer() == peer);
+    assert!(rt; row.what() == what && row.by() == by && row.key() == key);
+    match row.route() {
+        Some(route) => {
+            assert!(rt; has_route && route.route().origin_as() == Some(65_000), "of second {seconds}");
+        }
+        None => assert!(rt; !has_route, "no route of second {seconds}"),
+    }
+}
+
+fn expect_rows<M: PrefixMap<SharedRoute> + Drop>(
+    rt: &impl Abort,
+    alloc: Global,
+) -> Result<(), Memory> {
+    let chosen = ChosenPrefixes::all(alloc);
+    let listing = Listing {
+        since: None,
+        listed: Listed::Changes,
+    };
+    let mut watches = Watches::<M>::new(alloc)?;
+    let mut rows = Vec::new(alloc);
+    for unit in &units(alloc)? {
+        watches.take(alloc, &chosen, listing, &unit.lend(), &mut rows)?;
+    }
+    assert!(rt; rows.len() == TOLD.len(), "rows");
+    for (row, told) in rows.iter().zip(TOLD.iter()) {
+        expect_row(rt, row, told);
+    }
+    Ok(())
+}
+
+#[test]
+fn watches_make_a_row_of_each_change(rt: HostRuntime) {
+    let alloc = rt.alloc();
+    expect_rows::<Flat<SharedRoute>>(&rt, alloc).expect(&rt, "memory");
+    expect_rows::<Radix<SharedRoute>>(&rt, alloc).expect(&rt, "memory");
+}
+
+#[test]
+fn a_row_is_small(rt: HostRuntime) {
+    assert!(&rt; size_of::<HistoryRow>() == ROW_BYTES);
+}
