@@ -17,7 +17,7 @@ _bgp_replay() {
   if [[ -z $command ]]; then
     mapfile -t COMPREPLY < <(compgen -W "$commands help --help --version" -- "$word")
   elif [[ $word == -* ]]; then
-    local options='--prefix --prefixes --peer --peers --until --states --header --summary --progress --quiet --workers --ring --help --version'
+    local options='--files-from --prefix --prefixes --peer --peers --until --states --header --summary --progress --quiet --workers --ring --help --version'
     case $command in match) options="--address $options";; esac
     case $command in churn|history) options="--since $options";; esac
     case $command in history) options="--same $options";; esac

@@ -13,6 +13,7 @@ complete -c bgp_replay -n $none -a match -d 'print each peer\'s routes of the lo
 complete -c bgp_replay -n $none -a history -d 'list what happened to each prefix, when and at which peer'
 complete -c bgp_replay -n $none -a faults -d 'list the damaged records of the dumps'
 complete -c bgp_replay -n '__fish_seen_subcommand_from match' -l address -x -d 'look up this IPv4 address, as 192.0.2.1'
+complete -c bgp_replay -n $some -l files-from -r -F -d 'replay the dumps that this file names, too'
 complete -c bgp_replay -n $some -l prefix -x -d 'report on this prefix alone'
 complete -c bgp_replay -n $some -l prefixes -r -F -d 'report on the prefixes in this file alone'
 complete -c bgp_replay -n $some -l peer -x -d 'report on this peer alone'

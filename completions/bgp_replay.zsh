@@ -19,6 +19,7 @@ _bgp_replay() {
     command) _describe -t commands command commands;;
     words)
       options=(
+        '*--files-from[replay the dumps that this file names, too]:FILE:_files'
         '*--prefix[report on this prefix alone]:PREFIX:'
         '*--prefixes[report on the prefixes in this file alone]:FILE:_files'
         '*--peer[report on this peer alone]:PEER:'

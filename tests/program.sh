@@ -218,7 +218,7 @@ try 0 '' whole-tables tables sample "${many[@]}"
 printf '%s\n' {1..3000} > numbers; mapfile -t thousands < <(sed 's/.*/empty/' numbers)
 (ulimit -n 256; ./bgp_replay tables sample "${thousands[@]}" > out 2> said); judge '3,001 files with 256 descriptors' 0 '' whole-tables $?
 (ulimit -n 256; ./bgp_replay churn "${thousands[@]}" 'cut' > out 2> said); judge '3,000 files and a damaged one with 256 descriptors' 1 'damaged: 1' something $?
-(ulimit -n 20; ./bgp_replay tables sample "${many[@]}" > out 2> said; status=$?; head -n 1 said | grep -q '^open failed: file [0-9][0-9]*$' && [ $status = 3 ] && [ ! -s out ]) && right || wrong 'more files than descriptors'
+for open in 20 5; do (ulimit -n $open; ./bgp_replay tables sample "${many[@]}" > out 2> said); judge "301 files with $open descriptors" 0 '' whole-tables $?; done
 
 
 # --prefix: two peers of an index, their RIB entries at 1000, messages at 1010, 1020 and 1030, a state change at 1040, and a message at 1050
@@ -386,6 +386,37 @@ tip "  tip: '--since' is an option of churn, history" tables --since 5 eight
 lists 'churn --prefixes two.txt' '65002 192.0.2.2|1|0|0|0|0|1|0|0|1010.000000|1040.000000'
 lists 'tables --until 1970-01-01T00:17:10Z --prefix 198.51.100.0/24' "$two_24"
 lists 'tables --until 1970-01-02 --prefix 203.0.113.0/24' "$one_203"
+
+# --files-from: names by line and by NUL byte, behind those of the arguments
+printf 'eight\n\nempty' > dumps.txt; printf 'empty\0eight\0' > dumps.nul; printf '\n\n' > none.txt; printf 'eight\n\n\377\n' > bad.txt
+./bgp_replay tables eight > whole-eight 2> said; ./bgp_replay tables eight eight > whole-twice 2> said
+for words in '--files-from dumps.txt' '--files-from dumps.nul' 'empty --files-from dumps.txt' '--files-from=dumps.txt empty'; do try 0 '' whole-eight tables $words; done
+try 0 '' whole-twice tables --files-from dumps.txt --files-from dumps.nul
+try 0 '' whole-twice tables --files-from dumps.nul eight
+INPUT=dumps.nul try 0 '' whole-eight tables --files-from -
+printf 'two words\0line\nfeed\0' > odd.nul; cp eight 'two words'; cp eight $'line\nfeed'; try 0 '' whole-twice tables --files-from odd.nul
+printf '%s\n' - > stdin.txt; INPUT=eight try 0 '' whole-eight tables --files-from stdin.txt
+INPUT=dumps.txt try 2 "error: standard input can't be both the names of files and a dump" nothing tables --files-from - -
+INPUT=stdin.txt try 2 "error: standard input can't be both the names of files and a dump" nothing tables --files-from -
+try 2 "error: standard input can't be both the names of files and the prefixes" nothing tables --files-from - --prefixes - eight
+try 2 "error: '--files-from none.txt' names no file" nothing tables --files-from none.txt
+try 2 "error: '--files-from standard input' names no file" nothing tables eight --files-from -
+try 2 "error: name 3 '\\xff' in '--files-from bad.txt' is not UTF-8 text" nothing tables --files-from bad.txt
+try 3 'open failed: files-from 2' nothing tables --files-from dumps.txt --files-from missing
+try 3 'read failed: files-from 1' nothing tables --files-from .
+printf 'eight\nmissing\n' > missing.txt; try 3 'open failed: file 3' nothing tables --files-from missing.txt eight
+try 2 '?' nothing tables --files-from
+# any number of files, however few may be open
+for ((i = 0; i < 2000; i++)); do echo empty; echo eight; done > many.txt
+mapfile -t many < many.txt; ./bgp_replay churn "${many[@]}" > whole-many 2> said
+for open in 64 8; do
+  (ulimit -n $open; ./bgp_replay churn --files-from many.txt > out 2> said); judge "4,000 files of a list with $open descriptors" 0 '' whole-many $?
+done
+# a file is closed when the next one is begun, though its end wasn't read: whoever writes it is told, and goes on
+mkfifo first second
+timeout 60 bash -c 'exec 6> first 7> second; { printf "\0\0\0\1\0\15\0\1\377\377\377\377"; yes; } >&6 7>&-; echo $? > ended; exec 6>&-; cat eight >&7' 2> none & writer=$!
+timeout 30 ./bgp_replay tables first second > out 2> said; judge 'a pipe that is left' 1 'damaged: 1' whole-eight $?
+wait $writer; if [ "$(cat ended)" = 141 ]; then right; else wrong "who writes a pipe that is left ends with $(cat ended)"; fi
 
 # what isn't MRT is named
 printf 'PK\3\4\24\0\0\0\10\0 and so on' > packed.zip; printf '\375\067zXZ\0\0\4' > packed.xz; printf 'TABLE_DUMP2|1|B|\n' > lines.txt

@@ -1,52 +1,17 @@
-//! The dumps that are read, and the failures to open them.
+//! The dumps that are read.
 
 ghost use Rattle.std.specs.Prelude.{◌≡◌};
 ghost use Rattle.packed_io.specs.Formats.{told_of};
 ghost use Rattle.bgp_replay.specs.Devices.{dump_contents, dump_remaining};
 
 use crate::counts::Counts;
+use crate::files::{Device, Files};
 use crate::progress::{Board, LOOK, ReadSoFar};
 use bgp_prefix::Memory;
 use command_line::{FirstBytes, Kind, Records};
 use mrt_frame::Counted;
 use packed_io::{Format, PackedFault, Unpacked};
-use std::fs::File;
-use std::io::{self, Read, Stdin};
-
-/// The maximum number of files kept open from the start until their turn comes. Pipes and the like,
-/// which can't be opened twice, are kept open regardless of their number.
-const KEPT_OPEN: usize = 200;
-
-/// A file, or standard input.
-#[derive(Drop)]
-pub enum Device<'a> {
-    /// Opened at the start and closed again; it is reopened when its turn comes.
-    Closed(HostRuntime, &'a str),
-    Named(File),
-    Standard(Stdin),
-}
-
-impl Device<'_> {
-    /// Opens it, if it is closed.
-    fn reopen(&mut self) -> io::Result<()> {
-        if let Device::Closed(rt, name) = self {
-            let file = std::fs::open(rt, *name)?;
-            *self = Device::Named(file);
-        }
-        Ok(())
-    }
-}
-
-impl Read for Device<'_> {
-    fn read(&mut self, buf: &mut [u8]) -> io::Result<usize> {
-        self.reopen()?;
-        match self {
-            Device::Closed(_, _) => Ok(0),
-            Device::Named(file) => file.read(buf),
-            Device::Standard(input) => input.read(buf),
-        }
-    }
-}
+use std::io::{self, Read};
 
 /// What is counted of a dump while it is read, where someone wants to know.
 #[derive(Drop)]
@@ -85,9 +50,11 @@ impl<'a> Watch<'a> {
     }
 }
 
-/// What is watched while dumps are read.
+/// What the dumps of a run share.
 #[derive(Clone, Copy)]
 pub struct Watched<'a> {
+    /// The files that are read.
+    pub files: &'a Files,
     /// Where units are counted, if records are.
     pub counts: Option<&'a Counts>,
     /// Where the progress is shown.
@@ -120,6 +87,7 @@ pub struct Dump<'a, D> {
     error: Option<io::Error>,
     watch: Option<Watch<'a>>,
     counts: Option<&'a Counts>,
+    files: &'a Files,
 }
 
 /// A dump, with a count of its failures.
@@ -153,6 +121,7 @@ impl<'a, D: Read> Dump<'a, D> {
             error: None,
             watch,
             counts: watched.counts,
+            files: watched.files,
         }
     }
 
@@ -241,7 +210,7 @@ impl<'a, D: Read> Dump<'a, D> {
         }
     }
 
-    /// Tells who counts that its units come now, before it is read.
+    /// Tells who counts that its units come now, and closes the files before it, before it is read.
     fn begin(&mut self)
         ensures { dump_contents self.new ≡ dump_contents self.old }
     {
@@ -249,8 +218,10 @@ impl<'a, D: Read> Dump<'a, D> {
             return;
         }
         self.is_begun = true;
+        let index = self.number.saturating_sub(1);
+        self.files.begin(index);
         if let Some(counts) = self.counts {
-            counts.begin(self.number.saturating_sub(1));
+            counts.begin(index);
         }
     }
 
@@ -293,80 +264,25 @@ impl<'a, D: Read + Drop> Dump<'a, D> {
     {}
 }
 
-/// Why not all dumps were opened.
-#[derive(Drop)]
-pub enum OpenError {
-    /// The file of this number, from 1, and why it wasn't.
-    File(usize, io::Error),
-    Memory,
-}
-
-impl From<Memory> for OpenError {
-    fn from(_memory: Memory) -> OpenError {
-        OpenError::Memory
-    }
-}
-
-/// A dump that was opened, and how many bytes it has, where that is known.
-struct Opened<'a> {
-    device: Device<'a>,
-    size: Option<u64>,
-}
-
-/// Returns the size of a file in bytes, if it may be closed and reopened.
-fn size_of(file: &File) -> Option<u64> {
-    match file.metadata() {
-        Ok(metadata) if metadata.is_file() => Some(metadata.len()),
-        _ => None,
-    }
-}
-
-/// Opens a dump, with this many earlier ones kept open.
-fn open<'a>(
-    rt: &HostRuntime,
-    name: &'a str,
-    earlier: usize,
-    is_watched: bool,
-) -> io::Result<Opened<'a>> {
-    if name == "-" {
-        let device = Device::Standard(rt.stdin());
-        return Ok(Opened { device, size: None });
-    }
-    let file = std::fs::open(rt, name)?;
-    let is_kept = earlier < KEPT_OPEN;
-    let size = if is_kept && !is_watched {
-        None
-    } else {
-        size_of(&file)
-    };
-    let device = if is_kept || size.is_none() {
-        Device::Named(file)
-    } else {
-        Device::Closed(*rt, name)
-    };
-    Ok(Opened { device, size })
-}
-
-/// Opens all dumps, in order, before any is read. `-` is standard input; a second `-` finds nothing
-/// left.
-pub fn open_all<'a>(
+/// Makes the dumps of these files, which were opened.
+pub fn inputs_of<'a>(
     rt: &HostRuntime,
     names: &'a [String],
     watched: Watched<'a>,
-) -> Result<Vec<Input<'a>>, OpenError> {
-    let is_watched = watched.is_any();
+) -> Result<Vec<Input<'a>>, Memory> {
     let mut inputs = Vec::new(rt.alloc());
     for (i, name) in names.iter().enumerate() {
-        let number = i.saturating_add(1);
-        let opened = match open(rt, name.as_str(), i, is_watched) {
-            Ok(opened) => opened,
-            Err(error) => return Err(OpenError::File(number, error)),
-        };
-        let Opened { device, size } = opened;
-        let dump = Dump::new(rt, name.as_str(), number, device, size, watched);
-        if inputs.push(Counted::new(dump)).is_err() {
-            return Err(OpenError::Memory);
-        }
+        let device = Device::new(rt, watched.files, i, name.as_str());
+        let size = watched.files.size(i);
+        let dump = Dump::new(
+            rt,
+            name.as_str(),
+            i.saturating_add(1),
+            device,
+            size,
+            watched,
+        );
+        inputs.push(Counted::new(dump))?;
     }
     Ok(inputs)
 }

@@ -1,15 +1,44 @@
-//! The files of prefixes that are chosen.
+//! The files that choose prefixes, and those that name dumps.
 
 use crate::telling::{tell_list, tell_memory};
-use command_line::{FileName, ListError, fault_of_list, read_list};
+use command_line::{
+    FileListError, FileName, ListError, fault_of_file_list, fault_of_list, read_file_list,
+    read_list,
+};
 use mrt_body::PrefixChoice;
+use std::alloc::AllocError;
 use std::io::{self, ErrorKind, Read};
 
-/// The exit status for a file that chooses no prefixes.
+/// The exit status for a file that chooses no prefixes, or names no dumps.
 const REFUSED: u8 = 2;
 
 /// The exit status if a file or memory failed.
 const FAILED: u8 = 3;
+
+/// What lists are of.
+#[derive(Clone, Copy)]
+enum Listed {
+    Prefixes,
+    Files,
+}
+
+impl Listed {
+    /// The name of the option that names such lists, without its dashes.
+    fn option(self) -> &'static str {
+        match self {
+            Listed::Prefixes => "prefixes",
+            Listed::Files => "files-from",
+        }
+    }
+
+    /// What one entry is.
+    fn entry(self) -> &'static str {
+        match self {
+            Listed::Prefixes => "prefix",
+            Listed::Files => "file",
+        }
+    }
+}
 
 /// Why a file wasn't read whole.
 #[derive(Drop)]
@@ -36,52 +65,73 @@ fn bytes_of(rt: &HostRuntime, name: &str) -> Result<Vec<u8>, Failure> {
 }
 
 /// Reports that memory ran out, and returns the status.
-fn without_memory(rt: &HostRuntime) -> u8 {
-    tell_memory(rt, "the prefixes were read");
+fn without_memory(rt: &HostRuntime, listed: Listed) -> u8 {
+    let during = match listed {
+        Listed::Prefixes => "the prefixes were read",
+        Listed::Files => "the names of files were read",
+    };
+    tell_memory(rt, during);
     FAILED
 }
 
 /// Reports why a file wasn't read whole, and returns the status.
-fn explain(rt: &HostRuntime, number: usize, name: &str, failure: &Failure) -> u8 {
+fn explain(rt: &HostRuntime, listed: Listed, number: usize, name: &str, failure: &Failure) -> u8 {
+    let option = listed.option();
     match failure {
-        Failure::Read(error) if error.kind() == ErrorKind::OutOfMemory => without_memory(rt),
+        Failure::Read(error) if error.kind() == ErrorKind::OutOfMemory => {
+            without_memory(rt, listed)
+        }
         Failure::Open(error) => {
-            tell_list(rt, "open", number, name, error);
+            tell_list(rt, "open", option, number, name, error);
             FAILED
         }
         Failure::Read(error) => {
-            tell_list(rt, "read", number, name, error);
+            tell_list(rt, "read", option, number, name, error);
             FAILED
         }
     }
 }
 
-/// Reports the line of a file that chooses nothing, and returns the status.
-fn explain_line(rt: &HostRuntime, name: &str, text: &[u8], line: usize) -> u8 {
-    match fault_of_list(rt.alloc(), name, text, line) {
+/// Reports what is wrong with a file's text, and returns the status.
+fn explain_text(rt: &HostRuntime, listed: Listed, fault: Result<String, AllocError>) -> u8 {
+    match fault {
         Ok(fault) => {
             let _ = eprint!(rt; "{fault}");
             REFUSED
         }
-        Err(_) => without_memory(rt),
+        Err(_) => without_memory(rt, listed),
+    }
+}
+
+/// Reports that a file lists nothing, and returns the status.
+fn explain_none(rt: &HostRuntime, listed: Listed, name: &str) -> u8 {
+    let option = listed.option();
+    let shown = FileName(name);
+    let entry = listed.entry();
+    let _ = eprintln!(rt; "error: '--{option} {shown}' names no {entry}");
+    REFUSED
+}
+
+/// Returns the text of a list, or the status to exit with.
+fn text_of(rt: &HostRuntime, listed: Listed, number: usize, name: &str) -> Result<Vec<u8>, u8> {
+    match bytes_of(rt, name) {
+        Ok(text) => Ok(text),
+        Err(failure) => Err(explain(rt, listed, number, name, &failure)),
     }
 }
 
 /// Returns what the lines of a file choose, or the status to exit with.
 fn choices_of(rt: &HostRuntime, number: usize, name: &str) -> Result<Vec<PrefixChoice>, u8> {
-    let text = match bytes_of(rt, name) {
-        Ok(text) => text,
-        Err(failure) => return Err(explain(rt, number, name, &failure)),
-    };
+    let listed = Listed::Prefixes;
+    let text = text_of(rt, listed, number, name)?;
     match read_list(rt.alloc(), &text) {
-        Ok(choices) if choices.is_empty() => {
-            let shown = FileName(name);
-            let _ = eprintln!(rt; "error: '--prefixes {shown}' names no prefix");
-            Err(REFUSED)
-        }
+        Ok(choices) if choices.is_empty() => Err(explain_none(rt, listed, name)),
         Ok(choices) => Ok(choices),
-        Err(ListError::Line(line)) => Err(explain_line(rt, name, &text, line)),
-        Err(ListError::Memory) => Err(without_memory(rt)),
+        Err(ListError::Line(line)) => {
+            let fault = fault_of_list(rt.alloc(), name, &text, line);
+            Err(explain_text(rt, listed, fault))
+        }
+        Err(ListError::Memory) => Err(without_memory(rt, listed)),
     }
 }
 
@@ -91,8 +141,35 @@ pub fn listed_prefixes(rt: &HostRuntime, names: &[String]) -> Result<Vec<PrefixC
     for (i, name) in names.iter().enumerate() {
         let mut listed = choices_of(rt, i.saturating_add(1), name.as_str())?;
         if choices.append(&mut listed).is_err() {
-            return Err(without_memory(rt));
+            return Err(without_memory(rt, Listed::Prefixes));
         }
     }
     Ok(choices)
+}
+
+/// Returns the dumps that a file names, or the status to exit with.
+fn dumps_of(rt: &HostRuntime, number: usize, name: &str) -> Result<Vec<String>, u8> {
+    let listed = Listed::Files;
+    let text = text_of(rt, listed, number, name)?;
+    match read_file_list(rt.alloc(), &text) {
+        Ok(names) if names.is_empty() => Err(explain_none(rt, listed, name)),
+        Ok(names) => Ok(names),
+        Err(FileListError::NotText(at)) => {
+            let fault = fault_of_file_list(rt.alloc(), name, &text, at);
+            Err(explain_text(rt, listed, fault))
+        }
+        Err(FileListError::Memory) => Err(without_memory(rt, listed)),
+    }
+}
+
+/// Returns the dumps that these files name, in order, or the status to exit with.
+pub fn listed_dumps(rt: &HostRuntime, names: &[String]) -> Result<Vec<String>, u8> {
+    let mut dumps = Vec::new(rt.alloc());
+    for (i, name) in names.iter().enumerate() {
+        let mut listed = dumps_of(rt, i.saturating_add(1), name.as_str())?;
+        if dumps.append(&mut listed).is_err() {
+            return Err(without_memory(rt, Listed::Files));
+        }
+    }
+    Ok(dumps)
 }

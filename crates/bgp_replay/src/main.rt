@@ -3,8 +3,9 @@
 //! The program reads arguments, opens files, calls `run` and reports the outcome. All that it can leave to a library is
 //! in one, since a function of a program can't be called by a test.
 //!
-//! - **All files are opened before any is read**, so that a wrong name is reported at once. The first 200 stay open; a
-//!   later one is closed and opened again when its turn comes, except pipes and the like, which can't be opened twice.
+//! - **All files are opened before any is read**, so that a wrong name is reported at once. The first 16 stay open, as
+//!   long as the system lets so many be open; a later one is closed and opened again when its turn comes, except pipes
+//!   and the like, which can't be opened twice. A file is closed when the next one is begun, if its end wasn't read.
 //!   Standard input is read like a file; a second `-` finds nothing left.
 //! - **`Dump` and `Report` are generic over their device**, and state what they make known by what it does (`run_io`):
 //!   so what is counted, shown and kept on the way is proved to change no byte.
@@ -32,6 +33,7 @@ ghost use Rattle.std.specs.Prelude.{◌≡◌, ◌≤◌, ◌*◌, min, IfOk, Is
 ghost use Rattle.lane_deal.specs.Plans.{IsPlan};
 
 mod counts;
+mod files;
 mod input;
 mod lists;
 mod notes;
@@ -41,11 +43,12 @@ mod telling;
 
 use adj_rib::SharedRoute;
 use bgp_prefix::Memory;
-use command_line::{Job, Usage, read_words, wrapped};
+use command_line::{Job, Usage, read_words, standard_input_fault, wrapped};
 use counts::Counts;
-use input::{Input, OpenError, Watched, open_all};
+use files::{Files, OpenError};
+use input::{Watched, inputs_of};
 use lane_deal::{ByTurns, Plan};
-use lists::listed_prefixes;
+use lists::{listed_dumps, listed_prefixes};
 use mrt_body::{ChosenPrefixes, PrefixChoice, Reach, Selection};
 use mrt_frame::Counted;
 use mrt_replay::{run, status};
@@ -272,29 +275,41 @@ fn given_words(rt: &HostRuntime) -> Result<Vec<String>, u8> {
     }
 }
 
+/// Adds what the files that the arguments name list, or returns the status to exit with.
+fn add_listed(rt: &HostRuntime, job: &mut Job) -> Result<(), u8> {
+    let mut prefixes = listed_prefixes(rt, job.lists.as_slice())?;
+    if job.prefixes.append(&mut prefixes).is_err() {
+        return Err(without_memory(rt, "the prefixes were read"));
+    }
+    let mut dumps = listed_dumps(rt, job.file_lists.as_slice())?;
+    if job.files.append(&mut dumps).is_err() {
+        return Err(without_memory(rt, "the names of files were read"));
+    }
+    match standard_input_fault(&job.lists, &job.file_lists, &job.files) {
+        Some(text) => {
+            let _ = eprint!(rt; "{text}");
+            Err(REFUSED)
+        }
+        None => Ok(()),
+    }
+}
+
 /// Returns the job that the command line asks for, or the status to exit with.
 fn given_job(rt: &HostRuntime) -> Result<Job, u8> {
     let words = given_words(rt)?;
     match read_words(rt.alloc(), words.as_slice()) {
         Ok(mut job) => {
-            let mut listed = listed_prefixes(rt, job.lists.as_slice())?;
-            if job.prefixes.append(&mut listed).is_err() {
-                return Err(without_memory(rt, "the prefixes were read"));
-            }
+            add_listed(rt, &mut job)?;
             Ok(job)
         }
         Err(usage) => Err(explain(rt, &usage)),
     }
 }
 
-/// Returns the dumps, opened, or the status to exit with.
-fn opened<'a>(
-    rt: &HostRuntime,
-    names: &'a [String],
-    watched: Watched<'a>,
-) -> Result<Vec<Input<'a>>, u8> {
-    match open_all(rt, names, watched) {
-        Ok(inputs) => Ok(inputs),
+/// Returns the files, opened, or the status to exit with.
+fn opened(rt: &HostRuntime, names: &[String]) -> Result<Files, u8> {
+    match Files::open(rt, names) {
+        Ok(files) => Ok(files),
         Err(OpenError::File(number, error)) => {
             let name = names.get(number.saturating_sub(1));
             tell_open(rt, number, name.map_or("", |name| name.as_str()), &error);
@@ -336,13 +351,17 @@ fn replay_job(rt: &HostRuntime, threads: &(impl Threads + Sync), job: &Job) -> u
         Ok(counts) => counts,
         Err(code) => return code,
     };
+    let files = match opened(rt, job.files.as_slice()) {
+        Ok(files) => files,
+        Err(code) => return code,
+    };
     let watched = Watched {
+        files: &files,
         counts: counts.as_ref(),
         board: board.as_ref(),
     };
-    let mut inputs = match opened(rt, job.files.as_slice(), watched) {
-        Ok(inputs) => inputs,
-        Err(code) => return code,
+    let Ok(mut inputs) = inputs_of(rt, job.files.as_slice(), watched) else {
+        return without_memory(rt, "the files were opened");
     };
     let header = if job.header {
         columns(&job.request)

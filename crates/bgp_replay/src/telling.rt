@@ -2,7 +2,8 @@
 //! say which file and why. A failure to write them doesn't change the status.
 
 use crate::counts::{Counts, FileCounts};
-use crate::input::{Device, Dump, Input};
+use crate::files::Device;
+use crate::input::{Dump, Input};
 use crate::output::Output;
 use command_line::{FileName, Kind, Records};
 use mrt_frame::ReplayError;
@@ -33,9 +34,16 @@ pub fn tell_open(rt: &HostRuntime, number: usize, name: &str, error: &io::Error)
     tell_cause(rt, FileName(name), error);
 }
 
-/// Reports that a file of prefixes couldn't be opened or read.
-pub fn tell_list(rt: &HostRuntime, what: &str, number: usize, name: &str, error: &io::Error) {
-    let _ = eprintln!(rt; "{what} failed: prefixes {number}");
+/// Reports that the file of this number among those that an option names couldn't be opened or read.
+pub fn tell_list(
+    rt: &HostRuntime,
+    what: &str,
+    option: &str,
+    number: usize,
+    name: &str,
+    error: &io::Error,
+) {
+    let _ = eprintln!(rt; "{what} failed: {option} {number}");
     tell_cause(rt, FileName(name), error);
 }
 

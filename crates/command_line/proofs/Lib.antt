@@ -5,3 +5,5 @@ pub mod Marks
 pub mod Unique
 pub mod Spelled
 pub mod Lines
+pub mod Pieces
+pub mod FileNames

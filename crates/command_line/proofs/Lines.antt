@@ -10,6 +10,7 @@ use Rattle.std.proofs.lemmas.List.Sums.{fails_before_first}
 use Rattle.std.proofs.Math.Seq.{drop-cons}
 use Rattle.mrt_body.specs.declared.choice.PrefixChoice.{PrefixChoice}
 use Rattle.command_line.specs.Choices.{SpellsChoice, IsNoChoice}
+use Rattle.command_line.proofs.Pieces.{piece_before, piece_alone}
 use Rattle.command_line.specs.Lists.{lines_of, is_blank, in_front, trimmed, is_passed, entries, NameChoices, IsFirstFault}
 
 -- ---- blanks at the end
@@ -32,22 +33,10 @@ abbrev pub is_feed : ℕ → Bool
 is_feed byte = eqb byte 10
 
 pub line_before : (text : List ℕ) (p : ℕ) → position is_feed text ≡ Some p → lines_of text ≡ take p text ∷ lines_of (drop (p + 1) text)
-line_before text p found =
-    let at = position-Some is_feed text p 0 found in
-    let byte : get_or text p 0 ≡ 10 = eqb-true (get_or text p 0) 10 at.1 in
-    let whole : text ≡ take p text ++ 10 ∷ drop (p + 1) text = sym (take-append-drop p text) ∙ ap (λ (l : List ℕ). take p text ++ l) (drop-cons text p 0 at.0 ∙ ap (λ b. b ∷ drop (suc p) text) byte ∙ ap (λ k. 10 ∷ drop k text) {x = suc p} {y = p + 1} (omega arith)) in
-    ap lines_of whole ∙ slice_split_at is_feed (take p text) 10 (drop (p + 1) text) (before_feed text p at.0 at.2) refl
-  where
-    before_feed : (text : List ℕ) (p : ℕ) → p < length text → ((k : ℕ) → k < p → is_feed (get_or text k 0) ≡ false) → All (λ b. is_feed b ≡ false) (take p text)
-    before_feed text p inside none k d lt =
-        let low : k < p = omega (arith, lt, length-take p text, inside) in
-        subst (λ b. is_feed b ≡ false) (sym (get_or-take p text k d low ∙ get_or_default text k d 0 (omega (arith, low, inside)))) (none k low)
+line_before text p found = piece_before 10 text p found
 
 pub line_alone : (text : List ℕ) → position is_feed text ≡ None → lines_of text ≡ text ∷ []
-line_alone text none = slice_split_none is_feed text (λ k d lt. elim (cases_lt (position_or_len is_feed text) (length text)) [
-  | inl inside ↦ let some : position is_feed text ≡ Some (position_or_len is_feed text) = rw (lt-ltb (position_or_len is_feed text) (length text) inside) refl in cc
-  | inr end ↦ fails_before_first is_feed text k d (omega (arith, lt, end))
-])
+line_alone text none = piece_alone 10 text none
 
 -- ---- what lines choose
 

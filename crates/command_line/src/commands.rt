@@ -95,11 +95,11 @@ fn option<'a>(alloc: Global, row: &OptionRow) -> Arg<'a> {
     }
 }
 
-fn file_words<'a>(alloc: Global) -> Arg<'a> {
+fn file_words<'a>(alloc: Global, is_required: bool) -> Arg<'a> {
     Arg::new(alloc, "file")
         .value_name("FILE")
         .num_args(1..)
-        .required(true)
+        .required(is_required)
         .action(ArgAction::Append)
         .help(
             "MRT dumps, plain or packed by gzip or bzip2, replayed in this order; '-' is standard input",
@@ -110,6 +110,7 @@ fn report_command<'a>(
     alloc: Global,
     row: &CommandRow,
     closing: &'a str,
+    needs_file: bool,
 ) -> Result<Command<'a>, AllocError> {
     let mut report = Command::new(alloc, row.name)
         .about(row.meaning)
@@ -120,11 +121,15 @@ fn report_command<'a>(
             report = report.arg(option(alloc, option_row))?;
         }
     }
-    report.arg(file_words(alloc))
+    report.arg(file_words(alloc, needs_file))
 }
 
-/// Returns the command line of the program.
-pub fn command<'a>(alloc: Global, closings: &'a [String]) -> Result<Command<'a>, AllocError> {
+/// Returns the command line of the program. A file need not be named where a list of files is.
+pub fn command<'a>(
+    alloc: Global,
+    closings: &'a [String],
+    needs_file: bool,
+) -> Result<Command<'a>, AllocError> {
     let mut whole = Command::new(alloc, "bgp_replay")
         .bin_name("bgp_replay")?
         .version(VERSION)
@@ -135,7 +140,8 @@ pub fn command<'a>(alloc: Global, closings: &'a [String]) -> Result<Command<'a>,
         .subcommand_required(true)
         .arg_required_else_help(true);
     for (row, closing) in COMMANDS.iter().zip(closings) {
-        whole = whole.subcommand(report_command(alloc, row, closing.as_str())?)?;
+        let report = report_command(alloc, row, closing.as_str(), needs_file)?;
+        whole = whole.subcommand(report)?;
     }
     Ok(whole)
 }

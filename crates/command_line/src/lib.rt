@@ -1,7 +1,7 @@
 //! What the command line asks for, and the names that the program uses for files and records in messages.
 //!
 //! `read_words` makes a `Job` of the arguments, by the kit's `clap`; its invariants are the ranges of workers and ring,
-//! and that there is a file. `read_address` and `read_choice` are exact in both directions, as is what is reported as a
+//! and that there is a file or a list of files. `read_address` and `read_choice` are exact in both directions, as is what is reported as a
 //! bad address. What else the arguments mean is tested (`command_tests`) and not stated.
 //!
 //! - Options, commands and columns stand in the tables of `options`, and what they say in words is made from these:
@@ -22,6 +22,9 @@
 //!   `--prefix` adds to the others, while of other options the last one counts.
 //! - `--prefixes` takes files with a prefix in each line. `read_list` reads such a text and is exact in both
 //!   directions; a job has the files' names, which the program opens and reads.
+//! - `--files-from` takes files that name dumps. `read_file_list` reads such a text; the program opens and reads it, as
+//!   it does those of `--prefixes`. A file need not be named beside it, so a word that begins so is looked for before
+//!   the parser is made.
 //! - Of a word that is no option, `clap` says how to pass it as a file. The refusal says so only where the word may
 //!   be one.
 //! - `--peer` and `--peers` choose peers by AS number and address, and a share of the peers. Their readers are tested.
@@ -35,6 +38,7 @@ mod address;
 mod build;
 mod choice;
 mod commands;
+mod file_list;
 mod kind;
 mod list;
 mod moment;
@@ -49,6 +53,7 @@ mod wrap;
 
 pub use address::read_address;
 pub use choice::read_choice;
+pub use file_list::{FileListError, fault_of_file_list, read_file_list};
 pub use kind::{FirstBytes, Kind};
 pub use list::{ListError, fault_of_list, read_list};
 pub use moment::read_second;
@@ -56,5 +61,5 @@ pub use mrt_names::RecordKind;
 pub use names::FileName;
 pub use peers::{read_peer, read_share};
 pub use records::{Aside, Records};
-pub use words::{Job, Usage, read_words};
+pub use words::{Job, Usage, read_words, standard_input_fault};
 pub use wrap::{read_width, wrapped};

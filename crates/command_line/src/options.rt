@@ -50,7 +50,7 @@ pub struct CommandRow {
     pub examples: &'static [&'static str],
 }
 
-pub static OPTIONS: [OptionRow; 15] = [
+pub static OPTIONS: [OptionRow; 16] = [
     OptionRow {
         name: "address",
         value: "A",
@@ -60,6 +60,16 @@ pub static OPTIONS: [OptionRow; 15] = [
         commands: "match",
         is_required: true,
         meaning: "Look up this IPv4 address, as 192.0.2.1",
+    },
+    OptionRow {
+        name: "files-from",
+        value: "FILE",
+        takes: Takes::Texts,
+        default: "",
+        offered: "",
+        commands: "",
+        is_required: false,
+        meaning: "Replay the dumps that this file names, too. Each line is a name, or, if the file has a NUL byte, what each NUL byte ends; empty lines are passed over, and '-' is standard input. They come behind those of the arguments, in order",
     },
     OptionRow {
         name: "prefix",

@@ -52,11 +52,13 @@ pub struct Job {
     pub progress: bool,
     /// Whether nothing is remarked about the dumps.
     pub quiet: bool,
-    /// At least one; `-` is standard input.
+    /// The dumps; `-` is standard input. If there is none, a list names some.
     pub files: Vec<String>,
+    /// The files whose names add to them; `-` is standard input.
+    pub file_lists: Vec<String>,
     ghost workers_in: { (1 ≤ workers) × (workers ≤ 64) },
     ghost ring_in: { (1 ≤ ring) × (ring ≤ 65536) },
-    ghost some_file: { 0 < vec_len files },
+    ghost some_file: { 0 < vec_len files + vec_len file_lists },
 }
 
 /// Why there is no job.
@@ -202,17 +204,17 @@ fn prefixes_of(alloc: Global, matches: &ArgMatches<'_>) -> Result<Vec<PrefixChoi
     Ok(choices)
 }
 
-/// Returns the names of the files that `--prefixes` names.
-fn lists_of(alloc: Global, matches: &ArgMatches<'_>) -> Result<Vec<String>, Usage>
+/// Returns the texts that are given for an argument, in order.
+fn texts_of(alloc: Global, name: &str, matches: &ArgMatches<'_>) -> Result<Vec<String>, Usage>
     ensures { IfErr result IsRefusal }
 {
-    let mut lists = Vec::new(alloc);
-    if let Some(names) = matches.get_strs("prefixes") {
-        for name in names {
-            lists.push(String::from_str(alloc, name)?)?;
+    let mut texts = Vec::new(alloc);
+    if let Some(given) = matches.get_strs(name) {
+        for text in given {
+            texts.push(String::from_str(alloc, text)?)?;
         }
     }
-    Ok(lists)
+    Ok(texts)
 }
 
 /// Whether standard input is one of these files.
@@ -223,6 +225,27 @@ fn has_standard_input(names: &[String]) -> bool {
         }
     }
     false
+}
+
+/// Why standard input can't be all that these files say it is, if it can't: lists of prefixes, lists of files' names, and
+/// dumps.
+pub fn standard_input_fault(
+    lists: &[String],
+    file_lists: &[String],
+    files: &[String],
+) -> Option<&'static str> {
+    let names_prefixes = has_standard_input(lists);
+    let names_files = has_standard_input(file_lists);
+    let is_dump = has_standard_input(files);
+    if names_prefixes && is_dump {
+        Some("error: standard input can't be both the prefixes and a dump\n")
+    } else if names_files && is_dump {
+        Some("error: standard input can't be both the names of files and a dump\n")
+    } else if names_files && names_prefixes {
+        Some("error: standard input can't be both the names of files and the prefixes\n")
+    } else {
+        None
+    }
 }
 
 /// Returns the peers that are chosen.
@@ -260,18 +283,6 @@ fn share_of(alloc: Global, matches: &ArgMatches<'_>) -> Result<Option<Share>, Us
     }
 }
 
-fn files_of(alloc: Global, matches: &ArgMatches<'_>) -> Result<Vec<String>, Usage>
-    ensures { IfErr result IsRefusal }
-{
-    let mut files = Vec::new(alloc);
-    if let Some(names) = matches.get_strs("file") {
-        for file in names {
-            files.push(String::from_str(alloc, file)?)?;
-        }
-    }
-    Ok(files)
-}
-
 fn job_of(alloc: Global, name: &str, matches: &ArgMatches<'_>) -> Result<Job, Usage>
     ensures { IfErr result IsRefusal }
 {
@@ -282,10 +293,11 @@ fn job_of(alloc: Global, name: &str, matches: &ArgMatches<'_>) -> Result<Job, Us
     }
     let states = states_of(alloc, matches)?;
     let prefixes = prefixes_of(alloc, matches)?;
-    let lists = lists_of(alloc, matches)?;
+    let lists = texts_of(alloc, "prefixes", matches)?;
     let peers = peers_of(alloc, matches)?;
     let share = share_of(alloc, matches)?;
-    let files = files_of(alloc, matches)?;
+    let files = texts_of(alloc, "file", matches)?;
+    let file_lists = texts_of(alloc, "files-from", matches)?;
     let given = matches.get_one::<usize>("workers");
     let workers = given.unwrap_or(WORKERS_DEFAULT);
     let ring = matches.get_one::<usize>("ring").unwrap_or(RING_DEFAULT);
@@ -295,14 +307,11 @@ fn job_of(alloc: Global, name: &str, matches: &ArgMatches<'_>) -> Result<Job, Us
     if !(1..=65_536).contains(&ring) {
         return refused(alloc, "error: --ring is not in 1..=65536\n");
     }
-    if files.is_empty() {
+    if files.is_empty() && file_lists.is_empty() {
         return refused(alloc, "error: no file\n");
     }
-    if has_standard_input(&lists) && has_standard_input(&files) {
-        return refused(
-            alloc,
-            "error: standard input can't be both the prefixes and a dump\n",
-        );
+    if let Some(text) = standard_input_fault(&lists, &file_lists, &files) {
+        return refused(alloc, text);
     }
     Ok(Job {
         request,
@@ -320,6 +329,7 @@ fn job_of(alloc: Global, name: &str, matches: &ArgMatches<'_>) -> Result<Job, Us
         progress: matches.get_flag("progress"),
         quiet: matches.get_flag("quiet"),
         files,
+        file_lists,
     })
 }
 
@@ -349,13 +359,24 @@ fn usage_of(alloc: Global, error: &Error, words: &[String]) -> Usage
     }
 }
 
+/// Whether a word names a list of files, so that no file need be named beside it.
+fn has_file_list(words: &[String]) -> bool {
+    for word in words {
+        if word.as_str().starts_with("--files-from") {
+            return true;
+        }
+    }
+    false
+}
+
 /// Returns the job that the arguments after the program's name ask for. A refused parse is reported before
 /// the address is examined.
 pub fn read_words(alloc: Global, words: &[String]) -> Result<Job, Usage>
     ensures { IfErr result IsRefusal }
 {
     let closings = closings(alloc)?;
-    let matches = match command(alloc, closings.as_slice())?.try_get_matches_from(words) {
+    let command = command(alloc, closings.as_slice(), !has_file_list(words))?;
+    let matches = match command.try_get_matches_from(words) {
         Ok(matches) => matches,
         Err(error) => return Err(usage_of(alloc, &error, words)),
     };

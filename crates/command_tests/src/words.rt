@@ -1,6 +1,9 @@
 //! Rows on words, addresses and statuses.
 
-use command_line::{FileName, FirstBytes, Job, Kind, Usage, read_address, read_second, read_words};
+use command_line::{
+    FileListError, FileName, FirstBytes, Job, Kind, Usage, fault_of_file_list, read_address,
+    read_file_list, read_second, read_words,
+};
 use mrt_body::StateRule;
 use rib_report::Request;
 use std::alloc::Global;
@@ -34,6 +37,9 @@ fn wrong_words_are_refused(rt: HostRuntime) -> Result<(), Fail> {
         ("match --address 10.1.2.03 x", "10.1.2.03"),
         ("tables --workers 0 x", "words"),
         ("tables", "words"),
+        ("tables --files-from", "words"),
+        ("tables --files-from - -", "words"),
+        ("tables --files-from - --prefixes - x", "words"),
         ("match --address 10.1.2", "words"),
         ("tables --ring 65537 x", "words"),
         ("nothing x", "words"),
@@ -176,6 +182,20 @@ fn words_ask_for_a_job(rt: HostRuntime) -> Result<(), Fail> {
             None,
             "-;",
         ),
+        (
+            "faults --files-from a x --files-from=- y",
+            Request::Faults,
+            (4, 1024),
+            None,
+            "x;y;from a;from -;",
+        ),
+        (
+            "faults --files-from a",
+            Request::Faults,
+            (4, 1024),
+            None,
+            "from a;",
+        ),
     ] {
         match job_of(alloc, text)? {
             Ok(job) => {
@@ -185,6 +205,10 @@ fn words_ask_for_a_job(rt: HostRuntime) -> Result<(), Fail> {
                 for file in &job.files {
                     names.push_str(file.as_str())?;
                     names.push(';')?;
+                }
+                for list in &job.file_lists {
+                    let list = list.as_str();
+                    write!(names, "from {list};")?;
                 }
                 assert!(rt; names.as_str() == files, "{text}");
             }
@@ -306,6 +330,51 @@ fn the_first_bytes_tell_the_kind_of_a_file(rt: HostRuntime) {
         }
         assert!(rt; first.kind() == expected, "{bytes:?}");
     }
+}
+
+/// A line is a name, and so is what a NUL byte ends where there is one. What is no text has its number.
+#[test]
+fn a_text_names_files(rt: HostRuntime) -> Result<(), Fail> {
+    let alloc = rt.alloc();
+    let rows: [(&[u8], &str); 11] = [
+        (b"", ""),
+        (b"\n\n", ""),
+        (b"a", "a;"),
+        (b"a\n", "a;"),
+        (b"\na b \r\n\n\tc", "a b \r;\tc;"),
+        (b"\0", ";"),
+        (b"a\0", "a;"),
+        (b"a\nb\0\0c", "a\nb;;c;"),
+        (b"\n\0", "\n;"),
+        (b"a\n\n\xff\n\xfe", "name 3"),
+        (b"a\0\xc3\0", "name 2"),
+    ];
+    for (text, expected) in rows {
+        let mut shown = String::new(alloc);
+        match read_file_list(alloc, text) {
+            Ok(names) => {
+                for name in &names {
+                    let name = name.as_str();
+                    write!(shown, "{name};")?;
+                }
+            }
+            Err(FileListError::NotText(number)) => write!(shown, "name {number}")?,
+            Err(FileListError::Memory) => shown.push_str("memory")?,
+        }
+        assert!(rt; shown.as_str() == expected, "{expected}");
+    }
+    Ok(())
+}
+
+#[test]
+fn what_is_wrong_with_a_name_is_said(rt: HostRuntime) -> Result<(), Fail> {
+    let alloc = rt.alloc();
+    let said = fault_of_file_list(alloc, "my list", b"a\n\nb\xff\nc", 3)?;
+    assert!(rt;
+        said.as_str().lines().next()
+            == Some("error: name 3 'b\\xff' in '--files-from \"my list\"' is not UTF-8 text")
+    );
+    Ok(())
 }
 
 #[test]

@@ -1,0 +1,216 @@
+//! The files of a run: opened in order before any is read, and each closed when nothing more is read of it.
+
+ghost use Rattle.std.specs.Io.{ReadsAtMost};
+
+use std::alloc::AllocFailed;
+use std::fs::File;
+use std::io::{self, ErrorKind, Read, Stdin};
+use std::mem;
+use std::sync::Mutex;
+use std::sync::atomic::{AtomicUsize, Ordering};
+
+/// The maximum number of regular files kept open from the start until their turn comes. Pipes and the like, which can't
+/// be opened twice, are kept open regardless of their number.
+const KEPT_OPEN: usize = 16;
+
+/// Where a file is read from.
+#[derive(Drop)]
+enum Access {
+    /// Opened at the start and closed again; it is reopened when its turn comes.
+    Closed,
+    /// It may be closed and reopened.
+    Regular(File),
+    Other(File),
+    Standard(Stdin),
+    /// Nothing more is read of it.
+    Left,
+}
+
+impl Access {
+    /// Opens it, if it is closed.
+    fn reopen(&mut self, rt: &HostRuntime, name: &str) -> io::Result<()> {
+        if let Access::Closed = self {
+            *self = Access::Regular(std::fs::open(rt, name)?);
+        }
+        Ok(())
+    }
+
+    fn read(&mut self, buf: &mut [u8]) -> io::Result<usize>
+        ensures { ReadsAtMost result buf.new }
+    {
+        match self {
+            Access::Closed | Access::Left => Ok(0),
+            Access::Regular(file) | Access::Other(file) => file.read(buf),
+            Access::Standard(input) => input.read(buf),
+        }
+    }
+}
+
+/// A file of a run.
+#[derive(Drop)]
+struct Place {
+    access: Mutex<Access>,
+    /// Its size in bytes, if it is a regular file.
+    size: Option<u64>,
+}
+
+/// Why not all files were opened.
+#[derive(Drop)]
+pub enum OpenError {
+    /// The file of this number, from 1, and why it wasn't.
+    File(usize, io::Error),
+    Memory,
+}
+
+impl<T: Drop> From<AllocFailed<T>> for OpenError {
+    fn from(_failed: AllocFailed<T>) -> OpenError {
+        OpenError::Memory
+    }
+}
+
+/// Returns the size of a regular file in bytes.
+fn size_of(file: &File) -> Option<u64> {
+    match file.metadata() {
+        Ok(metadata) if metadata.is_file() => Some(metadata.len()),
+        _ => None,
+    }
+}
+
+/// Opens a file. `-` is standard input.
+fn open(rt: &HostRuntime, name: &str, is_kept: bool) -> io::Result<Place> {
+    if name == "-" {
+        return Ok(Place {
+            access: Mutex::new(Access::Standard(rt.stdin())),
+            size: None,
+        });
+    }
+    let file = std::fs::open(rt, name)?;
+    let size = size_of(&file);
+    let access = if size.is_none() {
+        Access::Other(file)
+    } else if is_kept {
+        Access::Regular(file)
+    } else {
+        Access::Closed
+    };
+    Ok(Place {
+        access: Mutex::new(access),
+        size,
+    })
+}
+
+/// The files of a run. One thread at a time reads a file, and none waits for another one: a lock that another thread
+/// has is passed over.
+#[derive(Drop)]
+pub struct Files {
+    places: Vec<Place>,
+    /// The index of the file that is read, from 0. Nothing more is read of those before it.
+    current: AtomicUsize,
+}
+
+impl Files {
+    /// Opens all files, in order. A second `-` finds nothing left. Where no more files can be open, all that may be
+    /// closed are.
+    pub fn open(rt: &HostRuntime, names: &[String]) -> Result<Files, OpenError> {
+        let mut files = Files {
+            places: Vec::new(rt.alloc()),
+            current: AtomicUsize::new(0),
+        };
+        let mut kept = KEPT_OPEN;
+        for (i, name) in names.iter().enumerate() {
+            let mut opened = open(rt, name.as_str(), i < kept);
+            if opened.is_err() && kept > 0 {
+                kept = 0;
+                files.close_all();
+                opened = open(rt, name.as_str(), false);
+            }
+            match opened {
+                Ok(place) => files.places.push(place)?,
+                Err(error) => return Err(OpenError::File(i.saturating_add(1), error)),
+            }
+        }
+        Ok(files)
+    }
+
+    /// Closes all that can be reopened.
+    fn close_all(&mut self) {
+        for place in self.places.iter_mut() {
+            let access = place.access.get_mut();
+            if let Access::Regular(_) = access {
+                *access = Access::Closed;
+            }
+        }
+    }
+
+    /// The size of the file of this index in bytes, if it is a regular file.
+    pub fn size(&self, index: usize) -> Option<u64> {
+        self.places.get(index)?.size
+    }
+
+    /// Notes that the file of this index is read from now on, and closes those before it.
+    pub fn begin(&self, index: usize) {
+        let before = self.current.swap(index, Ordering::SeqCst);
+        for left in before..index {
+            self.leave(left);
+        }
+    }
+
+    /// Closes the file of this index, unless it is being read: whoever reads it drops its device then.
+    fn leave(&self, index: usize) {
+        if let Some(place) = self.places.get(index)
+            && let Some(mut access) = place.access.try_lock()
+        {
+            *access = Access::Left;
+        }
+    }
+
+    fn read(&self, rt: &HostRuntime, index: usize, name: &str, buf: &mut [u8]) -> io::Result<usize>
+        ensures { ReadsAtMost result buf.new }
+    {
+        let Some(place) = self.places.get(index) else {
+            return Ok(0);
+        };
+        let Some(mut access) = place.access.try_lock() else {
+            return Err(io::Error::from(ErrorKind::ResourceBusy));
+        };
+        access.reopen(rt, name)?;
+        access.read(buf)
+    }
+}
+
+/// The device of a dump: one of these files. It is closed when the device is dropped.
+pub struct Device<'a> {
+    rt: HostRuntime,
+    files: &'a Files,
+    index: usize,
+    name: &'a str,
+}
+
+impl<'a> Device<'a> {
+    pub fn new(rt: &HostRuntime, files: &'a Files, index: usize, name: &'a str) -> Device<'a> {
+        Device {
+            rt: *rt,
+            files,
+            index,
+            name,
+        }
+    }
+}
+
+impl Read for Device<'_> {
+    fn read(&mut self, buf: &mut [u8]) -> io::Result<usize> {
+        self.files.read(&self.rt, self.index, self.name, buf)
+    }
+}
+
+impl Drop for Device<'_> {
+    fn drop(self) {
+        let Self {
+            rt: _,
+            files,
+            index,
+            name: _,
+        } = self;
+        files.leave(index);
+    }
+}
