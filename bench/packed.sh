@@ -2,7 +2,8 @@
 # Measures `churn` of packed dumps: a RIB dump, and updates cut into a series of files, each packed by gzip and by bzip2,
 # next to the same dumps plain, to `gzip -dc` and `bzip2 -dc` alone, and to a shell loop that unpacks the series into
 # standard input. Prints the wall and processor time and the peak memory of the fastest of alternating runs, and how the
-# processor time that unpacking adds compares with that of the tool.
+# processor time that unpacking adds compares with that of the tool, and the wall time of a run by all threads with the
+# tool alone and with the loop.
 #   bench/packed.sh PROGRAM [PREFIXES] [PEERS] [MESSAGES] [FILES]
 # Defaults: 200,000 prefixes x 20 peers, and 1,500,000 messages in 64 files. Needs cc, gzip, bzip2 and GNU time.
 # ROUNDS (3) can be set in the environment.
@@ -32,6 +33,7 @@ run() {
   tail -1 "$times/one" >> "$times/$name"
 }
 fastest() { sort -n "$times/$1" | head -1; }
+wall() { fastest "$1" | awk '{ print $1 }'; }
 processor() { fastest "$1" | awk '{ print $2 + $3 }'; }
 
 measure() { # LABEL FILE..
@@ -42,18 +44,22 @@ measure() { # LABEL FILE..
     run plain "$program" churn --workers 1 "$@"
     run gzip "$program" churn --workers 1 "${packed[@]}"
     run bzip2 "$program" churn --workers 1 "${bzipped[@]}"
+    run gzip-threads "$program" churn "${packed[@]}"
+    run bzip2-threads "$program" churn "${bzipped[@]}"
     run gzip-dc gzip -dc "${packed[@]}"
     run bzip2-dc bzip2 -dc "${bzipped[@]}"
     run gzip-loop sh -c 'program=$1; shift; for file; do gzip -dc "$file"; done | "$program" churn --workers 1 -' sh "$program" "${packed[@]}"
     run bzip2-loop sh -c 'program=$1; shift; for file; do bzip2 -dc "$file"; done | "$program" churn --workers 1 -' sh "$program" "${bzipped[@]}"
   done
   printf '%-24s %8s %8s %8s\n' "$label" 'wall s' 'cpu s' 'peak MB'
-  for name in plain gzip gzip-dc gzip-loop bzip2 bzip2-dc bzip2-loop; do
+  for name in plain gzip gzip-threads gzip-dc gzip-loop bzip2 bzip2-threads bzip2-dc bzip2-loop; do
     fastest "$name" | awk -v name="$name" '{ printf "%-24s %8.2f %8.2f %8.1f\n", name, $1, $2 + $3, $4 / 1024 }'
   done
   for form in gzip bzip2; do
     awk -v form="$form" -v ours="$(processor "$form")" -v plain="$(processor plain)" -v tool="$(processor "$form-dc")" \
       'BEGIN { if (tool > 0) printf "unpacking %s takes %.2f times the processor time of %s -dc\n", form, (ours - plain) / tool, form }'
+    awk -v form="$form" -v ours="$(wall "$form-threads")" -v tool="$(wall "$form-dc")" -v loop="$(wall "$form-loop")" \
+      'BEGIN { if (ours > 0) printf "%s -dc takes %.2f times the wall time of a replay by all threads, a loop of it %.2f times\n", form, tool / ours, loop / ours }'
   done
 }
 

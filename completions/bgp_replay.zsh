@@ -30,7 +30,7 @@ _bgp_replay() {
         '--summary[say on standard error what was read, in lines of a key and a value]'
         '--progress[show on standard error how far the reading is]'
         '--quiet[leave out the notes on standard error]'
-        '--workers[replay with this many threads, 1 to 64]:N:(1 2 4 8 16 32 64)'
+        '--workers[replay with this many threads, 1 to 64, beside which as many unpack packed dumps; with 1, one thread does all]:N:(1 2 4 8 16 32 64)'
         '--ring[let this many messages and entries wait for each thread, 1 to 65536]:N:(1 64 1024 65536)'
         '(- *)'{-h,--help}'[print a help text]'
         '(- *)'{-V,--version}'[print the version]'

@@ -35,7 +35,7 @@ pack() { # NAME COMMAND..: packs each dump, and compares its reports
     for report in tables churn faults peers; do same "$report of $dump by $name" "$dump-$report" $report "$dump.$name"; done
     same "tables of $dump by $name from a pipe" "$dump-tables" tables <(cat "$dump.$name")
     INPUT=$dump.$name same "tables of $dump by $name from standard input" "$dump-tables" tables -
-    same "tables of $dump by $name, 4 workers" "$dump-tables" tables --workers 4 "$dump.$name"
+    for workers in 1 2 4; do same "tables of $dump by $name, $workers workers" "$dump-tables" tables --workers $workers "$dump.$name"; done
   done
   same "tables of both by $name" both tables "sample.$name" "updates.$name"
   same "tables of a plain one and $name" both tables sample.mrt "updates.$name"
@@ -93,21 +93,45 @@ if has bzip2; then
   [ $? = 1 ] && [ "$(< out)" = '1|300000000|-|1|ShortHeader' ] && right || wrong "a bomb of bzip2: $(head -c 200 said)"
 fi
 
-# each front and each bit of a small file: nothing but the plain one's lines with status 0
+# by several threads all is as by one: many files of a run, some of them damaged, and long runs of one byte in little memory
+mixed=()
+for i in {1..12}; do
+  cp updates.mrt "$i.plain"; mixed+=("$i.plain")
+  if has gzip; then gzip -9nc updates.mrt > "$i.whole.gz"; gzip -nc drawn.mrt | head -c $((i * 20000)) > "$i.cut.gz"; mixed+=("$i.whole.gz" "$i.cut.gz"); fi
+  if has bzip2; then
+    bzip2 -1c drawn.mrt > "$i.whole.bz2"; { head -c $((i * 20000)) "$i.whole.bz2"; printf '\377'; tail -c +$((i * 20000 + 2)) "$i.whole.bz2"; } > "$i.bad.bz2"
+    { printf '\0\0\0\1\0\15\0\1\377\377\377\377'; cat drawn.mrt; } | bzip2 -1c > "$i.left.bz2"; mixed+=("$i.whole.bz2" "$i.bad.bz2" "$i.left.bz2")
+  fi
+done
+summed() { grep -vE '^(workers|seconds|peak_kib|rounds|file [0-9]+ packed bytes): ' said; }
+for report in churn faults 'history --prefix 10.0.0.0/8+'; do
+  "$program" $report --summary --workers 1 "${mixed[@]}" > one.out 2> said; one=$?; summed > one.said
+  for workers in 2 4 7; do
+    "$program" $report --summary --workers $workers "${mixed[@]}" > out 2> said; several=$?
+    if [ $several = $one ] && cmp -s out one.out && cmp -s <(summed) one.said; then right; else wrong "$report of many files by $workers workers: status $several, $(diff <(summed) one.said | head -n 3)"; fi
+  done
+done
+for form in gz bz2; do
+  [ -f bomb.$form ] || continue
+  "$program" faults --workers 4 --summary bomb.$form bomb.$form bomb.$form > out 2> said; peak=$(sed -n 's/^peak_kib: //p' said)
+  if [ "$(cut -d '|' -f 2 out | sort -u)" = 300000000 ] && [ "$peak" -lt 250000 ]; then right; else wrong "three bombs of $form by 4 workers: $peak KiB, $(head -c 200 out)"; fi
+done
+
+# each front and each bit of a small file: nothing but the plain one's lines with status 0, and by four threads the same as by one
 cat > damage.py <<'END'
 import subprocess, sys
 program, packed, plain, name = sys.argv[1:]
 data, wanted = open(packed, "rb").read(), open(plain, "rb").read()
-def run(bytes_):
-    with open(name, "wb") as file: file.write(bytes_)
-    done = subprocess.run([program, "tables", "--workers", "1", name], capture_output=True, check=False)
-    return done.returncode, done.stdout
+def run(workers):
+    done = subprocess.run([program, "tables", "--workers", workers, name], capture_output=True, check=False)
+    return done.returncode, done.stdout, done.stderr
 bad = tried = 0
 cases = [data[:n] for n in range(1, len(data), 3)] + [data[:i // 8] + bytes([data[i // 8] ^ 1 << i % 8]) + data[i // 8 + 1:] for i in range(0, 8 * len(data), 5)]
 for case in cases:
-    status, text = run(case)
+    with open(name, "wb") as file: file.write(case)
+    status, text, said = run("1")
     tried += 1
-    if status not in (0, 1, 3) or (status == 0 and text != wanted) or (status == 3 and text):
+    if status not in (0, 1, 3) or (status == 0 and text != wanted) or (status == 3 and text) or run("4") != (status, text, said):
         bad += 1
 print(tried - bad, bad)
 END

@@ -29,6 +29,7 @@ cd "$work" && ln -s "$program" program || exit 2
 routes() { awk -v attributes=$attributes 'BEGIN { for (i = 0; i < 17000; i++) printf "00000003000D00020000002600000000180A%04X00010000000000010014%s", i, attributes }'; }
 { index; bytes "$(routes)"; } > large
 cp "$here/../examples/sample.mrt" sample
+gzip -9nc sample > sample.gz; bzip2 -9c sample > sample.bz2
 
 tries() {
   local file kind lanes
@@ -48,6 +49,12 @@ tries() {
     for kind in read-EIO read-EINTR; do for file in 1 2; do echo $kind 1 $file "$([ $file = 1 ] && echo three-peers || echo table-and-update)" tables $by three-peers table-and-update; done; done
     echo thread $step 1 sample tables $by sample; echo thread-on $step 1 sample tables $by sample
     echo short-reads 1 1 sample tables $by sample
+  done
+  for workers in 2 4; do # packed files, which other threads unpack
+    by="--workers $workers --ring 1024"
+    echo memory 3 1 sample.gz churn $by sample.gz sample.bz2; echo memory-on 9 1 sample.gz churn $by sample.gz sample.bz2
+    for kind in read-EIO read-EINTR; do echo $kind 1 1 sample.gz churn $by sample.gz sample.bz2; echo $kind 1 2 sample.bz2 churn $by sample.gz sample.bz2; done
+    for kind in thread thread-on short-reads; do echo $kind 1 1 sample.bz2 churn $by sample.gz sample.bz2; done
   done
   for kind in memory thread thread-on short-writes; do echo $kind 1 1 large tables --workers 4 --ring 1024 large; done
   echo memory-on 7 1 large tables --workers 4 --ring 1024 large

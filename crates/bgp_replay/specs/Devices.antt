@@ -1,17 +1,23 @@
 -- What the program's own readers give and its own writer holds.
-use Rattle.std.specs.Prelude.{ℕ, List, Option}
-use Rattle.packed_io.specs.declared.unpacked.Unpacked.{Unpacked}
+use Rattle.std.specs.Prelude.{ℕ, List, Option, None}
 use Rattle.packed_io.specs.Reading.{unpacked_remaining}
 use Rattle.run_io.specs.Headers.{headed_contents}
+use Rattle.bgp_replay.specs.declared.input.Contents.{Contents}
+use Rattle.bgp_replay.specs.declared.input.Contents.TheVariants.{Here, Ahead}
 use Rattle.bgp_replay.specs.declared.input.Dump.{Dump}
 use Rattle.bgp_replay.specs.declared.output.Report.{Report}
 
-abbrev pub dump_contents : {D : Type 0} → Dump D → Unpacked D
+-- nothing is known of the bytes of a packed file, whoever unpacks it
+abbrev pub contents_remaining : {D : Type 0} → (D → Option (List ℕ)) → Contents D → Option (List ℕ)
+contents_remaining remaining (Here unpacked) = unpacked_remaining remaining unpacked
+contents_remaining remaining (Ahead form reader) = None
+
+abbrev pub dump_contents : {D : Type 0} → Dump D → Contents D
 dump_contents dump = dump.contents
 
 -- what is still to be read of a dump's device, with what was read of it and not yet given; of a packed one nothing is known
 abbrev pub dump_remaining : {D : Type 0} → (D → Option (List ℕ)) → Dump D → Option (List ℕ)
-dump_remaining remaining dump = unpacked_remaining remaining (dump_contents dump)
+dump_remaining remaining dump = contents_remaining remaining (dump_contents dump)
 
 -- what the writer holds, and then what is left of the header
 abbrev pub report_contents : {W : Type 0} → (W → Option (List ℕ)) → Report W → Option (List ℕ)

@@ -2,12 +2,14 @@
 
 ghost use Rattle.std.specs.Io.{ReadsAtMost};
 
+use packed_io::{Format, format_of};
 use std::alloc::AllocFailed;
 use std::fs::File;
 use std::io::{self, ErrorKind, Read, Stdin};
 use std::mem;
+use std::os::unix::fs::FileExt;
 use std::sync::Mutex;
-use std::sync::atomic::{AtomicUsize, Ordering};
+use std::sync::atomic::{AtomicBool, AtomicUsize, Ordering};
 
 /// The maximum number of regular files kept open from the start until their turn comes. Pipes and the like, which can't
 /// be opened twice, are kept open regardless of their number.
@@ -52,6 +54,8 @@ struct Place {
     access: Mutex<Access>,
     /// Its size in bytes, if it is a regular file.
     size: Option<u64>,
+    /// Its form, if it is a regular file of which that is asked.
+    format: Format,
 }
 
 /// Why not all files were opened.
@@ -76,19 +80,43 @@ fn size_of(file: &File) -> Option<u64> {
     }
 }
 
+/// Returns the form that a regular file has by its first bytes.
+fn format_at(file: &File) -> Format {
+    let mut first = [0; 10];
+    match file.read_at(&mut first, 0) {
+        Ok(count) => format_of(&first[..count]),
+        Err(_) => Format::Plain,
+    }
+}
+
+/// What is done with a file that was opened and may be reopened.
+#[derive(Clone, Copy)]
+struct Opening {
+    /// Whether it is kept open.
+    is_kept: bool,
+    /// Whether it is looked in which form it is. Packed files aren't kept open.
+    asks_format: bool,
+}
+
 /// Opens a file. `-` is standard input.
-fn open(rt: &HostRuntime, name: &str, is_kept: bool) -> io::Result<Place> {
+fn open(rt: &HostRuntime, name: &str, opening: Opening) -> io::Result<Place> {
     if name == "-" {
         return Ok(Place {
             access: Mutex::new(Access::Standard(rt.stdin())),
             size: None,
+            format: Format::Plain,
         });
     }
     let file = std::fs::open(rt, name)?;
     let size = size_of(&file);
+    let format = if opening.asks_format && size.is_some() {
+        format_at(&file)
+    } else {
+        Format::Plain
+    };
     let access = if size.is_none() {
         Access::Other(file)
-    } else if is_kept {
+    } else if opening.is_kept && format == Format::Plain {
         Access::Regular(file)
     } else {
         Access::Closed
@@ -96,6 +124,7 @@ fn open(rt: &HostRuntime, name: &str, is_kept: bool) -> io::Result<Place> {
     Ok(Place {
         access: Mutex::new(access),
         size,
+        format,
     })
 }
 
@@ -106,23 +135,30 @@ pub struct Files {
     places: Vec<Place>,
     /// The index of the file that is read, from 0. Nothing more is read of those before it.
     current: AtomicUsize,
+    has_begun: AtomicBool,
 }
 
 impl Files {
-    /// Opens all files, in order. A second `-` finds nothing left. Where no more files can be open, all that may be
-    /// closed are.
-    pub fn open(rt: &HostRuntime, names: &[String]) -> Result<Files, OpenError> {
+    /// Opens all files, in order, and looks in which form regular ones are, if that is asked. A second `-` finds nothing
+    /// left. Where no more files can be open, all that may be closed are.
+    pub fn open(rt: &HostRuntime, names: &[String], asks_format: bool) -> Result<Files, OpenError> {
         let mut files = Files {
             places: Vec::new(rt.alloc()),
             current: AtomicUsize::new(0),
+            has_begun: AtomicBool::new(false),
         };
         let mut kept = KEPT_OPEN;
         for (i, name) in names.iter().enumerate() {
-            let mut opened = open(rt, name.as_str(), i < kept);
+            let mut opening = Opening {
+                is_kept: i < kept,
+                asks_format,
+            };
+            let mut opened = open(rt, name.as_str(), opening);
             if opened.is_err() && kept > 0 {
                 kept = 0;
                 files.close_all();
-                opened = open(rt, name.as_str(), false);
+                opening.is_kept = false;
+                opened = open(rt, name.as_str(), opening);
             }
             match opened {
                 Ok(place) => files.places.push(place)?,
@@ -147,8 +183,22 @@ impl Files {
         self.places.get(index)?.size
     }
 
+    /// The form of the file of this index, if it is packed, regular and was looked at.
+    pub fn packed_as(&self, index: usize) -> Option<Format> {
+        match self.places.get(index)?.format {
+            Format::Plain => None,
+            format => Some(format),
+        }
+    }
+
+    /// Whether a file is or was read.
+    pub fn has_begun(&self) -> bool {
+        self.has_begun.load(Ordering::SeqCst)
+    }
+
     /// Notes that the file of this index is read from now on, and closes those before it.
     pub fn begin(&self, index: usize) {
+        self.has_begun.store(true, Ordering::SeqCst);
         let before = self.current.swap(index, Ordering::SeqCst);
         for left in before..index {
             self.leave(left);

@@ -2,16 +2,20 @@
 
 ghost use Rattle.std.specs.Prelude.{◌≡◌};
 ghost use Rattle.packed_io.specs.Formats.{told_of};
-ghost use Rattle.bgp_replay.specs.Devices.{dump_contents, dump_remaining};
+ghost use Rattle.bgp_replay.specs.Devices.{contents_remaining, dump_contents, dump_remaining};
 
 use crate::counts::Counts;
 use crate::files::{Device, Files};
+use crate::naps::Naps;
 use crate::progress::{Board, LOOK, ReadSoFar};
 use bgp_prefix::Memory;
 use command_line::{FirstBytes, Kind, Records};
 use mrt_frame::Counted;
-use packed_io::{Format, PackedFault, Unpacked};
+use packed_io::{Format, PackedFault, PackedFiles, PackedReader, Unpacked};
 use std::io::{self, Read};
+
+/// How many bytes four blocks of bzip2 have, packed, more or less.
+const BYTES_EACH: u64 = 1_000_000;
 
 /// What is counted of a dump while it is read, where someone wants to know.
 #[derive(Drop)]
@@ -67,6 +71,47 @@ impl Watched<'_> {
     }
 }
 
+/// Where the bytes of a dump come from.
+#[derive(Drop)]
+enum Contents<'a, D> {
+    /// They are unpacked where they are read, if they are packed.
+    Here(Unpacked<D>),
+    /// They are packed so, and other threads may unpack them before they are read.
+    Ahead(Format, PackedReader<'a, D, Naps<'a>>),
+}
+
+impl<D: Read + Drop> Contents<'_, D> {
+    /// In which form they are packed, and how many packed bytes were read, if they are packed.
+    fn packed(&self) -> Option<(Format, u64)> {
+        match self {
+            Contents::Here(unpacked) => match unpacked.format() {
+                None | Some(Format::Plain) => None,
+                Some(format) => Some((format, unpacked.packed_bytes())),
+            },
+            Contents::Ahead(format, reader) => Some((*format, reader.packed_bytes())),
+        }
+    }
+
+    /// What is wrong with the packed data, if anything is.
+    fn fault(&self) -> Option<PackedFault> {
+        match self {
+            Contents::Here(unpacked) => unpacked.fault(),
+            Contents::Ahead(_, reader) => reader.fault(),
+        }
+    }
+}
+
+impl<D: Read + Drop> Read for Contents<'_, D> {
+    ghost remaining = { contents_remaining D.remaining };
+
+    fn read(&mut self, buf: &mut [u8]) -> io::Result<usize> {
+        match self {
+            Contents::Here(unpacked) => unpacked.read(buf),
+            Contents::Ahead(_, reader) => reader.read(buf),
+        }
+    }
+}
+
 /// A dump that is read from a device, and unpacked if its first bytes are those of gzip or bzip2. Memory for it exists
 /// only while it is being read, and it is closed at its end.
 #[derive(Drop)]
@@ -76,7 +121,7 @@ pub struct Dump<'a, D> {
     number: usize,
     /// Its size in bytes, if known.
     size: Option<u64>,
-    contents: Unpacked<D>,
+    contents: Contents<'a, D>,
     /// Whether it has been read.
     is_begun: bool,
     /// How many bytes were read so far, unpacked.
@@ -91,18 +136,31 @@ pub struct Dump<'a, D> {
 }
 
 /// A dump, with a count of its failures.
-pub type Input<'a> = Counted<Dump<'a, Device<'a>>>;
+pub type Input<'a, 'f> = Counted<Dump<'a, Device<'f>>>;
 
-impl<'a, D: Read> Dump<'a, D> {
-    fn new(
+impl<'a, D: Read + Drop> Dump<'a, D> {
+    /// A dump that is unpacked where it is read, if it is packed.
+    fn here(
         rt: &HostRuntime,
         name: &'a str,
         number: usize,
         device: D,
-        size: Option<u64>,
         watched: Watched<'a>,
     ) -> Dump<'a, D>
         ensures { dump_remaining D.remaining result ≡ told_of (D.remaining device) }
+    {
+        let contents = Contents::Here(Unpacked::new(rt.alloc(), device));
+        Dump::new(rt, name, number, contents, watched)
+    }
+
+    fn new(
+        rt: &HostRuntime,
+        name: &'a str,
+        number: usize,
+        contents: Contents<'a, D>,
+        watched: Watched<'a>,
+    ) -> Dump<'a, D>
+        ensures { dump_contents result ≡ contents.entry }
     {
         let watch = if watched.is_any() {
             Some(Watch::new(rt, watched.board))
@@ -112,8 +170,8 @@ impl<'a, D: Read> Dump<'a, D> {
         Dump {
             name,
             number,
-            size,
-            contents: Unpacked::new(rt.alloc(), device),
+            size: watched.files.size(number.saturating_sub(1)),
+            contents,
             is_begun: false,
             bytes: 0,
             is_at_end: false,
@@ -137,10 +195,7 @@ impl<'a, D: Read> Dump<'a, D> {
 
     /// In which form it is packed, and how many bytes of it were read so far, if it is packed.
     pub fn packed(&self) -> Option<(Format, u64)> {
-        match self.contents.format() {
-            None | Some(Format::Plain) => None,
-            Some(format) => Some((format, self.contents.packed_bytes())),
-        }
+        self.contents.packed()
     }
 
     /// What is wrong with the packed data, if anything is.
@@ -264,24 +319,54 @@ impl<'a, D: Read + Drop> Dump<'a, D> {
     {}
 }
 
-/// Makes the dumps of these files, which were opened.
-pub fn inputs_of<'a>(
+/// Returns how many threads may unpack a file side by side: so many that each has four blocks of bzip2 to do.
+fn jobs_of(format: Format, size: u64) -> usize {
+    match format {
+        Format::Bzip2 => usize::try_from(size / BYTES_EACH)
+            .unwrap_or(0)
+            .saturating_add(1),
+        Format::Plain | Format::Gzip => 1,
+    }
+}
+
+/// Returns the packed files among these, which so many threads may unpack before they are read.
+pub fn packed_files_of<'f>(
     rt: &HostRuntime,
-    names: &'a [String],
-    watched: Watched<'a>,
-) -> Result<Vec<Input<'a>>, Memory> {
-    let mut inputs = Vec::new(rt.alloc());
+    names: &'f [String],
+    files: &'f Files,
+    threads: usize,
+) -> Result<PackedFiles<Device<'f>>, Memory> {
+    let mut packed = PackedFiles::new(rt.alloc(), threads);
     for (i, name) in names.iter().enumerate() {
-        let device = Device::new(rt, watched.files, i, name.as_str());
-        let size = watched.files.size(i);
-        let dump = Dump::new(
-            rt,
-            name.as_str(),
-            i.saturating_add(1),
-            device,
-            size,
-            watched,
-        );
+        if let Some(format) = files.packed_as(i) {
+            let jobs = jobs_of(format, files.size(i).unwrap_or(0));
+            packed.add(Device::new(rt, files, i, name.as_str()), jobs)?;
+        }
+    }
+    Ok(packed)
+}
+
+/// Makes the dumps of these files, which were opened. Those that threads may unpack are given beside, in the same order.
+pub fn inputs_of<'a, 'f: 'a>(
+    rt: &HostRuntime,
+    names: &'f [String],
+    files: &'f Files,
+    packed: &'a PackedFiles<Device<'f>>,
+    watched: Watched<'a>,
+) -> Result<Vec<Input<'a, 'f>>, Memory> {
+    let mut inputs = Vec::new(rt.alloc());
+    let mut place = 0usize;
+    for (i, name) in names.iter().enumerate() {
+        let name = name.as_str();
+        let number = i.saturating_add(1);
+        let dump = match files.packed_as(i) {
+            Some(format) => {
+                let reader = PackedReader::new(rt.alloc(), packed, place, Naps::new(rt, files));
+                place = place.saturating_add(1);
+                Dump::new(rt, name, number, Contents::Ahead(format, reader), watched)
+            }
+            None => Dump::here(rt, name, number, Device::new(rt, files, i, name), watched),
+        };
         inputs.push(Counted::new(dump))?;
     }
     Ok(inputs)

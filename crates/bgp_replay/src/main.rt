@@ -7,6 +7,8 @@
 //!   long as the system lets so many be open; a later one is closed and opened again when its turn comes, except pipes
 //!   and the like, which can't be opened twice. A file is closed when the next one is begun, if its end wasn't read.
 //!   Standard input is read like a file; a second `-` finds nothing left.
+//! - **Packed files are unpacked by threads beside the replay** (`PackedFiles`), where there may be more than one and a
+//!   regular file is packed; else no such thread is started. Whether a file is packed is told when it is opened.
 //! - **`Dump` and `Report` are generic over their device**, and state what they make known by what it does (`run_io`):
 //!   so what is counted, shown and kept on the way is proved to change no byte.
 //! - **The first line on standard error is fixed** for each status, so that scripts can read it. Further lines begin
@@ -36,6 +38,7 @@ mod counts;
 mod files;
 mod input;
 mod lists;
+mod naps;
 mod notes;
 mod output;
 mod progress;
@@ -45,15 +48,17 @@ use adj_rib::SharedRoute;
 use bgp_prefix::Memory;
 use command_line::{Job, Usage, read_words, standard_input_fault, wrapped};
 use counts::Counts;
-use files::{Files, OpenError};
-use input::{Watched, inputs_of};
+use files::{Device, Files, OpenError};
+use input::{Input, Watched, inputs_of, packed_files_of};
 use lane_deal::{ByTurns, Plan};
 use lists::{listed_dumps, listed_prefixes};
 use mrt_body::{ChosenPrefixes, PrefixChoice, Reach, Selection};
-use mrt_frame::Counted;
-use mrt_replay::{run, status};
+use mrt_frame::{Counted, ReplayError};
+use mrt_replay::{Summary, run, status};
+use naps::Naps;
 use notes::tell_notes;
-use output::{Report, columns};
+use output::{Output, Report, columns};
+use packed_io::PackedFiles;
 use prefix_shelf::Shelf;
 use progress::{Board, Counter, terminal_width};
 use rib_report::Request;
@@ -62,7 +67,7 @@ use std::env::{Env, FillError};
 use std::io::ErrorKind;
 use std::marker::Sync;
 use std::process::ExitCode;
-use std::thread::{Threads, available_parallelism};
+use std::thread::{Threads, available_parallelism, join};
 use std::time::{Duration, Instant};
 use telling::{has_ended_early, tell, tell_memory, tell_open, tell_summary, tell_write};
 
@@ -144,6 +149,19 @@ fn workers_of(threads: &impl Threads, job: &Job) -> usize
     }
     if is_narrow(&job.prefixes) || is_history(&job.request, &job.prefixes) {
         return 1;
+    }
+    most_threads(threads, job)
+}
+
+/// Returns as many threads as the arguments ask for, else one per processor; if the system doesn't report how many there
+/// are, as many as the job has.
+fn most_threads(threads: &impl Threads, job: &Job) -> usize
+    ensures least { 1 ≤ result }
+    ensures most { result ≤ 64 }
+    ensures asked { IsTrue job.now.has_workers → result ≡ job.now.workers }
+{
+    if job.has_workers {
+        return job.workers;
     }
     match available_parallelism(threads) {
         Ok(count) => count.get().min(MOST_WORKERS),
@@ -307,8 +325,8 @@ fn given_job(rt: &HostRuntime) -> Result<Job, u8> {
 }
 
 /// Returns the files, opened, or the status to exit with.
-fn opened(rt: &HostRuntime, names: &[String]) -> Result<Files, u8> {
-    match Files::open(rt, names) {
+fn opened(rt: &HostRuntime, names: &[String], asks_format: bool) -> Result<Files, u8> {
+    match Files::open(rt, names, asks_format) {
         Ok(files) => Ok(files),
         Err(OpenError::File(number, error)) => {
             let name = names.get(number.saturating_sub(1));
@@ -343,52 +361,107 @@ fn counts_of(rt: &HostRuntime, job: &Job) -> Result<Option<Counts>, u8> {
     }
 }
 
-/// Replays the dumps of a job with threads, and returns the status.
-fn replay_job(rt: &HostRuntime, threads: &(impl Threads + Sync), job: &Job) -> u8 {
-    let start = Instant::now(rt).ok();
-    let board = board_of(rt, job, start);
-    let counts = match counts_of(rt, job) {
-        Ok(counts) => counts,
-        Err(code) => return code,
-    };
-    let files = match opened(rt, job.files.as_slice()) {
-        Ok(files) => files,
-        Err(code) => return code,
-    };
-    let watched = Watched {
-        files: &files,
-        counts: counts.as_ref(),
-        board: board.as_ref(),
-    };
-    let Ok(mut inputs) = inputs_of(rt, job.files.as_slice(), watched) else {
+/// What a replay is given beside its dumps.
+#[derive(Clone, Copy)]
+struct Asked<'a> {
+    job: &'a Job,
+    plan: Plan,
+    watched: Watched<'a>,
+    ghost planned: { IsPlan plan },
+}
+
+/// Replays dumps.
+fn replay<R: Threads + Sync>(
+    rt: &HostRuntime,
+    threads: &R,
+    asked: Asked<'_>,
+    selection: Selection,
+    inputs: &mut [Input<'_, '_>],
+    out: &mut Output<'_>,
+) -> Result<Summary, ReplayError> {
+    run::<Shelf<SharedRoute>, _, _, _, _, _>(
+        threads,
+        rt.alloc(),
+        inputs,
+        &asked.job.request,
+        selection,
+        &asked.plan,
+        &ByTurns,
+        &Counter {
+            rt: *rt,
+            board: asked.watched.board,
+            counts: asked.watched.counts,
+        },
+        out,
+    )
+}
+
+/// Replays dumps, while other threads unpack packed ones.
+fn replay_ahead<R: Threads + Sync>(
+    rt: &HostRuntime,
+    threads: &R,
+    asked: Asked<'_>,
+    selection: Selection,
+    packed: &PackedFiles<Device<'_>>,
+    inputs: &mut [Input<'_, '_>],
+    out: &mut Output<'_>,
+) -> Result<Summary, ReplayError> {
+    if packed.is_empty() {
+        return replay(rt, threads, asked, selection, inputs, out);
+    }
+    let naps = Naps::new(rt, asked.watched.files);
+    let (_, outcome) = join(
+        threads,
+        || packed.unpack(threads, &naps),
+        || {
+            let outcome = replay(rt, threads, asked, selection, inputs, out);
+            packed.end();
+            outcome
+        },
+    );
+    outcome
+}
+
+/// Replays the files of a job with threads, and returns the status.
+fn replay_files(
+    rt: &HostRuntime,
+    threads: &(impl Threads + Sync),
+    job: &Job,
+    watched: Watched<'_>,
+    start: Option<Instant>,
+) -> u8 {
+    let names = job.files.as_slice();
+    let Ok(packed) = packed_files_of(rt, names, watched.files, most_threads(threads, job)) else {
         return without_memory(rt, "the files were opened");
+    };
+    let Ok(mut inputs) = inputs_of(rt, names, watched.files, &packed, watched) else {
+        return without_memory(rt, "the files were opened");
+    };
+    let Ok(selection) = selection_of(rt.alloc(), job) else {
+        return without_memory(rt, "the words were read");
+    };
+    let workers = workers_of(threads, job);
+    let asked = Asked {
+        job,
+        plan: plan_of(job, workers),
+        watched,
     };
     let header = if job.header {
         columns(&job.request)
     } else {
         ""
     };
-    let workers = workers_of(threads, job);
-    let Ok(selection) = selection_of(rt.alloc(), job) else {
-        return without_memory(rt, "the words were read");
-    };
-    let mut out = Counted::new(Report::new(rt.stdout(), header, board.as_ref()));
-    let outcome = run::<Shelf<SharedRoute>, _, _, _, _, _>(
+    let mut out = Counted::new(Report::new(rt.stdout(), header, watched.board));
+    let outcome = replay_ahead(
+        rt,
         threads,
-        rt.alloc(),
-        inputs.as_mut_slice(),
-        &job.request,
+        asked,
         selection,
-        &plan_of(job, workers),
-        &ByTurns,
-        &Counter {
-            rt: *rt,
-            board: board.as_ref(),
-            counts: counts.as_ref(),
-        },
+        &packed,
+        inputs.as_mut_slice(),
         &mut out,
     );
-    if let Some(board) = &board {
+    if let Some(board) = watched.board {
         board.clear();
     }
     tell(rt, &outcome, &job.request, inputs.as_slice(), &out);
@@ -401,7 +474,7 @@ fn replay_job(rt: &HostRuntime, threads: &(impl Threads + Sync), job: &Job) -> u
             rt,
             &outcome,
             inputs.as_slice(),
-            counts.as_ref(),
+            watched.counts,
             workers,
             elapsed,
         );
@@ -410,6 +483,27 @@ fn replay_job(rt: &HostRuntime, threads: &(impl Threads + Sync), job: &Job) -> u
         0 if has_ended_early(inputs.as_slice()) => DAMAGED,
         code => code,
     }
+}
+
+/// Replays the dumps of a job with threads, and returns the status.
+fn replay_job(rt: &HostRuntime, threads: &(impl Threads + Sync), job: &Job) -> u8 {
+    let start = Instant::now(rt).ok();
+    let board = board_of(rt, job, start);
+    let counts = match counts_of(rt, job) {
+        Ok(counts) => counts,
+        Err(code) => return code,
+    };
+    let asks_format = most_threads(threads, job) > 1;
+    let files = match opened(rt, job.files.as_slice(), asks_format) {
+        Ok(files) => files,
+        Err(code) => return code,
+    };
+    let watched = Watched {
+        files: &files,
+        counts: counts.as_ref(),
+        board: board.as_ref(),
+    };
+    replay_files(rt, threads, job, watched, start)
 }
 
 fn main(rt: HostRuntime) -> ExitCode {

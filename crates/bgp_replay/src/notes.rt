@@ -49,7 +49,7 @@ impl Names {
 }
 
 /// Returns the name of the dump at this index.
-fn name_of(alloc: Global, inputs: &[Input<'_>], file: usize) -> Result<String, AllocError> {
+fn name_of(alloc: Global, inputs: &[Input<'_, '_>], file: usize) -> Result<String, AllocError> {
     let name = match inputs.get(file) {
         Some(input) => input.device().name(),
         None => "",
@@ -59,7 +59,11 @@ fn name_of(alloc: Global, inputs: &[Input<'_>], file: usize) -> Result<String, A
 }
 
 /// Returns the names of the files that have such records.
-fn names_of(alloc: Global, marked: &Marked, inputs: &[Input<'_>]) -> Result<String, AllocError> {
+fn names_of(
+    alloc: Global,
+    marked: &Marked,
+    inputs: &[Input<'_, '_>],
+) -> Result<String, AllocError> {
     let mut names = Names::new(alloc);
     for file in marked.first_files() {
         names.add(name_of(alloc, inputs, *file)?.as_str())?;
@@ -114,7 +118,7 @@ fn idle_note(alloc: Global, idle: &Idle) -> Result<String, AllocError> {
 /// Returns the note on files without a whole record, and the one on files that begin before the file named before them.
 fn order_notes(
     alloc: Global,
-    inputs: &[Input<'_>],
+    inputs: &[Input<'_, '_>],
 ) -> Result<(Option<String>, Option<String>), AllocError> {
     let mut empty = Names::new(alloc);
     let mut early = Names::new(alloc);
@@ -154,7 +158,7 @@ fn note_of(alloc: Global, what: &str, mut names: Names) -> Result<Option<String>
 fn notes_of(
     alloc: Global,
     summary: &Summary,
-    inputs: &[Input<'_>],
+    inputs: &[Input<'_, '_>],
 ) -> Result<Vec<String>, AllocError> {
     let remarks = summary.remarks;
     let mut notes = Vec::new(alloc);
@@ -193,7 +197,7 @@ fn notes_of(
 }
 
 /// Reports what is remarkable about the dumps. Without memory for it nothing is.
-pub fn tell_notes(rt: &HostRuntime, summary: &Summary, inputs: &[Input<'_>]) {
+pub fn tell_notes(rt: &HostRuntime, summary: &Summary, inputs: &[Input<'_, '_>]) {
     if let Ok(notes) = notes_of(rt.alloc(), summary, inputs) {
         for note in &notes {
             let _ = eprintln!(rt; "  note: {note}");

@@ -81,7 +81,7 @@ fn tell_packed(rt: &HostRuntime, name: &str, fault: &PackedFault) {
 }
 
 /// Reports where packed files ended early.
-fn tell_ended(rt: &HostRuntime, inputs: &[Input<'_>]) {
+fn tell_ended(rt: &HostRuntime, inputs: &[Input<'_, '_>]) {
     for input in inputs {
         let dump = input.device();
         if let Some(fault) = dump.packed_fault() {
@@ -91,7 +91,7 @@ fn tell_ended(rt: &HostRuntime, inputs: &[Input<'_>]) {
 }
 
 /// Whether the data of a packed file ended early, so that the report is without what stood behind.
-pub fn has_ended_early(inputs: &[Input<'_>]) -> bool {
+pub fn has_ended_early(inputs: &[Input<'_, '_>]) -> bool {
     for input in inputs {
         if input.device().packed_fault().is_some() {
             return true;
@@ -101,9 +101,12 @@ pub fn has_ended_early(inputs: &[Input<'_>]) -> bool {
 }
 
 /// Reports that a file couldn't be read, or that memory ran out if an allocation for it failed.
-fn tell_read(rt: &HostRuntime, file: usize, inputs: &[Input<'_>]) {
+fn tell_read(rt: &HostRuntime, file: usize, inputs: &[Input<'_, '_>]) {
     let number = file.saturating_add(1);
-    let dump = inputs.get(file).map(|input| input.device());
+    let dump = match inputs.get(file) {
+        Some(input) => Some(input.device()),
+        None => None,
+    };
     let error = dump.and_then(|dump| dump.error());
     match (dump, error) {
         (Some(_), Some(error)) if error.kind() == ErrorKind::OutOfMemory => {
@@ -153,7 +156,7 @@ fn tell_unpacking(rt: &HostRuntime, command: &str, unpacker: &str, kind: Kind, n
 }
 
 /// Reports, for each file that doesn't look like a dump, what it looks like.
-fn tell_kinds(rt: &HostRuntime, request: &Request, inputs: &[Input<'_>]) {
+fn tell_kinds(rt: &HostRuntime, request: &Request, inputs: &[Input<'_, '_>]) {
     for input in inputs {
         let dump = input.device();
         if let Some(kind) = dump.kind() {
@@ -176,7 +179,7 @@ pub fn tell(
     rt: &HostRuntime,
     outcome: &Result<Summary, ReplayError>,
     request: &Request,
-    inputs: &[Input<'_>],
+    inputs: &[Input<'_, '_>],
     out: &Output<'_>,
 ) {
     match outcome {
@@ -202,7 +205,7 @@ pub fn tell(
 }
 
 /// Returns how many bytes were read from all files.
-fn all_bytes(inputs: &[Input<'_>]) -> u64 {
+fn all_bytes(inputs: &[Input<'_, '_>]) -> u64 {
     inputs.iter().fold(
         0u64,
         |sum, input| sum.saturating_add(input.device().bytes()),
@@ -300,7 +303,7 @@ fn tell_units(rt: &HostRuntime, number: usize, counts: &FileCounts) {
 pub fn tell_summary(
     rt: &HostRuntime,
     outcome: &Result<Summary, ReplayError>,
-    inputs: &[Input<'_>],
+    inputs: &[Input<'_, '_>],
     counts: Option<&Counts>,
     workers: usize,
     elapsed: Option<Duration>,

@@ -187,6 +187,11 @@ pub trait Team {
     /// What running jobs needs.
     ghost is_ready: { Self → Type 0 };
 
+    /// How many jobs there are at a time, 1 to 64.
+    fn jobs(&self) -> usize
+        ensures least { 1 ≤ result }
+        ensures most { result ≤ 64 };
+
     /// Runs each job over these bytes, in whatever order or side by side, and gives them in order.
     fn run(&self, jobs: Vec<Job>, bytes: &[u8]) -> Result<Vec<Job>, AllocError>
         requires { is_ready self.now };
@@ -199,6 +204,10 @@ pub struct Alone;
 impl Team for Alone {
     ghost is_ready = { λ _. Unit {0} };
 
+    fn jobs(&self) -> usize {
+        1
+    }
+
     fn run(&self, jobs: Vec<Job>, bytes: &[u8]) -> Result<Vec<Job>, AllocError> {
         let mut done = Vec::new(*jobs.allocator());
         for job in jobs {
@@ -208,12 +217,17 @@ impl Team for Alone {
     }
 }
 
-/// Runs each job in a thread of its own, where one can be started, and else in the calling thread.
+/// Runs so many jobs, at least one and 64 at most, each in a thread of its own where one can be started, and else in the
+/// calling thread.
 #[derive(Drop)]
-pub struct Beside<'r, R: Threads + Sync>(pub &'r R);
+pub struct Beside<'r, R: Threads + Sync>(pub &'r R, pub usize);
 
 impl<R: Threads + Sync> Team for Beside<'_, R> {
     ghost is_ready = { λ _. IsSync R.row };
+
+    fn jobs(&self) -> usize {
+        self.1.max(1).min(64)
+    }
 
     fn run(&self, jobs: Vec<Job>, bytes: &[u8]) -> Result<Vec<Job>, AllocError> {
         map_vec(self.0, jobs, &|job| job.run(bytes))

@@ -8,9 +8,9 @@ use crate::bits::Cursor;
 use crate::checksum::Checksums;
 use crate::codes::{Codes, read_codes, read_selectors};
 use crate::fault::{BlockFault, Cause};
+use crate::runs::Runs;
 use crate::scan::MAGIC;
 use crate::symbols::{decode_symbols, read_used};
-use crate::runs::Runs;
 use crate::transform::link;
 use std::alloc::Global;
 

@@ -8,7 +8,7 @@ use std::process::Abort;
 
 /// What this file gives, which is no failure to read.
 fn reading_of(rt: &impl Abort, alloc: Global, file: &[u8]) -> Reading {
-    let mut reader = Bunzip::new(alloc, Counted::new(file), 1);
+    let mut reader = Bunzip::new(alloc, Counted::new(file));
     let reading = read_by(alloc, &mut reader, &Alone).expect(rt, "memory for a file");
     assert!(rt; !reading.has_failed && reading.failures == 0);
     reading

@@ -9,7 +9,7 @@ use std::io::ErrorKind;
 #[test]
 fn reads_of_one_byte_give_the_same_bytes(rt: HostRuntime) {
     let alloc = rt.alloc();
-    let mut reader = Bunzip::new(alloc, Counted::new(Dripping::new(&HELLO, None)), 1);
+    let mut reader = Bunzip::new(alloc, Counted::new(Dripping::new(&HELLO, None)));
     let reading = read_by(alloc, &mut reader, &Alone).expect(&rt, "memory for a file");
     assert!(rt; reading.bytes.as_slice() == TEXT.as_bytes() && reading.damage.is_none());
 }
@@ -20,7 +20,7 @@ fn bytes_that_were_read_before_come_first(rt: HostRuntime) {
     for length in [0usize, 1, 4, 10, 45, 55] {
         let (front, rest) = HELLO.split_at(length);
         let front = Vec::from_slice(alloc, front).expect(&rt, "memory for a front");
-        let mut reader = Bunzip::with_front(front, Counted::new(rest), 1);
+        let mut reader = Bunzip::with_front(front, Counted::new(rest));
         let reading = read_by(alloc, &mut reader, &Alone).expect(&rt, "memory for a file");
         assert!(rt; reading.bytes.as_slice() == TEXT.as_bytes() && reading.damage.is_none());
     }
@@ -32,7 +32,7 @@ fn a_device_that_fails_is_a_failure_for_good(rt: HostRuntime) {
     let alloc = rt.alloc();
     for length in 0..=55usize {
         let device = Dripping::new(&HELLO[..length], Some(ErrorKind::Interrupted));
-        let mut reader = Bunzip::new(alloc, Counted::new(device), 1);
+        let mut reader = Bunzip::new(alloc, Counted::new(device));
         let reading = read_by(alloc, &mut reader, &Alone).expect(&rt, "memory for a file");
         let (bytes, offset) = match length {
             0..=3 => ("", 0),
@@ -54,7 +54,7 @@ fn a_device_that_fails_is_a_failure_for_good(rt: HostRuntime) {
 #[test]
 fn want_of_memory_is_a_failure_for_good(rt: HostRuntime) {
     let device: &[u8] = &HELLO;
-    let mut reader = Bunzip::new(rt.alloc(), Counted::new(device), 1);
+    let mut reader = Bunzip::new(rt.alloc(), Counted::new(device));
     let mut block = [0u8; 100];
     match reader.read_some(&mut block) {
         Ok(count) => {

@@ -9,7 +9,7 @@ use std::process::Abort;
 
 /// What this file gives.
 fn reading_of(rt: &impl Abort, alloc: Global, file: &[u8]) -> Reading {
-    let mut reader = Bunzip::new(alloc, Counted::new(file), 1);
+    let mut reader = Bunzip::new(alloc, Counted::new(file));
     read_by(alloc, &mut reader, &Alone).expect(rt, "memory for a file")
 }
 
@@ -60,8 +60,8 @@ fn threads_give_the_same_bytes(rt: HostRuntime) {
     let alloc = rt.alloc();
     let file = bytes_of(alloc, PAIRS).expect(&rt, "memory for a file");
     expect_pairs(&rt, &reading_of(&rt, alloc, file.as_slice()));
-    let mut reader = Bunzip::new(alloc, Counted::new(file.as_slice()), 2);
-    let reading = read_by(alloc, &mut reader, &Beside(&rt)).expect(&rt, "memory for a file");
+    let mut reader = Bunzip::new(alloc, Counted::new(file.as_slice()));
+    let reading = read_by(alloc, &mut reader, &Beside(&rt, 2)).expect(&rt, "memory for a file");
     expect_pairs(&rt, &reading);
 }
 

@@ -199,7 +199,7 @@ pub static OPTIONS: [OptionRow; 16] = [
         offered: "1 2 4 8 16 32 64",
         commands: "",
         is_required: false,
-        meaning: "Replay with this many threads, 1 to 64. The report doesn't depend on it; one thread alone makes history, and churn with prefixes or --since [default: one for each processor, or one alone where few prefixes are chosen]",
+        meaning: "Replay with this many threads, 1 to 64, beside which as many unpack packed dumps; with 1, one thread does all. The report doesn't depend on it; one thread alone makes history, and churn with prefixes or --since [default: one for each processor, or one alone where few prefixes are chosen, and as many that unpack as there are processors]",
     },
     OptionRow {
         name: "ring",

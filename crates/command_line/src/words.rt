@@ -1,6 +1,6 @@
 //! The command-line arguments.
 
-ghost use Rattle.std.specs.Prelude.{◌≡◌, ◌<◌, ◌≤◌, IfErr, IfOk, vec_len};
+ghost use Rattle.std.specs.Prelude.{◌≡◌, ◌<◌, ◌≤◌, ◌+◌, IfErr, IfOk, vec_len};
 ghost use Rattle.command_line.specs.Addresses.{IsAddress};
 ghost use Rattle.command_line.specs.Words.{IsRefusal};
 ghost use Rattle.command_line.specs.declared.words.Usage.TheVariants.{Memory};

@@ -7,7 +7,7 @@ use crate::fault::{PackedCause, PackedFault};
 use crate::format::Format;
 use crate::head::Head;
 use crate::place::Place;
-use bzip2_reader::{Bunzip, Cause, Damage};
+use bzip2_reader::{Bunzip, Cause, Damage, Team};
 use gzip_reader::{Fault, Gunzip};
 use mrt_frame::{Counted, Source};
 use std::alloc::{AllocError, Global};
@@ -79,10 +79,15 @@ fn read_gzip<D: Read>(gunzip: &mut Gunzip<Counted<Place<D>>>, buf: &mut [u8]) ->
     }
 }
 
-fn read_bzip2<D: Read>(bunzip: &mut Bunzip<Counted<Place<D>>>, buf: &mut [u8]) -> Outcome
+fn read_bzip2<D: Read, T: Team>(
+    bunzip: &mut Bunzip<Counted<Place<D>>>,
+    team: &T,
+    buf: &mut [u8],
+) -> Outcome
+    requires { T.is_ready team.now }
     ensures { IsOutcome result buf.new }
 {
-    match bunzip.read_some(buf) {
+    match bunzip.read_by(team, buf) {
         Ok(0) if !buf.is_empty() => Outcome::Ended(bunzip.damage().map(bzip2_fault)),
         Ok(count) => Outcome::Gave(count),
         Err(_) => match bunzip.damage() {
@@ -115,11 +120,7 @@ impl<D: Read + Drop> Decoder<D> {
             }
             Format::Bzip2 => {
                 let front = Vec::from_slice(alloc, head.as_slice())?;
-                *made = Decoder::Bzip2(Bunzip::with_front(
-                    front,
-                    Counted::new(place.take_out()),
-                    1,
-                ));
+                *made = Decoder::Bzip2(Bunzip::with_front(front, Counted::new(place.take_out())));
             }
         }
         Ok(made)
@@ -136,14 +137,15 @@ impl<D: Read> Decoder<D> {
         }
     }
 
-    /// Reads some bytes.
-    pub(crate) fn read(&mut self, buf: &mut [u8]) -> Outcome
+    /// Reads some bytes. The team decodes blocks of bzip2.
+    pub(crate) fn read_by<T: Team>(&mut self, team: &T, buf: &mut [u8]) -> Outcome
+        requires { T.is_ready team.now }
         ensures { IsOutcome result buf.new }
     {
         match self {
             Decoder::Empty => Outcome::Ended(None),
             Decoder::Gzip(gunzip) => read_gzip(gunzip, buf),
-            Decoder::Bzip2(bunzip) => read_bzip2(bunzip, buf),
+            Decoder::Bzip2(bunzip) => read_bzip2(bunzip, team, buf),
         }
     }
 }

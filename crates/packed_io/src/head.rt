@@ -91,7 +91,7 @@ impl<D: Read> Read for HeadFirst<D> {
 }
 
 /// Copies as many bytes as there are and as there is room for.
-fn copy_front(bytes: &[u8], buf: &mut [u8]) -> usize
+pub(crate) fn copy_front(bytes: &[u8], buf: &mut [u8]) -> usize
     ensures count { result ≡ min (length bytes.now) (length buf.new) }
     ensures bytes { take result buf.new ≡ take result bytes.now }
 {

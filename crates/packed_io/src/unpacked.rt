@@ -12,6 +12,7 @@ use crate::fault::PackedFault;
 use crate::format::{Format, format_of};
 use crate::head::{Head, HeadFirst, TELLING};
 use crate::place::Place;
+use bzip2_reader::{Alone, Team};
 use run_io::Blocks;
 use std::alloc::Global;
 use std::io::{self, Read};
@@ -166,10 +167,11 @@ impl<D: Read> Unpacked<D> {
 
     /// Reads some bytes of a packed file.
     #[inline(never)]
-    fn read_packed(&mut self, buf: &mut [u8]) -> io::Result<usize>
+    fn read_packed<T: Team>(&mut self, team: &T, buf: &mut [u8]) -> io::Result<usize>
     where
         D: Drop,
-        requires { IsPacked self.old }
+        requires ready { T.is_ready team.now }
+        requires packed { IsPacked self.old }
         ensures bound { ReadsAtMost result buf.new }
         ensures bytes { ReadConsumes (unpacked_remaining D.remaining self.old) (unpacked_remaining D.remaining self.new) result buf.new }
         ensures packed { IsPacked self.new }
@@ -182,7 +184,7 @@ impl<D: Read> Unpacked<D> {
             Stage::Waiting(_) | Stage::Plain(_) => unreachable!(),
             Stage::Packed(format, decoder) => {
                 let format = *format;
-                let outcome = decoder.read(buf);
+                let outcome = decoder.read_by(team, buf);
                 self.bytes = decoder.bytes_read();
                 match outcome {
                     Outcome::Gave(count) => Ok(count),
@@ -202,12 +204,14 @@ impl<D: Read> Unpacked<D> {
     }
 }
 
-impl<D: Read + Drop> Read for Unpacked<D> {
+impl<D: Read + Drop> Unpacked<D> {
     ghost use Rattle.packed_io.specs.Reading.{HasEnded, HasFailed, IsPacked, unpacked_remaining};
 
-    ghost remaining = { unpacked_remaining D.remaining };
-
-    fn read(&mut self, buf: &mut [u8]) -> io::Result<usize>
+    /// Reads some bytes, as `read` does. The team decodes blocks of bzip2, and another one may at each read: the bytes
+    /// are the same.
+    #[inline(always)]
+    pub fn read_by<T: Team>(&mut self, team: &T, buf: &mut [u8]) -> io::Result<usize>
+        requires { T.is_ready team.now }
         ensures bound { ReadsAtMost result buf.new }
         ensures bytes { ReadConsumes (unpacked_remaining D.remaining self.old) (unpacked_remaining D.remaining self.new) result buf.new }
         // Of a packed file the end and a failure are told by `fault`, and are final.
@@ -224,7 +228,24 @@ impl<D: Read + Drop> Read for Unpacked<D> {
         if let Stage::Plain(blocks) = &mut self.stage {
             return blocks.read(buf);
         }
-        self.read_packed(buf)
+        self.read_packed(team, buf)
+    }
+}
+
+impl<D: Read + Drop> Read for Unpacked<D> {
+    ghost use Rattle.packed_io.specs.Reading.{HasEnded, HasFailed, IsPacked, unpacked_remaining};
+
+    ghost remaining = { unpacked_remaining D.remaining };
+
+    fn read(&mut self, buf: &mut [u8]) -> io::Result<usize>
+        ensures bound { ReadsAtMost result buf.new }
+        ensures bytes { ReadConsumes (unpacked_remaining D.remaining self.old) (unpacked_remaining D.remaining self.new) result buf.new }
+        ensures fails { OnErr result (IsPacked self.new → HasFailed self.new) }
+        ensures ends { result ≡ Ok 0 → 0 < length buf.new → IsPacked self.new → HasEnded self.new }
+        ensures stays_failed { HasFailed self.old → IsErr result × (self.new ≡ self.old) }
+        ensures stays_ended { HasEnded self.old → (result ≡ Ok 0) × (self.new ≡ self.old) }
+    {
+        self.read_by(&Alone, buf)
     }
 }
 

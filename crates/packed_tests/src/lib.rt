@@ -6,6 +6,8 @@ mod faults;
 #[cfg(test)]
 mod files;
 #[cfg(test)]
+mod packed_files;
+#[cfg(test)]
 mod reading;
 #[cfg(test)]
 mod unpacking;

@@ -1,6 +1,5 @@
 //! Devices, and reading a file to its end.
 
-use packed_io::Unpacked;
 use std::alloc::Global;
 use std::io::{self, ErrorKind, Read};
 use std::process::Abort;
@@ -48,11 +47,7 @@ pub struct Outcome {
 }
 
 /// Reads until the end or a failure, and adds what it reads to these bytes.
-pub fn read_on<D: Read + Drop>(
-    rt: &impl Abort,
-    reader: &mut Unpacked<D>,
-    mut bytes: Vec<u8>,
-) -> Outcome {
+pub fn read_on<R: Read>(rt: &impl Abort, reader: &mut R, mut bytes: Vec<u8>) -> Outcome {
     let mut block = [0u8; 7];
     for _ in 0..1_000u32 {
         match reader.read(&mut block) {
@@ -74,10 +69,6 @@ pub fn read_on<D: Read + Drop>(
 }
 
 /// Reads until the end or a failure.
-pub fn read_all<D: Read + Drop>(
-    rt: &impl Abort,
-    alloc: Global,
-    reader: &mut Unpacked<D>,
-) -> Outcome {
+pub fn read_all<R: Read>(rt: &impl Abort, alloc: Global, reader: &mut R) -> Outcome {
     read_on(rt, reader, Vec::new(alloc))
 }

@@ -37,7 +37,10 @@ static ROWS: [Row<'static>; 7] = [
         (0, &[]),
     ),
     (
-        &["announcement", "peer-index-table rib-record peer-index-table peer-index-table rib-record"],
+        &[
+            "announcement",
+            "peer-index-table rib-record peer-index-table peer-index-table rib-record",
+        ],
         None,
         2,
         (0, &[]),
@@ -53,7 +56,11 @@ static ROWS: [Row<'static>; 7] = [
         (0, &[]),
     ),
     (
-        &["rib-ipv6-of-second-8", "announcement", "rib-ipv6-of-second-9 rib-ipv6-of-second-8"],
+        &[
+            "rib-ipv6-of-second-8",
+            "announcement",
+            "rib-ipv6-of-second-9 rib-ipv6-of-second-8",
+        ],
         None,
         0,
         (3, &[0, 2]),

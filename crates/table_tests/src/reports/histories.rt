@@ -71,7 +71,10 @@ fn expect_row(rt: &impl Abort, row: &HistoryRow, told: &Told) {
     assert!(rt; row.what() == what && row.by() == by && row.key() == key);
     match row.route() {
         Some(route) => {
-            assert!(rt; has_route && route.route().origin_as() == Some(65_000), "of second {seconds}");
+            assert!(rt;
+                has_route && route.route().origin_as() == Some(65_000),
+                "of second {seconds}"
+            );
         }
         None => assert!(rt; !has_route, "no route of second {seconds}"),
     }

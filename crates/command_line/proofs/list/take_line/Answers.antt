@@ -1,4 +1,4 @@
-use Rattle.std.proofs.Common.{◌≡◌, ◌∙◌, false, sym, ap, subst, List, ℕ}
+use Rattle.std.proofs.Common.{◌≡◌, ◌∙◌, false, sym, subst, List, ℕ}
 use Rattle.command_line.specs.Choices.{IsNoChoice}
 use Rattle.command_line.specs.Lists.{is_passed, trimmed}
 use Rattle.command_line.proofs.list.take_line.Goals as goal

@@ -4,8 +4,8 @@ use Rattle.std.specs.Io.KnownBytes.{Keeps}
 use Rattle.packed_io.specs.Reading.{HasEnded, HasFailed, unpacked_remaining}
 use Rattle.packed_io.specs.Stages.{StageEnded, StageFailed}
 use Rattle.packed_io.proofs.HeadLaws.{at_errors, kept_consumes, plain_consumes, same_told}
-use Rattle.packed_io.proofs.unpacked.UnpackedRead.read.Goals as goal
-use Rattle.packed_io.proofs.unpacked.UnpackedRead.read.Goals.{in-Waiting+in_ok-begin, in_default}
+use Rattle.packed_io.proofs.unpacked.Unpacked.read_by.Goals as goal
+use Rattle.packed_io.proofs.unpacked.Unpacked.read_by.Goals.{in-Waiting+in_ok-begin, in_default}
 
 pub returns-in-Plain-clause-bytes : goal.returns-in-Plain-clause-bytes
 returns-in-Plain-clause-bytes g c =

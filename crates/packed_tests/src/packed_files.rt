@@ -1,0 +1,174 @@
+//! Packed files that other threads unpack before they are read.
+
+use crate::files::{BZIP2, EMPTY_BZIP2, EMPTY_GZIP, GZIP, PLAIN, file_of};
+use crate::reading::{Failing, read_all};
+use packed_io::{Effect, Pace, PackedFiles, PackedReader};
+use std::alloc::Global;
+use std::io::ErrorKind;
+use std::marker::Sync;
+use std::process::Abort;
+use std::thread::{Threads, join, yield_now};
+
+/// Lets threads look again at once.
+#[derive(Clone, Copy)]
+struct Eager {
+    /// Whether it says that the reading has begun.
+    has_begun: bool,
+}
+
+impl Pace for Eager {
+    fn has_begun(&self) -> bool {
+        self.has_begun
+    }
+
+    fn rest(&self, _looks: u32) {
+        yield_now();
+    }
+
+    fn wait(&self, _looks: u32) {
+        yield_now();
+    }
+}
+
+const BEGUN: Eager = Eager { has_begun: true };
+
+const NOT_BEGUN: Eager = Eager { has_begun: false };
+
+/// PackedFiles of these files for so many threads. Each read of a file gives five bytes.
+fn packed_of<'a>(
+    rt: &impl Abort,
+    alloc: Global,
+    files: &'a [Vec<u8>],
+    threads: usize,
+) -> PackedFiles<Failing<'a>> {
+    let mut packed = PackedFiles::new(alloc, threads);
+    for file in files {
+        let device = Failing::new(file.as_slice(), 5, 0);
+        packed.add(device, 2).expect(rt, "memory for a packed file");
+    }
+    packed
+}
+
+/// Files in each form, an empty one of each among them.
+fn files_of(rt: &impl Abort, alloc: Global) -> Vec<Vec<u8>> {
+    let mut files = Vec::new(alloc);
+    for digits in [GZIP, BZIP2, EMPTY_GZIP, BZIP2, EMPTY_BZIP2, GZIP, BZIP2] {
+        files
+            .push(file_of(rt, alloc, digits))
+            .expect(rt, "memory for a file");
+    }
+    files
+}
+
+/// Expects that each file gives its text, in turn, and ends whole.
+fn expect_texts(
+    rt: &impl Abort,
+    alloc: Global,
+    files: &[Vec<u8>],
+    packed: &PackedFiles<Failing<'_>>,
+) {
+    let text = file_of(rt, alloc, PLAIN);
+    for (place, file) in files.iter().enumerate() {
+        let mut reader = PackedReader::new(alloc, packed, place, BEGUN);
+        let read = read_all(rt, alloc, &mut reader);
+        let is_empty = file.len() < 30;
+        let expected: &[u8] = if is_empty { &[] } else { text.as_slice() };
+        assert!(rt; read.error.is_none() && read.bytes.as_slice() == expected);
+        assert!(rt; reader.fault().is_none());
+        assert!(rt; reader.packed_bytes() == file.len() as u64);
+    }
+}
+
+/// The reading thread unpacks what no other one did.
+#[test]
+fn a_reader_alone_unpacks(rt: HostRuntime) {
+    let alloc = rt.alloc();
+    let files = files_of(&rt, alloc);
+    let packed = packed_of(&rt, alloc, files.as_slice(), 2);
+    expect_texts(&rt, alloc, files.as_slice(), &packed);
+}
+
+/// What was unpacked before the reading begins is read then, and nobody waits for it to begin.
+#[test]
+fn files_are_unpacked_before_they_are_read(rt: HostRuntime) {
+    let alloc = rt.alloc();
+    let files = files_of(&rt, alloc);
+    for threads in [1usize, 2, 4] {
+        let packed = packed_of(&rt, alloc, files.as_slice(), threads);
+        packed.unpack(&rt, &NOT_BEGUN);
+        expect_texts(&rt, alloc, files.as_slice(), &packed);
+    }
+}
+
+#[test]
+fn files_are_unpacked_while_they_are_read(rt: HostRuntime) {
+    let alloc = rt.alloc();
+    let files = files_of(&rt, alloc);
+    for threads in [1usize, 2, 4] {
+        let packed = packed_of(&rt, alloc, files.as_slice(), threads);
+        join(
+            &rt,
+            || packed.unpack(&rt, &BEGUN),
+            || {
+                expect_texts(&rt, alloc, files.as_slice(), &packed);
+                packed.end();
+            },
+        );
+    }
+}
+
+/// A file that is left isn't read on, and the next one gives its text.
+#[test]
+fn a_file_may_be_left(rt: HostRuntime) {
+    let alloc = rt.alloc();
+    let files = files_of(&rt, alloc);
+    let text = file_of(&rt, alloc, PLAIN);
+    let packed = packed_of(&rt, alloc, files.as_slice(), 2);
+    packed.unpack(&rt, &NOT_BEGUN);
+    let mut reader = PackedReader::new(alloc, &packed, 5, BEGUN);
+    let read = read_all(&rt, alloc, &mut reader);
+    assert!(rt; read.error.is_none() && read.bytes.as_slice() == text.as_slice());
+}
+
+/// Expects that a file that fails so gives this kind of error, whether it is unpacked before or not.
+fn expect_failure<R: Abort + Threads + Sync>(
+    rt: &R,
+    alloc: Global,
+    file: &[u8],
+    failing: u32,
+    is_before: bool,
+) {
+    let mut packed = PackedFiles::new(alloc, 2);
+    let device = Failing::new(file, 5, failing);
+    packed.add(device, 1).expect(rt, "memory for a packed file");
+    if is_before {
+        packed.unpack(rt, &NOT_BEGUN);
+    }
+    let mut reader = PackedReader::new(alloc, &packed, 0, BEGUN);
+    for _ in 0..2u32 {
+        let read = read_all(rt, alloc, &mut reader);
+        assert!(rt; read.error == Some(ErrorKind::TimedOut));
+    }
+}
+
+/// A failure is told where the file is read, and stays; so is what is wrong with the data.
+#[test]
+fn what_fails_before_it_is_read_fails_where_it_is(rt: HostRuntime) {
+    let alloc = rt.alloc();
+    let file = file_of(&rt, alloc, GZIP);
+    for failing in [1u32, 2, 3, 9] {
+        expect_failure(&rt, alloc, file.as_slice(), failing, true);
+        expect_failure(&rt, alloc, file.as_slice(), failing, false);
+    }
+    let mut packed = PackedFiles::new(alloc, 2);
+    let device = Failing::new(&file.as_slice()[..40], 5, 0);
+    packed
+        .add(device, 1)
+        .expect(&rt, "memory for a packed file");
+    packed.unpack(&rt, &NOT_BEGUN);
+    let mut reader = PackedReader::new(alloc, &packed, 0, BEGUN);
+    let read = read_all(&rt, alloc, &mut reader);
+    assert!(rt; read.error.is_none());
+    let fault = reader.fault().expect(&rt, "a fault");
+    assert!(rt; fault.effect() == Effect::Ended && fault.words() == "the data ends early");
+}
