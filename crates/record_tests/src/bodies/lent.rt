@@ -3,7 +3,7 @@
 use super::lines::next_of;
 use super::{announcement_of_subtype, expect_entry, expect_message, expect_refused, expect_states};
 use fixtures::{bytes_of, message_of};
-use mrt_body::{Found, Selection, Units};
+use mrt_body::{Found, Selection, StateRule, Units};
 use mrt_frame::{Counted, Fault};
 use std::alloc::Global;
 use std::process::Abort;
@@ -88,7 +88,8 @@ fn messages_and_state_changes_are_lent_between_refusals(rt: HostRuntime) {
         .expect(&rt, "memory for a record");
     let message = message_of(alloc, "announcement").expect(&rt, "memory for a message");
     let mut files = [Counted::new(bytes.as_slice())];
-    let mut units = Units::new(1, 1000, Selection::all(alloc));
+    let rule = StateRule::Established;
+    let mut units = Units::new(1, 1000, Selection::all(alloc).by_states(rule));
     // Nothing is read while a unit is left.
     for _ in 0..2 {
         assert!(rt; advance(&rt, alloc, &mut units, &mut files).is_none());
@@ -98,9 +99,9 @@ fn messages_and_state_changes_are_lent_between_refusals(rt: HostRuntime) {
     units.pass();
     assert!(rt; units.lend().is_none(), "a message that was passed over");
     assert!(rt; advance(&rt, alloc, &mut units, &mut files).is_none());
-    expect_states(&rt, &lent_in(&rt, alloc, &units));
+    expect_states(&rt, &lent_in(&rt, alloc, &units), rule);
     let states = found_next(&rt, alloc, &mut units, &mut files);
-    expect_states(&rt, &states);
+    expect_states(&rt, &states, rule);
     // 65000 is read as two AS numbers, and the address family is the second half of 65001.
     let refused = advance(&rt, alloc, &mut units, &mut files).expect(&rt, "a refusal");
     expect_refused(&rt, &refused, 77 + 36, Fault::BadFamily);
