@@ -161,7 +161,11 @@ fn what_fails_before_it_is_read_fails_where_it_is(rt: HostRuntime) {
         expect_failure(&rt, alloc, file.as_slice(), failing, false);
     }
     let mut packed = PackedFiles::new(alloc, 2);
-    let device = Failing::new(&file.as_slice()[..40], 5, 0);
+    let front = file
+        .as_slice()
+        .get(..40)
+        .expect(&rt, "a file of forty bytes");
+    let device = Failing::new(front, 5, 0);
     packed
         .add(device, 1)
         .expect(&rt, "memory for a packed file");
