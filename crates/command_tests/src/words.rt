@@ -332,36 +332,42 @@ fn the_first_bytes_tell_the_kind_of_a_file(rt: HostRuntime) {
     }
 }
 
+/// The names in a text, each before a semicolon, or which one is no text.
+fn names_in(alloc: Global, text: &[u8]) -> Result<String, Fail> {
+    let mut shown = String::new(alloc);
+    match read_file_list(alloc, text) {
+        Ok(names) => {
+            for name in &names {
+                let name = name.as_str();
+                write!(shown, "{name};")?;
+            }
+        }
+        Err(FileListError::NotText(number)) => write!(shown, "name {number}")?,
+        Err(FileListError::Memory) => shown.push_str("memory")?,
+    }
+    Ok(shown)
+}
+
 /// A line is a name, and so is what a NUL byte ends where there is one. What is no text has its number.
 #[test]
 fn a_text_names_files(rt: HostRuntime) -> Result<(), Fail> {
     let alloc = rt.alloc();
-    let rows: [(&[u8], &str); 11] = [
-        (b"", ""),
-        (b"\n\n", ""),
-        (b"a", "a;"),
-        (b"a\n", "a;"),
-        (b"\na b \r\n\n\tc", "a b \r;\tc;"),
-        (b"\0", ";"),
-        (b"a\0", "a;"),
-        (b"a\nb\0\0c", "a\nb;;c;"),
-        (b"\n\0", "\n;"),
-        (b"a\n\n\xff\n\xfe", "name 3"),
-        (b"a\0\xc3\0", "name 2"),
+    let rows: [(&[u8], &[u8]); 11] = [
+        (b"", b""),
+        (b"\n\n", b""),
+        (b"a", b"a;"),
+        (b"a\n", b"a;"),
+        (b"\na b \r\n\n\tc", b"a b \r;\tc;"),
+        (b"\0", b";"),
+        (b"a\0", b"a;"),
+        (b"a\nb\0\0c", b"a\nb;;c;"),
+        (b"\n\0", b"\n;"),
+        (b"a\n\n\xff\n\xfe", b"name 3"),
+        (b"a\0\xc3\0", b"name 2"),
     ];
     for (text, expected) in rows {
-        let mut shown = String::new(alloc);
-        match read_file_list(alloc, text) {
-            Ok(names) => {
-                for name in &names {
-                    let name = name.as_str();
-                    write!(shown, "{name};")?;
-                }
-            }
-            Err(FileListError::NotText(number)) => write!(shown, "name {number}")?,
-            Err(FileListError::Memory) => shown.push_str("memory")?,
-        }
-        assert!(rt; shown.as_str() == expected, "{expected}");
+        let names = names_in(alloc, text)?;
+        assert!(rt; names.as_bytes() == expected);
     }
     Ok(())
 }
