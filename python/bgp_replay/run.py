@@ -56,7 +56,7 @@ def has(name, report, option=None):
     if report not in commands or option is None:
         return report in commands
     words = _asked(name, report, "--help").stdout.decode()
-    return re.search(rf"^ +(-., )?--{option}\b", words, re.MULTILINE) is not None
+    return re.search(rf"^ {{2,6}}(-., )?--{option}\b", words, re.MULTILINE) is not None
 
 
 @_once_for_each_program
