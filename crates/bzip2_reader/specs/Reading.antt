@@ -30,7 +30,8 @@ StaysSo old new = (new.ending.phase ≡ old.ending.phase) × (damage_of new ≡ 
 abbrev pub IsOpen : {D : Type 0} → Bunzip D → Type 0
 IsOpen b = (b.ending.phase ≡ Open) × (damage_of b ≡ None)
 
--- so many bytes in front of the buffer are the last of those given of a block, whose bytes have the checksum that it names
+-- so many bytes in front of the buffer are the last of those given of a block, whose bytes have the checksum that it
+-- names
 abbrev pub Gives : {D : Type 0} → Bunzip D → ℕ → List ℕ → Type 0
 Gives b n buffer =
     let block = b.streams.block in

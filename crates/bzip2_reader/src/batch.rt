@@ -217,8 +217,8 @@ impl Team for Alone {
     }
 }
 
-/// Runs so many jobs, at least one and 64 at most, each in a thread of its own where one can be started, and else in the
-/// calling thread.
+/// Runs so many jobs, at least one and 64 at most, each in a thread of its own where one can be started, and else in
+/// the calling thread.
 #[derive(Drop)]
 pub struct Beside<'r, R: Threads + Sync>(pub &'r R, pub usize);
 

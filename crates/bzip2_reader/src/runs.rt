@@ -10,8 +10,8 @@ const RUN: u8 = 4;
 pub(crate) struct Runs {
     /// How many bytes of the text were taken.
     at: usize,
-    /// The last byte of the text that is no count, how many equal ones end with it, and how many more of it are still to
-    /// be written.
+    /// The last byte of the text that is no count, how many equal ones end with it, and how many more of it are still
+    /// to be written.
     last: u8,
     same: u8,
     owed: u8,

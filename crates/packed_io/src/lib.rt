@@ -10,11 +10,11 @@
 //! cause in words, and its effect. A fault that ends the data comes with `Ok(0)`, after all that was unpacked before;
 //! any other one, of the data, the device or the memory, comes with an error, at this read and at all later ones.
 //!
-//! `PackedFiles` are the packed files of a run, which threads unpack before they are read, in pieces of 256 KiB that wait
-//! until then. `PackedReader` reads one of them, and gives what `Unpacked` gives. Either side unpacks: a thread where few
-//! pieces wait and no other one is at the file, the reader where none waits and nobody is. What unpacks a file and the list
-//! of its pieces stand behind a lock each, and a lock that another thread has is passed over, so that no thread waits for
-//! another one without an end. Threads may be started or not: only time depends on it.
+//! `PackedFiles` are the packed files of a run, which threads unpack before they are read, in pieces of 256 KiB that
+//! wait until then. `PackedReader` reads one of them, and gives what `Unpacked` gives. Either side unpacks: a thread
+//! where few pieces wait and no other one is at the file, the reader where none waits and nobody is. What unpacks a
+//! file and the list of its pieces stand behind a lock each, and a lock that another thread has is passed over, so that
+//! no thread waits for another one without an end. Threads may be started or not: only time depends on it.
 //!
 //! What a file will give is told to the contracts if it is read as it is: the first bytes that weren't given yet, and
 //! then what the device tells. Of a packed one nothing is told.

@@ -15,8 +15,8 @@ use std::thread::Threads;
 /// How many bytes are unpacked at a time.
 const PIECE: usize = 262_144;
 
-/// How many pieces are unpacked before it is looked who is to unpack what, for each thread: as many bytes as four blocks
-/// of bzip2 have, and a few more.
+/// How many pieces are unpacked before it is looked who is to unpack what, for each thread: as many bytes as four
+/// blocks of bzip2 have, and a few more.
 const STEP: usize = 16;
 
 /// How many bytes may wait for each thread when more are unpacked, which is half of those that a step unpacks.
@@ -49,7 +49,7 @@ impl Piece {
 /// The system's numbers of errors where no more files can be open, in the process and in the system.
 const NO_FILES: [i32; 2] = [24, 23];
 
-/// Whether a file that can't be read now might be when its turn comes: there was no memory, or too many files were open.
+/// Whether a file that can't be read now might be when its turn comes: no memory was left, or too many files were open.
 fn is_passing(error: &io::Error) -> bool {
     error.kind() == ErrorKind::OutOfMemory
         || error
@@ -222,8 +222,8 @@ impl<D: Read + Drop> PackedFile<D> {
         done
     }
 
-    /// Unpacks pieces with as many threads as there are slots, for as long as few bytes wait to be read. Returns whether
-    /// it unpacked any.
+    /// Unpacks pieces with as many threads as there are slots, for as long as few bytes wait to be read. Returns
+    /// whether it unpacked any.
     pub(crate) fn unpack<R: Threads + Sync>(
         &self,
         threads: &R,
@@ -244,8 +244,8 @@ impl<D: Read + Drop> PackedFile<D> {
         is_some
     }
 
-    /// Unpacks pieces with as many threads as the file has slots, after it took those that it may have. A want of means is left to whoever reads the file, who may meet
-    /// it again.
+    /// Unpacks pieces with as many threads as the file has slots, after it took those that it may have. A want of means
+    /// is left to whoever reads the file, who may meet it again.
     fn unpack_with<R: Threads + Sync>(
         &self,
         threads: &R,
@@ -273,8 +273,8 @@ impl<D: Read + Drop> PackedFile<D> {
         is_some
     }
 
-    /// Notes that nothing more of the file is wanted, and drops what there is of it. A thread that is unpacking it does so
-    /// when it is done.
+    /// Notes that nothing more of the file is wanted, and drops what there is of it. A thread that is unpacking it does
+    /// so when it is done.
     pub(crate) fn leave(&self, slots: &Slots) {
         self.is_left.store(true, Ordering::SeqCst);
         self.is_done.store(true, Ordering::SeqCst);

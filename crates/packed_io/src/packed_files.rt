@@ -8,8 +8,8 @@ use std::marker::Sync;
 use std::sync::atomic::{AtomicBool, AtomicUsize, Ordering};
 use std::thread::{Threads, map_indices};
 
-/// How many files, from the one that is read on, may be unpacked before they are read, for each thread, and at most: each
-/// may be open.
+/// How many files, from the one that is read on, may be unpacked before they are read, for each thread, and at most:
+/// each may be open.
 const FILES_EACH: usize = 2;
 
 const MOST_FILES: usize = 16;
@@ -90,8 +90,8 @@ impl<D: Read + Drop> PackedFiles<D> {
         &self.slots
     }
 
-    /// Unpacks a few pieces of the first file that has few. Returns whether there is anything left to unpack, and whether
-    /// any was.
+    /// Unpacks a few pieces of the first file that has few. Returns whether there is anything left to unpack, and
+    /// whether any was.
     fn unpack_some<R: Threads + Sync>(&self, threads: &R) -> (bool, bool) {
         let front = self.front.load(Ordering::SeqCst);
         let most = self.threads.saturating_mul(FILES_EACH).min(MOST_FILES);

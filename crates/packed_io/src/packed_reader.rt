@@ -70,8 +70,8 @@ impl<'l, D: Read + Drop, P: Pace> PackedReader<'l, D, P> {
         }
     }
 
-    /// Goes on to the next piece. Where none waits and no other thread is unpacking the file, this thread does. A thread
-    /// that is unpacking it waits for nobody, so a piece comes.
+    /// Goes on to the next piece. Where none waits and no other thread is unpacking the file, this thread does. A
+    /// thread that is unpacking it waits for nobody, so a piece comes.
     #[inline(never)]
     fn advance(&mut self) -> io::Result<()> {
         if !self.is_begun {

@@ -10,8 +10,8 @@ const TRIES: usize = 64;
 /// How many bytes may wait to be read for each thread, before files behind the one that is read are unpacked further.
 const WAITING_EACH: usize = 2_097_152;
 
-/// Slots for so many threads. Whoever takes some gives them back; nobody waits for one. Beside them it is counted how many
-/// bytes were unpacked and wait to be read.
+/// Slots for so many threads. Whoever takes some gives them back; nobody waits for one. Beside them it is counted how
+/// many bytes were unpacked and wait to be read.
 #[derive(Drop)]
 pub(crate) struct Slots {
     free: AtomicUsize,

@@ -207,6 +207,26 @@ impl<D: Read> Unpacked<D> {
 impl<D: Read + Drop> Unpacked<D> {
     ghost use Rattle.packed_io.specs.Reading.{HasEnded, HasFailed, IsPacked, unpacked_remaining};
 
+    /// Reads the first bytes, or the next block of a plain file, and gives some bytes.
+    #[inline(never)]
+    fn read_on<T: Team>(&mut self, team: &T, buf: &mut [u8]) -> io::Result<usize>
+        requires { T.is_ready team.now }
+        ensures bound { ReadsAtMost result buf.new }
+        ensures bytes { ReadConsumes (unpacked_remaining D.remaining self.old) (unpacked_remaining D.remaining self.new) result buf.new }
+        ensures fails { OnErr result (IsPacked self.new → HasFailed self.new) }
+        ensures ends { result ≡ Ok 0 → 0 < length buf.new → IsPacked self.new → HasEnded self.new }
+        ensures stays_failed { HasFailed self.old → IsErr result × (self.new ≡ self.old) }
+        ensures stays_ended { HasEnded self.old → (result ≡ Ok 0) × (self.new ≡ self.old) }
+    {
+        if let Stage::Waiting(_) = &self.stage {
+            self.begin()?;
+        }
+        if let Stage::Plain(blocks) = &mut self.stage {
+            return blocks.read(buf);
+        }
+        self.read_packed(team, buf)
+    }
+
     /// Reads some bytes, as `read` does. The team decodes blocks of bzip2, and another one may at each read: the bytes
     /// are the same.
     #[inline(always)]
@@ -220,13 +240,16 @@ impl<D: Read + Drop> Unpacked<D> {
         ensures stays_failed { HasFailed self.old → IsErr result × (self.new ≡ self.old) }
         ensures stays_ended { HasEnded self.old → (result ≡ Ok 0) × (self.new ≡ self.old) }
     {
-        if let Stage::Waiting(_) = &self.stage {
-            self.begin()?;
-        }
-        // A plain file is read here, and all else in functions that aren't inlined: their many locals would slow down
-        // each read of it.
+        // What is left of a plain file's block is given here, and all else by functions that aren't inlined: their many
+        // locals, and the errors in their results, would slow down each read of a plain file.
         if let Stage::Plain(blocks) = &mut self.stage {
-            return blocks.read(buf);
+            let count = blocks.take_held(buf);
+            if count > 0 {
+                return Ok(count);
+            }
+        }
+        if let Stage::Waiting(_) | Stage::Plain(_) = &self.stage {
+            return self.read_on(team, buf);
         }
         self.read_packed(team, buf)
     }

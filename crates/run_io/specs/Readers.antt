@@ -19,7 +19,8 @@ stage_remaining remaining (Waiting slot) = slot_remaining remaining slot
 stage_remaining remaining (Reading reader) = reader_remaining (slot_remaining remaining) reader
 stage_remaining remaining Ended = Some []
 
--- the bytes of the block that weren't given yet, and then those that are still to be read of the reader, where these are known
+-- the bytes of the block that weren't given yet, and then those that are still to be read of the reader, where these
+-- are known
 abbrev pub blocks_remaining : {D : Type 0} → (D → Option (List ℕ)) → Blocks D → Option (List ℕ)
 blocks_remaining remaining blocks = stage_remaining remaining blocks.stage
 

@@ -1,12 +1,12 @@
 //! A reader in blocks, whose memory exists only while it is read.
 
-ghost use Rattle.std.specs.Prelude.{◌≡◌, OnOk};
-ghost use Rattle.std.specs.Io.KnownBytes.{Keeps};
+ghost use Rattle.std.specs.Prelude.{◌≡◌, ◌≤◌, length, take, OnOk};
+ghost use Rattle.std.specs.Io.KnownBytes.{Consumes, Keeps};
 ghost use Rattle.run_io.specs.Readers.{IsBegun, blocks_remaining};
 
 use crate::slot::Slot;
 use std::alloc::Global;
-use std::io::{self, BufReader, Read};
+use std::io::{self, BufRead, BufReader, Read};
 use std::mem;
 
 /// How many bytes are read at once.
@@ -55,6 +55,26 @@ impl<D: Read> Blocks<D> {
             self.stage = Stage::Reading(reader);
         }
         Ok(())
+    }
+}
+
+impl<D: Read> Blocks<D> {
+    /// Gives bytes of the block, as many as it has left and as there is room for. Nothing is read: where there are
+    /// none, `read` goes on. Whoever reads a few bytes at a time asks here first: a count has no error, whose 88 bytes
+    /// would be cleared and copied at each read.
+    #[inline(always)]
+    pub fn take_held(&mut self, buf: &mut [u8]) -> usize
+        ensures bound { result ≤ length buf.new }
+        ensures bytes { Consumes (blocks_remaining D.remaining self.old) (blocks_remaining D.remaining self.new) (take result buf.new) }
+    {
+        let Stage::Reading(reader) = &mut self.stage else {
+            return 0;
+        };
+        let held = reader.buffer();
+        let count = held.len().min(buf.len());
+        buf[..count].copy_from_slice(&held[..count]);
+        reader.consume(count);
+        count
     }
 }
 
