@@ -127,7 +127,7 @@ edits:
 
 # Each allocation fails in turn, in the tests that state what a failed one leaves. The tests are proved and built first.
 growths:
-	for crate in prefix_tests update_tests table_tests lane_tests replay_tests; do (cd crates/$$crate && rt test) || exit 1; done
+	for crate in prefix_tests update_tests record_tests table_tests lane_tests replay_tests; do (cd crates/$$crate && rt test) || exit 1; done
 	tests/growths.sh
 
 # Drawn calls of the prefix maps. The two crates are proved first, if they aren't yet.

@@ -21,6 +21,7 @@ complete -c bgp_replay -n $some -l peers -x -d 'report on the Ith of N shares of
 complete -c bgp_replay -n $some -l until -x -d 'leave out messages, state changes and entries recorded after this second'
 complete -c bgp_replay -n '__fish_seen_subcommand_from churn history' -l since -x -d 'list or count what was recorded from this second on'
 complete -c bgp_replay -n $some -l states -x -a 'recorded established' -d 'say which state changes end a peer\'s routes'
+complete -c bgp_replay -n $some -l rib -x -a 'add replace' -d 'say what a RIB dump does to the routes before it'
 complete -c bgp_replay -n '__fish_seen_subcommand_from history' -l same -d 'list announcements of the very route that was there, too'
 complete -c bgp_replay -n $some -l header -d 'print the columns\' names first'
 complete -c bgp_replay -n $some -l summary -d 'say on standard error what was read, in lines of a key and a value'

@@ -92,6 +92,12 @@ static void index_tables(u32 count) {
     begin(2, 13, 2); four(t); prefix_24(t); two(1); two(t % 200); four(1); two(20); attributes(65000); end();
   }
 }
+static void small_dumps(u32 count) {                     /* of one peer and route each, every second one of a new peer */
+  for (u32 t = 0; t < count; t++) {
+    begin(t, 13, 1); four(0xC0000263); two(0); two(1); one(2); four(0); four(0x0A000000 + t / 2); four(65000); end();
+    begin(t, 13, 2); four(t); prefix_24(t); two(1); two(0); four(1); two(20); attributes(65000); end();
+  }
+}
 static void unused_indexes(u32 count) { for (u32 t = 0; t < count; t++) index_table(65535); }
 
 /* --- messages --- */
@@ -164,6 +170,7 @@ static const struct { const char *name; void (*make)(u32); u32 count; const char
   { "paths", path_numbers, 2, "16 MB of attributes in a record: AS_PATHs" },
   { "repeats", repeated, 2, "16 MB of attributes in a record: 16,380 ORIGINs an entry" },
   { "indexes", index_tables, 5000, "index tables of 200 peers, a RIB record behind each" },
+  { "small-dumps", small_dumps, 150000, "index tables of one peer, a RIB record behind each" },
   { "large-indexes", unused_indexes, 20, "index tables of 65,535 peers, and nothing else" },
   { "peers", peers, 500000, "one message a peer" },
   { "far-peers", far_peers, 300000, "one message a peer, peers and prefixes scattered" },

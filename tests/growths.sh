@@ -16,6 +16,7 @@ tries() { # CRATE TEST..
   tries prefix_tests prefixes::growths::a_refused_growth_leaves_the_flat_map prefixes::growths::a_refused_growth_leaves_the_radix_map \
     prefixes::growths::a_refused_growth_leaves_the_shelf
   tries update_tests updates::paths::a_refused_push_leaves_the_path
+  tries record_tests bodies::dumps::a_refused_growth_spends_the_units
   tries table_tests ribs::sessions::a_session_is_spent_after_a_refused_growth
   tries lane_tests growths::rounds_give_the_tables_or_spend_the_replayer layers::collect_orders_peers_by_number schedules::turns_that_find_nothing_change_nothing
   tries replay_tests growths::a_run_by_each_dealing_writes_its_report_or_wants_memory \

@@ -4,11 +4,12 @@
 usage: tests/history.py PROGRAM [DUMPS]
 
 Each dump is drawn from its seed as a list of units (RIB entries, UPDATEs with attributes 14 and 15, state changes,
-messages of other types, damaged UPDATEs) of a few peers and prefixes, and written as MRT records into one or two files.
-The model takes the drawn units and not the bytes. Options are drawn too: --prefix in its forms, --peer, --peers, --since,
---until, --states, --same. Of the lines of `peers` the place of the first unit isn't compared. What `churn` counts by --prefix and --since is compared with the lines of `history --same`, by peer and
+messages of other types, damaged UPDATEs) of a few peers and prefixes, with index tables and RIB records that are refused
+between them, and written as MRT records into one to three files. The model takes what was drawn and not the bytes. Options
+are drawn too: --prefix in its forms, --peer, --peers, --since, --until, --states, --rib, --same. Of the lines of `peers` the place of the first unit isn't compared. What `churn` counts by --prefix and --since is compared with the lines of `history --same`, by peer and
 by what happened, and with the breaks, idle and damaged units that the model finds. The last line is `N passed, M failed`. Needs Python 3 and nothing else.
 """
+import ipaddress
 import random
 import struct
 import subprocess
@@ -16,13 +17,23 @@ import sys
 import tempfile
 
 MARKER = b"\xff" * 16
-PEERS = [(65001, "192.0.2.1"), (65002, "192.0.2.2"), (4200000003, "192.0.2.3"), (65001, "192.0.2.4")]
+PEERS = [(65001, "192.0.2.1"), (65002, "192.0.2.2"), (4200000003, "192.0.2.3"), (65001, "192.0.2.4"),
+         (65001, "0000:0000:0000:0000:0000:0000:0000:0001"), (65001, "9.0.0.1")]
 PREFIXES = ["0.0.0.0/0", "10.0.0.0/8", "10.0.0.0/9", "10.64.0.0/10", "10.64.7.0/24", "10.128.0.0/9", "192.0.2.0/24",
             "192.0.2.128/25", "192.0.2.129/32", "203.0.113.0/24"]
 
 
 def number(address):
-    return int.from_bytes(bytes(map(int, address.split("."))), "big")
+    return int(ipaddress.ip_address(address))
+
+
+def is_v6(peer):
+    return ":" in peer[1]
+
+
+def in_order(peer):
+    """What peers are sorted by where a RIB dump empties their tables."""
+    return peer[0], is_v6(peer), number(peer[1])
 
 
 def key_of(prefix, identifier):
@@ -88,7 +99,8 @@ def record(draw, micros, subtype, body):
 
 
 def session(peer):
-    return struct.pack(">IIHH", peer[0], 65535, 0, 1) + number(peer[1]).to_bytes(4, "big") + number("192.0.2.254").to_bytes(4, "big")
+    family, size = (2, 16) if is_v6(peer) else (1, 4)
+    return struct.pack(">IIHH", peer[0], 65535, 0, family) + number(peer[1]).to_bytes(size, "big") + number("192.0.2.254").to_bytes(size, "big")
 
 
 def message(kind, body):
@@ -127,36 +139,46 @@ def drawn_state(draw, micros, peer):
     return [("state", peer, micros, old, new)], record(draw, micros, 5, session(peer) + struct.pack(">HH", old, new))
 
 
-def drawn_entries(draw, micros):
-    """A RIB record. Its time has whole seconds."""
+def drawn_entries(draw, micros, is_indexed):
+    """A RIB record: ("read", None, its time) and its entries, or nothing where it is refused, as all are without an index
+    table. Its time has whole seconds."""
     add_path = draw.random() < 0.3
     prefix = key_of(draw.choice(PREFIXES), 0)
-    units, entries = [], []
-    for index in draw.sample(range(len(PEERS)), draw.randrange(1, len(PEERS) + 1)):
+    units, entries = [("read", None, micros)], []
+    for index in draw.sample(range(len(PEERS)), draw.randrange(len(PEERS) + 1)):
         identifier = draw.choice([0, 1, 5]) if add_path else 0
         route = Route(draw)
         attributes = route.attributes()
         units.append(("entry", PEERS[index], micros, (prefix[0], prefix[1], identifier), route))
         entries.append(struct.pack(">HI", index, 900) + (struct.pack(">I", identifier) if add_path else b"")
                        + struct.pack(">H", len(attributes)) + attributes)
+    if draw.random() < 0.1:
+        is_indexed = False
+        entries.append(struct.pack(">HI", len(PEERS), 900) + (struct.pack(">I", 0) if add_path else b"") + struct.pack(">H", 0))
     body = struct.pack(">I", 0) + nlri([prefix], False) + struct.pack(">H", len(entries)) + b"".join(entries)
-    return units, struct.pack(">IHHI", micros // 1_000_000, 13, 8 if add_path else 2, len(body)) + body
+    return units if is_indexed else [], struct.pack(">IHHI", micros // 1_000_000, 13, 8 if add_path else 2, len(body)) + body
 
 
-def index_table():
-    peers = b"".join(b"\x02" + number(address).to_bytes(4, "big") * 2 + struct.pack(">I", asn) for asn, address in PEERS)
-    body = number("192.0.2.254").to_bytes(4, "big") + struct.pack(">HH", 0, len(PEERS)) + peers
+def index_table(is_damaged):
+    peers = b"".join((b"\x03" if is_v6(peer) else b"\x02") + bytes(4) + number(peer[1]).to_bytes(16 if is_v6(peer) else 4, "big")
+                     + struct.pack(">I", peer[0]) for peer in PEERS)
+    body = number("192.0.2.254").to_bytes(4, "big") + struct.pack(">HH", 0, len(PEERS)) + peers + b"\0" * is_damaged
     return struct.pack(">IHHI", 1000, 13, 1, len(body)) + body
 
 
 def drawn_file(draw, count):
-    units, data = [], [index_table()]
-    for _ in range(count):
+    """Its units, with ("index", None, None) where an index table stands, and its bytes."""
+    units, data, is_indexed = [], [], False
+    for number_ in range(count):
+        if draw.random() < (0.9 if number_ == 0 else 0.08):
+            is_indexed = draw.random() < 0.95
+            units += [("index", None, None)] * is_indexed
+            data.append(index_table(not is_indexed))
         micros = draw.randrange(1000, 1060) * 1_000_000 + draw.choice([0, 0, 0, 250_000, 999_999])
         peer = draw.choice(PEERS)
         what = draw.random()
         if what < 0.3:
-            more, written = drawn_entries(draw, micros - micros % 1_000_000)
+            more, written = drawn_entries(draw, micros - micros % 1_000_000, is_indexed)
         elif what < 0.8:
             more, written = drawn_update(draw, micros, peer)
         elif what < 0.95:
@@ -210,11 +232,19 @@ def events_of(unit, table, up, rule):
     return events
 
 
-def history(units, rule):
-    """What happened: time, peer, what, by, key, columns, in the order of the units."""
-    tables, up, rows = {}, {}, []
+def history(units, rule, ribs):
+    """What happened: time, peer, what, by, key, columns, in the order of the units. By --rib replace the first RIB record
+    behind an index table that is read empties all tables."""
+    tables, up, rows, is_first = {}, {}, [], False
     for unit in units:
         kind, peer, micros = unit[:3]
+        if kind in ("index", "read"):
+            if kind == "read" and is_first and ribs == "replace":
+                for peer in sorted(tables, key=in_order):
+                    rows += [(micros, peer, "lost", "rib", key, tables[peer][key]) for key in sorted(tables[peer])]
+                    tables[peer].clear()
+            is_first = kind == "index"
+            continue
         by = {"entry": "rib", "state": "state"}.get(kind, "update")
         table = tables.setdefault(peer, {})
         rows += [(micros, peer, what, by, key, columns) for what, key, columns in events_of(unit, table, up.get(peer, True), rule)]
@@ -231,15 +261,17 @@ def concerns(unit, chosen):
     return any(chosen((None, None, None, None, key)) for key in keys)
 
 
-def churn(units, chosen, takes_peer, since, rule):
+def churn(units, chosen, takes_peer, since, rule, ribs):
     """The lines of `churn`: peers by their first unit that is selected, and what their units did from the second on."""
     def within(micros):
         return since is None or micros // 1_000_000 >= since
 
-    events = [row for row in history(units, rule) if within(row[0]) and (chosen is None or chosen(row))]
+    events = [row for row in history(units, rule, ribs) if within(row[0]) and (chosen is None or chosen(row))]
     up, peers = {}, {}
     for unit in units:
         kind, peer, micros = unit[:3]
+        if peer is None:
+            continue
         was_up = up.get(peer, True)
         if kind == "state":
             up[peer] = is_up_after(rule, unit[4])
@@ -263,17 +295,17 @@ def time_text(micros):
     return f"{micros // 1_000_000}.{micros % 1_000_000:06}"
 
 
-def peers(units, chosen, takes_peer, rule):
+def peers(units, chosen, takes_peer, rule, ribs):
     """The lines of `peers` up to the time of the last unit. By --states established the last break decides, and else the last
     state change."""
     tables, found = {}, {}
-    for micros, peer, what, by, key, columns in history(units, rule):
+    for micros, peer, what, by, key, columns in history(units, rule, ribs):
         if chosen is None or chosen((micros, peer, what, by, key)):
             keys = tables.setdefault(peer, set())
             keys.discard(key) if what in ("gone", "lost", "void") else keys.add(key)
     for unit in units:
         kind, peer, micros = unit[:3]
-        if takes_peer(peer) and concerns(unit, chosen):
+        if peer is not None and takes_peer(peer) and concerns(unit, chosen):
             state, times = found.get(peer, ("up", []))
             if kind == "state" and (rule == "recorded" or is_break(rule, unit[3], unit[4])):
                 state = "up" if unit[4] == 6 else "down"
@@ -316,6 +348,9 @@ class Options:
         self.rule = draw.choice(["recorded", "established"])
         if self.rule == "established" or draw.random() < 0.2:
             self.words += ["--states", self.rule]
+        self.ribs = draw.choice(["add", "replace"])
+        if self.ribs == "replace" or draw.random() < 0.2:
+            self.words += ["--rib", self.ribs]
         since = draw.randrange(1000, 1060)
         if draw.random() < 0.3:
             self.times = ["--since", str(since)]
@@ -356,7 +391,7 @@ def main():
         for seed in range(dumps):
             draw = random.Random(seed)
             units, names = [], []
-            for i in range(draw.randrange(1, 3)):
+            for i in range(draw.randrange(1, 4)):
                 more, data = drawn_file(draw, draw.randrange(1, 60))
                 units += more
                 names.append(f"{folder}/{i}")
@@ -364,11 +399,11 @@ def main():
                     file.write(data)
             for _ in range(4):
                 options = Options(draw)
-                kept = [unit for unit in units if options.until is None or unit[2] // 1_000_000 <= options.until]
-                rule = options.rule
-                listed = "".join(line(row) for row in history(kept, rule) if options.takes(row))
-                counted = churn(kept, options.chosen, options.takes_peer, options.since, rule)
-                shown = peers(kept, options.chosen, options.takes_peer, rule)
+                kept = [unit for unit in units if options.until is None or unit[0] == "index" or unit[2] // 1_000_000 <= options.until]
+                rules = options.rule, options.ribs
+                listed = "".join(line(row) for row in history(kept, *rules) if options.takes(row))
+                counted = churn(kept, options.chosen, options.takes_peer, options.since, *rules)
+                shown = peers(kept, options.chosen, options.takes_peer, *rules)
                 for words, wanted, columns in [(["history", *["--same"] * options.same, *options.times], listed, None),
                                                (["churn", *options.times], counted, None), (["peers"], shown, 6)]:
                     if is_as_wanted(seed, words + options.words, names, wanted, columns):

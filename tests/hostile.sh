@@ -41,7 +41,8 @@ while read -r name count what; do
   good=1
   "$work/gen_hostile" "$name" "$count" > "$work/n"; "$work/gen_hostile" "$name" $((count * 2)) > "$work/2n"
   size=$(stat -c %s "$work/2n")
-  for report in tables churn visibility origins seen peers history faults 'match --address 10.0.0.1'; do
+  for report in tables churn visibility origins seen peers history faults 'match --address 10.0.0.1' 'churn --rib replace' \
+    'history --rib replace'; do
     compared "$report" 1
     [ "$peak" -le $((65536 + per_byte * size / 1024)) ] || fault "$report: $peak kilobytes of memory for a dump of $size bytes"
     row=$(awk "BEGIN { printf \"%8.1f %9.2f %7s\", $size / 1e6, $took, \"$times\" }")

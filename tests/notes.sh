@@ -41,6 +41,7 @@ takes='--states established takes them'
 empty='files without a whole record'
 early='files whose first record is older than that of the file named before'
 dumps='RIB dumps that add up in the tables, where routes of a former one stay'
+anew='--rib replace clears the tables at each'
 twice='RIB records without path identifiers that name a peer twice'
 
 # ---- none
@@ -96,8 +97,12 @@ notes 'not behind a file without a record' 0 "  note: $empty: none" tables ninth
 { index 00000001; rib 00000001 0002 0000 0001; rib 00000001 0002 0000 0001; } > first
 { index 00000002; rib 00000002 0002 0000 0001; } > second
 notes 'one dump' 0 '' tables first
-notes 'two dumps' 0 "  note: $dumps: 2, in first, second" tables first second
-cat first second second > three; notes 'three dumps in a file' 0 "  note: $dumps: 3, in three" tables three
+notes 'two dumps' 0 "  note: $dumps: 2, in first, second; $anew" tables first second
+notes 'two dumps that are added' 0 "  note: $dumps: 2, in first, second; $anew" tables --rib add first second
+cat first second second > three; notes 'three dumps in a file' 0 "  note: $dumps: 3, in three; $anew" tables three
+notes 'dumps that replace what came before' 0 '' tables --rib replace first second second
+notes 'such dumps in one file' 0 '' tables --rib replace three
+notes 'dumps in six files' 0 "  note: $dumps: 6, in first, second, second, second, second and 1 more; $anew" tables first second second second second second
 notes 'not past the last second' 0 '' tables --until 1 first second
 { cat first; index 00000002; } > bare; notes 'an index table alone' 0 '' tables bare
 { cat first; index 00000002; rib6 00000002 0004; } > mixed; notes 'of the other family' 0 '' tables mixed
@@ -112,8 +117,12 @@ notes 'a peer twice' 0 "  note: $twice: 2, in repeated" tables repeated
 notes 'several' 0 "  note: $idle: 8, of 65000 192.0.2.1 (8); $takes
   note: $empty: none
   note: $early: first
-  note: $dumps: 2, in first, repeated
+  note: $dumps: 2, in first, repeated; $anew
   note: $twice: 2, in repeated" tables lost none ninth first repeated
+notes 'several, with dumps that replace what came before' 0 "  note: $idle: 8, of 65000 192.0.2.1 (8); $takes
+  note: $empty: none
+  note: $early: first
+  note: $twice: 2, in repeated" tables --rib replace lost none ninth first repeated
 mkdir folder; run tables folder; grep -q '^  note: ' said && wrong 'a note beside a failure' || right
 run tables whole missing; grep -q '^  note: ' said && wrong 'a note beside a file that is missing' || right
 

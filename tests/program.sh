@@ -107,7 +107,7 @@ for words in nothing 'nothing sample' tables match 'match sample' 'match --addre
   'tables --workers -1 sample' 'tables --workers 4x sample' 'tables --workers' 'tables --ring 0 sample' 'tables --ring 65537 sample' 'tables --ring 18446744073709551616 sample' \
   'tables --until -1 sample' 'tables --until 18446744073709551616 sample' 'tables --until soon sample' 'tables --until' 'tables --frobnicate sample' 'tables -x sample' \
   'tables --until 2024-02-30 sample' 'tables --until 2024-1-1 sample' 'tables --until 2024-01-01T00:00:00 sample' 'tables --prefix' \
-  'tables --prefix 192.0.2.0/24 --prefix 192.0.2.1/24 sample' 'tables --states' 'tables --states up sample' 'churn --states recorded,established sample' \
+  'tables --prefix 192.0.2.0/24 --prefix 192.0.2.1/24 sample' 'tables --states' 'tables --states up sample' 'churn --states recorded,established sample' 'tables --rib' 'tables --rib sample' \
   'tables --address 10.0.0.1 sample' '--workers 2 tables sample' 'match --address 10.1.2 missing --workers 0'; do
   try 2 '?' nothing $words
 done
@@ -357,6 +357,163 @@ tells 'churn --since 2010' "$one|1|0|2|0|0|1|0|0|2010.000000|2030.000000" "$two|
 tells 'churn --since 2002 --until 2010 --prefix 198.51.100.0/24' "$one|0|1|1|0|0|0|0|0|2002.000000|2010.000000" \
   "$two|0|1|0|0|0|0|0|0|2010.000000|2010.000000" "$three|2|0|0|1|1|0|0|0|2002.000000|2003.000000"
 
+# --rib: dumps one behind the other, of an index of four peers, which aren't in the order in which their tables are
+# cleared: d, c, b and a. The first dump has 10.0.0.0/8 at all and 192.0.2.0/24 at b and a; then e, which is in no index,
+# announces 203.0.113.0/24, and a 10.0.0.0/9. In the second dump b has another path to 10.0.0.0/8, and a no 192.0.2.0/24.
+a='65001 9.0.0.1' b='65001 192.0.2.1' c='65001 0000:0000:0000:0000:0000:0000:0000:0001' d='4200000003 192.0.2.4' e='65003 192.0.2.5'
+written() { # SECOND TYPE SUBTYPE BODY
+  local body=${4//[[:space:]]/}; printf "$(printf '%08x%04x%04x%08x%s' "$1" "$2" "$3" $((${#body} / 2)) "$body" | sed 's/../\\x&/g')"
+}
+indexed() { # SECOND: the index table
+  written "$1" 13 1 'c0000263 0000 0004 02 c0000204 c0000204 fa56ea03 03 c0000203 00000000000000000000000000000001 0000fde9
+    02 c0000202 c0000201 0000fde9 02 c0000201 09000001 0000fde9'
+}
+path() { printf '400101004002060201%08x400304c0000201' "$1"; } # AS
+dumped() { # SECOND PREFIX PEER:AS..: a RIB record; with path identifiers where they stand behind the AS, as PEER:AS:ID
+  local second=$1 prefix=$2 subtype=2 body= entry peer asn id; shift 2
+  for entry; do
+    IFS=: read -r peer asn id <<< "$entry"; body+=$(printf '%04x00000000' "$peer")
+    if [ -n "$id" ]; then subtype=8; body+=$(printf '%08x' "$id"); fi
+    body+=0014$(path "$asn")
+  done
+  written "$second" 13 $subtype "00000000 $prefix $(printf %04x $#) $body"
+}
+session_of() { # PEER
+  case $1 in
+    a) echo 0000fde90000fa010000000109000001c00002fe;; b) echo 0000fde90000fa0100000001c0000201c00002fe;;
+    c) printf '0000fde90000fa0100000002%032x%032x' 1 2;; e) echo 0000fdeb0000fa0100000001c0000205c00002fe;;
+  esac
+}
+announced() { # SECOND PEER PREFIX AS: an UPDATE
+  local text="0200000014$(path "$4")$3"
+  written "$1" 16 4 "$(session_of "$2")ffffffffffffffffffffffffffffffff$(printf %04x $((18 + ${#text} / 2)))$text"
+}
+moved() { written "$1" 16 5 "$(session_of "$2")$(printf '%04x%04x' "$3" "$4")"; } # SECOND PEER OLD NEW: a state change
+eight=080a nine=090a00 doc=18c00002 test_net=18cb0071
+{ indexed 1000; dumped 1000 $eight 0:64500 1:64501 2:64502 3:64503; dumped 1000 $doc 2:64512 3:64513; announced 1010 e $test_net 64520; announced 1020 a $nine 64530; } > dump1
+{ indexed 2000; dumped 2001 $eight 0:64500 1:64501 2:64599 3:64503; dumped 2002 $doc 2:64512; } > dump2
+cat dump1 dump2 > dumps
+route() { echo "$1|$2|$3|192.0.2.1|IGP|-|-|-|-"; } # PEER PREFIX AS
+at() { echo "$1.000000|$2|$3|$4|$5|$6|192.0.2.1|IGP|-|-|-|-"; } # SECOND PEER WHAT BY PREFIX AS
+# What --rib replace gives, by one worker and by three; with BAD damaged records.
+clears() { # FILES WORDS LINE..
+  local files=$1 words=$2 workers status=0 line=; shift 2
+  [ -z "${BAD:-}" ] || { status=1; line="damaged: $BAD"; }
+  if [ $# = 0 ]; then : > wanted; else printf '%s\n' "$@" > wanted; fi
+  for workers in 1 3; do try $status "$line" wanted $words --rib replace --workers $workers $files; done
+}
+first_dump=("$(at 1000 "$d" new rib 10.0.0.0/8 64500)" "$(at 1000 "$c" new rib 10.0.0.0/8 64501)" "$(at 1000 "$b" new rib 10.0.0.0/8 64502)" "$(at 1000 "$a" new rib 10.0.0.0/8 64503)"
+  "$(at 1000 "$b" new rib 192.0.2.0/24 64512)" "$(at 1000 "$a" new rib 192.0.2.0/24 64513)" "$(at 1010 "$e" new update 203.0.113.0/24 64520)" "$(at 1020 "$a" new update 10.0.0.0/9 64530)")
+all_lost() { # SECOND: what a dump takes at this second from the tables that dump1 leaves
+  at "$1" "$a" lost rib 10.0.0.0/8 64503; at "$1" "$a" lost rib 10.0.0.0/9 64530; at "$1" "$a" lost rib 192.0.2.0/24 64513
+  at "$1" "$b" lost rib 10.0.0.0/8 64502; at "$1" "$b" lost rib 192.0.2.0/24 64512; at "$1" "$c" lost rib 10.0.0.0/8 64501
+  at "$1" "$e" lost rib 203.0.113.0/24 64520; at "$1" "$d" lost rib 10.0.0.0/8 64500
+}
+second_dump=("$(at 2001 "$d" new rib 10.0.0.0/8 64500)" "$(at 2001 "$c" new rib 10.0.0.0/8 64501)" "$(at 2001 "$b" new rib 10.0.0.0/8 64599)" "$(at 2001 "$a" new rib 10.0.0.0/8 64503)" "$(at 2002 "$b" new rib 192.0.2.0/24 64512)")
+mapfile -t lost < <(all_lost 2001)
+of_dump1=("$(route "$d" 10.0.0.0/8 64500)" "$(route "$c" 10.0.0.0/8 64501)" "$(route "$b" 10.0.0.0/8 64502)" "$(route "$b" 192.0.2.0/24 64512)"
+  "$(route "$a" 10.0.0.0/8 64503)" "$(route "$a" 10.0.0.0/9 64530)" "$(route "$a" 192.0.2.0/24 64513)" "$(route "$e" 203.0.113.0/24 64520)")
+of_dump2=("$(route "$d" 10.0.0.0/8 64500)" "$(route "$c" 10.0.0.0/8 64501)" "$(route "$b" 10.0.0.0/8 64599)" "$(route "$b" 192.0.2.0/24 64512)" "$(route "$a" 10.0.0.0/8 64503)")
+# one file and two, without and with the option
+added=("${of_dump1[@]}"); added[2]=${of_dump2[2]}; printf '%s\n' "${added[@]}" > added
+for files in dumps 'dump1 dump2'; do
+  for words in '' '--rib add' '--rib replace --rib add' '--rib=add --workers 1'; do try 0 '' added tables $words $files; done
+  clears "$files" tables "${of_dump2[@]}"
+  clears "$files" history "${first_dump[@]}" "${lost[@]}" "${second_dump[@]}"
+  clears "$files" churn "$d|2|0|0|0|0|0|0|0|1000.000000|2001.000000" "$c|2|0|0|0|0|0|0|0|1000.000000|2001.000000" "$b|4|0|0|0|0|0|0|0|1000.000000|2002.000000" \
+    "$a|4|0|0|0|0|0|0|0|1000.000000|2001.000000" "$e|1|0|0|0|0|0|0|0|1010.000000|1010.000000"
+  clears "$files" peers "$d|up|1|2|1000.000000|2001.000000|1|84|1" "$c|up|1|2|1000.000000|2001.000000|1|84|2" "$b|up|2|4|1000.000000|2002.000000|1|84|3" \
+    "$a|up|1|4|1000.000000|2001.000000|1|84|4" "$e|up|0|1|1010.000000|1010.000000|1|294|-"
+  clears "$files" visibility '10.0.0.0/8|4' '192.0.2.0/24|1'
+  clears "$files" seen '10.0.0.0/8|64500|1' '10.0.0.0/8|64501|1' '10.0.0.0/8|64503|1' '10.0.0.0/8|64599|1' '192.0.2.0/24|64512|1'
+  clears "$files" 'match --address 192.0.2.7' "${of_dump2[3]}"
+  clears "$files" faults
+done
+printf '%s\n' "$d|1|0|1|0|0|0|0|0|1000.000000|2001.000000" "$c|1|0|1|0|0|0|0|0|1000.000000|2001.000000" "$b|2|1|1|0|0|0|0|0|1000.000000|2002.000000" \
+  "$a|3|0|1|0|0|0|0|0|1000.000000|2001.000000" "$e|1|0|0|0|0|0|0|0|1010.000000|1010.000000" > wanted
+for words in '' '--rib add'; do try 0 '' wanted churn $words dumps; done
+for report in tables visibility origins seen churn peers faults history 'history --same' 'churn --since 2001' 'match --address 192.0.2.7' 'tables --prefix 203.0.113.0/24'; do
+  ./bgp_replay $report dumps > default 2> said; try 0 '' default $report --rib add dumps
+done
+# the same dump twice: nothing has gone
+{ head -c 294 dump1; head -c 294 dump1; } > same_dump
+clears same_dump tables "${of_dump1[@]:0:5}" "${of_dump1[6]}"
+clears same_dump churn "$d|2|0|0|0|0|0|0|0|1000.000000|1000.000000" "$c|2|0|0|0|0|0|0|0|1000.000000|1000.000000" "$b|4|0|0|0|0|0|0|0|1000.000000|1000.000000" "$a|4|0|0|0|0|0|0|0|1000.000000|1000.000000"
+# a prefix of which the second dump has no record, peers and shares, seconds
+clears dumps 'tables --prefix 203.0.113.0/24'
+clears dumps 'history --prefix 203.0.113.0/24' "${first_dump[6]}" "${lost[6]}"
+clears dumps 'churn --prefix 203.0.113.0/24' "$e|1|0|0|0|0|0|0|0|1010.000000|1010.000000"
+clears dumps 'peers --prefix 203.0.113.0/24' "$e|up|0|1|1010.000000|1010.000000|1|294|-"
+clears dumps 'tables --prefix 10.0.0.0/8+' "${of_dump2[@]:0:3}" "${of_dump2[4]}"
+clears dumps 'history --prefix 192.0.2.0/24' "${first_dump[@]:4:2}" "${lost[2]}" "${lost[4]}" "${second_dump[4]}"
+clears dumps 'churn --prefix 192.0.2.0/24' "$b|2|0|0|0|0|0|0|0|1000.000000|2002.000000" "$a|1|0|0|0|0|0|0|0|1000.000000|1000.000000"
+clears dumps 'history --peer 65003' "${first_dump[6]}" "${lost[6]}"
+clears dumps 'tables --peer 65003'
+clears dumps 'peers --peer 65003 --peer 4200000003' "$d|up|1|2|1000.000000|2001.000000|1|84|1" "$e|up|0|1|1010.000000|1010.000000|1|294|-"
+clears dumps 'history --since 2001' "${lost[@]}" "${second_dump[@]}"
+clears dumps 'history --since 2002' "${second_dump[4]}"
+clears dumps 'history --until 2001' "${first_dump[@]}" "${lost[@]}" "${second_dump[@]:0:4}"
+clears dumps 'churn --since 2001' "$d|1|0|0|0|0|0|0|0|2001.000000|2001.000000" "$c|1|0|0|0|0|0|0|0|2001.000000|2001.000000" "$b|2|0|0|0|0|0|0|0|2001.000000|2002.000000" \
+  "$a|1|0|0|0|0|0|0|0|2001.000000|2001.000000" "$e|0|0|0|0|0|0|0|0|-|-"
+clears dumps 'tables --until 2001' "${of_dump2[@]:0:3}" "${of_dump2[4]}"
+# past the last second nothing begins, and a later record of the dump that isn't past it does
+clears dumps 'tables --until 2000' "${of_dump1[@]}"
+clears dumps 'history --until 2000' "${first_dump[@]}"
+{ indexed 2400; dumped 3000 $eight 3:64503; dumped 2500 $doc 2:64512; dumped 2600 $eight 2:64502; } > late
+mapfile -t lost_late < <(all_lost 2500)
+clears 'dump1 late' 'tables --until 2999' "${of_dump1[@]:2:2}"
+clears 'dump1 late' 'history --until 2999' "${first_dump[@]}" "${lost_late[@]}" "$(at 2500 "$b" new rib 192.0.2.0/24 64512)" "$(at 2600 "$b" new rib 10.0.0.0/8 64502)"
+# index tables alone begin nothing, and neither do records of IPv6 routes; the last table counts
+{ indexed 2000; indexed 2001; written 2002 13 4 '00000000 20 20010db8 0000'; } > bare
+clears 'dump1 bare' tables "${of_dump1[@]}"
+clears 'dump1 bare' history "${first_dump[@]}"
+{ cat bare; dumped 2003 $eight 3:64503; dumped 2004 $nine 3:64530; indexed 2005; } > tables_first
+mapfile -t lost_then < <(all_lost 2003)
+clears 'dump1 tables_first' tables "${of_dump1[@]:4:2}"
+clears 'dump1 tables_first' history "${first_dump[@]}" "${lost_then[@]}" "$(at 2003 "$a" new rib 10.0.0.0/8 64503)" "$(at 2004 "$a" new rib 10.0.0.0/9 64530)"
+# three dumps in a file: the third one clears what was heard since the second
+{ cat dump1; indexed 2000; dumped 2001 $eight 3:64503; indexed 2002; dumped 2003 $doc 3:64513; } > three_dumps
+clears three_dumps tables "${of_dump1[6]}"
+clears three_dumps 'history --since 2001' "${lost[@]}" "$(at 2001 "$a" new rib 10.0.0.0/8 64503)" "$(at 2003 "$a" lost rib 10.0.0.0/8 64503)" "$(at 2003 "$a" new rib 192.0.2.0/24 64513)"
+# messages between the index table and its first record, and before the first dump, are cleared as well
+{ announced 900 a $nine 64530; indexed 1000; announced 1001 c $test_net 64520; dumped 1002 $eight 2:64502; announced 1003 a $nine 64531; } > between
+clears between tables "$(route "$a" 10.0.0.0/9 64531)" "$(route "$b" 10.0.0.0/8 64502)"
+clears between history "$(at 900 "$a" new update 10.0.0.0/9 64530)" "$(at 1001 "$c" new update 203.0.113.0/24 64520)" "$(at 1002 "$a" lost rib 10.0.0.0/9 64530)" \
+  "$(at 1002 "$c" lost rib 203.0.113.0/24 64520)" "$(at 1002 "$b" new rib 10.0.0.0/8 64502)" "$(at 1003 "$a" new update 10.0.0.0/9 64531)"
+# path identifiers, a record without an entry, one with a damaged entry
+{ indexed 2000; dumped 2001 $eight 3:64503:7 3:64504:9; } > paths
+clears 'dump1 paths' tables "$(route "$a" 10.0.0.0/8#7 64503)" "$(route "$a" 10.0.0.0/8#9 64504)"
+clears 'dump1 paths paths' 'history --since 2001' "${lost[@]}" "$(at 2001 "$a" new rib 10.0.0.0/8#7 64503)" "$(at 2001 "$a" new rib 10.0.0.0/8#9 64504)" \
+  "$(at 2001 "$a" lost rib 10.0.0.0/8#7 64503)" "$(at 2001 "$a" lost rib 10.0.0.0/8#9 64504)" "$(at 2001 "$a" new rib 10.0.0.0/8#7 64503)" "$(at 2001 "$a" new rib 10.0.0.0/8#9 64504)"
+{ indexed 2000; dumped 2001 $eight; } > no_entry
+clears 'dump1 no_entry' tables
+clears 'dump1 no_entry' 'history --since 1021' "${lost[@]}"
+{ indexed 2000; written 2001 13 2 "00000000 $eight 0001 0003 00000000 0004 40010103"; } > bad_entry
+BAD=1 clears 'dump1 bad_entry' 'history --since 1021' "${lost[@]}"
+BAD=1 clears 'dump1 bad_entry' 'churn --peer 65001,9.0.0.1' "$a|3|0|0|0|0|0|0|1|1000.000000|2001.000000"
+# a refused record begins nothing, and the next one does; no index table in force; a damaged one
+{ indexed 2000; dumped 2000 $eight 9:64500; } > refused_first; { cat refused_first; dumped 2001 $eight 3:64503; } > refused_then
+BAD=1 clears 'dump1 refused_first' tables "${of_dump1[@]}"
+BAD=1 clears 'dump1 refused_then' tables "${of_dump1[4]}"
+BAD=1 clears 'dump1 refused_then' 'history --since 1021' "${lost[@]}" "$(at 2001 "$a" new rib 10.0.0.0/8 64503)"
+dumped 2001 $eight 3:64503 > no_index; { written 2000 13 1 'c0000263 0000 0001'; dumped 2001 $eight 3:64503; } > bad_index
+BAD=1 clears 'dump1 no_index' tables "${of_dump1[@]}"
+BAD=2 clears 'dump1 bad_index' tables "${of_dump1[@]}"
+BAD=2 clears 'bad_index dumps' tables "${of_dump2[@]}"
+# who is up stays so: b, whose session ended, takes no entry, and by the other rule it takes them
+{ cat dump1; moved 1030 b 6 1; cat dump2; } > down
+clears down tables "${of_dump2[@]:0:2}" "${of_dump2[4]}"
+clears down 'churn --peer 65001,192.0.2.1' "$b|2|0|0|0|0|1|2|0|1000.000000|2002.000000"
+clears down 'peers --peer 65001,192.0.2.1' "$b|down|0|5|1000.000000|2002.000000|1|84|3"
+clears down 'history --peer 65001,192.0.2.1' "${first_dump[2]}" "${first_dump[4]}" "$(at 1030 "$b" lost state 10.0.0.0/8 64502)" "$(at 1030 "$b" lost state 192.0.2.0/24 64512)"
+clears down 'peers --peer 65001,192.0.2.1 --states established' "$b|down|2|5|1000.000000|2002.000000|1|84|3"
+clears down 'churn --peer 65001,192.0.2.1 --states established' "$b|4|0|0|0|0|1|0|0|1000.000000|2002.000000"
+{ cat down; moved 2010 b 1 6; announced 2011 b $nine 64531; indexed 2020; dumped 2021 $eight 2:64502; } > up_again
+clears up_again tables "${of_dump1[2]}"
+clears up_again 'churn --peer 65001,192.0.2.1' "$b|4|0|0|0|0|2|2|0|1000.000000|2021.000000"
+clears up_again 'history --peer 65001,192.0.2.1 --since 1031' "$(at 2011 "$b" new update 10.0.0.0/9 64531)" "$(at 2021 "$b" lost rib 10.0.0.0/9 64531)" "$(at 2021 "$b" new rib 10.0.0.0/8 64502)"
+for text in other '' Replace 'add,replace' 'replace '; do try 2 "error: invalid value '$text' for '--rib <RULE>': neither add nor replace" nothing tables --rib "$text" dumps; done
+
 # --prefixes: lines that are passed over, blanks at the ends of others, and files that add up
 printf '# both\r\n\n198.51.100.0/24 \t\r\n  \n203.0.113.128/25-' > one.txt; printf '198.51.100.0/25\n' > two.txt; printf '#\n' > none.txt
 lists 'tables --prefixes one.txt --until 1009' "$one_24" "$one_203" "$two_24"
@@ -466,6 +623,10 @@ holds '--summary: kinds by their names' "$(grep '^file 1 aside .*:' said)" "$(pr
 holds '--summary: the replay is the same' "$(cksum < out)" "$(./bgp_replay churn several | cksum)"
 for i in {1..70}; do record '\040' "\\0$(printf %o $i)" '\0' 0; done > kinds; summary churn kinds
 holds '--summary: 64 kinds at most' "$(value 'file 1 aside') $(grep -c '^file 1 aside ISIS [0-9]*: 1$' said) $(value 'file 1 aside others')" '70 64 6'
+summary tables dumps; holds '--summary: units of two dumps' "$(values units 'file 1 units')" '13 13 '
+summary tables --rib replace dumps; holds '--summary: units, one more for each table that is cleared' "$(values units 'file 1 units')" '18 18 '
+summary tables --rib replace dump1 dump2; holds '--summary: what is cleared is of the file that does it' "$(values units 'file 1 units' 'file 2 units')" '18 8 10 '
+summary tables --rib replace three_dumps; holds '--summary: tables are cleared that had a unit since the last dump' "$(values units)" '16 '
 summary churn sample stump 'cut' - < /dev/null
 holds '--summary of four files' "$(value 'file [1-4]' | tr '\n' ' ')$(value files) $(value damaged) $(value 'file 2 unread') $(value 'file 4 first')" 'sample stump cut standard input 4 2 5 -'
 holds '--summary: first the damage' "$(head -n 1 said)" 'damaged: 2'

@@ -4,7 +4,7 @@
 #   tests/same_bytes.sh PROGRAM
 # The dumps are examples/sample.mrt, the front of a generated RIB dump and of generated updates, and of each file in the directory that the
 # variable SAMPLES names, where it is set. A front is cut at FRONT bytes (20000), where its last record is damaged mostly. All dumps
-# together, as files of one run, are one more. Needs cc. The last line is `N passed, M failed`, counted in runs.
+# together, as files of one run, are one more, and so are they with --rib replace and a RIB dump behind them. Needs cc. The last line is `N passed, M failed`, counted in runs.
 set -u
 program=$(realpath "$1"); here=$(dirname "$(realpath "$0")"); work=$(mktemp -d); trap 'rm -rf "$work"' EXIT
 front=${FRONT:-20000}
@@ -19,11 +19,11 @@ cd "$work/dumps" && ln -s "$program" "$work/program" || exit 2
 tries() { # DUMP..: a line for each number of workers, so that they run side by side
   for workers in 1 2 3 4 8 64; do echo "-w $workers -r 1,2,1024,65536 ../program $*"; done
 }
-{ for dump in *; do tries "$dump"; done; tries *; } | xargs -P "$(nproc)" -L 1 ../same > "$work/lines"
+{ for dump in *; do tries "$dump"; done; tries *; tries * sample.mrt --rib replace; } | xargs -P "$(nproc)" -L 1 ../same > "$work/lines"
 grep -v '^tried ' "$work/lines"
 sums=$(awk '$1 == "tried" { runs += $2; failed += $3; lines++ } END { print runs + 0, failed + 0, lines + 0 }' "$work/lines")
 read -r runs failed lines <<< "$sums"
-wanted=$((6 * ($(ls | wc -l) + 1)))
+wanted=$((6 * ($(ls | wc -l) + 2)))
 [ "$lines" = "$wanted" ] || { echo "$((wanted - lines)) of $wanted tries didn't end"; failed=$((failed + wanted - lines)); }
 echo "$((runs - failed)) passed, $failed failed"
 [ "$failed" = 0 ] && [ "$runs" -gt 0 ]

@@ -5,7 +5,7 @@
 # of the whole report, and so are those of `tables`, `churn` and `match` where they follow it.
 #   tests/shares.sh PROGRAM
 # The dumps are those of examples/, both as one run, the front of a generated RIB dump and of generated updates, and each file in the directory that
-# the variable SAMPLES names, where it is set. A front is cut at FRONT bytes (200000), where its last record is damaged mostly. Needs awk and cc. The
+# the variable SAMPLES names, where it is set; and RIB dumps with updates between them, with --rib replace. A front is cut at FRONT bytes (200000), where its last record is damaged mostly. Needs awk and cc. The
 # last line is `N passed, M failed`.
 set -u
 program=$(realpath "$1"); here=$(dirname "$(realpath "$0")"); work=$(mktemp -d); trap 'rm -rf "$work"' EXIT
@@ -38,7 +38,8 @@ by_place() { sort -t'|' -k7,7n -k8,8n -k9,9n "$@"; }
 by_peers() { awk -F'|' 'NR == FNR { order[++peers] = $1; next } { lines[$1] = lines[$1] $0 "\n" } END { for (i = 1; i <= peers; i++) printf "%s", lines[order[i]] }' "$@"; }
 nothing_twice() { [ -z "$(for part in "$@"; do cut -d'|' -f1 "$part" | sort -u; done | sort | uniq -d)" ]; }
 
-for dump in dumps/* 'dumps/sample.mrt dumps/updates.mrt'; do
+for dump in dumps/* 'dumps/sample.mrt dumps/updates.mrt' '--rib replace dumps/sample.mrt dumps/updates.mrt dumps/sample.mrt' \
+  '--rib replace dumps/generated-rib.mrt dumps/generated-updates.mrt dumps/generated-rib.mrt dumps/sample.mrt'; do
   address=$(report tables $dump | head -n 1 | cut -d'|' -f2 | cut -d/ -f1); address=${address:-192.0.2.1}
   for words in tables churn peers "match --address $address" visibility seen origins faults; do report $words $dump > "whole-${words%% *}"; done
   for count in 1 2 3 7; do

@@ -120,6 +120,15 @@ def test_shares_on_machines(report, drawn, machines):
     check(report, drawn, client=machines, shares=2)
 
 
+def test_rib_dumps_in_shares(drawn):
+    """A dump that replaces what came before it does so in each share."""
+    files = drawn["rrc01"] * 2
+    for report in ("churn", "visibility", "tables"):
+        frame = Collectors({"one": files}, shares=3, rib="replace").report(report)
+        assert lines(frame, files) == text_of(report, files, "--rib=replace")
+    assert text_of("churn", files, "--rib=replace") != text_of("churn", files)
+
+
 def test_options_of_shares(drawn):
     """Those of a report that `peers` doesn't have are left out where its places are asked for."""
     files, prefix = drawn["rrc00"], "174.0.0.0/8+"

@@ -63,6 +63,17 @@ def test_state_changes_by_either_rule(sample):
         assert found[found["peer_asn"] == 65107][["new", "resets", "idle"]].values.tolist() == [counts]
 
 
+def test_rib_dumps_by_either_rule(sample):
+    """The RIB dump doesn't have 203.0.113.0/24, which 65003 announces behind it."""
+    files, prefix = [*sample, sample[0]], "203.0.113.0/24"
+    for rib, peers in (None, [1]), ("add", [1]), ("replace", []):
+        assert frame_of("visibility", files, prefixes=prefix, rib=rib)["peers"].tolist() == peers
+    found = frame_of("history", files, prefixes=prefix, rib="replace")
+    assert found[["what", "by"]].values.tolist() == [["new", "update"], ["lost", "rib"]]
+    with pytest.raises(bgp_replay.UsageError, match="neither add nor replace"):
+        frame_of("tables", files, rib="other")
+
+
 def test_a_long_list_of_prefixes(sample):
     """131,072 prefixes are more than a command line takes."""
     prefixes = [f"17.{second}.{third}.0/24" for second in range(256) for third in range(256)] * 2

@@ -115,7 +115,8 @@ four_changes : session_of (state_change 5 6 ∷ state_change 6 6 ∷ state_chang
 unfolding items_after attribute_at attributes_in value_fault route_from route_in path_in segment_at segment_field_at written_key_at keys_in route_keys_in key_at reach_in reach_at unreach_in next_hop_of reached_keys unreached_keys fields_in said_update update_in message_in message_event_in event_in unit_steps steps_of route_eq outcomes_of churn_of arrivals_of damaged_of table_of session_of
 four_changes = refl
 
--- FRR's end of a connection that lost a collision, behind the Established of the one that stays; by Established it is no break
+-- FRR's end of a connection that lost a collision, behind the Established of the one that stays; by Established it is
+-- no break
 lost_collision : session_of (by_established 5 6 ∷ announcement ∷ by_established 3 8 ∷ announcement ∷ []) ≡ record { up = true; established = true; table = (ten, plain_route) ∷ []; churn = churn_with (1 ∷ 0 ∷ 1 ∷ 0 ∷ 0 ∷ 1 ∷ 0 ∷ 0 ∷ []) 2 1; arrivals = so_many 4; faults = []; spent = false }
 unfolding items_after attribute_at attributes_in value_fault route_from route_in path_in segment_at segment_field_at written_key_at keys_in route_keys_in key_at reach_in reach_at unreach_in next_hop_of reached_keys unreached_keys fields_in said_update update_in message_in message_event_in event_in unit_steps steps_of route_eq outcomes_of churn_of arrivals_of damaged_of table_of session_of
 lost_collision = refl

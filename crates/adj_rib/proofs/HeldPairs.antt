@@ -7,7 +7,7 @@ use Rattle.bgp_prefix.specs.Keys.{key_eq}
 use Rattle.bgp_prefix.specs.declared.key.RouteKey.{RouteKey}
 use Rattle.bgp_prefix.proofs.KeySearches.{same_key, key_itself}
 use Rattle.bgp_update.specs.declared.route.Route.{Route}
-use Rattle.adj_rib.specs.Steps.{Step, break, announce, withdraw}
+use Rattle.adj_rib.specs.Steps.{Step, break, clear, announce, withdraw}
 use Rattle.adj_rib.specs.Tables.{said_of, IsSilent, Holds, route_at}
 use Rattle.adj_rib.proofs.TableLaws.{last_or-append}
 
@@ -25,6 +25,7 @@ module _ (p : RouteKey) (route : Route) where
 
   says : (s : Step) → said_of p s ≡ Some (Some route) → s ≡ announce p route
   says break e = absurd cc
+  says clear e = absurd cc
   says (withdraw q) e = absurd (says_nothing (key_eq p q) e)
   says (announce q r) e = says_of_announce q r (key_eq p q) refl e
 

@@ -22,14 +22,14 @@ use Rattle.mrt_body.specs.declared.meaning.Event.{Event}
 use Rattle.mrt_body.specs.declared.meaning.Event.TheVariants as event
 use Rattle.mrt_body.specs.declared.state_rule.StateRule.{StateRule}
 use Rattle.mrt_body.specs.declared.unit.Payload.{Payload}
-use Rattle.mrt_body.specs.declared.unit.Payload.TheVariants.{State, Message, Entry}
+use Rattle.mrt_body.specs.declared.unit.Payload.TheVariants.{State, Message, Entry, Clear}
 use Rattle.mrt_body.specs.declared.unit.Unit.{Unit as ReplayUnit}
 use Rattle.mrt_body.specs.States.{up_by, established_by}
 use Rattle.mrt_body.specs.Events.{event_in}
 use Rattle.mrt_body.specs.Choices.{is_open, is_chosen}
 use Rattle.mrt_body.specs.Selections.{has_chosen, speaks_of, concerns}
 use Rattle.adj_rib.specs.declared.outcome.Outcome.{Outcome}
-use Rattle.adj_rib.specs.Steps.{Step, break, announce, withdraw, state_says, last_said, is_up, is_established, withdrawals, announcements, reachings, update_steps, reading_steps, unit_steps, steps_of}
+use Rattle.adj_rib.specs.Steps.{Step, break, clear, announce, withdraw, state_says, last_said, is_up, is_established, withdrawals, announcements, reachings, update_steps, reading_steps, unit_steps, steps_of}
 use Rattle.adj_rib.specs.Tables.{said_of, route_at, table_of}
 use Rattle.adj_rib.specs.Churns.{announced_over, outcome_of, outcomes_of}
 use Rattle.adj_rib.specs.Selecting.{keeps, selected_steps, selected_entries, selected_outcomes, chooses, concerned}
@@ -56,6 +56,7 @@ module _ (selects : RouteKey → Bool) where
   same_said : (k : RouteKey) → selects k ≡ true → (steps : List Step) → filter_map (said_of k) (selected_steps selects steps) ≡ filter_map (said_of k) steps
   same_said k taken [] = refl
   same_said k taken (break ∷ steps) = ap (λ (l : List (Option Route)). None ∷ l) (same_said k taken steps)
+  same_said k taken (clear ∷ steps) = ap (λ (l : List (Option Route)). None ∷ l) (same_said k taken steps)
   same_said k taken (announce q r ∷ steps) =
       elim (selects q) as (λ b. selects q ≡ b → filter_map (said_of k) (cond b (announce q r ∷ selected_steps selects steps) (selected_steps selects steps)) ≡ filter_map (said_of k) (announce q r ∷ steps)) [
         | true ↦ λ _. ap (cons_option (said_of k (announce q r))) (same_said k taken steps)
@@ -71,6 +72,7 @@ module _ (selects : RouteKey → Bool) where
   nothing_said : (k : RouteKey) → selects k ≡ false → (steps : List Step) (o : Option (Option Route)) → unwrap_or o None ≡ None → unwrap_or (last_or o (filter_map (said_of k) (selected_steps selects steps))) None ≡ None
   nothing_said k left [] o h = h
   nothing_said k left (break ∷ steps) o h = nothing_said k left steps (Some None) refl
+  nothing_said k left (clear ∷ steps) o h = nothing_said k left steps (Some None) refl
   nothing_said k left (announce q r ∷ steps) o h =
       elim (selects q) as (λ b. selects q ≡ b → unwrap_or (last_or o (filter_map (said_of k) (cond b (announce q r ∷ selected_steps selects steps) (selected_steps selects steps)))) None ≡ None) [
         | true ↦ λ taken. ap (λ b. unwrap_or (last_or o (cons_option (cond b (Some (Some r)) None) (filter_map (said_of k) (selected_steps selects steps)))) None) (apart_back k q left taken) ∙ nothing_said k left steps o h
@@ -109,6 +111,7 @@ module _ (selects : RouteKey → Bool) where
 
   same_outcome : (before : List Step) (step : Step) → keeps selects step ≡ true → outcome_of (selected_steps selects before) step ≡ outcome_of before step
   same_outcome before break taken = refl
+  same_outcome before clear taken = refl
   same_outcome before (announce k route) taken = ap (λ o. announced_over o route) (route_at-selected before k taken)
   same_outcome before (withdraw k) taken = rw (route_at-selected before k taken) refl
 
@@ -147,6 +150,7 @@ module _ (choices : List PrefixChoice) where
     quiet_state (State from to rule) h = absurd cc
     quiet_state (Message bytes width add_path) h = refl
     quiet_state (Entry key attrs) h = refl
+    quiet_state Clear h = absurd cc
 
     abbrev said_in : List ReplayUnit → List Bool
     said_in units = filter_map (λ u. state_says says u.payload) units
@@ -203,6 +207,7 @@ module _ (choices : List PrefixChoice) where
   quiet_reading up (Ok (event.State old new rule)) h = absurd cc
   quiet_reading up (Ok (event.Rib key route)) h = absurd cc
   quiet_reading up (Ok event.Other) h = refl
+  quiet_reading up (Ok event.Clear) h = absurd cc
   quiet_reading up (Err fault) h = absurd cc
 
   quiet_entry : (up : Bool) (key : RouteKey) (r : Result Route Fault) → is_chosen choices key.prefix ≡ false → kept_steps (reading_steps up (r >>= λ route. Ok (event.Rib key route))) ≡ []
@@ -215,6 +220,7 @@ module _ (choices : List PrefixChoice) where
   quiet_payload up (State from to rule) h = absurd cc
   quiet_payload up (Message bytes width add_path) h = quiet_reading up (event_in (Message bytes width add_path)) (or_parts (is_open choices) (speaks_of choices (event_in (Message bytes width add_path))) h).1
   quiet_payload up (Entry key attrs) h = quiet_entry up key (route_in Four attrs) h
+  quiet_payload up Clear h = absurd cc
 
   pub quiet_unit : (up : Bool) (u : ReplayUnit) → concerns choices u.payload ≡ false → kept_steps (unit_steps up u) ≡ []
   unfolding unit_steps

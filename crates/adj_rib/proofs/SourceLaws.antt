@@ -14,18 +14,18 @@ use Rattle.bgp_update.specs.declared.route.Route.{Route}
 use Rattle.bgp_update.specs.declared.route.Update.{Update}
 use Rattle.bgp_update.specs.Hops.{by_hop}
 use Rattle.mrt_body.specs.declared.unit.Payload.{Payload}
-use Rattle.mrt_body.specs.declared.unit.Payload.TheVariants.{State, Message, Entry}
+use Rattle.mrt_body.specs.declared.unit.Payload.TheVariants.{State, Message, Entry, Clear}
 use Rattle.mrt_body.specs.declared.unit.Unit.{Unit as ReplayUnit}
 use Rattle.mrt_body.specs.declared.meaning.Event.{Event}
 use Rattle.mrt_body.specs.declared.meaning.Event.TheVariants as event
 use Rattle.mrt_body.specs.Events.{event_in}
 use Rattle.mrt_body.specs.States.{breaks}
-use Rattle.adj_rib.specs.Steps.{Step, break, announce, withdraw, is_up, update_steps, withdrawals, announcements, reachings, reading_steps, unit_steps, steps_of}
+use Rattle.adj_rib.specs.Steps.{Step, break, clear, announce, withdraw, is_up, update_steps, withdrawals, announcements, reachings, reading_steps, unit_steps, steps_of}
 use Rattle.adj_rib.specs.Tables.{said_of, route_at, table_of}
 use Rattle.adj_rib.specs.Churns.{reading_of}
-use Rattle.adj_rib.specs.Sources.{Announces, IsBreak, ComesFrom}
+use Rattle.adj_rib.specs.Sources.{Announces, EndsRoutes, ComesFrom}
 use Rattle.adj_rib.proofs.After.{steps_of-push}
-use Rattle.adj_rib.proofs.TableLaws.{route_at-push, find-table_of, IsTable_start, IsTable_break, entries-IsTable}
+use Rattle.adj_rib.proofs.TableLaws.{route_at-push, find-table_of, IsTable_start, IsTable_break, IsTable_clear, entries-IsTable}
 
 module _ {X : Type 0} where
   first_item : (x : X) (xs : List X) → Contains (x ∷ xs) x
@@ -99,6 +99,13 @@ module _ (p : RouteKey) (route : Route) where
         | inr never ↦ no_item (announce p route) never
       ]
 
+  never_by_clear : Contains (clear ∷ []) (announce p route) → ⊥
+  never_by_clear h =
+      elim (item_cases clear [] (announce p route) h) [
+        | inl e ↦ cc
+        | inr never ↦ no_item (announce p route) never
+      ]
+
   -- what announces the key is an event, and the peer is up
   pub record Announcer (up : Bool) (reading : Result Event Fault) : Type 0 where
     pub is_up : up ≡ true
@@ -109,6 +116,7 @@ module _ (p : RouteKey) (route : Route) where
   announcer_of_reading : (up : Bool) (reading : Result Event Fault) → Contains (reading_steps up reading) (announce p route) → Announcer up reading
   announcer_of_reading up (Err fault) h = absurd (no_item (announce p route) h)
   announcer_of_reading up (Ok event.Other) h = absurd (no_item (announce p route) h)
+  announcer_of_reading up (Ok event.Clear) h = absurd (never_by_clear h)
   announcer_of_reading up (Ok (event.State old new rule)) h = absurd (never_by_state (breaks rule old new) h)
   announcer_of_reading true (Ok (event.Change u)) h = record { is_up = refl; meaning = event.Change u; is = refl; announces = announced_by_update u h }
   announcer_of_reading false (Ok (event.Change u)) h = absurd (no_item (announce p route) h)
@@ -117,8 +125,15 @@ module _ (p : RouteKey) (route : Route) where
 
   -- ---- the steps that leave a route
 
-  abbrev NoBreaks : List Step → Type 0
-  NoBreaks steps = AllByRecursion (λ step. step ≢ break) steps
+  -- a break or a clear
+  abbrev Empties : Step → Type 0
+  Empties break = Unit {0}
+  Empties clear = Unit {0}
+  Empties (announce q r) = ⊥
+  Empties (withdraw q) = ⊥
+
+  abbrev NoneEmpties : List Step → Type 0
+  NoneEmpties steps = AllByRecursion (λ step. Empties step → ⊥) steps
 
   said_by_announcement : (q : RouteKey) (r : Route) (b : Bool) (old : Option Route) → key_eq p q ≡ b → unwrap_or (cond b (Some (Some r)) None) old ≡ Some route → (announce q r ≡ announce p route) ⊎ (old ≡ Some route)
   said_by_announcement q r true old same e =
@@ -131,17 +146,18 @@ module _ (p : RouteKey) (route : Route) where
   said_by_withdrawal true old e = absurd cc
   said_by_withdrawal false old e = e
 
-  -- a step gives the route, or it stood and the step is no break
-  by_step : (s : Step) (old : Option Route) → unwrap_or (said_of p s) old ≡ Some route → (s ≡ announce p route) ⊎ ((old ≡ Some route) × (s ≢ break))
+  -- a step gives the route, or it stood and the step empties no table
+  by_step : (s : Step) (old : Option Route) → unwrap_or (said_of p s) old ≡ Some route → (s ≡ announce p route) ⊎ ((old ≡ Some route) × (Empties s → ⊥))
   by_step break old e = absurd cc
-  by_step (withdraw q) old e = inr (said_by_withdrawal (key_eq p q) old e, λ never. cc)
+  by_step clear old e = absurd cc
+  by_step (withdraw q) old e = inr (said_by_withdrawal (key_eq p q) old e, λ never. never)
   by_step (announce q r) old e =
       elim (said_by_announcement q r (key_eq p q) old refl e) [
         | inl same ↦ inl same
-        | inr stood ↦ inr (stood, λ never. cc)
+        | inr stood ↦ inr (stood, λ never. never)
       ]
 
-  by_steps : (steps more : List Step) → route_at (steps ++ more) p ≡ Some route → Contains more (announce p route) ⊎ ((route_at steps p ≡ Some route) × NoBreaks more)
+  by_steps : (steps more : List Step) → route_at (steps ++ more) p ≡ Some route → Contains more (announce p route) ⊎ ((route_at steps p ≡ Some route) × NoneEmpties more)
   by_steps steps [] e = inr (ap (λ s. route_at s p) (sym (append-nil steps)) ∙ e, tt)
   by_steps steps (s ∷ more) e =
       elim (by_steps (steps ++ s ∷ []) more (ap (λ t. route_at t p) (append_assoc steps (s ∷ []) more) ∙ e)) [
@@ -154,18 +170,19 @@ module _ (p : RouteKey) (route : Route) where
 
   -- ---- the units
 
-  kept_by_state : (b : Bool) → NoBreaks (cond b (break ∷ []) []) → b ≡ true → ⊥
-  kept_by_state true h broken = h.0 refl
+  kept_by_state : (b : Bool) → NoneEmpties (cond b (break ∷ []) []) → b ≡ true → ⊥
+  kept_by_state true h broken = h.0 tt
   kept_by_state false h broken = cc
 
-  kept_by_unit : (up : Bool) (payload : Payload) → NoBreaks (reading_steps up (event_in payload)) → IsBreak payload → ⊥
+  kept_by_unit : (up : Bool) (payload : Payload) → NoneEmpties (reading_steps up (event_in payload)) → EndsRoutes payload → ⊥
   unfolding event_in
   kept_by_unit up (State from to rule) h broken = kept_by_state (breaks rule from to) h broken
   kept_by_unit up (Message bytes width add_path) h broken = broken
   kept_by_unit up (Entry key attrs) h broken = broken
+  kept_by_unit up Clear h broken = h.0 tt
 
   -- a unit after the first ones gave the route, or it stood before them
-  by_units : (before after : List ReplayUnit) → route_at (steps_of (before ++ after)) p ≡ Some route → ComesFrom (before ++ after) p route ⊎ ((route_at (steps_of before) p ≡ Some route) × AllByRecursion (λ u. IsBreak u.payload → ⊥) after)
+  by_units : (before after : List ReplayUnit) → route_at (steps_of (before ++ after)) p ≡ Some route → ComesFrom (before ++ after) p route ⊎ ((route_at (steps_of before) p ≡ Some route) × AllByRecursion (λ u. EndsRoutes u.payload → ⊥) after)
   by_units before [] e = inr (ap (λ us. route_at (steps_of us) p) (sym (append-nil before)) ∙ e, tt)
   by_units before (unit ∷ after) e =
       let parts = append_assoc before (unit ∷ []) after in
@@ -190,7 +207,7 @@ module _ (p : RouteKey) (route : Route) where
         | inr never ↦ absurd (at_start never.0)
       ]
 
--- ---- a break
+-- ---- a break, or a clear
 
 no_entries : finite.entries (finite.empty {X = Route} {R = key_cmp}) ≡ []
 unfolding table_of
@@ -200,16 +217,31 @@ broken_steps : (b : Bool) → b ≡ true → cond b (break ∷ []) [] ≡ break 
 broken_steps true broken = refl
 broken_steps false broken = absurd cc
 
-steps_of_break : (up : Bool) (payload : Payload) → IsBreak payload → reading_steps up (event_in payload) ≡ break ∷ []
-unfolding event_in
-steps_of_break up (State from to rule) broken = broken_steps (breaks rule from to) broken
-steps_of_break up (Message bytes width add_path) broken = absurd broken
-steps_of_break up (Entry key attrs) broken = absurd broken
+-- the one step of what ends routes
+ending_step : (payload : Payload) → Step
+ending_step (State from to rule) = break
+ending_step (Message bytes width add_path) = break
+ending_step (Entry key attrs) = break
+ending_step Clear = clear
 
--- a break leaves no route
-pub emptied_at_break : (units : List ReplayUnit) (unit : ReplayUnit) → IsBreak unit.payload → table_of (steps_of (units ++ unit ∷ [])) ≡ []
+steps_of_end : (up : Bool) (payload : Payload) → EndsRoutes payload → reading_steps up (event_in payload) ≡ ending_step payload ∷ []
+unfolding event_in ending_step
+steps_of_end up (State from to rule) broken = broken_steps (breaks rule from to) broken
+steps_of_end up (Message bytes width add_path) broken = absurd broken
+steps_of_end up (Entry key attrs) broken = absurd broken
+steps_of_end up Clear broken = refl
+
+empty_behind : (steps : List Step) (payload : Payload) → finite.entries (finite.empty {X = Route} {R = key_cmp}) ≡ table_of (steps ++ ending_step payload ∷ [])
+unfolding ending_step
+empty_behind steps (State from to rule) = entries-IsTable (steps ++ break ∷ []) finite.empty (IsTable_break steps)
+empty_behind steps (Message bytes width add_path) = entries-IsTable (steps ++ break ∷ []) finite.empty (IsTable_break steps)
+empty_behind steps (Entry key attrs) = entries-IsTable (steps ++ break ∷ []) finite.empty (IsTable_break steps)
+empty_behind steps Clear = entries-IsTable (steps ++ clear ∷ []) finite.empty (IsTable_clear steps)
+
+-- what ends routes leaves none
+pub emptied_at_end : (units : List ReplayUnit) (unit : ReplayUnit) → EndsRoutes unit.payload → table_of (steps_of (units ++ unit ∷ [])) ≡ []
 unfolding unit_steps
-emptied_at_break units unit broken =
-    ap table_of (steps_of-push units unit ∙ ap (λ s. steps_of units ++ s) (steps_of_break (is_up units) unit.payload broken))
-    ∙ sym (entries-IsTable (steps_of units ++ break ∷ []) finite.empty (IsTable_break (steps_of units)))
+emptied_at_end units unit broken =
+    ap table_of (steps_of-push units unit ∙ ap (λ s. steps_of units ++ s) (steps_of_end (is_up units) unit.payload broken))
+    ∙ sym (empty_behind (steps_of units) unit.payload)
     ∙ no_entries

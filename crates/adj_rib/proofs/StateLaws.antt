@@ -10,7 +10,7 @@ use Rattle.mrt_body.specs.declared.meaning.Event.{Event}
 use Rattle.mrt_body.specs.declared.state_rule.StateRule.{StateRule}
 use Rattle.mrt_body.specs.declared.state_rule.StateRule.TheVariants.{Recorded, Established}
 use Rattle.mrt_body.specs.declared.unit.Payload.{Payload}
-use Rattle.mrt_body.specs.declared.unit.Payload.TheVariants.{State, Message, Entry}
+use Rattle.mrt_body.specs.declared.unit.Payload.TheVariants.{State, Message, Entry, Clear}
 use Rattle.mrt_body.specs.declared.unit.Unit.{Unit as ReplayUnit}
 use Rattle.mrt_body.specs.Events.{event_in}
 use Rattle.mrt_body.specs.States.{ESTABLISHED, IsByRule, AreByRule, breaks, established_by, up_by}
@@ -76,6 +76,7 @@ says_alike : (payload : Payload) → IsByRule Recorded payload → state_says es
 says_alike (State from to rule) h = rw h refl
 says_alike (Message bytes width add_path) h = refl
 says_alike (Entry key attrs) h = refl
+says_alike Clear h = refl
 
 abbrev said : (StateRule → ℕ → ℕ → Option Bool) → List ReplayUnit → List Bool
 said says units = filter_map (λ u. state_says says u.payload) units
@@ -100,6 +101,7 @@ up_from o (u ∷ units) e h =
       | State from to rule ↦ λ is. rw is (up_from (Some true) units refl rest)
       | Message bytes width add_path ↦ λ is. up_from o units e rest
       | Entry key attrs ↦ λ is. up_from o units e rest
+      | Clear ↦ λ is. up_from o units e rest
     ] (All-head (λ (unit : ReplayUnit). IsByRule Established unit.payload) u units h)
 
 pub always_up : (units : List ReplayUnit) → AreByRule Established units → is_up units ≡ true

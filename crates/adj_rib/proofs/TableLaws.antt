@@ -12,7 +12,7 @@ use Rattle.bgp_prefix.proofs.KeyLaws.{key_cmp_total, key_cmp_exact, tied_same}
 use Rattle.bgp_prefix.proofs.KeySearches.{key_tied}
 use Rattle.bgp_prefix.proofs.OrderedLaws.{is_sorted-tabulated, find-tabulated}
 use Rattle.bgp_update.specs.declared.route.Route.{Route}
-use Rattle.adj_rib.specs.Steps.{Step, break, announce, withdraw}
+use Rattle.adj_rib.specs.Steps.{Step, break, clear, announce, withdraw}
 use Rattle.adj_rib.specs.Tables.{said_of, route_at, IsTable, announced_key, table_of}
 
 pub last_or-append : {A : Type 0} (o : Option A) (xs ys : List A) → last_or o (xs ++ ys) ≡ last_or (last_or o xs) ys
@@ -34,12 +34,15 @@ chosen : {A : Type 0} (b : Bool) (x y z : Option A) → y ≡ z → cond b x y �
 chosen true x y z e = refl
 chosen false x y z e = e
 
--- the steps of a break, an announcement and a withdrawal, on a map that is the table
+-- the steps of a break, a clear, an announcement and a withdrawal, on a map that is the table
 pub IsTable_start : IsTable [] finite.empty
 IsTable_start p = finite.get-empty key_cmp p
 
 pub IsTable_break : (steps : List Step) → IsTable (steps ++ break ∷ []) finite.empty
 IsTable_break steps p = finite.get-empty key_cmp p ∙ sym (route_at-push steps break p)
+
+pub IsTable_clear : (steps : List Step) → IsTable (steps ++ clear ∷ []) finite.empty
+IsTable_clear steps p = finite.get-empty key_cmp p ∙ sym (route_at-push steps clear p)
 
 pub IsTable_announce : (steps : List Step) (table : finite.FinMap key_cmp Route) (p : RouteKey) (route : Route) → IsTable steps table → IsTable (steps ++ announce p route ∷ []) (finite.insert table p route)
 IsTable_announce steps table p route h q =
@@ -61,6 +64,7 @@ IsTable_withdraw steps table p h q =
 none_unless_announced : (q : RouteKey) (steps : List Step) (o : Option (Option Route)) → unwrap_or o None ≡ None → list_any (eq_by_cmp key_cmp q) (filter_map announced_key steps) ≡ false → unwrap_or (last_or o (filter_map (said_of q) steps)) None ≡ None
 none_unless_announced q [] o e h = e
 none_unless_announced q (break ∷ steps) o e h = none_unless_announced q steps (Some None) refl h
+none_unless_announced q (clear ∷ steps) o e h = none_unless_announced q steps (Some None) refl h
 none_unless_announced q (withdraw p ∷ steps) o e h =
     elim (key_eq q p) as (λ b. unwrap_or (last_or o (cons_option (cond b (Some None) None) (filter_map (said_of q) steps))) None ≡ None) [
       | true ↦ none_unless_announced q steps (Some None) refl h

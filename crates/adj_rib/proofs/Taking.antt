@@ -1,6 +1,6 @@
 -- What a session keeps after one more unit is what the definitions say of one more unit.
 use Rattle.std.proofs.Common.{◌≡◌, ℕ, ◌+◌, ◌==◌, Bool, true, false, not, cond, ◌&&◌, List, [], ◌∷◌, ◌++◌, Option, Some, None, Result, Ok, Err, refl, sym, ap, ◌∙◌}
-use Rattle.std.specs.Prelude.{is_err, length, unwrap_or, option_map}
+use Rattle.std.specs.Prelude.{is_err, length, unwrap_or, if◌then◌else◌}
 use Rattle.std.specs.List.{fold, count_by, filter_map, cons_option, last_or}
 use Rattle.std.specs.FinMap as finite
 use Rattle.std.specs.FinMap.Entries.{find}
@@ -19,21 +19,23 @@ use Rattle.bgp_update.specs.Attributes.{route_in}
 use Rattle.bgp_update.specs.Updates.{update_in}
 use Rattle.mrt_body.specs.declared.state_rule.StateRule.{StateRule}
 use Rattle.mrt_body.specs.declared.unit.Payload.{Payload}
-use Rattle.mrt_body.specs.declared.unit.Payload.TheVariants.{State, Message, Entry}
+use Rattle.mrt_body.specs.declared.unit.Payload.TheVariants.{State, Message, Entry, Clear}
 use Rattle.mrt_body.specs.declared.unit.Unit.{Unit as ReplayUnit}
 use Rattle.mrt_body.specs.declared.unit.Damage.{Damage}
+use Rattle.mrt_body.specs.declared.unit.Place.{Place}
 use Rattle.mrt_body.specs.declared.meaning.Event.{Event}
 use Rattle.mrt_body.specs.declared.meaning.Event.TheVariants as event
 use Rattle.mrt_body.specs.States.{up_by, established_by}
+use Rattle.mrt_body.specs.Units.{is_recorded}
 use Rattle.mrt_body.specs.Events.{UPDATE, message_in, message_event_in, event_in}
 use Rattle.adj_rib.specs.declared.arrivals.Arrivals.{Arrivals}
 use Rattle.adj_rib.specs.declared.churn.Churn.{Churn}
 use Rattle.adj_rib.specs.Steps.{Step, state_says, last_said, is_up, is_established, reading_steps, unit_steps, steps_of}
 use Rattle.adj_rib.specs.Tables.{IsTable, table_of}
-use Rattle.adj_rib.specs.Churns.{outcomes_of, is_routing, reading_of, idle_flags, damage_in, damaged_of, stopped, first_time, last_time, churn_of}
-use Rattle.adj_rib.specs.Arrived.{first_place, arrivals_of, no_arrivals, arrived}
+use Rattle.adj_rib.specs.Churns.{outcomes_of, is_routing, reading_of, idle_flags, damage_in, damaged_of, first_of, stopped, recorded_times, first_time, last_time, churn_of}
+use Rattle.adj_rib.specs.Arrived.{recorded_places, arrivals_of, no_arrivals, arrived, arrived_by}
 use Rattle.adj_rib.specs.Sessions.{SessionState, session_of}
-use Rattle.adj_rib.specs.Applied.{counted_if, RouteMap, applied, timed, noted, up_after, established_after, Kept, START, followed, listed, taken, read_as, refused}
+use Rattle.adj_rib.specs.Applied.{counted_if, RouteMap, applied, timed, timed_by, noted, up_after, established_after, Kept, START, followed, listed, taken, read_as, refused}
 use Rattle.adj_rib.proofs.TableLaws.{last_or-append, find-table_of, entries-IsTable, IsTable_start}
 use Rattle.adj_rib.proofs.After.{steps_of-push}
 use Rattle.adj_rib.proofs.Stepping.{stopped_more, stopped-count_by-push, AreCounts, AreAfter, AreAfter-steps, AgreeBeside, beside_steps}
@@ -47,6 +49,7 @@ module _ (says : StateRule → ℕ → ℕ → Option Bool) where
   said_by (Ok (event.Change update)) = None
   said_by (Ok (event.Rib key route)) = None
   said_by (Ok event.Other) = None
+  said_by (Ok event.Clear) = None
   said_by (Err fault) = None
 
   no_state_in_update : (r : Result Update Fault) → said_by (r >>= λ update. Ok (event.Change update)) ≡ None
@@ -70,6 +73,7 @@ module _ (says : StateRule → ℕ → ℕ → Option Bool) where
   said_of_reading (State from to rule) = refl
   said_of_reading (Message bytes width add_path) = sym (no_state_in_message width add_path (message_in bytes))
   said_of_reading (Entry key attrs) = sym (no_state_in_route key (route_in Four attrs))
+  said_of_reading Clear = refl
 
   abbrev said_in : List ReplayUnit → List Bool
   said_in units = filter_map (λ u. state_says says u.payload) units
@@ -90,6 +94,7 @@ up_of_read up (Ok (event.State old new rule)) = refl
 up_of_read up (Ok (event.Change update)) = refl
 up_of_read up (Ok (event.Rib key route)) = refl
 up_of_read up (Ok event.Other) = refl
+up_of_read up (Ok event.Clear) = refl
 up_of_read up (Err fault) = refl
 
 pub is_up-push : (units : List ReplayUnit) (unit : ReplayUnit) → is_up (units ++ unit ∷ []) ≡ up_after (is_up units) (reading_of unit)
@@ -100,6 +105,7 @@ established_of_read was (Ok (event.State old new rule)) = refl
 established_of_read was (Ok (event.Change update)) = refl
 established_of_read was (Ok (event.Rib key route)) = refl
 established_of_read was (Ok event.Other) = refl
+established_of_read was (Ok event.Clear) = refl
 established_of_read was (Err fault) = refl
 
 is_established-push : (units : List ReplayUnit) (unit : ReplayUnit) → is_established (units ++ unit ∷ []) ≡ established_after (is_established units) (reading_of unit)
@@ -125,14 +131,32 @@ idle-push units unit =
     ap (λ flags. stopped (count_by (λ flag. flag) flags)) (flat_map_after-push (λ before u. idle_flag (is_up before) u ∷ []) [] units unit)
     ∙ stopped-count_by-push (λ (flag : Bool). flag) (idle_flags units) (idle_flag (is_up units) unit)
 
-pub first_time-push : (units : List ReplayUnit) (unit : ReplayUnit) → first_time (units ++ unit ∷ []) ≡ Some (unwrap_or (first_time units) unit.time)
-first_time-push [] unit = refl
-first_time-push (u ∷ units) unit = refl
+-- what is kept of recorded units, with one more unit
+recorded-push : {A : Type 0} (f : ReplayUnit → A) (units : List ReplayUnit) (unit : ReplayUnit) → filter_map (λ (u : ReplayUnit). if is_recorded u.payload then Some (f u) else None) (units ++ unit ∷ []) ≡ filter_map (λ (u : ReplayUnit). if is_recorded u.payload then Some (f u) else None) units ++ (if is_recorded unit.payload then f unit ∷ [] else [])
+recorded-push f units unit =
+    filter_map-append (λ (u : ReplayUnit). if is_recorded u.payload then Some (f u) else None) units (unit ∷ [])
+    ∙ elim (is_recorded unit.payload) as (λ b. filter_map (λ (u : ReplayUnit). if is_recorded u.payload then Some (f u) else None) units ++ cons_option (if b then Some (f unit) else None) [] ≡ filter_map (λ (u : ReplayUnit). if is_recorded u.payload then Some (f u) else None) units ++ (if b then f unit ∷ [] else [])) [
+      | true ↦ refl
+      | false ↦ refl
+    ]
 
-pub last_time-push : (units : List ReplayUnit) (unit : ReplayUnit) → last_time (units ++ unit ∷ []) ≡ Some unit.time
-last_time-push units unit =
-    ap (λ us. option_map (λ (u : ReplayUnit). u.time) (last_or None us)) (filter_map-append (λ (u : ReplayUnit). Some u) units (unit ∷ []))
-    ∙ ap (option_map (λ (u : ReplayUnit). u.time)) (last_or-append None (filter_map (λ (u : ReplayUnit). Some u) units) (unit ∷ []))
+first_of-push : {A : Type 0} (xs : List A) (x : A) → first_of (xs ++ x ∷ []) ≡ Some (unwrap_or (first_of xs) x)
+first_of-push [] x = refl
+first_of-push (y ∷ xs) x = refl
+
+first_of-more : {A : Type 0} (b : Bool) (xs : List A) (x : A) → first_of (xs ++ (if b then x ∷ [] else [])) ≡ (if b then Some (unwrap_or (first_of xs) x) else first_of xs)
+first_of-more true xs x = first_of-push xs x
+first_of-more false xs x = ap first_of (append-nil xs)
+
+last_or-more : {A : Type 0} (b : Bool) (xs : List A) (x : A) → last_or None (xs ++ (if b then x ∷ [] else [])) ≡ (if b then Some x else last_or None xs)
+last_or-more true xs x = last_or-append None xs (x ∷ [])
+last_or-more false xs x = ap (last_or None) (append-nil xs)
+
+pub first_time-push : (units : List ReplayUnit) (unit : ReplayUnit) → first_time (units ++ unit ∷ []) ≡ (if is_recorded unit.payload then Some (unwrap_or (first_time units) unit.time) else first_time units)
+first_time-push units unit = ap first_of (recorded-push (λ (u : ReplayUnit). u.time) units unit) ∙ first_of-more (is_recorded unit.payload) (recorded_times units) unit.time
+
+pub last_time-push : (units : List ReplayUnit) (unit : ReplayUnit) → last_time (units ++ unit ∷ []) ≡ (if is_recorded unit.payload then Some unit.time else last_time units)
+last_time-push units unit = ap (last_or None) (recorded-push (λ (u : ReplayUnit). u.time) units unit) ∙ last_or-more (is_recorded unit.payload) (recorded_times units) unit.time
 
 -- ---- all of it
 
@@ -147,9 +171,34 @@ pub record Stands (units : List ReplayUnit) (k : Kept) : Type 0 where
 pub table_from_entries : (steps : List Step) (table : RouteMap) → finite.entries table ≡ table_of steps → IsTable steps table
 table_from_entries steps table h p = finite.get-entries table p ∙ ap (find key_cmp p) h ∙ find-table_of steps p
 
-counts_of_churn : (units : List ReplayUnit) (up : Bool) (reading : Result Event Fault) (time : ℕ) → AreCounts (outcomes_of (steps_of units)) (noted up reading (timed time (churn_of units)))
+counts_of_timed : (b : Bool) (units : List ReplayUnit) (up : Bool) (reading : Result Event Fault) (time : ℕ) → AreCounts (outcomes_of (steps_of units)) (noted up reading (if b then timed time (churn_of units) else churn_of units))
 unfolding churn_of noted timed
-counts_of_churn units up reading time = record { added = refl; changed = refl; same = refl; gone = refl; void = refl; resets = refl }
+counts_of_timed true units up reading time = record { added = refl; changed = refl; same = refl; gone = refl; void = refl; resets = refl }
+counts_of_timed false units up reading time = record { added = refl; changed = refl; same = refl; gone = refl; void = refl; resets = refl }
+
+counts_of_churn : (units : List ReplayUnit) (up : Bool) (reading : Result Event Fault) (unit : ReplayUnit) → AreCounts (outcomes_of (steps_of units)) (noted up reading (timed_by unit (churn_of units)))
+counts_of_churn units up reading unit = counts_of_timed (is_recorded unit.payload) units up reading unit.time
+
+-- what the times are and the other counts, where the unit is recorded or isn't
+idle_beside : (b : Bool) (units : List ReplayUnit) (up : Bool) (reading : Result Event Fault) (time : ℕ) → (noted up reading (if b then timed time (churn_of units) else churn_of units)).idle ≡ counted_if (is_routing reading && not up) (stopped (count_by (λ flag. flag) (idle_flags units)))
+unfolding churn_of noted timed
+idle_beside true units up reading time = refl
+idle_beside false units up reading time = refl
+
+refused_beside : (b : Bool) (units : List ReplayUnit) (up : Bool) (reading : Result Event Fault) (time : ℕ) → (noted up reading (if b then timed time (churn_of units) else churn_of units)).refused ≡ counted_if (is_err reading) (stopped (count_by (λ unit. is_err (reading_of unit)) units))
+unfolding churn_of noted timed
+refused_beside true units up reading time = refl
+refused_beside false units up reading time = refl
+
+first_beside : (b : Bool) (units : List ReplayUnit) (up : Bool) (reading : Result Event Fault) (time : ℕ) → (noted up reading (if b then timed time (churn_of units) else churn_of units)).first ≡ (if b then Some (unwrap_or (first_time units) time) else first_time units)
+unfolding churn_of noted timed
+first_beside true units up reading time = refl
+first_beside false units up reading time = refl
+
+last_beside : (b : Bool) (units : List ReplayUnit) (up : Bool) (reading : Result Event Fault) (time : ℕ) → (noted up reading (if b then timed time (churn_of units) else churn_of units)).last ≡ (if b then Some time else last_time units)
+unfolding churn_of noted timed
+last_beside true units up reading time = refl
+last_beside false units up reading time = refl
 
 same_churn : (c : Churn) (units : List ReplayUnit) → AreCounts (outcomes_of (steps_of units)) c → c.idle ≡ stopped (count_by (λ flag. flag) (idle_flags units)) → c.refused ≡ stopped (count_by (λ unit. is_err (reading_of unit)) units) → c.first ≡ first_time units → c.last ≡ last_time units → c ≡ churn_of units
 unfolding churn_of
@@ -168,24 +217,24 @@ same_churn c units h idle refused first last = λ i. record {
 
 -- the table and the counts after one more unit
 abbrev rib_after : Bool → RouteMap → Churn → ReplayUnit → RouteMap × Churn
-rib_after up table churn unit = fold applied (table, noted up (reading_of unit) (timed unit.time churn)) (reading_steps up (reading_of unit))
+rib_after up table churn unit = fold applied (table, noted up (reading_of unit) (timed_by unit churn)) (reading_steps up (reading_of unit))
 
 rib_stands : (units : List ReplayUnit) (unit : ReplayUnit) (table : RouteMap) → finite.entries table ≡ table_of (steps_of units) → AreAfter (steps_of (units ++ unit ∷ [])) (rib_after (is_up units) table (churn_of units) unit)
 unfolding unit_steps
 rib_stands units unit table h =
-    rw (steps_of-push units unit) (AreAfter-steps (steps_of units) (reading_steps (is_up units) (reading_of unit)) (table, noted (is_up units) (reading_of unit) (timed unit.time (churn_of units))) (record { table = table_from_entries (steps_of units) table h; counts = counts_of_churn units (is_up units) (reading_of unit) unit.time }))
+    rw (steps_of-push units unit) (AreAfter-steps (steps_of units) (reading_steps (is_up units) (reading_of unit)) (table, noted (is_up units) (reading_of unit) (timed_by unit (churn_of units))) (record { table = table_from_entries (steps_of units) table h; counts = counts_of_churn units (is_up units) (reading_of unit) unit }))
 
-rest_of_churn : (units : List ReplayUnit) (unit : ReplayUnit) (table : RouteMap) → AgreeBeside (rib_after (is_up units) table (churn_of units) unit).1 (noted (is_up units) (reading_of unit) (timed unit.time (churn_of units)))
-rest_of_churn units unit table = beside_steps (reading_steps (is_up units) (reading_of unit)) (table, noted (is_up units) (reading_of unit) (timed unit.time (churn_of units))) _ (record { idle = refl; refused = refl; first = refl; last = refl })
+rest_of_churn : (units : List ReplayUnit) (unit : ReplayUnit) (table : RouteMap) → AgreeBeside (rib_after (is_up units) table (churn_of units) unit).1 (noted (is_up units) (reading_of unit) (timed_by unit (churn_of units)))
+rest_of_churn units unit table = beside_steps (reading_steps (is_up units) (reading_of unit)) (table, noted (is_up units) (reading_of unit) (timed_by unit (churn_of units))) _ (record { idle = refl; refused = refl; first = refl; last = refl })
 
 churn_stands : (units : List ReplayUnit) (unit : ReplayUnit) (table : RouteMap) → finite.entries table ≡ table_of (steps_of units) → (rib_after (is_up units) table (churn_of units) unit).1 ≡ churn_of (units ++ unit ∷ [])
 churn_stands units unit table h =
     let rest = rest_of_churn units unit table in
     same_churn (rib_after (is_up units) table (churn_of units) unit).1 (units ++ unit ∷ []) (rib_stands units unit table h).counts
-    (unfold churn_of noted timed in rest.idle ∙ sym (idle-push units unit))
-    (unfold churn_of noted timed in rest.refused ∙ sym (stopped-count_by-push (λ (u : ReplayUnit). is_err (reading_of u)) units unit))
-    (unfold churn_of noted timed in rest.first ∙ sym (first_time-push units unit))
-    (unfold churn_of noted timed in rest.last ∙ sym (last_time-push units unit))
+    (rest.idle ∙ idle_beside (is_recorded unit.payload) units (is_up units) (reading_of unit) unit.time ∙ sym (idle-push units unit))
+    (rest.refused ∙ refused_beside (is_recorded unit.payload) units (is_up units) (reading_of unit) unit.time ∙ sym (stopped-count_by-push (λ (u : ReplayUnit). is_err (reading_of u)) units unit))
+    (rest.first ∙ first_beside (is_recorded unit.payload) units (is_up units) (reading_of unit) unit.time ∙ sym (first_time-push units unit))
+    (rest.last ∙ last_beside (is_recorded unit.payload) units (is_up units) (reading_of unit) unit.time ∙ sym (last_time-push units unit))
 
 taken_stands : (units : List ReplayUnit) (unit : ReplayUnit) (table : RouteMap) → finite.entries table ≡ table_of (steps_of units) → Stands (units ++ unit ∷ []) (taken (record { up = is_up units; established = is_established units; table = table; churn = churn_of units; faults = damaged_of units }) unit)
 unfolding taken followed
@@ -203,25 +252,31 @@ Stands-taken units unit k h =
     rw same (taken_stands units unit k.table h.table)
 
 -- a unit is taken as its reading says
-pub taken_as : (k : Kept) (unit : ReplayUnit) → read_as (record k { churn = timed unit.time k.churn }) unit.place (reading_of unit) ≡ taken k unit
+pub taken_as : (k : Kept) (unit : ReplayUnit) → read_as (record k { churn = timed_by unit k.churn }) unit.place (reading_of unit) ≡ taken k unit
 unfolding taken followed refused
-taken_as k unit = elim (reading_of unit) as (λ r. read_as (record k { churn = timed unit.time k.churn }) unit.place r ≡ record (followed (record k { churn = timed unit.time k.churn }) r) { faults = listed k.faults (damage_in unit r) }) [
+taken_as k unit = elim (reading_of unit) as (λ r. read_as (record k { churn = timed_by unit k.churn }) unit.place r ≡ record (followed (record k { churn = timed_by unit k.churn }) r) { faults = listed k.faults (damage_in unit r) }) [
   | Ok e ↦ refl
   | Err fault ↦ refl
 ]
 
 -- ---- how many units came
 
-count-push : (units : List ReplayUnit) (unit : ReplayUnit) → stopped (stopped (length units) + 1) ≡ stopped (length (units ++ unit ∷ []))
-count-push units unit = sym (stopped_more (length units)) ∙ ap stopped (sym (length_push units unit))
+arrived-one : (places : List Place) (place : Place) → arrived place (record { units = stopped (length places); first = first_of places }) ≡ record { units = stopped (length (places ++ place ∷ [])); first = first_of (places ++ place ∷ []) }
+unfolding arrived
+arrived-one places place = λ i. record {
+  units = (sym (stopped_more (length places)) ∙ ap stopped (sym (length_push places place))) i;
+  first = sym (first_of-push places place) i;
+}
 
-first_place-push : (units : List ReplayUnit) (unit : ReplayUnit) → Some (unwrap_or (first_place units) unit.place) ≡ first_place (units ++ unit ∷ [])
-first_place-push [] unit = refl
-first_place-push (u ∷ units) unit = refl
+arrived-more : (b : Bool) (places : List Place) (place : Place) → (if b then arrived place (record { units = stopped (length places); first = first_of places }) else record { units = stopped (length places); first = first_of places }) ≡ record { units = stopped (length (places ++ (if b then place ∷ [] else []))); first = first_of (places ++ (if b then place ∷ [] else [])) }
+arrived-more true places place = arrived-one places place
+arrived-more false places place = ap (λ (l : List Place). record { units = stopped (length l); first = first_of l }) (sym (append-nil places))
 
-arrived-push : (units : List ReplayUnit) (unit : ReplayUnit) → arrived unit.place (arrivals_of units) ≡ arrivals_of (units ++ unit ∷ [])
-unfolding arrived arrivals_of
-arrived-push units unit = λ i. record { units = count-push units unit i; first = first_place-push units unit i }
+arrived-push : (units : List ReplayUnit) (unit : ReplayUnit) → arrived_by unit (arrivals_of units) ≡ arrivals_of (units ++ unit ∷ [])
+unfolding arrivals_of
+arrived-push units unit =
+    arrived-more (is_recorded unit.payload) (recorded_places units) unit.place
+    ∙ ap (λ (l : List Place). record { units = stopped (length l); first = first_of l }) (sym (recorded-push (λ (u : ReplayUnit). u.place) units unit))
 
 -- ---- the session
 
@@ -242,12 +297,12 @@ session_from_stands units k arrivals h came = λ i. record { up = h.up i; establ
 
 -- a session that stands for units stands for one more after it has taken it
 pub session_after : (before : List ReplayUnit) (unit : ReplayUnit) (k after : Kept) (arrivals arrivals' : Arrivals) (spent : Bool) → spent ≡ false → session_with k arrivals spent ≡ session_of before
-    → after ≡ taken k unit → arrivals' ≡ arrived unit.place arrivals → session_with after arrivals' spent ≡ session_of (before ++ unit ∷ [])
+    → after ≡ taken k unit → arrivals' ≡ arrived_by unit arrivals → session_with after arrivals' spent ≡ session_of (before ++ unit ∷ [])
 session_after before unit k after arrivals arrivals' spent unspent h e came =
     ap (session_with after arrivals') unspent
     ∙ ap (λ k. session_with k arrivals' false) e
     ∙ session_from_stands (before ++ unit ∷ []) (taken k unit) arrivals' (Stands-taken before unit k (stands_from_session before k arrivals spent h))
-    (came ∙ ap (arrived unit.place) (arrivals_from_session before k arrivals spent h) ∙ arrived-push before unit)
+    (came ∙ ap (arrived_by unit) (arrivals_from_session before k arrivals spent h) ∙ arrived-push before unit)
 
 pub session_at_start : session_with START no_arrivals false ≡ session_of []
 unfolding steps_of

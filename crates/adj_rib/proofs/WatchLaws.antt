@@ -10,7 +10,7 @@ use Rattle.mrt_body.specs.declared.unit.Unit.{Unit as ReplayUnit}
 use Rattle.adj_rib.specs.declared.churn.Churn.{Churn}
 use Rattle.adj_rib.specs.declared.note.Note.{Note}
 use Rattle.adj_rib.specs.declared.outcome.UnitKind.{UnitKind}
-use Rattle.adj_rib.specs.Steps.{Step, break, announce, withdraw, is_up, unit_steps, reading_steps, steps_of}
+use Rattle.adj_rib.specs.Steps.{Step, break, clear, announce, withdraw, is_up, unit_steps, reading_steps, steps_of}
 use Rattle.adj_rib.specs.Tables.{IsTable, route_at, table_of}
 use Rattle.adj_rib.specs.Churns.{damage_in, damaged_of, reading_of}
 use Rattle.adj_rib.specs.Applied.{RouteMap, listed, no_churn, up_after}
@@ -31,6 +31,7 @@ use Rattle.adj_rib.proofs.Selected.{route_at-selected, table_of-selected, is_up-
 
 noted_on-is : (steps : List Step) (table : RouteMap) (step : Step) → IsTable steps table → noted_on table step ≡ noted_after steps step
 noted_on-is steps table break h = ap (map lost_note) (entries-IsTable steps table h)
+noted_on-is steps table clear h = ap (map lost_note) (entries-IsTable steps table h)
 noted_on-is steps table (announce k route) h = ap (λ old. announced_note old k route ∷ []) (h k)
 noted_on-is steps table (withdraw k) h = ap (λ old. withdrawn_note old k ∷ []) (h k)
 
@@ -61,6 +62,7 @@ module _ (selects : RouteKey → Bool) where
 
   step_notes : (before : List Step) (step : Step) → cond (keeps selects step) (noted_after (selected_steps selects before) step) [] ≡ of_selected (noted_after before step)
   step_notes before break = ap (map lost_note) (table_of-selected selects before) ∙ lost_selected (table_of before)
+  step_notes before clear = ap (map lost_note) (table_of-selected selects before) ∙ lost_selected (table_of before)
   step_notes before (announce k route) =
       elim (selects k) as (λ b. selects k ≡ b → cond b (announced_note (route_at (selected_steps selects before) k) k route ∷ []) [] ≡ cond b (announced_note (route_at before k) k route ∷ []) []) [
         | true ↦ λ taken. ap (λ old. announced_note old k route ∷ []) (route_at-selected selects before k taken)
@@ -177,12 +179,12 @@ module _ (since : Option ℕ) (choices : List PrefixChoice) (before : List Repla
   pub watch_notes : told ≡ chosen_notes choices (unit_notes before unit)
   watch_notes = ap (λ (s : Watching × List Note). s.1) both ∙ notes_then choices before unit watch notes stood ∙ ap (λ l. l ++ chosen_notes choices (unit_notes before unit)) none
 
-  pub watch_stands : (counts : Churn) (kind : UnitKind) (seen : List Note) → kind ≡ kind_of watch.up (reading_of unit) → seen ≡ told → counts ≡ counted_within since unit.time kind seen churn → WatchesFor since choices (before ++ unit ∷ []) (seen_as counts now)
+  pub watch_stands : (counts : Churn) (kind : UnitKind) (seen : List Note) → kind ≡ kind_of watch.up (reading_of unit) → seen ≡ told → counts ≡ counted_within since unit kind seen churn → WatchesFor since choices (before ++ unit ∷ []) (seen_as counts now)
   watch_stands counts kind seen is same counted =
       let counts_are : counts ≡ churn_within since choices (before ++ unit ∷ []) =
       counted
-      ∙ (λ i. counted_within since unit.time (is i) (same i) (churn_seen since choices before churn watch h i))
-      ∙ (λ i. counted_within since unit.time (kind_of (stood.up i) (reading_of unit)) (watch_notes i) (churn_within since choices before))
+      ∙ (λ i. counted_within since unit (is i) (same i) (churn_seen since choices before churn watch h i))
+      ∙ (λ i. counted_within since unit (kind_of (stood.up i) (reading_of unit)) (watch_notes i) (churn_within since choices before))
       ∙ sym (churn_within-push since choices before unit) in
       to_seen since choices (before ++ unit ∷ []) counts now counts_are (subst (Watches choices (before ++ unit ∷ [])) (sym (ap (λ (s : Watching × List Note). s.0) both)) (watches_then choices before unit watch notes stood))
 

@@ -1,6 +1,7 @@
--- What is counted within a time, of one more unit; and without a second and prefixes it is what is counted of all units.
+-- What is counted within a time, of one more unit; and without a second and prefixes it is what is counted of all
+-- units.
 use Rattle.std.proofs.Common.{◌≡◌, ℕ, ◌+◌, ◌&&◌, ◌||◌, not, Bool, true, false, cond, List, [], ◌∷◌, ◌++◌, map, Option, Some, None, Result, Ok, Err, refl, sym, ap, ◌∙◌, append_assoc, if◌then◌else◌}
-use Rattle.std.specs.Prelude.{is_err}
+use Rattle.std.specs.Prelude.{is_err, unwrap_or}
 use Rattle.std.specs.List.{count_by, filter, fold}
 use Rattle.std.proofs.lemmas.List.{append-nil}
 use Rattle.std.proofs.lemmas.List.Elements.{filter-append}
@@ -26,10 +27,11 @@ use Rattle.adj_rib.specs.declared.outcome.Outcome.{Outcome}
 use Rattle.adj_rib.specs.declared.outcome.Outcome.TheVariants as outcome
 use Rattle.adj_rib.specs.declared.outcome.UnitKind.TheVariants.{Break, Other}
 use Rattle.mrt_body.specs.States.{breaks}
-use Rattle.adj_rib.specs.Steps.{Step, break, announce, withdraw, is_up, withdrawals, announcements, reachings, update_steps, reading_steps, unit_steps, steps_of}
+use Rattle.mrt_body.specs.Units.{is_recorded}
+use Rattle.adj_rib.specs.Steps.{Step, break, clear, announce, withdraw, is_up, withdrawals, announcements, reachings, update_steps, reading_steps, unit_steps, steps_of}
 use Rattle.adj_rib.specs.Tables.{route_at, table_of}
 use Rattle.adj_rib.specs.Churns.{announced_over, outcome_of, outcomes_of, is_outcome, count_of, is_break, is_routing, reading_of, first_time, last_time, stopped, churn_of}
-use Rattle.adj_rib.specs.Applied.{counted, counted_if, timed}
+use Rattle.adj_rib.specs.Applied.{counted, counted_if, timed, timed_by}
 use Rattle.adj_rib.specs.Histories.{announced_note, withdrawn_note, lost_note, noted_after, noted_behind, unit_notes, chosen_notes, is_before, units_within, notes_within, idle_within, outcome_noted, is_this, has_outcome, churn_by, churn_within}
 use Rattle.adj_rib.specs.Counting.{kind_of, counted_unit, counted_this, counted_note, counted_within}
 use Rattle.adj_rib.proofs.After.{steps_of-push}
@@ -92,10 +94,20 @@ by_kind false (Ok (event.Change update)) c = refl
 by_kind true (Ok (event.Rib key route)) c = refl
 by_kind false (Ok (event.Rib key route)) c = refl
 by_kind up (Ok event.Other) c = refl
+by_kind up (Ok event.Clear) c = refl
 by_kind up (Err fault) c = refl
 
-unit_more : (notes : List Note) (flags : List Bool) (units : List ReplayUnit) (up : Bool) (u : ReplayUnit) → churn_by notes (flags ++ (is_routing (reading_of u) && not up) ∷ []) (units ++ u ∷ []) ≡ counted_unit (kind_of up (reading_of u)) (timed u.time (churn_by notes flags units))
+kept_apart : (b : Bool) (time : ℕ) (broken idle refused : Bool) (c : Churn) → record (if b then timed time c else c) { resets = counted_if broken c.resets; idle = counted_if idle c.idle; refused = counted_if refused c.refused } ≡ record (if b then timed time c else c) { resets = counted_if broken (if b then timed time c else c).resets; idle = counted_if idle (if b then timed time c else c).idle; refused = counted_if refused (if b then timed time c else c).refused }
 unfolding timed
+kept_apart true time broken idle refused c = refl
+kept_apart false time broken idle refused c = refl
+
+times_more : (b : Bool) (first last : Option ℕ) (time : ℕ) (c : Churn) → c.first ≡ first → c.last ≡ last → record c { first = (if b then Some (unwrap_or first time) else first); last = (if b then Some time else last) } ≡ (if b then timed time c else c)
+unfolding timed
+times_more true first last time c f l = λ i. record c { first = Some (unwrap_or (sym f i) time); last = Some time }
+times_more false first last time c f l = λ i. record c { first = sym f i; last = sym l i }
+
+unit_more : (notes : List Note) (flags : List Bool) (units : List ReplayUnit) (up : Bool) (u : ReplayUnit) → churn_by notes (flags ++ (is_routing (reading_of u) && not up) ∷ []) (units ++ u ∷ []) ≡ counted_unit (kind_of up (reading_of u)) (timed_by u (churn_by notes flags units))
 unit_more notes flags units up u =
     (λ i. record (churn_by notes flags units) {
       resets = stopped-count_by-push (λ (v : ReplayUnit). is_break (reading_of v)) units u i;
@@ -104,7 +116,13 @@ unit_more notes flags units up u =
       first = first_time-push units u i;
       last = last_time-push units u i;
     })
-    ∙ by_kind up (reading_of u) (timed u.time (churn_by notes flags units))
+    ∙ (λ i. record (times_more (is_recorded u.payload) (first_time units) (last_time units) u.time (churn_by notes flags units) refl refl i) {
+      resets = counted_if (is_break (reading_of u)) (stopped (count_by (λ (v : ReplayUnit). is_break (reading_of v)) units));
+      idle = counted_if (is_routing (reading_of u) && not up) (stopped (count_by (λ (flag : Bool). flag) flags));
+      refused = counted_if (is_err (reading_of u)) (stopped (count_by (λ (v : ReplayUnit). is_err (reading_of v)) units));
+    })
+    ∙ kept_apart (is_recorded u.payload) u.time (is_break (reading_of u)) (is_routing (reading_of u) && not up) (is_err (reading_of u)) (churn_by notes flags units)
+    ∙ by_kind up (reading_of u) (timed_by u (churn_by notes flags units))
 
 module _ (since : Option ℕ) (choices : List PrefixChoice) (before : List ReplayUnit) (u : ReplayUnit) where
   abbrev own : List Note
@@ -125,7 +143,7 @@ module _ (since : Option ℕ) (choices : List PrefixChoice) (before : List Repla
   units_then = filter-append (λ (v : ReplayUnit). not (is_before since v.time)) before (u ∷ [])
 
   -- what is counted of one more unit
-  pub churn_within-push : churn_within since choices (before ++ u ∷ []) ≡ counted_within since u.time (kind_of (is_up before) (reading_of u)) own (churn_within since choices before)
+  pub churn_within-push : churn_within since choices (before ++ u ∷ []) ≡ counted_within since u (kind_of (is_up before) (reading_of u)) own (churn_within since choices before)
   unfolding churn_within
   churn_within-push =
       let notes = notes_within since choices before in
@@ -133,7 +151,7 @@ module _ (since : Option ℕ) (choices : List PrefixChoice) (before : List Repla
       let units = units_within since before in
       let kind = kind_of (is_up before) (reading_of u) in
       (λ i. churn_by (notes_then i) (idle_then i) (units_then i))
-      ∙ elim (is_before since u.time) as (λ b. churn_by (notes ++ (if b then [] else own)) (flags ++ (if b then [] else is_idle ∷ [])) (units ++ cond (not b) (u ∷ []) []) ≡ (if b then churn_by notes flags units else fold counted_note (counted_unit kind (timed u.time (churn_by notes flags units))) own)) [
+      ∙ elim (is_before since u.time) as (λ b. churn_by (notes ++ (if b then [] else own)) (flags ++ (if b then [] else is_idle ∷ [])) (units ++ cond (not b) (u ∷ []) []) ≡ (if b then churn_by notes flags units else fold counted_note (counted_unit kind (timed_by u (churn_by notes flags units))) own)) [
         | true ↦ λ i. churn_by (append-nil notes i) (append-nil flags i) (append-nil units i)
         | false ↦
             notes_more (flags ++ is_idle ∷ []) (units ++ u ∷ []) notes own
@@ -167,7 +185,7 @@ all_within [] = refl
 all_within (u ∷ units) = ap (λ (l : List ReplayUnit). u ∷ l) (all_within units)
 
 -- as many notes have an outcome of announcements or withdrawals as steps have it
-module _ (which : Outcome) (other : is_outcome which outcome.Reset ≡ false) where
+module _ (which : Outcome) (other : is_outcome which outcome.Reset ≡ false) (unclear : is_outcome which outcome.Cleared ≡ false) where
   none_lost : (table : List (RouteKey × Route)) → count_by (has_outcome which) (map lost_note table) ≡ 0
   none_lost [] = refl
   none_lost (e ∷ table) = none_lost table
@@ -186,6 +204,7 @@ module _ (which : Outcome) (other : is_outcome which outcome.Reset ≡ false) wh
 
   step_counts : (before : List Step) (step : Step) → count_by (has_outcome which) (noted_after before step) ≡ count_by (is_outcome which) (outcome_of before step ∷ [])
   step_counts before break = none_lost (table_of before) ∙ ap (λ b. 0 + cond b 1 0) (sym other)
+  step_counts before clear = none_lost (table_of before) ∙ ap (λ b. 0 + cond b 1 0) (sym unclear)
   step_counts before (announce k route) = announced (route_at before k) k route
   step_counts before (withdraw k) = withdrawn (route_at before k) before k refl
 
@@ -264,6 +283,7 @@ reading_resets before false (Ok (event.Change update)) = refl
 reading_resets before true (Ok (event.Rib key route)) = ap (λ b. 0 + cond b 1 0) (no_reset (route_at before key) route)
 reading_resets before false (Ok (event.Rib key route)) = refl
 reading_resets before up (Ok event.Other) = refl
+reading_resets before up (Ok event.Clear) = refl
 reading_resets before up (Err fault) = refl
 
 breaks_from : (before units : List ReplayUnit) → count_by (λ (u : ReplayUnit). is_break (reading_of u)) units ≡ resets (steps_of before) (steps_behind before units)
@@ -285,11 +305,11 @@ breaks_are units = breaks_from [] units
 pub churn_within-all : (units : List ReplayUnit) → churn_within None [] units ≡ churn_of units
 unfolding churn_within churn_of idle_within
 churn_within-all units = λ i. record {
-  added = stopped (same_count outcome.Added refl units i);
-  changed = stopped (same_count outcome.Changed refl units i);
-  same = stopped (same_count outcome.Same refl units i);
-  gone = stopped (same_count outcome.Gone refl units i);
-  void = stopped (same_count outcome.Void refl units i);
+  added = stopped (same_count outcome.Added refl refl units i);
+  changed = stopped (same_count outcome.Changed refl refl units i);
+  same = stopped (same_count outcome.Same refl refl units i);
+  gone = stopped (same_count outcome.Gone refl refl units i);
+  void = stopped (same_count outcome.Void refl refl units i);
   resets = stopped ((ap (count_by (λ (u : ReplayUnit). is_break (reading_of u))) (all_within units) ∙ breaks_are units) i);
   idle = stopped (count_by (λ flag. flag) (idle_within None units));
   refused = stopped (count_by (λ (u : ReplayUnit). is_err (reading_of u)) (all_within units i));

@@ -11,10 +11,11 @@ use Rattle.mrt_body.specs.declared.unit.Damage.{Damage}
 use Rattle.mrt_body.specs.declared.meaning.Event.{Event}
 use Rattle.mrt_body.specs.declared.meaning.Event.TheVariants as event
 use Rattle.mrt_body.specs.States.{established_by, stays_up}
+use Rattle.mrt_body.specs.Units.{is_recorded}
 use Rattle.adj_rib.specs.declared.churn.Churn.{Churn}
 use Rattle.adj_rib.specs.declared.outcome.Outcome.{Outcome}
-use Rattle.adj_rib.specs.declared.outcome.Outcome.TheVariants.{Added, Changed, Same, Gone, Void, Reset}
-use Rattle.adj_rib.specs.Steps.{Step, break, announce, withdraw, reading_steps}
+use Rattle.adj_rib.specs.declared.outcome.Outcome.TheVariants.{Added, Changed, Same, Gone, Void, Reset, Cleared}
+use Rattle.adj_rib.specs.Steps.{Step, break, clear, announce, withdraw, reading_steps}
 use Rattle.adj_rib.specs.Churns.{announced_over, is_outcome, is_routing, reading_of, damage_in, stopped}
 
 -- one more where the flag says so
@@ -41,11 +42,13 @@ RouteMap = finite.FinMap key_cmp Route
 
 abbrev pub outcome_on : RouteMap → Step → Outcome
 outcome_on table break = Reset
+outcome_on table clear = Cleared
 outcome_on table (announce k route) = announced_over (finite.get table k) route
 outcome_on table (withdraw k) = if is_some (finite.get table k) then Gone else Void
 
 abbrev pub table_after : RouteMap → Step → RouteMap
 table_after table break = finite.empty
+table_after table clear = finite.empty
 table_after table (announce k route) = finite.insert table k route
 table_after table (withdraw k) = finite.remove table k
 
@@ -56,6 +59,10 @@ applied rib step = (table_after rib.0 step, counted (outcome_on rib.0 step) rib.
 -- the times after one more unit
 unfoldable pub timed : ℕ → Churn → Churn
 timed time c = record c { first = Some (unwrap_or c.first time); last = Some time }
+
+-- the times after one more unit, if it is recorded
+abbrev pub timed_by : ReplayUnit → Churn → Churn
+timed_by unit c = if is_recorded unit.payload then timed unit.time c else c
 
 -- the counts of idle and of damaged units after one more, by its reading
 unfoldable pub noted : Bool → Result Event Fault → Churn → Churn
@@ -69,6 +76,7 @@ up_after up (Ok (event.State old new rule)) = stays_up rule new
 up_after up (Ok (event.Change update)) = up
 up_after up (Ok (event.Rib key route)) = up
 up_after up (Ok event.Other) = up
+up_after up (Ok event.Clear) = up
 up_after up (Err fault) = up
 
 -- whether the session is established after a reading
@@ -77,6 +85,7 @@ established_after was (Ok (event.State old new rule)) = unwrap_or (established_b
 established_after was (Ok (event.Change update)) = was
 established_after was (Ok (event.Rib key route)) = was
 established_after was (Ok event.Other) = was
+established_after was (Ok event.Clear) = was
 established_after was (Err fault) = was
 
 -- what a session keeps beside whether it is spent
@@ -135,5 +144,5 @@ read_as k place (Err fault) = refused k (record { place = place; fault = fault }
 -- after one more unit
 unfoldable pub taken : Kept → ReplayUnit → Kept
 taken k unit =
-    let after = followed (record k { churn = timed unit.time k.churn }) (reading_of unit) in
+    let after = followed (record k { churn = timed_by unit k.churn }) (reading_of unit) in
     record after { faults = listed k.faults (damage_in unit (reading_of unit)) }

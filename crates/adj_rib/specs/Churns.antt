@@ -1,5 +1,5 @@
 -- What a peer's units did, counted.
-use Rattle.std.specs.Prelude.{ℕ, ◌-◌, ◌^◌, Bool, true, false, not, ◌&&◌, List, [], ◌∷◌, min, Option, Some, None, Result, Ok, Err, is_some, is_err, option_map, ◌==◌, if◌then◌else◌}
+use Rattle.std.specs.Prelude.{ℕ, ◌-◌, ◌^◌, Bool, true, false, not, ◌&&◌, List, [], ◌∷◌, min, Option, Some, None, Result, Ok, Err, is_some, is_err, ◌==◌, if◌then◌else◌}
 use Rattle.std.specs.List.{count_by, filter_map, last_or}
 use Rattle.mrt_frame.specs.declared.fault.Fault.{Fault}
 use Rattle.bgp_update.specs.declared.route.Route.{Route}
@@ -10,11 +10,12 @@ use Rattle.mrt_body.specs.declared.meaning.Event.{Event}
 use Rattle.mrt_body.specs.declared.meaning.Event.TheVariants as event
 use Rattle.mrt_body.specs.States.{breaks}
 use Rattle.mrt_body.specs.Events.{event_in}
+use Rattle.mrt_body.specs.Units.{is_recorded}
 use Rattle.adj_rib.specs.declared.churn.Churn.{Churn}
 use Rattle.adj_rib.specs.declared.outcome.Outcome.{Outcome}
-use Rattle.adj_rib.specs.declared.outcome.Outcome.TheVariants.{Added, Changed, Same, Gone, Void, Reset}
+use Rattle.adj_rib.specs.declared.outcome.Outcome.TheVariants.{Added, Changed, Same, Gone, Void, Reset, Cleared}
 use Rattle.bgp_update.specs.Equality.{route_eq}
-use Rattle.adj_rib.specs.Steps.{Step, break, announce, withdraw, is_up, steps_of}
+use Rattle.adj_rib.specs.Steps.{Step, break, clear, announce, withdraw, is_up, steps_of}
 use Rattle.adj_rib.specs.Tables.{route_at}
 
 abbrev pub announced_over : Option Route → Route → Outcome
@@ -23,6 +24,7 @@ announced_over (Some old) route = if route_eq old route then Same else Changed
 
 abbrev pub outcome_of : List Step → Step → Outcome
 outcome_of before break = Reset
+outcome_of before clear = Cleared
 outcome_of before (announce k route) = announced_over (route_at before k) route
 outcome_of before (withdraw k) = if is_some (route_at before k) then Gone else Void
 
@@ -37,6 +39,7 @@ outcome_number Same = 2
 outcome_number Gone = 3
 outcome_number Void = 4
 outcome_number Reset = 5
+outcome_number Cleared = 6
 
 abbrev pub is_outcome : Outcome → Outcome → Bool
 is_outcome outcome o = outcome_number o == outcome_number outcome
@@ -50,6 +53,7 @@ is_routing (Ok (event.Change update)) = true
 is_routing (Ok (event.Rib key route)) = true
 is_routing (Ok (event.State old new rule)) = false
 is_routing (Ok event.Other) = false
+is_routing (Ok event.Clear) = false
 is_routing (Err fault) = false
 
 -- a state change that is a break, whole
@@ -58,6 +62,7 @@ is_break (Ok (event.State old new rule)) = breaks rule old new
 is_break (Ok (event.Change update)) = false
 is_break (Ok (event.Rib key route)) = false
 is_break (Ok event.Other) = false
+is_break (Ok event.Clear) = false
 is_break (Err fault) = false
 
 abbrev pub reading_of : ReplayUnit → Result Event Fault
@@ -75,16 +80,25 @@ damage_in unit (Err fault) = Some (record { place = unit.place; fault = fault })
 unfoldable pub damaged_of : List ReplayUnit → List Damage
 damaged_of units = filter_map (λ unit. damage_in unit (reading_of unit)) units
 
+-- the first of some items, if there is one
+abbrev pub first_of : {A : Type 0} → List A → Option A
+first_of [] = None
+first_of (x ∷ xs) = Some x
+
 -- a count that stops at the greatest value
 abbrev pub stopped : ℕ → ℕ
 stopped n = min n (2 ^ 64 - 1)
 
+-- the times of the units that are recorded
+abbrev pub recorded_times : List ReplayUnit → List ℕ
+recorded_times units =
+    filter_map (λ (unit : ReplayUnit). if is_recorded unit.payload then Some unit.time else None) units
+
 abbrev pub first_time : List ReplayUnit → Option ℕ
-first_time [] = None
-first_time (unit ∷ units) = Some unit.time
+first_time units = first_of (recorded_times units)
 
 abbrev pub last_time : List ReplayUnit → Option ℕ
-last_time units = option_map (λ unit. unit.time) (last_or None (filter_map (λ (unit : ReplayUnit). Some unit) units))
+last_time units = last_or None (recorded_times units)
 
 unfoldable pub churn_of : List ReplayUnit → Churn
 churn_of units =

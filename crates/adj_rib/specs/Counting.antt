@@ -4,6 +4,7 @@ use Rattle.std.specs.List.{fold}
 use Rattle.mrt_frame.specs.declared.fault.Fault.{Fault}
 use Rattle.mrt_body.specs.declared.state_rule.StateRule.{StateRule}
 use Rattle.mrt_body.specs.States.{breaks}
+use Rattle.mrt_body.specs.declared.unit.Unit.{Unit as ReplayUnit}
 use Rattle.mrt_body.specs.declared.meaning.Event.{Event}
 use Rattle.mrt_body.specs.declared.meaning.Event.TheVariants as event
 use Rattle.adj_rib.specs.declared.churn.Churn.{Churn}
@@ -11,7 +12,7 @@ use Rattle.adj_rib.specs.declared.note.Note.{Note}
 use Rattle.adj_rib.specs.declared.outcome.Outcome.{Outcome}
 use Rattle.adj_rib.specs.declared.outcome.UnitKind.{UnitKind}
 use Rattle.adj_rib.specs.declared.outcome.UnitKind.TheVariants.{Break, Idle, Damaged, Other}
-use Rattle.adj_rib.specs.Applied.{counted, counted_if, timed}
+use Rattle.adj_rib.specs.Applied.{counted, counted_if, timed_by}
 use Rattle.adj_rib.specs.Histories.{is_before, outcome_noted}
 
 -- what a state change is counted as
@@ -28,6 +29,7 @@ kind_of up (Ok (event.State old new rule)) = change_kind rule old new
 kind_of up (Ok (event.Change update)) = routing_kind up
 kind_of up (Ok (event.Rib key route)) = routing_kind up
 kind_of up (Ok event.Other) = Other
+kind_of up (Ok event.Clear) = Other
 kind_of up (Err fault) = Damaged
 
 -- the counts after one more unit of this kind
@@ -47,6 +49,6 @@ abbrev pub counted_note : Churn → Note → Churn
 counted_note c note = counted_this (outcome_noted note.what) c
 
 -- after one more unit, unless it is before this second, and its notes
-abbrev pub counted_within : Option ℕ → ℕ → UnitKind → List Note → Churn → Churn
-counted_within since time kind notes c =
-    if is_before since time then c else fold counted_note (counted_unit kind (timed time c)) notes
+abbrev pub counted_within : Option ℕ → ReplayUnit → UnitKind → List Note → Churn → Churn
+counted_within since unit kind notes c =
+    if is_before since unit.time then c else fold counted_note (counted_unit kind (timed_by unit c)) notes

@@ -1,5 +1,5 @@
--- What happened to each key of a peer: a note of each announcement and withdrawal, and of each route that a break ended
--- (RFC 4271, 3.2, 4.3 and 9).
+-- What happened to each key of a peer: a note of each announcement and withdrawal, and of each route that a break or a
+-- clear ended (RFC 4271, 3.2, 4.3 and 9).
 use Rattle.std.specs.Prelude.{◌≡◌, ℕ, ◌/◌, Bool, false, not, ◌&&◌, List, [], ◌∷◌, map, Option, Some, None, is_err, nat_lt, if◌then◌else◌}
 use Rattle.std.specs.List.{count_by, filter}
 use Rattle.mrt_frame.specs.Positions.{flat_map_after}
@@ -15,7 +15,7 @@ use Rattle.adj_rib.specs.declared.note.What.{What}
 use Rattle.adj_rib.specs.declared.note.What.TheVariants.{New, Changed, Same, Gone, Void, Lost}
 use Rattle.adj_rib.specs.declared.outcome.Outcome.{Outcome}
 use Rattle.adj_rib.specs.declared.outcome.Outcome.TheVariants as outcome
-use Rattle.adj_rib.specs.Steps.{Step, break, announce, withdraw, is_up, unit_steps, steps_of}
+use Rattle.adj_rib.specs.Steps.{Step, break, clear, announce, withdraw, is_up, unit_steps, steps_of}
 use Rattle.adj_rib.specs.Tables.{route_at, table_of}
 use Rattle.adj_rib.specs.Churns.{damaged_of, first_time, is_break, is_outcome, is_routing, last_time, reading_of, stopped}
 use Rattle.adj_rib.specs.Selecting.{chooses, selected_entries}
@@ -44,9 +44,10 @@ withdrawn_note old k = record { what = what_without old; key = k; route = old }
 abbrev pub lost_note : RouteKey × Route → Note
 lost_note e = record { what = Lost; key = e.0; route = Some e.1 }
 
--- what a step does after these steps: a break ends each route, in the order of the keys
+-- what a step does after these steps: a break or a clear ends each route, in the order of the keys
 abbrev pub noted_after : List Step → Step → List Note
 noted_after before break = map lost_note (table_of before)
+noted_after before clear = map lost_note (table_of before)
 noted_after before (announce k route) = announced_note (route_at before k) k route ∷ []
 noted_after before (withdraw k) = withdrawn_note (route_at before k) k ∷ []
 

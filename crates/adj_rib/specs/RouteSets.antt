@@ -7,7 +7,7 @@ use Rattle.bgp_update.specs.declared.route.Update.{Update}
 use Rattle.bgp_update.specs.declared.width.Width.TheVariants.{Four}
 use Rattle.bgp_update.specs.Attributes.{route_in}
 use Rattle.mrt_body.specs.declared.unit.Payload.{Payload}
-use Rattle.mrt_body.specs.declared.unit.Payload.TheVariants.{State, Message, Entry}
+use Rattle.mrt_body.specs.declared.unit.Payload.TheVariants.{State, Message, Entry, Clear}
 use Rattle.adj_rib.specs.declared.route_set.Slot.{Slot}
 use Rattle.adj_rib.specs.declared.route_set.Slot.TheVariants.{Empty, Kept}
 use Rattle.mrt_body.specs.declared.meaning.Event.TheVariants.{Change}
@@ -22,11 +22,12 @@ kept_route (Some (Kept hash route)) = Some route
 kept_route (Some Empty) = None
 kept_route None = None
 
--- what the attributes of a RIB entry encode; nothing for a message or a state change
+-- what the attributes of a RIB entry encode; nothing for a message, a state change or a clear
 abbrev pub entry_reading : Payload → Option (Result Route Fault)
 entry_reading (Entry key attrs) = Some (route_in Four attrs)
 entry_reading (Message bytes width add_path) = None
 entry_reading (State from to rule) = None
+entry_reading Clear = None
 
 -- An UPDATE announces these keys by this route, and does nothing else.
 pub record IsAnnouncement (keys : List RouteKey) (by : Route) (update : Update) : Type 0 where
@@ -35,7 +36,8 @@ pub record IsAnnouncement (keys : List RouteKey) (by : Route) (update : Update) 
   pub reached : update.reached ≡ []
   pub route : update.route ≡ by
 
--- What was read of a payload: nothing, the route that the attributes of a RIB entry encode, or an UPDATE's announcement.
+-- What was read of a payload: nothing, the route that the attributes of a RIB entry encode, or an UPDATE's
+-- announcement.
 abbrev pub IsReadOf : Payload → Reading → Type 0
 IsReadOf payload Nothing = ⊤
 IsReadOf payload (EntryRoute hashed) = entry_reading payload ≡ Some (Ok hashed.route)

@@ -9,12 +9,13 @@ use Rattle.mrt_body.specs.declared.unit.Unit.{Unit as ReplayUnit}
 use Rattle.mrt_body.specs.Choices.{is_chosen}
 use Rattle.mrt_body.specs.Selections.{concerns}
 use Rattle.adj_rib.specs.declared.outcome.Outcome.{Outcome}
-use Rattle.adj_rib.specs.Steps.{Step, break, announce, withdraw}
+use Rattle.adj_rib.specs.Steps.{Step, break, clear, announce, withdraw}
 use Rattle.adj_rib.specs.Churns.{outcome_of}
 
--- a step of a selected key, or a break, which ends the routes of all
+-- a step of a selected key, or a break or a clear, which end the routes of all
 abbrev pub keeps : (RouteKey → Bool) → Step → Bool
 keeps selects break = true
+keeps selects clear = true
 keeps selects (announce k route) = selects k
 keeps selects (withdraw k) = selects k
 
@@ -25,7 +26,7 @@ selected_steps selects steps = filter (keeps selects) steps
 abbrev pub selected_entries : (RouteKey → Bool) → List (RouteKey × Route) → List (RouteKey × Route)
 selected_entries selects table = filter (λ e. selects e.0) table
 
--- the outcome of each step of a selected key, and of each break, beside all the steps before it
+-- the outcome of each step of a selected key, and of each break and clear, beside all the steps before it
 unfoldable pub selected_outcomes : (RouteKey → Bool) → List Step → List Outcome
 selected_outcomes selects steps =
     flat_map_after (λ before step. if keeps selects step then outcome_of before step ∷ [] else []) [] steps

@@ -1,11 +1,11 @@
 -- Where the routes of a table come from (RFC 4271, 3.2 and 8).
-use Rattle.std.specs.Prelude.{◌≡◌, ◌⊎◌, List, ◌∷◌, ◌++◌, Ok, true}
+use Rattle.std.specs.Prelude.{⊤, ◌≡◌, ◌⊎◌, List, ◌∷◌, ◌++◌, Ok, true}
 use Rattle.std.specs.List.{Contains, AllByRecursion}
 use Rattle.bgp_prefix.specs.declared.key.RouteKey.{RouteKey}
 use Rattle.bgp_update.specs.declared.route.Route.{Route}
 use Rattle.bgp_update.specs.Hops.{by_hop}
 use Rattle.mrt_body.specs.declared.unit.Payload.{Payload}
-use Rattle.mrt_body.specs.declared.unit.Payload.TheVariants.{State, Message, Entry}
+use Rattle.mrt_body.specs.declared.unit.Payload.TheVariants.{State, Message, Entry, Clear}
 use Rattle.mrt_body.specs.declared.unit.Unit.{Unit as ReplayUnit}
 use Rattle.mrt_body.specs.declared.meaning.Event.{Event}
 use Rattle.mrt_body.specs.declared.meaning.Event.TheVariants as event
@@ -20,14 +20,16 @@ Announces (event.Change u) key route =
 Announces (event.Rib other entered) key route = (other ≡ key) × (entered ≡ route)
 Announces (event.State old new rule) key route = ⊥
 Announces event.Other key route = ⊥
+Announces event.Clear key route = ⊥
 
--- a state change that is a break by its rule
-abbrev pub IsBreak : Payload → Type 0
-IsBreak (State from to rule) = breaks rule from to ≡ true
-IsBreak (Message bytes width add_path) = ⊥
-IsBreak (Entry key attrs) = ⊥
+-- a state change that is a break by its rule, or a RIB dump's clear
+abbrev pub EndsRoutes : Payload → Type 0
+EndsRoutes (State from to rule) = breaks rule from to ≡ true
+EndsRoutes (Message bytes width add_path) = ⊥
+EndsRoutes (Entry key attrs) = ⊥
+EndsRoutes Clear = ⊤
 
--- A unit that came while the peer was up announces the key with the route, and no unit after it is a break.
+-- A unit that came while the peer was up announces the key with the route, and no unit after it ends routes.
 pub record ComesFrom (units : List ReplayUnit) (key : RouteKey) (route : Route) : Type 0 where
   pub before : List ReplayUnit
   pub unit : ReplayUnit
@@ -37,4 +39,4 @@ pub record ComesFrom (units : List ReplayUnit) (key : RouteKey) (route : Route) 
   pub meaning : Event
   pub reading : reading_of unit ≡ Ok meaning
   pub announces : Announces meaning key route
-  pub unbroken : AllByRecursion (λ u. IsBreak u.payload → ⊥) after
+  pub unbroken : AllByRecursion (λ u. EndsRoutes u.payload → ⊥) after

@@ -10,7 +10,7 @@ use Rattle.bgp_update.specs.declared.route.Update.{Update}
 use Rattle.bgp_update.specs.Hops.{by_hop}
 use Rattle.mrt_body.specs.declared.state_rule.StateRule.{StateRule}
 use Rattle.mrt_body.specs.declared.unit.Payload.{Payload}
-use Rattle.mrt_body.specs.declared.unit.Payload.TheVariants.{State, Message, Entry}
+use Rattle.mrt_body.specs.declared.unit.Payload.TheVariants.{State, Message, Entry, Clear}
 use Rattle.mrt_body.specs.declared.unit.Unit.{Unit as ReplayUnit}
 use Rattle.mrt_body.specs.declared.meaning.Event.{Event}
 use Rattle.mrt_body.specs.declared.meaning.Event.TheVariants as event
@@ -20,6 +20,7 @@ use Rattle.mrt_body.specs.Events.{event_in}
 -- a change of a table
 pub data Step : Type 0 where
   break : Step
+  clear : Step
   announce : RouteKey → Route → Step
   withdraw : RouteKey → Step
 
@@ -28,6 +29,7 @@ abbrev pub state_says : (StateRule → ℕ → ℕ → Option Bool) → Payload 
 state_says says (State from to rule) = says rule from to
 state_says says (Message bytes width add_path) = None
 state_says says (Entry key attrs) = None
+state_says says Clear = None
 
 -- what the last state change says that says anything; true where none does
 abbrev pub last_said : (StateRule → ℕ → ℕ → Option Bool) → List ReplayUnit → Bool
@@ -67,6 +69,7 @@ event_steps up (event.State old new rule) = state_steps rule old new
 event_steps up (event.Change update) = if up then update_steps update else []
 event_steps up (event.Rib key route) = if up then announce key route ∷ [] else []
 event_steps up event.Other = []
+event_steps up event.Clear = clear ∷ []
 
 -- a damaged unit takes no step
 abbrev pub reading_steps : Bool → Result Event Fault → List Step

@@ -6,11 +6,12 @@ use Rattle.bgp_prefix.specs.Ordered.{tabulated}
 use Rattle.bgp_prefix.specs.Keys.{key_cmp, key_eq}
 use Rattle.bgp_prefix.specs.declared.key.RouteKey.{RouteKey}
 use Rattle.bgp_update.specs.declared.route.Route.{Route}
-use Rattle.adj_rib.specs.Steps.{Step, break, announce, withdraw}
+use Rattle.adj_rib.specs.Steps.{Step, break, clear, announce, withdraw}
 
 -- what a step says of a key: nothing, or which route it has from now on, if any
 abbrev pub said_of : RouteKey → Step → Option (Option Route)
 said_of k break = Some None
+said_of k clear = Some None
 said_of k (announce q route) = if key_eq k q then Some (Some route) else None
 said_of k (withdraw q) = if key_eq k q then Some None else None
 
@@ -18,7 +19,7 @@ said_of k (withdraw q) = if key_eq k q then Some None else None
 abbrev pub IsSilent : RouteKey → Step → Type 0
 IsSilent k step = said_of k step ≡ None
 
--- Some step announces the key with the route, and no later step is a break or speaks of it.
+-- Some step announces the key with the route, and no later step is a break or a clear or speaks of it.
 pub record Holds (steps : List Step) (k : RouteKey) (route : Route) : Type 0 where
   pub before : List Step
   pub after : List Step
@@ -35,6 +36,7 @@ IsTable steps table = (k : RouteKey) → finite.get table k ≡ route_at steps k
 
 abbrev pub announced_key : Step → Option RouteKey
 announced_key break = None
+announced_key clear = None
 announced_key (announce k route) = Some k
 announced_key (withdraw k) = None
 

@@ -9,13 +9,14 @@ use Rattle.mrt_body.specs.declared.unit.Damage.{Damage}
 use Rattle.mrt_body.specs.declared.unit.Place.{Place}
 use Rattle.adj_rib.specs.declared.note.Note.{Note}
 use Rattle.adj_rib.specs.declared.watch.WatchedRib.{WatchedRib}
-use Rattle.adj_rib.specs.Steps.{Step, break, announce, withdraw, reading_steps}
+use Rattle.adj_rib.specs.Steps.{Step, break, clear, announce, withdraw, reading_steps}
 use Rattle.adj_rib.specs.Applied.{RouteMap, table_after, up_after}
 use Rattle.adj_rib.specs.Selecting.{chooses, selected_steps}
 use Rattle.adj_rib.specs.Histories.{announced_note, withdrawn_note, lost_note}
 
 abbrev pub noted_on : RouteMap → Step → List Note
 noted_on table break = map lost_note (finite.entries table)
+noted_on table clear = map lost_note (finite.entries table)
 noted_on table (announce k route) = announced_note (finite.get table k) k route ∷ []
 noted_on table (withdraw k) = withdrawn_note (finite.get table k) k ∷ []
 

@@ -1,11 +1,11 @@
 //! How many units of a peer came, and where the first one stands.
 
-use mrt_body::Place;
+use mrt_body::{LentUnit, Place};
 
 /// How many units of a peer were taken, and where the first one stands.
 #[derive(Clone, Copy, Debug, PartialEq, Eq)]
 pub struct Arrivals {
-    /// Of every kind, damaged ones among them. Stops at `u64::MAX`.
+    /// Of every kind that is recorded, damaged ones among them. Stops at `u64::MAX`.
     pub units: u64,
     /// The place of the first unit, if there is one.
     pub first: Option<Place>,
@@ -13,7 +13,8 @@ pub struct Arrivals {
 
 impl Arrivals {
     ghost use Rattle.std.specs.Prelude.{◌≡◌};
-    ghost use Rattle.adj_rib.specs.Arrived.{arrived, no_arrivals};
+    ghost use Rattle.mrt_body.specs.Lent.{lent_unit};
+    ghost use Rattle.adj_rib.specs.Arrived.{arrived_by, no_arrivals};
 
     /// Returns the arrivals of no unit.
     pub(crate) fn new() -> Arrivals
@@ -25,15 +26,17 @@ impl Arrivals {
         }
     }
 
-    /// Notes the place of a unit.
+    /// Notes a unit, if it is recorded.
     #[inline(always)]
     #[tactic(auto, unfolding(crate::specs::Arrived::arrived))]
-    pub(crate) fn note(&mut self, place: Place)
-        ensures { self.new ≡ arrived place self.old }
+    pub(crate) fn note(&mut self, unit: &LentUnit<'_>)
+        ensures { self.new ≡ arrived_by (lent_unit unit.now) self.old }
     {
-        self.units = self.units.saturating_add(1);
-        if self.first.is_none() {
-            self.first = Some(place);
+        if unit.payload.is_recorded() {
+            self.units = self.units.saturating_add(1);
+            if self.first.is_none() {
+                self.first = Some(unit.place);
+            }
         }
     }
 }

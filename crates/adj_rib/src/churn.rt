@@ -5,6 +5,7 @@ ghost use Rattle.adj_rib.specs.Histories.{is_before};
 
 use crate::note::{Note, What};
 use crate::outcome::{Outcome, UnitKind};
+use mrt_body::LentUnit;
 
 /// Whether a time, in microseconds since 1970 UTC, is before this second.
 pub fn is_before(since: Option<u64>, time: u64) -> bool
@@ -36,16 +37,17 @@ pub struct Churn {
     pub idle: u64,
     /// Damaged units.
     pub refused: u64,
-    /// The time of the first unit.
+    /// The time of the first unit that was recorded.
     pub first: Option<u64>,
-    /// The time of the last unit.
+    /// The time of the last unit that was recorded.
     pub last: Option<u64>,
 }
 
 impl Churn {
     ghost use Rattle.std.specs.Prelude.{◌≡◌, None};
     ghost use Rattle.std.specs.List.{fold};
-    ghost use Rattle.adj_rib.specs.Applied.{counted, no_churn, timed};
+    ghost use Rattle.mrt_body.specs.Lent.{lent_unit};
+    ghost use Rattle.adj_rib.specs.Applied.{counted, no_churn, timed_by};
     ghost use Rattle.adj_rib.specs.Counting.{counted_note, counted_this, counted_unit, counted_within};
     ghost use Rattle.adj_rib.specs.Histories.{outcome_noted};
 
@@ -79,19 +81,23 @@ impl Churn {
             Outcome::Gone => self.gone = self.gone.saturating_add(1),
             Outcome::Void => self.void = self.void.saturating_add(1),
             Outcome::Reset => self.resets = self.resets.saturating_add(1),
+            Outcome::Cleared => {}
         }
     }
 
-    /// Notes the time of a unit.
+    /// Notes the time of a unit, if it is recorded.
+    #[inline(always)]
     #[tactic(auto, unfolding(crate::specs::Applied::timed))]
-    pub(crate) fn note_time(&mut self, time: u64)
-        ensures { self.new ≡ timed time self.old }
+    pub(crate) fn note_unit(&mut self, unit: &LentUnit<'_>)
+        ensures { self.new ≡ timed_by (lent_unit unit.now) self.old }
     {
-        self.first = Some(self.first.unwrap_or(time));
-        self.last = Some(time);
+        if unit.payload.is_recorded() {
+            self.first = Some(self.first.unwrap_or(unit.time));
+            self.last = Some(unit.time);
+        }
     }
 
-    /// Counts what happened to a key. A route that a state change ended isn't counted: the state change is.
+    /// Counts what happened to a key. A route that a state change or a clear ended isn't counted: the state change is.
     fn count_what(&mut self, what: What)
         ensures { self.new ≡ counted_this (outcome_noted what) self.old }
     {
@@ -131,16 +137,16 @@ impl Churn {
     pub(crate) fn count_within(
         &mut self,
         since: Option<u64>,
-        time: u64,
+        unit: &LentUnit<'_>,
         kind: UnitKind,
         notes: &[Note],
     )
-        ensures { self.new ≡ counted_within since time kind notes.now self.old }
+        ensures { self.new ≡ counted_within since (lent_unit unit.now) kind notes.now self.old }
     {
-        if is_before(since, time) {
+        if is_before(since, unit.time) {
             return;
         }
-        self.note_time(time);
+        self.note_unit(unit);
         self.count_unit(kind);
         self.count_notes(notes);
     }

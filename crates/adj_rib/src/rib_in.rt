@@ -67,6 +67,14 @@ impl<M: PrefixMap<SharedRoute>> RibIn<M> {
         }
     }
 
+    /// Takes the step of a clear.
+    #[tactic(auto, unfolding(crate::specs::Applied::followed, crate::specs::Applied::noted, crate::specs::Applied::counted))]
+    fn clear(&mut self)
+        ensures { kept_in M.contents self.new ≡ followed (kept_in M.contents self.old) (Ok events.Clear) }
+    {
+        self.table.clear();
+    }
+
     /// Counts an UPDATE or a RIB entry of a peer that isn't up.
     fn count_idle(&mut self)
         ensures { self.new
@@ -172,6 +180,10 @@ impl<M: PrefixMap<SharedRoute>> RibIn<M> {
                 self.announce_entry(alloc, key, &HashedRoute::new(route))
             }
             Ok(PackedEvent::Other) => Ok(()),
+            Ok(PackedEvent::Clear) => {
+                self.clear();
+                Ok(())
+            }
             Err(AttrError::Bad(fault)) => self.list_damage(Damage { place, fault }),
             Err(AttrError::Memory) => Err(Memory),
         }
@@ -234,7 +246,7 @@ impl<M: PrefixMap<SharedRoute>> RibIn<M> {
         ensures { OnOk result
             (kept_in M.contents self.new ≡ taken (kept_in M.contents self.old) (lent_unit unit.now)) }
     {
-        self.churn.note_time(unit.time);
+        self.churn.note_unit(unit);
         self.take_payload(alloc, buffer, unit.place, &unit.payload, ahead)
     }
 }

@@ -91,7 +91,7 @@ impl<M: PrefixMap<SharedRoute>> Session<M> {
         if self.spent {
             return Err(Memory);
         }
-        self.arrivals.note(unit.place);
+        self.arrivals.note(unit);
         match self.rib.take(alloc, buffer, unit, ahead) {
             Ok(()) => Ok(()),
             Err(memory) => {
@@ -150,7 +150,7 @@ impl<M: PrefixMap<SharedRoute>> Session<M> {
         self.rib.churn
     }
 
-    /// How many units were taken, and where the first one stands.
+    /// How many recorded units were taken, and where the first one stands.
     pub fn arrivals(&self) -> Arrivals
         ensures { result ≡ self.now.arrivals }
     {

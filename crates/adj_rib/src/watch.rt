@@ -90,6 +90,15 @@ impl<M: PrefixMap<SharedRoute>> WatchedRib<M> {
         Ok(())
     }
 
+    /// Takes the step of a clear, whatever prefixes are chosen.
+    #[tactic(auto, unfolding(crate::specs::Watching::watch_after))]
+    fn clear(&mut self, alloc: Global, notes: &mut Vec<Note>) -> Result<(), Memory>
+        ensures { (choices : List Choice) → OnOk result ((watching_in M.contents self.new, notes.new.items)
+            ≡ watch_after choices (watching_in M.contents self.old, notes.old.items) (Ok events.Clear)) }
+    {
+        lose_all(alloc, &mut self.table, notes)
+    }
+
     /// Takes the steps of an UPDATE.
     #[tactic(auto, unfolding(crate::specs::Watching::watch_after))]
     fn take_update(
@@ -176,6 +185,10 @@ impl<M: PrefixMap<SharedRoute>> WatchedRib<M> {
                 Ok(kind_of_routing(up))
             }
             Ok(PackedEvent::Other) => Ok(UnitKind::Other),
+            Ok(PackedEvent::Clear) => {
+                self.clear(alloc, notes)?;
+                Ok(UnitKind::Other)
+            }
             Err(AttrError::Bad(fault)) => {
                 self.list_damage(Damage { place, fault })?;
                 Ok(UnitKind::Damaged)
@@ -240,8 +253,7 @@ impl<M: PrefixMap<SharedRoute>> Watch<M> {
         let kind = self
             .rib
             .take_payload(alloc, buffer, chosen, unit.place, &unit.payload, notes)?;
-        self.churn
-            .count_within(since, unit.time, kind, notes.as_slice());
+        self.churn.count_within(since, unit, kind, notes.as_slice());
         Ok(())
     }
 

@@ -15,7 +15,8 @@ contents_remaining remaining (Ahead form reader) = None
 abbrev pub dump_contents : {D : Type 0} → Dump D → Contents D
 dump_contents dump = dump.contents
 
--- what is still to be read of a dump's device, with what was read of it and not yet given; of a packed one nothing is known
+-- what is still to be read of a dump's device, with what was read of it and not yet given; of a packed one nothing is
+-- known
 abbrev pub dump_remaining : {D : Type 0} → (D → Option (List ℕ)) → Dump D → Option (List ℕ)
 dump_remaining remaining dump = contents_remaining remaining (dump_contents dump)
 

@@ -139,8 +139,8 @@ pub struct Files {
 }
 
 impl Files {
-    /// Opens all files, in order, and looks in which form regular ones are, if that is asked. A second `-` finds nothing
-    /// left. Where no more files can be open, all that may be closed are.
+    /// Opens all files, in order, and looks in which form regular ones are, if that is asked. A second `-` finds
+    /// nothing left. Where no more files can be open, all that may be closed are.
     pub fn open(rt: &HostRuntime, names: &[String], asks_format: bool) -> Result<Files, OpenError> {
         let mut files = Files {
             places: Vec::new(rt.alloc()),

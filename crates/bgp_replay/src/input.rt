@@ -346,7 +346,7 @@ pub fn packed_files_of<'f>(
     Ok(packed)
 }
 
-/// Makes the dumps of these files, which were opened. Those that threads may unpack are given beside, in the same order.
+/// Makes the dumps of these files, which were opened. Those that threads may unpack are given beside, in this order.
 pub fn inputs_of<'a, 'f: 'a>(
     rt: &HostRuntime,
     names: &'f [String],

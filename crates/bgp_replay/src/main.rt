@@ -153,8 +153,8 @@ fn workers_of(threads: &impl Threads, job: &Job) -> usize
     most_threads(threads, job)
 }
 
-/// Returns as many threads as the arguments ask for, else one per processor; if the system doesn't report how many there
-/// are, as many as the job has.
+/// Returns as many threads as the arguments ask for, else one per processor; if the system doesn't report how many
+/// there are, as many as the job has.
 fn most_threads(threads: &impl Threads, job: &Job) -> usize
     ensures least { 1 ≤ result }
     ensures most { result ≤ 64 }
@@ -177,6 +177,7 @@ fn selection_of(alloc: Global, job: &Job) -> Result<Selection, Memory>
       peers = job.now.peers.items;
       share = job.now.share;
       states = job.now.states;
+      ribs = job.now.ribs;
     }) }
 {
     let choices = Vec::from_slice(alloc, &job.prefixes)?;
@@ -188,7 +189,8 @@ fn selection_of(alloc: Global, job: &Job) -> Result<Selection, Memory>
             .of_prefixes(prefixes)
             .of_peers(peers)
             .of_share(job.share)
-            .by_states(job.states),
+            .by_states(job.states)
+            .by_ribs(job.ribs),
     )
 }
 
@@ -466,7 +468,7 @@ fn replay_files(
     }
     tell(rt, &outcome, &job.request, inputs.as_slice(), &out);
     if let (Ok(summary), false) = (&outcome, job.quiet) {
-        tell_notes(rt, summary, inputs.as_slice());
+        tell_notes(rt, summary, job.ribs, inputs.as_slice());
     }
     if job.summary {
         let elapsed = since(rt, start);

@@ -1,14 +1,14 @@
-//! What is remarkable about the dumps of a complete run, on standard error: what they are likely not meant to be. A note is
-//! a line that begins with two spaces and `note: `; no report and no status depends on it.
+//! What is remarkable about the dumps of a complete run, on standard error: what they are likely not meant to be. A
+//! note is a line that begins with two spaces and `note: `; no report and no status depends on it.
 
 use crate::input::Input;
 use command_line::FileName;
-use mrt_body::{Marked, PeerAddr, PeerKey};
+use mrt_body::{Marked, PeerAddr, PeerKey, RibRule};
 use mrt_replay::{Idle, Summary};
 use std::alloc::{AllocError, Global};
 
-/// The most files that a note names.
-const MOST_FILES: usize = 5;
+/// The most files or peers that a note names.
+const MOST_NAMES: usize = 5;
 
 /// Names, split by commas. Further ones are counted.
 #[derive(Drop)]
@@ -27,7 +27,7 @@ impl Names {
 
     /// Adds a name, if there are fewer than five.
     fn add(&mut self, name: &str) -> Result<(), AllocError> {
-        if self.count < MOST_FILES {
+        if self.count < MOST_NAMES {
             if self.count > 0 {
                 self.text.push_str(", ")?;
             }
@@ -39,7 +39,7 @@ impl Names {
 
     /// Adds how many names were left out.
     fn end(&mut self, alloc: Global) -> Result<(), AllocError> {
-        let others = self.count.saturating_sub(MOST_FILES);
+        let others = self.count.saturating_sub(MOST_NAMES);
         if others > 0 {
             let more = format!(in alloc; " and {others} more")?;
             self.text.push_str(more.as_str())?;
@@ -154,10 +154,28 @@ fn note_of(alloc: Global, what: &str, mut names: Names) -> Result<Option<String>
     Ok(Some(format!(in alloc; "{what}: {text}")?))
 }
 
+/// Returns the note on RIB dumps that add up, if there are several.
+fn dumps_note(
+    alloc: Global,
+    dumps: &Marked,
+    ribs: RibRule,
+    inputs: &[Input<'_, '_>],
+) -> Result<Option<String>, AllocError> {
+    let records = dumps.records();
+    if ribs == RibRule::Replace || records < 2 {
+        return Ok(None);
+    }
+    let names = names_of(alloc, dumps, inputs)?;
+    Ok(Some(format!(in alloc;
+        "RIB dumps that add up in the tables, where routes of a former one stay: {records}, in {names}; --rib replace clears the tables at each"
+    )?))
+}
+
 /// Returns the notes on a run, in their order.
 fn notes_of(
     alloc: Global,
     summary: &Summary,
+    ribs: RibRule,
     inputs: &[Input<'_, '_>],
 ) -> Result<Vec<String>, AllocError> {
     let remarks = summary.remarks;
@@ -179,12 +197,8 @@ fn notes_of(
     if let Some(note) = early {
         notes.push(note)?;
     }
-    if remarks.dumps.records() > 1 {
-        let dumps = remarks.dumps.records();
-        let names = names_of(alloc, &remarks.dumps, inputs)?;
-        notes.push(format!(in alloc;
-            "RIB dumps that add up in the tables, where routes of a former one stay: {dumps}, in {names}"
-        )?)?;
+    if let Some(note) = dumps_note(alloc, &remarks.dumps, ribs, inputs)? {
+        notes.push(note)?;
     }
     if remarks.repeats.records() > 0 {
         let records = remarks.repeats.records();
@@ -197,8 +211,8 @@ fn notes_of(
 }
 
 /// Reports what is remarkable about the dumps. Without memory for it nothing is.
-pub fn tell_notes(rt: &HostRuntime, summary: &Summary, inputs: &[Input<'_, '_>]) {
-    if let Ok(notes) = notes_of(rt.alloc(), summary, inputs) {
+pub fn tell_notes(rt: &HostRuntime, summary: &Summary, ribs: RibRule, inputs: &[Input<'_, '_>]) {
+    if let Ok(notes) = notes_of(rt.alloc(), summary, ribs, inputs) {
         for note in &notes {
             let _ = eprintln!(rt; "  note: {note}");
         }

@@ -7,7 +7,8 @@ use Rattle.mrt_body.specs.declared.choice.Reach.TheVariants.{Exact, Inside, Arou
 use Rattle.mrt_body.specs.declared.choice.PrefixChoice.{PrefixChoice}
 use Rattle.command_line.specs.Addresses.{IsAddress}
 
--- the text is an address, a slash and a length in decimal, and no bit is past the length; or an address alone, which has all its bits
+-- the text is an address, a slash and a length in decimal, and no bit is past the length; or an address alone, which
+-- has all its bits
 pub data SpellsPrefix (text : List ℕ) (prefix : IpPrefix) : Type 0 where
   with_length : (front : List ℕ) → text ≡ front ++ 47 ∷ decimal prefix.len → IsAddress front prefix.addr → IsIpPrefix prefix → SpellsPrefix text prefix
   alone : IsAddress text prefix.addr → prefix.len ≡ 32 → SpellsPrefix text prefix

@@ -1,8 +1,8 @@
 //! What the command line asks for, and the names that the program uses for files and records in messages.
 //!
 //! `read_words` makes a `Job` of the arguments, by the kit's `clap`; its invariants are the ranges of workers and ring,
-//! and that there is a file or a list of files. `read_address` and `read_choice` are exact in both directions, as is what is reported as a
-//! bad address. What else the arguments mean is tested (`command_tests`) and not stated.
+//! and that there is a file or a list of files. `read_address` and `read_choice` are exact in both directions, as is
+//! what is reported as a bad address. What else the arguments mean is tested (`command_tests`) and not stated.
 //!
 //! - Options, commands and columns stand in the tables of `options`, and what they say in words is made from these:
 //!   help here, manual page, usage page and completions by `tools/options.py`. A new option is a row there, and its

@@ -50,7 +50,7 @@ pub struct CommandRow {
     pub examples: &'static [&'static str],
 }
 
-pub static OPTIONS: [OptionRow; 16] = [
+pub static OPTIONS: [OptionRow; 17] = [
     OptionRow {
         name: "address",
         value: "A",
@@ -140,6 +140,16 @@ pub static OPTIONS: [OptionRow; 16] = [
         commands: "",
         is_required: false,
         meaning: "Say which state changes end a peer's routes. With recorded each does but one from 6 (Established) to 6, and the peer is up where the new state is 6. With established, for dumps of FRR, one does where either of its states is 6 and the other isn't, and what comes between is taken whatever the states are",
+    },
+    OptionRow {
+        name: "rib",
+        value: "RULE",
+        takes: Takes::Text,
+        default: "add",
+        offered: "add replace",
+        commands: "",
+        is_required: false,
+        meaning: "Say what a RIB dump does to the routes before it. With add its entries are announcements like others. With replace its first record behind an index table clears all tables, so that routes that have gone don't stay",
     },
     OptionRow {
         name: "same",
@@ -386,11 +396,11 @@ const HISTORY_COLUMNS: &[ColumnRow] = &[
     },
     ColumnRow {
         name: "what",
-        meaning: "`new`, `changed` or `same`: announced, where the table had no route, another one or this one; `gone` or `void`: withdrawn, where it had a route or none; `lost`: taken by a change of the session's state",
+        meaning: "`new`, `changed` or `same`: announced, where the table had no route, another one or this one; `gone` or `void`: withdrawn, where it had a route or none; `lost`: taken by a change of the session's state, or by a RIB dump under --rib replace",
     },
     ColumnRow {
         name: "by",
-        meaning: "`rib`: an entry of a table; `update`: a message; `state`: a change of the session's state",
+        meaning: "`rib`: an entry of a table, or, of what is lost, a RIB dump; `update`: a message; `state`: a change of the session's state",
     },
     ColumnRow {
         name: "prefix",

@@ -14,7 +14,7 @@ use crate::peers::{read_peer, read_share};
 use crate::refusal::refusal_of;
 use clap::error::ErrorKind;
 use clap::{ArgMatches, Error};
-use mrt_body::{PeerChoice, PrefixChoice, Share, StateRule};
+use mrt_body::{PeerChoice, PrefixChoice, RibRule, Share, StateRule};
 use rib_report::Request;
 use std::alloc::{AllocError, AllocFailed, Global};
 
@@ -36,6 +36,8 @@ pub struct Job {
     pub until: Option<u64>,
     /// By which rule state changes are taken.
     pub states: StateRule,
+    /// What a RIB dump does to the routes before it.
+    pub ribs: RibRule,
     /// The prefixes that are chosen, or none for all.
     pub prefixes: Vec<PrefixChoice>,
     /// The files whose lines add to them; `-` is standard input.
@@ -178,6 +180,19 @@ fn states_of(alloc: Global, matches: &ArgMatches<'_>) -> Result<StateRule, Usage
     }
 }
 
+/// Returns what a RIB dump does to the routes before it.
+fn ribs_of(alloc: Global, matches: &ArgMatches<'_>) -> Result<RibRule, Usage>
+    ensures { IfErr result IsRefusal }
+{
+    match matches.get_str("rib").unwrap_or("add") {
+        "add" => Ok(RibRule::Add),
+        "replace" => Ok(RibRule::Replace),
+        text => Err(Usage::Words(format!(in alloc;
+            "error: invalid value '{text}' for '--rib <RULE>': neither add nor replace\n"
+        )?)),
+    }
+}
+
 /// Refuses a text that is no prefix.
 fn no_choice(alloc: Global, text: &str) -> Result<Usage, AllocError>
     ensures { IfOk result IsRefusal }
@@ -227,8 +242,8 @@ fn has_standard_input(names: &[String]) -> bool {
     false
 }
 
-/// Why standard input can't be all that these files say it is, if it can't: lists of prefixes, lists of files' names, and
-/// dumps.
+/// Why standard input can't be all that these files say it is, if it can't: lists of prefixes, lists of files' names,
+/// and dumps.
 pub fn standard_input_fault(
     lists: &[String],
     file_lists: &[String],
@@ -292,6 +307,7 @@ fn job_of(alloc: Global, name: &str, matches: &ArgMatches<'_>) -> Result<Job, Us
         return refused(alloc, "error: --since is after --until\n");
     }
     let states = states_of(alloc, matches)?;
+    let ribs = ribs_of(alloc, matches)?;
     let prefixes = prefixes_of(alloc, matches)?;
     let lists = texts_of(alloc, "prefixes", matches)?;
     let peers = peers_of(alloc, matches)?;
@@ -320,6 +336,7 @@ fn job_of(alloc: Global, name: &str, matches: &ArgMatches<'_>) -> Result<Job, Us
         ring,
         until,
         states,
+        ribs,
         prefixes,
         lists,
         peers,

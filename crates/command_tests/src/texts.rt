@@ -46,7 +46,7 @@ fn a_tip_is_given_where_it_helps(rt: HostRuntime) -> Result<(), Fail> {
     for (text, expected) in [
         ("tables --frobnicate x", None),
         ("tables -x sample", None),
-        ("tables --frob=1.5 x", None),
+        ("tables --quux=1.5 x", None),
         (
             "tables --untill 5 x",
             Some("  tip: a similar argument exists: '--until'"),
@@ -56,8 +56,8 @@ fn a_tip_is_given_where_it_helps(rt: HostRuntime) -> Result<(), Fail> {
             Some("  tip: '--address' is an option of match"),
         ),
         (
-            "tables --rib.20240101.mrt",
-            Some("  tip: to pass '--rib.20240101.mrt' as a file, use '-- --rib.20240101.mrt'"),
+            "tables --bview.20240101.mrt",
+            Some("  tip: to pass '--bview.20240101.mrt' as a file, use '-- --bview.20240101.mrt'"),
         ),
         (
             "tables -rib.mrt",

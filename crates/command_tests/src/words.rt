@@ -4,7 +4,7 @@ use command_line::{
     FileListError, FileName, FirstBytes, Job, Kind, Usage, fault_of_file_list, read_address,
     read_file_list, read_second, read_words,
 };
-use mrt_body::StateRule;
+use mrt_body::{RibRule, StateRule};
 use rib_report::Request;
 use std::alloc::Global;
 use std::test::Fail;
@@ -63,6 +63,9 @@ fn wrong_words_are_refused(rt: HostRuntime) -> Result<(), Fail> {
         ("tables --states x", "words"),
         ("tables --states up x", "words"),
         ("churn --states Established x", "words"),
+        ("tables --rib x", "words"),
+        ("tables --rib other x", "words"),
+        ("history --rib Replace x", "words"),
         ("tables --peer AS65001 x", "words"),
         ("tables --peer 65001,192.0.2 x", "words"),
         ("tables --peers 0/4 x", "words"),
@@ -232,6 +235,23 @@ fn the_rule_of_state_changes_is_a_word(rt: HostRuntime) -> Result<(), Fail> {
     ] {
         match job_of(alloc, text)? {
             Ok(job) => assert!(rt; job.states == expected, "{text}"),
+            Err(_) => assert!(rt; false, "{text}"),
+        }
+    }
+    Ok(())
+}
+
+#[test]
+fn the_rule_of_further_rib_dumps_is_a_word(rt: HostRuntime) -> Result<(), Fail> {
+    let alloc = rt.alloc();
+    for (text, expected) in [
+        ("tables x", RibRule::Add),
+        ("history --rib add x", RibRule::Add),
+        ("peers --rib replace x", RibRule::Replace),
+        ("faults --rib replace x --rib add", RibRule::Add),
+    ] {
+        match job_of(alloc, text)? {
+            Ok(job) => assert!(rt; job.ribs == expected, "{text}"),
             Err(_) => assert!(rt; false, "{text}"),
         }
     }

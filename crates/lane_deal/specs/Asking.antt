@@ -26,8 +26,8 @@ abbrev pub GivesAll : UnitsState → List (Option (List ℕ)) → List Found →
 GivesAll u known given = (contents : List (List ℕ)) → drop u.file known ≡ map (λ bytes. Some bytes) contents →
     found_to_come u contents ≡ given
 
--- After a failed read: where no read had failed before, this is all that the files gave before the record at which it failed;
--- where one had, nothing came.
+-- After a failed read: where no read had failed before, this is all that the files gave before the record at which it
+-- failed; where one had, nothing came.
 pub record StopsBehind (u : UnitsState) (known : List (Option (List ℕ))) (u' : UnitsState)
     (known' : List (Option (List ℕ))) (given : List Found) : Type 0 where
   pub going : u.standing ≡ standings.Going → (contents : List (List ℕ)) →
@@ -44,8 +44,8 @@ pub record TakesUnits (u : UnitsState) (known : List (Option (List ℕ))) (u' : 
   pub spent : u'.standing ≡ standings.Spent → u.standing ≡ standings.Spent
   pub idle : u.standing ≡ standings.Failed → (u' ≡ u) × (given ≡ [])
 
--- Why a reading stops: the reader of this file failed in this call, or it is the one at which the reading failed before; memory ran
--- out, there are more records than the limit, or the reading was spent.
+-- Why a reading stops: the reader of this file failed in this call, or it is the one at which the reading failed
+-- before; memory ran out, there are more records than the limit, or the reading was spent.
 abbrev pub StopsReading : UnitsState → List (Option (List ℕ)) → List ℕ → List ℕ → ReplayError → Type 0
 StopsReading u known before after (errors.Read file) = ((u.standing ≡ standings.Failed) × (file ≡ u.file)) ⊎
     HasFailed (slice_index before file) (slice_index after file)

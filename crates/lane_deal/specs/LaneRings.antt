@@ -6,7 +6,8 @@ use Rattle.lane_deal.specs.declared.worker.Worker.{Worker}
 use Rattle.lane_deal.specs.Feeds.{in_lane}
 use Rattle.lane_deal.specs.UnitRings.{sent, known_free, received, known_items, ring_capacity, IsPair}
 
--- the two ends are those of one ring of this capacity, of which the worker knows all units and the dealer how many more may wait
+-- the two ends are those of one ring of this capacity, of which the worker knows all units and the dealer how many more
+-- may wait
 abbrev pub IsReady : {S : Type 0} → ℕ → Feed → Worker S → Type 0
 IsReady capacity feed worker =
     IsPair feed.producer worker.consumer

@@ -23,8 +23,8 @@ abbrev pub IsLeft : UnitsState → List (Option (List ℕ)) → List Found → L
 IsLeft u known given left = (contents : List (List ℕ)) × (drop u.file known ≡ map (λ bytes. Some bytes) contents) ×
     (found_to_come u contents ≡ given ++ left)
 
--- A round was given these by the files, in order, and dealt or listed those of the kept unit and these; whatever the files give
--- behind them is left. Where a read failed, these are all that stand before it, and none is kept.
+-- A round was given these by the files, in order, and dealt or listed those of the kept unit and these; whatever the
+-- files give behind them is left. Where a read failed, these are all that stand before it, and none is kept.
 pub record PlaysOn (dealing : ℕ → ℕ → ℕ) (plan : Plan) (old new : ReplayerState) (u : UnitsState)
     (known : List (Option (List ℕ))) (u' : UnitsState) (known' : List (Option (List ℕ)))
     (result : Result Step ReplayError) : Type 0 where

@@ -12,8 +12,8 @@ use Rattle.lane_deal.specs.declared.numbered.Numbered.{Numbered}
 use Rattle.lane_deal.specs.Lanes.{lane_units, seats_of_lane}
 use Rattle.lane_deal.specs.Numbers.{numbered}
 
--- What the ends of a lane's ring tell: the producer's, what it sent and how many more units may wait; the consumer's, what it
--- received and what it knows to be waiting. Each unit goes with its peer's number.
+-- What the ends of a lane's ring tell: the producer's, what it sent and how many more units may wait; the consumer's,
+-- what it received and what it knows to be waiting. Each unit goes with its peer's number.
 pub record RingState : Type 0 where
   pub sent : List Numbered
   pub free : ℕ
@@ -39,8 +39,8 @@ pub record ReplayerState : Type 0 where
 abbrev pub held_routes : ReplayerState → List (RouteKey × Route)
 held_routes r = flat_map (λ lane. seat_routes lane.seats) r.lanes
 
--- These units wait in a ring of this capacity: all that was sent, none of it received and all of it known to wait. That as many more
--- may wait as it has room for is known.
+-- These units wait in a ring of this capacity: all that was sent, none of it received and all of it known to wait. That
+-- as many more may wait as it has room for is known.
 pub record WaitIn (capacity : ℕ) (waiting : List Numbered) (ring : RingState) : Type 0 where
   pub sent : ring.sent ≡ waiting
   pub received : ring.received ≡ []
@@ -48,8 +48,8 @@ pub record WaitIn (capacity : ℕ) (waiting : List Numbered) (ring : RingState) 
   pub room : length waiting ≤ capacity
   pub free : capacity ≤ length waiting + ring.free
 
--- These units were dealt to the lane, where all peers are numbered by `all`: some it took, and its worker's sessions stand for them, in
--- the order in which their peers came; the others wait in its ring.
+-- These units were dealt to the lane, where all peers are numbered by `all`: some it took, and its worker's sessions
+-- stand for them, in the order in which their peers came; the others wait in its ring.
 pub record LaneStandsFor (capacity : ℕ) (all dealt : List ReplayUnit) (lane : LaneState) : Type 0 where
   pub taken : List ReplayUnit
   pub waiting : List ReplayUnit
@@ -58,8 +58,8 @@ pub record LaneStandsFor (capacity : ℕ) (all dealt : List ReplayUnit) (lane : 
   pub seats : seats_of_lane all taken ≡ lane.seats
   pub counted : lane.took ≡ min (length taken) (2 ^ 64 - 1)
 
--- These units were dealt and these refusals listed, and there are lanes. The dealing gives the lane of a peer's number, of so many lanes; the kept unit's peer
--- has its number already.
+-- These units were dealt and these refusals listed, and there are lanes. The dealing gives the lane of a peer's number,
+-- of so many lanes; the kept unit's peer has its number already.
 pub record ReplayerStandsFor (dealing : ℕ → ℕ → ℕ) (capacity : ℕ) (units : List ReplayUnit) (refused : List Damage)
     (r : ReplayerState) : Type 0 where
   pub unspent : r.spent ≡ false

@@ -20,8 +20,9 @@ lane_in dealing r unit = dealing (position_or_len (peer_eq unit.peer) r.peers) (
 abbrev pub share_of : (ℕ → ℕ → ℕ) → ReplayerState → ℕ → List ReplayUnit → ℕ
 share_of dealing r lane units = count_by (λ unit. lane_in dealing r unit == lane) units
 
--- What a round, or as much of it as a failed read left, did with what was to come: these are, in order, the units that it dealt and the
--- refusals that it listed. The next one is kept or still to come. It dealt at most a batch. What waited in a ring was taken.
+-- What a round, or as much of it as a failed read left, did with what was to come: these are, in order, the units that
+-- it dealt and the refusals that it listed. The next one is kept or still to come. It dealt at most a batch. What
+-- waited in a ring was taken.
 pub record PlaysRound (dealing : ℕ → ℕ → ℕ) (capacity batch : ℕ) (old new : ReplayerState)
     (coming left done : List Found) : Type 0 where
   pub order : to_deal old.kept coming ≡ done ++ to_deal new.kept left
@@ -41,7 +42,8 @@ IsBlocked dealing capacity old new dealt =
     (slice_get old.lanes (lane_in dealing new unit) ≡ Some state)
     × (capacity ≤ length state.ring.sent + share_of dealing new (lane_in dealing new unit) dealt)
 
--- what the answer of a round says: a unit came back from a full ring, a batch is dealt, or nothing is kept and nothing to come
+-- what the answer of a round says: a unit came back from a full ring, a batch is dealt, or nothing is kept and nothing
+-- to come
 abbrev pub Stops : (ℕ → ℕ → ℕ) → Plan → ReplayerState → ReplayerState → List Found → List ReplayUnit → Step → Type 0
 Stops dealing plan old new left dealt Blocked = IsBlocked dealing plan.ring old new dealt
 Stops dealing plan old new left dealt FullBatch = length dealt ≡ plan.batch

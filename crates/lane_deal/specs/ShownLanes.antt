@@ -26,7 +26,8 @@ module _ {M : Type 0} {g : Ghosts M SharedRoute} where
         LaneShows all (slice_index_or lanes lane d) (s.ring lane) (s.taken lane)
     pub past : (lane : ℕ) → length lanes ≤ lane → (s.ring lane ≡ []) × (s.taken lane ≡ [])
 
-  -- Lanes that deal these units are in this state: what each took and what waits in its ring are, in order, its own of those dealt.
+  -- Lanes that deal these units are in this state: what each took and what waits in its ring are, in order, its own of
+  -- those dealt.
   pub record Shows (all : List ReplayUnit) (lanes : Lanes M g) (s : LanesState) : Type 0 where
     pub lane_of : ℕ → ℕ
     pub shared : IsShared lane_of all s

@@ -12,7 +12,8 @@ use Rattle.lane_deal.specs.Schedules.{LanesState}
 abbrev pub units_taken : LanesState → ℕ → List ReplayUnit
 units_taken s count = flat_map s.taken (range_with_len 0 count)
 
--- One session for each peer of the units taken, by its number among all units: it stands for the peer's units among those taken.
+-- One session for each peer of the units taken, by its number among all units: it stands for the peer's units among
+-- those taken.
 abbrev pub seats_taken : List ReplayUnit → List ReplayUnit → List Seat
 seats_taken all taken =
     map (λ q. record { number = number_of_peer all q; key = q; session = session_of (units_of_peer taken q) })

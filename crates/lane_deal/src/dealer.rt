@@ -173,8 +173,8 @@ impl<D: Dealing> Dealer<D> {
         }
     }
 
-    /// Returns the number of this peer, which gets the next one if it has none, and the number of its lane. The peer has
-    /// this index in the index table if it has one.
+    /// Returns the number of this peer, which gets the next one if it has none, and the number of its lane. The peer
+    /// has this index in the index table if it has one.
     #[inline(always)]
     fn lane_for(
         &mut self,

@@ -12,8 +12,8 @@ pub trait Gate: Sync {
     /// Called by the dealer just after its push of the unit with this number to a lane.
     fn dealt(&self, lane: usize, number: u64);
 
-    /// Called by a worker that finds no unit, before it looks again: it has looked in vain this many times in a row. Lets
-    /// other threads run. A gate that has a clock may sleep here.
+    /// Called by a worker that finds no unit, before it looks again: it has looked in vain this many times in a row.
+    /// Lets other threads run. A gate that has a clock may sleep here.
     fn pause(&self, _looks: u32) {
         yield_now();
     }

@@ -10,10 +10,13 @@ use bgp_update::Width;
 use mrt_body::{Place, StateRule};
 
 /// A payload without its bytes.
+// Variants and fields stand in the order in which an entry takes the fewest instructions: a clear first, and the rule of
+// a state change before the bytes that a key has.
 #[derive(Clone, Copy)]
 pub enum PayloadKind {
+    Clear,
     /// Numbers below 65,536. As long as the fields of a key, they are copied together with these.
-    State { from: u32, to: u32, rule: StateRule },
+    State { rule: StateRule, from: u32, to: u32 },
     Message { width: Width, add_path: bool },
     Entry { key: RouteKey },
 }

@@ -133,8 +133,8 @@ impl Peers {
         Ok(number)
     }
 
-    /// Returns the number of a peer whose slot holds another one. It is seldom needed, and its locals are no part of the
-    /// dealer's loop.
+    /// Returns the number of a peer whose slot holds another one. It is seldom needed, and its locals are no part of
+    /// the dealer's loop.
     #[inline(never)]
     fn find_or_add(&mut self, peer: PeerKey) -> Result<usize, Memory>
         ensures { IfOk result (NumbersPeer self.old.keys.items self.new.keys.items peer) }

@@ -139,8 +139,8 @@ impl<M: PrefixMap<SharedRoute> + Drop> Seats<M> {
         scan(&self.seats, number)
     }
 
-    /// Makes a session for this number, after the others. It is seldom needed, and its locals are no part of the worker's
-    /// loop.
+    /// Makes a session for this number, after the others. It is seldom needed, and its locals are no part of the
+    /// worker's loop.
     #[inline(never)]
     fn add(&mut self, alloc: Global, number: usize, key: PeerKey) -> Result<usize, Memory>
         requires { list_any (λ s. s.number == number) (map seat_of self.old.seats.items) ≡ false }
@@ -190,8 +190,8 @@ impl<M: PrefixMap<SharedRoute> + Drop> Seats<M> {
         }
     }
 
-    /// Prefetches the slots where the routes of the first units would be, and then these routes. The returned number has
-    /// no meaning.
+    /// Prefetches the slots where the routes of the first units would be, and then these routes. The returned number
+    /// has no meaning.
     fn touch(&self, items: &UnitList, ahead: &[ReadAhead]) -> usize {
         let count = items.len().min(ahead.len()).min(MOST_NEAR);
         let mut near = [0usize; MOST_NEAR];

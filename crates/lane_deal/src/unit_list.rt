@@ -71,6 +71,7 @@ fn parts_of<'a>(payload: &LentPayload<'a>) -> (PayloadKind, &'a [u8])
             add_path,
         } => (PayloadKind::Message { width, add_path }, bytes),
         LentPayload::Entry { key, attrs } => (PayloadKind::Entry { key }, attrs),
+        LentPayload::Clear => (PayloadKind::Clear, &[]),
     }
 }
 
@@ -91,6 +92,7 @@ fn with_bytes(kind: PayloadKind, bytes: &[u8]) -> LentPayload<'_>
             add_path,
         },
         PayloadKind::Entry { key } => LentPayload::Entry { key, attrs: bytes },
+        PayloadKind::Clear => LentPayload::Clear,
     }
 }
 
@@ -254,7 +256,7 @@ impl UnitList {
                 let bytes = bytes_from(self.bytes.as_slice(), unit.start, unit.len);
                 ReadAhead::of_message(alloc, buffer, bytes, width, add_path)
             }
-            PayloadKind::State { .. } => ReadAhead::nothing(),
+            PayloadKind::State { .. } | PayloadKind::Clear => ReadAhead::nothing(),
         }
     }
 }

@@ -160,8 +160,8 @@ impl UnitProducer {
         mem::replace(&mut self.filling, UnitList::new(alloc))
     }
 
-    /// Begins a list, in the memory of one that the worker emptied if there is one: a thread that frees what another one
-    /// allocated, and one that allocates meanwhile, wait for each other.
+    /// Begins a list, in the memory of one that the worker emptied if there is one: a thread that frees what another
+    /// one allocated, and one that allocates meanwhile, wait for each other.
     #[inline(never)]
     fn begin_list(&mut self, emptied: &mut Consumer<UnitList, Global>) -> Result<(), Memory>
         requires { units_of self.old.filling ≡ [] }

@@ -28,7 +28,7 @@ fn push_found(
     all: &mut Vec<Found>,
 ) -> Result<(), ReplayError> {
     let mut readers = [Counted::new(bytes)];
-    let mut units = Units::new(1, 1 << 47, Selection::all(alloc));
+    let mut units = Units::new(alloc, 1, 1 << 47, Selection::all(alloc));
     for _ in 0..1_000_000u32 {
         assert!(rt; readers.len() == units.count());
         match units.next(alloc, &mut readers)? {

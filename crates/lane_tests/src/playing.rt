@@ -68,7 +68,12 @@ impl<M: PrefixMap<SharedRoute> + Send + Drop, R: Source + Send + Drop> Play<M, R
         let replayer = Replayer::new(alloc, plan, ByTurns)?;
         Ok(Play {
             lanes: plan.workers,
-            units: Units::new(readers.len(), plan.max_records, Selection::all(alloc)),
+            units: Units::new(
+                alloc,
+                readers.len(),
+                plan.max_records,
+                Selection::all(alloc),
+            ),
             readers,
             replayer,
         })

@@ -13,7 +13,7 @@ use Rattle.bgp_update.specs.Attributes.{route_in}
 use Rattle.bgp_update.specs.Updates.{update_in}
 use Rattle.bgp_update.proofs.UpdateLaws.{route_takes, route_again, update_takes, update_again}
 use Rattle.mrt_body.specs.declared.unit.Payload.{Payload}
-use Rattle.mrt_body.specs.declared.unit.Payload.TheVariants.{State, Message, Entry}
+use Rattle.mrt_body.specs.declared.unit.Payload.TheVariants.{State, Message, Entry, Clear}
 use Rattle.mrt_body.specs.declared.meaning.Event.{Event}
 use Rattle.mrt_body.specs.declared.meaning.Event.TheVariants as event
 use Rattle.mrt_body.specs.Units.{payload_bytes}
@@ -58,6 +58,7 @@ module _ (width : Width) (add_path : Bool) (bytes : List ℕ) where
       no_update kind other = grind arith
   message_event_again (event.State old new rule) h = absurd h
   message_event_again (event.Rib key route) h = absurd h
+  message_event_again event.Clear h = absurd h
 
 pub event_takes : (payload : Payload) (e : Event) → IsBytes (payload_bytes payload) → event_in payload ≡ Ok e → IsEvent payload e
 unfolding event_in
@@ -66,18 +67,21 @@ event_takes (Message bytes width add_path) e fine given = message_event_takes wi
 event_takes (Entry key attrs) e fine given =
     let r = bind_ok (route_in Four attrs) (λ route. Ok (event.Rib key route)) e given in
     subst (IsEntryEvent key attrs) (ok_is (event.Rib key r.0) e r.2) (refl, route_takes Four attrs r.0 fine r.1)
+event_takes Clear e fine given = sym (ok_is event.Clear e given)
 
 entry_again : (key : RouteKey) (attrs : List ℕ) (e : Event) → IsEntryEvent key attrs e → (route_in Four attrs >>= λ route. done (event.Rib key route)) ≡ Ok e
 entry_again key attrs (event.Rib other route) h = rw (route_again Four attrs route h.1) (ap (λ (k : RouteKey). done (event.Rib k route)) (sym h.0))
 entry_again key attrs (event.Change update) h = absurd h
 entry_again key attrs (event.State old new rule) h = absurd h
 entry_again key attrs event.Other h = absurd h
+entry_again key attrs event.Clear h = absurd h
 
 pub event_again : (payload : Payload) (e : Event) → IsEvent payload e → event_in payload ≡ Ok e
 unfolding event_in
 event_again (State from to rule) e h = ap (λ (x : Event). done x) (sym h)
 event_again (Message bytes width add_path) e h = message_event_again width add_path bytes e h
 event_again (Entry key attrs) e h = entry_again key attrs e h
+event_again Clear e h = ap (λ (x : Event). done x) (sym h)
 
 pub one_event : (payload : Payload) (e other : Event) → IsEvent payload e → IsEvent payload other → e ≡ other
 one_event payload e other h k = ok_is e other (sym (event_again payload e h) ∙ event_again payload other k)

@@ -10,7 +10,6 @@ use Rattle.mrt_frame.specs.declared.error.ReplayError.{ReplayError}
 use Rattle.mrt_frame.specs.declared.error.ReplayError.TheVariants as errors
 use Rattle.mrt_body.specs.declared.standing.Standing.TheVariants.{Going}
 use Rattle.std.specs.Io.KnownBytes.{Consumes}
-use Rattle.mrt_frame.specs.Cuts.{fault_at}
 use Rattle.mrt_frame.specs.Frames.{Position, to_come, KeepsUnlessRead}
 use Rattle.mrt_frame.specs.declared.fault.Fault.{Fault}
 use Rattle.mrt_body.specs.Choices.{UnitSelection}
@@ -18,8 +17,10 @@ use Rattle.mrt_body.specs.declared.unit.PeerKey.{PeerKey}
 use Rattle.mrt_body.specs.declared.unit.Unit.{Unit as ReplayUnit}
 use Rattle.mrt_body.specs.declared.unit.Found.{Found}
 use Rattle.mrt_body.specs.declared.unit.Found.TheVariants as found
-use Rattle.mrt_body.specs.Units.{found_in, found_in_files, all_cuts, is_whole, is_aside}
-use Rattle.mrt_body.specs.ToCome.{UnitsState, in_next_file, as_found, found_here, found_left, found_to_come, cuts_to_come, Passes, TakesFound, GivesPending, StaysInFile, LeavesFile, Steps, HasRecord, HasMoreRecords, StopsAt, Stops, before_failure, FailsInRecord, FailsBehind, GivesAllBefore, answers_left, units_left, fresh_units}
+use Rattle.mrt_frame.specs.Cuts.{cuts, fault_at}
+use Rattle.mrt_body.specs.RibDumps.{DumpsState, no_dumps}
+use Rattle.mrt_body.specs.Units.{dumps_behind_cuts, found_in, found_in_files, all_cuts, is_whole, is_aside}
+use Rattle.mrt_body.specs.ToCome.{UnitsState, in_next_file, as_found, dumps_here, found_here, found_left, found_to_come, cuts_to_come, Passes, TakesFound, GivesPending, StaysInFile, LeavesFile, Steps, HasRecord, HasMoreRecords, StopsAt, Stops, before_failure, FailsInRecord, FailsBehind, GivesAllBefore, answers_left, units_left, fresh_units}
 use Rattle.mrt_body.proofs.IndexLaws.{found_in_file-is}
 
 abbrev Bytes : Type 0
@@ -74,15 +75,17 @@ counted_on : (p : Cut → Bool) (a b : ℕ) (xs ys others : List Cut) → a + co
 counted_on p a b xs ys others h = omega (arith, h, sum_by-append (λ (c : Cut). cond (p c) 1 0) xs others, sum_by-append (λ (c : Cut). cond (p c) 1 0) ys others)
 
 -- more of the current file is to come
-module _ (old : UnitsState) (frames : Position) (index : Option (List PeerKey)) (pending : List ReplayUnit) (records aside : ℕ) (bytes rest : Bytes) (later : List Bytes) where
+module _ (old : UnitsState) (frames : Position) (index : Option (List PeerKey)) (dumps : DumpsState) (pending : List ReplayUnit) (records aside : ℕ) (bytes rest : Bytes) (later : List Bytes) where
   abbrev stayed : UnitsState
-  stayed = record old { frames = frames; index = index; pending = pending; records = records; aside = aside }
+  stayed = record old { frames = frames; index = index; dumps = dumps; pending = pending; records = records; aside = aside }
 
   stay_passes : (taken : List Found) → old.pending ≡ [] → StaysInFile old bytes stayed rest taken → Passes old (bytes ∷ later) stayed (rest ∷ later) taken
   stay_passes taken none s =
-      let others = found_in_files old.selection (old.file + 1) later in
+      let others = found_in_files old.selection (old.file + 1) (dumps_here stayed rest) later in
       record {
-        found = ap (λ (l : List ReplayUnit). as_found l ++ (found_here old bytes ++ others)) none ∙ ap (λ (l : List Found). l ++ others) s.found ∙ append_assoc taken (as_found pending ++ found_here stayed rest) others
+        found = ap (λ (l : List ReplayUnit). as_found l ++ (found_here old bytes ++ found_in_files old.selection (old.file + 1) (dumps_here old bytes) later)) none
+            ∙ ap (λ (d : DumpsState). found_here old bytes ++ found_in_files old.selection (old.file + 1) d later) s.dumps
+            ∙ ap (λ (l : List Found). l ++ others) s.found ∙ append_assoc taken (as_found pending ++ found_here stayed rest) others
             ∙ ap (λ (l : List Found). taken ++ l) (append_assoc (as_found pending) (found_here stayed rest) others);
         records = counted_on is_whole old.records records (to_come old.frames bytes) (to_come frames rest) (all_cuts later) s.records;
         aside = counted_on is_aside old.aside aside (to_come old.frames bytes) (to_come frames rest) (all_cuts later) s.aside;
@@ -90,9 +93,9 @@ module _ (old : UnitsState) (frames : Position) (index : Option (List PeerKey)) 
 
 -- no more of it is to come
 module _ (old : UnitsState) where
-  next_left : (later : List Bytes) → found_in_files old.selection (old.file + 1) later ≡ found_left (in_next_file old) later
+  next_left : (later : List Bytes) → found_in_files old.selection (old.file + 1) old.dumps later ≡ found_left (in_next_file old) later
   next_left [] = refl
-  next_left (bytes ∷ later) = ap (λ (l : List Found). l ++ found_in_files old.selection ((old.file + 1) + 1) later) (found_in_file-is old.selection (old.file + 1) bytes)
+  next_left (bytes ∷ later) = ap (λ (l : List Found). l ++ found_in_files old.selection ((old.file + 1) + 1) (dumps_here (in_next_file old) bytes) later) (found_in_file-is old.selection (old.file + 1) old.dumps bytes)
 
   next_cuts : (later : List Bytes) → all_cuts later ≡ cuts_to_come (in_next_file old) later
   next_cuts [] = refl
@@ -103,9 +106,11 @@ module _ (old : UnitsState) where
 
   leave_passes : (bytes : Bytes) (later : List Bytes) (taken : List Found) → old.pending ≡ [] → LeavesFile old bytes (in_next_file old) taken → Passes old (bytes ∷ later) (in_next_file old) later taken
   leave_passes bytes later taken none s =
-      let others = found_in_files old.selection (old.file + 1) later in
+      let others = found_in_files old.selection (old.file + 1) old.dumps later in
       record {
-        found = ap (λ (l : List ReplayUnit). as_found l ++ (found_here old bytes ++ others)) none ∙ ap (λ (l : List Found). l ++ others) s.found ∙ ap (λ (l : List Found). taken ++ l) (next_left later);
+        found = ap (λ (l : List ReplayUnit). as_found l ++ (found_here old bytes ++ found_in_files old.selection (old.file + 1) (dumps_here old bytes) later)) none
+            ∙ ap (λ (d : DumpsState). found_here old bytes ++ found_in_files old.selection (old.file + 1) d later) s.dumps
+            ∙ ap (λ (l : List Found). l ++ others) s.found ∙ ap (λ (l : List Found). taken ++ l) (next_left later);
         records = counted_next is_whole old.records (to_come old.frames bytes) later s.records;
         aside = counted_next is_aside old.aside (to_come old.frames bytes) later s.aside;
       }
@@ -121,13 +126,13 @@ module _ (old new : UnitsState) (before : List (Option Bytes)) (known left : Opt
       elim s.2 [
         | inl stay ↦
             let n = new in
-            let same : new ≡ record old { frames = n.frames; index = n.index; pending = n.pending; records = n.records; aside = n.aside } = stay.state in
+            let same : new ≡ record old { frames = n.frames; index = n.index; dumps = n.dumps; pending = n.pending; records = n.records; aside = n.aside } = stay.state in
             let file : new.file ≡ old.file = ap (λ (u : UnitsState). u.file) same in
             let put : drop old.file (set before old.file left) ≡ left ∷ drop (old.file + 1) before = drop-set before old.file left within in (
               s.0 ∷ later,
               ap (λ (i : ℕ). drop i (set before old.file left)) file ∙ put ∙ ap (λ (o : Option Bytes). o ∷ drop (old.file + 1) before) s.1 ∙ ap (λ (l : List (Option Bytes)). Some s.0 ∷ l) others,
               subst (λ (u : UnitsState). Passes old (bytes ∷ later) u (s.0 ∷ later) taken) (sym same)
-                  (stay_passes old n.frames n.index n.pending n.records n.aside bytes s.0 later taken none (subst (λ (u : UnitsState). StaysInFile old bytes u s.0 taken) same stay)),
+                  (stay_passes old n.frames n.index n.dumps n.pending n.records n.aside bytes s.0 later taken none (subst (λ (u : UnitsState). StaysInFile old bytes u s.0 taken) same stay)),
             )
         | inr leave ↦
             let same : new ≡ in_next_file old = leave.state in
@@ -273,12 +278,12 @@ gives_nothing old new h = h.0 ∙ ap (λ (l : List ReplayUnit). record old { pen
 
 pub fewer_than : (a b u v : UnitsState) → answers_left b ≤ answers_left a → GivesPending b u [] → answers_left v + 0 ≤ answers_left u → answers_left v ≤ answers_left a
 fewer_than a b u v h gives step =
-    let same : answers_left u ≡ answers_left b = ap answers_left gives.0 ∙ ap (λ (l : List ReplayUnit). (b.max_records - b.records) * 65535 + length l + (b.count - b.file)) (sym gives.1) in
+    let same : answers_left u ≡ answers_left b = ap answers_left gives.0 ∙ ap (λ (l : List ReplayUnit). ((b.max_records - b.records) * 131070 + (length l + length b.dumps.heard)) + (b.count - b.file)) (sym gives.1) in
     omega (arith, h, same, step)
 
 pub units_than : (a b u v : UnitsState) → units_left b ≤ units_left a → GivesPending b u [] → units_left v ≤ units_left u → units_left v ≤ units_left a
 units_than a b u v h gives step =
-    let same : units_left u ≡ units_left b = ap units_left gives.0 ∙ ap (λ (l : List ReplayUnit). (b.max_records - b.records) * 65535 + length l) (sym gives.1) in
+    let same : units_left u ≡ units_left b = ap units_left gives.0 ∙ ap (λ (l : List ReplayUnit). (b.max_records - b.records) * 131070 + (length l + length b.dumps.heard)) (sym gives.1) in
     omega (arith, h, same, step)
 
 -- ---- a reading that begins
@@ -286,7 +291,7 @@ units_than a b u v h gives step =
 pub fresh_found : (count max_records : ℕ) (selection : UnitSelection) (contents : List Bytes) → found_to_come (fresh_units count max_records selection) contents ≡ found_in selection contents
 unfolding found_in
 fresh_found count max_records selection [] = refl
-fresh_found count max_records selection (bytes ∷ later) = ap (λ (l : List Found). l ++ found_in_files selection 1 later) (sym (found_in_file-is selection 0 bytes))
+fresh_found count max_records selection (bytes ∷ later) = ap (λ (l : List Found). l ++ found_in_files selection 1 (dumps_behind_cuts 0 selection None no_dumps (cuts 0 bytes)) later) (sym (found_in_file-is selection 0 no_dumps bytes))
 
 pub fresh_cuts : (count max_records : ℕ) (selection : UnitSelection) (contents : List Bytes) → cuts_to_come (fresh_units count max_records selection) contents ≡ all_cuts contents
 fresh_cuts count max_records selection [] = refl

@@ -1,5 +1,5 @@
 -- A reading that carries the index in force gives what the nearest earlier index table gives.
-use Rattle.std.proofs.Common.{◌≡◌, ℕ, Bool, true, false, cond, List, [], ◌∷◌, ◌++◌, Option, Some, None, refl, ap, ◌∙◌}
+use Rattle.std.proofs.Common.{◌≡◌, ℕ, Bool, true, false, cond, List, [], ◌∷◌, ◌++◌, Option, Some, None, refl, sym, ap, ◌∙◌, append-nil, append_assoc}
 use Rattle.std.specs.List.{filter_map, cons_option, last_or}
 use Rattle.std.specs.Option.{option_and_then}
 use Rattle.std.proofs.lemmas.List.Elements.{filter_map-append}
@@ -10,7 +10,8 @@ use Rattle.mrt_frame.specs.Positions.{flat_map_after}
 use Rattle.mrt_body.specs.declared.unit.Found.{Found}
 use Rattle.mrt_body.specs.Choices.{UnitSelection}
 use Rattle.mrt_body.specs.declared.unit.PeerKey.{PeerKey}
-use Rattle.mrt_body.specs.Units.{content_of, is_index_content, index_of_body, index_body, index_before, index_after, found_at, found_from, found_in_file}
+use Rattle.mrt_body.specs.RibDumps.{DumpsState}
+use Rattle.mrt_body.specs.Units.{content_of, is_index_content, index_of_body, index_body, index_before, index_after, dumps_after, dumps_behind_cuts, found_at, found_from, found_in_file}
 
 last_or-append : {A : Type 0} (o : Option A) (xs ys : List A) → last_or o (xs ++ ys) ≡ last_or (last_or o xs) ys
 last_or-append o [] ys = refl
@@ -30,12 +31,38 @@ index_before-push earlier cut =
     ∙ ap (option_and_then index_of_body) (last_or-append None (filter_map index_body earlier) (cons_option (index_body cut) []))
     ∙ index_of_cut cut (last_or None (filter_map index_body earlier))
 
-pub found_from-is : (file : ℕ) (selection : UnitSelection) (earlier others : List Cut) → flat_map_after (λ before cut. found_at file selection (index_before before) cut) earlier others ≡ found_from file selection (index_before earlier) others
-found_from-is file selection earlier [] = refl
-found_from-is file selection earlier (cut ∷ others) =
-    ap (λ (rest : List Found). found_at file selection (index_before earlier) cut ++ rest)
-    (found_from-is file selection (earlier ++ cut ∷ []) others ∙ ap (λ (index : Option (List PeerKey)). found_from file selection index others) (index_before-push earlier cut))
+-- the index in force after these cuts, from the one before them
+abbrev index_behind : Option (List PeerKey) → List Cut → Option (List PeerKey)
+index_behind index [] = index
+index_behind index (cut ∷ others) = index_behind (index_after index cut) others
+
+index_before-behind : (earlier others : List Cut) → index_behind (index_before earlier) others ≡ index_before (earlier ++ others)
+index_before-behind earlier [] = ap index_before (sym (append-nil earlier))
+index_before-behind earlier (cut ∷ others) =
+    ap (λ (index : Option (List PeerKey)). index_behind index others) (sym (index_before-push earlier cut))
+    ∙ index_before-behind (earlier ++ cut ∷ []) others
+    ∙ ap index_before (append_assoc earlier (cut ∷ []) others)
+
+module _ (file : ℕ) (selection : UnitSelection) where
+  abbrev dumps_from : Option (List PeerKey) → DumpsState → List Cut → DumpsState
+  dumps_from index dumps earlier = dumps_behind_cuts file selection index dumps earlier
+
+  dumps_from-push : (index : Option (List PeerKey)) (dumps : DumpsState) (earlier : List Cut) (cut : Cut) → dumps_from index dumps (earlier ++ cut ∷ []) ≡ dumps_after file selection (index_behind index earlier) (dumps_from index dumps earlier) cut
+  dumps_from-push index dumps [] cut = refl
+  dumps_from-push index dumps (c ∷ earlier) cut = dumps_from-push (index_after index c) (dumps_after file selection index dumps c) earlier cut
+
+  dumps_before-push : (dumps : DumpsState) (earlier : List Cut) (cut : Cut) → dumps_from None dumps (earlier ++ cut ∷ []) ≡ dumps_after file selection (index_before earlier) (dumps_from None dumps earlier) cut
+  dumps_before-push dumps earlier cut =
+      dumps_from-push None dumps earlier cut
+      ∙ ap (λ (index : Option (List PeerKey)). dumps_after file selection index (dumps_from None dumps earlier) cut) (index_before-behind [] earlier)
+
+  pub found_from-is : (dumps : DumpsState) (earlier others : List Cut) → flat_map_after (λ before cut. found_at file selection (index_before before) (dumps_from None dumps before) cut) earlier others ≡ found_from file selection (index_before earlier) (dumps_from None dumps earlier) others
+  found_from-is dumps earlier [] = refl
+  found_from-is dumps earlier (cut ∷ others) =
+      ap (λ (rest : List Found). found_at file selection (index_before earlier) (dumps_from None dumps earlier) cut ++ rest)
+      (found_from-is dumps (earlier ++ cut ∷ []) others
+      ∙ (λ i. found_from file selection (index_before-push earlier cut i) (dumps_before-push dumps earlier cut i) others))
 
 -- a file's units and refusals, as a reading of it from its start goes on
-pub found_in_file-is : (selection : UnitSelection) (file : ℕ) (bytes : List ℕ) → found_in_file selection file bytes ≡ found_from file selection None (cuts 0 bytes)
-found_in_file-is selection file bytes = found_from-is file selection [] (cuts 0 bytes)
+pub found_in_file-is : (selection : UnitSelection) (file : ℕ) (dumps : DumpsState) (bytes : List ℕ) → found_in_file selection file dumps bytes ≡ found_from file selection None dumps (cuts 0 bytes)
+found_in_file-is selection file dumps bytes = found_from-is file selection dumps [] (cuts 0 bytes)

@@ -18,6 +18,8 @@ pub mod RefusalLaws
 pub mod Behind
 pub mod SessionLaws
 pub mod TakeLaws
+pub mod WaitingLaws
+pub mod HeardLaws
 pub mod StepLaws
 pub mod FilesLaws
 pub mod HeadParts

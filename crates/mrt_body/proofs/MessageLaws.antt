@@ -103,6 +103,7 @@ module _ (width : Width) (add_path : Bool) (bytes : List ℕ) where
       differ e = cc
   no_event fault read (event.State old new rule) h = absurd h
   no_event fault read (event.Rib key route) h = absurd h
+  no_event fault read event.Clear h = absurd h
 
   pub other_found : (kind : ℕ) (body : List ℕ) → IsBytes bytes → message_in bytes ≡ Ok (kind, body) → kind ≢ UPDATE → IsMessageEvent width add_path bytes event.Other
   other_found kind body fine read other = let t = message_takes bytes (kind, body) fine read in (kind, body, other, t.spelled, t.small)
@@ -112,6 +113,7 @@ module _ (width : Width) (add_path : Bool) (bytes : List ℕ) where
   other_only kind body read other event.Other h = refl
   other_only kind body read other (event.State old new rule) h = absurd h
   other_only kind body read other (event.Rib key route) h = absurd h
+  other_only kind body read other event.Clear h = absurd h
 
   pub change_found : (kind : ℕ) (body : List ℕ) (update : Update) → IsBytes bytes → message_in bytes ≡ Ok (kind, body) → kind ≡ UPDATE → ReadsAsUpdate width add_path body update → IsMessageEvent width add_path bytes (event.Change update)
   change_found kind body update fine read same reads =
@@ -126,6 +128,7 @@ module _ (width : Width) (add_path : Bool) (bytes : List ℕ) where
   change_only kind body read same event.Other h = absurd (h.2 (sym (same_message bytes kind h.0 body h.1 read h.3 h.4).0 ∙ same))
   change_only kind body read same (event.State old new rule) h = absurd h
   change_only kind body read same (event.Rib key route) h = absurd h
+  change_only kind body read same event.Clear h = absurd h
 
   pub change_given : (kind : ℕ) (body : List ℕ) (r : Result Update AttrError) → message_in bytes ≡ Ok (kind, body) → kind ≡ UPDATE
       → ((update : Update) → ReadsAsUpdate width add_path body update → Gives (λ u. u) r (Ok update)) → (e : Event) → IsMessageEvent width add_path bytes e → Gives (λ u. event.Change u) r (Ok e)
@@ -147,3 +150,4 @@ entry_given key attrs (Err (errors.Bad fault)) only (event.Rib other said) h = l
 entry_given key attrs r only (event.Change update) h = absurd h
 entry_given key attrs r only (event.State old new rule) h = absurd h
 entry_given key attrs r only event.Other h = absurd h
+entry_given key attrs r only event.Clear h = absurd h

@@ -2,7 +2,7 @@
 use Rattle.std.proofs.Common.{◌≡◌, true, List, [], ◌∷◌, refl}
 use Rattle.mrt_body.specs.declared.choice.PrefixChoice.{PrefixChoice}
 use Rattle.mrt_body.specs.declared.unit.Payload.{Payload}
-use Rattle.mrt_body.specs.declared.unit.Payload.TheVariants.{State, Message, Entry}
+use Rattle.mrt_body.specs.declared.unit.Payload.TheVariants.{State, Message, Entry, Clear}
 use Rattle.mrt_body.specs.Choices.{is_open}
 use Rattle.mrt_body.specs.Selections.{concerns}
 
@@ -10,4 +10,5 @@ pub open_concerns : (choices : List PrefixChoice) (payload : Payload) → is_ope
 open_concerns [] (State from to rule) h = refl
 open_concerns [] (Message bytes width add_path) h = refl
 open_concerns [] (Entry key attrs) h = refl
+open_concerns [] Clear h = refl
 open_concerns (choice ∷ choices) payload h = absurd cc

@@ -1,5 +1,7 @@
--- Each state change that a selection gives has the rule that it asks for.
-use Rattle.std.proofs.Common.{ℕ, ◌+◌, Bool, List, [], ◌∷◌, ◌++◌, Option, Some, None, Result, Ok, Err, IfOk, refl}
+-- Each state change that a selection gives has the rule that it asks for, and where RIB dumps are added there is no
+-- clear.
+use Rattle.std.proofs.Common.{◌≡◌, ℕ, ◌+◌, ◌&&◌, not, Bool, true, false, List, [], ◌∷◌, ◌++◌, map, Option, Some, None, Result, Ok, Err, IfOk, refl, ap}
+use Rattle.std.specs.Result.{is_ok}
 use Rattle.std.specs.List.{All, filter, filter_map}
 use Rattle.std.proofs.lemmas.List.Elements.{All-nil, All-cons, All-head, All-tail, All-append, All-map, All-filter}
 use Rattle.mrt_frame.specs.Positions.{flat_map_after}
@@ -9,11 +11,15 @@ use Rattle.mrt_frame.specs.declared.cut.Cut.{Cut}
 use Rattle.mrt_frame.specs.declared.cut.Cut.TheVariants.{Whole, Broken}
 use Rattle.mrt_frame.specs.Cuts.{cuts}
 use Rattle.bgp_prefix.specs.Prefixes.{IpPrefix}
+use Rattle.bgp_prefix.specs.declared.key.RouteKey.{RouteKey}
 use Rattle.bgp_update.specs.declared.width.Width.{Width}
 use Rattle.mrt_body.specs.declared.at.RecordAt.{RecordAt}
 use Rattle.mrt_body.specs.declared.content.Content.{Content}
 use Rattle.mrt_body.specs.declared.content.Content.TheVariants as content
 use Rattle.mrt_body.specs.declared.state_rule.StateRule.{StateRule}
+use Rattle.mrt_body.specs.declared.rib_rule.RibRule.TheVariants.{Add}
+use Rattle.mrt_body.specs.declared.unit.Payload.{Payload}
+use Rattle.mrt_body.specs.declared.unit.Payload.TheVariants.{State, Message, Entry}
 use Rattle.mrt_body.specs.declared.unit.PeerKey.{PeerKey}
 use Rattle.mrt_body.specs.declared.unit.Unit.{Unit as ReplayUnit}
 use Rattle.mrt_body.specs.declared.unit.Found.{Found}
@@ -22,9 +28,10 @@ use Rattle.mrt_body.specs.Choices.{UnitSelection}
 use Rattle.mrt_body.specs.Indexes.{peers_in}
 use Rattle.mrt_body.specs.RibRecords.{RibForm, WrittenEntry, rib_beside, rib_prefix}
 use Rattle.mrt_body.specs.Bgp4mp.{session_peer_at, states_in, microseconds_at}
-use Rattle.mrt_body.specs.Selections.{is_selected}
+use Rattle.mrt_body.specs.Selections.{is_selected, is_past}
 use Rattle.mrt_body.specs.States.{IsByRule, AreByRule}
-use Rattle.mrt_body.specs.Units.{entry_unit, entry_units, rib_units, message_unit, states_unit, units_in, found_units, at_record, is_extended, content_of, found_at, index_before, found_in_file, found_in_files, found_in, unit_of, units_of, refused_at}
+use Rattle.mrt_body.specs.RibDumps.{DumpsState, no_dumps, may_begin, replaces}
+use Rattle.mrt_body.specs.Units.{begins, clear_unit, clears_at, clears_if, is_recorded, time_of, dumps_behind_cuts, entry_unit, entry_units, rib_units, message_unit, states_unit, units_in, found_units, at_record, is_extended, content_of, found_at, index_before, found_in_file, found_in_files, found_in, unit_of, units_of, refused_at}
 
 module _ {A B : Type 0} (P : B → Type 0) where
   bound : (r : Result A Fault) (f : A → Result B Fault) → ((a : A) → IfOk (f a) P) → IfOk (r >>= f) P
@@ -40,19 +47,23 @@ module _ {X Y : Type 0} (P : Y → Type 0) (f : List X → X → List Y) (each :
   all_behind before [] = All-nil P
   all_behind before (x ∷ xs) = All-append P (f before x) (flat_map_after f (before ++ x ∷ []) xs) (each before x) (all_behind (before ++ x ∷ []) xs)
 
-module _ (rule : StateRule) where
+-- what holds of the payloads of entries, messages and state changes by this rule
+module _ (rule : StateRule) (P : Payload → Type 0) (entry : (key : RouteKey) (attrs : List ℕ) → P (Entry key attrs)) (message : (bytes : List ℕ) (width : Width) (add_path : Bool) → P (Message bytes width add_path)) (state : (from to : ℕ) → P (State from to rule)) where
   abbrev OfUnit : ReplayUnit → Type 0
-  OfUnit unit = IsByRule rule unit.payload
+  OfUnit unit = P unit.payload
+
+  abbrev OfUnits : List ReplayUnit → Type 0
+  OfUnits units = All (λ unit. P unit.payload) units
 
   abbrev OfFound : Found → Type 0
-  OfFound (found.Unit unit) = IsByRule rule unit.payload
+  OfFound (found.Unit unit) = P unit.payload
   OfFound (found.Refused damage) = Unit {0}
 
-  entries_by : (at : RecordAt) (peers : List PeerKey) (prefix : IpPrefix) (number : ℕ) (es : List WrittenEntry) → AreByRule rule (entry_units at peers prefix number es)
+  entries_by : (at : RecordAt) (peers : List PeerKey) (prefix : IpPrefix) (number : ℕ) (es : List WrittenEntry) → OfUnits (entry_units at peers prefix number es)
   entries_by at peers prefix number [] = All-nil OfUnit
-  entries_by at peers prefix number (e ∷ es) = All-cons OfUnit (entry_unit at peers prefix number e) (entry_units at peers prefix (number + 1) es) tt (entries_by at peers prefix (number + 1) es)
+  entries_by at peers prefix number (e ∷ es) = All-cons OfUnit (entry_unit at peers prefix number e) (entry_units at peers prefix (number + 1) es) (entry (record { prefix = prefix; id = e.identifier }) e.attributes) (entries_by at peers prefix (number + 1) es)
 
-  ribs_by : (at : RecordAt) (index : Option (List PeerKey)) (form : RibForm) → AreByRule rule (rib_units at index form)
+  ribs_by : (at : RecordAt) (index : Option (List PeerKey)) (form : RibForm) → OfUnits (rib_units at index form)
   ribs_by at None form = All-nil OfUnit
   ribs_by at (Some peers) form = entries_by at peers (rib_prefix form) 1 form.entries
 
@@ -60,52 +71,89 @@ module _ (rule : StateRule) where
   unfolding message_unit
   message_by at extended width add_path body =
       bound OfUnit (microseconds_at extended body) _ (λ m.
-      bound OfUnit (session_peer_at width m.1) _ (λ p. tt))
+      bound OfUnit (session_peer_at width m.1) _ (λ p. message p.1 width add_path))
 
   states_by : (at : RecordAt) (extended : Bool) (width : Width) (body : List ℕ) → IfOk (states_unit rule at extended width body) OfUnit
   unfolding states_unit
   states_by at extended width body =
       bound OfUnit (microseconds_at extended body) _ (λ m.
       bound OfUnit (session_peer_at width m.1) _ (λ p.
-      bound OfUnit (states_in p.1) _ (λ s. refl)))
+      bound OfUnit (states_in p.1) _ (λ s. state s.0 s.1)))
 
-  alone_by : (unit : ReplayUnit) → OfUnit unit → AreByRule rule (unit ∷ [])
+  alone_by : (unit : ReplayUnit) → OfUnit unit → OfUnits (unit ∷ [])
   alone_by unit h = All-cons OfUnit unit [] h (All-nil OfUnit)
 
-  read_by : (at : RecordAt) (extended : Bool) (index : Option (List PeerKey)) (c : Content) (body : List ℕ) → IfOk (units_in rule at extended index c body) (AreByRule rule)
-  read_by at extended index content.IndexTable body = bound (AreByRule rule) (peers_in body) _ (λ peers. All-nil OfUnit)
-  read_by at extended index (content.Rib add_path) body = bound (AreByRule rule) (rib_beside add_path index body) _ (λ form. ribs_by at index form)
-  read_by at extended index (content.Message width add_path) body = bound_from (AreByRule rule) OfUnit (message_unit at extended width add_path body) _ (message_by at extended width add_path body) alone_by
-  read_by at extended index (content.States width) body = bound_from (AreByRule rule) OfUnit (states_unit rule at extended width body) _ (states_by at extended width body) alone_by
+  read_by : (at : RecordAt) (extended : Bool) (index : Option (List PeerKey)) (c : Content) (body : List ℕ) → IfOk (units_in rule at extended index c body) (OfUnits)
+  read_by at extended index content.IndexTable body = bound (OfUnits) (peers_in body) _ (λ peers. All-nil OfUnit)
+  read_by at extended index (content.Rib add_path) body = bound (OfUnits) (rib_beside add_path index body) _ (λ form. ribs_by at index form)
+  read_by at extended index (content.Message width add_path) body = bound_from (OfUnits) OfUnit (message_unit at extended width add_path body) _ (message_by at extended width add_path body) alone_by
+  read_by at extended index (content.States width) body = bound_from (OfUnits) OfUnit (states_unit rule at extended width body) _ (states_by at extended width body) alone_by
   read_by at extended index content.Aside body = All-nil OfUnit
 
   refusal_by : (at : RecordAt) (fault : Fault) → All OfFound (refused_at at fault ∷ [])
   refusal_by at fault = All-cons OfFound (refused_at at fault) [] tt (All-nil OfFound)
 
-  selected_by : (selection : UnitSelection) (at : RecordAt) (read : Result (List ReplayUnit) Fault) → IfOk read (AreByRule rule) → All OfFound (found_units selection at read)
+  selected_by : (selection : UnitSelection) (at : RecordAt) (read : Result (List ReplayUnit) Fault) → IfOk read (OfUnits) → All OfFound (found_units selection at read)
   selected_by selection at (Ok units) h = All-map OfFound (λ (u : ReplayUnit). found.Unit u) (filter (is_selected selection) units) (All-filter (is_selected selection) OfUnit units h)
   selected_by selection at (Err fault) h = refusal_by at fault
 
-  given_by : (fs : List Found) → All OfFound fs → AreByRule rule (filter_map unit_of fs)
+  given_by : (fs : List Found) → All OfFound fs → OfUnits (filter_map unit_of fs)
   given_by [] h = All-nil OfUnit
   given_by (found.Unit unit ∷ fs) h = All-cons OfUnit unit (filter_map unit_of fs) (All-head OfFound (found.Unit unit) fs h) (given_by fs (All-tail OfFound (found.Unit unit) fs h))
   given_by (found.Refused damage ∷ fs) h = given_by fs (All-tail OfFound (found.Refused damage) fs h)
 
-module _ (selection : UnitSelection) where
-  cut_by : (file : ℕ) (index : Option (List PeerKey)) (cut : Cut) → All (OfFound selection.states) (found_at file selection index cut)
+module _ (selection : UnitSelection) (P : Payload → Type 0) (entry : (key : RouteKey) (attrs : List ℕ) → P (Entry key attrs)) (message : (bytes : List ℕ) (width : Width) (add_path : Bool) → P (Message bytes width add_path)) (state : (from to : ℕ) → P (State from to selection.states))
+    (cleared : (at : RecordAt) (index : Option (List PeerKey)) (dumps : DumpsState) (c : Content) (body : List ℕ) → All (λ (unit : ReplayUnit). P unit.payload) (clears_at selection at index dumps c body)) where
+  abbrev Of : Found → Type 0
+  Of f = OfFound selection.states P entry message state f
+
+  cut_by : (file : ℕ) (index : Option (List PeerKey)) (dumps : DumpsState) (cut : Cut) → All Of (found_at file selection index dumps cut)
   unfolding found_at
-  cut_by file index (Whole r) =
+  cut_by file index dumps (Whole r) =
       let at = at_record file r.offset r.seconds in
-      selected_by selection.states selection at (units_in selection.states at (is_extended r.kind) index (content_of r.kind r.subtype) r.body) (read_by selection.states at (is_extended r.kind) index (content_of r.kind r.subtype) r.body)
-  cut_by file index (Broken offset fault) = refusal_by selection.states (at_record file offset 0) fault
+      let c = content_of r.kind r.subtype in
+      let read = units_in selection.states at (is_extended r.kind) index c r.body in
+      let clears = clears_at selection at index dumps c r.body in
+      All-append Of (map (λ u. found.Unit u) clears) (found_units selection at read)
+      (All-map Of (λ (u : ReplayUnit). found.Unit u) clears (cleared at index dumps c r.body))
+      (selected_by selection.states P entry message state selection at read (read_by selection.states P entry message state at (is_extended r.kind) index c r.body))
+  cut_by file index dumps (Broken offset fault) = refusal_by selection.states P entry message state (at_record file offset 0) fault
 
-  file_by : (file : ℕ) (bytes : List ℕ) → All (OfFound selection.states) (found_in_file selection file bytes)
-  file_by file bytes = all_behind (OfFound selection.states) (λ (earlier : List Cut) (cut : Cut). found_at file selection (index_before earlier) cut) (λ earlier cut. cut_by file (index_before earlier) cut) [] (cuts 0 bytes)
+  file_by : (file : ℕ) (dumps : DumpsState) (bytes : List ℕ) → All Of (found_in_file selection file dumps bytes)
+  file_by file dumps bytes = all_behind Of (λ (earlier : List Cut) (cut : Cut). found_at file selection (index_before earlier) (dumps_behind_cuts file selection None dumps earlier) cut) (λ earlier cut. cut_by file (index_before earlier) (dumps_behind_cuts file selection None dumps earlier) cut) [] (cuts 0 bytes)
 
-  files_by : (file : ℕ) (files : List (List ℕ)) → All (OfFound selection.states) (found_in_files selection file files)
-  files_by file [] = All-nil (OfFound selection.states)
-  files_by file (bytes ∷ files) = All-append (OfFound selection.states) (found_in_file selection file bytes) (found_in_files selection (file + 1) files) (file_by file bytes) (files_by (file + 1) files)
+  files_by : (file : ℕ) (dumps : DumpsState) (files : List (List ℕ)) → All Of (found_in_files selection file dumps files)
+  files_by file dumps [] = All-nil Of
+  files_by file dumps (bytes ∷ files) =
+      let after = dumps_behind_cuts file selection None dumps (cuts 0 bytes) in
+      All-append Of (found_in_file selection file dumps bytes) (found_in_files selection (file + 1) after files) (file_by file dumps bytes) (files_by (file + 1) after files)
 
-  pub units_by : (files : List (List ℕ)) → AreByRule selection.states (units_of selection files)
+  units_where : (files : List (List ℕ)) → All (λ unit. P unit.payload) (units_of selection files)
   unfolding units_of found_in
-  units_by files = given_by selection.states (found_in selection files) (files_by 0 files)
+  units_where files = given_by selection.states P entry message state (found_in selection files) (files_by 0 no_dumps files)
+
+-- clears have no rule
+clears_by : (rule : StateRule) (at : RecordAt) (begun : Bool) (heard : List PeerKey) → AreByRule rule (clears_if begun at heard)
+clears_by rule at false heard = All-nil (λ (unit : ReplayUnit). IsByRule rule unit.payload)
+clears_by rule at true [] = All-nil (λ (unit : ReplayUnit). IsByRule rule unit.payload)
+clears_by rule at true (peer ∷ heard) = All-cons (λ (unit : ReplayUnit). IsByRule rule unit.payload) (clear_unit at peer) (clears_if true at heard) tt (clears_by rule at true heard)
+
+pub units_by : (selection : UnitSelection) (files : List (List ℕ)) → AreByRule selection.states (units_of selection files)
+units_by selection files = units_where selection (λ payload. IsByRule selection.states payload) (λ key attrs. tt) (λ bytes width add_path. tt) (λ from to. refl) (λ at index dumps c body. clears_by selection.states at (begins selection at index dumps c body) dumps.heard) files
+
+-- where RIB dumps are added, none begins anew
+none_begins : (selection : UnitSelection) (at : RecordAt) (index : Option (List PeerKey)) (dumps : DumpsState) (c : Content) (body : List ℕ) → selection.ribs ≡ Add → begins selection at index dumps c body ≡ false
+none_begins selection at index dumps content.IndexTable body h = refl
+none_begins selection at index dumps (content.Rib add_path) body h =
+    elim (is_ok (rib_beside add_path index body)) as (λ b. (b && may_begin selection dumps.begun (time_of at 0)) ≡ false) [
+      | true ↦ ap (λ ribs. replaces ribs && (not dumps.begun && not (is_past selection.until (time_of at 0)))) h
+      | false ↦ refl
+    ]
+none_begins selection at index dumps (content.Message width add_path) body h = refl
+none_begins selection at index dumps (content.States width) body h = refl
+none_begins selection at index dumps content.Aside body h = refl
+
+pub units_recorded : (selection : UnitSelection) (files : List (List ℕ)) → selection.ribs ≡ Add → All (λ unit. is_recorded unit.payload ≡ true) (units_of selection files)
+units_recorded selection files h =
+    units_where selection (λ payload. is_recorded payload ≡ true) (λ key attrs. refl) (λ bytes width add_path. refl) (λ from to. refl)
+    (λ at index dumps c body. rw (none_begins selection at index dumps c body h) (All-nil (λ (unit : ReplayUnit). is_recorded unit.payload ≡ true))) files

@@ -11,7 +11,8 @@ use Rattle.mrt_body.specs.declared.unit.Unit.{Unit as ReplayUnit}
 use Rattle.mrt_body.specs.declared.unit.Damage.{Damage}
 use Rattle.mrt_body.specs.declared.unit.Found.{Found}
 use Rattle.mrt_body.specs.declared.content.Content.{Content}
-use Rattle.mrt_body.specs.Units.{found_from, found_at, found_units, units_in, content_of, is_extended, index_with, refused_at, at_record, is_whole, is_aside, aside_count}
+use Rattle.mrt_body.specs.RibDumps.{DumpsState}
+use Rattle.mrt_body.specs.Units.{begins, clears_at, dumps_behind, dumps_behind_cuts, found_from, found_at, found_units, units_in, content_of, is_extended, index_with, refused_at, at_record, is_whole, is_aside, aside_count}
 use Rattle.mrt_body.specs.ToCome.{UnitsState, as_found, refusals, CutsOne, TakesRecord, StaysInFile, Steps}
 
 -- at the end of a file nothing comes
@@ -22,7 +23,8 @@ step_end old new known left h bytes is =
       e.1,
       inr (record {
         state = h.0;
-        found = ap (found_from old.file old.selection old.index) e.2;
+        found = ap (found_from old.file old.selection old.index old.dumps) e.2;
+        dumps = ap (dumps_behind_cuts old.file old.selection old.index old.dumps) e.2;
         records = ap (count_by is_whole) e.2;
         aside = ap (count_by is_aside) e.2;
       }),
@@ -38,7 +40,8 @@ step_broken old new known left file offset fault cut file_is cut_is of_cut bytes
       e.1,
       inr (record {
         state = h.1.0;
-        found = ap (found_from old.file old.selection old.index) e.2 ∙ ap (λ (f : ℕ). refused_at (at_record f offset 0) fault ∷ []) (sym file_is);
+        found = ap (found_from old.file old.selection old.index old.dumps) e.2 ∙ ap (λ (f : ℕ). refused_at (at_record f offset 0) fault ∷ []) (sym file_is);
+        dumps = ap (dumps_behind_cuts old.file old.selection old.index old.dumps) e.2;
         records = ap (count_by is_whole) e.2;
         aside = ap (count_by is_aside) e.2;
       }),
@@ -60,21 +63,34 @@ module _ (old : UnitsState) (file : ℕ) (r : Record) where
   abbrev mid_of : Position → UnitsState
   mid_of frames = record old { frames = frames; records = old.records + 1 }
 
+  -- what the record gives and leaves, if it is one of this file and a reading stands so before it
+  abbrev read_in : UnitsState → ℕ → Result (List ReplayUnit) Fault
+  read_in u f = units_in u.selection.states (at_record f r.offset r.seconds) (is_extended r.kind) u.index held r.body
+
+  abbrev found_then : UnitsState → ℕ → List Found
+  found_then u f = as_found (clears_at u.selection (at_record f r.offset r.seconds) u.index u.dumps held r.body) ++ found_units u.selection (at_record f r.offset r.seconds) (read_in u f)
+
+  abbrev dumps_then : UnitsState → ℕ → DumpsState
+  dumps_then u f = dumps_behind u.selection (begins u.selection (at_record f r.offset r.seconds) u.index u.dumps held r.body) u.dumps held (read_in u f)
+
   abbrev new_of : Position → List ReplayUnit → UnitsState
-  new_of frames pending = record (mid_of frames) { index = index_with old.index held r.body; pending = pending; aside = old.aside + aside_count held }
+  new_of frames pending = record (mid_of frames) { index = index_with old.index held r.body; dumps = dumps_then old file; pending = pending; aside = old.aside + aside_count held }
 
   stays : (frames : Position) (pending : List ReplayUnit) (given : Option Damage) (bytes rest : List ℕ) → file ≡ old.file → to_come old.frames bytes ≡ whole ∷ to_come frames rest
-      → refusals given ++ as_found pending ≡ found_units old.selection (at_record file r.offset r.seconds) (units_in old.selection.states (at_record file r.offset r.seconds) (is_extended r.kind) old.index held r.body)
+      → refusals given ++ as_found pending ≡ found_then old file
       → StaysInFile old bytes (new_of frames pending) rest (refusals given)
   unfolding found_at
   stays frames pending given bytes rest file_is cuts_are found_is =
       let others = to_come frames rest in
+      let index = index_with old.index held r.body in
       record {
         state = refl;
-        found = ap (found_from old.file old.selection old.index) cuts_are
-            ∙ ap (λ (f : ℕ). found_units old.selection (at_record f r.offset r.seconds) (units_in old.selection.states (at_record f r.offset r.seconds) (is_extended r.kind) old.index held r.body) ++ found_from old.file old.selection (index_with old.index held r.body) others) (sym file_is)
-            ∙ ap (λ (l : List Found). l ++ found_from old.file old.selection (index_with old.index held r.body) others) (sym found_is)
-            ∙ append_assoc (refusals given) (as_found pending) (found_from old.file old.selection (index_with old.index held r.body) others);
+        found = ap (found_from old.file old.selection old.index old.dumps) cuts_are
+            ∙ ap (λ (f : ℕ). found_then old f ++ found_from old.file old.selection index (dumps_then old f) others) (sym file_is)
+            ∙ ap (λ (l : List Found). l ++ found_from old.file old.selection index (dumps_then old file) others) (sym found_is)
+            ∙ append_assoc (refusals given) (as_found pending) (found_from old.file old.selection index (dumps_then old file) others);
+        dumps = ap (dumps_behind_cuts old.file old.selection old.index old.dumps) cuts_are
+            ∙ ap (λ (f : ℕ). dumps_behind_cuts old.file old.selection index (dumps_then old f) others) (sym file_is);
         records = ap (λ (cs : List Cut). old.records + count_by is_whole cs) cuts_are ∙ ap (λ (n : ℕ). old.records + n) (sum_by-cons (λ (c : Cut). cond (is_whole c) 1 0) whole others) ∙ one_more old.records 1 (count_by is_whole others);
         aside = ap (λ (cs : List Cut). old.aside + count_by is_aside cs) cuts_are ∙ ap (λ (n : ℕ). old.aside + n) (sum_by-cons (λ (c : Cut). cond (is_aside c) 1 0) whole others) ∙ one_more old.aside (aside_count held) (count_by is_aside others);
       }
@@ -82,12 +98,11 @@ module _ (old : UnitsState) (file : ℕ) (r : Record) where
       one_more : (a b c : ℕ) → a + (b + c) ≡ (a + b) + c
       one_more a b c = omega arith
 
-  new_is : (mid new : UnitsState) → mid ≡ mid_of mid.frames → new ≡ record mid { index = index_with mid.index held r.body; pending = new.pending; aside = mid.aside + aside_count held } → new ≡ new_of mid.frames new.pending
-  new_is mid new m n = n ∙ ap (λ (u : UnitsState). record u { frames = mid.frames; index = index_with u.index held r.body; pending = new.pending; aside = u.aside + aside_count held }) m
+  new_is : (mid new : UnitsState) → mid ≡ mid_of mid.frames → new ≡ record mid { index = index_with mid.index held r.body; dumps = dumps_then mid file; pending = new.pending; aside = mid.aside + aside_count held } → new ≡ new_of mid.frames new.pending
+  new_is mid new m n = n ∙ ap (λ (u : UnitsState). record u { frames = mid.frames; index = index_with u.index held r.body; dumps = dumps_then u file; pending = new.pending; aside = u.aside + aside_count held }) m
 
-  found_as : (mid : UnitsState) (l : List Found) → mid ≡ mid_of mid.frames → l ≡ found_units mid.selection (at_record file r.offset r.seconds) (units_in mid.selection.states (at_record file r.offset r.seconds) (is_extended r.kind) mid.index held r.body)
-      → l ≡ found_units old.selection (at_record file r.offset r.seconds) (units_in old.selection.states (at_record file r.offset r.seconds) (is_extended r.kind) old.index held r.body)
-  found_as mid l m h = h ∙ ap (λ (u : UnitsState). found_units u.selection (at_record file r.offset r.seconds) (units_in u.selection.states (at_record file r.offset r.seconds) (is_extended r.kind) u.index held r.body)) m
+  found_as : (mid : UnitsState) (l : List Found) → mid ≡ mid_of mid.frames → l ≡ found_then mid file → l ≡ found_then old file
+  found_as mid l m h = h ∙ ap (λ (u : UnitsState). found_then u file) m
 
   pub step_record : (mid new : UnitsState) (known left : Option (List ℕ)) (given : Option Damage) → file ≡ old.file → CutsOne old known mid left (Some whole) → TakesRecord mid (at_record file r.offset r.seconds) (is_extended r.kind) held r.body new given → Steps old known new left (refusals given)
   step_record mid new known left given file_is cut t bytes is =

@@ -6,6 +6,8 @@ use Rattle.mrt_body.specs.declared.choice.Reach.{Reach}
 use Rattle.mrt_body.specs.declared.choice.Reach.TheVariants.{Exact, Inside, Around}
 use Rattle.mrt_body.specs.declared.choice.PrefixChoice.{PrefixChoice}
 use Rattle.mrt_body.specs.declared.choice.PeerChoice.{PeerChoice}
+use Rattle.mrt_body.specs.declared.rib_rule.RibRule.{RibRule}
+use Rattle.mrt_body.specs.declared.rib_rule.RibRule.TheVariants.{Add}
 use Rattle.mrt_body.specs.declared.state_rule.StateRule.{StateRule}
 use Rattle.mrt_body.specs.declared.state_rule.StateRule.TheVariants.{Recorded}
 use Rattle.mrt_body.specs.declared.unit.PeerAddr.{PeerAddr}
@@ -18,17 +20,18 @@ pub record PeerShare : Type 0 where
   pub count : ℕ
 
 -- what is asked for: up to this second, the prefixes and the peers that these take, or all where there are none, and
--- the peers of this share; and by which rule state changes are taken
+-- the peers of this share; and by which rules state changes and further RIB dumps are taken
 pub record UnitSelection : Type 0 where
   pub until : Option ℕ
   pub prefixes : List PrefixChoice
   pub peers : List PeerChoice
   pub share : Option PeerShare
   pub states : StateRule
+  pub ribs : RibRule
 
 -- where nothing is named
 abbrev pub all_units : UnitSelection
-all_units = record { until = None; prefixes = []; peers = []; share = None; states = Recorded }
+all_units = record { until = None; prefixes = []; peers = []; share = None; states = Recorded; ribs = Add }
 
 -- ---- prefixes
 

@@ -12,7 +12,7 @@ use Rattle.bgp_update.specs.Attributes.{ReadsAsRoute, route_in}
 use Rattle.bgp_update.specs.Updates.{ReadsAsUpdate, update_in}
 use Rattle.bgp_update.specs.Packing.{IsWritable}
 use Rattle.mrt_body.specs.declared.unit.Payload.{Payload}
-use Rattle.mrt_body.specs.declared.unit.Payload.TheVariants.{State, Message, Entry}
+use Rattle.mrt_body.specs.declared.unit.Payload.TheVariants.{State, Message, Entry, Clear}
 use Rattle.mrt_body.specs.declared.meaning.Event.{Event}
 use Rattle.mrt_body.specs.declared.meaning.Event.TheVariants as event
 
@@ -46,6 +46,7 @@ IsMessageEvent width add_path bytes event.Other =
     × (message_header_len + length body < 256 ^ 2)
 IsMessageEvent width add_path bytes (event.State old new rule) = ⊥
 IsMessageEvent width add_path bytes (event.Rib key route) = ⊥
+IsMessageEvent width add_path bytes event.Clear = ⊥
 
 -- a RIB entry's attributes are read with four-octet AS numbers (RFC 6396, 4.3.4)
 abbrev pub IsEntryEvent : RouteKey → List ℕ → Event → Type 0
@@ -53,12 +54,14 @@ IsEntryEvent key attrs (event.Rib other route) = (other ≡ key) × ReadsAsRoute
 IsEntryEvent key attrs (event.Change update) = ⊥
 IsEntryEvent key attrs (event.State old new rule) = ⊥
 IsEntryEvent key attrs event.Other = ⊥
+IsEntryEvent key attrs event.Clear = ⊥
 
 -- the event of a payload
 abbrev pub IsEvent : Payload → Event → Type 0
 IsEvent (State from to rule) e = e ≡ event.State from to rule
 IsEvent (Message bytes width add_path) e = IsMessageEvent width add_path bytes e
 IsEvent (Entry key attrs) e = IsEntryEvent key attrs e
+IsEvent Clear e = e ≡ event.Clear
 
 -- the path of the event's route, if it has one, can be written with four-octet AS numbers
 abbrev pub IsWritableEvent : Event → Type 0
@@ -66,6 +69,7 @@ IsWritableEvent (event.Change update) = IsWritable update.route.path
 IsWritableEvent (event.Rib key route) = IsWritable route.path
 IsWritableEvent (event.State old new rule) = ⊤
 IsWritableEvent event.Other = ⊤
+IsWritableEvent event.Clear = ⊤
 
 -- ---- reading, with the first fault
 
@@ -86,3 +90,4 @@ unfoldable pub event_in : Payload → Result Event Fault
 event_in (State from to rule) = Ok (event.State from to rule)
 event_in (Message bytes width add_path) = message_event_in width add_path bytes
 event_in (Entry key attrs) = route_in Four attrs >>= λ route. Ok (event.Rib key route)
+event_in Clear = Ok event.Clear

@@ -8,6 +8,7 @@ pub mod States
 pub mod Choices
 pub mod Named
 pub mod Selections
+pub mod RibDumps
 pub mod Units
 pub mod Lent
 pub mod SessionUnits

@@ -11,3 +11,4 @@ plain_event (packed.State old new rule) = events.State old new rule
 plain_event (packed.Change update) = events.Change (plain_update update)
 plain_event (packed.Rib key route) = events.Rib key route
 plain_event packed.Other = events.Other
+plain_event packed.Clear = events.Clear

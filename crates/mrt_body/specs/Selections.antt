@@ -8,7 +8,7 @@ use Rattle.mrt_body.specs.declared.choice.PrefixChoice.{PrefixChoice}
 use Rattle.mrt_body.specs.declared.meaning.Event.{Event}
 use Rattle.mrt_body.specs.declared.meaning.Event.TheVariants as event
 use Rattle.mrt_body.specs.declared.unit.Payload.{Payload}
-use Rattle.mrt_body.specs.declared.unit.Payload.TheVariants.{State, Message, Entry}
+use Rattle.mrt_body.specs.declared.unit.Payload.TheVariants.{State, Message, Entry, Clear}
 use Rattle.mrt_body.specs.declared.unit.Unit.{Unit as ReplayUnit}
 use Rattle.mrt_body.specs.declared.unit.PeerKey.{PeerKey}
 use Rattle.mrt_body.specs.Choices.{UnitSelection, is_open, is_chosen, is_chosen_peer, is_in_share, has_no_peers, has_no_share}
@@ -48,15 +48,17 @@ speaks_of choices (Ok (event.Change u)) =
 speaks_of choices (Ok (event.State old new rule)) = true
 speaks_of choices (Ok (event.Rib key route)) = true
 speaks_of choices (Ok event.Other) = false
+speaks_of choices (Ok event.Clear) = true
 speaks_of choices (Err fault) = true
 
--- Whether a payload can concern a chosen prefix. A state change concerns all of them, a RIB entry that of its key,
--- whatever its attributes are.
+-- Whether a payload can concern a chosen prefix. A state change or a clear concerns all of them, a RIB entry that of
+-- its key, whatever its attributes are.
 abbrev pub concerns : List PrefixChoice → Payload → Bool
 concerns choices (State from to rule) = true
 concerns choices (Message bytes width add_path) =
     is_open choices || speaks_of choices (event_in (Message bytes width add_path))
 concerns choices (Entry key attrs) = is_chosen choices key.prefix
+concerns choices Clear = true
 
 -- ---- what is selected
 

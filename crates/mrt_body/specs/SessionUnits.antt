@@ -3,7 +3,7 @@ use Rattle.std.specs.Prelude.{ℕ, List, drop}
 use Rattle.mrt_body.specs.declared.unit.PeerKey.{PeerKey}
 use Rattle.mrt_body.specs.declared.unit.Place.{Place}
 use Rattle.mrt_body.specs.declared.unit.Payload.{Payload}
-use Rattle.mrt_body.specs.declared.unit.Payload.TheVariants.{State, Message}
+use Rattle.mrt_body.specs.declared.unit.Payload.TheVariants.{State, Message, Clear}
 use Rattle.mrt_body.specs.declared.unit.Unit.{Unit as ReplayUnit}
 use Rattle.mrt_body.specs.declared.session_unit.SessionKind.{SessionKind}
 use Rattle.mrt_body.specs.declared.session_unit.SessionKind.TheVariants as kinds
@@ -12,6 +12,7 @@ use Rattle.mrt_body.specs.declared.session_unit.SessionKind.TheVariants as kinds
 abbrev pub session_payload : SessionKind → List ℕ → Payload
 session_payload (kinds.State from to rule) bytes = State from to rule
 session_payload (kinds.Message width add_path) bytes = Message bytes width add_path
+session_payload kinds.Clear bytes = Clear
 
 -- the unit whose bytes are those of a body from this position on
 abbrev pub session_unit_of : Place → ℕ → PeerKey → SessionKind → List ℕ → ℕ → ReplayUnit

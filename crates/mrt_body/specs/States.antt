@@ -4,7 +4,7 @@ use Rattle.std.specs.List.{All}
 use Rattle.mrt_body.specs.declared.state_rule.StateRule.{StateRule}
 use Rattle.mrt_body.specs.declared.state_rule.StateRule.TheVariants.{Recorded, Established}
 use Rattle.mrt_body.specs.declared.unit.Payload.{Payload}
-use Rattle.mrt_body.specs.declared.unit.Payload.TheVariants.{State, Message, Entry}
+use Rattle.mrt_body.specs.declared.unit.Payload.TheVariants.{State, Message, Entry, Clear}
 use Rattle.mrt_body.specs.declared.unit.Unit.{Unit as ReplayUnit}
 
 -- Established, of RFC 4271's states
@@ -37,6 +37,7 @@ abbrev pub IsByRule : StateRule → Payload → Type 0
 IsByRule rule (State from to other) = other ≡ rule
 IsByRule rule (Message bytes width add_path) = ⊤
 IsByRule rule (Entry key attrs) = ⊤
+IsByRule rule Clear = ⊤
 
 -- units whose state changes are all taken by this rule
 abbrev pub AreByRule : StateRule → List ReplayUnit → Type 0

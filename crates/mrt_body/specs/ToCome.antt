@@ -21,16 +21,18 @@ use Rattle.mrt_body.specs.declared.unit.Damage.{Damage}
 use Rattle.mrt_body.specs.declared.unit.Found.{Found}
 use Rattle.mrt_body.specs.declared.unit.Found.TheVariants as found
 use Rattle.mrt_body.specs.Pending.{IndexState}
-use Rattle.mrt_body.specs.Units.{found_from, found_in_files, found_units, units_in, index_with, aside_count, all_cuts, is_whole, is_aside}
+use Rattle.mrt_body.specs.RibDumps.{DumpsState, no_dumps}
+use Rattle.mrt_body.specs.Units.{begins, clears_at, dumps_behind, dumps_behind_cuts, found_from, found_in_files, found_units, units_in, index_with, aside_count, all_cuts, is_whole, is_aside}
 
--- Where a reading stands: the current file and its reader, the index in force, the units of the RIB record cut last
--- that are still to be given, and what was counted.
+-- Where a reading stands: the current file and its reader, the index in force, the RIB dumps that came before, the
+-- units of the record cut last that are still to be given, and what was counted.
 pub record UnitsState : Type 0 where
   pub count : ℕ
   pub file : ℕ
   pub frames : Position
   pub selection : UnitSelection
   pub index : Option (List PeerKey)
+  pub dumps : DumpsState
   pub pending : List ReplayUnit
   pub max_records : ℕ
   pub records : ℕ
@@ -44,6 +46,7 @@ fresh_units count max_records selection = record {
   frames = start_of 0;
   selection = selection;
   index = None;
+  dumps = no_dumps;
   pending = [];
   max_records = max_records;
   records = 0;
@@ -65,12 +68,17 @@ refusals refused = map (λ damage. found.Refused damage) (option_to_list refused
 
 -- of the current file behind the pending units, where it still gives these bytes
 abbrev pub found_here : UnitsState → List ℕ → List Found
-found_here u bytes = found_from u.file u.selection u.index (to_come u.frames bytes)
+found_here u bytes = found_from u.file u.selection u.index u.dumps (to_come u.frames bytes)
+
+-- the dumps behind these bytes of the current file
+abbrev pub dumps_here : UnitsState → List ℕ → DumpsState
+dumps_here u bytes = dumps_behind_cuts u.file u.selection u.index u.dumps (to_come u.frames bytes)
 
 -- of the current file and the later ones, which still give these bytes
 abbrev pub found_left : UnitsState → List (List ℕ) → List Found
 found_left u [] = []
-found_left u (bytes ∷ later) = found_here u bytes ++ found_in_files u.selection (u.file + 1) later
+found_left u (bytes ∷ later) =
+    found_here u bytes ++ found_in_files u.selection (u.file + 1) (dumps_here u bytes) later
 
 -- all the units and refusals to come
 abbrev pub found_to_come : UnitsState → List (List ℕ) → List Found
@@ -115,14 +123,14 @@ HasEnded u = (u.standing ≡ Going) × (u.file ≡ u.count) × (u.pending ≡ []
 abbrev pub steps_left : UnitsState → ℕ
 steps_left u = (u.max_records - u.records) + (u.count - u.file)
 
--- at most so many answers can still come, whatever the readers give: each record gives at most 65,535, and each file
--- one rest
-abbrev pub answers_left : UnitsState → ℕ
-answers_left u = (u.max_records - u.records) * 65535 + length u.pending + (u.count - u.file)
-
--- at most so many units can still come, whatever the readers give: those that pend, and 65,535 of each record
+-- at most so many units can still come, whatever the readers give: those that pend, 65,535 of each record, and for each
+-- of these a clear, if its peer wasn't heard yet
 abbrev pub units_left : UnitsState → ℕ
-units_left u = (u.max_records - u.records) * 65535 + length u.pending
+units_left u = (u.max_records - u.records) * 131070 + (length u.pending + length u.dumps.heard)
+
+-- at most so many answers can still come: the units, and for each file a rest
+abbrev pub answers_left : UnitsState → ℕ
+answers_left u = units_left u + (u.count - u.file)
 
 -- one for a unit, none for a refusal
 abbrev pub unit_count : Option Found → ℕ
@@ -187,11 +195,14 @@ pub record TakesRecord
     : Type 0 where
   pub state : new ≡ record old {
     index = index_with old.index content body;
+    dumps = dumps_behind old.selection (begins old.selection at old.index old.dumps content body) old.dumps content
+        (units_in old.selection.states at extended old.index content body);
     pending = new.pending;
     aside = old.aside + aside_count content;
   }
   pub found : refusals refused ++ as_found new.pending
-      ≡ found_units old.selection at (units_in old.selection.states at extended old.index content body)
+      ≡ as_found (clears_at old.selection at old.index old.dumps content body)
+      ++ found_units old.selection at (units_in old.selection.states at extended old.index content body)
 
 -- more of the current file is to come, where it gave these bytes before and gives those now
 pub record StaysInFile
@@ -200,11 +211,13 @@ pub record StaysInFile
   pub state : new ≡ record old {
     frames = new.frames;
     index = new.index;
+    dumps = new.dumps;
     pending = new.pending;
     records = new.records;
     aside = new.aside;
   }
   pub found : found_here old bytes ≡ taken ++ (as_found new.pending ++ found_here new rest)
+  pub dumps : dumps_here old bytes ≡ dumps_here new rest
   pub records : old.records + count_by is_whole (to_come old.frames bytes)
       ≡ new.records + count_by is_whole (to_come new.frames rest)
   pub aside : old.aside + count_by is_aside (to_come old.frames bytes)
@@ -214,6 +227,7 @@ pub record StaysInFile
 pub record LeavesFile (old : UnitsState) (bytes : List ℕ) (new : UnitsState) (taken : List Found) : Type 0 where
   pub state : new ≡ in_next_file old
   pub found : found_here old bytes ≡ taken
+  pub dumps : dumps_here old bytes ≡ old.dumps
   pub records : count_by is_whole (to_come old.frames bytes) ≡ 0
   pub aside : count_by is_aside (to_come old.frames bytes) ≡ 0
 

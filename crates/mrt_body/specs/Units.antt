@@ -1,5 +1,5 @@
 -- The units and refusals of dumps (RFC 6396, sections 2, 4.3 and 4.4; 3 for extended timestamps; RFC 8050).
-use Rattle.std.specs.Prelude.{ℕ, ◌+◌, ◌*◌, Bool, true, false, List, [], ◌∷◌, ◌++◌, map, Option, Some, None, Result, Ok, Err, slice_index_or, ◌==◌, ◌||◌, if◌then◌else◌, ◌≤◌, ⊤, length}
+use Rattle.std.specs.Prelude.{ℕ, ◌+◌, ◌*◌, Bool, true, false, List, [], ◌∷◌, ◌++◌, map, Option, Some, None, Result, Ok, Err, slice_index_or, ◌==◌, ◌&&◌, ◌||◌, if◌then◌else◌, ◌≤◌, ⊤, length}
 use Rattle.std.specs.List.{filter, filter_map, count_by, flat_map, last_or}
 use Rattle.std.specs.Option.{option_and_then}
 use Rattle.bgp_prefix.specs.Prefixes.{IpPrefix}
@@ -21,7 +21,7 @@ use Rattle.mrt_body.specs.declared.unit.PeerKey.{PeerKey}
 use Rattle.mrt_body.specs.declared.unit.Place.{Place}
 use Rattle.mrt_body.specs.declared.unit.Damage.{Damage}
 use Rattle.mrt_body.specs.declared.unit.Payload.{Payload}
-use Rattle.mrt_body.specs.declared.unit.Payload.TheVariants.{State, Message, Entry}
+use Rattle.mrt_body.specs.declared.unit.Payload.TheVariants.{State, Message, Entry, Clear}
 use Rattle.mrt_body.specs.declared.unit.Unit.{Unit as ReplayUnit}
 use Rattle.mrt_body.specs.declared.unit.Found.{Found}
 use Rattle.mrt_body.specs.declared.unit.Found.TheVariants as found
@@ -30,6 +30,8 @@ use Rattle.mrt_body.specs.Indexes.{peers_in}
 use Rattle.mrt_body.specs.RibRecords.{RibForm, WrittenEntry, rib_beside, rib_prefix}
 use Rattle.mrt_body.specs.Bgp4mp.{session_peer_at, states_in, microseconds_at}
 use Rattle.mrt_body.specs.Selections.{is_selected}
+use Rattle.mrt_body.specs.RibDumps.{DumpsState, no_dumps, may_begin, dumps_with}
+use Rattle.std.specs.Result.{is_ok}
 
 -- ---- kinds of record
 
@@ -58,6 +60,13 @@ content_of kind subtype =
 -- the type with extended timestamps
 abbrev pub is_extended : ℕ → Bool
 is_extended kind = kind == 17
+
+abbrev pub is_index_content : Content → Bool
+is_index_content content.IndexTable = true
+is_index_content (content.Rib add_path) = false
+is_index_content (content.Message width add_path) = false
+is_index_content (content.States width) = false
+is_index_content content.Aside = false
 
 -- ---- what one record gives
 
@@ -121,8 +130,8 @@ states_unit rule at extended width body = do
 abbrev pub alone : Result ReplayUnit Fault → Result (List ReplayUnit) Fault
 alone read = read >>= λ unit. Ok (unit ∷ [])
 
--- The units of a whole record, or its fault; index tables and records aside give none. A state change has the rule that is
--- asked for.
+-- The units of a whole record, or its fault; index tables and records aside give none. A state change has the rule that
+-- is asked for.
 abbrev pub units_in : StateRule → RecordAt → Bool → Option (List PeerKey) → Content → List ℕ → Result (List ReplayUnit) Fault
 units_in rule at extended index content.IndexTable body = peers_in body >>= λ peers. Ok []
 units_in rule at extended index (content.Rib add_path) body = rib_units_in at add_path index body
@@ -150,21 +159,62 @@ found_units selection at read = found_of at (selected_units selection read)
 abbrev pub at_record : ℕ → ℕ → ℕ → RecordAt
 at_record file offset seconds = record { file = file; offset = offset; seconds = seconds }
 
--- what a cut gives beside the index in force
-unfoldable pub found_at : ℕ → UnitSelection → Option (List PeerKey) → Cut → List Found
-found_at file selection index (Whole r) =
+-- ---- RIB dumps that replace what came before them
+
+-- such a dump clears the table of a peer: where its first record stands, and with its time
+abbrev pub clear_unit : RecordAt → PeerKey → ReplayUnit
+clear_unit at peer = record { place = place_of at None; time = time_of at 0; peer = peer; payload = Clear }
+
+-- Whether a record begins one, beside the index in force and the dumps before it. A refused record doesn't.
+abbrev pub begins : UnitSelection → RecordAt → Option (List PeerKey) → DumpsState → Content → List ℕ → Bool
+begins selection at index dumps (content.Rib add_path) body =
+    is_ok (rib_beside add_path index body) && may_begin selection dumps.begun (time_of at 0)
+begins selection at index dumps content.IndexTable body = false
+begins selection at index dumps (content.Message width add_path) body = false
+begins selection at index dumps (content.States width) body = false
+begins selection at index dumps content.Aside body = false
+
+-- the clears of these peers, if one begins
+abbrev pub clears_if : Bool → RecordAt → List PeerKey → List ReplayUnit
+clears_if begun at heard = if begun then map (clear_unit at) heard else []
+
+-- those of all peers that gave a unit since the last one: nothing else has a route
+abbrev pub clears_at : UnitSelection → RecordAt → Option (List PeerKey) → DumpsState → Content → List ℕ → List ReplayUnit
+clears_at selection at index dumps content body =
+    clears_if (begins selection at index dumps content body) at dumps.heard
+
+-- the units of a record, if it isn't refused
+abbrev pub units_or_none : Result (List ReplayUnit) Fault → List ReplayUnit
+units_or_none (Ok units) = units
+units_or_none (Err fault) = []
+
+-- the dumps behind a record, where it begins one or doesn't; an index table begins none
+abbrev pub dumps_behind : UnitSelection → Bool → DumpsState → Content → Result (List ReplayUnit) Fault → DumpsState
+dumps_behind selection begun dumps content read =
+    let with = dumps_with selection.ribs begun dumps (units_or_none (selected_units selection read)) in
+    if is_index_content content then record with { begun = false } else with
+
+-- ---- what a cut gives
+
+-- beside the index in force and the dumps before it
+unfoldable pub found_at : ℕ → UnitSelection → Option (List PeerKey) → DumpsState → Cut → List Found
+found_at file selection index dumps (Whole r) =
     let at = at_record file r.offset r.seconds in
-    found_units selection at (units_in selection.states at (is_extended r.kind) index (content_of r.kind r.subtype) r.body)
-found_at file selection index (Broken offset fault) = refused_at (at_record file offset 0) fault ∷ []
+    let content = content_of r.kind r.subtype in
+    map (λ u. found.Unit u) (clears_at selection at index dumps content r.body)
+    ++ found_units selection at (units_in selection.states at (is_extended r.kind) index content r.body)
+found_at file selection index dumps (Broken offset fault) = refused_at (at_record file offset 0) fault ∷ []
+
+-- the dumps behind a cut
+abbrev pub dumps_after : ℕ → UnitSelection → Option (List PeerKey) → DumpsState → Cut → DumpsState
+dumps_after file selection index dumps (Whole r) =
+    let at = at_record file r.offset r.seconds in
+    let content = content_of r.kind r.subtype in
+    dumps_behind selection (begins selection at index dumps content r.body) dumps content
+    (units_in selection.states at (is_extended r.kind) index content r.body)
+dumps_after file selection index dumps (Broken offset fault) = dumps
 
 -- ---- the index in force
-
-abbrev pub is_index_content : Content → Bool
-is_index_content content.IndexTable = true
-is_index_content (content.Rib add_path) = false
-is_index_content (content.Message width add_path) = false
-is_index_content (content.States width) = false
-is_index_content content.Aside = false
 
 abbrev pub if_read : Result (List PeerKey) Fault → Option (List PeerKey)
 if_read (Ok peers) = Some peers
@@ -173,6 +223,15 @@ if_read (Err fault) = None
 -- what an index table puts in force: nothing, where it is damaged
 abbrev pub index_of_body : List ℕ → Option (List PeerKey)
 index_of_body body = if_read (peers_in body)
+
+-- the index in force after a whole record
+abbrev pub index_with : Option (List PeerKey) → Content → List ℕ → Option (List PeerKey)
+index_with index content body = if is_index_content content then index_of_body body else index
+
+-- the index in force after a cut
+abbrev pub index_after : Option (List PeerKey) → Cut → Option (List PeerKey)
+index_after index (Whole r) = index_with index (content_of r.kind r.subtype) r.body
+index_after index (Broken offset fault) = index
 
 -- the bodies of index tables
 abbrev pub index_body : Cut → Option (List ℕ)
@@ -185,37 +244,39 @@ index_body (Broken offset fault) = None
 abbrev pub index_before : List Cut → Option (List PeerKey)
 index_before earlier = option_and_then index_of_body (last_or None (filter_map index_body earlier))
 
--- an index holds in its own file alone
-abbrev pub found_in_file : UnitSelection → ℕ → List ℕ → List Found
-found_in_file selection file bytes =
-    flat_map_after (λ earlier cut. found_at file selection (index_before earlier) cut) [] (cuts 0 bytes)
+-- the dumps behind these cuts, where this index is in force and these dumps were before the first
+abbrev pub dumps_behind_cuts : ℕ → UnitSelection → Option (List PeerKey) → DumpsState → List Cut → DumpsState
+dumps_behind_cuts file selection index dumps [] = dumps
+dumps_behind_cuts file selection index dumps (cut ∷ others) =
+    dumps_behind_cuts file selection (index_after index cut) (dumps_after file selection index dumps cut) others
+
+-- an index holds in its own file alone; dumps are followed from one file to the next
+abbrev pub found_in_file : UnitSelection → ℕ → DumpsState → List ℕ → List Found
+found_in_file selection file dumps bytes =
+    flat_map_after
+    (λ earlier cut. found_at file selection (index_before earlier)
+    (dumps_behind_cuts file selection None dumps earlier) cut)
+    [] (cuts 0 bytes)
 
 -- the files from this number on
-abbrev pub found_in_files : UnitSelection → ℕ → List (List ℕ) → List Found
-found_in_files selection file [] = []
-found_in_files selection file (bytes ∷ files) =
-    found_in_file selection file bytes ++ found_in_files selection (file + 1) files
+abbrev pub found_in_files : UnitSelection → ℕ → DumpsState → List (List ℕ) → List Found
+found_in_files selection file dumps [] = []
+found_in_files selection file dumps (bytes ∷ files) =
+    found_in_file selection file dumps bytes
+    ++ found_in_files selection (file + 1) (dumps_behind_cuts file selection None dumps (cuts 0 bytes)) files
 
 -- those that are selected
 unfoldable pub found_in : UnitSelection → List (List ℕ) → List Found
-found_in selection files = found_in_files selection 0 files
+found_in selection files = found_in_files selection 0 no_dumps files
 
 -- ---- the same, as a reading goes on
 
--- the index in force after a whole record
-abbrev pub index_with : Option (List PeerKey) → Content → List ℕ → Option (List PeerKey)
-index_with index content body = if is_index_content content then index_of_body body else index
-
--- the index in force after a cut
-abbrev pub index_after : Option (List PeerKey) → Cut → Option (List PeerKey)
-index_after index (Whole r) = index_with index (content_of r.kind r.subtype) r.body
-index_after index (Broken offset fault) = index
-
--- what the cuts give, where this index is in force before the first
-abbrev pub found_from : ℕ → UnitSelection → Option (List PeerKey) → List Cut → List Found
-found_from file selection index [] = []
-found_from file selection index (cut ∷ others) =
-    found_at file selection index cut ++ found_from file selection (index_after index cut) others
+-- what the cuts give, where this index is in force and these dumps were before the first
+abbrev pub found_from : ℕ → UnitSelection → Option (List PeerKey) → DumpsState → List Cut → List Found
+found_from file selection index dumps [] = []
+found_from file selection index dumps (cut ∷ others) =
+    found_at file selection index dumps cut
+    ++ found_from file selection (index_after index cut) (dumps_after file selection index dumps cut) others
 
 abbrev pub unit_of : Found → Option ReplayUnit
 unit_of (found.Unit unit) = Some unit
@@ -231,6 +292,15 @@ units_of selection files = filter_map unit_of (found_in selection files)
 unfoldable pub refused_of : UnitSelection → List (List ℕ) → List Damage
 refused_of selection files = filter_map damage_of (found_in selection files)
 
+-- ---- what is recorded
+
+-- whether a payload is what a record has of the peer, and not that a RIB dump clears its table
+abbrev pub is_recorded : Payload → Bool
+is_recorded (State from to rule) = true
+is_recorded (Message bytes width add_path) = true
+is_recorded (Entry key attrs) = true
+is_recorded Clear = false
+
 -- ---- how many bytes a unit carries
 
 -- those of a message, or of an entry's attributes
@@ -238,6 +308,7 @@ abbrev pub payload_bytes : Payload → List ℕ
 payload_bytes (State from to rule) = []
 payload_bytes (Message bytes width add_path) = bytes
 payload_bytes (Entry key attrs) = attrs
+payload_bytes Clear = []
 
 -- no more than the greatest body of a record
 abbrev pub IsSmallUnit : ReplayUnit → Type 0

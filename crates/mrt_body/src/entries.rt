@@ -1,19 +1,22 @@
 //! The entries of a RIB record that are still to be returned.
 
-ghost use Rattle.std.specs.Prelude.{◌≡◌, ◌≤◌, ◌+◌, ◌/◌, ◌∷◌, [], length, take, drop, max, vec_capacity, false, ◌↔◌, Some, None, IfOk, IfSome, slice_index_or};
+ghost use Rattle.std.specs.Prelude.{◌≡◌, ◌≤◌, ◌+◌, ◌/◌, ◌∷◌, [], length, take, drop, max, vec_capacity, false, ◌↔◌, Some, None, IfOk, IfSome, OnOk, slice_index_or};
 ghost use Rattle.bgp_update.specs.Answers.{Gives};
 ghost use Rattle.mrt_body.specs.Lent.{lent_unit};
 ghost use Rattle.mrt_body.specs.Units.{IsSmallUnit, no_peer, rib_units_in};
 ghost use Rattle.mrt_body.specs.Pending.{AreListed, units_left};
 ghost use Rattle.mrt_body.specs.Selections.{is_selected, takes_peer};
 ghost use Rattle.std.specs.List.{filter};
+ghost use Rattle.mrt_body.specs.RibDumps.{heard_of};
+ghost use Rattle.mrt_body.specs.declared.rib_rule.RibRule.TheVariants.{Replace};
 
 use crate::at::RecordAt;
 use crate::lent::{LentPayload, LentUnit};
 use crate::rib::{ListedEntry, list_entries, rib_head_at};
+use crate::rib_dumps::RibDumps;
 use crate::selection::Selection;
 use crate::unit::{PeerAddr, PeerKey};
-use bgp_prefix::{Prefix, RouteKey, Sequence};
+use bgp_prefix::{Memory, Prefix, RouteKey, Sequence};
 use bgp_update::AttrError;
 
 /// A RIB record along with a list of its entries, which are returned one by one.
@@ -127,6 +130,23 @@ impl RibRecord {
         } else if !selection.takes_each_peer() {
             keep_taken(selection, peers, list);
         }
+    }
+
+    /// Takes note of the peers of the entries that are still to be returned.
+    pub(crate) fn hear(
+        &self,
+        peers: &[PeerKey],
+        list: &[ListedEntry],
+        dumps: &mut RibDumps,
+    ) -> Result<(), Memory>
+        requires { AreListed peers.now list.now self.now }
+        ensures { OnOk result (dumps.new
+            ≡ record dumps.old { heard = heard_of Replace dumps.old.heard (units_left peers.now list.now self.now) }) }
+    {
+        for entry in &list[self.given as usize..] {
+            dumps.hear(peer_at(peers, entry.peer))?;
+        }
+        Ok(())
     }
 
     /// Lends the unit of the next entry, or returns `None` at the end.

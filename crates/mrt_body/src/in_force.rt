@@ -1,15 +1,18 @@
 //! The index in force, and what it is still needed for.
 
-ghost use Rattle.std.specs.Prelude.{◌≡◌, ◌≤◌, ◌∷◌, ◌++◌, [], drop, length, true, false, ◌↔◌, Some, None, Ok, OnErr, IfOk, IfSome, option_to_list};
+ghost use Rattle.std.specs.Prelude.{◌≡◌, ◌≤◌, ◌∷◌, ◌++◌, [], drop, length, true, false, ◌↔◌, Some, None, Ok, OnErr, OnOk, IfOk, IfSome, option_to_list};
 ghost use Rattle.bgp_update.specs.Answers.{Gives};
 ghost use Rattle.mrt_body.specs.Lent.{lent_unit};
 ghost use Rattle.mrt_body.specs.Units.{IsSmallUnit, rib_units_in, selected_units};
 ghost use Rattle.mrt_body.specs.Pending.{without_pending};
+ghost use Rattle.mrt_body.specs.RibDumps.{heard_of};
+ghost use Rattle.mrt_body.specs.declared.rib_rule.RibRule.TheVariants.{Replace};
 
 use crate::at::RecordAt;
 use crate::entries::RibRecord;
 use crate::lent::LentUnit;
 use crate::rib::ListedEntry;
+use crate::rib_dumps::RibDumps;
 use crate::selection::Selection;
 use crate::unit::{PeerKey, Unit};
 use bgp_prefix::{Memory, Sequence};
@@ -73,6 +76,16 @@ impl Index {
     /// How many peers the index table has, and the entries of the last record that are selected.
     pub(crate) fn listed(&self) -> (usize, &[ListedEntry]) {
         (self.peers.len(), self.list.as_slice())
+    }
+
+    /// Takes note of the peers of the units that are still to be returned.
+    pub(crate) fn hear(&self, dumps: &mut RibDumps) -> Result<(), Memory>
+        ensures { OnOk result (dumps.new ≡ record dumps.old { heard = heard_of Replace dumps.old.heard self.now.pending }) }
+    {
+        match &self.last {
+            Some(record) => record.hear(self.peers.as_slice(), self.list.as_slice(), dumps),
+            None => Ok(()),
+        }
     }
 
     /// Skips what is still to be returned.

@@ -74,5 +74,6 @@ fn lent_event(alloc: Global, payload: &LentPayload<'_>) -> Result<Event, AttrErr
             Ok(route) => Ok(Event::Rib(key, route)),
             Err(error) => Err(error),
         },
+        LentPayload::Clear => Ok(Event::Clear),
     }
 }

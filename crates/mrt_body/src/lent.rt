@@ -2,7 +2,7 @@
 
 ghost use Rattle.std.specs.Prelude.{◌≡◌, ◌≤◌, IfOk, IsOk, length};
 ghost use Rattle.mrt_body.specs.Lent.{lent_payload, lent_unit};
-ghost use Rattle.mrt_body.specs.Units.{payload_bytes};
+ghost use Rattle.mrt_body.specs.Units.{is_recorded, payload_bytes};
 
 use crate::payload_bytes::PayloadBytes;
 use crate::state_rule::StateRule;
@@ -12,13 +12,17 @@ use bgp_update::Width;
 use std::alloc::Global;
 
 /// A payload whose bytes are lent: those of a message, or of the attributes of a RIB entry.
+// Variants and fields stand in the order in which an entry takes the fewest instructions: a clear first, and the rule of
+// a state change before the bytes that a key has.
 #[derive(Clone, Copy, Debug)]
 pub enum LentPayload<'a> {
+    /// A RIB dump begins that clears the peer's table.
+    Clear,
     /// A state change (RFC 6396, 4.4.1): the old and the new state, any numbers, and the rule by which it is taken.
     State {
+        rule: StateRule,
         from: u16,
         to: u16,
-        rule: StateRule,
     },
     /// A BGP message (RFC 6396, 4.4.2 and 4.4.3; with identifiers RFC 8050, 3).
     Message {
@@ -68,6 +72,18 @@ impl<'a> LentPayload<'a> {
                 add_path: *add_path,
             },
             LentPayload::Entry { key, attrs } => LentPayload::Entry { key: *key, attrs },
+            LentPayload::Clear => LentPayload::Clear,
+        }
+    }
+
+    /// Whether it is what a record has of the peer, and not that a RIB dump clears its table.
+    #[inline(always)]
+    pub fn is_recorded(&self) -> bool
+        ensures { result ≡ is_recorded (lent_payload self.now) }
+    {
+        match self {
+            LentPayload::Clear => false,
+            _ => true,
         }
     }
 
@@ -91,6 +107,7 @@ impl<'a> LentPayload<'a> {
                 key,
                 attrs: PayloadBytes::from_slice(alloc, attrs)?,
             },
+            LentPayload::Clear => Payload::Clear,
         })
     }
 }
@@ -136,6 +153,7 @@ impl Payload {
                 key: *key,
                 attrs: attrs.as_slice(),
             },
+            Payload::Clear => LentPayload::Clear,
         }
     }
 }

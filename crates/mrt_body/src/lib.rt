@@ -12,6 +12,11 @@
 //!   prefix and others, the routes of others are taken out of the tables at the end (`Tables::retain`). That this is
 //!   the same as to select late is a law of `adj_rib`, `early_is_late`. Refusals, index tables and the counts of
 //!   records don't depend on the selection.
+//! - **A RIB dump that replaces what came before it gives clears** (`RibRule::Replace`): before the entries of its
+//!   first record come units with the payload `Clear`, one for each peer that gave a unit since the last such dump, in
+//!   the order of the peers. So a restart of all tables is a unit of each peer, and no definition over units, lanes and
+//!   sessions has a further argument. Of peers that gave nothing since there is nothing to clear: each unit brings at
+//!   most one clear, however many dumps there are.
 //! - Bodies are stated by their forms (`Agrees`, `IsRefused`) and by a reading (`units_in`), which a law ties together.
 //!   `Units::next` is proved against the reading.
 //! - Units are lent (`Units::lend`): the dealer copies the bytes of an entry or a message once, from the record to its
@@ -45,6 +50,8 @@ mod payload_bytes;
 mod reading;
 mod remarks;
 mod rib;
+mod rib_dumps;
+mod rib_rule;
 mod selection;
 mod session;
 mod session_unit;
@@ -53,6 +60,7 @@ mod standing;
 mod state_rule;
 mod unit;
 mod units;
+mod waiting;
 
 pub use agreement::{bodies_agree_with_their_forms, events_agree_with_their_payloads};
 pub use choice::{PeerChoice, PrefixChoice, Reach};
@@ -63,8 +71,9 @@ pub use lent::{LentPayload, LentUnit};
 pub use meaning::Event;
 pub use packed_meaning::{PackedEvent, packed_event};
 pub use payload_bytes::PayloadBytes;
-pub use reading::{readings_give_all_found, units_have_their_rule};
+pub use reading::{added_dumps_clear_nothing, readings_give_all_found, units_have_their_rule};
 pub use remarks::{Marked, Remarks};
+pub use rib_rule::RibRule;
 pub use selection::Selection;
 pub use share::Share;
 pub use state_rule::StateRule;

@@ -15,4 +15,6 @@ pub enum Event {
     Rib(RouteKey, Route),
     /// A message of another type, which is not read.
     Other,
+    /// A RIB dump begins that clears the peer's table.
+    Clear,
 }

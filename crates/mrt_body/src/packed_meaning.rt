@@ -24,6 +24,8 @@ pub enum PackedEvent {
     Rib(RouteKey, PackedRoute),
     /// A message of another type, which is not read.
     Other,
+    /// A RIB dump begins that clears the peer's table.
+    Clear,
 }
 
 /// Returns the event of a message.
@@ -73,5 +75,6 @@ pub fn packed_event(
                 Err(error) => Err(error),
             }
         }
+        LentPayload::Clear => Ok(PackedEvent::Clear),
     }
 }

@@ -1,12 +1,14 @@
 //! The laws of a whole reading.
 
-ghost use Rattle.std.specs.Prelude.{◌≡◌, ◌++◌, ℕ, List, Option, Some, length, map};
+ghost use Rattle.std.specs.Prelude.{◌≡◌, ◌++◌, ℕ, List, Option, Some, length, map, true};
+ghost use Rattle.std.specs.List.{All};
 ghost use Rattle.mrt_frame.specs.declared.error.ReplayError.TheVariants.{Read};
 ghost use Rattle.mrt_body.specs.Choices.{UnitSelection};
 ghost use Rattle.mrt_body.specs.declared.unit.Found.{Found};
 ghost use Rattle.mrt_body.specs.ToCome.{UnitsState, FailsBehind, GivesAllBefore, HasEnded, TakesFound, fresh_units};
 ghost use Rattle.mrt_body.specs.States.{AreByRule};
-ghost use Rattle.mrt_body.specs.Units.{aside_of, found_in, records_of, units_of};
+ghost use Rattle.mrt_body.specs.Units.{aside_of, found_in, is_recorded, records_of, units_of};
+ghost use Rattle.mrt_body.specs.declared.rib_rule.RibRule.TheVariants.{Add};
 
 /// What calls of `Units::next` returned joins, in order. What was returned from `Units::new` on is a front
 /// of what the files hold, even if a call then returns an error, as no later call returns more.
@@ -37,4 +39,10 @@ pub fn readings_give_all_found()
 pub fn units_have_their_rule()
     ensures { (selection : UnitSelection) (files : List (List ℕ)) →
         AreByRule selection.states (units_of selection files) }
+{}
+
+/// Where RIB dumps are added, no unit is a clear.
+pub fn added_dumps_clear_nothing()
+    ensures { (selection : UnitSelection) (files : List (List ℕ)) → selection.ribs ≡ Add →
+        All (λ unit. is_recorded unit.payload ≡ true) (units_of selection files) }
 {}

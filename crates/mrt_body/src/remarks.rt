@@ -1,5 +1,5 @@
-//! What is remarkable about the records of files, beside the units that they give. It changes none of these, and nothing
-//! is proved of it but that it is safe to look for.
+//! What is remarkable about the records of files, beside the units that they give. It changes none of these, and
+//! nothing is proved of it but that it is safe to look for.
 
 use crate::rib::ListedEntry;
 use std::alloc::Global;

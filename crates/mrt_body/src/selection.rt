@@ -12,6 +12,7 @@ use crate::choice::{PeerChoice, is_chosen_peer};
 use crate::chosen_prefixes::ChosenPrefixes;
 use crate::lent::LentPayload;
 use crate::packed_meaning::{PackedEvent, packed_event};
+use crate::rib_rule::RibRule;
 use crate::session_unit::SessionUnit;
 use crate::share::Share;
 use crate::state_rule::StateRule;
@@ -23,7 +24,7 @@ use std::marker::Model;
 
 /// Which of the units that records give are returned: those that meet each criterion. Any other unit is
 /// skipped, as if no record gave it. Refused records, index tables and the counts of records are the same
-/// for each selection. It also says by which rule state changes are taken.
+/// for each selection. It also says by which rules state changes and further RIB dumps are taken.
 #[derive(Debug, Drop)]
 pub struct Selection {
     /// The last second of which units are returned, in seconds since 1970 UTC. A unit is skipped if the
@@ -38,6 +39,8 @@ pub struct Selection {
     share: Option<Share>,
     /// The rule by which state changes are taken. It makes no difference to which units are returned.
     states: StateRule,
+    /// What a further RIB dump does to the routes before it.
+    ribs: RibRule,
 }
 
 impl Model for Selection {
@@ -51,6 +54,7 @@ impl Model for Selection {
       peers = s.peers.items;
       share = s.share;
       states = s.states;
+      ribs = s.ribs;
     } };
 }
 
@@ -85,7 +89,7 @@ fn concerns(
     ensures { IfOk result (λ concerned. concerned ≡ concerns chosen.now (lent_payload payload.now)) }
 {
     match payload {
-        LentPayload::State { .. } => Ok(true),
+        LentPayload::State { .. } | LentPayload::Clear => Ok(true),
         LentPayload::Entry { key, .. } => Ok(chosen.takes(&key.prefix)),
         LentPayload::Message { .. } => {
             if chosen.is_open() {
@@ -113,7 +117,7 @@ fn is_in_share(share: Option<Share>, peer: &PeerKey) -> bool
 }
 
 impl Selection {
-    /// Returns the selection of all units, with state changes taken as they are recorded.
+    /// Returns the selection of all units, with state changes taken as they are recorded and RIB dumps added.
     pub fn all(alloc: Global) -> Selection
         ensures { result ≡ all_units }
     {
@@ -123,6 +127,7 @@ impl Selection {
             peers: Vec::new(alloc),
             share: None,
             states: StateRule::Recorded,
+            ribs: RibRule::Add,
         }
     }
 
@@ -164,6 +169,21 @@ impl Selection {
     {
         self.states = states;
         self
+    }
+
+    /// Returns the same selection, with further RIB dumps taken by this rule.
+    pub fn by_ribs(mut self, ribs: RibRule) -> Selection
+        ensures { result ≡ record self { ribs = ribs } }
+    {
+        self.ribs = ribs;
+        self
+    }
+
+    /// The rule by which further RIB dumps are taken.
+    pub(crate) fn ribs(&self) -> RibRule
+        ensures { result ≡ self.now.ribs }
+    {
+        self.ribs
     }
 
     /// The rule by which state changes are taken.

@@ -1,4 +1,4 @@
-//! The unit of a BGP4MP record, which keeps the record's body.
+//! The unit of a BGP4MP record, which keeps the record's body; or one that clears a table.
 
 use crate::lent::{LentPayload, LentUnit};
 use crate::payload_bytes::PayloadBytes;
@@ -14,9 +14,10 @@ use std::marker::Model;
 pub(crate) enum SessionKind {
     State { from: u16, to: u16, rule: StateRule },
     Message { width: Width, add_path: bool },
+    Clear,
 }
 
-/// A message or a state change, as the record has it: a message is the end of the body.
+/// A message or a state change, as the record has it: a message is the end of the body. Or a clear, without a body.
 #[derive(Drop)]
 pub(crate) struct SessionUnit {
     pub(crate) place: Place,
@@ -57,6 +58,7 @@ impl SessionUnit {
                 width,
                 add_path,
             },
+            SessionKind::Clear => Payload::Clear,
         };
         Ok(Unit {
             place: self.place,
@@ -83,6 +85,7 @@ impl SessionUnit {
                     width,
                     add_path,
                 },
+                SessionKind::Clear => LentPayload::Clear,
             },
         }
     }

@@ -7,14 +7,15 @@ use bgp_update::Width;
 use mrt_frame::Fault;
 
 /// The address of a peer.
-#[derive(Clone, Copy, Debug, PartialEq, Eq, Hash)]
+#[derive(Clone, Copy, Debug, PartialEq, Eq, PartialOrd, Ord, Hash)]
 pub enum PeerAddr {
     V4(u32),
     V6(u128),
 }
 
-/// A peer: its AS number as recorded and its address. AS 23456 is not resolved.
-#[derive(Clone, Copy, Debug, PartialEq, Eq, Hash)]
+/// A peer: its AS number as recorded and its address. AS 23456 is not resolved. Ordered by AS number, then by address,
+/// IPv4 before IPv6.
+#[derive(Clone, Copy, Debug, PartialEq, Eq, PartialOrd, Ord, Hash)]
 pub struct PeerKey {
     pub asn: u32,
     pub addr: PeerAddr,
@@ -39,8 +40,8 @@ pub struct Damage {
 /// What a unit says, as it appears in the record: its bytes are not yet interpreted.
 #[derive(Debug, Drop)]
 pub enum Payload {
-    /// A state change (RFC 6396, 4.4.1): the old and the new state, any numbers, and the rule by which it is taken, which
-    /// is that of the selection.
+    /// A state change (RFC 6396, 4.4.1): the old and the new state, any numbers, and the rule by which it is taken,
+    /// which is that of the selection.
     State {
         from: u16,
         to: u16,
@@ -57,9 +58,12 @@ pub enum Payload {
         key: RouteKey,
         attrs: PayloadBytes,
     },
+    /// Nothing that the peer said: a RIB dump begins that replaces what came before it, and clears the peer's table.
+    Clear,
 }
 
-/// A message, a state change or a RIB entry of one peer. Its time is in microseconds since 1970 UTC.
+/// A message, a state change or a RIB entry of one peer, or that a dump clears the peer's table. Its time is in
+/// microseconds since 1970 UTC.
 #[derive(Debug, Drop)]
 pub struct Unit {
     pub place: Place,

@@ -14,10 +14,11 @@ use crate::content::{content_of, is_extended};
 use crate::in_force::Index;
 use crate::lent::LentUnit;
 use crate::remarks::{Remarker, Remarks};
+use crate::rib_dumps::RibDumps;
 use crate::selection::Selection;
-use crate::session_unit::SessionUnit;
 use crate::standing::Standing;
 use crate::unit::{Damage, Found, Unit};
+use crate::waiting::Waiting;
 use mrt_frame::{Cut, FrameReader, ReplayError, Source};
 use record::refused;
 use std::alloc::Global;
@@ -30,8 +31,9 @@ pub struct Units {
     file: usize,
     frames: FrameReader,
     index: Option<Index>,
-    /// The unit of the BGP4MP record cut last, if it is still to be returned.
-    session: Option<SessionUnit>,
+    dumps: RibDumps,
+    /// What is to be returned before the entries of the record cut last.
+    waiting: Waiting,
     /// The memory of a record whose units were passed over, into which the next one is read.
     spare: Option<Vec<u8>>,
     selection: Selection,
@@ -45,7 +47,7 @@ pub struct Units {
 }
 
 impl Model for Units {
-    ghost use Rattle.std.specs.Prelude.{◌++◌, option_to_list};
+    ghost use Rattle.std.specs.Prelude.{◌++◌};
     ghost use Rattle.mrt_body.specs.ToCome.{UnitsState, StandsWithin, index_peers, index_pending};
 
     ghost Value = { UnitsState };
@@ -56,7 +58,8 @@ impl Model for Units {
       frames = u.frames;
       selection = u.selection;
       index = index_peers u.index;
-      pending = option_to_list u.session ++ index_pending u.index;
+      dumps = u.dumps;
+      pending = u.waiting ++ index_pending u.index;
       max_records = u.max_records;
       records = u.records;
       aside = u.aside;
@@ -69,7 +72,7 @@ impl Model for Units {
 impl Units {
     /// Returns the units of these files, of which at most `max_records` whole records are cut. A unit
     /// that isn't selected is skipped.
-    pub fn new(count: usize, max_records: u64, selection: Selection) -> Units
+    pub fn new(alloc: Global, count: usize, max_records: u64, selection: Selection) -> Units
         requires { (0 < max_records) × (max_records ≤ 2 ^ 47) }
         ensures fresh { result ≡ fresh_units count max_records selection }
         // All that the files hold is to come.
@@ -81,7 +84,8 @@ impl Units {
             file: 0,
             frames: FrameReader::new(0),
             index: None,
-            session: None,
+            dumps: RibDumps::new(alloc),
+            waiting: Waiting::new(alloc),
             spare: None,
             selection,
             buffer: None,
@@ -233,10 +237,11 @@ impl Units {
     }
 
     /// Whether a unit of the record that was cut last is to be returned.
+    #[tactic(auto, using(crate::proofs::WaitingLaws::both_none))]
     fn is_pending(&self) -> bool
         ensures { result ≡ false ↔ (self.now.pending ≡ []) }
     {
-        if self.session.is_some() {
+        if self.waiting.is_pending() {
             return true;
         }
         match &self.index {
@@ -259,8 +264,8 @@ impl Units {
         let Standing::Going = self.standing else {
             return None;
         };
-        if let Some(unit) = &self.session {
-            return Some(unit.lend());
+        if let Some(unit) = self.waiting.lend() {
+            return Some(unit);
         }
         match &self.index {
             Some(index) => index.lend(),
@@ -278,9 +283,9 @@ impl Units {
         ensures plan { KeepsPlan self.old self.new }
     {
         // An entry is the usual case, and `take` would clear the place of a message each time.
-        if self.session.is_some() {
-            if let Some(unit) = self.session.take() {
-                self.spare = kept_block(unit.into_body().into_vec());
+        if self.waiting.is_pending() {
+            if let Some(block) = self.waiting.pass() {
+                self.spare = kept_block(block);
             }
         } else if let Some(index) = &mut self.index {
             index.pass();
@@ -288,6 +293,7 @@ impl Units {
     }
 
     /// Keeps the memory of the last RIB record, whose entries were returned, for the next record.
+    #[tactic(auto, using(crate::proofs::WaitingLaws::both_none))]
     fn reuse_record(&mut self)
         requires { self.old.pending ≡ [] }
         ensures { self.new ≡ self.old }
@@ -300,6 +306,7 @@ impl Units {
     }
 
     /// Returns the next unit of the record that was cut last.
+    #[tactic(auto, using(crate::proofs::WaitingLaws::both_none))]
     fn next_pending(&mut self, alloc: Global) -> Result<Option<Unit>, ReplayError>
         ensures gives { IfOk result (λ unit. GivesPending self.old self.new (option_to_list unit)) }
         ensures ended { IfOk result (λ unit. unit ≡ None → self.old.pending ≡ []) }
@@ -309,11 +316,11 @@ impl Units {
         ensures plan { KeepsPlan self.old self.new }
         ensures small { IfOk result (λ unit. IfSome unit IsSmallUnit) }
     {
-        if let Some(unit) = &self.session {
-            return match unit.to_unit(alloc) {
+        if self.waiting.is_pending() {
+            return match self.waiting.copy(alloc) {
                 Ok(unit) => {
-                    self.session = None;
-                    Ok(Some(unit))
+                    self.waiting.pass();
+                    Ok(unit)
                 }
                 Err(_) => {
                     self.standing = Standing::Spent;
@@ -370,7 +377,7 @@ impl Units {
                 self.file += 1;
                 self.frames = FrameReader::new(self.file);
                 self.index = None;
-                self.session = None;
+                self.waiting.leave_out();
                 Ok(end)
             }
             Err(error) => {

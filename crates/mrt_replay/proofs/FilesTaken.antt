@@ -120,7 +120,7 @@ module _ (start : UnitsState) (count max_records : ℕ) (until : UnitSelection) 
         let items : h.items ≡ found_in until contents = sym (h.came contents known_from) ∙ all in
         subst (λ (l : List Found). Took after (filter_map unit_of l) (filter_map damage_of l)) items (h.took [] [] empty)
 
-    pub few_units_of : found_to_come start contents ≡ found_in until contents → max_records ≤ 2 ^ 47 → length (units_of until contents) ≤ 2 ^ 63
+    pub few_units_of : found_to_come start contents ≡ found_in until contents → max_records ≤ 2 ^ 47 → length (units_of until contents) ≤ 2 ^ 64 - 2
     unfolding units_of
     few_units_of all within =
         let items : h.items ≡ found_in until contents = sym (h.came contents known_from) ∙ all in

@@ -217,13 +217,13 @@ pub two_in_all : (first n rounds played : ℕ) → first ≡ 0 → 0 < played �
 two_in_all first n rounds played none some counted up = omega arith
 
 -- and enough to deal each unit in a batch
-pub enough_in_all : (plan before : Plan) (first n rounds played len units : ℕ) → IsPlan plan → before ≡ plan → first ≡ 0 → min (first + played) (2 ^ 64 - 1) ≤ n → rounds ≡ min (n + 1) (2 ^ 64 - 1) → len ≤ played * before.batch → len ≡ units → units ≤ 2 ^ 63
+pub enough_in_all : (plan before : Plan) (first n rounds played len units : ℕ) → IsPlan plan → before ≡ plan → first ≡ 0 → min (first + played) (2 ^ 64 - 1) ≤ n → rounds ≡ min (n + 1) (2 ^ 64 - 1) → len ≤ played * before.batch → len ≡ units → units ≤ 2 ^ 64 - 2
     → units ≤ (rounds - 1) * plan.batch
 enough_in_all plan before first n rounds played len units ranges e none counted up batches same small =
     let all : len ≤ played * plan.batch = subst (λ (q : Plan). len ≤ played * q.batch) e batches in
     elim (cases_lt (rounds - 1) played) [
       | inl less ↦
-          let many : 2 ^ 63 ≤ rounds - 1 = omega (arith, less, none, counted, up) in
+          let many : 2 ^ 64 - 2 ≤ rounds - 1 = omega (arith, less, none, counted, up) in
           omega (arith, le-mul_of_pos_right {m = plan.batch} (rounds - 1) (omega (arith, ranges.batch)), many, small)
       | inr more ↦ omega (arith, mul-le-mul_right plan.batch more, all, same)
     ]

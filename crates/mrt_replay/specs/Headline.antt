@@ -12,8 +12,8 @@ use Rattle.mrt_replay.specs.declared.summary.Summary.{Summary}
 use Rattle.mrt_replay.specs.Reports.{report, IsSummary}
 use Rattle.mrt_replay.specs.Premises.{AreSound, AreWithin, AreHonest}
 
--- What a run is given, and what it leaves: the bytes that the readers tell, those that the writer holds, how often each failed, and
--- whether the writer is flushed.
+-- What a run is given, and what it leaves: the bytes that the readers tell, those that the writer holds, how often each
+-- failed, and whether the writer is flushed.
 pub record RunState : Type 0 where
   pub request : Request
   pub selection : UnitSelection
@@ -49,8 +49,8 @@ MeetsNoFailure run = OnOk run.result ((run.readers_after ≡ run.readers) × (ru
 
 -- ---- a run that doesn't
 
--- Why it stops, and what it leaves: nothing written, or a front of the report. What is said of the bytes is said of honest devices;
--- that a device failed is said of all.
+-- Why it stops, and what it leaves: nothing written, or a front of the report. What is said of the bytes is said of
+-- honest devices; that a device failed is said of all.
 abbrev pub IsStopped : RunState → ReplayError → Type 0
 IsStopped run (errors.Read file) = (file < length run.readers) ×
     HasFailed (slice_index run.readers file) (slice_index run.readers_after file) × Keeps run.held run.held_after

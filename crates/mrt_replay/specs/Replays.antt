@@ -18,8 +18,8 @@ use Rattle.mrt_replay.specs.declared.replayed.Replayed.{Replayed}
 
 -- ---- the files as they are read
 
--- These units and refusals came in between, and all of them were taken by what takes them. `Took` says which units and refusals
--- it took in all.
+-- These units and refusals came in between, and all of them were taken by what takes them. `Took` says which units and
+-- refusals it took in all.
 pub record HasTaken {T : Type 0} (Took : T → List ReplayUnit → List Damage → Type 0) (start now : UnitsState)
     (told left : List (Option (List ℕ))) (before after : T) : Type 0 where
   pub items : List Found
@@ -59,8 +59,8 @@ pub record DealtAll (dealing : ℕ → ℕ → ℕ) (capacity : ℕ) (r : Replay
   pub whole : units ≡ dealt ++ option_to_list r.kept
   pub stands : ReplayerStandsFor dealing capacity dealt refused r
 
--- Rounds to the end: the replayer took all that was to come and keeps no unit. There were few of them, but enough to deal each unit in
--- a batch; they are counted, up to the greatest count.
+-- Rounds to the end: the replayer took all that was to come and keeps no unit. There were few of them, but enough to
+-- deal each unit in a batch; they are counted, up to the greatest count.
 pub record HasPlayed (dealing : ℕ → ℕ → ℕ) (plan : Plan) (before after : ReplayerState) (start now : UnitsState)
     (told : List (Option (List ℕ))) (rounds rounds' : ℕ) : Type 0 where
   pub taken : HasTakenFiles (DealtAll dealing plan.ring) start now told before after
@@ -75,7 +75,8 @@ pub record HasPlayed (dealing : ℕ → ℕ → ℕ) (plan : Plan) (before after
 
 -- ---- the whole replay
 
--- The tables stand for the units and refusals of the files, which are counted; the routes of chosen prefixes alone are left.
+-- The tables stand for the units and refusals of the files, which are counted; the routes of chosen prefixes alone are
+-- left.
 pub record IsReplayOf {M : Type 0} (selection : UnitSelection) (plan : Plan) (files : List (List ℕ)) (r : Replayed M) : Type 0 where
   pub stands : r.tables
       ≡ chosen_tables selection.prefixes (tables_of (units_of selection files) (refused_of selection files))
@@ -86,7 +87,8 @@ pub record IsReplayOf {M : Type 0} (selection : UnitSelection) (plan : Plan) (fi
   pub two_rounds : 2 ≤ r.rounds
   pub enough_rounds : r.units ≤ (r.rounds - 1) * plan.batch
 
--- Why a replay of files stops, of which these bytes are known: a reader failed, memory ran out, or there are more records than the limit.
+-- Why a replay of files stops, of which these bytes are known: a reader failed, memory ran out, or there are more
+-- records than the limit.
 abbrev pub StopsReplay : ℕ → List (Option (List ℕ)) → List ℕ → List ℕ → ReplayError → Type 0
 StopsReplay max_records told before after (errors.Read file) = (file < length before) ×
     HasFailed (slice_index before file) (slice_index after file)

@@ -30,7 +30,8 @@ watch_faults watches = flat_map (λ p. p.watch.faults) watches
 abbrev pub watch_routes : List PeerWatch → List (RouteKey × Route)
 watch_routes watches = flat_map (λ p. p.watch.table) watches
 
--- The rows are those of what happened to chosen prefixes by the units of the files, which are counted; the watches took these units.
+-- The rows are those of what happened to chosen prefixes by the units of the files, which are counted; the watches took
+-- these units.
 pub record IsHistoryOf {M : Type 0} (listing : Listing) (selection : UnitSelection) (files : List (List ℕ)) (h : History M) : Type 0 where
   pub rows : h.told.rows.items ≡ history_rows listing selection.prefixes (units_of selection files)
   pub watches : h.told.watches ≡ watches_of listing.since selection.prefixes (units_of selection files)

@@ -45,7 +45,7 @@ where
         (map R.failure_count files.new)) }
 {
     let chosen = selection.prefixes().copied(alloc)?;
-    let mut units = Units::new(files.len(), max_records, selection);
+    let mut units = Units::new(alloc, files.len(), max_records, selection);
     let mut told = Told::<M>::new(alloc)?;
     if let Err(error) = tell(alloc, &mut units, files, &chosen, listing, &mut told) {
         return Err(error);

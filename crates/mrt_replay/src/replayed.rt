@@ -111,7 +111,7 @@ where
         (map R.failure_count files.new)) }
 {
     let chosen = selection.prefixes().copied(alloc)?;
-    let mut units = Units::new(files.len(), plan.max_records, selection);
+    let mut units = Units::new(alloc, files.len(), plan.max_records, selection);
     let mut replayer = Replayer::<M, &D>::new(alloc, *plan, dealing)?;
     if let Err(error) = play(rt, alloc, &mut units, files, &mut replayer, gate) {
         return Err(error);

@@ -4,7 +4,7 @@ use Rattle.std.specs.List.{filter}
 use Rattle.mrt_frame.specs.Positions.{flat_map_after}
 use Rattle.mrt_body.specs.declared.choice.PrefixChoice.{PrefixChoice}
 use Rattle.mrt_body.specs.declared.unit.Payload.{Payload}
-use Rattle.mrt_body.specs.declared.unit.Payload.TheVariants.{State, Message, Entry}
+use Rattle.mrt_body.specs.declared.unit.Payload.TheVariants.{State, Message, Entry, Clear}
 use Rattle.mrt_body.specs.declared.unit.PeerKey.{PeerKey}
 use Rattle.mrt_body.specs.declared.unit.Unit.{Unit as ReplayUnit}
 use Rattle.adj_rib.specs.declared.note.Note.{Note}
@@ -42,6 +42,7 @@ abbrev pub by_of : Payload → By
 by_of (State from to rule) = by.State
 by_of (Message bytes width add_path) = by.Update
 by_of (Entry key attrs) = by.Rib
+by_of Clear = by.Rib
 
 -- one thing that happened to a key of a peer, at a time in microseconds
 pub record RowState : Type 0 where

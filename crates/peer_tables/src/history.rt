@@ -173,7 +173,7 @@ fn by_of(payload: &LentPayload<'_>) -> By
     ensures { result ≡ by_of (lent_payload payload.now) }
 {
     match payload {
-        LentPayload::Entry { .. } => By::Rib,
+        LentPayload::Entry { .. } | LentPayload::Clear => By::Rib,
         LentPayload::Message { .. } => By::Update,
         LentPayload::State { .. } => By::State,
     }

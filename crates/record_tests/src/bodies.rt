@@ -1,6 +1,7 @@
 //! Tests on records in memory.
 
 mod devices;
+mod dumps;
 mod lent;
 mod lines;
 mod remarks;
@@ -32,7 +33,7 @@ fn found_in(rt: &impl Abort, alloc: Global, bytes: &[u8]) -> Vec<Found> {
 fn found_by(rt: &impl Abort, alloc: Global, bytes: &[u8], rule: StateRule) -> Vec<Found> {
     let mut files = [Counted::new(bytes)];
     let mut all = Vec::new(alloc);
-    let mut units = Units::new(1, 1000, Selection::all(alloc).by_states(rule));
+    let mut units = Units::new(alloc, 1, 1000, Selection::all(alloc).by_states(rule));
     for _ in 0..1000 {
         match next_of(rt, alloc, &mut units, &mut files).expect(rt, "no error") {
             Some(found) => all.push(found).expect(rt, "memory for what is found"),
@@ -170,7 +171,7 @@ fn past_the_limit_on_records_the_units_are_spent(rt: HostRuntime) {
     let alloc = rt.alloc();
     let bytes = bytes_of(alloc, "announcement announcement").expect(&rt, "memory for a file");
     let mut files = [Counted::new(bytes.as_slice())];
-    let mut units = Units::new(1, 1, Selection::all(alloc));
+    let mut units = Units::new(alloc, 1, 1, Selection::all(alloc));
     assert!(rt; matches!(next_of(&rt, alloc, &mut units, &mut files), Ok(Some(_))));
     for error in [ReplayError::Records, ReplayError::Spent, ReplayError::Spent] {
         let answer = next_of(&rt, alloc, &mut units, &mut files);

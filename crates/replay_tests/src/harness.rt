@@ -5,7 +5,7 @@ use bgp_prefix::{Flat, PrefixMap, Radix};
 use command_line::{read_address, read_words};
 use fixtures::{Dripping, bytes_of};
 use lane_deal::{ByTurns, NoGate, Plan};
-use mrt_body::{ChosenPrefixes, PeerChoice, PrefixChoice, Selection, Share, StateRule};
+use mrt_body::{ChosenPrefixes, PeerChoice, PrefixChoice, RibRule, Selection, Share, StateRule};
 use mrt_frame::{Counted, ReplayError, Source};
 use mrt_replay::{Summary, run, status};
 use prefix_shelf::Shelf;
@@ -109,6 +109,7 @@ struct Row<'a> {
     peers: Vec<PeerChoice>,
     share: Option<Share>,
     states: StateRule,
+    ribs: RibRule,
 }
 
 /// A number of the summary, by its name. Rounds depend on the plan.
@@ -138,6 +139,7 @@ impl<'a> Row<'a> {
             peers: Vec::new(alloc),
             share: None,
             states: StateRule::Recorded,
+            ribs: RibRule::Add,
         }
     }
 
@@ -152,7 +154,8 @@ impl<'a> Row<'a> {
                 .of_prefixes(prefixes)
                 .of_peers(peers)
                 .of_share(self.share)
-                .by_states(self.states),
+                .by_states(self.states)
+                .by_ribs(self.ribs),
         )
     }
 
@@ -171,6 +174,7 @@ impl<'a> Row<'a> {
                 self.peers = Vec::from_slice(alloc, job.peers.as_slice())?;
                 self.share = job.share;
                 self.states = job.states;
+                self.ribs = job.ribs;
             }
             Err(_) => assert!(rt; false, "options {options}"),
         }
@@ -190,6 +194,7 @@ impl<'a> Row<'a> {
         self.peers.clear();
         self.share = None;
         self.states = StateRule::Recorded;
+        self.ribs = RibRule::Add;
         if !options.is_empty() {
             self.take_options(rt, alloc, options)?;
         }

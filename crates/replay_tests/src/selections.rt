@@ -221,10 +221,85 @@ damaged 0
 counts records 2,units 0
 ";
 
+/// Two dumps of two peers, one behind the other in a file. The first, of second 1000, has 198.51.100.0/24 at both peers
+/// and 203.0.113.0/24 at the first; the second, of second 2000, has 198.51.100.0/24 at the first alone. Then the second
+/// peer announces 203.0.113.0/24 in second 2010. Each table that is cleared counts as one more unit that was replayed.
+const APPENDED: &str = "
+row appended-dumps
+file 000003E8000D000100000022C00002FA0000000202C0000201C00002010000FDE902C0000202C00002020000FDEA 000003E8000D00020000004A0000000018C63364000200000000038400184001010040020A02020000FDE90000FBF4400304C000020100010000038400184001010040020A02020000FDEA0000FBF4400304C0000202 000003E8000D00020000002A0000000118CB0071000100000000038400184001010040020A02020000FDE90000FBF4400304C0000201 000007D0000D000100000022C00002FA0000000202C0000201C00002010000FDE902C0000202C00002020000FDEA 000007D0000D00020000002A0000000018C63364000100000000038400184001010040020A02020000FDE90000FBF4400304C0000201 000007DA00100004000000470000FDEA0000FDE700000001C0000202C00002FEFFFFFFFFFFFFFFFFFFFFFFFFFFFFFFFF003302000000184001010040020A02020000FDEA0000FBF4400304C000020218CB0071
+tables
+> 65001 192.0.2.1|198.51.100.0/24|65001 64500|192.0.2.1|IGP|-|-|-|-
+> 65001 192.0.2.1|203.0.113.0/24|65001 64500|192.0.2.1|IGP|-|-|-|-
+> 65002 192.0.2.2|198.51.100.0/24|65002 64500|192.0.2.2|IGP|-|-|-|-
+> 65002 192.0.2.2|203.0.113.0/24|65002 64500|192.0.2.2|IGP|-|-|-|-
+damaged 0
+counts records 6,units 5,peers 2,routes 4
+tables with --rib add --until 2000
+> 65001 192.0.2.1|198.51.100.0/24|65001 64500|192.0.2.1|IGP|-|-|-|-
+> 65001 192.0.2.1|203.0.113.0/24|65001 64500|192.0.2.1|IGP|-|-|-|-
+> 65002 192.0.2.2|198.51.100.0/24|65002 64500|192.0.2.2|IGP|-|-|-|-
+counts records 6,units 4,peers 2,routes 3
+tables with --rib replace
+> 65001 192.0.2.1|198.51.100.0/24|65001 64500|192.0.2.1|IGP|-|-|-|-
+> 65002 192.0.2.2|203.0.113.0/24|65002 64500|192.0.2.2|IGP|-|-|-|-
+damaged 0
+counts records 6,units 7,peers 2,routes 2
+tables with --rib replace --until 1999
+> 65001 192.0.2.1|198.51.100.0/24|65001 64500|192.0.2.1|IGP|-|-|-|-
+> 65001 192.0.2.1|203.0.113.0/24|65001 64500|192.0.2.1|IGP|-|-|-|-
+> 65002 192.0.2.2|198.51.100.0/24|65002 64500|192.0.2.2|IGP|-|-|-|-
+counts records 6,units 3,peers 2,routes 3
+tables with --rib replace --until 2000
+> 65001 192.0.2.1|198.51.100.0/24|65001 64500|192.0.2.1|IGP|-|-|-|-
+counts records 6,units 6,peers 2,routes 1
+tables with --rib replace --prefix 203.0.113.0/24
+> 65002 192.0.2.2|203.0.113.0/24|65002 64500|192.0.2.2|IGP|-|-|-|-
+counts records 6,units 3,peers 2,routes 1
+tables with --rib replace --peer 65001
+> 65001 192.0.2.1|198.51.100.0/24|65001 64500|192.0.2.1|IGP|-|-|-|-
+counts records 6,units 4,peers 1,routes 1
+visibility with --rib replace
+> 198.51.100.0/24|1
+> 203.0.113.0/24|1
+churn
+> 65001 192.0.2.1|2|0|1|0|0|0|0|0|1000.000000|2000.000000
+> 65002 192.0.2.2|2|0|0|0|0|0|0|0|1000.000000|2010.000000
+churn with --rib replace
+> 65001 192.0.2.1|3|0|0|0|0|0|0|0|1000.000000|2000.000000
+> 65002 192.0.2.2|2|0|0|0|0|0|0|0|1000.000000|2010.000000
+churn with --rib replace --until 2000
+> 65001 192.0.2.1|3|0|0|0|0|0|0|0|1000.000000|2000.000000
+> 65002 192.0.2.2|1|0|0|0|0|0|0|0|1000.000000|1000.000000
+churn-since-1020 with --rib replace
+> 65001 192.0.2.1|1|0|0|0|0|0|0|0|2000.000000|2000.000000
+> 65002 192.0.2.2|1|0|0|0|0|0|0|0|2010.000000|2010.000000
+peers with --rib replace --until 2000
+> 65001 192.0.2.1|up|1|3|1000.000000|2000.000000|1|46|1
+> 65002 192.0.2.2|up|0|1|1000.000000|1000.000000|1|46|2
+history with --rib replace
+> 1000.000000|65001 192.0.2.1|new|rib|198.51.100.0/24|65001 64500|192.0.2.1|IGP|-|-|-|-
+> 1000.000000|65002 192.0.2.2|new|rib|198.51.100.0/24|65002 64500|192.0.2.2|IGP|-|-|-|-
+> 1000.000000|65001 192.0.2.1|new|rib|203.0.113.0/24|65001 64500|192.0.2.1|IGP|-|-|-|-
+> 2000.000000|65001 192.0.2.1|lost|rib|198.51.100.0/24|65001 64500|192.0.2.1|IGP|-|-|-|-
+> 2000.000000|65001 192.0.2.1|lost|rib|203.0.113.0/24|65001 64500|192.0.2.1|IGP|-|-|-|-
+> 2000.000000|65002 192.0.2.2|lost|rib|198.51.100.0/24|65002 64500|192.0.2.2|IGP|-|-|-|-
+> 2000.000000|65001 192.0.2.1|new|rib|198.51.100.0/24|65001 64500|192.0.2.1|IGP|-|-|-|-
+> 2010.000000|65002 192.0.2.2|new|update|203.0.113.0/24|65002 64500|192.0.2.2|IGP|-|-|-|-
+history-since-1020 with --rib replace --prefix 203.0.113.0/24
+> 2000.000000|65001 192.0.2.1|lost|rib|203.0.113.0/24|65001 64500|192.0.2.1|IGP|-|-|-|-
+> 2010.000000|65002 192.0.2.2|new|update|203.0.113.0/24|65002 64500|192.0.2.2|IGP|-|-|-|-
+row a-dump-that-replaces-in-the-next-file
+file announcement peer-index-table rib-record-with-identifier
+file peer-index-table rib-record-with-identifier
+tables with --rib replace
+> 65000 2001:0db8:0000:0000:0000:0000:0000:0001|10.0.0.0/8#7|65000|192.0.2.1|IGP|-|-|-|-
+counts records 5,units 5,peers 2,routes 1
+";
+
 #[test]
 fn selected_units_give_their_reports(rt: HostRuntime) -> Result<(), Fail> {
     let alloc = rt.alloc();
-    for (table, rows) in [(INCIDENT, 1), (FORMS, 4), (DAMAGE, 4)] {
+    for (table, rows) in [(INCIDENT, 1), (FORMS, 4), (DAMAGE, 4), (APPENDED, 2)] {
         assert!(rt; run_rows(&rt, alloc, table)? == rows);
     }
     Ok(())

@@ -10,8 +10,8 @@ use Rattle.mrt_body.specs.declared.unit.PeerKey.{PeerKey}
 use Rattle.mrt_body.specs.declared.unit.Unit.{Unit as ReplayUnit}
 use Rattle.adj_rib.specs.Steps.{is_established, steps_of}
 use Rattle.adj_rib.specs.Tables.{table_of}
-use Rattle.adj_rib.specs.Arrived.{first_place}
-use Rattle.adj_rib.specs.Churns.{churn_of, damaged_of, stopped}
+use Rattle.adj_rib.specs.Arrived.{recorded_places}
+use Rattle.adj_rib.specs.Churns.{churn_of, damaged_of, stopped, first_of}
 use Rattle.peer_tables.specs.Peers.{peers_of, units_of_peer}
 use Rattle.peer_tables.specs.Tables.{TablesState}
 use Rattle.rib_report.specs.Rows.{TableRow}
@@ -71,8 +71,8 @@ unit_seen units =
 abbrev pub unit_churn : List ReplayUnit → List ChurnRow
 unit_churn units = map (λ q. record { peer = q; churn = churn_of (units_of_peer units q) }) (peers_of units)
 
--- a peer as its own units leave it: whether its session is established, its routes and units, and when and where these
--- begin
+-- a peer as its own units leave it: whether its session is established, its routes and recorded units, and when and
+-- where these begin
 abbrev pub peer_at : List ReplayUnit → PeerKey → PeerRow
 peer_at units q =
     let own = units_of_peer units q in
@@ -80,10 +80,10 @@ peer_at units q =
       peer = q;
       is_established = is_established own;
       routes = length (table_at units q);
-      units = stopped (length own);
+      units = stopped (length (recorded_places own));
       first = (churn_of own).first;
       last = (churn_of own).last;
-      place = first_place own;
+      place = first_of (recorded_places own);
     }
 
 abbrev pub unit_peers : List ReplayUnit → List PeerRow

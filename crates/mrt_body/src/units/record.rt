@@ -1,8 +1,9 @@
 //! What comes of a whole record: an index in force, its unit, its entries or its refusal.
 
-ghost use Rattle.std.specs.Prelude.{◌≡◌, ◌<◌, ◌≤◌, ◌+◌, ◌++◌, Bool, [], IfOk, IfErr, OnOk, length, option_to_list};
+ghost use Rattle.std.specs.Prelude.{◌≡◌, ◌<◌, ◌≤◌, ◌+◌, ◌++◌, ◌∷◌, Bool, [], IfOk, IfErr, OnOk, false, length, option_to_list};
 ghost use Rattle.mrt_body.specs.declared.unit.Found.TheVariants as found_spec;
-ghost use Rattle.mrt_body.specs.Units.{IsSmallUnit, alone, found_units, refused_at};
+ghost use Rattle.mrt_body.specs.Units.{IsSmallUnit, alone, clears_if, found_units, refused_at, selected_units, time_of, units_or_none};
+ghost use Rattle.mrt_body.specs.RibDumps.{dumps_with, heard_of, may_begin};
 ghost use Rattle.mrt_body.specs.Selections.{is_selected};
 ghost use Rattle.mrt_body.specs.ToCome.{TakesRecord, KeepsPlan, as_found, refusals};
 ghost use Rattle.mrt_body.specs.declared.content.Content.TheVariants as content_spec;
@@ -14,9 +15,13 @@ use crate::content::Content;
 use crate::in_force::Index;
 use crate::index::peers_in;
 use crate::payload::{message_unit, states_unit};
+use crate::rib_dumps::RibDumps;
+use crate::rib_rule::RibRule;
+use crate::selection::Selection;
 use crate::session_unit::SessionUnit;
 use crate::standing::Standing;
 use crate::unit::Damage;
+use crate::waiting::Waiting;
 use bgp_prefix::{Memory, Sequence};
 use bgp_update::AttrError;
 use mrt_frame::{Fault, ReplayError};
@@ -37,7 +42,8 @@ impl Units {
         requires small { length body ≤ 16777216 }
         ensures takes { IfOk result (TakesRecord self.old at is_extended content body self.new) }
         ensures few { IfOk result
-            (λ refused. length (option_to_list refused) + length self.new.pending ≤ 65535) }
+            (λ refused. (length (option_to_list refused) + length self.new.pending) + length self.new.dumps.heard
+            ≤ 131070 + length self.old.dumps.heard) }
         ensures want { IfErr result (λ e. (e ≡ ReplayError.Memory) × (self.new.standing ≡ standings.Spent)) }
         ensures here { self.new.file ≡ self.old.file }
         ensures plan { KeepsPlan self.old self.new }
@@ -89,6 +95,7 @@ impl Units {
 
     /// Keeps a unit to be returned if it is selected, or returns the refusal of its record.
     #[inline(always)]
+    #[tactic(auto, using(crate::proofs::WaitingLaws::both_none, crate::proofs::HeardLaws::few_heard))]
     fn found(
         &mut self,
         alloc: Global,
@@ -99,8 +106,14 @@ impl Units {
         requires small { IfOk unit IsSmallUnit }
         ensures found { IfOk result (λ refused. refusals refused ++ as_found self.new.pending
             ≡ found_units self.old.selection at (alone unit)) }
-        ensures few { IfOk result (λ refused. length (option_to_list refused) + length self.new.pending ≤ 1) }
-        ensures same { OnOk result (self.new ≡ record self.old { pending = self.new.pending }) }
+        ensures few { IfOk result
+            (λ refused. (length (option_to_list refused) + length self.new.pending) + length self.new.dumps.heard
+            ≤ 131070 + length self.old.dumps.heard) }
+        ensures same { OnOk result (self.new ≡ record self.old {
+          dumps = dumps_with self.old.selection.ribs false self.old.dumps
+              (units_or_none (selected_units self.old.selection (alone unit)));
+          pending = self.new.pending;
+        }) }
         ensures want { IfErr result (λ e. (e ≡ ReplayError.Memory) × (self.new.standing ≡ standings.Spent)) }
         ensures here { self.new.file ≡ self.old.file }
         ensures plan { KeepsPlan self.old self.new }
@@ -108,10 +121,19 @@ impl Units {
         match unit {
             Ok(unit) => match self.selects(alloc, &unit) {
                 Ok(selected) => {
-                    if selected {
-                        self.session = Some(unit);
+                    if !selected {
+                        return Ok(None);
                     }
-                    Ok(None)
+                    match hear(&self.selection, &mut self.dumps, &unit) {
+                        Ok(()) => {
+                            self.waiting.put(unit);
+                            Ok(None)
+                        }
+                        Err(_) => {
+                            self.standing = Standing::Spent;
+                            Err(ReplayError::Memory)
+                        }
+                    }
                 }
                 Err(_) => {
                     self.standing = Standing::Spent;
@@ -123,6 +145,7 @@ impl Units {
     }
 
     /// Puts an index in force, or none if it is damaged.
+    #[tactic(auto, using(crate::proofs::WaitingLaws::both_none))]
     fn take_index(
         &mut self,
         alloc: Global,
@@ -133,12 +156,14 @@ impl Units {
         ensures takes { (extended : Bool) → IfOk result
             (TakesRecord self.old at extended content_spec.IndexTable body.now self.new) }
         ensures few { IfOk result
-            (λ refused. length (option_to_list refused) + length self.new.pending ≤ 65535) }
+            (λ refused. (length (option_to_list refused) + length self.new.pending) + length self.new.dumps.heard
+            ≤ 131070 + length self.old.dumps.heard) }
         ensures want { IfErr result (λ e. (e ≡ ReplayError.Memory) × (self.new.standing ≡ standings.Spent)) }
         ensures here { self.new.file ≡ self.old.file }
         ensures plan { KeepsPlan self.old self.new }
     {
         self.index = None;
+        self.dumps.see_index();
         self.remarker.see_index();
         match peers_in(alloc, body) {
             Ok(peers) => {
@@ -154,6 +179,7 @@ impl Units {
     }
 
     /// Reads a RIB record against the index in force. The entries that are selected are to be returned.
+    #[tactic(auto, using(crate::proofs::WaitingLaws::both_none))]
     fn take_rib(
         &mut self,
         alloc: Global,
@@ -166,7 +192,8 @@ impl Units {
         ensures takes { (extended : Bool) → IfOk result
             (TakesRecord self.old at extended (content_spec.Rib add_path) body self.new) }
         ensures few { IfOk result
-            (λ refused. length (option_to_list refused) + length self.new.pending ≤ 65535) }
+            (λ refused. (length (option_to_list refused) + length self.new.pending) + length self.new.dumps.heard
+            ≤ 131070 + length self.old.dumps.heard) }
         ensures want { IfErr result (λ e. (e ≡ ReplayError.Memory) × (self.new.standing ≡ standings.Spent)) }
         ensures here { self.new.file ≡ self.old.file }
         ensures plan { KeepsPlan self.old self.new }
@@ -175,19 +202,70 @@ impl Units {
             return Ok(Some(refused(at, Fault::NoPeerIndex)));
         };
         match index.read(at, add_path, body, &self.selection) {
-            Ok(()) => {
-                let is_past = self.selection.is_past(at.time(0));
-                let (peers, entries) = index.listed();
-                self.remarker
-                    .see_rib(alloc, at.file, is_past, add_path, peers, entries);
-                Ok(None)
-            }
+            Ok(()) => match follow(
+                &self.selection,
+                &mut self.dumps,
+                &mut self.waiting,
+                index,
+                at,
+            ) {
+                Ok(()) => {
+                    let is_past = self.selection.is_past(at.time(0));
+                    let (peers, entries) = index.listed();
+                    self.remarker
+                        .see_rib(alloc, at.file, is_past, add_path, peers, entries);
+                    Ok(None)
+                }
+                Err(_) => {
+                    self.standing = Standing::Spent;
+                    Err(ReplayError::Memory)
+                }
+            },
             Err(AttrError::Bad(fault)) => Ok(Some(refused(at, fault))),
             Err(AttrError::Memory) => {
                 self.standing = Standing::Spent;
                 Err(ReplayError::Memory)
             }
         }
+    }
+}
+
+/// Begins a dump with the record at this place that was read against an index, if it is the first one behind the index
+/// table: then the clears wait to be returned. Takes note of the peers of its entries.
+#[inline(always)]
+fn follow(
+    selection: &Selection,
+    dumps: &mut RibDumps,
+    waiting: &mut Waiting,
+    index: &Index,
+    at: RecordAt,
+) -> Result<(), Memory>
+    requires { waiting.old ≡ [] }
+    ensures waiting { OnOk result (waiting.new
+        ≡ clears_if (may_begin selection.now dumps.old.begun (time_of at 0)) at dumps.old.heard) }
+    ensures dumps { OnOk result (dumps.new
+        ≡ dumps_with selection.now.ribs (may_begin selection.now dumps.old.begun (time_of at 0)) dumps.old index.now.pending) }
+{
+    match selection.ribs() {
+        RibRule::Add => Ok(()),
+        RibRule::Replace => {
+            if dumps.may_begin(selection, at.time(0)) {
+                waiting.put_clears(at, dumps.begin());
+            }
+            index.hear(dumps)
+        }
+    }
+}
+
+/// Takes note of the peer of a unit, where a RIB dump may clear its table.
+#[inline(always)]
+fn hear(selection: &Selection, dumps: &mut RibDumps, unit: &SessionUnit) -> Result<(), Memory>
+    ensures { OnOk result (dumps.new
+        ≡ record dumps.old { heard = heard_of selection.now.ribs dumps.old.heard (unit.now ∷ []) }) }
+{
+    match selection.ribs() {
+        RibRule::Add => Ok(()),
+        RibRule::Replace => dumps.hear(unit.peer),
     }
 }
 

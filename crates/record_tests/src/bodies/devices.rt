@@ -66,7 +66,7 @@ fn a_failed_read_comes_behind_the_whole_records(rt: HostRuntime) {
 fn expect_failure_behind(rt: &impl Abort, alloc: Global, bytes: &[u8]) {
     let whole = bytes.len() as u64 / 77;
     let mut files = [Counted::new(Dripping::new(bytes, Some(ErrorKind::Interrupted)))];
-    let mut units = Units::new(1, 1000, Selection::all(alloc));
+    let mut units = Units::new(alloc, 1, 1000, Selection::all(alloc));
     for record in 0..whole {
         expect_unit_at(rt, alloc, &mut units, &mut files, record * 77);
     }
@@ -101,7 +101,7 @@ fn a_second_file_that_fails_at_once_is_named(rt: HostRuntime) {
         Counted::new(Dripping::new(bytes.as_slice(), None)),
         Counted::new(Dripping::new(&[], Some(ErrorKind::Interrupted))),
     ];
-    let mut units = Units::new(2, 1000, Selection::all(alloc));
+    let mut units = Units::new(alloc, 2, 1000, Selection::all(alloc));
     assert!(rt; matches!(next_of(&rt, alloc, &mut units, &mut files), Ok(Some(_))));
     expect_read(&rt, alloc, &mut units, &mut files, 1);
     assert!(rt; files[0].failures() == 0);

@@ -50,7 +50,7 @@ fn a_rib_record_lends_what_comes_next(rt: HostRuntime) {
     let attributes = bytes_of(alloc, "plain-attributes").expect(&rt, "memory for attributes");
     let message = message_of(alloc, "announcement").expect(&rt, "memory for a message");
     let mut files = [Counted::new(bytes.as_slice())];
-    let mut units = Units::new(1, 1000, Selection::all(alloc));
+    let mut units = Units::new(alloc, 1, 1000, Selection::all(alloc));
     assert!(rt; units.lend().is_none(), "a unit before the first record");
     let first = found_next(&rt, alloc, &mut units, &mut files);
     expect_entry(&rt, &first, 56, 1, 0, attributes.as_slice());
@@ -89,7 +89,7 @@ fn messages_and_state_changes_are_lent_between_refusals(rt: HostRuntime) {
     let message = message_of(alloc, "announcement").expect(&rt, "memory for a message");
     let mut files = [Counted::new(bytes.as_slice())];
     let rule = StateRule::Established;
-    let mut units = Units::new(1, 1000, Selection::all(alloc).by_states(rule));
+    let mut units = Units::new(alloc, 1, 1000, Selection::all(alloc).by_states(rule));
     // Nothing is read while a unit is left.
     for _ in 0..2 {
         assert!(rt; advance(&rt, alloc, &mut units, &mut files).is_none());

@@ -40,6 +40,7 @@ fn push_payload(rt: &impl Abort, text: &mut String, payload: &Payload) {
             let id = key.id;
             writeln!(text, "entry {addr:08X}/{len}#{id} {count}")
         }
+        Payload::Clear => writeln!(text, "clear"),
     }
     .expect(rt, "memory for a payload");
 }
@@ -104,6 +105,43 @@ fn push_next<R: Source>(
     }
 }
 
+/// Adds the line of what is lent next, or of a record that is refused, and answers whether more can come.
+fn push_lent_next<R: Source>(
+    rt: &impl Abort,
+    alloc: Global,
+    text: &mut String,
+    units: &mut Units,
+    files: &mut [R],
+) -> bool {
+    assert!(rt; units.count() == files.len());
+    match units.advance(alloc, files) {
+        Ok(Some(damage)) => {
+            push_line(rt, text, &Found::Refused(damage));
+            true
+        }
+        Ok(None) => {
+            let Some(lent) = units.lend() else {
+                return false;
+            };
+            let unit = lent.to_unit(alloc).expect(rt, "memory for a unit");
+            push_unit(rt, text, &unit);
+            units.pass();
+            true
+        }
+        Err(error) => {
+            writeln!(text, "{error:?}").expect(rt, "memory for an error");
+            false
+        }
+    }
+}
+
+fn push_counts(rt: &impl Abort, text: &mut String, units: &Units) {
+    writeln!(text, "records {} aside {}", units.records(), units.aside()).expect(
+        rt,
+        "memory for the counts",
+    );
+}
+
 /// Adds what the units of files give up to the end or an error, a line each, and then a line of the
 /// counts.
 pub fn push_found<R: Source>(
@@ -115,14 +153,30 @@ pub fn push_found<R: Source>(
     selection: Selection,
 ) {
     assert!(rt; 0 < most && most <= 1 << 47);
-    let mut units = Units::new(files.len(), most, selection);
+    let mut units = Units::new(alloc, files.len(), most, selection);
     for _ in 0..1000u16 {
         if !push_next(rt, alloc, text, &mut units, files) {
             break;
         }
     }
-    writeln!(text, "records {} aside {}", units.records(), units.aside()).expect(
-        rt,
-        "memory for the counts",
-    );
+    push_counts(rt, text, &units);
+}
+
+/// Adds the same of units that are lent.
+pub fn push_lent<R: Source>(
+    rt: &impl Abort,
+    alloc: Global,
+    text: &mut String,
+    files: &mut [R],
+    most: u64,
+    selection: Selection,
+) {
+    assert!(rt; 0 < most && most <= 1 << 47);
+    let mut units = Units::new(alloc, files.len(), most, selection);
+    for _ in 0..1000u16 {
+        if !push_lent_next(rt, alloc, text, &mut units, files) {
+            break;
+        }
+    }
+    push_counts(rt, text, &units);
 }

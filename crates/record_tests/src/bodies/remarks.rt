@@ -7,7 +7,8 @@ use mrt_frame::Counted;
 use std::alloc::Global;
 use std::process::Abort;
 
-/// 10.0.0.0/8 by the second peer and again by it, with and without path identifiers 1 and 2 (RFC 6396, 4.3.4; RFC 8050, 4).
+/// 10.0.0.0/8 by the second peer and again by it, with and without path identifiers 1 and 2 (RFC 6396, 4.3.4; RFC 8050,
+/// 4).
 const TWICE: &str =
     "00000003 000D 0002 00000020 | 00000000 080A 0002 | 0001 00000001 0004 40010100 | 0001 00000001 0004 40010100";
 
@@ -110,7 +111,12 @@ fn remarks_of(rt: &impl Abort, alloc: Global, files: &[&str], until: Option<u64>
             .push(Counted::new(file.as_slice()))
             .expect(rt, "memory for readers");
     }
-    let mut units = Units::new(readers.len(), 1000, Selection::all(alloc).up_to(until));
+    let mut units = Units::new(
+        alloc,
+        readers.len(),
+        1000,
+        Selection::all(alloc).up_to(until),
+    );
     for _ in 0..1000 {
         if next_of(rt, alloc, &mut units, readers.as_mut_slice())
             .expect(rt, "no error")

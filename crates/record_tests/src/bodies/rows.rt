@@ -1,8 +1,11 @@
 //! Rows that stand as text: what files hold, and what they give.
 
-use super::lines::push_found;
+use super::lines::{push_found, push_lent};
+use bgp_prefix::Prefix;
 use fixtures::bytes_of;
-use mrt_body::{PeerAddr, PeerChoice, Selection, Share};
+use mrt_body::{
+    ChosenPrefixes, PeerAddr, PeerChoice, PrefixChoice, Reach, RibRule, Selection, Share,
+};
 use mrt_frame::Counted;
 use std::alloc::Global;
 use std::process::Abort;
@@ -16,6 +19,8 @@ struct Row<'a> {
     until: Option<u64>,
     peers: Vec<PeerChoice>,
     share: Option<Share>,
+    prefixes: Vec<PrefixChoice>,
+    ribs: RibRule,
     most: u64,
 }
 
@@ -28,6 +33,8 @@ impl<'a> Row<'a> {
             until: None,
             peers: Vec::new(alloc),
             share: None,
+            prefixes: Vec::new(alloc),
+            ribs: RibRule::Add,
             most: 1 << 47,
         }
     }
@@ -46,6 +53,13 @@ impl<'a> Row<'a> {
                 .expect(rt, "memory for a peer");
         } else if let Some(share) = line.strip_prefix("share ") {
             self.share = Some(share_of(rt, share));
+        } else if let Some(prefix) = line.strip_prefix("prefix ") {
+            self.prefixes
+                .push(prefix_of(rt, prefix))
+                .expect(rt, "memory for a prefix");
+        } else if let Some(rest) = line.strip_prefix("replace") {
+            assert!(rt; rest.is_empty(), "more than one word: {line}");
+            self.ribs = RibRule::Replace;
         } else if let Some(count) = line.strip_prefix("most ") {
             self.most = number(rt, count);
         } else {
@@ -53,16 +67,65 @@ impl<'a> Row<'a> {
         }
     }
 
-    fn check(&self, rt: &impl Abort, alloc: Global) {
+    fn selection(&self, rt: &impl Abort, alloc: Global) -> Selection {
         let peers = Vec::from_slice(alloc, self.peers.as_slice()).expect(rt, "memory for peers");
-        let selection = Selection::all(alloc)
+        let prefixes = Vec::from_slice(alloc, self.prefixes.as_slice()).expect(
+            rt,
+            "memory for prefixes",
+        );
+        let chosen = ChosenPrefixes::new(alloc, prefixes).expect(rt, "memory for prefixes");
+        Selection::all(alloc)
             .up_to(self.until)
+            .of_prefixes(chosen)
             .of_peers(peers)
-            .of_share(self.share);
-        let text = text_of(rt, alloc, self.files.as_slice(), self.most, selection);
-        let same = text.as_str() == self.expected.as_str();
+            .of_share(self.share)
+            .by_ribs(self.ribs)
+    }
+
+    fn expect(&self, rt: &impl Abort, text: &str) {
+        let same = text == self.expected.as_str();
         let name = self.name;
         assert!(rt; same, "{name} gave\n{text}");
+    }
+
+    /// Reads the files twice: units are returned, and units are lent.
+    fn check(&self, rt: &impl Abort, alloc: Global) {
+        let mut readers = readers_of(rt, alloc, self.files.as_slice());
+        let mut text = String::new(alloc);
+        let selection = self.selection(rt, alloc);
+        push_found(
+            rt,
+            alloc,
+            &mut text,
+            readers.as_mut_slice(),
+            self.most,
+            selection,
+        );
+        self.expect(rt, text.as_str());
+        let mut again = readers_of(rt, alloc, self.files.as_slice());
+        let mut lent = String::new(alloc);
+        let selection = self.selection(rt, alloc);
+        push_lent(
+            rt,
+            alloc,
+            &mut lent,
+            again.as_mut_slice(),
+            self.most,
+            selection,
+        );
+        self.expect(rt, lent.as_str());
+    }
+}
+
+/// A prefix alone, with its address as a number.
+fn prefix_of(rt: &impl Abort, text: &str) -> PrefixChoice {
+    let (addr, len) = text.split_once('/').expect(rt, "a prefix");
+    let addr = addr.parse::<u32>().expect(rt, "an address");
+    let len = len.parse::<u8>().expect(rt, "a length");
+    let prefix = Prefix::new(addr, len).expect(rt, "a length of at most 32");
+    PrefixChoice {
+        prefix,
+        reach: Reach::Exact,
     }
 }
 
@@ -91,27 +154,6 @@ fn number(rt: &impl Abort, text: &str) -> u64 {
     text.parse::<u64>().expect(rt, "a number")
 }
 
-/// What these files give.
-fn text_of(
-    rt: &impl Abort,
-    alloc: Global,
-    files: &[Vec<u8>],
-    most: u64,
-    selection: Selection,
-) -> String {
-    let mut readers = readers_of(rt, alloc, files);
-    let mut text = String::new(alloc);
-    push_found(
-        rt,
-        alloc,
-        &mut text,
-        readers.as_mut_slice(),
-        most,
-        selection,
-    );
-    text
-}
-
 fn readers_of<'a>(rt: &impl Abort, alloc: Global, files: &'a [Vec<u8>]) -> Vec<Counted<&'a [u8]>> {
     let mut readers = Vec::new(alloc);
     for file in files {
@@ -123,9 +165,10 @@ fn readers_of<'a>(rt: &impl Abort, alloc: Global, files: &'a [Vec<u8>]) -> Vec<C
 }
 
 /// Runs the rows of a table. A line `row NAME` begins a row, `file RECORDS` adds a file, `> LINE` is
-/// a line of what it gives, `until N` leaves out what came later, `peer ASN [ADDRESS]` and `share I/N` other peers, and
-/// `most N` is the greatest number of records.
-fn run_rows(rt: &impl Abort, alloc: Global, table: &str) -> usize {
+/// a line of what it gives, `until N` leaves out what came later, `peer ASN [ADDRESS]` and `share I/N` other peers,
+/// `prefix ADDRESS/LENGTH` other prefixes, `replace` has RIB dumps replace what came before them, and `most N` is the
+/// greatest number of records.
+pub fn run_rows(rt: &impl Abort, alloc: Global, table: &str) -> usize {
     let rows = table.strip_prefix("\nrow ").expect(rt, "a row");
     let mut checked = 0usize;
     for text in rows.split("\nrow ") {

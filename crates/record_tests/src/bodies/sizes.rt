@@ -98,7 +98,7 @@ fn counts_of(rt: &impl Abort, alloc: Global, file: &[u8], begin: u64) -> (u8, u8
     let mut found = 0u8;
     let mut refused = 0u8;
     let mut files = [Counted::new(file)];
-    let mut units = Units::new(1, 1000, Selection::all(alloc));
+    let mut units = Units::new(alloc, 1, 1000, Selection::all(alloc));
     for _ in 0..6u8 {
         match next_of(rt, alloc, &mut units, &mut files).expect(rt, "no error") {
             Some(Found::Unit(_)) => found = found.wrapping_add(1),
@@ -118,7 +118,7 @@ fn a_record_of_65535_entries_gives_each(rt: HostRuntime) {
     let alloc = rt.alloc();
     let file = many_entries(&rt, alloc);
     let mut files = [Counted::new(file.as_slice())];
-    let mut units = Units::new(1, 1000, Selection::all(alloc));
+    let mut units = Units::new(alloc, 1, 1000, Selection::all(alloc));
     for number in 1..=65_535u16 {
         expect_number(&rt, alloc, &mut units, &mut files, number);
     }
@@ -160,7 +160,7 @@ fn the_longest_body_is_read(rt: HostRuntime) {
     let mut file = bytes_of(alloc, header).expect(&rt, "memory for a header");
     file.resize(12 + 16_777_216, 0xFF)
         .expect(&rt, "memory for a body");
-    let mut units = Units::new(1, 1000, Selection::all(alloc));
+    let mut units = Units::new(alloc, 1, 1000, Selection::all(alloc));
     let found = next_of(&rt, alloc, &mut units, &mut [Counted::new(file.as_slice())]);
     assert!(rt; message_size(&found) == Some(16_777_196));
 }

@@ -30,17 +30,20 @@ fn unit_of(number: u32, seconds: u64, payload: Payload) -> Unit {
 /// What happened: the second, the number of the peer, what it was, what brought it about, and whether a route is told.
 type Told = (u64, u32, What, By, bool);
 
-/// The first peer announces 10.0.0.0/8 twice and withdraws it twice, and the second one loses it. An announcement of the
-/// same route is no change.
-static TOLD: [Told; 5] = [
+/// The first peer announces 10.0.0.0/8 twice and withdraws it twice, and the second one loses it. An announcement of
+/// the same route is no change. A RIB dump clears what the first peer announces again.
+static TOLD: [Told; 8] = [
     (1, 0, What::New, By::Update, true),
     (2, 1, What::New, By::Update, true),
     (4, 0, What::Gone, By::Update, true),
     (5, 0, What::Void, By::Update, false),
     (6, 1, What::Lost, By::State, true),
+    (7, 0, What::New, By::Update, true),
+    (8, 0, What::Lost, By::Rib, true),
+    (9, 0, What::New, By::Update, true),
 ];
 
-fn units(alloc: Global) -> Result<[Unit; 6], Memory> {
+fn units(alloc: Global) -> Result<[Unit; 9], Memory> {
     Ok([
         unit_of(0, 1, message_in(alloc, "announcement")?),
         unit_of(1, 2, message_in(alloc, "announcement")?),
@@ -56,6 +59,9 @@ fn units(alloc: Global) -> Result<[Unit; 6], Memory> {
                 rule: StateRule::Recorded,
             },
         ),
+        unit_of(0, 7, message_in(alloc, "announcement")?),
+        unit_of(0, 8, Payload::Clear),
+        unit_of(0, 9, message_in(alloc, "announcement")?),
     ])
 }
 

@@ -60,7 +60,7 @@ fn entry_with(alloc: Global, id: u32, attributes: &str) -> Result<Unit, Memory> 
     Ok(entry_unit(id, PayloadBytes::from_vec(attributes)))
 }
 
-/// A unit by its name: an entry's, or that of a record with a state change or a message.
+/// A unit by its name: an entry's, that of a record with a state change or a message, or a clear in second 4.
 pub fn unit_of(alloc: Global, name: &str) -> Result<Unit, Memory> {
     match name {
         "entry" => entry_with(alloc, 0, "plain-attributes"),
@@ -70,6 +70,7 @@ pub fn unit_of(alloc: Global, name: &str) -> Result<Unit, Memory> {
         "established-to-idle" => Ok(recorded_change(6, 1)),
         "open-confirm-to-established" => Ok(recorded_change(5, 6)),
         "established-to-established" => Ok(recorded_change(6, 6)),
+        "clear" => Ok(unit(4, Payload::Clear)),
         "withdrawal" | "withdrawal-with-identifier" | "unreached" => {
             Ok(unit(2, message_in(alloc, name)?))
         }

@@ -1,4 +1,4 @@
-use Rattle.std.proofs.Common.{◌≡◌, ◌≤◌, ◌^◌, List, sym, ap, ◌∙◌, length, map, arith}
+use Rattle.std.proofs.Common.{◌-◌, ◌≡◌, ◌≤◌, ◌^◌, List, sym, ap, ◌∙◌, length, map, arith}
 use Rattle.std.proofs.lemmas.List.{length-map}
 use Rattle.mrt_body.specs.declared.choice.PrefixChoice.{PrefixChoice}
 use Rattle.mrt_body.specs.Units.{units_of}
@@ -26,7 +26,7 @@ returns-clause-listed g c contents known =
     let taken = c.in_default.ensures.told in
     let empty = c.in_ok-told.ensures chosen c.args.listing in
     let took = took_files start _ max until c.new-units.ensures.fresh contents told known (Tells chosen c.args.listing) c.tell.new.units c.in_ok-told.told c.tell.new.told taken empty all in
-    let few : length (units_of until contents) ≤ 2 ^ 63 = few_units_of start _ max until c.new-units.ensures.fresh contents told known (Tells chosen c.args.listing) c.tell.new.units c.in_ok-told.told c.tell.new.told taken empty all c.requires.1 in
+    let few : length (units_of until contents) ≤ 2 ^ 64 - 2 = few_units_of start _ max until c.new-units.ensures.fresh contents told known (Tells chosen c.args.listing) c.tell.new.units c.in_ok-told.told c.tell.new.told taken empty all c.requires.1 in
     record {
       rows = took.rows ∙ ap (λ l. history_rows c.args.listing l (units_of until contents)) same;
       watches = took.watches ∙ ap (λ l. watches_of c.args.listing.since l (units_of until contents)) same;

@@ -54,8 +54,8 @@ fn make_pieces(alloc: Global, count: usize) -> Result<Vec<Piece>, Memory> {
 }
 
 impl Pieces {
-    /// Returns the pieces with which the lines of tables of at most so many entries are made for so many workers; none if
-    /// it doesn't pay.
+    /// Returns the pieces with which the lines of tables of at most so many entries are made for so many workers; none
+    /// if it doesn't pay.
     pub(crate) fn new(alloc: Global, workers: usize, most: usize) -> Result<Pieces, Memory> {
         let wanted = workers.min(MOST_WORKERS) * PIECES;
         let count = if workers < 2 || most < LARGE {

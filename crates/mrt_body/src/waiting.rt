@@ -1,0 +1,158 @@
+//! The units that are still to be returned, beside the entries of a RIB record.
+
+ghost use Rattle.std.specs.Prelude.{◌≡◌, ◌∷◌, ◌++◌, ◌↔◌, [], IfOk, IfSome, None, Ok, drop, false, map, option_to_list};
+ghost use Rattle.mrt_body.specs.Lent.{lent_unit};
+ghost use Rattle.mrt_body.specs.Units.{IsSmallUnit, clear_unit};
+
+use crate::at::RecordAt;
+use crate::lent::LentUnit;
+use crate::session_unit::{SessionKind, SessionUnit};
+use crate::unit::{PeerKey, Unit};
+use bgp_prefix::{Memory, Sequence};
+use std::alloc::Global;
+use std::collections::BTreeSet;
+use std::marker::Model;
+
+/// The unit of the BGP4MP record that was cut last, or the clears of the RIB dump that began last, as far as they are
+/// still to be returned.
+#[derive(Drop)]
+pub(crate) struct Waiting {
+    first: Option<SessionUnit>,
+    /// The peers whose tables are to be cleared behind the first unit, by the dump that begins there.
+    cleared: BTreeSet<PeerKey>,
+    at: RecordAt,
+    alloc: Global,
+}
+
+impl Model for Waiting {
+    ghost use Rattle.std.specs.Prelude.{◌≡◌, ◌++◌, List, [], None, map, option_to_list};
+    ghost use Rattle.mrt_body.specs.declared.unit.Unit.{Unit as ReplayUnit};
+    ghost use Rattle.mrt_body.specs.Units.{clear_unit};
+
+    ghost Value = { List ReplayUnit };
+
+    ghost view = { λ w. option_to_list w.first ++ map (clear_unit w.at) w.cleared.keys };
+
+    ghost invariant = { λ w. w.first ≡ None → w.cleared.keys ≡ [] };
+}
+
+/// Takes out the clear of the first of these peers, by a record at this place.
+#[inline(always)]
+fn next_clear(alloc: Global, at: &RecordAt, cleared: &mut BTreeSet<PeerKey>) -> Option<SessionUnit>
+    ensures gives { map (clear_unit at.now) cleared.old.keys
+        ≡ option_to_list result ++ map (clear_unit at.now) cleared.new.keys }
+    ensures none { result ≡ None → cleared.new.keys ≡ [] }
+{
+    if cleared.is_empty() {
+        return None;
+    }
+    pop_clear(alloc, at, cleared)
+}
+
+#[inline(never)]
+fn pop_clear(alloc: Global, at: &RecordAt, cleared: &mut BTreeSet<PeerKey>) -> Option<SessionUnit>
+    ensures gives { map (clear_unit at.now) cleared.old.keys
+        ≡ option_to_list result ++ map (clear_unit at.now) cleared.new.keys }
+    ensures none { result ≡ None → cleared.new.keys ≡ [] }
+{
+    let peer = cleared.pop_first()?;
+    Some(SessionUnit {
+        place: at.place(None),
+        time: at.time(0),
+        peer,
+        kind: SessionKind::Clear,
+        body: Sequence::from_vec(Vec::new(alloc)),
+        start: 0,
+    })
+}
+
+impl Waiting {
+    /// Returns none. Allocates nothing.
+    pub(crate) fn new(alloc: Global) -> Waiting
+        ensures { result ≡ [] }
+    {
+        Waiting {
+            first: None,
+            cleared: BTreeSet::new(alloc),
+            at: RecordAt {
+                file: 0,
+                offset: 0,
+                seconds: 0,
+            },
+            alloc,
+        }
+    }
+
+    /// Whether a unit is to be returned.
+    #[inline(always)]
+    pub(crate) fn is_pending(&self) -> bool
+        ensures { result ≡ false ↔ (self.now ≡ []) }
+    {
+        self.first.is_some()
+    }
+
+    /// Keeps a unit to be returned.
+    #[inline(always)]
+    pub(crate) fn put(&mut self, unit: SessionUnit)
+        requires { self.old ≡ [] }
+        ensures { self.new ≡ unit ∷ [] }
+    {
+        self.first = Some(unit);
+    }
+
+    /// Keeps the clears of these peers' tables by a record at this place.
+    pub(crate) fn put_clears(&mut self, at: RecordAt, peers: BTreeSet<PeerKey>)
+        requires { self.old ≡ [] }
+        ensures { self.new ≡ map (clear_unit at) peers.keys }
+    {
+        let mut cleared = peers;
+        let first = next_clear(self.alloc, &at, &mut cleared);
+        self.first = first;
+        self.at = at;
+        self.cleared = cleared;
+    }
+
+    /// Skips what is still to be returned.
+    pub(crate) fn leave_out(&mut self)
+        ensures { self.new ≡ [] }
+    {
+        self.first = None;
+        self.cleared.clear();
+    }
+
+    /// Lends the next unit.
+    #[inline(always)]
+    pub(crate) fn lend(&self) -> Option<LentUnit<'_>>
+        ensures lends { IfSome result (λ unit. self.now ≡ lent_unit unit ∷ drop 1 self.now) }
+        ensures none { result ≡ None → self.now ≡ [] }
+        ensures small { IfSome result (λ unit. IsSmallUnit (lent_unit unit)) }
+    {
+        match &self.first {
+            Some(unit) => Some(unit.lend()),
+            None => None,
+        }
+    }
+
+    /// Returns the next unit with a copy of its bytes, and doesn't pass over it.
+    pub(crate) fn copy(&self, alloc: Global) -> Result<Option<Unit>, Memory>
+        ensures copies { IfOk result (λ unit. IfSome unit (λ unit. self.now ≡ unit ∷ drop 1 self.now)) }
+        ensures none { IfOk result (λ unit. unit ≡ None → self.now ≡ []) }
+        ensures free { self.now ≡ [] → result ≡ Ok None }
+        ensures small { IfOk result (λ unit. IfSome unit IsSmallUnit) }
+    {
+        match &self.first {
+            Some(unit) => Ok(Some(unit.to_unit(alloc)?)),
+            None => Ok(None),
+        }
+    }
+
+    /// Passes over the next unit, and returns the memory of its record.
+    #[inline(always)]
+    pub(crate) fn pass(&mut self) -> Option<Vec<u8>>
+        ensures { self.new ≡ drop 1 self.old }
+    {
+        let unit = self.first.take()?;
+        self.first = next_clear(self.alloc, &self.at, &mut self.cleared);
+        Some(unit.into_body().into_vec())
+    }
+}

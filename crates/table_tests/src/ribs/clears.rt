@@ -1,0 +1,181 @@
+//! Clears by RIB dumps that replace what came before them: they end each route, and nothing else is changed or counted.
+
+use super::units::{take_named, unit_of};
+use adj_rib::{Churn, Note, Session, SharedRoute, Watch, What};
+use bgp_prefix::{Flat, PrefixMap, Radix};
+use mrt_body::ChosenPrefixes;
+use std::alloc::Global;
+use std::process::Abort;
+
+/// The routes of a peer, what is counted of it, how many units came, and whether it is up and established.
+fn expect_session<M: PrefixMap<SharedRoute>>(
+    rt: &impl Abort,
+    session: &Session<M>,
+    routes: usize,
+    expected: &Churn,
+    units: u64,
+    is_up: bool,
+) {
+    assert!(rt; session.table().len() == routes, "{routes} routes");
+    assert!(rt; session.churn() == *expected, "{expected:?}");
+    let arrivals = session.arrivals();
+    assert!(rt; arrivals.units == units, "{units} units");
+    match arrivals.first {
+        Some(place) => assert!(rt; 0 < units && place.file == 0 && place.offset == 56),
+        None => assert!(rt; units == 0),
+    }
+    assert!(rt; session.is_up() == is_up && session.is_established() == is_up);
+    assert!(rt; session.faults().is_empty());
+}
+
+/// What is counted of no unit.
+const NOTHING: Churn = Churn {
+    added: 0,
+    changed: 0,
+    same: 0,
+    gone: 0,
+    void: 0,
+    resets: 0,
+    idle: 0,
+    refused: 0,
+    first: None,
+    last: None,
+};
+
+/// An entry of second 3 and a message of second 1, before a clear in second 4.
+const ADDED: Churn = Churn {
+    added: 2,
+    changed: 0,
+    same: 0,
+    gone: 0,
+    void: 0,
+    resets: 0,
+    idle: 0,
+    refused: 0,
+    first: Some(3_000_000),
+    last: Some(1_000_000),
+};
+
+/// The same, and what is announced behind the clear.
+const ADDED_AGAIN: Churn = Churn {
+    added: 3,
+    changed: 0,
+    same: 0,
+    gone: 0,
+    void: 0,
+    resets: 0,
+    idle: 0,
+    refused: 0,
+    first: Some(3_000_000),
+    last: Some(1_000_000),
+};
+
+/// The same, then a break in second 2, and an announcement while the peer is down.
+const DOWN: Churn = Churn {
+    added: 3,
+    changed: 0,
+    same: 0,
+    gone: 0,
+    void: 0,
+    resets: 1,
+    idle: 1,
+    refused: 0,
+    first: Some(3_000_000),
+    last: Some(1_000_000),
+};
+
+fn expect_cleared<M: PrefixMap<SharedRoute> + Drop>(rt: &impl Abort, alloc: Global) {
+    let mut session = Session::<M>::new(alloc);
+    take_named(rt, alloc, &mut session, "clear");
+    expect_session(rt, &session, 0, &NOTHING, 0, true);
+    take_named(rt, alloc, &mut session, "entry");
+    take_named(rt, alloc, &mut session, "with-identifier");
+    expect_session(rt, &session, 2, &ADDED, 2, true);
+    take_named(rt, alloc, &mut session, "clear");
+    expect_session(rt, &session, 0, &ADDED, 2, true);
+    take_named(rt, alloc, &mut session, "clear");
+    expect_session(rt, &session, 0, &ADDED, 2, true);
+    take_named(rt, alloc, &mut session, "announcement");
+    expect_session(rt, &session, 1, &ADDED_AGAIN, 3, true);
+    // A peer that is down stays down.
+    take_named(rt, alloc, &mut session, "established-to-idle");
+    take_named(rt, alloc, &mut session, "clear");
+    take_named(rt, alloc, &mut session, "announcement");
+    expect_session(rt, &session, 0, &DOWN, 5, false);
+}
+
+#[test]
+fn a_clear_ends_the_routes_of_a_session_and_no_more(rt: HostRuntime) {
+    expect_cleared::<Flat<SharedRoute>>(&rt, rt.alloc());
+    expect_cleared::<Radix<SharedRoute>>(&rt, rt.alloc());
+}
+
+/// Takes the unit of a name, of any prefix and counted from the beginning on. Returns the notes.
+fn watch_named<M: PrefixMap<SharedRoute>>(
+    rt: &impl Abort,
+    alloc: Global,
+    watch: &mut Watch<M>,
+    name: &str,
+) -> Vec<Note> {
+    let unit = unit_of(alloc, name).expect(rt, name);
+    let chosen = ChosenPrefixes::all(alloc);
+    let mut buffer = Vec::new(alloc);
+    let mut notes = Vec::new(alloc);
+    watch
+        .take(alloc, &mut buffer, &chosen, None, &unit.lend(), &mut notes)
+        .expect(rt, name);
+    notes
+}
+
+/// One note of 10.0.0.0/8 with each of these path identifiers.
+fn expect_notes(rt: &impl Abort, notes: &[Note], what: What, identifiers: &[u32]) {
+    assert!(rt; notes.len() == identifiers.len(), "notes of {what:?}");
+    for (note, identifier) in notes.iter().zip(identifiers.iter()) {
+        assert!(rt; note.what == what && note.key.id == *identifier, "{what:?}");
+        assert!(rt; note.key.prefix.addr() == 0x0A00_0000 && note.key.prefix.len() == 8);
+        assert!(rt; note.route.is_some(), "the route of {what:?}");
+    }
+}
+
+fn expect_watch<M: PrefixMap<SharedRoute>>(
+    rt: &impl Abort,
+    watch: &Watch<M>,
+    routes: usize,
+    expected: &Churn,
+    is_up: bool,
+) {
+    assert!(rt; watch.table().len() == routes, "{routes} routes");
+    assert!(rt; watch.churn() == *expected, "{expected:?}");
+    assert!(rt; watch.is_up() == is_up && watch.faults().is_empty());
+}
+
+fn expect_lost<M: PrefixMap<SharedRoute> + Drop>(rt: &impl Abort, alloc: Global) {
+    let mut watch = Watch::<M>::new(alloc);
+    let none = watch_named(rt, alloc, &mut watch, "clear");
+    expect_notes(rt, none.as_slice(), What::Lost, &[]);
+    expect_watch(rt, &watch, 0, &NOTHING, true);
+    let entry = watch_named(rt, alloc, &mut watch, "entry");
+    expect_notes(rt, entry.as_slice(), What::New, &[0]);
+    let other = watch_named(rt, alloc, &mut watch, "with-identifier");
+    expect_notes(rt, other.as_slice(), What::New, &[7]);
+    let lost = watch_named(rt, alloc, &mut watch, "clear");
+    expect_notes(rt, lost.as_slice(), What::Lost, &[0, 7]);
+    expect_watch(rt, &watch, 0, &ADDED, true);
+    let again = watch_named(rt, alloc, &mut watch, "announcement");
+    expect_notes(rt, again.as_slice(), What::New, &[0]);
+    expect_watch(rt, &watch, 1, &ADDED_AGAIN, true);
+    // A peer that is down stays down.
+    let ended = watch_named(rt, alloc, &mut watch, "established-to-idle");
+    expect_notes(rt, ended.as_slice(), What::Lost, &[0]);
+    let cleared = watch_named(rt, alloc, &mut watch, "clear");
+    expect_notes(rt, cleared.as_slice(), What::Lost, &[]);
+    let idle = watch_named(rt, alloc, &mut watch, "announcement");
+    expect_notes(rt, idle.as_slice(), What::New, &[]);
+    expect_watch(rt, &watch, 0, &DOWN, false);
+}
+
+#[test]
+fn a_watch_notes_each_route_that_a_clear_ends(rt: HostRuntime) {
+    expect_lost::<Flat<SharedRoute>>(&rt, rt.alloc());
+    expect_lost::<Radix<SharedRoute>>(&rt, rt.alloc());
+}
