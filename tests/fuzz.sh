@@ -4,8 +4,9 @@
 #   tests/fuzz.sh --seed N PROGRAM            writes the dump of a seed to fuzz-N.mrt in the current directory, and tries it by all pairs
 # A run fails where it doesn't end with status 0 or 1, or says anything but `damaged: N` with as many lines in `faults`, where 1 or 4
 # workers with a ring of 1 or 1,024 or reads of one byte give other bytes or another status, or where it takes more than 128 MB or
-# 120 seconds. Odd seeds are tried with --rib replace. The address space is bound to 4 GB (`ulimit -v`). Dumps are made of examples/sample.mrt, two generated ones, and
-# the files in the directory that the variable SAMPLES names; a seed's dump is the same where these are the same.
+# 120 seconds. Odd seeds are tried with --rib replace, all without notes. The address space is bound to 4 GB (`ulimit -v`). Dumps are
+# made of examples/sample.mrt, two generated ones, and the files in the directory that the variable SAMPLES names; a seed's dump is the
+# same where these are the same.
 # Needs cc. A run that fails is printed behind its seed. The last line is `N passed, M failed`, counted in runs.
 set -u
 alone=; [ "${1:-}" = --seed ] && { alone=$2; shift 2; }
@@ -22,12 +23,12 @@ rib_of() { [ $(($1 % 2)) = 0 ] || echo --rib replace; } # SEED
 make_dump() { LC_ALL=C; ./mutate "$1" 40000 dumps/* > "$2"; }
 try() { # SEED
   make_dump "$1" "seed-$1" || { echo "seed $1: no dump"; return; }
-  ./same -p "$1" -b ./refuse.so -v 4096 -m 128 "$program" "seed-$1" $(rib_of "$1") | sed "/^tried/!s/^/seed $1:/"
+  ./same -p "$1" -b ./refuse.so -v 4096 -m 128 "$program" "seed-$1" --quiet $(rib_of "$1") | sed "/^tried/!s/^/seed $1:/"
   rm -f "seed-$1"
 }
 if [ -n "$alone" ]; then
   make_dump "$alone" "$from/fuzz-$alone.mrt" || exit 2
-  cd "$from" && "$work/same" -b "$work/refuse.so" -v 4096 -m 128 "$program" "fuzz-$alone.mrt" $(rib_of "$alone") | tee "$work/lines"
+  cd "$from" && "$work/same" -b "$work/refuse.so" -v 4096 -m 128 "$program" "fuzz-$alone.mrt" --quiet $(rib_of "$alone") | tee "$work/lines"
 else
   export -f try make_dump rib_of; export program
   seq "$first" $((first + files - 1)) | xargs -P "$(nproc)" -n 10 bash -c 'for seed; do try $seed; done' try > lines
