@@ -40,7 +40,7 @@ help:
 	@echo 'make growths      fails each allocation of the test programs that state what is left then'
 	@echo 'make same         every number of workers and ring gives the same bytes'
 	@echo 'make fuzz         replays damaged dumps (FILES=800 of them; SAMPLES=DIRECTORY adds dumps to damage)'
-	@echo 'make maps         makes ten million drawn calls of the prefix maps beside a plain list'
+	@echo 'make maps         makes twenty million drawn calls of the prefix maps beside a plain list'
 	@echo 'make edits        tries further wrong bodies of each crate: the check must refuse them'
 	@echo 'make hostile      replays dumps that are costly to read, at a size and twice that size'
 	@echo 'make bench        measures the program beside bgpdump and others'

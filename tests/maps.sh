@@ -1,17 +1,17 @@
 #!/usr/bin/env bash
-# Makes drawn calls of the prefix maps `Radix`, `Flat` and `Shelf` beside a plain sorted list, and compares every answer: inserts, removals,
-# gets, longest matches, the paths of a prefix, lengths, now and then the whole table in order, and clearing. map_calls.rattle says which
-# keys are drawn.
-#   tests/maps.sh [CALLS] [SEED..]     CALLS (200000) of each map for each of six kinds of draw and each SEED (1 2 3): 10.8 million
+# Makes drawn calls of the prefix maps `Radix`, `Flat` and `Shelf`, each of IPv4 and of IPv6, beside a plain sorted list, and compares every
+# answer: inserts, removals, gets, longest matches, the paths of a prefix, lengths, now and then the whole table in order, and clearing.
+# map_calls.rattle says which keys are drawn.
+#   tests/maps.sh [CALLS] [SEED..]     CALLS (200000) of each map and family for each of six kinds of draw and each SEED (1 2 3): 21.6 million
 #   UNPROVED=1 tests/maps.sh CALLS SEED..     the same with no proof, with checks, at some thousand calls a second: tries a changed map
-# A map and kind fails at its first difference, whose seed and call are printed, or where a way of answering never occurred. The program
-# is proved (by JOBS (1) jobs) and built in a repository of its own below the folder for temporary files (bgp_replay_bench/map_calls), over
-# copies of the two crates and of what earlier checks kept of them; the next run finds it there. Needs rt. The last line is `N passed, M
-# failed`.
+# A family, map and kind fails at its first difference, whose seed and call are printed, or where a way of answering never occurred. The
+# program is proved (by JOBS (1) jobs) and built in a repository of its own below the folder for temporary files
+# (bgp_replay_bench/map_calls), over copies of the two crates and of what earlier checks kept of them; the next run finds it there. Needs
+# rt. The last line is `N passed, M failed`.
 set -u
 top=$(dirname "$(dirname "$(realpath "$0")")"); work=$(mktemp -d); trap 'rm -rf "$work"' EXIT
 calls=${1:-200000}; [ $# = 0 ] || shift; [ $# -gt 0 ] || set -- 1 2 3
-wanted=18; out=$(dirname "$work")/bgp_replay_bench/map_calls
+wanted=36; out=$(dirname "$work")/bgp_replay_bench/map_calls
 [ -z "${UNPROVED:-}" ] || out=$work/copy
 mkdir -p "$out/crates/map_calls/src" && rm -rf "$out/crates/bgp_prefix" "$out/crates/prefix_shelf" &&
   cp -a "$top/crates/bgp_prefix" "$top/crates/prefix_shelf" "$out/crates/" && cp "$top/HANDLES" "$out/" || exit 2
@@ -23,7 +23,7 @@ else
   rt run --jobs "${JOBS:-1}" > "$work/log" 2>&1 || { tail -n 20 "$work/log"; exit 2; }
   out/map_calls "$calls" "$@" > "$work/lines" 2> "$work/log"
 fi
-echo "seeds $*, $calls calls of each map for each kind of draw and seed"
+echo "seeds $*, $calls calls of each map and family for each kind of draw and seed"
 sed -n '/^ok /{ s/Tally { //; s/ }$//; p; }; /^wrong: /p; /^  /p' "$work/lines"
 passed=$(grep -c '^ok ' "$work/lines")
 [ $((passed + $(grep -c '^wrong: ' "$work/lines"))) = $wanted ] || { echo 'not all were tried to the end'; tail -n 20 "$work/log"; }

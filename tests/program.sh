@@ -2,7 +2,7 @@
 # Tries the program's lines on standard error and its statuses, on the program as it is built: each row of the README's table, and names, files and
 # streams that are out of the ordinary. Of standard error the first line is compared; further lines must begin with two spaces (but with
 # bad arguments, --summary and help, whose text is free). `too many records` can't be had: a run has room for 2^47.
-# Rows of --prefix are those of a dump of eight records that is spelled here. The columns of `--header` are compared with those of each help, and the
+# Rows of --prefix are those of a dump of eight records that is spelled here; the short texts of IPv6 addresses are those of RFC 5952, 4. The columns of `--header` are compared with those of each help, and the
 # second line of --version with what stands in a copy of the program.
 # The counts of --summary are compared with those of the headers of each dump: of examples/, and of each file in the directory that the variable SAMPLES
 # names.
@@ -108,6 +108,7 @@ for words in nothing 'nothing sample' tables match 'match sample' 'match --addre
   'tables --until -1 sample' 'tables --until 18446744073709551616 sample' 'tables --until soon sample' 'tables --until' 'tables --frobnicate sample' 'tables -x sample' \
   'tables --until 2024-02-30 sample' 'tables --until 2024-1-1 sample' 'tables --until 2024-01-01T00:00:00 sample' 'tables --prefix' \
   'tables --prefix 192.0.2.0/24 --prefix 192.0.2.1/24 sample' 'tables --states' 'tables --states up sample' 'churn --states recorded,established sample' 'tables --rib' 'tables --rib sample' \
+  'tables --addresses' 'tables --addresses long sample' 'churn --addresses Short sample' \
   'tables --address 10.0.0.1 sample' '--workers 2 tables sample' 'match --address 10.1.2 missing --workers 0'; do
   try 2 '?' nothing $words
 done
@@ -118,6 +119,7 @@ for address in 10.1.2 10.1.2.03 10.1.2.3.4 256.0.0.0 10.1.2. .1.2.3 +1.2.3.4 1.2
   try 2 "bad address: $address" nothing match --address "$address" sample
 done
 try 2 'bad address: 10.1.2' nothing match --address 10.1.2 missing
+try 2 "error: invalid value 'long' for '--addresses <FORM>': neither full nor short" nothing tables --addresses long sample
 bad_prefix() { # WHY PREFIX..
   local why=$1; shift
   for prefix in "$@"; do try 2 "error: invalid value '$prefix' for '--prefix <PREFIX>': $why" nothing tables --prefix "$prefix" sample; done
@@ -133,6 +135,7 @@ tip() { # TIP WORDS..
 }
 tip "  tip: '--address' is an option of match" tables --address 10.0.0.1 sample
 tip "  tip: a similar argument exists: '--until'" tables --untill 5 sample
+tip "  tip: a similar argument exists: '--addresses'" tables --adresses short sample
 tip "  tip: to pass '-sample.mrt' as a file, use '-- -sample.mrt'" tables -sample.mrt
 tip '' tables --frobnicate sample
 try 0 '' any match --address 0.0.0.0 sample
@@ -306,6 +309,31 @@ lists 'seen --until 1030 --peers 2/2' '198.51.100.0/24|64500|1' '198.51.100.0/25
 printf '%s\n' "$two_24" "$two_25" "$two_203" > wanted; try 0 '' wanted tables --peer '65002 192.0.2.2' --until 1030 eight
 for words in '--peers 0/4' '--peers 5/4' '--peers 1/65537' '--peer AS65001' '--peer 65001,192.0.2' '--prefix 192.0.2.1/24' '--prefix 192.0.2.0/33'; do try 2 '?' nothing tables $words eight; done
 for words in 'churn --prefix 198.51.100.1/24' 'churn --since 5 --until 4' 'churn --since soon' 'churn --same' 'peers --since 5' 'history --since 5 --until 4' 'history --since soon' 'tables --since 5' 'tables --same'; do try 2 '?' nothing $words eight; done
+
+# --addresses: two peers with IPv6 addresses, and next hops of one and of two (RFC 8950, 3), in messages at 1000 and 1010
+sed 's/../\\x&/g' > hex << 'END'
+000003e8001000040000006c0000fde90000fde70000000220010db8000000000001000000000001fe800000000000000000000000000001ffffffffffffffffffffffffffffffff004002000000294001010040020602010000fde9800e1900010110200100000000000100000000000000010018c63364
+000003f2001000040000007c0000fde90000fde70000000220010db8000000010001000100010001fe800000000000000000000000000001ffffffffffffffffffffffffffffffff005002000000394001010040020602010000fde9800e290001012000000000000000000000ffffc0000201fe8000000000000000000000000000020018cb0071
+END
+while read -r record; do printf "$record"; done < hex > over6
+prints() { # WORDS LINE..
+  local words=$1; shift
+  printf '%s\n' "$@" > wanted; try 0 '' wanted $words over6
+}
+first6='2001:0db8:0000:0000:0001:0000:0000:0001' second6='2001:0db8:0000:0001:0001:0001:0001:0001'
+to_first='198.51.100.0/24|65001|2001:0000:0000:0001:0000:0000:0000:0001|IGP|-|-|-|-'
+to_second='203.0.113.0/24|65001|0000:0000:0000:0000:0000:ffff:c000:0201 fe80:0000:0000:0000:0000:0000:0000:0002|IGP|-|-|-|-'
+first_short='2001:db8::1:0:0:1' second_short='2001:db8:0:1:1:1:1:1'
+to_first_short='198.51.100.0/24|65001|2001:0:0:1::1|IGP|-|-|-|-' to_second_short='203.0.113.0/24|65001|::ffff:c000:201 fe80::2|IGP|-|-|-|-'
+for words in tables 'tables --addresses full' 'tables --addresses short --addresses full'; do prints "$words" "65001 $first6|$to_first" "65001 $second6|$to_second"; done
+for workers in 1 3; do prints "tables --addresses short --workers $workers" "65001 $first_short|$to_first_short" "65001 $second_short|$to_second_short"; done
+prints 'match --address 198.51.100.7 --addresses short' "65001 $first_short|$to_first_short"
+prints 'history --addresses short' "1000.000000|65001 $first_short|new|update|$to_first_short" "1010.000000|65001 $second_short|new|update|$to_second_short"
+prints 'peers --addresses short' "65001 $first_short|up|1|1|1000.000000|1000.000000|1|0|-" "65001 $second_short|up|1|1|1010.000000|1010.000000|1|120|-"
+prints 'churn --addresses short' "65001 $first_short|1|0|0|0|0|0|0|0|1000.000000|1000.000000" "65001 $second_short|1|0|0|0|0|0|0|0|1010.000000|1010.000000"
+prints 'churn --since 1005 --addresses short' "65001 $first_short|0|0|0|0|0|0|0|0|-|-" "65001 $second_short|1|0|0|0|0|0|0|0|1010.000000|1010.000000"
+prints 'visibility --addresses short' '198.51.100.0/24|1' '203.0.113.0/24|1'
+prints "tables --peer 65001,$first_short --addresses short" "65001 $first_short|$to_first_short"
 
 # What happened at three peers, in two files. Before the RIB dump the first peer announces two prefixes, and one of them
 # again by another path; the second announces one of them; the third one two paths of it, of which it withdraws one, and

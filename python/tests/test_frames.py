@@ -253,3 +253,11 @@ def test_peers_by_hand(sample):
         [64502, "192.0.2.102", "up", 0, 1, 288], [65107, "192.0.2.5", "down", 0, 2, 372],
         [196618, "192.0.2.4", "up", 0, 2, 579]]
     assert updates["entry"].isna().all() and updates["last"][4] == pandas.Timestamp("2026-11-22 07:13:00", tz="UTC")
+
+
+def test_addresses_in_either_form(sample):
+    assert lines(frame_of("tables", sample, addresses="full"), sample) == text_of("tables", sample)
+    short = text_of("tables", sample, "--addresses=short")
+    assert lines(frame_of("tables", sample, addresses="short"), sample) == short
+    with pytest.raises(bgp_replay.UsageError, match="neither full nor short"):
+        frame_of("tables", sample, addresses="long")

@@ -1,9 +1,9 @@
 -- An UPDATE that only announces takes the steps of its announcements.
 use Rattle.std.proofs.Common.{◌≡◌, List, map, sym}
 use Rattle.std.proofs.lemmas.List.{append-nil}
-use Rattle.bgp_prefix.specs.declared.key.RouteKey.{RouteKey}
+use Rattle.bgp_prefix.specs.Keys.{RouteKey}
 use Rattle.bgp_update.specs.declared.route.Route.{Route}
-use Rattle.bgp_update.specs.declared.route.Update.{Update}
+use Rattle.bgp_update.specs.Updates.{Update}
 use Rattle.adj_rib.specs.Steps.{announce, update_steps}
 use Rattle.adj_rib.specs.RouteSets.{IsAnnouncement}
 

@@ -1,7 +1,7 @@
 -- Examples of what a session is after some units, by computation.
-use Rattle.std.proofs.Common.{◌≡◌, ℕ, ◌*◌, Bool, refl, true, false, Some, None, List, [], ◌∷◌, ◌++◌}
+use Rattle.std.proofs.Common.{◌≡◌, ℕ, ◌*◌, ◌^◌, Bool, refl, true, false, Some, None, List, [], ◌∷◌, ◌++◌}
 use Rattle.std.specs.Prelude.{codes}
-use Rattle.bgp_prefix.specs.declared.key.RouteKey.{RouteKey}
+use Rattle.bgp_prefix.specs.Keys.{RouteKey}
 use Rattle.mrt_frame.proofs.Hexadecimal.{hex}
 use Rattle.mrt_frame.specs.declared.fault.Fault.TheVariants.{BadAttribute}
 use Rattle.mrt_frame.specs.Fields.{items_after}
@@ -13,8 +13,8 @@ use Rattle.bgp_update.specs.declared.route.Route.{Route}
 use Rattle.bgp_update.specs.Equality.{route_eq}
 use Rattle.bgp_update.specs.Segments.{path_in, segment_at, segment_field_at}
 use Rattle.bgp_update.specs.Keys.{written_key_at, keys_in, route_keys_in, key_at}
-use Rattle.bgp_update.specs.Multiprotocol.{reach_in, reach_at, unreach_in, next_hop_of, reached_keys, unreached_keys}
-use Rattle.bgp_update.specs.Attributes.{attribute_at, attributes_in, value_fault, route_from, route_in}
+use Rattle.bgp_update.specs.Multiprotocol.{reach_in, reach_at, hop_at, unreach_in, next_hop_of, reached_keys, unreached_keys}
+use Rattle.bgp_update.specs.Attributes.{attribute_at, attributes_in, value_fault, route_from, entry_route, route_in}
 use Rattle.bgp_update.specs.Updates.{fields_in, said_update, update_in}
 use Rattle.mrt_body.specs.declared.state_rule.StateRule.TheVariants.{Recorded, Established}
 use Rattle.mrt_body.specs.declared.unit.Place.{Place}
@@ -69,7 +69,7 @@ abbrev damaged : ReplayUnit
 damaged = message 1 false (hex (codes "002D 02 0000 0014 40010103 4002060201 0000FDE8 400304 C0000201 080A"))
 
 abbrev key : ℕ → ℕ → RouteKey
-key addr id = record { prefix = record { addr = addr; len = 8 }; id = id }
+key addr id = record { prefix = record { addr = addr * 2 ^ 96; len = 8 }; id = id }
 
 abbrev ten : RouteKey
 ten = key 0x0A000000 0
@@ -91,58 +91,58 @@ abbrev so_many : ℕ → Arrivals
 so_many count = record { units = count; first = Some somewhere }
 
 announced_twice : session_of (announcement ∷ announcement ∷ []) ≡ record { up = true; established = true; table = (ten, plain_route) ∷ []; churn = churn_with (1 ∷ 0 ∷ 1 ∷ 0 ∷ 0 ∷ 0 ∷ 0 ∷ 0 ∷ []) 1 1; arrivals = so_many 2; faults = []; spent = false }
-unfolding items_after attribute_at attributes_in value_fault route_from route_in path_in segment_at segment_field_at written_key_at keys_in route_keys_in key_at reach_in reach_at unreach_in next_hop_of reached_keys unreached_keys fields_in said_update update_in message_in message_event_in event_in unit_steps steps_of route_eq outcomes_of churn_of arrivals_of damaged_of table_of session_of
+unfolding items_after attribute_at attributes_in value_fault route_from entry_route route_in path_in segment_at segment_field_at written_key_at keys_in route_keys_in key_at reach_in reach_at hop_at unreach_in next_hop_of reached_keys unreached_keys fields_in said_update update_in message_in message_event_in event_in unit_steps steps_of route_eq outcomes_of churn_of arrivals_of damaged_of table_of session_of
 announced_twice = refl
 
 withdrawn_twice : session_of (announcement ∷ withdrawal ∷ withdrawal ∷ []) ≡ record { up = true; established = true; table = []; churn = churn_with (1 ∷ 0 ∷ 0 ∷ 1 ∷ 1 ∷ 0 ∷ 0 ∷ 0 ∷ []) 1 2; arrivals = so_many 3; faults = []; spent = false }
-unfolding items_after attribute_at attributes_in value_fault route_from route_in path_in segment_at segment_field_at written_key_at keys_in route_keys_in key_at reach_in reach_at unreach_in next_hop_of reached_keys unreached_keys fields_in said_update update_in message_in message_event_in event_in unit_steps steps_of route_eq outcomes_of churn_of arrivals_of damaged_of table_of session_of
+unfolding items_after attribute_at attributes_in value_fault route_from entry_route route_in path_in segment_at segment_field_at written_key_at keys_in route_keys_in key_at reach_in reach_at hop_at unreach_in next_hop_of reached_keys unreached_keys fields_in said_update update_in message_in message_event_in event_in unit_steps steps_of route_eq outcomes_of churn_of arrivals_of damaged_of table_of session_of
 withdrawn_twice = refl
 
 -- an announcement while the peer isn't up is idle
 left_established : session_of (announcement ∷ state_change 6 1 ∷ announcement ∷ []) ≡ record { up = false; established = false; table = []; churn = churn_with (1 ∷ 0 ∷ 0 ∷ 0 ∷ 0 ∷ 1 ∷ 1 ∷ 0 ∷ []) 1 1; arrivals = so_many 3; faults = []; spent = false }
-unfolding items_after attribute_at attributes_in value_fault route_from route_in path_in segment_at segment_field_at written_key_at keys_in route_keys_in key_at reach_in reach_at unreach_in next_hop_of reached_keys unreached_keys fields_in said_update update_in message_in message_event_in event_in unit_steps steps_of route_eq outcomes_of churn_of arrivals_of damaged_of table_of session_of
+unfolding items_after attribute_at attributes_in value_fault route_from entry_route route_in path_in segment_at segment_field_at written_key_at keys_in route_keys_in key_at reach_in reach_at hop_at unreach_in next_hop_of reached_keys unreached_keys fields_in said_update update_in message_in message_event_in event_in unit_steps steps_of route_eq outcomes_of churn_of arrivals_of damaged_of table_of session_of
 left_established = refl
 
 came_back : session_of (announcement ∷ state_change 6 1 ∷ announcement ∷ state_change 5 6 ∷ announcement ∷ []) ≡ record { up = true; established = true; table = (ten, plain_route) ∷ []; churn = churn_with (2 ∷ 0 ∷ 0 ∷ 0 ∷ 0 ∷ 2 ∷ 1 ∷ 0 ∷ []) 1 1; arrivals = so_many 5; faults = []; spent = false }
-unfolding items_after attribute_at attributes_in value_fault route_from route_in path_in segment_at segment_field_at written_key_at keys_in route_keys_in key_at reach_in reach_at unreach_in next_hop_of reached_keys unreached_keys fields_in said_update update_in message_in message_event_in event_in unit_steps steps_of route_eq outcomes_of churn_of arrivals_of damaged_of table_of session_of
+unfolding items_after attribute_at attributes_in value_fault route_from entry_route route_in path_in segment_at segment_field_at written_key_at keys_in route_keys_in key_at reach_in reach_at hop_at unreach_in next_hop_of reached_keys unreached_keys fields_in said_update update_in message_in message_event_in event_in unit_steps steps_of route_eq outcomes_of churn_of arrivals_of damaged_of table_of session_of
 came_back = refl
 
 stayed_established : session_of (announcement ∷ state_change 6 6 ∷ []) ≡ record { up = true; established = true; table = (ten, plain_route) ∷ []; churn = churn_with (1 ∷ 0 ∷ 0 ∷ 0 ∷ 0 ∷ 0 ∷ 0 ∷ 0 ∷ []) 1 2; arrivals = so_many 2; faults = []; spent = false }
-unfolding items_after attribute_at attributes_in value_fault route_from route_in path_in segment_at segment_field_at written_key_at keys_in route_keys_in key_at reach_in reach_at unreach_in next_hop_of reached_keys unreached_keys fields_in said_update update_in message_in message_event_in event_in unit_steps steps_of route_eq outcomes_of churn_of arrivals_of damaged_of table_of session_of
+unfolding items_after attribute_at attributes_in value_fault route_from entry_route route_in path_in segment_at segment_field_at written_key_at keys_in route_keys_in key_at reach_in reach_at hop_at unreach_in next_hop_of reached_keys unreached_keys fields_in said_update update_in message_in message_event_in event_in unit_steps steps_of route_eq outcomes_of churn_of arrivals_of damaged_of table_of session_of
 stayed_established = refl
 
 four_changes : session_of (state_change 5 6 ∷ state_change 6 6 ∷ state_change 6 0 ∷ state_change 0 0 ∷ []) ≡ record { up = false; established = false; table = []; churn = churn_with (0 ∷ 0 ∷ 0 ∷ 0 ∷ 0 ∷ 3 ∷ 0 ∷ 0 ∷ []) 2 2; arrivals = so_many 4; faults = []; spent = false }
-unfolding items_after attribute_at attributes_in value_fault route_from route_in path_in segment_at segment_field_at written_key_at keys_in route_keys_in key_at reach_in reach_at unreach_in next_hop_of reached_keys unreached_keys fields_in said_update update_in message_in message_event_in event_in unit_steps steps_of route_eq outcomes_of churn_of arrivals_of damaged_of table_of session_of
+unfolding items_after attribute_at attributes_in value_fault route_from entry_route route_in path_in segment_at segment_field_at written_key_at keys_in route_keys_in key_at reach_in reach_at hop_at unreach_in next_hop_of reached_keys unreached_keys fields_in said_update update_in message_in message_event_in event_in unit_steps steps_of route_eq outcomes_of churn_of arrivals_of damaged_of table_of session_of
 four_changes = refl
 
 -- FRR's end of a connection that lost a collision, behind the Established of the one that stays; by Established it is
 -- no break
 lost_collision : session_of (by_established 5 6 ∷ announcement ∷ by_established 3 8 ∷ announcement ∷ []) ≡ record { up = true; established = true; table = (ten, plain_route) ∷ []; churn = churn_with (1 ∷ 0 ∷ 1 ∷ 0 ∷ 0 ∷ 1 ∷ 0 ∷ 0 ∷ []) 2 1; arrivals = so_many 4; faults = []; spent = false }
-unfolding items_after attribute_at attributes_in value_fault route_from route_in path_in segment_at segment_field_at written_key_at keys_in route_keys_in key_at reach_in reach_at unreach_in next_hop_of reached_keys unreached_keys fields_in said_update update_in message_in message_event_in event_in unit_steps steps_of route_eq outcomes_of churn_of arrivals_of damaged_of table_of session_of
+unfolding items_after attribute_at attributes_in value_fault route_from entry_route route_in path_in segment_at segment_field_at written_key_at keys_in route_keys_in key_at reach_in reach_at hop_at unreach_in next_hop_of reached_keys unreached_keys fields_in said_update update_in message_in message_event_in event_in unit_steps steps_of route_eq outcomes_of churn_of arrivals_of damaged_of table_of session_of
 lost_collision = refl
 
 lost_as_recorded : session_of (state_change 5 6 ∷ announcement ∷ state_change 3 8 ∷ announcement ∷ []) ≡ record { up = false; established = false; table = []; churn = churn_with (1 ∷ 0 ∷ 0 ∷ 0 ∷ 0 ∷ 2 ∷ 1 ∷ 0 ∷ []) 2 1; arrivals = so_many 4; faults = []; spent = false }
-unfolding items_after attribute_at attributes_in value_fault route_from route_in path_in segment_at segment_field_at written_key_at keys_in route_keys_in key_at reach_in reach_at unreach_in next_hop_of reached_keys unreached_keys fields_in said_update update_in message_in message_event_in event_in unit_steps steps_of route_eq outcomes_of churn_of arrivals_of damaged_of table_of session_of
+unfolding items_after attribute_at attributes_in value_fault route_from entry_route route_in path_in segment_at segment_field_at written_key_at keys_in route_keys_in key_at reach_in reach_at hop_at unreach_in next_hop_of reached_keys unreached_keys fields_in said_update update_in message_in message_event_in event_in unit_steps steps_of route_eq outcomes_of churn_of arrivals_of damaged_of table_of session_of
 lost_as_recorded = refl
 
 -- a session that ended, and an announcement behind that
 ended_by_established : session_of (announcement ∷ by_established 6 1 ∷ announcement ∷ []) ≡ record { up = true; established = false; table = (ten, plain_route) ∷ []; churn = churn_with (2 ∷ 0 ∷ 0 ∷ 0 ∷ 0 ∷ 1 ∷ 0 ∷ 0 ∷ []) 1 1; arrivals = so_many 3; faults = []; spent = false }
-unfolding items_after attribute_at attributes_in value_fault route_from route_in path_in segment_at segment_field_at written_key_at keys_in route_keys_in key_at reach_in reach_at unreach_in next_hop_of reached_keys unreached_keys fields_in said_update update_in message_in message_event_in event_in unit_steps steps_of route_eq outcomes_of churn_of arrivals_of damaged_of table_of session_of
+unfolding items_after attribute_at attributes_in value_fault route_from entry_route route_in path_in segment_at segment_field_at written_key_at keys_in route_keys_in key_at reach_in reach_at hop_at unreach_in next_hop_of reached_keys unreached_keys fields_in said_update update_in message_in message_event_in event_in unit_steps steps_of route_eq outcomes_of churn_of arrivals_of damaged_of table_of session_of
 ended_by_established = refl
 
 -- what is reached is not withdrawn, and goes by the next hop of MP_REACH_NLRI
 reached : session_of (announcement ∷ reaching ∷ []) ≡ record { up = true; established = true; table = (ten, record plain_route { next_hop = Some (hop.V4 0xC0000209) }) ∷ (key 0x0C000000 0, plain_route) ∷ []; churn = churn_with (2 ∷ 1 ∷ 0 ∷ 0 ∷ 1 ∷ 0 ∷ 0 ∷ 0 ∷ []) 1 2; arrivals = so_many 2; faults = []; spent = false }
-unfolding items_after attribute_at attributes_in value_fault route_from route_in path_in segment_at segment_field_at written_key_at keys_in route_keys_in key_at reach_in reach_at unreach_in next_hop_of reached_keys unreached_keys fields_in said_update update_in message_in message_event_in event_in unit_steps steps_of route_eq outcomes_of churn_of arrivals_of damaged_of table_of session_of
+unfolding items_after attribute_at attributes_in value_fault route_from entry_route route_in path_in segment_at segment_field_at written_key_at keys_in route_keys_in key_at reach_in reach_at hop_at unreach_in next_hop_of reached_keys unreached_keys fields_in said_update update_in message_in message_event_in event_in unit_steps steps_of route_eq outcomes_of churn_of arrivals_of damaged_of table_of session_of
 reached = refl
 
 by_two_paths : session_of (two_paths ∷ announcement ∷ []) ≡ record { up = true; established = true; table = (ten, plain_route) ∷ (key 0x0A000000 3, plain_route) ∷ (key 0x0A000000 7, plain_route) ∷ []; churn = churn_with (3 ∷ 0 ∷ 0 ∷ 0 ∷ 0 ∷ 0 ∷ 0 ∷ 0 ∷ []) 1 1; arrivals = so_many 2; faults = []; spent = false }
-unfolding items_after attribute_at attributes_in value_fault route_from route_in path_in segment_at segment_field_at written_key_at keys_in route_keys_in key_at reach_in reach_at unreach_in next_hop_of reached_keys unreached_keys fields_in said_update update_in message_in message_event_in event_in unit_steps steps_of route_eq outcomes_of churn_of arrivals_of damaged_of table_of session_of
+unfolding items_after attribute_at attributes_in value_fault route_from entry_route route_in path_in segment_at segment_field_at written_key_at keys_in route_keys_in key_at reach_in reach_at hop_at unreach_in next_hop_of reached_keys unreached_keys fields_in said_update update_in message_in message_event_in event_in unit_steps steps_of route_eq outcomes_of churn_of arrivals_of damaged_of table_of session_of
 by_two_paths = refl
 
 damaged_unit : session_of (damaged ∷ []) ≡ record { up = true; established = true; table = []; churn = churn_with (0 ∷ 0 ∷ 0 ∷ 0 ∷ 0 ∷ 0 ∷ 0 ∷ 1 ∷ []) 1 1; arrivals = so_many 1; faults = record { place = somewhere; fault = BadAttribute 1 } ∷ []; spent = false }
-unfolding items_after attribute_at attributes_in value_fault route_from route_in path_in segment_at segment_field_at written_key_at keys_in route_keys_in key_at reach_in reach_at unreach_in next_hop_of reached_keys unreached_keys fields_in said_update update_in message_in message_event_in event_in unit_steps steps_of route_eq outcomes_of churn_of arrivals_of damaged_of table_of session_of
+unfolding items_after attribute_at attributes_in value_fault route_from entry_route route_in path_in segment_at segment_field_at written_key_at keys_in route_keys_in key_at reach_in reach_at hop_at unreach_in next_hop_of reached_keys unreached_keys fields_in said_update update_in message_in message_event_in event_in unit_steps steps_of route_eq outcomes_of churn_of arrivals_of damaged_of table_of session_of
 damaged_unit = refl
 
 entry_of_key : session_of (unit_of 3 (Entry (key 0x0A000000 5) plain_attributes) ∷ announcement ∷ []) ≡ record { up = true; established = true; table = (ten, plain_route) ∷ (key 0x0A000000 5, plain_route) ∷ []; churn = churn_with (2 ∷ 0 ∷ 0 ∷ 0 ∷ 0 ∷ 0 ∷ 0 ∷ 0 ∷ []) 3 1; arrivals = so_many 2; faults = []; spent = false }
-unfolding items_after attribute_at attributes_in value_fault route_from route_in path_in segment_at segment_field_at written_key_at keys_in route_keys_in key_at reach_in reach_at unreach_in next_hop_of reached_keys unreached_keys fields_in said_update update_in message_in message_event_in event_in unit_steps steps_of route_eq outcomes_of churn_of arrivals_of damaged_of table_of session_of
+unfolding items_after attribute_at attributes_in value_fault route_from entry_route route_in path_in segment_at segment_field_at written_key_at keys_in route_keys_in key_at reach_in reach_at hop_at unreach_in next_hop_of reached_keys unreached_keys fields_in said_update update_in message_in message_event_in event_in unit_steps steps_of route_eq outcomes_of churn_of arrivals_of damaged_of table_of session_of
 entry_of_key = refl

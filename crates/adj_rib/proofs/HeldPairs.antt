@@ -4,7 +4,7 @@ use Rattle.std.specs.Prelude.{unwrap_or}
 use Rattle.std.specs.List.{filter_map, cons_option, last_or, AllByRecursion}
 use Rattle.std.proofs.lemmas.List.Elements.{filter_map-append}
 use Rattle.bgp_prefix.specs.Keys.{key_eq}
-use Rattle.bgp_prefix.specs.declared.key.RouteKey.{RouteKey}
+use Rattle.bgp_prefix.specs.Keys.{RouteKey}
 use Rattle.bgp_prefix.proofs.KeySearches.{same_key, key_itself}
 use Rattle.bgp_update.specs.declared.route.Route.{Route}
 use Rattle.adj_rib.specs.Steps.{Step, break, clear, announce, withdraw}

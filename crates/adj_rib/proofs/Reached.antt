@@ -1,7 +1,7 @@
 -- The route of the keys of MP_REACH_NLRI.
 use Rattle.std.proofs.Common.{◌≡◌, List, [], ◌∷◌, map, Option, Some, None, refl, sym, ap}
 use Rattle.std.specs.Prelude.{◌≢◌}
-use Rattle.bgp_prefix.specs.declared.key.RouteKey.{RouteKey}
+use Rattle.bgp_prefix.specs.Keys.{RouteKey}
 use Rattle.bgp_update.specs.declared.route.Route.{Route}
 use Rattle.adj_rib.specs.Steps.{Step, announce}
 

@@ -7,7 +7,7 @@ use Rattle.std.specs.FinMap.Entries.{find, same_entries, find-where_key, is_sort
 use Rattle.std.specs.declared.cmp.Ordering.TheVariants.{Equal}
 use Rattle.std.specs.Ordering.{eq_by_cmp}
 use Rattle.bgp_prefix.specs.Keys.{key_cmp}
-use Rattle.bgp_prefix.specs.declared.key.RouteKey.{RouteKey}
+use Rattle.bgp_prefix.specs.Keys.{RouteKey}
 use Rattle.bgp_prefix.proofs.KeyLaws.{key_cmp_total, key_cmp_exact, tied_same}
 use Rattle.bgp_update.specs.declared.route.Route.{Route}
 use Rattle.adj_rib.specs.Applied.{RouteMap}

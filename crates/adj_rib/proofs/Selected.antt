@@ -6,16 +6,17 @@ use Rattle.std.specs.FinMap.Entries.{same_entries, find-where_key, is_sorted-whe
 use Rattle.std.specs.declared.cmp.Ordering.TheVariants.{Equal}
 use Rattle.std.proofs.lemmas.List.Elements.{filter-append}
 use Rattle.bgp_prefix.specs.Keys.{key_cmp, key_eq, among}
-use Rattle.bgp_prefix.specs.declared.key.RouteKey.{RouteKey}
+use Rattle.bgp_prefix.specs.Keys.{RouteKey}
 use Rattle.bgp_prefix.proofs.KeyLaws.{key_cmp_total, key_cmp_exact}
 use Rattle.bgp_prefix.proofs.KeySearches.{same_key}
 use Rattle.mrt_frame.specs.Fields.{◌>>=◌}
 use Rattle.mrt_frame.specs.Positions.{flat_map_after}
 use Rattle.mrt_frame.specs.declared.fault.Fault.{Fault}
 use Rattle.bgp_update.specs.declared.route.Route.{Route}
-use Rattle.bgp_update.specs.declared.route.Update.{Update}
+use Rattle.bgp_update.specs.Updates.{Update}
 use Rattle.bgp_update.specs.declared.width.Width.TheVariants.{Four}
 use Rattle.bgp_update.specs.Attributes.{route_in}
+use Rattle.bgp_update.specs.Families.{ipv4}
 use Rattle.bgp_update.specs.Hops.{by_hop}
 use Rattle.mrt_body.specs.declared.choice.PrefixChoice.{PrefixChoice}
 use Rattle.mrt_body.specs.declared.meaning.Event.{Event}
@@ -219,7 +220,7 @@ module _ (choices : List PrefixChoice) where
   unfolding event_in
   quiet_payload up (State from to rule) h = absurd cc
   quiet_payload up (Message bytes width add_path) h = quiet_reading up (event_in (Message bytes width add_path)) (or_parts (is_open choices) (speaks_of choices (event_in (Message bytes width add_path))) h).1
-  quiet_payload up (Entry key attrs) h = quiet_entry up key (route_in Four attrs) h
+  quiet_payload up (Entry key attrs) h = quiet_entry up key (route_in ipv4 Four attrs) h
   quiet_payload up Clear h = absurd cc
 
   pub quiet_unit : (up : Bool) (u : ReplayUnit) → concerns choices u.payload ≡ false → kept_steps (unit_steps up u) ≡ []

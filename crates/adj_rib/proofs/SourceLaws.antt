@@ -7,11 +7,11 @@ use Rattle.std.specs.FinMap as finite
 use Rattle.std.specs.FinMap.Entries.{find}
 use Rattle.std.proofs.lemmas.List.Elements.{Contains-append_left, Contains-append_right, Contains-append_cases, Contains-push, Contains-push_cases}
 use Rattle.bgp_prefix.specs.Keys.{key_cmp, key_eq, among}
-use Rattle.bgp_prefix.specs.declared.key.RouteKey.{RouteKey}
+use Rattle.bgp_prefix.specs.Keys.{RouteKey}
 use Rattle.bgp_prefix.proofs.KeySearches.{same_key}
 use Rattle.mrt_frame.specs.declared.fault.Fault.{Fault}
 use Rattle.bgp_update.specs.declared.route.Route.{Route}
-use Rattle.bgp_update.specs.declared.route.Update.{Update}
+use Rattle.bgp_update.specs.Updates.{Update}
 use Rattle.bgp_update.specs.Hops.{by_hop}
 use Rattle.mrt_body.specs.declared.unit.Payload.{Payload}
 use Rattle.mrt_body.specs.declared.unit.Payload.TheVariants.{State, Message, Entry, Clear}

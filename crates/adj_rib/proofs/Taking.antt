@@ -7,16 +7,16 @@ use Rattle.std.specs.FinMap.Entries.{find}
 use Rattle.std.proofs.lemmas.List.{append-nil, length_push}
 use Rattle.std.proofs.lemmas.List.Elements.{filter_map-append}
 use Rattle.bgp_prefix.specs.Keys.{key_cmp}
-use Rattle.bgp_prefix.specs.declared.key.RouteKey.{RouteKey}
+use Rattle.bgp_prefix.specs.Keys.{RouteKey}
 use Rattle.mrt_frame.specs.Fields.{◌>>=◌}
 use Rattle.mrt_frame.specs.declared.fault.Fault.{Fault}
 use Rattle.mrt_frame.proofs.PositionLaws.{flat_map_after-push}
 use Rattle.bgp_update.specs.declared.width.Width.{Width}
 use Rattle.bgp_update.specs.declared.width.Width.TheVariants.{Four}
 use Rattle.bgp_update.specs.declared.route.Route.{Route}
-use Rattle.bgp_update.specs.declared.route.Update.{Update}
 use Rattle.bgp_update.specs.Attributes.{route_in}
-use Rattle.bgp_update.specs.Updates.{update_in}
+use Rattle.bgp_update.specs.Families.{ipv4}
+use Rattle.bgp_update.specs.Updates.{Update, update_in}
 use Rattle.mrt_body.specs.declared.state_rule.StateRule.{StateRule}
 use Rattle.mrt_body.specs.declared.unit.Payload.{Payload}
 use Rattle.mrt_body.specs.declared.unit.Payload.TheVariants.{State, Message, Entry, Clear}
@@ -60,11 +60,11 @@ module _ (says : StateRule → ℕ → ℕ → Option Bool) where
   no_state_in_route key (Ok route) = refl
   no_state_in_route key (Err fault) = refl
 
-  no_state_in_message : (width : Width) (add_path : Bool) (r : Result (ℕ × List ℕ) Fault) → said_by (r >>= λ m. cond (m.0 == UPDATE) (update_in width add_path m.1 >>= λ update. Ok (event.Change update)) (Ok event.Other)) ≡ None
+  no_state_in_message : (width : Width) (add_path : Bool) (r : Result (ℕ × List ℕ) Fault) → said_by (r >>= λ m. cond (m.0 == UPDATE) (update_in ipv4 width add_path m.1 >>= λ update. Ok (event.Change update)) (Ok event.Other)) ≡ None
   no_state_in_message width add_path (Err fault) = refl
   no_state_in_message width add_path (Ok m) =
-      elim (m.0 == UPDATE) as (λ b. said_by (cond b (update_in width add_path m.1 >>= λ update. Ok (event.Change update)) (Ok event.Other)) ≡ None) [
-        | true ↦ no_state_in_update (update_in width add_path m.1)
+      elim (m.0 == UPDATE) as (λ b. said_by (cond b (update_in ipv4 width add_path m.1 >>= λ update. Ok (event.Change update)) (Ok event.Other)) ≡ None) [
+        | true ↦ no_state_in_update (update_in ipv4 width add_path m.1)
         | false ↦ refl
       ]
 
@@ -72,7 +72,7 @@ module _ (says : StateRule → ℕ → ℕ → Option Bool) where
   unfolding event_in message_event_in
   said_of_reading (State from to rule) = refl
   said_of_reading (Message bytes width add_path) = sym (no_state_in_message width add_path (message_in bytes))
-  said_of_reading (Entry key attrs) = sym (no_state_in_route key (route_in Four attrs))
+  said_of_reading (Entry key attrs) = sym (no_state_in_route key (route_in ipv4 Four attrs))
   said_of_reading Clear = refl
 
   abbrev said_in : List ReplayUnit → List Bool

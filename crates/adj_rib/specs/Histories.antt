@@ -3,7 +3,7 @@
 use Rattle.std.specs.Prelude.{◌≡◌, ℕ, ◌/◌, Bool, false, not, ◌&&◌, List, [], ◌∷◌, map, Option, Some, None, is_err, nat_lt, if◌then◌else◌}
 use Rattle.std.specs.List.{count_by, filter}
 use Rattle.mrt_frame.specs.Positions.{flat_map_after}
-use Rattle.bgp_prefix.specs.declared.key.RouteKey.{RouteKey}
+use Rattle.bgp_prefix.specs.Keys.{RouteKey}
 use Rattle.bgp_update.specs.declared.route.Route.{Route}
 use Rattle.bgp_update.specs.Equality.{route_eq}
 use Rattle.mrt_body.specs.declared.choice.PrefixChoice.{PrefixChoice}

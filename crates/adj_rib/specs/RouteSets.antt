@@ -1,11 +1,12 @@
 -- What a slot of a set of routes holds, and what was read ahead of a payload.
 use Rattle.std.specs.Prelude.{⊤, ◌≡◌, List, [], Option, Some, None, Result, Ok}
-use Rattle.bgp_prefix.specs.declared.key.RouteKey.{RouteKey}
+use Rattle.bgp_prefix.specs.Keys.{RouteKey}
 use Rattle.mrt_frame.specs.declared.fault.Fault.{Fault}
 use Rattle.bgp_update.specs.declared.route.Route.{Route}
-use Rattle.bgp_update.specs.declared.route.Update.{Update}
+use Rattle.bgp_update.specs.Updates.{Update}
 use Rattle.bgp_update.specs.declared.width.Width.TheVariants.{Four}
 use Rattle.bgp_update.specs.Attributes.{route_in}
+use Rattle.bgp_update.specs.Families.{ipv4}
 use Rattle.mrt_body.specs.declared.unit.Payload.{Payload}
 use Rattle.mrt_body.specs.declared.unit.Payload.TheVariants.{State, Message, Entry, Clear}
 use Rattle.adj_rib.specs.declared.route_set.Slot.{Slot}
@@ -24,7 +25,7 @@ kept_route None = None
 
 -- what the attributes of a RIB entry encode; nothing for a message, a state change or a clear
 abbrev pub entry_reading : Payload → Option (Result Route Fault)
-entry_reading (Entry key attrs) = Some (route_in Four attrs)
+entry_reading (Entry key attrs) = Some (route_in ipv4 Four attrs)
 entry_reading (Message bytes width add_path) = None
 entry_reading (State from to rule) = None
 entry_reading Clear = None

@@ -1,6 +1,6 @@
 -- What a session keeps, and the units that it stands for.
 use Rattle.std.specs.Prelude.{◌≡◌, Bool, false, List}
-use Rattle.bgp_prefix.specs.declared.key.RouteKey.{RouteKey}
+use Rattle.bgp_prefix.specs.Keys.{RouteKey}
 use Rattle.bgp_update.specs.declared.route.Route.{Route}
 use Rattle.mrt_body.specs.declared.unit.Unit.{Unit as ReplayUnit}
 use Rattle.mrt_body.specs.declared.unit.Damage.{Damage}

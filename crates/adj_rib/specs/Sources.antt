@@ -1,7 +1,7 @@
 -- Where the routes of a table come from (RFC 4271, 3.2 and 8).
 use Rattle.std.specs.Prelude.{⊤, ◌≡◌, ◌⊎◌, List, ◌∷◌, ◌++◌, Ok, true}
 use Rattle.std.specs.List.{Contains, AllByRecursion}
-use Rattle.bgp_prefix.specs.declared.key.RouteKey.{RouteKey}
+use Rattle.bgp_prefix.specs.Keys.{RouteKey}
 use Rattle.bgp_update.specs.declared.route.Route.{Route}
 use Rattle.bgp_update.specs.Hops.{by_hop}
 use Rattle.mrt_body.specs.declared.unit.Payload.{Payload}

@@ -4,7 +4,7 @@ use Rattle.std.specs.List.{filter_map, last_or, AllByRecursion}
 use Rattle.std.specs.FinMap as finite
 use Rattle.bgp_prefix.specs.Ordered.{tabulated}
 use Rattle.bgp_prefix.specs.Keys.{key_cmp, key_eq}
-use Rattle.bgp_prefix.specs.declared.key.RouteKey.{RouteKey}
+use Rattle.bgp_prefix.specs.Keys.{RouteKey}
 use Rattle.bgp_update.specs.declared.route.Route.{Route}
 use Rattle.adj_rib.specs.Steps.{Step, break, clear, announce, withdraw}
 

@@ -3,7 +3,7 @@
 ghost use Rattle.std.specs.Prelude.{◌≡◌, ◌↔◌, List, Some, T};
 ghost use Rattle.std.specs.FinMap.{find, is_sorted};
 ghost use Rattle.bgp_prefix.specs.Keys.{key_cmp};
-ghost use Rattle.bgp_prefix.specs.declared.key.RouteKey.{RouteKey};
+ghost use Rattle.bgp_prefix.specs.Keys.{RouteKey};
 ghost use Rattle.bgp_update.specs.declared.route.Route.{Route};
 ghost use Rattle.adj_rib.specs.Steps.{Step};
 ghost use Rattle.adj_rib.specs.Tables.{Holds, table_of};

@@ -48,7 +48,7 @@ fn what_without(old: &Option<SharedRoute>) -> What
 }
 
 /// Puts the route into the table, and notes the effect.
-pub(crate) fn note_announcement<M: PrefixMap<SharedRoute>>(
+pub(crate) fn note_announcement<M: PrefixMap<SharedRoute, Addr = u32>>(
     alloc: Global,
     table: &mut M,
     notes: &mut Vec<Note>,
@@ -58,7 +58,7 @@ pub(crate) fn note_announcement<M: PrefixMap<SharedRoute>>(
     ensures { OnOk result ((M.contents table.new, notes.new.items)
         ≡ watched (M.contents table.old, notes.old.items) (announce key route.now)) }
 {
-    let old = table.insert(alloc, key, route.share(alloc)?)?;
+    let old = table.insert(alloc, &key, route.share(alloc)?)?;
     let what = what_over(&old, route);
     notes.push(Note {
         what,
@@ -69,7 +69,7 @@ pub(crate) fn note_announcement<M: PrefixMap<SharedRoute>>(
 }
 
 /// Removes a key from the table, and notes the effect.
-fn note_withdrawal<M: PrefixMap<SharedRoute>>(
+fn note_withdrawal<M: PrefixMap<SharedRoute, Addr = u32>>(
     table: &mut M,
     notes: &mut Vec<Note>,
     key: &RouteKey,
@@ -107,7 +107,7 @@ fn note_lost(
 }
 
 /// Notes that each route of the table was lost.
-fn note_table<M: PrefixMap<SharedRoute>>(
+fn note_table<M: PrefixMap<SharedRoute, Addr = u32>>(
     alloc: Global,
     table: &M,
     notes: &mut Vec<Note>,
@@ -120,7 +120,7 @@ fn note_table<M: PrefixMap<SharedRoute>>(
 }
 
 /// Empties the table, and notes each route that it had.
-pub(crate) fn lose_all<M: PrefixMap<SharedRoute>>(
+pub(crate) fn lose_all<M: PrefixMap<SharedRoute, Addr = u32>>(
     alloc: Global,
     table: &mut M,
     notes: &mut Vec<Note>,
@@ -134,7 +134,7 @@ pub(crate) fn lose_all<M: PrefixMap<SharedRoute>>(
 }
 
 /// Announces each chosen key with the route.
-fn announce_chosen<M: PrefixMap<SharedRoute>>(
+fn announce_chosen<M: PrefixMap<SharedRoute, Addr = u32>>(
     alloc: Global,
     chosen: &ChosenPrefixes,
     table: &mut M,
@@ -155,7 +155,7 @@ fn announce_chosen<M: PrefixMap<SharedRoute>>(
 }
 
 /// Withdraws each chosen key that is neither announced nor reached.
-fn withdraw_chosen<M: PrefixMap<SharedRoute>>(
+fn withdraw_chosen<M: PrefixMap<SharedRoute, Addr = u32>>(
     chosen: &ChosenPrefixes,
     table: &mut M,
     notes: &mut Vec<Note>,
@@ -177,7 +177,7 @@ fn withdraw_chosen<M: PrefixMap<SharedRoute>>(
 }
 
 /// Withdraws the chosen keys that an UPDATE withdraws but neither announces nor reaches.
-fn withdraw_update<M: PrefixMap<SharedRoute>>(
+fn withdraw_update<M: PrefixMap<SharedRoute, Addr = u32>>(
     alloc: Global,
     chosen: &ChosenPrefixes,
     table: &mut M,
@@ -200,7 +200,7 @@ fn withdraw_update<M: PrefixMap<SharedRoute>>(
 }
 
 /// Announces the chosen ones of these keys, if any, with the one route that they share.
-fn announce_keys<M: PrefixMap<SharedRoute>>(
+fn announce_keys<M: PrefixMap<SharedRoute, Addr = u32>>(
     alloc: Global,
     chosen: &ChosenPrefixes,
     routes: &mut RouteSet,
@@ -224,7 +224,7 @@ fn announce_keys<M: PrefixMap<SharedRoute>>(
 
 /// Announces the chosen keys that MP_REACH_NLRI has with their route, which is there if there are keys.
 #[tactic(auto, using(crate::proofs::Reached::reached_by))]
-fn announce_reached<M: PrefixMap<SharedRoute>>(
+fn announce_reached<M: PrefixMap<SharedRoute, Addr = u32>>(
     alloc: Global,
     chosen: &ChosenPrefixes,
     routes: &mut RouteSet,
@@ -247,7 +247,7 @@ fn announce_reached<M: PrefixMap<SharedRoute>>(
 }
 
 /// Announces what an UPDATE announces of the chosen keys, and then what it reaches by MP_REACH_NLRI.
-fn announce_update<M: PrefixMap<SharedRoute>>(
+fn announce_update<M: PrefixMap<SharedRoute, Addr = u32>>(
     alloc: Global,
     chosen: &ChosenPrefixes,
     routes: &mut RouteSet,
@@ -275,7 +275,7 @@ fn announce_update<M: PrefixMap<SharedRoute>>(
 }
 
 /// Takes the steps of an UPDATE on chosen keys.
-pub(crate) fn note_update<M: PrefixMap<SharedRoute>>(
+pub(crate) fn note_update<M: PrefixMap<SharedRoute, Addr = u32>>(
     alloc: Global,
     chosen: &ChosenPrefixes,
     routes: &mut RouteSet,

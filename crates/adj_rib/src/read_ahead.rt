@@ -1,7 +1,7 @@
 //! Routes that are read ahead: before the session takes their RIB entry or UPDATE.
 
 ghost use Rattle.std.specs.Prelude.{◌≡◌, Ok};
-ghost use Rattle.bgp_prefix.specs.declared.key.RouteKey.{RouteKey};
+ghost use Rattle.bgp_prefix.specs.Prefixes.{IpPrefix};
 ghost use Rattle.bgp_update.specs.PackedUpdates.{plain_update};
 ghost use Rattle.mrt_body.specs.Events.{event_in};
 ghost use Rattle.mrt_body.specs.declared.meaning.Event.TheVariants as events;
@@ -57,7 +57,7 @@ impl ReadAhead {
     /// Reads the attributes of a RIB entry by way of a buffer, whose contents are replaced. Reads nothing where an
     /// attribute is damaged or an allocation fails: `Session::take_ahead` reads again.
     pub fn of_entry(alloc: Global, buffer: &mut Vec<u8>, attrs: &[u8]) -> ReadAhead
-        ensures { (key : RouteKey) → IsAheadOf (payloads.Entry key attrs.now) result }
+        ensures { (key : RouteKey IpPrefix) → IsAheadOf (payloads.Entry key attrs.now) result }
     {
         match HashedRoute::read(alloc, buffer, attrs) {
             Ok(hashed) => ReadAhead {

@@ -3,7 +3,7 @@
 ghost use Rattle.std.specs.Prelude.{◌≡◌, IfOk, OnOk, map, not};
 ghost use Rattle.std.specs.List.{filter, fold};
 ghost use Rattle.std.specs.FinMap as finite;
-ghost use Rattle.bgp_prefix.specs.declared.key.RouteKey.{RouteKey as Key};
+ghost use Rattle.bgp_prefix.specs.Keys.{RouteKey as Key};
 ghost use Rattle.bgp_update.specs.declared.route.Route.{Route};
 ghost use Rattle.adj_rib.specs.Selecting.{chooses, selected_entries};
 
@@ -31,7 +31,7 @@ fn unchosen_keys(
 }
 
 /// Returns the keys of a table that aren't chosen.
-fn other_keys<M: PrefixMap<SharedRoute>>(
+fn other_keys<M: PrefixMap<SharedRoute, Addr = u32>>(
     alloc: Global,
     chosen: &ChosenPrefixes,
     table: &M,
@@ -44,7 +44,7 @@ fn other_keys<M: PrefixMap<SharedRoute>>(
 }
 
 /// Removes each of these keys.
-fn remove_all<M: PrefixMap<SharedRoute>>(table: &mut M, keys: &[RouteKey])
+fn remove_all<M: PrefixMap<SharedRoute, Addr = u32>>(table: &mut M, keys: &[RouteKey])
     ensures { M.contents table.new ≡ fold finite.remove (M.contents table.old) keys.now }
 {
     for key in keys {
@@ -53,7 +53,7 @@ fn remove_all<M: PrefixMap<SharedRoute>>(table: &mut M, keys: &[RouteKey])
 }
 
 /// Removes the routes of prefixes that aren't chosen.
-pub(crate) fn retain_chosen<M: PrefixMap<SharedRoute>>(
+pub(crate) fn retain_chosen<M: PrefixMap<SharedRoute, Addr = u32>>(
     alloc: Global,
     chosen: &ChosenPrefixes,
     table: &mut M,

@@ -17,7 +17,7 @@ use std::alloc::Global;
 
 /// A peer's Adj-RIB-In, along with what is counted and listed for the peer.
 #[derive(Drop)]
-pub(crate) struct RibIn<M: PrefixMap<SharedRoute>> {
+pub(crate) struct RibIn<M: PrefixMap<SharedRoute, Addr = u32>> {
     pub(crate) up: bool,
     /// Whether the session is established, as far as state changes tell.
     pub(crate) established: bool,
@@ -27,7 +27,7 @@ pub(crate) struct RibIn<M: PrefixMap<SharedRoute>> {
     routes: RouteSet,
 }
 
-impl<M: PrefixMap<SharedRoute>> RibIn<M> {
+impl<M: PrefixMap<SharedRoute, Addr = u32>> RibIn<M> {
     ghost use Rattle.std.specs.Prelude.{◌≡◌, true, Ok, OnOk};
     ghost use Rattle.mrt_body.specs.Events.{event_in};
     ghost use Rattle.mrt_body.specs.Lent.{lent_payload, lent_unit};
@@ -35,7 +35,7 @@ impl<M: PrefixMap<SharedRoute>> RibIn<M> {
     ghost use Rattle.adj_rib.specs.Applied.{START, counted_if, followed, refused, read_as, taken};
     ghost use Rattle.adj_rib.specs.Keeping.{kept_in};
     ghost use Rattle.adj_rib.specs.RouteSets.{IsAheadOf, IsAnnouncement};
-    ghost use Rattle.bgp_update.specs.declared.route.Update.{Update};
+    ghost use Rattle.bgp_update.specs.Updates.{Update};
     ghost use Rattle.bgp_update.specs.PackedUpdates.{plain_update};
 
     /// Returns that of a peer without units, which is up.

@@ -4,6 +4,7 @@
 ghost use Rattle.std.specs.Prelude.{◌≡◌, ◌<◌, Some, IfOk, IfSome, IsTrue, OnOk, is_some, slice_get, true, vec_len};
 ghost use Rattle.bgp_update.specs.Answers.{Gives};
 ghost use Rattle.bgp_update.specs.Attributes.{route_in};
+ghost use Rattle.bgp_update.specs.Families.{ipv4};
 ghost use Rattle.bgp_update.specs.declared.width.Width.TheVariants.{Four};
 
 use crate::shared_route::SharedRoute;
@@ -56,9 +57,9 @@ impl HashedRoute {
         buffer: &mut Vec<u8>,
         attrs: &[u8],
     ) -> Result<HashedRoute, AttrError>
-        ensures { Gives (λ hashed. hashed.route) result (route_in Four attrs.now) }
+        ensures { Gives (λ hashed. hashed.route) result (route_in ipv4 Four attrs.now) }
     {
-        match PackedRoute::read(alloc, buffer, attrs, Width::Four) {
+        match PackedRoute::read::<u32>(alloc, buffer, attrs, Width::Four) {
             Ok(route) => Ok(HashedRoute::new(route)),
             Err(error) => Err(error),
         }

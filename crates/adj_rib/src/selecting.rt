@@ -1,7 +1,7 @@
 //! The laws of selections of keys.
 
 ghost use Rattle.std.specs.Prelude.{◌≡◌, [], Bool, List, None, false};
-ghost use Rattle.bgp_prefix.specs.declared.key.RouteKey.{RouteKey};
+ghost use Rattle.bgp_prefix.specs.Keys.{RouteKey};
 ghost use Rattle.mrt_body.specs.declared.choice.PrefixChoice.{PrefixChoice as Choice};
 ghost use Rattle.mrt_body.specs.declared.unit.Unit.{Unit as ReplayUnit};
 ghost use Rattle.mrt_body.specs.Selections.{concerns};

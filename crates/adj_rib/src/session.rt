@@ -20,13 +20,13 @@ use std::marker::Model;
 
 /// A peer's session with the collector, as far as its units have been taken.
 #[derive(Drop)]
-pub struct Session<M: PrefixMap<SharedRoute>> {
+pub struct Session<M: PrefixMap<SharedRoute, Addr = u32>> {
     rib: RibIn<M>,
     arrivals: Arrivals,
     spent: bool,
 }
 
-impl<M: PrefixMap<SharedRoute>> Model for Session<M> {
+impl<M: PrefixMap<SharedRoute, Addr = u32>> Model for Session<M> {
     ghost use Rattle.std.specs.FinMap as finite;
     ghost use Rattle.adj_rib.specs.Sessions.{SessionState};
 
@@ -43,7 +43,7 @@ impl<M: PrefixMap<SharedRoute>> Model for Session<M> {
     } };
 }
 
-impl<M: PrefixMap<SharedRoute>> Session<M> {
+impl<M: PrefixMap<SharedRoute, Addr = u32>> Session<M> {
     /// Returns the session of a peer without units, which is up and has no routes. Allocates nothing.
     pub fn new(alloc: Global) -> Session<M>
         ensures { StandsFor result [] }

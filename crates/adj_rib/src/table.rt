@@ -24,7 +24,7 @@ fn outcome_over(old: Option<SharedRoute>, route: &SharedRoute) -> Outcome
 }
 
 /// Puts the route into the table, and counts the effect.
-pub(crate) fn announce_route<M: PrefixMap<SharedRoute>>(
+pub(crate) fn announce_route<M: PrefixMap<SharedRoute, Addr = u32>>(
     alloc: Global,
     table: &mut M,
     churn: &mut Churn,
@@ -34,13 +34,13 @@ pub(crate) fn announce_route<M: PrefixMap<SharedRoute>>(
     ensures { OnOk result ((M.contents table.new, churn.new)
         ≡ applied (M.contents table.old, churn.old) (announce key route.now)) }
 {
-    let old = table.insert(alloc, key, route.share(alloc)?)?;
+    let old = table.insert(alloc, &key, route.share(alloc)?)?;
     churn.count(outcome_over(old, route));
     Ok(())
 }
 
 /// Removes a key from the table, and counts the effect.
-pub(crate) fn withdraw_key<M: PrefixMap<SharedRoute>>(
+pub(crate) fn withdraw_key<M: PrefixMap<SharedRoute, Addr = u32>>(
     table: &mut M,
     churn: &mut Churn,
     key: &RouteKey,

@@ -5,7 +5,7 @@ ghost use Rattle.std.specs.List.{fold, filter};
 ghost use Rattle.bgp_prefix.specs.Keys.{among};
 ghost use Rattle.bgp_update.specs.PackedUpdates.{plain_update};
 ghost use Rattle.bgp_update.specs.declared.route.Route.{Route};
-ghost use Rattle.bgp_update.specs.declared.route.Update.{Update};
+ghost use Rattle.bgp_update.specs.Updates.{Update};
 ghost use Rattle.adj_rib.specs.Steps.{announce, withdraw, announcements, reachings, update_steps};
 ghost use Rattle.adj_rib.specs.Applied.{applied};
 ghost use Rattle.adj_rib.specs.RouteSets.{IsAnnouncement};
@@ -19,7 +19,7 @@ use bgp_update::{PackedRoute, PackedUpdate};
 use std::alloc::Global;
 
 /// Withdraws the keys that are neither announced nor reached.
-fn withdraw_others<M: PrefixMap<SharedRoute>>(
+fn withdraw_others<M: PrefixMap<SharedRoute, Addr = u32>>(
     table: &mut M,
     churn: &mut Churn,
     withdrawn: &[RouteKey],
@@ -38,7 +38,7 @@ fn withdraw_others<M: PrefixMap<SharedRoute>>(
 }
 
 /// Announces each key with the route.
-fn announce_all<M: PrefixMap<SharedRoute>>(
+fn announce_all<M: PrefixMap<SharedRoute, Addr = u32>>(
     alloc: Global,
     table: &mut M,
     churn: &mut Churn,
@@ -55,7 +55,7 @@ fn announce_all<M: PrefixMap<SharedRoute>>(
 }
 
 /// Announces each key, if any, with the one route that they share.
-fn announce_hashed<M: PrefixMap<SharedRoute>>(
+fn announce_hashed<M: PrefixMap<SharedRoute, Addr = u32>>(
     alloc: Global,
     routes: &mut RouteSet,
     table: &mut M,
@@ -74,7 +74,7 @@ fn announce_hashed<M: PrefixMap<SharedRoute>>(
 }
 
 /// Announces each key, if any, with this route.
-fn announce_keys<M: PrefixMap<SharedRoute>>(
+fn announce_keys<M: PrefixMap<SharedRoute, Addr = u32>>(
     alloc: Global,
     routes: &mut RouteSet,
     table: &mut M,
@@ -92,7 +92,7 @@ fn announce_keys<M: PrefixMap<SharedRoute>>(
 
 /// Announces each key that MP_REACH_NLRI has with their route, which is there if there are keys.
 #[tactic(auto, using(crate::proofs::Reached::reached_by))]
-fn announce_reached<M: PrefixMap<SharedRoute>>(
+fn announce_reached<M: PrefixMap<SharedRoute, Addr = u32>>(
     alloc: Global,
     routes: &mut RouteSet,
     table: &mut M,
@@ -110,7 +110,7 @@ fn announce_reached<M: PrefixMap<SharedRoute>>(
 }
 
 /// Withdraws what an UPDATE withdraws but neither announces nor reaches.
-fn withdraw_update<M: PrefixMap<SharedRoute>>(
+fn withdraw_update<M: PrefixMap<SharedRoute, Addr = u32>>(
     alloc: Global,
     table: &mut M,
     churn: &mut Churn,
@@ -131,7 +131,7 @@ fn withdraw_update<M: PrefixMap<SharedRoute>>(
 }
 
 /// Announces what an UPDATE announces, and then what it reaches by MP_REACH_NLRI.
-fn announce_update<M: PrefixMap<SharedRoute>>(
+fn announce_update<M: PrefixMap<SharedRoute, Addr = u32>>(
     alloc: Global,
     routes: &mut RouteSet,
     table: &mut M,
@@ -157,7 +157,7 @@ fn announce_update<M: PrefixMap<SharedRoute>>(
 }
 
 /// Takes the steps of an UPDATE.
-pub(crate) fn apply_update<M: PrefixMap<SharedRoute>>(
+pub(crate) fn apply_update<M: PrefixMap<SharedRoute, Addr = u32>>(
     alloc: Global,
     routes: &mut RouteSet,
     table: &mut M,
@@ -180,7 +180,7 @@ pub(crate) fn apply_update<M: PrefixMap<SharedRoute>>(
 }
 
 /// Takes the steps of an UPDATE that announces these keys with this route, and does nothing else.
-pub(crate) fn apply_announcement<M: PrefixMap<SharedRoute>>(
+pub(crate) fn apply_announcement<M: PrefixMap<SharedRoute, Addr = u32>>(
     alloc: Global,
     routes: &mut RouteSet,
     table: &mut M,

@@ -42,14 +42,14 @@ fn kind_of_routing(up: bool) -> UnitKind
 
 /// A peer's Adj-RIB-In (RFC 4271, 3.2) as far as it is watched: its routes of chosen prefixes, and its damaged units.
 #[derive(Drop)]
-struct WatchedRib<M: PrefixMap<SharedRoute>> {
+struct WatchedRib<M: PrefixMap<SharedRoute, Addr = u32>> {
     up: bool,
     table: M,
     faults: Vec<Damage>,
     routes: RouteSet,
 }
 
-impl<M: PrefixMap<SharedRoute>> WatchedRib<M> {
+impl<M: PrefixMap<SharedRoute, Addr = u32>> WatchedRib<M> {
     ghost use Rattle.std.specs.Prelude.{◌≡◌, [], IfOk, Ok, OnOk, true};
     ghost use Rattle.std.specs.FinMap as finite;
     ghost use Rattle.bgp_update.specs.PackedUpdates.{plain_update};
@@ -202,12 +202,12 @@ impl<M: PrefixMap<SharedRoute>> WatchedRib<M> {
 /// what its units did, counted from a second on. It stands for the units that it took, with the choices and the second
 /// that it was passed each time.
 #[derive(Drop)]
-pub struct Watch<M: PrefixMap<SharedRoute>> {
+pub struct Watch<M: PrefixMap<SharedRoute, Addr = u32>> {
     rib: WatchedRib<M>,
     churn: Churn,
 }
 
-impl<M: PrefixMap<SharedRoute>> Model for Watch<M> {
+impl<M: PrefixMap<SharedRoute, Addr = u32>> Model for Watch<M> {
     ghost use Rattle.std.specs.FinMap as finite;
     ghost use Rattle.adj_rib.specs.Histories.{WatchState};
 
@@ -221,7 +221,7 @@ impl<M: PrefixMap<SharedRoute>> Model for Watch<M> {
     } };
 }
 
-impl<M: PrefixMap<SharedRoute>> Watch<M> {
+impl<M: PrefixMap<SharedRoute, Addr = u32>> Watch<M> {
     /// Returns the watch on a peer without units, which is up and has no routes. Allocates nothing.
     pub fn new(alloc: Global) -> Watch<M>
         ensures { (since : Option ℕ) (choices : List Choice) → WatchesFor since choices [] result }

@@ -12,7 +12,7 @@ use Rattle.std.proofs.lemmas.List.Elements.{All-cons, All-nil}
 use Rattle.bgp_prefix.specs.Prefixes.{IpPrefix, IsIpPrefix, network_of, leading_bits, Starts}
 use Rattle.bgp_prefix.specs.Keys.{key_cmp, Changes, is_nil}
 use Rattle.bgp_prefix.specs.Tries.{routes, IsTrie, IsUnder, IsRoot, IsRoutes, IsRoutesOf, IsForkOf, IsInserted, branch_of, is_empty}
-use Rattle.bgp_prefix.specs.declared.key.RouteKey.{RouteKey}
+use Rattle.bgp_prefix.specs.Keys.{RouteKey}
 use Rattle.bgp_prefix.specs.declared.radix.node.Branch.{Branch}
 use Rattle.bgp_prefix.specs.declared.radix.node.Branch.TheVariants.{Empty, Leaf, Fork, Fork'}
 use Rattle.bgp_prefix.specs.declared.radix.node.Fork.{Fork as ForkOf}
@@ -24,12 +24,12 @@ use Rattle.bgp_prefix.proofs.SortedMaps.{of_put}
 use Rattle.bgp_prefix.proofs.TrieLaws.{find_outside, IsFork, fork_routes, Changes_here, Changes_low, Changes_high}
 
 -- what an insert by a new fork leaves
-pub record IsForkInserted {V : Type 0} (old : Branch V) (f : ForkOf V) (key : RouteKey) (value : V) : Type 0 where
+pub record IsForkInserted {F V : Type 0} (old : Branch F V) (f : ForkOf F V) (key : RouteKey) (value : V) : Type 0 where
   pub fork : IsFork f
   pub changes : Changes (routes old) (fork_routes f) key (Some value)
   pub under : (len bits : ℕ) → IsUnder len bits old → Starts len bits key.prefix → Starts len bits f.prefix
 
-pub inserted_box : {V : Type 0} (old : Branch V) (key : RouteKey) (value : V) (f : ForkOf V) (box : Box (ForkOf V) Global) → box.value ≡ f → IsForkInserted old f key value → IsInserted old (Fork box) key value
+pub inserted_box : {F V : Type 0} (old : Branch F V) (key : RouteKey) (value : V) (f : ForkOf F V) (box : Box (ForkOf F V) Global) → box.value ≡ f → IsForkInserted old f key value → IsInserted old (Fork box) key value
 inserted_box old key value f box is done =
     let there : IsForkInserted old box.value key value = rw is done in
     record {
@@ -40,17 +40,17 @@ inserted_box old key value f box is done =
     }
 
 -- a branch lies where its root's prefix does
-pub root_under : {V : Type 0} (b : Branch V) (at : IpPrefix) (len bits : ℕ) → IsRoot at b → Starts len bits at → IsUnder len bits b
+pub root_under : {F V : Type 0} (b : Branch F V) (at : IpPrefix) (len bits : ℕ) → IsRoot at b → Starts len bits at → IsUnder len bits b
 root_under Empty at len bits root s = tt
 root_under (Leaf l) at len bits root s = absurd root
 root_under (Fork' p prefix low high here) at len bits root s = rw root s
 
-pub root_starts : {V : Type 0} (b : Branch V) (at : IpPrefix) (len bits : ℕ) → IsRoot at b → IsUnder len bits b → Starts len bits at
+pub root_starts : {F V : Type 0} (b : Branch F V) (at : IpPrefix) (len bits : ℕ) → IsRoot at b → IsUnder len bits b → Starts len bits at
 root_starts Empty at len bits root u = absurd root
 root_starts (Leaf l) at len bits root u = absurd root
 root_starts (Fork' p prefix low high here) at len bits root u = subst (Starts len bits) root u
 
-root_is : {V : Type 0} (b : Branch V) (at : IpPrefix) → IsRoot at b → is_empty b ≡ false
+root_is : {F V : Type 0} (b : Branch F V) (at : IpPrefix) → IsRoot at b → is_empty b ≡ false
 root_is Empty at root = absurd root
 root_is (Leaf l) at root = absurd root
 root_is (Fork' p prefix low high here) at root = refl
@@ -68,7 +68,7 @@ none_own p = record { sorted = tt; own = All-nil _ }
 alone_under : {V : Type 0} (key : RouteKey) (value : V) (len bits : ℕ) → Starts len bits key.prefix → All (λ (e : RouteKey × V). Starts len bits e.0.prefix) ((key, value) ∷ [])
 alone_under {V} key value len bits s = All-cons (λ (e : RouteKey × V). Starts len bits e.0.prefix) (key, value) [] s (All-nil _)
 
-pub inserted_alone : {V : Type 0} (key : RouteKey) (value : V) → IsIpPrefix key.prefix → IsInserted Empty (Leaf ((key, value) ∷ [])) key value
+pub inserted_alone : {F V : Type 0} (key : RouteKey) (value : V) → IsIpPrefix key.prefix → IsInserted {F = F} Empty (Leaf ((key, value) ∷ [])) key value
 inserted_alone key value known = record {
   trie = (alone_routes key value known, tt);
   changes = λ q. refl;
@@ -87,7 +87,7 @@ pub record IsSharedLen (p q : IpPrefix) (n : ℕ) : Type 0 where
   pub shared : leading_bits n p.addr ≡ leading_bits n q.addr
   pub longest : n < p.len → n < q.len → leading_bits (n + 1) p.addr ≢ leading_bits (n + 1) q.addr
 
-half : (a n : ℕ) → n < 32 → leading_bits (n + 1) a / 2 ≡ leading_bits n a
+half : (a n : ℕ) → n < 128 → leading_bits (n + 1) a / 2 ≡ leading_bits n a
 half a n h = ap (λ (k : ℕ). leading_bits (n + 1) a / 2 ^ k) (sym one) ∙ fewer_bits n (n + 1) a (omega arith) (omega arith)
   where
     one : n + 1 - n ≡ 1
@@ -96,7 +96,7 @@ half a n h = ap (λ (k : ℕ). leading_bits (n + 1) a / 2 ^ k) (sym one) ∙ few
 other_bit : (x y t r : ℕ) → x ≡ 2 * t + r → r < 2 → y / 2 ≡ t → x ≢ y → y ≡ 2 * t + (1 - r)
 other_bit x y t r e h half_y apart = omega (arith, e, half_y, apart)
 
-module _ {V : Type 0} (old : Branch V) (at : IpPrefix) (key : RouteKey) (value : V) (trie : IsTrie old) (root : IsRoot at old) (known_at : IsIpPrefix at) (known : IsIpPrefix key.prefix) (apart : Starts at.len (leading_bits at.len at.addr) key.prefix → ⊥) (n : ℕ) (shared : IsSharedLen at key.prefix n) where
+module _ {F V : Type 0} (old : Branch F V) (at : IpPrefix) (key : RouteKey) (value : V) (trie : IsTrie old) (root : IsRoot at old) (known_at : IsIpPrefix at) (known : IsIpPrefix key.prefix) (apart : Starts at.len (leading_bits at.len at.addr) key.prefix → ⊥) (n : ℕ) (shared : IsSharedLen at key.prefix n) where
   not_found : find key_cmp key (routes old) ≡ None
   not_found = find_outside old trie at.len (leading_bits at.len at.addr) (root_under old at at.len _ root (record { long = omega arith; shared = refl })) key apart
 
@@ -116,7 +116,7 @@ module _ {V : Type 0} (old : Branch V) (at : IpPrefix) (key : RouteKey) (value :
   root_low c same bit = subst (λ (t : ℕ). IsUnder (n + 1) t old) (add-zero (2 * leading_bits n c)) (root_half c 0 same bit)
 
   -- a fork at the key's prefix, over the old branch
-  pub inserted_above : key.prefix.len ≡ n → (is_high : Bool) → leading_bits (n + 1) at.addr ≡ 2 * leading_bits n at.addr + cond is_high 1 0 → let f : ForkOf V = record { prefix = key.prefix; low = Empty; high = Empty; here = (key, value) ∷ [] } in IsForkInserted old (cond is_high (record f { high = old }) (record f { low = old })) key value
+  pub inserted_above : key.prefix.len ≡ n → (is_high : Bool) → leading_bits (n + 1) at.addr ≡ 2 * leading_bits n at.addr + cond is_high 1 0 → let f : ForkOf F V = record { prefix = key.prefix; low = Empty; high = Empty; here = (key, value) ∷ [] } in IsForkInserted old (cond is_high (record f { high = old }) (record f { low = old })) key value
   inserted_above len true bit = record {
     fork = (known, omega (arith, len, shorter, known_at.short), alone_own key value key.prefix refl, tt, rw len (root_half key.prefix.addr 1 (sym shared.shared) bit), tt, trie, tt);
     changes = λ q. refl;
@@ -137,10 +137,10 @@ module _ {V : Type 0} (old : Branch V) (at : IpPrefix) (key : RouteKey) (value :
       ]
 
   -- a fork at the shared bits, over the old branch and a new leaf
-  pub inserted_between : (c : IpPrefix) → c ≡ record { addr = network_of at.addr n; len = n } → key.prefix.len ≢ n → (is_high : Bool) → leading_bits (n + 1) at.addr ≡ 2 * leading_bits n at.addr + cond is_high 1 0 → let f : ForkOf V = record { prefix = c; low = Empty; high = Empty; here = [] } in let g : ForkOf V = cond (not is_high) (record f { high = Leaf ((key, value) ∷ []) }) (record f { low = Leaf ((key, value) ∷ []) }) in IsForkInserted old (cond is_high (record g { high = old }) (record g { low = old })) key value
+  pub inserted_between : (c : IpPrefix) → c ≡ record { addr = network_of at.addr n; len = n } → key.prefix.len ≢ n → (is_high : Bool) → leading_bits (n + 1) at.addr ≡ 2 * leading_bits n at.addr + cond is_high 1 0 → let f : ForkOf F V = record { prefix = c; low = Empty; high = Empty; here = [] } in let g : ForkOf F V = cond (not is_high) (record f { high = Leaf ((key, value) ∷ []) }) (record f { low = Leaf ((key, value) ∷ []) }) in IsForkInserted old (cond is_high (record g { high = old }) (record g { low = old })) key value
   inserted_between c is longer is_high bit = rw is (between is_high bit)
     where
-      leaf : Branch V
+      leaf : Branch F V
       leaf = Leaf ((key, value) ∷ [])
 
       new : IsTrie leaf
@@ -176,7 +176,7 @@ module _ {V : Type 0} (old : Branch V) (at : IpPrefix) (key : RouteKey) (value :
       known_cut : IsIpPrefix cut
       known_cut = IsIpPrefix-network at.addr n known_at.fits (omega (arith, shorter, known_at.short))
 
-      between : (is_high : Bool) → leading_bits (n + 1) at.addr ≡ 2 * leading_bits n at.addr + cond is_high 1 0 → let f : ForkOf V = record { prefix = cut; low = Empty; high = Empty; here = [] } in let g : ForkOf V = cond (not is_high) (record f { high = leaf }) (record f { low = leaf }) in IsForkInserted old (cond is_high (record g { high = old }) (record g { low = old })) key value
+      between : (is_high : Bool) → leading_bits (n + 1) at.addr ≡ 2 * leading_bits n at.addr + cond is_high 1 0 → let f : ForkOf F V = record { prefix = cut; low = Empty; high = Empty; here = [] } in let g : ForkOf F V = cond (not is_high) (record f { high = leaf }) (record f { low = leaf }) in IsForkInserted old (cond is_high (record g { high = old }) (record g { low = old })) key value
       between true bit = record {
         fork = (known_cut, omega (arith, shorter, known_at.short), none_own cut, alone_under key value _ _ (key_low bit), root_half cut.addr 1 bits_of_cut bit, new, trie, rw root_held tt);
         changes = λ q. refl;
@@ -197,21 +197,21 @@ put_routes : {V : Type 0} (key : RouteKey) (value : V) (es : List (RouteKey × V
 put_routes key value es ok known = record { sorted = is_sorted-put key_cmp key_cmp_total key value es ok.sorted; known = of_put (λ k. IsIpPrefix k.prefix) key value es known ok.known }
 
 -- a branch of a list of routes
-branch_trie : {V : Type 0} (es : List (RouteKey × V)) → IsRoutes es → IsTrie (branch_of es)
-branch_trie [] ok = tt
-branch_trie (e ∷ es) ok = (ok, tt)
+branch_trie : (F : Type 0) {V : Type 0} (es : List (RouteKey × V)) → IsRoutes es → IsTrie {F = F} (branch_of es)
+branch_trie F [] ok = tt
+branch_trie F (e ∷ es) ok = (ok, tt)
 
-branch_routes : {V : Type 0} (es : List (RouteKey × V)) → routes (branch_of es) ≡ es
-branch_routes [] = refl
-branch_routes (e ∷ es) = refl
+branch_routes : (F : Type 0) {V : Type 0} (es : List (RouteKey × V)) → routes {F = F} (branch_of es) ≡ es
+branch_routes F [] = refl
+branch_routes F (e ∷ es) = refl
 
-branch_under : {V : Type 0} (es : List (RouteKey × V)) (len bits : ℕ) → All (λ e. Starts len bits e.0.prefix) es → IsUnder len bits (branch_of es)
-branch_under [] len bits h = tt
-branch_under (e ∷ es) len bits h = h
+branch_under : (F : Type 0) {V : Type 0} (es : List (RouteKey × V)) (len bits : ℕ) → All (λ e. Starts len bits e.0.prefix) es → IsUnder {F = F} len bits (branch_of es)
+branch_under F [] len bits h = tt
+branch_under F (e ∷ es) len bits h = h
 
-branch_held : {V : Type 0} (es : List (RouteKey × V)) → is_empty (branch_of es) ≡ is_nil es
-branch_held [] = refl
-branch_held (e ∷ es) = refl
+branch_held : (F : Type 0) {V : Type 0} (es : List (RouteKey × V)) → is_empty {F = F} (branch_of es) ≡ is_nil es
+branch_held F [] = refl
+branch_held F (e ∷ es) = refl
 
 routes_parts : {V : Type 0} (es fs : List (RouteKey × V)) → IsRoutes (es ++ fs) → IsRoutes es × IsRoutes fs
 routes_parts {V} es fs ok =
@@ -219,7 +219,7 @@ routes_parts {V} es fs ok =
     let known = All-parts (λ (e : RouteKey × V). IsIpPrefix e.0.prefix) es fs ok.known in
     (record { sorted = sorted.0; known = known.0 }, record { sorted = sorted.1; known = known.1 })
 
-module _ {V : Type 0} (es : List (RouteKey × V)) (f : ForkOf V) (ok : IsRoutes es) (of : IsForkOf es f) where
+module _ {F V : Type 0} (es : List (RouteKey × V)) (f : ForkOf F V) (ok : IsRoutes es) (of : IsForkOf es f) where
   all : f.here ++ (of.low ++ of.high) ≡ es
   all = of.split.all
 
@@ -236,15 +236,15 @@ module _ {V : Type 0} (es : List (RouteKey × V)) (f : ForkOf V) (ok : IsRoutes 
     of.split.known,
     of.split.short,
     record { sorted = in_parts.0.sorted; own = of.split.own },
-    rw of.low_is (branch_under of.low _ _ of.split.lower),
-    rw of.high_is (branch_under of.high _ _ of.split.higher),
-    rw of.low_is (branch_trie of.low in_parts.1),
-    rw of.high_is (branch_trie of.high in_parts.2),
-    rw (of.low_is, of.high_is, branch_held of.low, branch_held of.high) of.split.held,
+    rw of.low_is (branch_under F of.low _ _ of.split.lower),
+    rw of.high_is (branch_under F of.high _ _ of.split.higher),
+    rw of.low_is (branch_trie F of.low in_parts.1),
+    rw of.high_is (branch_trie F of.high in_parts.2),
+    rw (of.low_is, of.high_is, branch_held F of.low, branch_held F of.high) of.split.held,
   )
 
   pub same_routes : fork_routes f ≡ es
-  same_routes = rw (of.low_is, of.high_is, branch_routes of.low, branch_routes of.high) all
+  same_routes = rw (of.low_is, of.high_is, branch_routes F of.low, branch_routes F of.high) all
 
 -- a fork with one child more is useful where it was
 pub low_useful : (a b c : Bool) → T (a || (b && c)) → T (a || (true && c))
@@ -261,7 +261,7 @@ module _ {V : Type 0} (key : RouteKey) (value : V) where
   put_under : (es : List (RouteKey × V)) (len bits : ℕ) → All (λ e. Starts len bits e.0.prefix) es → Starts len bits key.prefix → All (λ e. Starts len bits e.0.prefix) (put key_cmp key value es)
   put_under es len bits u s = of_put (λ k. Starts len bits k.prefix) key value es s u
 
-  pub inserted_in_leaf : (old new : List (RouteKey × V)) → IsTrie (Leaf old) → IsIpPrefix key.prefix → new ≡ put key_cmp key value old → IsInserted (Leaf old) (Leaf new) key value
+  pub inserted_in_leaf : {F : Type 0} → (old new : List (RouteKey × V)) → IsTrie {F = F} (Leaf old) → IsIpPrefix key.prefix → new ≡ put key_cmp key value old → IsInserted {F = F} (Leaf old) (Leaf new) key value
   inserted_in_leaf old new trie known is = rw is (record {
     trie = (put_routes key value old trie.0 known, put_held key value old);
     changes = Changes-put old _ key value refl;
@@ -270,7 +270,7 @@ module _ {V : Type 0} (key : RouteKey) (value : V) where
   })
 
   -- a leaf that becomes a fork
-  pub inserted_split : (old new : List (RouteKey × V)) (box : Box (ForkOf V) Global) → IsTrie (Leaf old) → IsIpPrefix key.prefix → new ≡ put key_cmp key value old → IsForkOf new box.value → IsInserted (Leaf old) (Fork box) key value
+  pub inserted_split : {F : Type 0} → (old new : List (RouteKey × V)) (box : Box (ForkOf F V) Global) → IsTrie {F = F} (Leaf old) → IsIpPrefix key.prefix → new ≡ put key_cmp key value old → IsForkOf new box.value → IsInserted (Leaf old) (Fork box) key value
   inserted_split old new box trie known is of =
       let there : IsForkOf (put key_cmp key value old) box.value = rw is at of in
       let ok = put_routes key value old trie.0 known in
@@ -281,7 +281,7 @@ module _ {V : Type 0} (key : RouteKey) (value : V) where
         held = refl;
       }
 
-  pub inserted_in_fork : (old new : Box (ForkOf V) Global) → IsFork old.value → key.prefix ≡ old.value.prefix → new.value ≡ record old.value { here = put key_cmp key value old.value.here } → IsInserted (Fork old) (Fork new) key value
+  pub inserted_in_fork : {F : Type 0} → (old new : Box (ForkOf F V) Global) → IsFork old.value → key.prefix ≡ old.value.prefix → new.value ≡ record old.value { here = put key_cmp key value old.value.here } → IsInserted (Fork old) (Fork new) key value
   inserted_in_fork old new trie same is =
       let f = old.value in
       let here = put key_cmp key value f.here in
@@ -292,7 +292,7 @@ module _ {V : Type 0} (key : RouteKey) (value : V) where
         under = λ len bits u s. u;
       })
 
-  pub inserted_low : (old new : Box (ForkOf V) Global) (low : Branch V) → IsFork old.value → Starts (old.value.prefix.len + 1) (2 * leading_bits old.value.prefix.len old.value.prefix.addr) key.prefix → new.value ≡ record old.value { low = low } → IsInserted old.value.low low key value → IsInserted (Fork old) (Fork new) key value
+  pub inserted_low : {F : Type 0} → (old new : Box (ForkOf F V) Global) (low : Branch F V) → IsFork old.value → Starts (old.value.prefix.len + 1) (2 * leading_bits old.value.prefix.len old.value.prefix.addr) key.prefix → new.value ≡ record old.value { low = low } → IsInserted old.value.low low key value → IsInserted (Fork old) (Fork new) key value
   inserted_low old new low trie starts is done =
       let f = old.value in
       inserted_box (Fork old) key value _ new is (record {
@@ -301,7 +301,7 @@ module _ {V : Type 0} (key : RouteKey) (value : V) where
         under = λ len bits u s. u;
       })
 
-  pub inserted_high : (old new : Box (ForkOf V) Global) (high : Branch V) → IsFork old.value → Starts (old.value.prefix.len + 1) (2 * leading_bits old.value.prefix.len old.value.prefix.addr + 1) key.prefix → new.value ≡ record old.value { high = high } → IsInserted old.value.high high key value → IsInserted (Fork old) (Fork new) key value
+  pub inserted_high : {F : Type 0} → (old new : Box (ForkOf F V) Global) (high : Branch F V) → IsFork old.value → Starts (old.value.prefix.len + 1) (2 * leading_bits old.value.prefix.len old.value.prefix.addr + 1) key.prefix → new.value ≡ record old.value { high = high } → IsInserted old.value.high high key value → IsInserted (Fork old) (Fork new) key value
   inserted_high old new high trie starts is done =
       let f = old.value in
       inserted_box (Fork old) key value _ new is (record {

@@ -15,7 +15,7 @@ use Rattle.std.specs.FinMap.{is_sorted}
 use Rattle.bgp_prefix.specs.Prefixes.{IpPrefix, IsIpPrefix, leading_bits, network_of, block_size, contains, prefix_cmp, prefix_eq}
 use Rattle.bgp_prefix.specs.Keys.{key_cmp}
 use Rattle.bgp_prefix.specs.Maps.{IsLongestMatch, HasNoMatch}
-use Rattle.bgp_prefix.specs.declared.key.RouteKey.{RouteKey}
+use Rattle.bgp_prefix.specs.Keys.{RouteKey}
 use Rattle.bgp_prefix.proofs.Bits.{share_fewer, network_bits}
 use Rattle.bgp_prefix.proofs.KeyLaws.{same_prefix}
 use Rattle.bgp_prefix.proofs.NetworkLaws.{network, network_is, contains_network, longest_of, none_of, same_itself}
@@ -90,17 +90,18 @@ no_longer_than_shared addr shared q p known_q in_q up low parted = elim (cases_l
 ]
 
 -- no prefix that contains the address has more bits than the limit
-pub record IsLimit {V : Type 0} (es : List (RouteKey × V)) (addr limit : ℕ) : Type 0 where
+pub record IsLimit {V : Type 0} (w : ℕ) (es : List (RouteKey × V)) (addr limit : ℕ) : Type 0 where
   pub sorted : T (is_sorted key_cmp es)
   pub known : All (λ e. IsIpPrefix e.0.prefix) es
-  pub short : limit ≤ 32
+  pub short : limit ≤ w
+  pub narrow : w ≤ 128
   pub bound : All (λ e. contains e.0.prefix addr ≡ true → e.0.prefix.len ≤ limit) es
 
-pub IsLimit-start : {V : Type 0} (es : List (RouteKey × V)) (addr : ℕ) → T (is_sorted key_cmp es) → All (λ e. IsIpPrefix e.0.prefix) es → IsLimit es addr 32
-IsLimit-start es addr sorted known = record { sorted = sorted; known = known; short = omega arith; bound = λ k d lt in_k. (known k d lt).short }
+pub IsLimit-start : {V : Type 0} (w : ℕ) (es : List (RouteKey × V)) (addr : ℕ) → w ≤ 128 → T (is_sorted key_cmp es) → All (λ e. IsIpPrefix e.0.prefix) es → All (λ e. e.0.prefix.len ≤ w) es → IsLimit w es addr w
+IsLimit-start w es addr narrow sorted known short = record { sorted = sorted; known = known; short = omega arith; narrow = narrow; bound = λ k d lt in_k. short k d lt }
 
 -- what a search for the network of that many bits ends at
-module _ {V : Type 0} (es : List (RouteKey × V)) (addr limit count : ℕ) (is : IsLimit es addr limit) (inside : count ≤ length es) (end : IsPartitionPoint (λ e. is_le (prefix_cmp e.0.prefix (network addr limit)) ≡ true) (λ e. is_le (prefix_cmp e.0.prefix (network addr limit)) ≡ false) es count) where
+module _ {V : Type 0} {w : ℕ} (es : List (RouteKey × V)) (addr limit count : ℕ) (is : IsLimit w es addr limit) (inside : count ≤ length es) (end : IsPartitionPoint (λ e. is_le (prefix_cmp e.0.prefix (network addr limit)) ≡ true) (λ e. is_le (prefix_cmp e.0.prefix (network addr limit)) ≡ false) es count) where
   match_before : (k : ℕ) (d : RouteKey × V) → k < length es → contains (get_or es k d).0.prefix addr ≡ true → k < count
   match_before k d lt in_k = elim (cases_lt k count) [
     | inl less ↦ less
@@ -108,7 +109,7 @@ module _ {V : Type 0} (es : List (RouteKey × V)) (addr limit count : ℕ) (is :
         let p = (get_or es k d).0.prefix in
         let known = is.known k d lt in
         let len : p.len ≤ limit = is.bound k d lt in_k in
-        let bits : leading_bits p.len p.addr ≡ leading_bits p.len (network_of addr limit) = sym (eqb-true _ _ in_k) ∙ share_fewer p.len limit addr (network_of addr limit) len is.short (sym (network_bits addr limit)) in
+        let bits : leading_bits p.len p.addr ≡ leading_bits p.len (network_of addr limit) = sym (eqb-true _ _ in_k) ∙ share_fewer p.len limit addr (network_of addr limit) len (omega (arith, is.short, is.narrow)) (sym (network_bits addr limit)) in
         let up : IsUpTo p (network addr limit) = record { low = below_network p p.len (network_of addr limit) known (omega arith) known.short bits; short = λ same. len } in
         let yes = le_of p (network addr limit) up in
         let no = end.1 k d past lt in
@@ -147,7 +148,7 @@ module _ {V : Type 0} (es : List (RouteKey × V)) (addr limit count : ℕ) (is :
     match_found in_p =
         let whole : p ≡ network addr p.len = network_is addr p known_p in_p in
         let here : list_any (λ (e : RouteKey × V). prefix_eq (network addr p.len) e.0.prefix) es ≡ true = list_any_at (λ (e : RouteKey × V). prefix_eq (network addr p.len) e.0.prefix) es (count - 1) x last (ap (λ (q : IpPrefix). prefix_eq q (get_or es (count - 1) x).0.prefix) (sym (read_at x ∙ whole)) ∙ same_itself (get_or es (count - 1) x).0.prefix) in
-        let none : (m : ℕ) → p.len < m → m ≤ 32 → list_any (λ (e : RouteKey × V). prefix_eq (network addr m) e.0.prefix) es ≡ false = λ m longer short. has_none m (λ k d lt in_k len. absurd (omega (arith, longer, len, no_longer addr (get_or es k d).0.prefix p (is.known k d lt) known_p in_k in_p (up_to_p k d lt in_k)))) in
+        let none : (m : ℕ) → p.len < m → m ≤ 128 → list_any (λ (e : RouteKey × V). prefix_eq (network addr m) e.0.prefix) es ≡ false = λ m longer short. has_none m (λ k d lt in_k len. absurd (omega (arith, longer, len, no_longer addr (get_or es k d).0.prefix p (is.known k d lt) known_p in_k in_p (up_to_p k d lt in_k)))) in
         subst (IsLongestMatch (finite.from_entries {R = key_cmp} es) addr) (sym whole) (longest_of es addr p.len is.known here none)
 
     -- where that is no match, it shares fewer bits
@@ -155,7 +156,7 @@ module _ {V : Type 0} (es : List (RouteKey × V)) (addr limit count : ℕ) (is :
       under : IsUpTo p (network addr limit)
       under = subst (λ (q : IpPrefix). IsUpTo q (network addr limit)) (read_at x) (up_to_of (get_or es (count - 1) x).0.prefix (network addr limit) (end.0 (count - 1) x (omega arith) (omega (arith, some))))
 
-      fewer_than : (n : ℕ) → leading_bits n p.addr ≡ leading_bits n addr → n ≤ 32 → n < p.len
+      fewer_than : (n : ℕ) → leading_bits n p.addr ≡ leading_bits n addr → n ≤ 128 → n < p.len
       fewer_than n bits short = elim (cases_lt n p.len) [
         | inl less ↦ less
         | inr ge ↦
@@ -172,13 +173,14 @@ module _ {V : Type 0} (es : List (RouteKey × V)) (addr limit count : ℕ) (is :
             let at : network_of addr limit ≡ leading_bits limit p.addr * block_size limit = ap (λ (t : ℕ). t * block_size limit) (sym bits) in
             let le : network_of addr limit ≤ p.addr = omega (arith, at, div-mul-le_self p.addr (block_size limit)) in
             let whole : p.addr ≡ network_of addr limit = omega (arith, le, under.low) in
-            absurd (omega (arith, under.short whole, fewer_than limit bits is.short))
+            absurd (omega (arith, under.short whole, fewer_than limit bits (omega (arith, is.short, is.narrow))))
       ]
 
-      pub IsLimit-miss : IsLimit es addr shared
+      pub IsLimit-miss : IsLimit w es addr shared
       IsLimit-miss = record {
         sorted = is.sorted;
         known = is.known;
         short = omega (arith, falls, is.short);
+        narrow = is.narrow;
         bound = λ k d lt in_k. no_longer_than_shared addr shared (get_or es k d).0.prefix p (is.known k d lt) in_k (up_to_p k d lt in_k) (omega (arith, under.low, div-mul-le_self addr (block_size limit))) (parted (fewer_than shared same (omega (arith, in_p, known_p.short))));
       }

@@ -11,7 +11,7 @@ use Rattle.std.proofs.lemmas.Cmp.{on_total, then_total, nat_cmp_total}
 use Rattle.std.proofs.lemmas.Map.Lookups.{exact_pairs, exact_unsigned}
 use Rattle.bgp_prefix.specs.Prefixes.{IpPrefix, prefix_cmp, prefix_eq}
 use Rattle.bgp_prefix.specs.Keys.{key_cmp, Changes}
-use Rattle.bgp_prefix.specs.declared.key.RouteKey.{RouteKey}
+use Rattle.bgp_prefix.specs.Keys.{RouteKey}
 
 pub prefix_cmp_total : IsTotalOrder prefix_cmp
 prefix_cmp_total = then_total (on_total (λ (p : IpPrefix). p.addr) nat_cmp_total) (on_total (λ (p : IpPrefix). p.len) nat_cmp_total)

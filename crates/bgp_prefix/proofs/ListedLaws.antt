@@ -7,7 +7,7 @@ use Rattle.bgp_prefix.specs.Prefixes.{IpPrefix, leading_bits, prefix_eq, Starts}
 use Rattle.bgp_prefix.specs.Keys.{entries_now}
 use Rattle.bgp_prefix.specs.Maps.{paths_of}
 use Rattle.bgp_prefix.specs.Tries.{routes, IsTrie, IsUnder, IsRoutesOf}
-use Rattle.bgp_prefix.specs.declared.key.RouteKey.{RouteKey}
+use Rattle.bgp_prefix.specs.Keys.{RouteKey}
 use Rattle.bgp_prefix.specs.declared.radix.node.Branch.{Branch}
 use Rattle.bgp_prefix.specs.declared.radix.node.Fork.{Fork}
 use Rattle.bgp_prefix.proofs.KeyLaws.{same_prefix}
@@ -34,11 +34,11 @@ module _ {V : Type 0} (p : IpPrefix) where
   paths_of_other q es own other = paths_of-none es (AllKeys-weaker (λ k. k.prefix ≡ q) (λ k. prefix_eq p k.prefix ≡ false) es (λ k same. untied p k.prefix (λ e. other (e ∙ same))) (own_keys q es own))
 
   -- a prefix that does not start as the branch does has no routes in it
-  pub paths_outside : (b : Branch V) → IsTrie b → (len bits : ℕ) → IsUnder len bits b → (Starts len bits p → ⊥) → paths_of p (routes b) ≡ []
+  pub paths_outside : {F : Type 0} → (b : Branch F V) → IsTrie b → (len bits : ℕ) → IsUnder len bits b → (Starts len bits p → ⊥) → paths_of p (routes b) ≡ []
   paths_outside b ok len bits under out =
       paths_of-none (routes b) (AllKeys-weaker (λ k. Starts len bits k.prefix) (λ k. prefix_eq p k.prefix ≡ false) (routes b) (λ k s. untied p k.prefix (λ e. out (rw e s))) (keys_start b ok len bits under))
 
-  module _ (f : Fork V) (ok : IsFork f) where
+  module _ {F : Type 0} (f : Fork F V) (ok : IsFork f) where
     in_parts : paths_of p (fork_routes f) ≡ paths_of p f.here ++ (paths_of p (routes f.low) ++ paths_of p (routes f.high))
     in_parts = paths_of-append f.here (routes f.low ++ routes f.high) ∙ ap (λ t. paths_of p f.here ++ t) (paths_of-append (routes f.low) (routes f.high))
 

@@ -13,7 +13,7 @@ use Rattle.std.proofs.lemmas.Cmp.{tied_itself}
 use Rattle.bgp_prefix.specs.Prefixes.{IpPrefix, IsIpPrefix, leading_bits, contains, prefix_eq}
 use Rattle.bgp_prefix.specs.Keys.{key_cmp, last_match}
 use Rattle.bgp_prefix.specs.Maps.{IsLongestMatch, HasNoMatch}
-use Rattle.bgp_prefix.specs.declared.key.RouteKey.{RouteKey}
+use Rattle.bgp_prefix.specs.Keys.{RouteKey}
 use Rattle.bgp_prefix.proofs.Bits.{share_fewer}
 use Rattle.bgp_prefix.proofs.KeyLaws.{key_cmp_total, tied_same, same_prefix, other_prefix}
 use Rattle.bgp_prefix.proofs.MapLaws.{found}

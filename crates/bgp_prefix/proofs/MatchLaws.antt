@@ -10,7 +10,7 @@ use Rattle.std.proofs.Math.Seq.{drop-cons}
 use Rattle.bgp_prefix.specs.Prefixes.{IpPrefix, IsIpPrefix, leading_bits, contains, prefix_eq, Starts}
 use Rattle.bgp_prefix.specs.Keys.{is_nil, last_match, matching_prefixes, begins_with}
 use Rattle.bgp_prefix.specs.Tries.{routes, IsTrie, IsUnder}
-use Rattle.bgp_prefix.specs.declared.key.RouteKey.{RouteKey}
+use Rattle.bgp_prefix.specs.Keys.{RouteKey}
 use Rattle.bgp_prefix.specs.declared.radix.node.Branch.{Branch}
 use Rattle.bgp_prefix.specs.declared.radix.node.Branch.TheVariants.{Empty, Leaf, Fork'}
 use Rattle.bgp_prefix.specs.declared.radix.node.Fork.{Fork}
@@ -49,7 +49,7 @@ pub missed : (addr : ℕ) (p : IpPrefix) → contains p addr ≡ false → leadi
 missed addr p miss same = let clash : true ≡ false = sym (eq-eqb _ _ same) ∙ miss in cc
 
 module _ (addr : ℕ) where
-  not_contained : (p : IpPrefix) (len bits : ℕ) → p.len ≤ 32 → Starts len bits p → (leading_bits len addr ≡ bits → ⊥) → contains p addr ≡ false
+  not_contained : (p : IpPrefix) (len bits : ℕ) → p.len ≤ 128 → Starts len bits p → (leading_bits len addr ≡ bits → ⊥) → contains p addr ≡ false
   not_contained p len bits short s out = ne_eqb _ _ (λ same. out (share_fewer len p.len addr p.addr s.long short same ∙ s.shared))
 
 module _ {V : Type 0} (addr : ℕ) where
@@ -91,14 +91,14 @@ module _ {V : Type 0} (addr : ℕ) where
       omega (arith, none, rest)
 
   -- no prefix of a branch contains an address that does not start as the branch does
-  pub no_match : (b : Branch V) → IsTrie b → (len bits : ℕ) → IsUnder len bits b → (leading_bits len addr ≡ bits → ⊥) → (last_match (routes b) addr ≡ None) × (matching_prefixes (routes b) addr ≡ 0)
+  pub no_match : {F : Type 0} → (b : Branch F V) → IsTrie b → (len bits : ℕ) → IsUnder len bits b → (leading_bits len addr ≡ bits → ⊥) → (last_match (routes b) addr ≡ None) × (matching_prefixes (routes b) addr ≡ 0)
   no_match b ok len bits under out =
       let known = keys_known b ok in
       let start = keys_start b ok len bits under in
       no_match_list (routes b) (AllKeys-both (λ k. IsIpPrefix k.prefix) (λ k. Starts len bits k.prefix) (λ k. contains k.prefix addr ≡ false) (routes b) (λ k is s. not_contained addr k.prefix len bits is.short s out) known start)
 
   -- the match in a fork that contains the address is that in the branch of its next bit, or else the fork's own
-  module _ (f : Fork V) (ok : IsFork f) (in_f : contains f.prefix addr ≡ true) where
+  module _ {F : Type 0} (f : Fork F V) (ok : IsFork f) (in_f : contains f.prefix addr ≡ true) where
     shared : leading_bits f.prefix.len addr ≡ leading_bits f.prefix.len f.prefix.addr
     shared = eqb-true _ _ in_f
 
@@ -123,16 +123,16 @@ module _ {V : Type 0} (addr : ℕ) where
         (last_match-append f.here (routes f.low ++ routes f.high) ∙ ap (λ o. option_or o (last_match f.here addr)) (last_match-append (routes f.low) (routes f.high) ∙ ap (λ o. option_or o (last_match (routes f.low) addr)) high.0) ∙ ap (option_or (last_match (routes f.low) addr)) own_match, omega (arith, la, lb, high.1, own_count))
 
     -- and the search goes on in that branch
-    pub match_child : (is_high : Bool) → leading_bits (f.prefix.len + 1) addr ≡ 2 * leading_bits f.prefix.len addr + cond is_high 1 0 → let child : Branch V = cond is_high f.high f.low in (last_match (fork_routes f) addr ≡ option_or (last_match (routes child) addr) (cond (is_nil f.here) None (Some f.prefix))) × (matching_prefixes (fork_routes f) addr ≤ matching_prefixes (routes child) addr + 1) × IsTrie child × ((bits : ℕ) × IsUnder (f.prefix.len + 1) bits child)
+    pub match_child : (is_high : Bool) → leading_bits (f.prefix.len + 1) addr ≡ 2 * leading_bits f.prefix.len addr + cond is_high 1 0 → let child : Branch F V = cond is_high f.high f.low in (last_match (fork_routes f) addr ≡ option_or (last_match (routes child) addr) (cond (is_nil f.here) None (Some f.prefix))) × (matching_prefixes (fork_routes f) addr ≤ matching_prefixes (routes child) addr + 1) × IsTrie child × ((bits : ℕ) × IsUnder (f.prefix.len + 1) bits child)
     match_child true bit = let both = match_high bit in (both.0, both.1, ok.6, (2 * leading_bits f.prefix.len f.prefix.addr + 1, ok.4))
     match_child false bit = let both = match_low bit in (both.0, both.1, ok.5, (2 * leading_bits f.prefix.len f.prefix.addr, ok.3))
 
 -- and so it does in a fork that has no routes of its own
-module _ {V : Type 0} (addr : ℕ) (f : Fork V) (ok : IsFork f) where
+module _ {F V : Type 0} (addr : ℕ) (f : Fork F V) (ok : IsFork f) where
   outer : contains f.prefix addr ≡ false → (r : ℕ) → r < 2 → leading_bits (f.prefix.len + 1) addr ≡ 2 * leading_bits f.prefix.len f.prefix.addr + r → ⊥
-  outer out r h e = missed addr f.prefix out ((starts_as_parent f.prefix.len (leading_bits f.prefix.len f.prefix.addr) f.prefix (record { addr = addr; len = 32 }) r ok.1 (starts_itself f.prefix) h (record { long = omega (arith, ok.1); shared = e })).shared)
+  outer out r h e = missed addr f.prefix out ((starts_as_parent f.prefix.len (leading_bits f.prefix.len f.prefix.addr) f.prefix (record { addr = addr; len = 128 }) r ok.1 (starts_itself f.prefix) h (record { long = omega (arith, ok.1); shared = e })).shared)
 
-  abbrev IsMatchOf : Branch V → Type 0
+  abbrev IsMatchOf : Branch F V → Type 0
   IsMatchOf b = last_match (fork_routes f) addr ≡ option_or (last_match (routes b) addr) (cond (is_nil f.here) None (Some f.prefix))
 
   missed_by_all : contains f.prefix addr ≡ false → is_nil f.here ≡ true → (is_high : Bool) → IsMatchOf (cond is_high f.high f.low)
@@ -150,7 +150,7 @@ module _ {V : Type 0} (addr : ℕ) (f : Fork V) (ok : IsFork f) where
       elim is_high as (λ b. last_match (routes (cond b f.high f.low)) addr ≡ None) [ true ↦ high | false ↦ low ]
 
   -- a match in the branch of the next bit is the fork's, whether the fork's prefix contains the address or not
-  pub match_up : (is_high : Bool) → leading_bits (f.prefix.len + 1) addr ≡ 2 * leading_bits f.prefix.len addr + cond is_high 1 0 → let child : Branch V = cond is_high f.high f.low in ((p : IpPrefix) → last_match (routes child) addr ≡ Some p → last_match (fork_routes f) addr ≡ Some p) × IsTrie child
+  pub match_up : (is_high : Bool) → leading_bits (f.prefix.len + 1) addr ≡ 2 * leading_bits f.prefix.len addr + cond is_high 1 0 → let child : Branch F V = cond is_high f.high f.low in ((p : IpPrefix) → last_match (routes child) addr ≡ Some p → last_match (fork_routes f) addr ≡ Some p) × IsTrie child
   match_up is_high bit = (
     λ p is. elim (contains f.prefix addr) as (λ b. contains f.prefix addr ≡ b → last_match (fork_routes f) addr ≡ Some p) [
       | true ↦ λ in_f. (match_child addr f ok in_f is_high bit).0 ∙ ap (λ o. option_or o (cond (is_nil f.here) None (Some f.prefix))) is
@@ -159,7 +159,7 @@ module _ {V : Type 0} (addr : ℕ) (f : Fork V) (ok : IsFork f) where
     elim is_high as (λ b. IsTrie (cond b f.high f.low)) [ true ↦ ok.6 | false ↦ ok.5 ],
   )
 
-  pub match_below : (is_high : Bool) → leading_bits (f.prefix.len + 1) addr ≡ 2 * leading_bits f.prefix.len addr + cond is_high 1 0 → (is_nil f.here ≡ true) ⊎ (contains f.prefix addr ≡ true) → let child : Branch V = cond is_high f.high f.low in IsMatchOf child × IsTrie child
+  pub match_below : (is_high : Bool) → leading_bits (f.prefix.len + 1) addr ≡ 2 * leading_bits f.prefix.len addr + cond is_high 1 0 → (is_nil f.here ≡ true) ⊎ (contains f.prefix addr ≡ true) → let child : Branch F V = cond is_high f.high f.low in IsMatchOf child × IsTrie child
   match_below is_high bit (inr in_f) = let m = match_child addr f ok in_f is_high bit in (m.0, m.2)
   match_below is_high bit (inl none) = (
     elim (contains f.prefix addr) as (λ b. contains f.prefix addr ≡ b → IsMatchOf (cond is_high f.high f.low)) [ true ↦ λ in_f. (match_child addr f ok in_f is_high bit).0 | false ↦ λ out. missed_by_all out none is_high ] refl,
@@ -182,9 +182,9 @@ longer {V} len bits es h = All-weaker (λ (e : RouteKey × V). Starts len bits e
 
 -- each branch lies under no bits at all
 no_bits : (p : IpPrefix) → IsIpPrefix p → Starts 0 0 p
-no_bits p known = record { long = omega arith; shared = let none : p.addr / 2 ^ 32 < 1 = div_below p.addr (2 ^ 32) 1 (omega arith) (omega (arith, known.fits)) in omega (arith, none) }
+no_bits p known = record { long = omega arith; shared = let none : p.addr / 2 ^ 128 < 1 = div_below p.addr (2 ^ 128) 1 (omega arith) (omega (arith, known.fits)) in omega (arith, none) }
 
-pub under_none : {V : Type 0} (b : Branch V) → IsTrie b → IsUnder 0 0 b
+pub under_none : {F V : Type 0} (b : Branch F V) → IsTrie b → IsUnder 0 0 b
 under_none Empty ok = tt
 under_none {V} (Leaf l) ok = All-weaker (λ (e : RouteKey × V). IsIpPrefix e.0.prefix) (λ (e : RouteKey × V). Starts 0 0 e.0.prefix) (λ e is. no_bits e.0.prefix is) l ok.0.known
 under_none (Fork' p prefix low high here) ok = no_bits prefix ok.0

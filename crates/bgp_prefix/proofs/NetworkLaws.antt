@@ -9,7 +9,7 @@ use Rattle.std.specs.FinMap.{find}
 use Rattle.bgp_prefix.specs.Prefixes.{IpPrefix, IsIpPrefix, network_of, leading_bits, block_size, contains, prefix_eq}
 use Rattle.bgp_prefix.specs.Keys.{key_cmp}
 use Rattle.bgp_prefix.specs.Maps.{IsLongestMatch, HasNoMatch}
-use Rattle.bgp_prefix.specs.declared.key.RouteKey.{RouteKey}
+use Rattle.bgp_prefix.specs.Keys.{RouteKey}
 use Rattle.bgp_prefix.proofs.Bits.{network_bits}
 use Rattle.bgp_prefix.proofs.MapLaws.{found}
 use Rattle.bgp_prefix.proofs.SortedMaps.{of_found, found_of_any}
@@ -46,13 +46,13 @@ module _ {V : Type 0} (es : List (RouteKey × V)) (addr : ℕ) where
   holds k = ap is_some (found es k)
 
   -- a key that contains the address has the network of its length
-  has_network : (k : RouteKey) → All (λ e. IsIpPrefix e.0.prefix) es → is_some (find key_cmp k es) ≡ true → contains k.prefix addr ≡ true → (k.prefix.len ≤ 32) × (has k.prefix.len ≡ true)
+  has_network : (k : RouteKey) → All (λ e. IsIpPrefix e.0.prefix) es → is_some (find key_cmp k es) ≡ true → contains k.prefix addr ≡ true → (k.prefix.len ≤ 128) × (has k.prefix.len ≡ true)
   has_network k known some within =
       let is = of_found (λ q. IsIpPrefix q.prefix) es k known some in
       let listed : list_any (λ (e : RouteKey × V). prefix_eq k.prefix e.0.prefix) es ≡ true = of_found (λ q. list_any (λ (e : RouteKey × V). prefix_eq q.prefix e.0.prefix) es ≡ true) es k (λ i d lt. list_any_at (λ (e : RouteKey × V). prefix_eq (get_or es i d).0.prefix e.0.prefix) es i d lt (same_itself (get_or es i d).0.prefix)) some in
       (is.short, subst (λ (p : IpPrefix). list_any (λ (e : RouteKey × V). prefix_eq p e.0.prefix) es ≡ true) (network_is addr k.prefix is within) listed)
 
-  pub longest_of : (n : ℕ) → All (λ e. IsIpPrefix e.0.prefix) es → has n ≡ true → ((m : ℕ) → n < m → m ≤ 32 → has m ≡ false) → IsLongestMatch (finite.from_entries {R = key_cmp} es) addr (network addr n)
+  pub longest_of : (n : ℕ) → All (λ e. IsIpPrefix e.0.prefix) es → has n ≡ true → ((m : ℕ) → n < m → m ≤ 128 → has m ≡ false) → IsLongestMatch (finite.from_entries {R = key_cmp} es) addr (network addr n)
   longest_of n known here none =
       let key = found_of_any (network addr n) es here in
       record {
@@ -67,7 +67,7 @@ module _ {V : Type 0} (es : List (RouteKey × V)) (addr : ℕ) where
             ];
       }
 
-  pub none_of : All (λ e. IsIpPrefix e.0.prefix) es → ((m : ℕ) → m ≤ 32 → has m ≡ false) → HasNoMatch (finite.from_entries {R = key_cmp} es) addr
+  pub none_of : All (λ e. IsIpPrefix e.0.prefix) es → ((m : ℕ) → m ≤ 128 → has m ≡ false) → HasNoMatch (finite.from_entries {R = key_cmp} es) addr
   none_of known none k held within =
       let has_it = has_network k known (sym (holds k) ∙ held) within in
       let no = none k.prefix.len has_it.0 in

@@ -13,7 +13,7 @@ use Rattle.std.proofs.Math.Nat.{div-mul-le_self}
 use Rattle.bgp_prefix.specs.Prefixes.{IpPrefix, IsIpPrefix, leading_bits, block_size, Starts}
 use Rattle.bgp_prefix.specs.Keys.{key_cmp}
 use Rattle.bgp_prefix.specs.Tries.{routes, IsTrie, IsUnder, IsRoutesOf}
-use Rattle.bgp_prefix.specs.declared.key.RouteKey.{RouteKey}
+use Rattle.bgp_prefix.specs.Keys.{RouteKey}
 use Rattle.bgp_prefix.specs.declared.radix.node.Branch.{Branch}
 use Rattle.bgp_prefix.specs.declared.radix.node.Branch.TheVariants.{Empty, Leaf, Fork'}
 use Rattle.bgp_prefix.proofs.TrieLaws.{starts_as_parent}
@@ -62,7 +62,7 @@ addr_rises : (n a b : ℕ) → leading_bits n a < leading_bits n b → a < b
 addr_rises n a b h = elim (cases_lt a b) [
   | inl lt ↦ lt
   | inr ge ↦
-      let some : 0 < block_size n = pow_pos (32 - n) in
+      let some : 0 < block_size n = pow_pos (128 - n) in
       let low : leading_bits n b * block_size n ≤ a = omega (arith, div-mul-le_self b (block_size n), ge) in
       let le : leading_bits n b ≤ leading_bits n a = le-div (leading_bits n b) a (block_size n) some low in
       absurd (omega (arith, h, le))
@@ -112,7 +112,7 @@ module _ {V : Type 0} where
   sorted_parts [] fs h = (tt, h)
   sorted_parts (e ∷ es) fs h = let rest = sorted_parts es fs (second _ _ h) in (both _ _ (below_parts e.0 es fs (first _ _ h)) rest.0, rest.1)
 
-  pub keys_start : (b : Branch V) → IsTrie b → (len bits : ℕ) → IsUnder len bits b → AllKeys (λ k. Starts len bits k.prefix) (routes b)
+  pub keys_start : {F : Type 0} → (b : Branch F V) → IsTrie b → (len bits : ℕ) → IsUnder len bits b → AllKeys (λ k. Starts len bits k.prefix) (routes b)
   keys_start Empty ok len bits under = tt
   keys_start (Leaf l) ok len bits under = AllKeys-from_all (λ k. Starts len bits k.prefix) l under
   keys_start (Fork' p prefix low high here) ok len bits under =
@@ -125,7 +125,7 @@ module _ {V : Type 0} where
       (AllKeys-weaker (λ k. Starts (prefix.len + 1) (2 * leading_bits prefix.len prefix.addr) k.prefix) P (routes low) (λ k s. starts_as_parent len bits prefix k.prefix 0 ok.1 under (omega arith) (record { long = s.long; shared = s.shared ∙ sym (add-zero _) })) a)
       (AllKeys-weaker (λ k. Starts (prefix.len + 1) (2 * leading_bits prefix.len prefix.addr + 1) k.prefix) P (routes high) (λ k s. starts_as_parent len bits prefix k.prefix 1 ok.1 under (omega arith) s) b))
 
-  pub keys_known : (b : Branch V) → IsTrie b → AllKeys (λ k. IsIpPrefix k.prefix) (routes b)
+  pub keys_known : {F : Type 0} → (b : Branch F V) → IsTrie b → AllKeys (λ k. IsIpPrefix k.prefix) (routes b)
   keys_known Empty ok = tt
   keys_known (Leaf l) ok = AllKeys-from_all (λ k. IsIpPrefix k.prefix) l ok.0.known
   keys_known (Fork' p prefix low high here) ok =
@@ -133,7 +133,7 @@ module _ {V : Type 0} where
       AllKeys-append P here (routes low ++ routes high) (AllKeys-weaker (λ k. k.prefix ≡ prefix) P here (λ k same. rw same ok.0) (own_keys prefix here ok.2)) (AllKeys-append P (routes low) (routes high) (keys_known low ok.5) (keys_known high ok.6))
 
   -- a fork's own keys are below those of a branch of it
-  own_below : (p : IpPrefix) (r : ℕ) (k : RouteKey) (b : Branch V) → IsIpPrefix p → p.len < 32 → r < 2 → k.prefix ≡ p → IsTrie b → IsUnder (p.len + 1) (2 * leading_bits p.len p.addr + r) b → AllKeys (λ j. key_cmp k j ≡ Less) (routes b)
+  own_below : {F : Type 0} → (p : IpPrefix) (r : ℕ) (k : RouteKey) (b : Branch F V) → IsIpPrefix p → p.len < 128 → r < 2 → k.prefix ≡ p → IsTrie b → IsUnder (p.len + 1) (2 * leading_bits p.len p.addr + r) b → AllKeys (λ j. key_cmp k j ≡ Less) (routes b)
   own_below p r k b known short h same ok under =
       AllKeys-weaker (λ j. Starts (p.len + 1) (2 * leading_bits p.len p.addr + r) j.prefix) (λ j. key_cmp k j ≡ Less) (routes b)
       (λ j s.
@@ -143,14 +143,14 @@ module _ {V : Type 0} where
       less_by_len k j (rw same le) (rw same lt))
       (keys_start b ok (p.len + 1) (2 * leading_bits p.len p.addr + r) under)
 
-  low_below : (n t : ℕ) (low high : Branch V) → IsTrie low → IsTrie high → IsUnder n t low → IsUnder n (t + 1) high → AllKeys (λ k. AllKeys (λ j. key_cmp k j ≡ Less) (routes high)) (routes low)
+  low_below : {F : Type 0} → (n t : ℕ) (low high : Branch F V) → IsTrie low → IsTrie high → IsUnder n t low → IsUnder n (t + 1) high → AllKeys (λ k. AllKeys (λ j. key_cmp k j ≡ Less) (routes high)) (routes low)
   low_below n t low high a b u v =
       AllKeys-weaker (λ k. Starts n t k.prefix) (λ k. AllKeys (λ j. key_cmp k j ≡ Less) (routes high)) (routes low)
       (λ k s. AllKeys-weaker (λ j. Starts n (t + 1) j.prefix) (λ j. key_cmp k j ≡ Less) (routes high) (λ j w. less_by_addr k j (addr_rises n k.prefix.addr j.prefix.addr (omega (arith, s.shared, w.shared)))) (keys_start high b n (t + 1) v))
       (keys_start low a n t u)
 
   -- the keys of a branch rise
-  pub routes_sorted : (b : Branch V) → IsTrie b → T (is_sorted key_cmp (routes b))
+  pub routes_sorted : {F : Type 0} → (b : Branch F V) → IsTrie b → T (is_sorted key_cmp (routes b))
   routes_sorted Empty ok = tt
   routes_sorted (Leaf l) ok = ok.0.sorted
   routes_sorted (Fork' p prefix low high here) ok =

@@ -10,7 +10,7 @@ use Rattle.std.proofs.lemmas.List.Elements.{All-weaker, All-filter}
 use Rattle.bgp_prefix.specs.Prefixes.{IpPrefix, IsIpPrefix, leading_bits, Starts}
 use Rattle.bgp_prefix.specs.Keys.{key_cmp, Changes, is_nil}
 use Rattle.bgp_prefix.specs.Tries.{routes, IsTrie, IsUnder, IsRoutes, IsRoutesOf, IsUnpruned, IsRemoved, is_empty, is_redundant, only_child}
-use Rattle.bgp_prefix.specs.declared.key.RouteKey.{RouteKey}
+use Rattle.bgp_prefix.specs.Keys.{RouteKey}
 use Rattle.bgp_prefix.specs.declared.radix.node.Branch.{Branch}
 use Rattle.bgp_prefix.specs.declared.radix.node.Branch.TheVariants.{Empty, Leaf, Fork, Fork'}
 use Rattle.bgp_prefix.specs.declared.radix.node.Fork.{Fork as ForkOf}
@@ -20,13 +20,13 @@ use Rattle.bgp_prefix.proofs.TrieLaws.{IsFork, fork_routes, no_branch, starts_as
 use Rattle.bgp_prefix.proofs.InsertLaws.{or_first, low_useful, high_useful}
 
 -- a child lies where its parent does
-pub child_under : {V : Type 0} (b : Branch V) (p : IpPrefix) (r len bits : ℕ) → p.len < 32 → r < 2 → IsUnder (p.len + 1) (2 * leading_bits p.len p.addr + r) b → Starts len bits p → IsUnder len bits b
+pub child_under : {F V : Type 0} (b : Branch F V) (p : IpPrefix) (r len bits : ℕ) → p.len < 128 → r < 2 → IsUnder (p.len + 1) (2 * leading_bits p.len p.addr + r) b → Starts len bits p → IsUnder len bits b
 child_under Empty p r len bits short h u s = tt
 child_under {V} (Leaf l) p r len bits short h u s = All-weaker (λ (e : RouteKey × V). Starts (p.len + 1) (2 * leading_bits p.len p.addr + r) e.0.prefix) (λ (e : RouteKey × V). Starts len bits e.0.prefix) (λ e t. starts_as_parent len bits p e.0.prefix r short s h t) l u
 child_under (Fork' q prefix low high here) p r len bits short h u s = starts_as_parent len bits p prefix r short s h u
 
 -- a root pruned after a change of a part
-pub removed_by_prune : {V : Type 0} (old new : Branch V) (key : RouteKey) (left : List (RouteKey × V)) → Changes (routes old) left key None → IsTrie new → routes new ≡ left → ((len bits : ℕ) → IsUnder len bits old → IsUnder len bits new) → IsRemoved old new key
+pub removed_by_prune : {F V : Type 0} (old new : Branch F V) (key : RouteKey) (left : List (RouteKey × V)) → Changes (routes old) left key None → IsTrie new → routes new ≡ left → ((len bits : ℕ) → IsUnder len bits old → IsUnder len bits new) → IsRemoved old new key
 removed_by_prune old new key left changes trie same under = record { trie = trie; changes = rw same changes; under = under }
 
 unchanged_by : {V : Type 0} (b : Bool) (o : Option V) → (b ≡ true → o ≡ None) → o ≡ cond b None o
@@ -38,7 +38,7 @@ twice true v o none = sym (none refl)
 twice false v o none = refl
 
 -- a key that is not there
-pub nothing_removed : {V : Type 0} (b : Branch V) (key : RouteKey) → IsTrie b → find key_cmp key (routes b) ≡ None → IsRemoved b b key
+pub nothing_removed : {F V : Type 0} (b : Branch F V) (key : RouteKey) → IsTrie b → find key_cmp key (routes b) ≡ None → IsRemoved b b key
 nothing_removed b key trie none = record {
   trie = trie;
   changes = λ q. unchanged_by (eq_by_cmp key_cmp q key) (find key_cmp q (routes b)) (λ t. rw (tied_same q key t) none);
@@ -68,7 +68,7 @@ module _ {V : Type 0} (key : RouteKey) where
   pub without_changes : (es : List (RouteKey × V)) → Changes es (without key es) key None
   without_changes es = Changes-without es _ key refl
 
-  pub removed_here : (f : ForkOf V) → IsFork f → key.prefix ≡ f.prefix → Changes (fork_routes f) (without key f.here ++ (routes f.low ++ routes f.high)) key None
+  pub removed_here : {F : Type 0} → (f : ForkOf F V) → IsFork f → key.prefix ≡ f.prefix → Changes (fork_routes f) (without key f.here ++ (routes f.low ++ routes f.high)) key None
   removed_here f trie same = Changes_here f trie key (without key f.here) None same (without_changes f.here)
 
   -- a key that is put where it was not, and removed again
@@ -89,7 +89,7 @@ held true e = cc
 held false e = tt
 
 -- a root that is not redundant
-pub kept_root_trie : {V : Type 0} (b : Branch V) → IsUnpruned b → is_redundant b ≡ false → IsTrie b
+pub kept_root_trie : {F V : Type 0} (b : Branch F V) → IsUnpruned b → is_redundant b ≡ false → IsTrie b
 kept_root_trie Empty ok e = tt
 kept_root_trie (Leaf l) ok e = (ok, held (is_nil l) e)
 kept_root_trie (Fork' p prefix low high here) ok e = (ok.0, ok.1, ok.2, ok.3, ok.4, ok.5, ok.6, busy (is_nil here) (is_empty low) (is_empty high) e)
@@ -98,12 +98,12 @@ no_routes : {V : Type 0} (es : List (RouteKey × V)) → is_nil es ≡ true → 
 no_routes [] e = refl
 no_routes (x ∷ xs) e = cc
 
-pub only_child_trie : {V : Type 0} (b : Branch V) → IsUnpruned b → IsTrie (only_child b)
+pub only_child_trie : {F V : Type 0} (b : Branch F V) → IsUnpruned b → IsTrie (only_child b)
 only_child_trie Empty ok = tt
 only_child_trie (Leaf l) ok = tt
 only_child_trie (Fork' p prefix low high here) ok = elim (is_empty low) as (λ b. IsTrie (if b then high else low)) [ true ↦ ok.6 | false ↦ ok.5 ]
 
-pub only_child_under : {V : Type 0} (b : Branch V) → IsUnpruned b → (len bits : ℕ) → IsUnder len bits b → IsUnder len bits (only_child b)
+pub only_child_under : {F V : Type 0} (b : Branch F V) → IsUnpruned b → (len bits : ℕ) → IsUnder len bits b → IsUnder len bits (only_child b)
 only_child_under Empty ok len bits u = tt
 only_child_under (Leaf l) ok len bits u = tt
 only_child_under (Fork' p prefix low high here) ok len bits u =
@@ -124,7 +124,7 @@ other_true : (a b : Bool) → a ≡ false → (a || b) ≡ true → b ≡ true
 other_true true b n e = cc
 other_true false b n e = e
 
-pub only_child_routes : {V : Type 0} (b : Branch V) → is_redundant b ≡ true → routes (only_child b) ≡ routes b
+pub only_child_routes : {F V : Type 0} (b : Branch F V) → is_redundant b ≡ true → routes (only_child b) ≡ routes b
 only_child_routes Empty e = refl
 only_child_routes (Leaf l) e = sym (no_routes l e)
 only_child_routes (Fork' p prefix low high here) e =
@@ -137,7 +137,7 @@ only_child_routes (Fork' p prefix low high here) e =
 
 module _ {V : Type 0} (key : RouteKey) where
   -- what is left, where it is something
-  pub kept_leaf : (l new : List (RouteKey × V)) → IsTrie (Leaf l) → new ≡ without key l → is_nil new ≡ false → IsRemoved (Leaf l) (Leaf new) key
+  pub kept_leaf : {F : Type 0} → (l new : List (RouteKey × V)) → IsTrie {F = F} (Leaf l) → new ≡ without key l → is_nil new ≡ false → IsRemoved {F = F} (Leaf l) (Leaf new) key
   kept_leaf l new trie is some =
       let routes : IsRoutes new = rw is (routes_without key l trie.0) in
       record {
@@ -146,26 +146,26 @@ module _ {V : Type 0} (key : RouteKey) where
         under = λ len bits u. rw is (under_without key l len bits u);
       }
 
-  kept_box : (old box : Box (ForkOf V) Global) (f : ForkOf V) → box.value ≡ f → old.value.prefix ≡ f.prefix → IsFork f → Changes (fork_routes old.value) (fork_routes f) key None → IsRemoved (Fork old) (Fork box) key
+  kept_box : {F : Type 0} → (old box : Box (ForkOf F V) Global) (f : ForkOf F V) → box.value ≡ f → old.value.prefix ≡ f.prefix → IsFork f → Changes (fork_routes old.value) (fork_routes f) key None → IsRemoved (Fork old) (Fork box) key
   kept_box old box f is at fork changes =
       let a : IsFork box.value = rw is fork in
       let b : Changes (fork_routes old.value) (fork_routes box.value) key None = rw is changes in
       let p : old.value.prefix ≡ box.value.prefix = rw is at in
       record { trie = a; changes = b; under = λ len bits u. subst (Starts len bits) p u }
 
-  pub kept_here : (old box : Box (ForkOf V) Global) (here : List (RouteKey × V)) → IsFork old.value → key.prefix ≡ old.value.prefix → box.value ≡ record old.value { here = here } → here ≡ without key old.value.here → is_nil here ≡ false → IsRemoved (Fork old) (Fork box) key
+  pub kept_here : {F : Type 0} → (old box : Box (ForkOf F V) Global) (here : List (RouteKey × V)) → IsFork old.value → key.prefix ≡ old.value.prefix → box.value ≡ record old.value { here = here } → here ≡ without key old.value.here → is_nil here ≡ false → IsRemoved (Fork old) (Fork box) key
   kept_here old box here trie same is left some =
       let f = old.value in
       let own : IsRoutesOf f.prefix here = rw left (own_without key f.prefix f.here trie.2) in
       let changes : Changes (fork_routes f) (here ++ (routes f.low ++ routes f.high)) key None = rw left (removed_here key f trie same) in
       kept_box old box _ is refl (trie.0, trie.1, own, trie.3, trie.4, trie.5, trie.6, or_first _ _ (held (is_nil here) some)) changes
 
-  pub kept_low : (old box : Box (ForkOf V) Global) (low : Branch V) → IsFork old.value → (old.value.prefix.len < key.prefix.len) × (leading_bits (old.value.prefix.len + 1) key.prefix.addr ≡ 2 * leading_bits old.value.prefix.len key.prefix.addr) → box.value ≡ record old.value { low = low } → IsRemoved old.value.low low key → is_empty low ≡ false → IsRemoved (Fork old) (Fork box) key
+  pub kept_low : {F : Type 0} → (old box : Box (ForkOf F V) Global) (low : Branch F V) → IsFork old.value → (old.value.prefix.len < key.prefix.len) × (leading_bits (old.value.prefix.len + 1) key.prefix.addr ≡ 2 * leading_bits old.value.prefix.len key.prefix.addr) → box.value ≡ record old.value { low = low } → IsRemoved old.value.low low key → is_empty low ≡ false → IsRemoved (Fork old) (Fork box) key
   kept_low old box low trie direction is done some =
       let f = old.value in
       kept_box old box _ is refl (trie.0, trie.1, trie.2, done.under _ _ trie.3, trie.4, done.trie, trie.6, rw some (low_useful (not (is_nil f.here)) (not (is_empty f.low)) (not (is_empty f.high)) trie.7)) (Changes_low_half f trie key low None direction.0 direction.1 done.changes)
 
-  pub kept_high : (old box : Box (ForkOf V) Global) (high : Branch V) → IsFork old.value → (old.value.prefix.len < key.prefix.len) × (leading_bits (old.value.prefix.len + 1) key.prefix.addr ≡ 2 * leading_bits old.value.prefix.len key.prefix.addr + 1) → box.value ≡ record old.value { high = high } → IsRemoved old.value.high high key → is_empty high ≡ false → IsRemoved (Fork old) (Fork box) key
+  pub kept_high : {F : Type 0} → (old box : Box (ForkOf F V) Global) (high : Branch F V) → IsFork old.value → (old.value.prefix.len < key.prefix.len) × (leading_bits (old.value.prefix.len + 1) key.prefix.addr ≡ 2 * leading_bits old.value.prefix.len key.prefix.addr + 1) → box.value ≡ record old.value { high = high } → IsRemoved old.value.high high key → is_empty high ≡ false → IsRemoved (Fork old) (Fork box) key
   kept_high old box high trie direction is done some =
       let f = old.value in
       kept_box old box _ is refl (trie.0, trie.1, trie.2, trie.3, done.under _ _ trie.4, trie.5, done.trie, rw some (high_useful (not (is_nil f.here)) (not (is_empty f.low)) (not (is_empty f.high)) trie.7)) (Changes_high_half f trie key high None direction.0 direction.1 done.changes)

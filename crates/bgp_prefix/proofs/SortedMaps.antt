@@ -17,7 +17,7 @@ use Rattle.bgp_prefix.specs.Prefixes.{IpPrefix, prefix_cmp, prefix_eq}
 use Rattle.bgp_prefix.specs.Keys.{key_cmp}
 use Rattle.bgp_prefix.specs.Searches.{IsAt, IsGap}
 use Rattle.bgp_prefix.specs.Maps.{paths_of}
-use Rattle.bgp_prefix.specs.declared.key.RouteKey.{RouteKey}
+use Rattle.bgp_prefix.specs.Keys.{RouteKey}
 use Rattle.bgp_prefix.proofs.KeyLaws.{key_cmp_total, key_cmp_exact, prefix_cmp_total, prefix_cmp_exact, prefix_tied, tied_same, same_prefix}
 use Rattle.bgp_prefix.proofs.SearchLaws.{sorted_at, index_le, turn}
 

@@ -1,6 +1,6 @@
 -- The longest prefix that covers those of a list in order, and the list in parts around it.
-use Rattle.std.proofs.Common.{◌≡◌, ◌≢◌, ℕ, ◌+◌, ◌-◌, ◌*◌, ◌/◌, ◌^◌, ◌<◌, ◌≤◌, Bool, true, false, ◌&&◌, ltb, List, [], ◌∷◌, ◌++◌, length, get_or, take, drop, T, refl, sym, ap, subst, ◌∙◌, arith, ◌⊎◌, inl, inr, get_or-take, get_or-drop, length-drop, length-take, pow-suc, append_assoc, not, ◌||◌}
-use Rattle.std.proofs.lemmas.Bool.{cases_lt, cases_order, eqb-true, eq-eqb, le-leb, leb-true, and_parts, and_from, ltb-true, ltb-false}
+use Rattle.std.proofs.Common.{◌≡◌, ◌≢◌, ℕ, ◌+◌, ◌-◌, ◌*◌, ◌/◌, ◌^◌, ◌<◌, ◌≤◌, Bool, true, false, if◌then◌else◌, ◌&&◌, eqb, ltb, List, [], ◌∷◌, ◌++◌, length, get_or, take, drop, T, refl, sym, ap, subst, ◌∙◌, arith, ◌⊎◌, inl, inr, get_or-take, get_or-drop, length-drop, length-take, pow-suc, append_assoc, not, ◌||◌}
+use Rattle.std.proofs.lemmas.Bool.{cases_lt, cases_order, eqb-true, eq-eqb, le-leb, le-ltb, lt-ltb, ne_eqb, leb-true, and_parts, and_from, ltb-true, ltb-false}
 use Rattle.std.proofs.lemmas.List.{get_or_default, take-append-drop, take-take}
 use Rattle.std.proofs.lemmas.Nat.{le-div, div_below, pow_pos}
 use Rattle.std.proofs.Math.Nat.{div-mul-le_self}
@@ -15,7 +15,7 @@ use Rattle.std.specs.FinMap.Entries.{below_all}
 use Rattle.bgp_prefix.specs.Prefixes.{IpPrefix, IsIpPrefix, leading_bits, network_of, block_size, covers, prefix_eq, Starts}
 use Rattle.bgp_prefix.specs.Keys.{key_cmp, is_nil}
 use Rattle.bgp_prefix.specs.Splits.{upper_half, IsCover, IsSplit, IsOfOnePrefix}
-use Rattle.bgp_prefix.specs.declared.key.RouteKey.{RouteKey}
+use Rattle.bgp_prefix.specs.Keys.{RouteKey}
 use Rattle.bgp_prefix.proofs.Bits.{fewer_bits, share_fewer, network_bits, IsIpPrefix-network}
 use Rattle.bgp_prefix.proofs.KeyLaws.{key_cmp_total, same_prefix, other_prefix}
 use Rattle.bgp_prefix.proofs.NetworkLaws.{network, network_is, same_itself}
@@ -58,7 +58,7 @@ rise es i j d sorted le in_range = elim (cases_order i j) [
 ]
 
 pub bits_rise : (n a b : ℕ) → a ≤ b → leading_bits n a ≤ leading_bits n b
-bits_rise n a b le = le-div (leading_bits n a) b (block_size n) (pow_pos (32 - n)) (omega (arith, le, div-mul-le_self a (block_size n)))
+bits_rise n a b le = le-div (leading_bits n a) b (block_size n) (pow_pos (128 - n)) (omega (arith, le, div-mul-le_self a (block_size n)))
 
 -- an address between two that share bits shares them
 pub share_between : (n a b c : ℕ) → a ≤ b → b ≤ c → leading_bits n a ≡ leading_bits n c → leading_bits n b ≡ leading_bits n a
@@ -68,7 +68,7 @@ two_below : (x t : ℕ) → x / 2 ≡ t → (x ≡ 2 * t) ⊎ (x ≡ 2 * t + 1)
 two_below x t e = elim (cases_lt x (2 * t + 1)) [ inl lt ↦ inl (omega (arith, lt, e)) | inr ge ↦ inr (omega (arith, ge, e)) ]
 
 -- the next bit is one of two
-pub next_of : (n a : ℕ) → n < 32 → (leading_bits (n + 1) a ≡ 2 * leading_bits n a) ⊎ (leading_bits (n + 1) a ≡ 2 * leading_bits n a + 1)
+pub next_of : (n a : ℕ) → n < 128 → (leading_bits (n + 1) a ≡ 2 * leading_bits n a) ⊎ (leading_bits (n + 1) a ≡ 2 * leading_bits n a + 1)
 next_of n a short =
     let one : n + 1 - n ≡ 1 = omega arith in
     let up : leading_bits (n + 1) a / 2 ^ (n + 1 - n) ≡ leading_bits n a = fewer_bits n (n + 1) a (omega arith) (omega (arith, short)) in
@@ -79,7 +79,7 @@ own_network : (p : IpPrefix) → IsIpPrefix p → p ≡ network p.addr p.len
 own_network p known = network_is p.addr p known (eq-eqb (leading_bits p.len p.addr) (leading_bits p.len p.addr) refl)
 
 -- a prefix whose bits another address has is no higher
-pub below_network : (p : IpPrefix) (n a : ℕ) → IsIpPrefix p → p.len ≤ n → n ≤ 32 → leading_bits n p.addr ≡ leading_bits n a → p.addr ≤ a
+pub below_network : (p : IpPrefix) (n a : ℕ) → IsIpPrefix p → p.len ≤ n → n ≤ 128 → leading_bits n p.addr ≡ leading_bits n a → p.addr ≤ a
 below_network p n a known shorter short same =
     let bits : leading_bits p.len p.addr ≡ leading_bits p.len a = share_fewer p.len n p.addr a shorter short same in
     let at : leading_bits p.len a * block_size p.len ≡ p.addr = ap (λ (t : ℕ). t * block_size p.len) (sym bits) ∙ known.cleared in
@@ -129,7 +129,7 @@ module _ (f l : IpPrefix) (n : ℕ) (known_f : IsIpPrefix f) (known_l : IsIpPref
   parts_ends : (f ≡ cover) ⊎ (Starts (n + 1) (2 * leading_bits n cover.addr) f × Starts (n + 1) (2 * leading_bits n cover.addr + 1) l)
   parts_ends = elim (cases_lt n f.len) [
     | inl lt ↦
-        let short : n < 32 = omega (arith, lt, known_f.short) in
+        let short : n < 128 = omega (arith, lt, known_f.short) in
         let rises = bits_rise (n + 1) f.addr l.addr order.low in
         let other = longest lt longer_last in
         elim (next_of n f.addr short) [
@@ -186,10 +186,10 @@ module _ {V : Type 0} (es : List (RouteKey × V)) (sorted : T (is_sorted key_cmp
       }
 
 -- twice as many addresses with a bit less
-twice_block : (n : ℕ) → n < 32 → 2 ^ (32 - n) ≡ 2 * 2 ^ (31 - n)
-twice_block n short = ap (λ (k : ℕ). 2 ^ k) (omega (arith, short)) ∙ pow-suc 2 (31 - n) ∙ omega arith
+twice_block : (n : ℕ) → n < 128 → 2 ^ (128 - n) ≡ 2 * 2 ^ (127 - n)
+twice_block n short = ap (λ (k : ℕ). 2 ^ k) (omega (arith, short)) ∙ pow-suc 2 (127 - n) ∙ omega arith
 
-module _ (at p : IpPrefix) (known_at : IsIpPrefix at) (short : at.len < 32) (known : IsIpPrefix p) (covered : covers at p ≡ true) where
+module _ (at p : IpPrefix) (known_at : IsIpPrefix at) (short : at.len < 128) (known : IsIpPrefix p) (covered : covers at p ≡ true) where
   not_shorter : at.len ≤ p.len
   not_shorter = leb-true at.len p.len (and_parts _ _ covered).0
 
@@ -208,17 +208,17 @@ module _ (at p : IpPrefix) (known_at : IsIpPrefix at) (short : at.len < 32) (kno
   longer : prefix_eq p at ≡ false → at.len < p.len
   longer other = elim (cases_lt at.len p.len) [ inl lt ↦ lt | inr ge ↦ absurd (other_prefix p at other (sym (of_own_length ge))) ]
 
-  half_is : upper_half at ≡ (2 * leading_bits at.len at.addr + 1) * 2 ^ (31 - at.len)
+  half_is : upper_half at ≡ (2 * leading_bits at.len at.addr + 1) * 2 ^ (127 - at.len)
   half_is =
-      let own : leading_bits at.len at.addr * (2 * 2 ^ (31 - at.len)) ≡ at.addr = ap (λ (t : ℕ). leading_bits at.len at.addr * t) (sym (twice_block at.len short)) ∙ known_at.cleared in
+      let own : leading_bits at.len at.addr * (2 * 2 ^ (127 - at.len)) ≡ at.addr = ap (λ (t : ℕ). leading_bits at.len at.addr * t) (sym (twice_block at.len short)) ∙ known_at.cleared in
       omega (arith, own)
 
-  one_more : leading_bits (at.len + 1) p.addr ≡ p.addr / 2 ^ (31 - at.len)
+  one_more : leading_bits (at.len + 1) p.addr ≡ p.addr / 2 ^ (127 - at.len)
   one_more = ap (λ (k : ℕ). p.addr / 2 ^ k) (omega arith)
 
   pub starts_low : prefix_eq p at ≡ false → p.addr < upper_half at → Starts (at.len + 1) (2 * leading_bits at.len at.addr) p
   starts_low other below =
-      let lt : p.addr / 2 ^ (31 - at.len) < 2 * leading_bits at.len at.addr + 1 = div_below p.addr (2 ^ (31 - at.len)) (2 * leading_bits at.len at.addr + 1) (pow_pos (31 - at.len)) (omega (arith, below, half_is)) in
+      let lt : p.addr / 2 ^ (127 - at.len) < 2 * leading_bits at.len at.addr + 1 = div_below p.addr (2 ^ (127 - at.len)) (2 * leading_bits at.len at.addr + 1) (pow_pos (127 - at.len)) (omega (arith, below, half_is)) in
       record {
         long = omega (arith, longer other);
         shared = elim (next_of at.len p.addr short) [
@@ -229,8 +229,8 @@ module _ (at p : IpPrefix) (known_at : IsIpPrefix at) (short : at.len < 32) (kno
 
   pub starts_high : upper_half at ≤ p.addr → Starts (at.len + 1) (2 * leading_bits at.len at.addr + 1) p
   starts_high above =
-      let le : 2 * leading_bits at.len at.addr + 1 ≤ p.addr / 2 ^ (31 - at.len) = le-div (2 * leading_bits at.len at.addr + 1) p.addr (2 ^ (31 - at.len)) (pow_pos (31 - at.len)) (omega (arith, above, half_is)) in
-      let some : 0 < 2 ^ (31 - at.len) = pow_pos (31 - at.len) in
+      let le : 2 * leading_bits at.len at.addr + 1 ≤ p.addr / 2 ^ (127 - at.len) = le-div (2 * leading_bits at.len at.addr + 1) p.addr (2 ^ (127 - at.len)) (pow_pos (127 - at.len)) (omega (arith, above, half_is)) in
+      let some : 0 < 2 ^ (127 - at.len) = pow_pos (127 - at.len) in
       record {
         long = elim (cases_lt at.len p.len) [
           | inl lt ↦ omega (arith, lt)
@@ -241,6 +241,29 @@ module _ (at p : IpPrefix) (known_at : IsIpPrefix at) (short : at.len < 32) (kno
           | inr high ↦ high ∙ ap (λ (t : ℕ). 2 * t + 1) same_bits
         ];
       }
+
+  -- the next bit tells on which side of the half the address lies
+  pub bit_is : eqb (leading_bits (at.len + 1) p.addr) (2 * leading_bits at.len p.addr) ≡ ltb p.addr (upper_half at)
+  bit_is = elim (cases_lt p.addr (upper_half at)) [
+    | inl below ↦
+        let lt : p.addr / 2 ^ (127 - at.len) < 2 * leading_bits at.len at.addr + 1 = div_below p.addr (2 ^ (127 - at.len)) (2 * leading_bits at.len at.addr + 1) (pow_pos (127 - at.len)) (omega (arith, below, half_is)) in
+        let low : leading_bits (at.len + 1) p.addr ≡ 2 * leading_bits at.len p.addr = elim (next_of at.len p.addr short) [
+          | inl low ↦ low
+          | inr high ↦ absurd (omega (arith, lt, one_more, high, same_bits))
+        ] in
+        eq-eqb _ _ low ∙ sym (lt-ltb _ _ below)
+    | inr above ↦
+        let le : 2 * leading_bits at.len at.addr + 1 ≤ p.addr / 2 ^ (127 - at.len) = le-div (2 * leading_bits at.len at.addr + 1) p.addr (2 ^ (127 - at.len)) (pow_pos (127 - at.len)) (omega (arith, above, half_is)) in
+        let high : leading_bits (at.len + 1) p.addr ≡ 2 * leading_bits at.len p.addr + 1 = elim (next_of at.len p.addr short) [
+          | inl low ↦ absurd (omega (arith, le, one_more, low, same_bits))
+          | inr high ↦ high
+        ] in
+        ne_eqb _ _ (λ e. omega (arith, e, high)) ∙ sym (le-ltb _ _ above)
+  ]
+
+pub by_bit : (r : Bool) (x y : ℕ) → x ≡ 2 * y + (if r then 0 else 1) → r ≡ eqb x (2 * y)
+by_bit true x y e = sym (eq-eqb _ _ (omega (arith, e)))
+by_bit false x y e = sym (ne_eqb _ _ (λ same. omega (arith, e, same)))
 
 parts_sorted : {V : Type 0} (es fs : List (RouteKey × V)) → T (is_sorted key_cmp (es ++ fs)) → T (is_sorted key_cmp es) × T (is_sorted key_cmp fs)
 parts_sorted [] fs h = (tt, h)
@@ -280,8 +303,21 @@ module _ {V : Type 0} (es : List (RouteKey × V)) (at : IpPrefix) (sorted : T (i
       let here : p ≡ at = of_own_length at p is.known is.short (known i d inside) (is.covered i d inside) (up.short addr) in
       subst (λ (r : IpPrefix). prefix_eq r at ≡ true) (sym here) (same_itself at)
 
-  pub low_first : (half : ℕ) → IsPartitionedBy (λ e. ltb e.0.prefix.addr half) es
-  low_first half = IsPartitionedBy-ltb (λ (e : RouteKey × V). e.0.prefix.addr) es half (λ i j d le lt. (rise es i j d sorted le lt).low)
+  -- the next bit is 0
+  abbrev pub is_low : RouteKey × V → Bool
+  is_low e = eqb (leading_bits (at.len + 1) e.0.prefix.addr) (2 * leading_bits at.len e.0.prefix.addr)
+
+  low_is : (k : ℕ) (d : RouteKey × V) → k < length es → is_low (get_or es k d) ≡ ltb (get_or es k d).0.prefix.addr (upper_half at)
+  low_is k d lt = bit_is at (get_or es k d).0.prefix is.known is.short (known k d lt) (is.covered k d lt)
+
+  pub low_first : IsPartitionedBy is_low es
+  low_first i j d le lt low =
+      low_is i d (omega (arith, le, lt))
+      ∙ IsPartitionedBy-ltb (λ (e : RouteKey × V). e.0.prefix.addr) es (upper_half at) (λ i j d le lt. (rise es i j d sorted le lt).low) i j d le lt (sym (low_is j d lt) ∙ low)
+
+  pub low_end_is : (n : ℕ) → n ≤ length es → IsPartitionPoint (λ e. is_low e ≡ true) (λ e. is_low e ≡ false) es n → IsPartitionPoint (λ e. ltb e.0.prefix.addr (upper_half at) ≡ true) (λ e. ltb e.0.prefix.addr (upper_half at) ≡ false) es n
+  low_end_is n inside point =
+      (λ k d low high. sym (low_is k d (omega (arith, inside, high))) ∙ point.0 k d low high, λ k d low high. sym (low_is k d high) ∙ point.1 k d low high)
 
   module _ (own lower : ℕ) (own_in : own ≤ length es) (lower_in : lower ≤ length es) (owns : IsPartitionPoint (λ e. prefix_eq e.0.prefix at ≡ true) (λ e. prefix_eq e.0.prefix at ≡ false) es own) (lowers : IsPartitionPoint (λ e. ltb e.0.prefix.addr (upper_half at) ≡ true) (λ e. ltb e.0.prefix.addr (upper_half at) ≡ false) es lower) where
     here : (k : ℕ) (d : RouteKey × V) → k < own → (get_or es k d).0.prefix ≡ at

@@ -6,7 +6,7 @@ use Rattle.std.specs.FinMap.{find}
 use Rattle.bgp_prefix.specs.Prefixes.{IpPrefix, IsIpPrefix, leading_bits, Starts}
 use Rattle.bgp_prefix.specs.Keys.{key_cmp, Changes, is_nil}
 use Rattle.bgp_prefix.specs.Tries.{routes, IsTrie, IsUnder, IsRoutesOf, is_empty}
-use Rattle.bgp_prefix.specs.declared.key.RouteKey.{RouteKey}
+use Rattle.bgp_prefix.specs.Keys.{RouteKey}
 use Rattle.bgp_prefix.specs.declared.radix.node.Branch.{Branch}
 use Rattle.bgp_prefix.specs.declared.radix.node.Branch.TheVariants.{Empty, Leaf, Fork'}
 use Rattle.bgp_prefix.specs.declared.radix.node.Fork.{Fork}
@@ -18,7 +18,7 @@ half_of : (t r x : ℕ) → x ≡ 2 * t + r → r < 2 → x / 2 ≡ t
 half_of t r x e h = omega (arith, e)
 
 -- what starts as a child of p does starts as p does
-pub starts_as_parent : (len bits : ℕ) (p q : IpPrefix) (r : ℕ) → p.len < 32 → Starts len bits p → r < 2 → Starts (p.len + 1) (2 * leading_bits p.len p.addr + r) q → Starts len bits q
+pub starts_as_parent : (len bits : ℕ) (p q : IpPrefix) (r : ℕ) → p.len < 128 → Starts len bits p → r < 2 → Starts (p.len + 1) (2 * leading_bits p.len p.addr + r) q → Starts len bits q
 starts_as_parent len bits p q r short sp h sq =
     let one : p.len + 1 - p.len ≡ 1 = omega arith in
     let up : leading_bits (p.len + 1) q.addr / 2 ^ (p.len + 1 - p.len) ≡ leading_bits p.len q.addr = fewer_bits p.len (p.len + 1) q.addr (omega arith) (omega arith) in
@@ -38,7 +38,7 @@ find_absent P es q all out = elim (find key_cmp q es) as (λ o. find key_cmp q e
 
 module _ {V : Type 0} where
   -- a key that does not start as the branch does is not in it
-  pub find_outside : (b : Branch V) → IsTrie b → (len bits : ℕ) → IsUnder len bits b → (q : RouteKey) → (Starts len bits q.prefix → ⊥) → find key_cmp q (routes b) ≡ None
+  pub find_outside : {F : Type 0} → (b : Branch F V) → IsTrie b → (len bits : ℕ) → IsUnder len bits b → (q : RouteKey) → (Starts len bits q.prefix → ⊥) → find key_cmp q (routes b) ≡ None
   find_outside Empty ok len bits under q out = refl
   find_outside (Leaf l) ok len bits under q out = find_absent (λ k. Starts len bits k.prefix) l q under out
   find_outside (Fork' p prefix low high here) ok len bits under q out =
@@ -48,19 +48,19 @@ module _ {V : Type 0} where
       ∙ ap (λ o. option_or o (find key_cmp q (routes high))) (find_outside low ok.5 (prefix.len + 1) (2 * leading_bits prefix.len prefix.addr) ok.3 q (λ s. out (starts_as_parent len bits prefix q.prefix 0 ok.1 under (omega arith) (record { long = s.long; shared = s.shared ∙ sym (add-zero _) }))))
       ∙ find_outside high ok.6 (prefix.len + 1) (2 * leading_bits prefix.len prefix.addr + 1) ok.4 q (λ s. out (starts_as_parent len bits prefix q.prefix 1 ok.1 under (omega arith) s))
 
-  pub no_branch : (b : Branch V) → is_empty b ≡ true → routes b ≡ []
+  pub no_branch : {F : Type 0} → (b : Branch F V) → is_empty b ≡ true → routes b ≡ []
   no_branch Empty e = refl
   no_branch (Leaf l) e = cc
   no_branch (Fork' p prefix low high here) e = cc
 
   -- what holds of a fork
-  abbrev pub IsFork : Fork V → Type 0
-  IsFork f = IsIpPrefix f.prefix × (f.prefix.len < 32) × IsRoutesOf f.prefix f.here × IsUnder (f.prefix.len + 1) (2 * leading_bits f.prefix.len f.prefix.addr) f.low × IsUnder (f.prefix.len + 1) (2 * leading_bits f.prefix.len f.prefix.addr + 1) f.high × IsTrie f.low × IsTrie f.high × T (not (is_nil f.here) || (not (is_empty f.low) && not (is_empty f.high)))
+  abbrev pub IsFork : {F : Type 0} → Fork F V → Type 0
+  IsFork f = IsIpPrefix f.prefix × (f.prefix.len < 128) × IsRoutesOf f.prefix f.here × IsUnder (f.prefix.len + 1) (2 * leading_bits f.prefix.len f.prefix.addr) f.low × IsUnder (f.prefix.len + 1) (2 * leading_bits f.prefix.len f.prefix.addr + 1) f.high × IsTrie f.low × IsTrie f.high × T (not (is_nil f.here) || (not (is_empty f.low) && not (is_empty f.high)))
 
-  abbrev pub fork_routes : Fork V → List (RouteKey × V)
+  abbrev pub fork_routes : {F : Type 0} → Fork F V → List (RouteKey × V)
   fork_routes f = f.here ++ (routes f.low ++ routes f.high)
 
-  module _ (f : Fork V) (ok : IsFork f) (q : RouteKey) where
+  module _ {F : Type 0} (f : Fork F V) (ok : IsFork f) (q : RouteKey) where
     not_low : (Starts (f.prefix.len + 1) (2 * leading_bits f.prefix.len f.prefix.addr) q.prefix → ⊥) → find key_cmp q (routes f.low) ≡ None
     not_low = find_outside f.low ok.5 _ _ ok.3 q
 
@@ -108,10 +108,10 @@ module _ {V : Type 0} where
     pub find_in_high_half : f.prefix.len < q.prefix.len → leading_bits (f.prefix.len + 1) q.prefix.addr ≡ 2 * leading_bits f.prefix.len q.prefix.addr + 1 → find key_cmp q (fork_routes f) ≡ find key_cmp q (routes f.high)
     find_in_high_half longer bit = in_parts ∙ rw (other_prefix (longer_other longer), not_low (λ s. omega (arith, s.shared, bit))) refl
 
-    pub Changes_low_half : (low : Branch V) (v : Option V) → f.prefix.len < q.prefix.len → leading_bits (f.prefix.len + 1) q.prefix.addr ≡ 2 * leading_bits f.prefix.len q.prefix.addr → Changes (routes f.low) (routes low) q v → Changes (fork_routes f) (f.here ++ (routes low ++ routes f.high)) q v
+    pub Changes_low_half : (low : Branch F V) (v : Option V) → f.prefix.len < q.prefix.len → leading_bits (f.prefix.len + 1) q.prefix.addr ≡ 2 * leading_bits f.prefix.len q.prefix.addr → Changes (routes f.low) (routes low) q v → Changes (fork_routes f) (f.here ++ (routes low ++ routes f.high)) q v
     Changes_low_half low v longer bit h = Changes-back f.here _ _ q v (other_prefix (longer_other longer)) (Changes-front _ _ (routes f.high) q v (not_high (λ s. omega (arith, s.shared, bit))) h)
 
-    pub Changes_high_half : (high : Branch V) (v : Option V) → f.prefix.len < q.prefix.len → leading_bits (f.prefix.len + 1) q.prefix.addr ≡ 2 * leading_bits f.prefix.len q.prefix.addr + 1 → Changes (routes f.high) (routes high) q v → Changes (fork_routes f) (f.here ++ (routes f.low ++ routes high)) q v
+    pub Changes_high_half : (high : Branch F V) (v : Option V) → f.prefix.len < q.prefix.len → leading_bits (f.prefix.len + 1) q.prefix.addr ≡ 2 * leading_bits f.prefix.len q.prefix.addr + 1 → Changes (routes f.high) (routes high) q v → Changes (fork_routes f) (f.here ++ (routes f.low ++ routes high)) q v
     Changes_high_half high v longer bit h = Changes-back f.here _ _ q v (other_prefix (longer_other longer)) (Changes-back (routes f.low) _ _ q v (not_low (λ s. omega (arith, s.shared, bit))) h)
 
     pub Changes_here : (here : List (RouteKey × V)) (v : Option V) → q.prefix ≡ f.prefix → Changes f.here here q v → Changes (fork_routes f) (here ++ (routes f.low ++ routes f.high)) q v
@@ -119,8 +119,8 @@ module _ {V : Type 0} where
         let none : find key_cmp q (routes f.low ++ routes f.high) ≡ None = find-parts q _ _ ∙ ap (λ o. option_or o (find key_cmp q (routes f.high))) (not_low (shorter_than_children _ same)) ∙ not_high (shorter_than_children _ same) in
         Changes-front _ _ (routes f.low ++ routes f.high) q v none h
 
-    pub Changes_low : (low : Branch V) (v : Option V) → Starts (f.prefix.len + 1) (2 * leading_bits f.prefix.len f.prefix.addr) q.prefix → Changes (routes f.low) (routes low) q v → Changes (fork_routes f) (f.here ++ (routes low ++ routes f.high)) q v
+    pub Changes_low : (low : Branch F V) (v : Option V) → Starts (f.prefix.len + 1) (2 * leading_bits f.prefix.len f.prefix.addr) q.prefix → Changes (routes f.low) (routes low) q v → Changes (fork_routes f) (f.here ++ (routes low ++ routes f.high)) q v
     Changes_low low v s h = Changes-back f.here _ _ q v (not_here _ s) (Changes-front _ _ (routes f.high) q v (not_high (two_halves _ s)) h)
 
-    pub Changes_high : (high : Branch V) (v : Option V) → Starts (f.prefix.len + 1) (2 * leading_bits f.prefix.len f.prefix.addr + 1) q.prefix → Changes (routes f.high) (routes high) q v → Changes (fork_routes f) (f.here ++ (routes f.low ++ routes high)) q v
+    pub Changes_high : (high : Branch F V) (v : Option V) → Starts (f.prefix.len + 1) (2 * leading_bits f.prefix.len f.prefix.addr + 1) q.prefix → Changes (routes f.high) (routes high) q v → Changes (fork_routes f) (f.here ++ (routes f.low ++ routes high)) q v
     Changes_high high v s h = Changes-back f.here _ _ q v (not_here _ s) (Changes-back (routes f.low) _ _ q v (not_low (λ u. two_halves _ u s)) h)

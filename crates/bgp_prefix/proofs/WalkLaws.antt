@@ -9,7 +9,7 @@ use Rattle.std.specs.Option.{option_or}
 use Rattle.std.specs.FinMap.{is_sorted}
 use Rattle.bgp_prefix.specs.Prefixes.{IpPrefix, IsIpPrefix, leading_bits, network_of, contains, prefix_eq}
 use Rattle.bgp_prefix.specs.Keys.{key_cmp, last_match, matching_prefixes, begins_with}
-use Rattle.bgp_prefix.specs.declared.key.RouteKey.{RouteKey}
+use Rattle.bgp_prefix.specs.Keys.{RouteKey}
 use Rattle.bgp_prefix.proofs.KeyLaws.{same_prefix}
 use Rattle.bgp_prefix.proofs.NetworkLaws.{network, network_is, same_itself}
 use Rattle.bgp_prefix.proofs.OrderLaws.{AllKeys}
@@ -57,7 +57,7 @@ module _ {V : Type 0} (addr : ℕ) where
       )
 
 -- the walk is at a position: what it found in the entries from there on, and what it has still to look at
-pub record IsWalk {V : Type 0} (es : List (RouteKey × V)) (addr position limit steps : ℕ) (longest : Option IpPrefix) : Type 0 where
+pub record IsWalk {V : Type 0} (w : ℕ) (es : List (RouteKey × V)) (addr position limit steps : ℕ) (longest : Option IpPrefix) : Type 0 where
   pub sorted : T (is_sorted key_cmp es)
   pub known : All (λ e. IsIpPrefix e.0.prefix) es
   pub inside : position ≤ length es
@@ -65,14 +65,14 @@ pub record IsWalk {V : Type 0} (es : List (RouteKey × V)) (addr position limit 
   pub found : longest ≡ last_match (drop position es) addr
   pub enough : matching_prefixes (drop position es) addr ≤ steps
   pub left : (k : ℕ) (d : RouteKey × V) → k < position → contains (get_or es k d).0.prefix addr ≡ true → ((get_or es k d).0.prefix.len < limit) ⊎ (begins_with (get_or es k d).0.prefix (drop position es) ≡ true)
-  pub most : (l : ℕ) × (limit ≤ l) × (l + steps ≤ 33) × ((len : ℕ) → len ≤ 33 → All (λ e. len ≤ e.0.prefix.len) es → len ≤ l)
+  pub most : (l : ℕ) × (limit ≤ l) × (l + steps ≤ w + 1) × ((len : ℕ) → len ≤ w + 1 → All (λ e. len ≤ e.0.prefix.len) es → len ≤ l)
 
 -- a prefix that contains the address is no higher
 no_higher : (addr : ℕ) (p : IpPrefix) → IsIpPrefix p → contains p addr ≡ true → p.addr ≤ addr
 no_higher addr p known in_p = below_network p p.len addr known (omega arith) known.short (sym (eqb-true _ _ in_p))
 
-module _ {V : Type 0} (es : List (RouteKey × V)) (addr : ℕ) (sorted : T (is_sorted key_cmp es)) (known : All (λ e. IsIpPrefix e.0.prefix) es) where
-  pub IsWalk-start : (position : ℕ) → position ≤ length es → AllWithin (λ e. e.0.prefix.addr ≤ addr) es 0 position → AllWithin (λ e. addr < e.0.prefix.addr) es position (length es) → IsWalk es addr position 33 0 None
+module _ {V : Type 0} (es : List (RouteKey × V)) (addr : ℕ) (sorted : T (is_sorted key_cmp es)) (known : All (λ e. IsIpPrefix e.0.prefix) es) (w : ℕ) (short : All (λ e. e.0.prefix.len ≤ w) es) where
+  pub IsWalk-start : (position : ℕ) → position ≤ length es → AllWithin (λ e. e.0.prefix.addr ≤ addr) es 0 position → AllWithin (λ e. addr < e.0.prefix.addr) es position (length es) → IsWalk w es addr position (w + 1) 0 None
   IsWalk-start position inside front back =
       let out : All (λ e. contains e.0.prefix addr ≡ false) (drop position es) = λ k d lt.
       let within : position + k < length es = omega (arith, lt, length-drop position es) in
@@ -91,11 +91,11 @@ module _ {V : Type 0} (es : List (RouteKey × V)) (addr : ℕ) (sorted : T (is_s
         front = front;
         found = sym none.0;
         enough = omega (arith, none.1);
-        left = λ k d lt in_k. inl (omega (arith, (known k d (omega (arith, lt, inside))).short));
-        most = (33, omega arith, omega arith, λ len le all. le);
+        left = λ k d lt in_k. inl (omega (arith, short k d (omega (arith, lt, inside))));
+        most = (w + 1, omega arith, omega arith, λ len le all. le);
       }
 
-module _ {V : Type 0} (es : List (RouteKey × V)) (addr k limit steps : ℕ) (longest : Option IpPrefix) (x : RouteKey × V) (walk : IsWalk es addr (k + 1) limit steps longest) (read : x ≡ get_or es k x) where
+module _ {V : Type 0} {w : ℕ} (es : List (RouteKey × V)) (addr k limit steps : ℕ) (longest : Option IpPrefix) (x : RouteKey × V) (walk : IsWalk w es addr (k + 1) limit steps longest) (read : x ≡ get_or es k x) where
   lt : k < length es
   lt = omega (arith, walk.inside)
 
@@ -152,7 +152,7 @@ module _ {V : Type 0} (es : List (RouteKey × V)) (addr k limit steps : ℕ) (lo
   begins_itself : (q : IpPrefix) → q ≡ p → begins_with q (drop k es) ≡ true
   begins_itself q same = ap (begins_with q) more ∙ ap (λ (r : IpPrefix). prefix_eq r p) same ∙ same_itself p
 
-  pub IsWalk-skip : limit ≤ p.len → IsWalk es addr k limit steps longest
+  pub IsWalk-skip : limit ≤ p.len → IsWalk w es addr k limit steps longest
   IsWalk-skip long = record {
     sorted = walk.sorted;
     known = walk.known;
@@ -184,7 +184,7 @@ module _ {V : Type 0} (es : List (RouteKey × V)) (addr k limit steps : ℕ) (lo
   }
 
   -- a match: what is left is shorter, or has the same prefix
-  pub IsWalk-match : p.len < limit → contains p addr ≡ true → IsWalk es addr k p.len (steps + 1) (option_or longest (Some p))
+  pub IsWalk-match : p.len < limit → contains p addr ≡ true → IsWalk w es addr k p.len (steps + 1) (option_or longest (Some p))
   IsWalk-match short in_p = record {
     sorted = walk.sorted;
     known = walk.known;
@@ -205,7 +205,7 @@ module _ {V : Type 0} (es : List (RouteKey × V)) (addr k limit steps : ℕ) (lo
   }
 
   -- no match: what contains the address is no longer than the bits that p shares with it
-  pub IsWalk-miss : (shared : ℕ) → p.len < limit → contains p addr ≡ false → shared ≤ p.len → leading_bits shared p.addr ≡ leading_bits shared addr → (shared < p.len → leading_bits (shared + 1) p.addr ≢ leading_bits (shared + 1) addr) → IsWalk es addr k (shared + 1) (steps + 1) longest
+  pub IsWalk-miss : (shared : ℕ) → p.len < limit → contains p addr ≡ false → shared ≤ p.len → leading_bits shared p.addr ≡ leading_bits shared addr → (shared < p.len → leading_bits (shared + 1) p.addr ≢ leading_bits (shared + 1) addr) → IsWalk w es addr k (shared + 1) (steps + 1) longest
   IsWalk-miss shared short out in_p same parted =
       let fewer : shared < p.len = elim (cases_lt shared p.len) [
         | inl less ↦ less
@@ -228,7 +228,3 @@ module _ {V : Type 0} (es : List (RouteKey × V)) (addr k limit steps : ℕ) (lo
             inl (omega (arith, no_longer_than_shared addr shared q p (walk.known j d (omega (arith, h, lt))) in_j (before j d h) low_p (parted fewer)));
         most = (p.len, omega (arith, fewer), omega (arith, walk.most.1, walk.most.2, short), λ len le all. subst (λ (q : IpPrefix). len ≤ q.len) (read_at x) (all k x lt));
       }
-
--- an address as a prefix of 32 bits
-pub network_whole : (a : ℕ) → network_of a 32 ≡ a
-network_whole a = omega arith

@@ -7,7 +7,11 @@ use Rattle.std.specs.declared.cmp.Ordering.{Ordering}
 use Rattle.std.specs.Ordering.{nat_cmp, ordering_then, eq_by_cmp}
 use Rattle.std.specs.FinMap.{find}
 use Rattle.bgp_prefix.specs.Prefixes.{IpPrefix, contains, prefix_cmp, prefix_eq}
-use Rattle.bgp_prefix.specs.declared.key.RouteKey.{RouteKey}
+use Rattle.bgp_prefix.specs.declared.key.RouteKey.{RouteKey as KeyOf}
+
+-- a prefix with a path identifier (RFC 7911, 3)
+abbrev pub RouteKey : Type 0
+RouteKey = KeyOf IpPrefix
 
 -- by prefix, and then by identifier
 abbrev pub key_cmp : RouteKey → RouteKey → Ordering

@@ -6,3 +6,4 @@ pub mod Searches
 pub mod Tries
 pub mod Directions
 pub mod Splits
+pub mod Halves

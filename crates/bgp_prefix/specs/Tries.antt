@@ -4,26 +4,26 @@ use Rattle.std.specs.List.{All}
 use Rattle.std.specs.FinMap.{is_sorted}
 use Rattle.bgp_prefix.specs.Prefixes.{IpPrefix, IsIpPrefix, leading_bits, Starts}
 use Rattle.bgp_prefix.specs.Keys.{key_cmp, is_nil, Changes}
-use Rattle.bgp_prefix.specs.declared.key.RouteKey.{RouteKey}
+use Rattle.bgp_prefix.specs.Keys.{RouteKey}
 use Rattle.bgp_prefix.specs.declared.radix.node.Branch.{Branch}
 use Rattle.bgp_prefix.specs.declared.radix.node.Branch.TheVariants.{Empty, Leaf, Fork'}
 use Rattle.bgp_prefix.specs.declared.radix.node.Fork.{Fork}
 use Rattle.bgp_prefix.specs.Splits.{IsSplit}
 
 -- its routes, in the order of their keys
-abbrev pub routes : {V : Type 0} → Branch V → List (RouteKey × V)
+abbrev pub routes : {F V : Type 0} → Branch F V → List (RouteKey × V)
 routes Empty = []
 routes (Leaf l) = l
 routes (Fork' p prefix low high here) = here ++ (routes low ++ routes high)
 
 -- its prefixes have at least len bits, the first len of which are bits
-abbrev pub IsUnder : {V : Type 0} → ℕ → ℕ → Branch V → Type 0
+abbrev pub IsUnder : {F V : Type 0} → ℕ → ℕ → Branch F V → Type 0
 IsUnder len bits Empty = Unit {0}
 IsUnder len bits (Leaf l) = All (λ e. Starts len bits e.0.prefix) l
 IsUnder len bits (Fork' p prefix low high here) = Starts len bits prefix
 
 -- the branch has neither routes nor forks
-abbrev pub is_empty : {V : Type 0} → Branch V → Bool
+abbrev pub is_empty : {F V : Type 0} → Branch F V → Bool
 is_empty Empty = true
 is_empty (Leaf l) = false
 is_empty (Fork' p prefix low high here) = false
@@ -39,33 +39,33 @@ pub record IsRoutesOf {V : Type 0} (p : IpPrefix) (es : List (RouteKey × V)) : 
   pub own : All (λ e. e.0.prefix ≡ p) es
 
 -- each prefix lies in the branch of its next bit, and each leaf has routes, and each fork has some or forks
-abbrev pub IsTrie : {V : Type 0} → Branch V → Type 0
+abbrev pub IsTrie : {F V : Type 0} → Branch F V → Type 0
 IsTrie Empty = Unit {0}
 IsTrie (Leaf l) = IsRoutes l × T (not (is_nil l))
 IsTrie (Fork' p prefix low high here) =
-    IsIpPrefix prefix × (prefix.len < 32) × IsRoutesOf prefix here ×
+    IsIpPrefix prefix × (prefix.len < 128) × IsRoutesOf prefix here ×
     IsUnder (prefix.len + 1) (2 * leading_bits prefix.len prefix.addr) low ×
     IsUnder (prefix.len + 1) (2 * leading_bits prefix.len prefix.addr + 1) high × IsTrie low × IsTrie high ×
     T (not (is_nil here) || (not (is_empty low) && not (is_empty high)))
 
 -- the branch is a fork, and this is its prefix
-abbrev pub IsRoot : {V : Type 0} → IpPrefix → Branch V → Type 0
+abbrev pub IsRoot : {F V : Type 0} → IpPrefix → Branch F V → Type 0
 IsRoot at Empty = ⊥
 IsRoot at (Leaf l) = ⊥
 IsRoot at (Fork' p prefix low high here) = prefix ≡ at
 
-abbrev pub IsLeaf : {V : Type 0} → Branch V → Type 0
+abbrev pub IsLeaf : {F V : Type 0} → Branch F V → Type 0
 IsLeaf Empty = ⊥
 IsLeaf (Leaf l) = Unit {0}
 IsLeaf (Fork' p prefix low high here) = ⊥
 
 -- a branch of these routes, with no fork
-abbrev pub branch_of : {V : Type 0} → List (RouteKey × V) → Branch V
+abbrev pub branch_of : {F V : Type 0} → List (RouteKey × V) → Branch F V
 branch_of [] = Empty
 branch_of (e ∷ es) = Leaf (e ∷ es)
 
 -- a fork of these routes, with no fork below
-pub record IsForkOf {V : Type 0} (es : List (RouteKey × V)) (f : Fork V) : Type 0 where
+pub record IsForkOf {F V : Type 0} (es : List (RouteKey × V)) (f : Fork F V) : Type 0 where
   pub low : List (RouteKey × V)
   pub high : List (RouteKey × V)
   pub split : IsSplit es f.prefix f.here low high
@@ -73,35 +73,35 @@ pub record IsForkOf {V : Type 0} (es : List (RouteKey × V)) (f : Fork V) : Type
   pub high_is : f.high ≡ branch_of high
 
 -- new is old with the value at the key, and lies where old did if the key does
-pub record IsInserted {V : Type 0} (old new : Branch V) (key : RouteKey) (value : V) : Type 0 where
+pub record IsInserted {F V : Type 0} (old new : Branch F V) (key : RouteKey) (value : V) : Type 0 where
   pub trie : IsTrie new
   pub changes : Changes (routes old) (routes new) key (Some value)
   pub under : (len bits : ℕ) → IsUnder len bits old → Starts len bits key.prefix → IsUnder len bits new
   pub held : is_empty new ≡ false
 
 -- a trie, but that its root may be redundant
-abbrev pub IsUnpruned : {V : Type 0} → Branch V → Type 0
+abbrev pub IsUnpruned : {F V : Type 0} → Branch F V → Type 0
 IsUnpruned Empty = Unit {0}
 IsUnpruned (Leaf l) = IsRoutes l
 IsUnpruned (Fork' p prefix low high here) =
-    IsIpPrefix prefix × (prefix.len < 32) × IsRoutesOf prefix here ×
+    IsIpPrefix prefix × (prefix.len < 128) × IsRoutesOf prefix here ×
     IsUnder (prefix.len + 1) (2 * leading_bits prefix.len prefix.addr) low ×
     IsUnder (prefix.len + 1) (2 * leading_bits prefix.len prefix.addr + 1) high × IsTrie low × IsTrie high
 
 -- new is old without the key, and lies where old did
-pub record IsRemoved {V : Type 0} (old new : Branch V) (key : RouteKey) : Type 0 where
+pub record IsRemoved {F V : Type 0} (old new : Branch F V) (key : RouteKey) : Type 0 where
   pub trie : IsTrie new
   pub changes : Changes (routes old) (routes new) key None
   pub under : (len bits : ℕ) → IsUnder len bits old → IsUnder len bits new
 
 -- the root is redundant: it neither holds routes nor forks
-abbrev pub is_redundant : {V : Type 0} → Branch V → Bool
+abbrev pub is_redundant : {F V : Type 0} → Branch F V → Bool
 is_redundant Empty = false
 is_redundant (Leaf l) = is_nil l
 is_redundant (Fork' p prefix low high here) = is_nil here && (is_empty low || is_empty high)
 
 -- what replaces a redundant root: the child of a fork, if there is one
-abbrev pub only_child : {V : Type 0} → Branch V → Branch V
+abbrev pub only_child : {F V : Type 0} → Branch F V → Branch F V
 only_child Empty = Empty
 only_child (Leaf l) = Empty
 only_child (Fork' p prefix low high here) = if is_empty low then high else low

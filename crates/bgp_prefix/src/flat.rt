@@ -16,6 +16,7 @@ ghost use Rattle.std.specs.FinMap.{find, put};
 ghost use Rattle.std.specs.FinMap.Entries.{is_sorted, where_key};
 ghost use Rattle.bgp_prefix.specs.Searches.{IsAt, IsGap};
 
+use crate::family::Family;
 use crate::key::RouteKey;
 use crate::map::PrefixMap;
 use crate::memory::Memory;
@@ -31,14 +32,13 @@ const SCANNED_KEYS: usize = 32;
 
 /// A finite map from keys to values, as a list in key order.
 #[derive(Drop)]
-pub struct Flat<V> {
-    items: Vec<(RouteKey, V)>,
+pub struct Flat<F: Family, V> {
+    items: Vec<(RouteKey<Prefix<F>>, V)>,
 }
 
-impl<V> Model for Flat<V> {
-    ghost use Rattle.std.specs.Prelude.{List, T};
-    ghost use Rattle.bgp_prefix.specs.Keys.{key_cmp};
-    ghost use Rattle.bgp_prefix.specs.declared.key.RouteKey.{RouteKey};
+impl<F: Family, V> Model for Flat<F, V> {
+    ghost use Rattle.std.specs.Prelude.{List, T, ◌≤◌};
+    ghost use Rattle.bgp_prefix.specs.Keys.{RouteKey, key_cmp};
     ghost use Rattle.std.specs.FinMap.Entries.{is_sorted};
     ghost use Rattle.std.specs.List.{All};
     ghost use Rattle.bgp_prefix.specs.Prefixes.{IsIpPrefix};
@@ -50,12 +50,13 @@ impl<V> Model for Flat<V> {
     ghost invariant = { λ p. record {
       sorted : T (is_sorted key_cmp p.items.items);
       known : All (λ e. IsIpPrefix e.0.prefix) p.items.items;
+      short : All (λ e. e.0.prefix.len ≤ F.WIDTH) p.items.items;
     } };
 }
 
-impl<V: Drop> Flat<V> {
+impl<F: Family, V: Drop> Flat<F, V> {
     /// Returns an empty map. Allocates nothing.
-    pub fn new(alloc: Global) -> Flat<V>
+    pub fn new(alloc: Global) -> Flat<F, V>
         ensures { result ≡ [] }
     {
         Flat {
@@ -64,7 +65,11 @@ impl<V: Drop> Flat<V> {
     }
 
     /// Returns a map of one key, in a list with no spare room. An `Err` drops the value.
-    pub(crate) fn single(alloc: Global, key: RouteKey, value: V) -> Result<Flat<V>, Memory>
+    pub(crate) fn single(
+        alloc: Global,
+        key: RouteKey<Prefix<F>>,
+        value: V,
+    ) -> Result<Flat<F, V>, Memory>
         ensures { IfOk result (λ one. one ≡ (key, value) ∷ []) }
     {
         // What holds of each prefix is known once it is read.
@@ -75,7 +80,7 @@ impl<V: Drop> Flat<V> {
     }
 
     /// Returns the value of a key.
-    pub fn get(&self, key: &RouteKey) -> Option<&V>
+    pub fn get(&self, key: &RouteKey<Prefix<F>>) -> Option<&V>
         ensures { option_copied result ≡ find key_cmp key.now self.now }
     {
         match self.search(key) {
@@ -86,7 +91,7 @@ impl<V: Drop> Flat<V> {
 
     // Where a key is, or would go. The end is tried first, since a RIB dump comes in order. A short
     // list is read from the front: these reads don't wait for one another.
-    fn search(&self, key: &RouteKey) -> Result<usize, usize>
+    fn search(&self, key: &RouteKey<Prefix<F>>) -> Result<usize, usize>
         ensures found { IfOk result (λ i. IsAt key_cmp self.now key.now i) }
         ensures absent { IfErr result (λ i. IsGap key_cmp self.now key.now i) }
         ensures sorted { T (is_sorted key_cmp self.now) }
@@ -99,7 +104,7 @@ impl<V: Drop> Flat<V> {
     }
 
     // Like `search`, but compares the keys one by one.
-    fn scan(&self, key: &RouteKey) -> Result<usize, usize>
+    fn scan(&self, key: &RouteKey<Prefix<F>>) -> Result<usize, usize>
         ensures found { IfOk result (λ i. IsAt key_cmp self.now key.now i) }
         ensures absent { IfErr result (λ i. IsGap key_cmp self.now key.now i) }
         ensures sorted { T (is_sorted key_cmp self.now) }
@@ -116,7 +121,7 @@ impl<V: Drop> Flat<V> {
     }
 
     /// Sets the value of a key, and returns the previous one. An `Err` changes nothing.
-    pub fn insert(&mut self, key: RouteKey, value: V) -> Result<Option<V>, Memory>
+    pub fn insert(&mut self, key: RouteKey<Prefix<F>>, value: V) -> Result<Option<V>, Memory>
         ensures before { IfOk result (λ before. before ≡ find key_cmp key self.old) }
         ensures ok { OnOk result (self.new ≡ put key_cmp key value self.old) }
         ensures err { OnErr result (self.new ≡ self.old) }
@@ -135,7 +140,7 @@ impl<V: Drop> Flat<V> {
     }
 
     /// Removes a key, and returns its value. Allocates nothing.
-    pub fn remove(&mut self, key: &RouteKey) -> Option<V>
+    pub fn remove(&mut self, key: &RouteKey<Prefix<F>>) -> Option<V>
         ensures before { result ≡ find key_cmp key.now self.old }
         ensures removed { self.new ≡ where_key key_cmp (λ x. not (eq_by_cmp key_cmp key.now x)) self.old }
         ensures sorted { T (is_sorted key_cmp self.new) }
@@ -169,7 +174,7 @@ impl<V: Drop> Flat<V> {
     }
 
     /// Appends the entries to a list that has room for them, in key order. Allocates nothing.
-    pub(crate) fn append_to<'a>(&'a self, all: &mut Vec<(RouteKey, &'a V)>)
+    pub(crate) fn append_to<'a>(&'a self, all: &mut Vec<(RouteKey<Prefix<F>>, &'a V)>)
         requires { vec_len all.old + length self.now ≤ vec_capacity all.old }
         ensures entries { entries_now all.new.items ≡ entries_now all.old.items ++ self.now }
         ensures len { vec_len all.new ≡ vec_len all.old + length self.now }
@@ -181,7 +186,7 @@ impl<V: Drop> Flat<V> {
     }
 
     /// Returns the whole map, in key order. An `Err` means that an allocation failed.
-    pub fn entries(&self, alloc: Global) -> Result<Vec<(RouteKey, &V)>, Memory>
+    pub fn entries(&self, alloc: Global) -> Result<Vec<(RouteKey<Prefix<F>>, &V)>, Memory>
         ensures entries { IfOk result (λ all. map (λ e. (e.0, e.1.now)) all.items ≡ self.now) }
         ensures sorted { T (is_sorted key_cmp self.now) }
     {
@@ -191,7 +196,7 @@ impl<V: Drop> Flat<V> {
     }
 
     // Where the first key of a prefix is, or would go.
-    fn start_of(&self, prefix: &Prefix) -> usize
+    fn start_of(&self, prefix: &Prefix<F>) -> usize
         ensures bound { result ≤ length self.now }
         ensures start { IsPartitionPoint (λ e. prefix_cmp e.0.prefix prefix.now ≡ Less)
             (λ e. prefix_cmp e.0.prefix prefix.now ≢ Less) self.now result }
@@ -209,7 +214,7 @@ impl<V: Drop> Flat<V> {
 
     /// Returns the identifiers and values of the keys of a prefix, ascending by identifier. An `Err`
     /// means that an allocation failed.
-    pub fn paths(&self, alloc: Global, prefix: &Prefix) -> Result<Vec<(u32, &V)>, Memory>
+    pub fn paths(&self, alloc: Global, prefix: &Prefix<F>) -> Result<Vec<(u32, &V)>, Memory>
         ensures paths { IfOk result (λ all. map (λ e. (e.0, e.1.now)) all.items ≡ paths_of prefix.now self.now) }
         ensures sorted { T (is_sorted key_cmp self.now) }
     {
@@ -226,22 +231,29 @@ impl<V: Drop> Flat<V> {
     }
 }
 
-impl<V: Drop> PrefixMap<V> for Flat<V> {
+impl<F: Family, V: Drop> PrefixMap<V> for Flat<F, V> {
+    type Addr = F;
+
     ghost contents = { λ m. finite.from_entries m };
 
     fn new(alloc: Global) -> Self {
         Flat::new(alloc)
     }
 
-    fn insert(&mut self, _alloc: Global, key: RouteKey, value: V) -> Result<Option<V>, Memory> {
-        Flat::insert(self, key, value)
+    fn insert(
+        &mut self,
+        _alloc: Global,
+        key: &RouteKey<Prefix<F>>,
+        value: V,
+    ) -> Result<Option<V>, Memory> {
+        Flat::insert(self, *key, value)
     }
 
-    fn remove(&mut self, key: &RouteKey) -> Option<V> {
+    fn remove(&mut self, key: &RouteKey<Prefix<F>>) -> Option<V> {
         Flat::remove(self, key)
     }
 
-    fn get(&self, key: &RouteKey) -> Option<&V> {
+    fn get(&self, key: &RouteKey<Prefix<F>>) -> Option<&V> {
         Flat::get(self, key)
     }
 
@@ -249,11 +261,11 @@ impl<V: Drop> PrefixMap<V> for Flat<V> {
         Flat::clear(self);
     }
 
-    fn longest(&self, addr: u32) -> Option<Prefix> {
+    fn longest(&self, addr: F) -> Option<Prefix<F>> {
         Flat::longest(self, addr)
     }
 
-    fn paths(&self, alloc: Global, prefix: &Prefix) -> Result<Vec<(u32, &V)>, Memory> {
+    fn paths(&self, alloc: Global, prefix: &Prefix<F>) -> Result<Vec<(u32, &V)>, Memory> {
         Flat::paths(self, alloc, prefix)
     }
 
@@ -261,7 +273,7 @@ impl<V: Drop> PrefixMap<V> for Flat<V> {
         Flat::len(self)
     }
 
-    fn list<'a>(&'a self, all: &mut Vec<(RouteKey, &'a V)>) {
+    fn list<'a>(&'a self, all: &mut Vec<(RouteKey<Prefix<F>>, &'a V)>) {
         // That the items are in order is known once they are read.
         let _ = &self.items;
         self.append_to(all);

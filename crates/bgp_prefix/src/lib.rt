@@ -1,4 +1,7 @@
-//! IPv4 prefixes, the keys of routes, and finite maps from keys with longest-prefix match.
+//! Prefixes, the keys of routes, and finite maps from keys with longest-prefix match, for IPv4 and IPv6.
+//!
+//! A family of addresses is the type of its addresses (`Family`, on `u32` and `Ipv6`). Contracts see an address as the
+//! first bits of 128, so order, coverage and matching are defined once, for all families.
 //!
 //! A `Prefix` (RFC 4271, 4.3) has its host bits cleared when it is made, so all ways to write a prefix are one value. A
 //! `RouteKey` is a prefix with a path identifier (RFC 7911, 3), 0 where there is none.
@@ -24,6 +27,7 @@
 //! - `KeySet`, a sorted list of keys, answers which withdrawn keys of an UPDATE are announced in it too.
 #![tactic(auto)]
 
+mod family;
 mod flat;
 mod key;
 mod key_set;
@@ -32,7 +36,10 @@ mod memory;
 mod prefix;
 mod radix;
 mod sequence;
+mod v4;
+mod v6;
 
+pub use family::Family;
 pub use flat::Flat;
 pub use key::RouteKey;
 pub use key_set::KeySet;
@@ -41,3 +48,4 @@ pub use memory::Memory;
 pub use prefix::{Prefix, shared_len};
 pub use radix::Radix;
 pub use sequence::Sequence;
+pub use v6::Ipv6;

@@ -1,89 +1,130 @@
-//! IPv4 prefixes (RFC 4271, 4.3), and the bits that they share.
+//! Prefixes (RFC 4271, 4.3), and the bits that they share.
 
 ghost use Rattle.std.specs.Prelude.{◌≡◌, ◌≢◌, ℕ, ◌+◌, ◌-◌, ◌*◌, ◌/◌, ◌^◌, ◌<◌, ◌≤◌, ◌↔◌, IsTrue, IsNone, IsSome, IfSome, MatchOption, if◌then◌else◌};
-ghost use Rattle.bgp_prefix.specs.Prefixes.{IpPrefix, IsIpPrefix, network_of, leading_bits, contains, covers};
+ghost use Rattle.bgp_prefix.specs.Prefixes.{IpPrefix, IsIpPrefix, network_of, leading_bits, contains, covers, prefix_cmp, prefix_eq};
 
+use crate::family::Family;
+use std::alloc::AllocError;
+use std::cmp::Ordering;
 use std::marker::Model;
 
 /// A set of addresses that share their first bits.
-#[derive(Clone, Copy, Debug, PartialEq, Eq, PartialOrd, Ord)]
-pub struct Prefix {
-    addr: u32,
+#[derive(Debug)]
+pub struct Prefix<F: Family = u32> {
+    addr: F,
     len: u8,
 }
 
-impl Model for Prefix {
+impl<F: Family> Model for Prefix<F> {
+    ghost use Rattle.std.specs.Prelude.{◌≤◌};
+    ghost use Rattle.bgp_prefix.specs.Prefixes.{IpPrefix, IsIpPrefix};
+
     ghost Value = { IpPrefix };
 
-    ghost view = { λ p. record { addr = p.addr; len = p.len } };
+    ghost view = { λ p. record { addr = F.bits p.addr; len = p.len } };
 
-    ghost invariant = { λ p. IsIpPrefix (record { addr = p.addr; len = p.len }) };
+    ghost invariant = { λ p. IsIpPrefix (record { addr = F.bits p.addr; len = p.len }) × (p.len ≤ F.WIDTH) };
 
-    ghost inverse = { λ p. record { addr = p.addr; len = p.len } };
+    ghost inverse = { λ p. record { addr = F.of_bits p.addr; len = p.len } };
+
+    ghost inverse_ok = { λ a h. λ i. record { addr = F.back a.addr i; len = a.len } };
 }
 
-impl Prefix {
-    /// Returns the prefix of this length that contains the address. None exactly for a length over 32.
-    pub fn new(addr: u32, len: u8) -> Option<Prefix>
-        ensures some { IsSome result ↔ (len ≤ 32) }
-        ensures prefix { IfSome result (λ p. p ≡ record { addr = network_of addr len; len = len }) }
+impl<F: Family> Copy for Prefix<F> {}
+
+impl<F: Family> Clone for Prefix<F> {
+    fn clone(&self) -> Result<Self, AllocError> {
+        Ok(*self)
+    }
+}
+
+impl<F: Family> Prefix<F> {
+    /// Returns the prefix of this length that contains the address. None exactly for a length over the family's width.
+    #[inline]
+    pub fn new(addr: F, len: u8) -> Option<Prefix<F>>
+        ensures some { IsSome result ↔ (len ≤ F.WIDTH) }
+        ensures prefix { IfSome result (λ p. p ≡ record { addr = network_of (F.bits addr) len; len = len }) }
     {
-        if len > 32 {
+        if len > F::WIDTH {
             return None;
         }
-        let shift = 32 - len as u32;
-        let block = 1u64 << shift;
-        let network = (addr as u64 / block * block) as u32;
-        Some(Prefix { addr: network, len })
+        Some(Prefix {
+            addr: addr.masked(len),
+            len,
+        })
     }
 
     /// Its address: the bits past the length are 0.
-    pub fn addr(&self) -> u32
-        ensures addr { result ≡ self.now.addr }
+    #[inline]
+    pub fn addr(&self) -> F
+        ensures addr { F.bits result ≡ self.now.addr }
         ensures known { IsIpPrefix self.now }
     {
         self.addr
     }
 
-    /// Its length in bits, at most 32.
+    /// Its length in bits, at most the family's width.
+    #[inline]
     pub fn len(&self) -> u8
         ensures len { result ≡ self.now.len }
         ensures known { IsIpPrefix self.now }
+        ensures short { result ≤ F.WIDTH }
     {
         self.len
     }
 
     /// Returns the prefix of this length that covers this one.
-    pub fn shortened(&self, len: u8) -> Prefix
+    #[inline]
+    pub fn shortened(&self, len: u8) -> Prefix<F>
         requires { len ≤ self.now.len }
         ensures prefix { result ≡ record { addr = network_of self.now.addr len; len = len } }
         ensures known { IsIpPrefix result }
     {
-        let addr = self.addr;
-        let shift = 32 - len as u32;
-        let block = 1u64 << shift;
-        let network = (addr as u64 / block * block) as u32;
-        Prefix { addr: network, len }
+        Prefix {
+            addr: self.addr.masked(len),
+            len,
+        }
     }
 
     /// Whether the address has the bits of the prefix.
-    pub fn contains(&self, addr: u32) -> bool
-        ensures { result ≡ contains self.now addr }
+    #[inline]
+    pub fn contains(&self, addr: F) -> bool
+        ensures { result ≡ contains self.now (F.bits addr) }
     {
-        let shift = 32 - self.len as u32;
-        addr as u64 >> shift == self.addr as u64 >> shift
+        addr.agrees(self.addr, self.len)
     }
 
     /// Whether `other` is no shorter and lies within this prefix.
-    pub fn covers(&self, other: &Prefix) -> bool
+    #[inline]
+    pub fn covers(&self, other: &Prefix<F>) -> bool
         ensures { result ≡ covers self.now other.now }
     {
         self.len <= other.len && self.contains(other.addr)
     }
+
+    /// Whether the two are the same.
+    #[inline]
+    pub fn is_same(&self, other: &Prefix<F>) -> bool
+        ensures { result ≡ prefix_eq self.now other.now }
+    {
+        self.addr.is_same(other.addr) && self.len == other.len
+    }
+
+    /// Compares two prefixes by address, then by length.
+    #[inline]
+    pub fn compare(&self, other: &Prefix<F>) -> Ordering
+        ensures { result ≡ prefix_cmp self.now other.now }
+    {
+        match self.addr.compare(other.addr) {
+            Ordering::Equal => self.len.cmp(&other.len),
+            decided => decided,
+        }
+    }
 }
 
 /// The number of leading bits that two prefixes share.
-pub fn shared_len(p: &Prefix, q: &Prefix) -> u8
+#[inline]
+pub fn shared_len<F: Family>(p: &Prefix<F>, q: &Prefix<F>) -> u8
     ensures in_p { result ≤ p.now.len }
     ensures in_q { result ≤ q.now.len }
     ensures shared { leading_bits result p.now.addr ≡ leading_bits result q.now.addr }
@@ -91,20 +132,67 @@ pub fn shared_len(p: &Prefix, q: &Prefix) -> u8
         leading_bits (result + 1) p.now.addr ≢ leading_bits (result + 1) q.now.addr }
     ensures known_p { IsIpPrefix p.now }
     ensures known_q { IsIpPrefix q.now }
+    ensures short_p { p.now.len ≤ F.WIDTH }
 {
-    let same = (p.addr() ^ q.addr()).leading_zeros();
+    let same = p.addr().shared(q.addr());
     let shorter = p.len().min(q.len());
-    if same < shorter as u32 {
-        same as u8
-    } else {
-        shorter
+    if same < shorter { same } else { shorter }
+}
+
+impl<F: Family> PartialEq for Prefix<F> {
+    ghost use Rattle.std.specs.Prelude.{◌==◌};
+    ghost use Rattle.std.proofs.Common.{rules};
+    ghost use Rattle.std.specs.Cmp.Rules.{comparing};
+    ghost use Rattle.std.specs.Ordering.{on, eq_of_both};
+
+    ghost eq = { eq_of_both (on (λ p. p.addr) ◌==◌) (on (λ p. p.len) ◌==◌) };
+
+    ghost laws = { Prim.search (comparing, rules) };
+
+    #[inline]
+    fn eq(&self, other: &Self) -> bool {
+        self.is_same(other)
     }
 }
 
-/// The bit of the address after the first `len`.
-pub fn bit_after(addr: u32, len: u8) -> bool
-    requires { len < 32 }
-    ensures { leading_bits (len + 1) addr ≡ 2 * leading_bits len addr + (if result then 1 else 0) }
-{
-    (addr as u64 >> (31 - len as u32)) & 1 == 1
+impl<F: Family> Eq for Prefix<F> {
+    ghost use Rattle.std.proofs.Common.{rules};
+    ghost use Rattle.std.specs.Cmp.Rules.{comparing};
+
+    ghost laws = { Prim.search (comparing, rules) };
+}
+
+impl<F: Family> Ord for Prefix<F> {
+    ghost use Rattle.std.proofs.Common.{rules};
+    ghost use Rattle.std.specs.Cmp.Rules.{comparing};
+    ghost use Rattle.std.specs.Ordering.{nat_cmp, on, then_cmp};
+
+    ghost cmp = { then_cmp (on (λ p. p.addr) nat_cmp) (on (λ p. p.len) nat_cmp) };
+
+    ghost total = { Prim.search (comparing, rules) };
+
+    ghost matches_partial_cmp = { Prim.search (comparing, rules) };
+
+    ghost matches_eq = { Prim.search (comparing, rules) };
+
+    #[inline]
+    fn cmp(&self, other: &Self) -> Ordering {
+        self.compare(other)
+    }
+}
+
+impl<F: Family> PartialOrd for Prefix<F> {
+    ghost use Rattle.std.proofs.Common.{rules};
+    ghost use Rattle.std.specs.Cmp.{partial_order_from_own_ties};
+    ghost use Rattle.std.specs.Cmp.Rules.{comparing};
+    ghost use Rattle.std.specs.Ordering.{nat_cmp, on, then_cmp, as_partial_cmp};
+
+    ghost partial_cmp = { as_partial_cmp (then_cmp (on (λ p. p.addr) nat_cmp) (on (λ p. p.len) nat_cmp)) };
+
+    ghost laws = { partial_order_from_own_ties (Prim.search (comparing, rules)) (Prim.search (comparing, rules)) };
+
+    #[inline]
+    fn partial_cmp(&self, other: &Self) -> Option<Ordering> {
+        Some(self.compare(other))
+    }
 }

@@ -8,11 +8,12 @@ mod node;
 mod removal;
 mod slot;
 
-ghost use Rattle.std.specs.Prelude.{◌≤◌, IfSome, IfNone};
+ghost use Rattle.std.specs.Prelude.{◌≤◌, ◌+◌, IfSome, IfNone};
 ghost use Rattle.std.specs.FinMap as finite;
 ghost use Rattle.bgp_prefix.specs.Keys.{key_cmp, matching_prefixes};
 ghost use Rattle.bgp_prefix.specs.Maps.{IsLongestMatch, HasNoMatch};
 
+use crate::family::Family;
 use crate::key::RouteKey;
 use crate::map::PrefixMap;
 use crate::memory::Memory;
@@ -23,14 +24,14 @@ use std::marker::Model;
 
 /// A finite map from keys to values, as a path-compressed trie of the keys' prefixes.
 #[derive(Drop)]
-pub struct Radix<V> {
-    root: Branch<V>,
+pub struct Radix<F: Family, V> {
+    root: Branch<F, V>,
     len: usize,
 }
 
-impl<V> Model for Radix<V> {
+impl<F: Family, V> Model for Radix<F, V> {
     ghost use Rattle.std.specs.Prelude.{◌≡◌, List, length};
-    ghost use Rattle.bgp_prefix.specs.declared.key.RouteKey.{RouteKey};
+    ghost use Rattle.bgp_prefix.specs.Keys.{RouteKey};
     ghost use Rattle.bgp_prefix.specs.Tries.{routes, IsTrie};
 
     ghost Value = { List (RouteKey × V) };
@@ -40,21 +41,23 @@ impl<V> Model for Radix<V> {
     ghost invariant = { λ m. IsTrie m.root × (m.len ≡ length (routes m.root)) };
 }
 
-impl<V: Drop> Radix<V> {
+impl<F: Family, V: Drop> Radix<F, V> {
     /// Returns the longest prefix of a key that contains the address, and how many nodes were looked at:
-    /// at most 33, and at least one for each prefix held that contains the address.
-    pub fn longest_steps(&self, addr: u32) -> (Option<Prefix>, u32)
-        ensures found { IfSome result.0 (IsLongestMatch (finite.from_entries self.now) addr) }
-        ensures none { IfNone result.0 (HasNoMatch (finite.from_entries self.now) addr) }
-        ensures enough { matching_prefixes (finite.entries (finite.from_entries {R = key_cmp} self.now)) addr
+    /// at most one more than an address has bits, and at least one for each prefix held that contains the address.
+    pub fn longest_steps(&self, addr: F) -> (Option<Prefix<F>>, u32)
+        ensures found { IfSome result.0 (IsLongestMatch (finite.from_entries self.now) (F.bits addr)) }
+        ensures none { IfNone result.0 (HasNoMatch (finite.from_entries self.now) (F.bits addr)) }
+        ensures enough { matching_prefixes (finite.entries (finite.from_entries {R = key_cmp} self.now)) (F.bits addr)
             ≤ result.1 }
-        ensures bound { result.1 ≤ 33 }
+        ensures bound { result.1 ≤ F.WIDTH + 1 }
     {
         self.root.longest_steps(addr)
     }
 }
 
-impl<V: Drop> PrefixMap<V> for Radix<V> {
+impl<F: Family, V: Drop> PrefixMap<V> for Radix<F, V> {
+    type Addr = F;
+
     ghost contents = { λ m. finite.from_entries m };
 
     fn new(_alloc: Global) -> Self {
@@ -64,21 +67,26 @@ impl<V: Drop> PrefixMap<V> for Radix<V> {
         }
     }
 
-    fn insert(&mut self, alloc: Global, key: RouteKey, value: V) -> Result<Option<V>, Memory> {
-        // Its length is at most 32.
+    fn insert(
+        &mut self,
+        alloc: Global,
+        key: &RouteKey<Prefix<F>>,
+        value: V,
+    ) -> Result<Option<V>, Memory> {
+        // What holds of its prefix is known once it is read.
         let _ = key.prefix.len();
         let Some(more) = self.len.checked_add(1) else {
             return Err(Memory);
         };
         let mut slot = Some(value);
-        self.root.insert(alloc, &key, &mut slot)?;
+        self.root.insert(alloc, key, &mut slot)?;
         if slot.is_none() {
             self.len = more;
         }
         Ok(slot)
     }
 
-    fn remove(&mut self, key: &RouteKey) -> Option<V> {
+    fn remove(&mut self, key: &RouteKey<Prefix<F>>) -> Option<V> {
         let mut slot = None;
         let _ = self.root.remove(key, &mut slot);
         if slot.is_some() {
@@ -87,15 +95,15 @@ impl<V: Drop> PrefixMap<V> for Radix<V> {
         slot
     }
 
-    fn get(&self, key: &RouteKey) -> Option<&V> {
+    fn get(&self, key: &RouteKey<Prefix<F>>) -> Option<&V> {
         self.root.get(key)
     }
 
-    fn longest(&self, addr: u32) -> Option<Prefix> {
+    fn longest(&self, addr: F) -> Option<Prefix<F>> {
         self.root.longest(addr)
     }
 
-    fn paths(&self, alloc: Global, prefix: &Prefix) -> Result<Vec<(u32, &V)>, Memory> {
+    fn paths(&self, alloc: Global, prefix: &Prefix<F>) -> Result<Vec<(u32, &V)>, Memory> {
         self.root.paths(alloc, prefix)
     }
 
@@ -108,7 +116,7 @@ impl<V: Drop> PrefixMap<V> for Radix<V> {
         self.len
     }
 
-    fn list<'a>(&'a self, all: &mut Vec<(RouteKey, &'a V)>) {
+    fn list<'a>(&'a self, all: &mut Vec<(RouteKey<Prefix<F>>, &'a V)>) {
         self.root.list(all);
     }
 }

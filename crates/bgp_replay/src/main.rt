@@ -381,11 +381,12 @@ fn replay<R: Threads + Sync>(
     inputs: &mut [Input<'_, '_>],
     out: &mut Output<'_>,
 ) -> Result<Summary, ReplayError> {
-    run::<Shelf<SharedRoute>, _, _, _, _, _>(
+    run::<Shelf<u32, SharedRoute>, _, _, _, _, _>(
         threads,
         rt.alloc(),
         inputs,
         &asked.job.request,
+        asked.job.layout,
         selection,
         &asked.plan,
         &ByTurns,

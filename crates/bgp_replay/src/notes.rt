@@ -73,7 +73,7 @@ fn names_of(
     Ok(names.text)
 }
 
-/// Returns a peer as reports print it: its AS number, a space and its address.
+/// Returns a peer as reports print it, with its address in full: its AS number, a space and its address.
 fn peer_text(alloc: Global, peer: &PeerKey) -> Result<String, AllocError> {
     let asn = peer.asn;
     match peer.addr {

@@ -4,6 +4,7 @@ use Rattle.std.specs.Prelude.{is_some}
 use Rattle.std.proofs.lemmas.Bool.{eqb-true, ne_eqb}
 use Rattle.mrt_frame.specs.declared.fault.Fault.{Fault}
 use Rattle.mrt_frame.proofs.FieldLaws.{IsBytes}
+use Rattle.bgp_update.specs.Families.{FamilyOf}
 use Rattle.bgp_update.specs.declared.attribute_type.AttributeType.{AttributeType}
 use Rattle.bgp_update.specs.declared.attribute_type.AttributeType.TheVariants as types
 use Rattle.bgp_update.specs.declared.width.Width.{Width}
@@ -14,9 +15,10 @@ use Rattle.bgp_update.specs.declared.route.Origin.TheVariants.{Igp, Egp, Incompl
 use Rattle.bgp_update.specs.Paths.{PathSegment}
 use Rattle.bgp_update.specs.Segments.{number_len, path_bytes, IsPath, path_in}
 use Rattle.bgp_update.specs.Equality.{origin_number}
-use Rattle.bgp_update.specs.Multiprotocol.{reached_in, unreached_in}
+use Rattle.bgp_update.specs.Multiprotocol.{reached_in, unreached_in, entry_hop_in}
 use Rattle.bgp_update.specs.AttributeTypes.{bad_attribute}
-use Rattle.bgp_update.specs.Attributes.{IsFormed, HoldsReach, HoldsUnreach, origin_of, fault_unless, fault_of, reached_fault, unreached_fault, value_fault}
+use Rattle.bgp_update.specs.Attributes.{IsFormed, HoldsEntryHop, HoldsReach, HoldsUnreach, origin_of, fault_unless, fault_of, reached_fault, unreached_fault, value_fault}
+use Rattle.bgp_update.proofs.EntryHopLaws.{entry_hop_in-is, entry_hop_in-said}
 use Rattle.bgp_update.proofs.SegmentLaws.{path_in-bytes, path_in-is}
 use Rattle.bgp_update.proofs.MultiprotocolLaws.{reached_in-is, reached_in-bytes, unreached_in-is, unreached_in-bytes}
 
@@ -87,25 +89,35 @@ either_passes value fault (inr e) = ap (λ (m : ℕ). fault_unless (eqb m 6 || e
 
 -- ---- MP_REACH_NLRI and MP_UNREACH_NLRI
 
-holds_reach : (carrier : Carrier) (value : List ℕ) → IsBytes value → reached_fault carrier value ≡ None → HoldsReach carrier value
-holds_reach RibEntry value fine e = tt
-holds_reach (Message add_path) value fine e =
-    let r = no_reading_fault (reached_in add_path value) e in
-    (r.0.0, r.0.1, reached_in-is add_path value r.0 fine r.1)
+entry_holds : (own : Bool) (family : FamilyOf) (value : List ℕ) → IsBytes value → cond own None (fault_of (entry_hop_in family value)) ≡ None → HoldsEntryHop own family value
+entry_holds true family value fine e = tt
+entry_holds false family value fine e =
+    let r = no_reading_fault (entry_hop_in family value) e in
+    (r.0, entry_hop_in-is family value r.0 fine r.1)
 
-reach_passes : (carrier : Carrier) (value : List ℕ) → HoldsReach carrier value → reached_fault carrier value ≡ None
-reach_passes RibEntry value h = refl
-reach_passes (Message add_path) value h = rw (reached_in-bytes add_path value h.0 h.1 h.2) refl
+entry_passes : (own : Bool) (family : FamilyOf) (value : List ℕ) → HoldsEntryHop own family value → cond own None (fault_of (entry_hop_in family value)) ≡ None
+entry_passes true family value h = refl
+entry_passes false family value h = ap fault_of (entry_hop_in-said family value h.0 h.1)
 
-holds_unreach : (carrier : Carrier) (value : List ℕ) → IsBytes value → unreached_fault carrier value ≡ None → HoldsUnreach carrier value
-holds_unreach RibEntry value fine e = tt
-holds_unreach (Message add_path) value fine e =
-    let r = no_reading_fault (unreached_in add_path value) e in
-    (r.0, unreached_in-is add_path value r.0 fine r.1)
+holds_reach : (family : FamilyOf) (carrier : Carrier) (value : List ℕ) → IsBytes value → reached_fault family carrier value ≡ None → HoldsReach family carrier value
+holds_reach family RibEntry value fine e = entry_holds family.own_fields family value fine e
+holds_reach family (Message add_path) value fine e =
+    let r = no_reading_fault (reached_in family add_path value) e in
+    (r.0.0, r.0.1, reached_in-is family add_path value r.0 fine r.1)
 
-unreach_passes : (carrier : Carrier) (value : List ℕ) → HoldsUnreach carrier value → unreached_fault carrier value ≡ None
-unreach_passes RibEntry value h = refl
-unreach_passes (Message add_path) value h = rw (unreached_in-bytes add_path value h.0 h.1) refl
+reach_passes : (family : FamilyOf) (carrier : Carrier) (value : List ℕ) → HoldsReach family carrier value → reached_fault family carrier value ≡ None
+reach_passes family RibEntry value h = entry_passes family.own_fields family value h
+reach_passes family (Message add_path) value h = rw (reached_in-bytes family add_path value h.0 h.1 h.2) refl
+
+holds_unreach : (family : FamilyOf) (carrier : Carrier) (value : List ℕ) → IsBytes value → unreached_fault family carrier value ≡ None → HoldsUnreach family carrier value
+holds_unreach family RibEntry value fine e = tt
+holds_unreach family (Message add_path) value fine e =
+    let r = no_reading_fault (unreached_in family add_path value) e in
+    (r.0, unreached_in-is family add_path value r.0 fine r.1)
+
+unreach_passes : (family : FamilyOf) (carrier : Carrier) (value : List ℕ) → HoldsUnreach family carrier value → unreached_fault family carrier value ≡ None
+unreach_passes family RibEntry value h = refl
+unreach_passes family (Message add_path) value h = rw (unreached_in-bytes family add_path value h.0 h.1) refl
 
 -- ---- all types
 
@@ -118,30 +130,30 @@ path_is width value fine e =
 path_passes : (width : Width) (value : List ℕ) (path : List PathSegment) → IsPath (number_len width) path → value ≡ path_bytes (number_len width) path → fault_of (path_in (number_len width) value) ≡ None
 path_passes width value path h e = ap (λ (v : List ℕ). fault_of (path_in (number_len width) v)) e ∙ rw (path_in-bytes width path h) refl
 
-pub value_is_formed : (carrier : Carrier) (width : Width) (t : AttributeType) (value : List ℕ) → IsBytes value → value_fault carrier width t value ≡ None → IsFormed carrier width t value
+pub value_is_formed : (family : FamilyOf) (carrier : Carrier) (width : Width) (t : AttributeType) (value : List ℕ) → IsBytes value → value_fault family carrier width t value ≡ None → IsFormed family carrier width t value
 unfolding value_fault
-value_is_formed carrier width types.Origin value fine e = is_origin value (no_fault (is_some (origin_of value)) (bad_attribute types.Origin) e)
-value_is_formed carrier width types.AsPath value fine e = path_is width value fine e
-value_is_formed carrier width types.NextHop value fine e = has_length value 4 (bad_attribute types.NextHop) e
-value_is_formed carrier width types.MultiExitDisc value fine e = has_length value 4 (bad_attribute types.MultiExitDisc) e
-value_is_formed carrier width types.LocalPref value fine e = has_length value 4 (bad_attribute types.LocalPref) e
-value_is_formed carrier width types.AtomicAggregate value fine e = has_length value 0 (bad_attribute types.AtomicAggregate) e
-value_is_formed carrier width types.Aggregator value fine e = either_length value (bad_attribute types.Aggregator) e
-value_is_formed carrier width types.MpReachNlri value fine e = holds_reach carrier value fine e
-value_is_formed carrier width types.MpUnreachNlri value fine e = holds_unreach carrier value fine e
-value_is_formed carrier width types.As4Path value fine e = tt
-value_is_formed carrier width types.As4Aggregator value fine e = tt
+value_is_formed family carrier width types.Origin value fine e = is_origin value (no_fault (is_some (origin_of value)) (bad_attribute types.Origin) e)
+value_is_formed family carrier width types.AsPath value fine e = path_is width value fine e
+value_is_formed family carrier width types.NextHop value fine e = has_length value 4 (bad_attribute types.NextHop) e
+value_is_formed family carrier width types.MultiExitDisc value fine e = has_length value 4 (bad_attribute types.MultiExitDisc) e
+value_is_formed family carrier width types.LocalPref value fine e = has_length value 4 (bad_attribute types.LocalPref) e
+value_is_formed family carrier width types.AtomicAggregate value fine e = has_length value 0 (bad_attribute types.AtomicAggregate) e
+value_is_formed family carrier width types.Aggregator value fine e = either_length value (bad_attribute types.Aggregator) e
+value_is_formed family carrier width types.MpReachNlri value fine e = holds_reach family carrier value fine e
+value_is_formed family carrier width types.MpUnreachNlri value fine e = holds_unreach family carrier value fine e
+value_is_formed family carrier width types.As4Path value fine e = tt
+value_is_formed family carrier width types.As4Aggregator value fine e = tt
 
-pub formed_passes : (carrier : Carrier) (width : Width) (t : AttributeType) (value : List ℕ) → IsFormed carrier width t value → value_fault carrier width t value ≡ None
+pub formed_passes : (family : FamilyOf) (carrier : Carrier) (width : Width) (t : AttributeType) (value : List ℕ) → IsFormed family carrier width t value → value_fault family carrier width t value ≡ None
 unfolding value_fault
-formed_passes carrier width types.Origin value h = origin_passes value h.0 (bad_attribute types.Origin) h.1
-formed_passes carrier width types.AsPath value h = path_passes width value h.0 h.1 h.2
-formed_passes carrier width types.NextHop value h = length_passes value 4 (bad_attribute types.NextHop) h
-formed_passes carrier width types.MultiExitDisc value h = length_passes value 4 (bad_attribute types.MultiExitDisc) h
-formed_passes carrier width types.LocalPref value h = length_passes value 4 (bad_attribute types.LocalPref) h
-formed_passes carrier width types.AtomicAggregate value h = length_passes value 0 (bad_attribute types.AtomicAggregate) h
-formed_passes carrier width types.Aggregator value h = either_passes value (bad_attribute types.Aggregator) h
-formed_passes carrier width types.MpReachNlri value h = reach_passes carrier value h
-formed_passes carrier width types.MpUnreachNlri value h = unreach_passes carrier value h
-formed_passes carrier width types.As4Path value h = refl
-formed_passes carrier width types.As4Aggregator value h = refl
+formed_passes family carrier width types.Origin value h = origin_passes value h.0 (bad_attribute types.Origin) h.1
+formed_passes family carrier width types.AsPath value h = path_passes width value h.0 h.1 h.2
+formed_passes family carrier width types.NextHop value h = length_passes value 4 (bad_attribute types.NextHop) h
+formed_passes family carrier width types.MultiExitDisc value h = length_passes value 4 (bad_attribute types.MultiExitDisc) h
+formed_passes family carrier width types.LocalPref value h = length_passes value 4 (bad_attribute types.LocalPref) h
+formed_passes family carrier width types.AtomicAggregate value h = length_passes value 0 (bad_attribute types.AtomicAggregate) h
+formed_passes family carrier width types.Aggregator value h = either_passes value (bad_attribute types.Aggregator) h
+formed_passes family carrier width types.MpReachNlri value h = reach_passes family carrier value h
+formed_passes family carrier width types.MpUnreachNlri value h = unreach_passes family carrier value h
+formed_passes family carrier width types.As4Path value h = refl
+formed_passes family carrier width types.As4Aggregator value h = refl

@@ -1,10 +1,11 @@
 -- A key is an identifier, a length and a prefix of this length.
-use Rattle.std.proofs.Common.{◌≡◌, ℕ, Bool, List, Ok, Err, refl}
+use Rattle.std.proofs.Common.{◌≡◌, ℕ, List, Ok, Err, refl}
 use Rattle.byteorder.specs.Endian.{big_number}
 use Rattle.bgp_prefix.specs.Prefixes.{IpPrefix}
-use Rattle.bgp_prefix.specs.declared.key.RouteKey.{RouteKey}
+use Rattle.bgp_prefix.specs.Keys.{RouteKey}
 use Rattle.mrt_frame.specs.declared.fault.Fault.TheVariants.{BadPrefix}
 use Rattle.mrt_frame.specs.Fields.{Reading, ◌>>=◌, byte_at, bytes_at}
+use Rattle.bgp_update.specs.Families.{KeyForm}
 use Rattle.bgp_update.specs.Keys.{WrittenKey, identifier_len, octets_at, prefix_at, prefix_of, key_of, written_key_at, key_at}
 
 abbrev as_written : List ℕ → ℕ → List ℕ × List ℕ → Reading WrittenKey
@@ -20,24 +21,24 @@ abbrev with_prefix : List ℕ → IpPrefix × List ℕ → Reading RouteKey
 with_prefix identifier prefix = Ok (record { prefix = prefix.0; id = big_number 4 identifier }, prefix.1)
 
 -- a key, read behind its identifier
-abbrev written_after : List ℕ × List ℕ → Reading WrittenKey
-written_after identifier = byte_at BadPrefix identifier.1 >>= λ len. octets_at len.0 len.1 >>= as_written identifier.0 len.0
+abbrev written_after : ℕ → List ℕ × List ℕ → Reading WrittenKey
+written_after width identifier = byte_at BadPrefix identifier.1 >>= λ len. octets_at width len.0 len.1 >>= as_written identifier.0 len.0
 
-abbrev pub key_after : List ℕ × List ℕ → Reading RouteKey
-key_after identifier = byte_at BadPrefix identifier.1 >>= λ len. prefix_at len.0 len.1 >>= with_prefix identifier.0
+abbrev pub key_after : ℕ → List ℕ × List ℕ → Reading RouteKey
+key_after width identifier = byte_at BadPrefix identifier.1 >>= λ len. prefix_at width len.0 len.1 >>= with_prefix identifier.0
 
 by_octets : (identifier : List ℕ) (len : ℕ) (r : Reading (List ℕ)) → ((r >>= as_written identifier len) >>= as_key) ≡ ((r >>= as_prefix len) >>= with_prefix identifier)
 by_octets identifier len (Ok octets) = refl
 by_octets identifier len (Err fault) = refl
 
-by_len : (identifier : List ℕ) (r : Reading ℕ) → ((r >>= λ len. octets_at len.0 len.1 >>= as_written identifier len.0) >>= as_key) ≡ (r >>= λ len. prefix_at len.0 len.1 >>= with_prefix identifier)
-by_len identifier (Ok len) = by_octets identifier len.0 (octets_at len.0 len.1)
-by_len identifier (Err fault) = refl
+by_len : (width : ℕ) (identifier : List ℕ) (r : Reading ℕ) → ((r >>= λ len. octets_at width len.0 len.1 >>= as_written identifier len.0) >>= as_key) ≡ (r >>= λ len. prefix_at width len.0 len.1 >>= with_prefix identifier)
+by_len width identifier (Ok len) = by_octets identifier len.0 (octets_at width len.0 len.1)
+by_len width identifier (Err fault) = refl
 
-by_identifier : (r : Reading (List ℕ)) → ((r >>= λ identifier. written_after identifier) >>= as_key) ≡ (r >>= λ identifier. key_after identifier)
-by_identifier (Ok identifier) = by_len identifier.0 (byte_at BadPrefix identifier.1)
-by_identifier (Err fault) = refl
+by_identifier : (width : ℕ) (r : Reading (List ℕ)) → ((r >>= λ identifier. written_after width identifier) >>= as_key) ≡ (r >>= λ identifier. key_after width identifier)
+by_identifier width (Ok identifier) = by_len width identifier.0 (byte_at BadPrefix identifier.1)
+by_identifier width (Err fault) = refl
 
-pub key_parts : (add_path : Bool) (bytes : List ℕ) → key_at add_path bytes ≡ (bytes_at BadPrefix (identifier_len add_path) bytes >>= λ identifier. key_after identifier)
+pub key_parts : (form : KeyForm) (bytes : List ℕ) → key_at form bytes ≡ (bytes_at BadPrefix (identifier_len form.add_path) bytes >>= λ identifier. key_after form.width identifier)
 unfolding key_at written_key_at
-key_parts add_path bytes = by_identifier (bytes_at BadPrefix (identifier_len add_path) bytes)
+key_parts form bytes = by_identifier form.width (bytes_at BadPrefix (identifier_len form.add_path) bytes)

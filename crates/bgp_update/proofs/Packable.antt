@@ -1,5 +1,5 @@
 -- What is read can be packed: its numbers have their widths, and its path, merged or not, can be written.
-use Rattle.std.proofs.Common.{◌≡◌, ℕ, zero, suc, ◌-◌, ◌^◌, ◌<◌, Bool, true, false, cond, eqb, List, [], ◌∷◌, ◌++◌, length, take, Option, Some, None, Result, Ok, Err, refl, sym, subst, arith}
+use Rattle.std.proofs.Common.{◌≡◌, ℕ, zero, suc, ◌-◌, ◌^◌, ◌<◌, Bool, true, false, cond, eqb, List, [], ◌∷◌, ◌++◌, length, take, Option, Some, None, Result, Ok, Err, refl, sym, ap, subst, arith}
 use Rattle.std.specs.Prelude.{IfSome, IfOk, nat_le, nat_lt}
 use Rattle.std.specs.List.{filter, AllByRecursion}
 use Rattle.std.specs.Option.{option_and_then}
@@ -9,6 +9,7 @@ use Rattle.std.proofs.lemmas.List.Concat.{flat_map-cons}
 use Rattle.byteorder.specs.Endian.{big_bytes}
 use Rattle.mrt_frame.specs.declared.fault.Fault.{Fault}
 use Rattle.mrt_frame.proofs.FieldLaws.{IsBytes, IsBytes-drop, IsBytes-front}
+use Rattle.bgp_update.specs.Families.{FamilyOf}
 use Rattle.bgp_update.specs.declared.attribute_type.AttributeType.{AttributeType}
 use Rattle.bgp_update.specs.declared.attribute_type.AttributeType.TheVariants as types
 use Rattle.bgp_update.specs.declared.width.Width.{Width}
@@ -19,13 +20,11 @@ use Rattle.bgp_update.specs.Answers.{Gives}
 use Rattle.bgp_update.specs.Paths.{PathSegment, is_sequence, has_numbers, is_plain, part_of, part_front, longest_front, segment_length, path_length, merged}
 use Rattle.bgp_update.specs.Segments.{number_len, path_in, well_formed, path_of_value, IsSegment, IsPath}
 use Rattle.bgp_update.specs.Merging.{aggregator_of, as4_aggregator_of, as4_path_of, joined_path, is_stale}
-use Rattle.bgp_update.specs.Attributes.{WrittenAttribute, length_len, has_type, value_of, attributes_bytes, attribute_bytes, path_from, route_from, route_in}
+use Rattle.bgp_update.specs.Attributes.{WrittenAttribute, length_len, has_type, value_of, attributes_bytes, attribute_bytes, path_from, route_from, route_of, SaysRoute, route_in}
 use Rattle.bgp_update.specs.Packing.{IsWritable}
 use Rattle.bgp_update.proofs.SegmentLaws.{path_in-is}
 use Rattle.bgp_update.proofs.UpdateLaws.{route_takes, update_takes}
-use Rattle.bgp_update.specs.declared.route.Update.{Update}
-use Rattle.bgp_update.specs.Keys.{keys_bytes}
-use Rattle.bgp_update.specs.Updates.{UpdateForm, update_bytes, update_in}
+use Rattle.bgp_update.specs.Updates.{Update, UpdateForm, update_bytes, update_in}
 
 abbrev Path : Type 0
 Path = List PathSegment
@@ -164,29 +163,35 @@ values_fine t (a ∷ attributes) fine =
     let both : IsBytes (attribute_bytes a ++ attributes_bytes attributes) = subst IsBytes (flat_map-cons attribute_bytes a attributes) fine in
     one_of_two (has_type t a) a.value (value_of t attributes) (value_fine a (IsBytes-front (attribute_bytes a) (attributes_bytes attributes) both)) (values_fine t attributes (bytes_behind (attribute_bytes a) (attributes_bytes attributes) both))
 
-pub route_writable : (width : Width) (bytes : List ℕ) (route : Route) → IsBytes bytes → route_in width bytes ≡ Ok route → IsWritable route.path
-route_writable width bytes route fine e =
-    let t = route_takes width bytes route fine e in
-    subst (λ (r : Route). IsWritable r.path) (sym t.said) (said_writable width (λ x. value_of x t.attributes) (λ x. values_fine x t.attributes (subst IsBytes t.spelled fine)))
+-- another next hop leaves the path as it is
+said_path : (own : Bool) (family : FamilyOf) (width : Width) (attributes : List WrittenAttribute) (route : Route) → SaysRoute own family width attributes route → route.path ≡ (route_of width attributes).path
+said_path true family width attributes route h = ap (λ (r : Route). r.path) h
+said_path false family width attributes route h = ap (λ (r : Route). r.path) h.2
 
-pub route_is_writable : (width : Width) (bytes : List ℕ) (r : Result Route AttrError) → IsBytes bytes → Gives (λ route. route) r (route_in width bytes) → IfOk r (λ route. IsWritable route.path)
-route_is_writable width bytes (Ok route) fine e = route_writable width bytes route fine e
-route_is_writable width bytes (Err error) fine e = tt
+pub route_writable : (family : FamilyOf) (width : Width) (bytes : List ℕ) (route : Route) → IsBytes bytes → route_in family width bytes ≡ Ok route → IsWritable route.path
+route_writable family width bytes route fine e =
+    let t = route_takes family width bytes route fine e in
+    let written : IsWritable (route_of width t.attributes).path = said_writable width (λ x. value_of x t.attributes) (λ x. values_fine x t.attributes (subst IsBytes t.spelled fine)) in
+    subst IsWritable (sym (said_path family.own_fields family width t.attributes route t.said)) written
+
+pub route_is_writable : (family : FamilyOf) (width : Width) (bytes : List ℕ) (r : Result Route AttrError) → IsBytes bytes → Gives (λ route. route) r (route_in family width bytes) → IfOk r (λ route. IsWritable route.path)
+route_is_writable family width bytes (Ok route) fine e = route_writable family width bytes route fine e
+route_is_writable family width bytes (Err error) fine e = tt
 
 attributes_fine : (form : UpdateForm) → IsBytes (update_bytes form) → IsBytes (attributes_bytes form.attributes)
 unfolding update_bytes
 attributes_fine form h =
-    IsBytes-front (attributes_bytes form.attributes) (keys_bytes form.announced)
-    (bytes_behind (big_bytes 2 (length (attributes_bytes form.attributes))) (attributes_bytes form.attributes ++ keys_bytes form.announced)
-    (bytes_behind (keys_bytes form.withdrawn) (big_bytes 2 (length (attributes_bytes form.attributes)) ++ (attributes_bytes form.attributes ++ keys_bytes form.announced))
-    (bytes_behind (big_bytes 2 (length (keys_bytes form.withdrawn))) (keys_bytes form.withdrawn ++ (big_bytes 2 (length (attributes_bytes form.attributes)) ++ (attributes_bytes form.attributes ++ keys_bytes form.announced))) h)))
+    IsBytes-front (attributes_bytes form.attributes) form.announced
+    (bytes_behind (big_bytes 2 (length (attributes_bytes form.attributes))) (attributes_bytes form.attributes ++ form.announced)
+    (bytes_behind form.withdrawn (big_bytes 2 (length (attributes_bytes form.attributes)) ++ (attributes_bytes form.attributes ++ form.announced))
+    (bytes_behind (big_bytes 2 (length form.withdrawn)) (form.withdrawn ++ (big_bytes 2 (length (attributes_bytes form.attributes)) ++ (attributes_bytes form.attributes ++ form.announced))) h)))
 
 -- the same of an UPDATE; another next hop leaves the path as it is
-pub update_writable : (width : Width) (add_path : Bool) (body : List ℕ) (update : Update) → IsBytes body → update_in width add_path body ≡ Ok update → IsWritable update.route.path
-update_writable width add_path body update fine e =
-    let t = update_takes width add_path body update fine e in
+pub update_writable : (family : FamilyOf) (width : Width) (add_path : Bool) (body : List ℕ) (update : Update) → IsBytes body → update_in family width add_path body ≡ Ok update → IsWritable update.route.path
+update_writable family width add_path body update fine e =
+    let t = update_takes family width add_path body update fine e in
     subst (λ (r : Route). IsWritable r.path) (sym t.said.route) (said_writable width (λ x. value_of x t.form.attributes) (λ x. values_fine x t.form.attributes (attributes_fine t.form (subst IsBytes t.spelled fine))))
 
-pub update_is_writable : (width : Width) (add_path : Bool) (body : List ℕ) (r : Result Update AttrError) → IsBytes body → Gives (λ u. u) r (update_in width add_path body) → IfOk r (λ update. IsWritable update.route.path)
-update_is_writable width add_path body (Ok update) fine e = update_writable width add_path body update fine e
-update_is_writable width add_path body (Err error) fine e = tt
+pub update_is_writable : (family : FamilyOf) (width : Width) (add_path : Bool) (body : List ℕ) (r : Result Update AttrError) → IsBytes body → Gives (λ u. u) r (update_in family width add_path body) → IfOk r (λ update. IsWritable update.route.path)
+update_is_writable family width add_path body (Ok update) fine e = update_writable family width add_path body update fine e
+update_is_writable family width add_path body (Err error) fine e = tt

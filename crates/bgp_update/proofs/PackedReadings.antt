@@ -3,6 +3,7 @@ use Rattle.std.proofs.Common.{◌≡◌, ℕ, Bool, List, ◌++◌, Option, Some
 use Rattle.std.specs.Prelude.{IfSome, is_some}
 use Rattle.std.specs.Option.{option_and_then}
 use Rattle.mrt_frame.proofs.FieldLaws.{IsBytes}
+use Rattle.bgp_update.specs.Families.{FamilyOf}
 use Rattle.bgp_update.specs.declared.attribute_type.AttributeType.{AttributeType}
 use Rattle.bgp_update.specs.declared.attribute_type.AttributeType.TheVariants.{AsPath}
 use Rattle.bgp_update.specs.declared.width.Width.{Width}
@@ -22,19 +23,19 @@ use Rattle.bgp_update.proofs.Packings.{route_bytes-fields}
 use Rattle.bgp_update.proofs.PackedPaths.{spelled-bytes}
 use Rattle.bgp_update.proofs.Packable.{said_writable, values_fine}
 
-spelled_if : (carrier : Carrier) (o : Option (List ℕ)) → IfSome o (IsFormed carrier Four AsPath) → IfSome o IsSpelled
-spelled_if carrier None h = tt
-spelled_if carrier (Some value) h = subst IsSpelled (sym h.2) (spelled-bytes h.0 h.1)
+spelled_if : (family : FamilyOf) (carrier : Carrier) (o : Option (List ℕ)) → IfSome o (IsFormed family carrier Four AsPath) → IfSome o IsSpelled
+spelled_if family carrier None h = tt
+spelled_if family carrier (Some value) h = subst IsSpelled (sym h.2) (spelled-bytes h.0 h.1)
 
-pub keeps_spelled : (carrier : Carrier) (width : Width) (bytes : List ℕ) (first : FirstValues) → IsBytes bytes → KeepsFirst carrier width bytes first → width ≡ Four → IfSome (kept_value first AsPath) IsSpelled
-keeps_spelled carrier width bytes first fine keeps e =
-    let four : KeepsFirst carrier Four bytes first = subst (λ (w : Width). KeepsFirst carrier w bytes first) e keeps in
-    let law = attributes_in-is carrier Four bytes four.0 fine four.1 in
-    subst (λ (o : Option (List ℕ)). IfSome o IsSpelled) (sym (four.2 AsPath)) (spelled_if carrier (value_of AsPath four.0) (law.1.formed AsPath))
+pub keeps_spelled : (family : FamilyOf) (carrier : Carrier) (width : Width) (bytes : List ℕ) (first : FirstValues) → IsBytes bytes → KeepsFirst family carrier width bytes first → width ≡ Four → IfSome (kept_value first AsPath) IsSpelled
+keeps_spelled family carrier width bytes first fine keeps e =
+    let four : KeepsFirst family carrier Four bytes first = subst (λ (w : Width). KeepsFirst family carrier w bytes first) e keeps in
+    let law = attributes_in-is family carrier Four bytes four.0 fine four.1 in
+    subst (λ (o : Option (List ℕ)). IfSome o IsSpelled) (sym (four.2 AsPath)) (spelled_if family carrier (value_of AsPath four.0) (law.1.formed AsPath))
 
-pub keeps_writable : (carrier : Carrier) (width : Width) (bytes : List ℕ) (first : FirstValues) → IsBytes bytes → KeepsFirst carrier width bytes first → IsWritable (route_from width (kept_value first)).path
-keeps_writable carrier width bytes first fine keeps =
-    let law = attributes_in-is carrier width bytes keeps.0 fine keeps.1 in
+pub keeps_writable : (family : FamilyOf) (carrier : Carrier) (width : Width) (bytes : List ℕ) (first : FirstValues) → IsBytes bytes → KeepsFirst family carrier width bytes first → IsWritable (route_from width (kept_value first)).path
+keeps_writable family carrier width bytes first fine keeps =
+    let law = attributes_in-is family carrier width bytes keeps.0 fine keeps.1 in
     let written : IsWritable (route_from width (λ t. value_of t keeps.0)).path = said_writable width (λ t. value_of t keeps.0) (λ t. values_fine t keeps.0 (subst IsBytes law.0 fine)) in
     subst (λ (r : Route). IsWritable r.path) (sym (route_from_same width (kept_value first) (λ t. value_of t keeps.0) keeps.2)) written
 

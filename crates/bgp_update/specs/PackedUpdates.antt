@@ -1,6 +1,11 @@
 -- An UPDATE whose routes are packed.
-use Rattle.bgp_update.specs.declared.packed_update.PackedUpdate.{PackedUpdate}
-use Rattle.bgp_update.specs.declared.route.Update.{Update}
+use Rattle.bgp_prefix.specs.Prefixes.{IpPrefix}
+use Rattle.bgp_update.specs.declared.packed_update.PackedUpdate.{PackedUpdate as PackedUpdateOf}
+use Rattle.bgp_update.specs.Updates.{Update}
+
+-- an UPDATE with packed routes, of keys of either family
+abbrev pub PackedUpdate : Type 0
+PackedUpdate = PackedUpdateOf IpPrefix
 
 -- the same with a route of fields
 abbrev pub plain_update : PackedUpdate → Update

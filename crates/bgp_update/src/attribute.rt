@@ -4,6 +4,7 @@ ghost use Rattle.std.specs.Prelude.{◌≡◌, ℕ, ◌≤◌, ◌<◌, Bool, tr
 ghost use Rattle.mrt_frame.specs.declared.fault.Fault.TheVariants.{ShortAttribute};
 ghost use Rattle.mrt_frame.specs.Fields as fields;
 ghost use Rattle.mrt_frame.specs.Fields.{Reads};
+ghost use Rattle.bgp_update.specs.Families.{form_of};
 ghost use Rattle.bgp_update.specs.Keys.{keys_in};
 ghost use Rattle.bgp_update.specs.Segments.{number_len, path_in};
 ghost use Rattle.bgp_update.specs.Attributes as attributes;
@@ -12,9 +13,10 @@ ghost use Rattle.bgp_update.specs.Attributes.{length_len, fault_of};
 use crate::attribute_type::AttributeType;
 use crate::carrier::Carrier;
 use crate::key::key_count;
-use crate::multiprotocol::{reach_in, unreach_in};
+use crate::multiprotocol::{entry_hop, reach_in, unreach_in};
 use crate::route_fields::origin_of;
 use crate::segment::segment_count;
+use crate::unicast::Unicast;
 use crate::width::Width;
 use mrt_frame::{Fault, byte_at, bytes_at, u16_at};
 
@@ -63,10 +65,10 @@ fn fault_unless(is_formed: bool, fault: Fault) -> Option<Fault>
 
 /// Returns the fault of a field of keys.
 #[tactic(auto, using(crate::proofs::Counts::counted_fault), unfolding(crate::specs::Keys::key_count_in))]
-fn keys_fault(bytes: &[u8], add_path: bool) -> Option<Fault>
-    ensures { result ≡ fault_of (keys_in add_path bytes.now) }
+fn keys_fault<F: Unicast>(bytes: &[u8], add_path: bool) -> Option<Fault>
+    ensures { result ≡ fault_of (keys_in (form_of F.family add_path) bytes.now) }
 {
-    key_count(bytes, add_path).err()
+    key_count::<F>(bytes, add_path).err()
 }
 
 /// Returns the fault of AS_PATH.
@@ -79,13 +81,17 @@ fn path_fault(value: &[u8], width: Width) -> Option<Fault>
 
 /// Returns the fault of MP_REACH_NLRI.
 #[tactic(auto, using(crate::proofs::Counts::fault_of_mapped))]
-fn reached_fault(carrier: Carrier, value: &[u8]) -> Option<Fault>
-    ensures { result ≡ attributes.reached_fault carrier value.now }
+fn reached_fault<F: Unicast>(carrier: Carrier, value: &[u8]) -> Option<Fault>
+    ensures { result ≡ attributes.reached_fault F.family carrier value.now }
 {
     match carrier {
-        Carrier::RibEntry => None,
-        Carrier::Message { add_path } => match reach_in(value) {
-            Ok(Some((_, keys))) => keys_fault(keys, add_path),
+        Carrier::RibEntry => if F::OWN_FIELDS {
+            None
+        } else {
+            entry_hop::<F>(value).err()
+        },
+        Carrier::Message { add_path } => match reach_in::<F>(value) {
+            Ok(Some((_, keys))) => keys_fault::<F>(keys, add_path),
             Ok(None) => None,
             Err(fault) => Some(fault),
         },
@@ -93,13 +99,13 @@ fn reached_fault(carrier: Carrier, value: &[u8]) -> Option<Fault>
 }
 
 /// Returns the fault of MP_UNREACH_NLRI.
-fn unreached_fault(carrier: Carrier, value: &[u8]) -> Option<Fault>
-    ensures { result ≡ attributes.unreached_fault carrier value.now }
+fn unreached_fault<F: Unicast>(carrier: Carrier, value: &[u8]) -> Option<Fault>
+    ensures { result ≡ attributes.unreached_fault F.family carrier value.now }
 {
     match carrier {
         Carrier::RibEntry => None,
-        Carrier::Message { add_path } => match unreach_in(value) {
-            Ok(Some(keys)) => keys_fault(keys, add_path),
+        Carrier::Message { add_path } => match unreach_in::<F>(value) {
+            Ok(Some(keys)) => keys_fault::<F>(keys, add_path),
             Ok(None) => None,
             Err(fault) => Some(fault),
         },
@@ -110,13 +116,13 @@ fn unreached_fault(carrier: Carrier, value: &[u8]) -> Option<Fault>
 /// RFC 4760, 3 and 4; RFC 6793, 3).
 #[inline(always)]
 #[tactic(auto, unfolding(crate::specs::Attributes::value_fault))]
-pub fn value_fault(
+pub fn value_fault<F: Unicast>(
     carrier: Carrier,
     width: Width,
     attribute_type: AttributeType,
     value: &[u8],
 ) -> Option<Fault>
-    ensures { result ≡ attributes.value_fault carrier width attribute_type value.now }
+    ensures { result ≡ attributes.value_fault F.family carrier width attribute_type value.now }
 {
     let bad = attribute_type.fault();
     match attribute_type {
@@ -126,8 +132,8 @@ pub fn value_fault(
             fault_unless(value.len() == 4, bad),
         AttributeType::AtomicAggregate => fault_unless(value.is_empty(), bad),
         AttributeType::Aggregator => fault_unless(value.len() == 6 || value.len() == 8, bad),
-        AttributeType::MpReachNlri => reached_fault(carrier, value),
-        AttributeType::MpUnreachNlri => unreached_fault(carrier, value),
+        AttributeType::MpReachNlri => reached_fault::<F>(carrier, value),
+        AttributeType::MpUnreachNlri => unreached_fault::<F>(carrier, value),
         AttributeType::As4Path | AttributeType::As4Aggregator => None,
     }
 }

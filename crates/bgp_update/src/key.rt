@@ -4,43 +4,45 @@ ghost use Rattle.std.specs.Prelude.{◌≡◌, ℕ, ◌≤◌, length, Ok, Some,
 ghost use Rattle.std.specs.Int.{div_ceil};
 ghost use Rattle.mrt_frame.specs.Fields.{Reads};
 ghost use Rattle.bgp_update.specs.Answers.{Gives};
+ghost use Rattle.bgp_update.specs.Families.{form_of};
 ghost use Rattle.bgp_update.specs.Keys as keys_spec;
 ghost use Rattle.bgp_update.specs.Keys.{route_keys_in, key_count_in};
 
 use crate::attr_error::AttrError;
 use crate::octets::leading_octets_number;
+use crate::unicast::Unicast;
 use bgp_prefix::{Prefix, RouteKey};
 use mrt_frame::{Fault, byte_at, bytes_at};
 use std::alloc::Global;
 
 /// The bytes of a prefix of this length.
 #[inline]
-fn octets_at(len: u8, bytes: &[u8]) -> Result<(&[u8], &[u8]), Fault>
-    ensures { Reads (λ x. (x.0.now, x.1.now)) result (keys_spec.octets_at len bytes.now) }
+fn octets_at<F: Unicast>(len: u8, bytes: &[u8]) -> Result<(&[u8], &[u8]), Fault>
+    ensures { Reads (λ x. (x.0.now, x.1.now)) result (keys_spec.octets_at F.family.width len bytes.now) }
 {
-    if len > 32 {
+    if len > F::WIDTH {
         return Err(Fault::BadPrefix);
     }
     bytes_at(bytes, len.div_ceil(8) as usize, Fault::BadPrefix)
 }
 
-/// Returns the prefix of this length, at most 32, whose first bytes these are.
+/// Returns the prefix of this length, at most the family's width, whose first bytes these are.
 #[inline]
-fn prefix_of(len: u8, octets: &[u8]) -> Option<Prefix>
-    requires { length octets.now ≤ 4 }
-    ensures { len ≤ 32 → result ≡ Some (keys_spec.prefix_of len octets.now) }
+fn prefix_of<F: Unicast>(len: u8, octets: &[u8]) -> Option<Prefix<F>>
+    requires { length octets.now ≤ F.BYTES }
+    ensures { len ≤ F.family.width → result ≡ Some (keys_spec.prefix_of len octets.now) }
 {
-    Prefix::new(leading_octets_number(octets), len)
+    Prefix::new(F::of_octets(octets), len)
 }
 
 /// Reads the prefix of this length in bits at the start of the bytes, and returns it with the bytes after it (RFC 4271,
-/// 4.3). Bits past the length may be anything, and are set to 0. `BadPrefix` if the length is over
-/// 32, or if fewer bytes are left than hold that many bits.
+/// 4.3). Bits past the length may be anything, and are set to 0. `BadPrefix` if the length is over the width of the
+/// family's addresses, or if fewer bytes are left than hold that many bits.
 #[inline]
-pub fn prefix_at(len: u8, bytes: &[u8]) -> Result<(Prefix, &[u8]), Fault>
-    ensures { Reads (λ x. (x.0, x.1.now)) result (keys_spec.prefix_at len bytes.now) }
+pub fn prefix_at<F: Unicast>(len: u8, bytes: &[u8]) -> Result<(Prefix<F>, &[u8]), Fault>
+    ensures { Reads (λ x. (x.0, x.1.now)) result (keys_spec.prefix_at F.family.width len bytes.now) }
 {
-    let (octets, rest) = octets_at(len, bytes)?;
+    let (octets, rest) = octets_at::<F>(len, bytes)?;
     let prefix = prefix_of(len, octets).ok_or(Fault::BadPrefix)?;
     Ok((prefix, rest))
 }
@@ -48,8 +50,11 @@ pub fn prefix_at(len: u8, bytes: &[u8]) -> Result<(Prefix, &[u8]), Fault>
 /// Reads a key, and returns it with the bytes after it.
 #[tactic(auto, using(crate::proofs::KeyParts::key_parts))]
 #[inline]
-pub fn key_at(bytes: &[u8], add_path: bool) -> Result<(RouteKey, &[u8]), Fault>
-    ensures { Reads (λ x. (x.0, x.1.now)) result (keys_spec.key_at add_path bytes.now) }
+pub fn key_at<F: Unicast>(
+    bytes: &[u8],
+    add_path: bool,
+) -> Result<(RouteKey<Prefix<F>>, &[u8]), Fault>
+    ensures { Reads (λ x. (x.0, x.1.now)) result (keys_spec.key_at (form_of F.family add_path) bytes.now) }
 {
     let identifier_len = if add_path { 4 } else { 0 };
     let (identifier, rest) = bytes_at(bytes, identifier_len, Fault::BadPrefix)?;
@@ -64,13 +69,13 @@ pub fn key_at(bytes: &[u8], add_path: bool) -> Result<(RouteKey, &[u8]), Fault>
 }
 
 /// How many keys a field has.
-pub fn key_count(bytes: &[u8], add_path: bool) -> Result<usize, Fault>
-    ensures { Reads (λ n. n) result (key_count_in add_path bytes.now) }
+pub fn key_count<F: Unicast>(bytes: &[u8], add_path: bool) -> Result<usize, Fault>
+    ensures { Reads (λ n. n) result (key_count_in (form_of F.family add_path) bytes.now) }
 {
     let mut count = 0;
     let mut rest = bytes;
     while !rest.is_empty() {
-        match key_at(rest, add_path) {
+        match key_at::<F>(rest, add_path) {
             Ok((_, after)) => {
                 count += 1;
                 rest = after;
@@ -82,12 +87,13 @@ pub fn key_count(bytes: &[u8], add_path: bool) -> Result<usize, Fault>
 }
 
 /// Returns these keys, followed by those of a field.
-pub fn with_keys(
-    keys: Vec<RouteKey>,
+pub fn with_keys<F: Unicast>(
+    keys: Vec<RouteKey<Prefix<F>>>,
     bytes: &[u8],
     add_path: bool,
-) -> Result<Vec<RouteKey>, AttrError>
-    ensures { Gives (λ v. v.items) result (keys_spec.with_keys keys.items (route_keys_in add_path bytes.now)) }
+) -> Result<Vec<RouteKey<Prefix<F>>>, AttrError>
+    ensures { Gives (λ v. v.items) result
+        (keys_spec.with_keys keys.items (route_keys_in (form_of F.family add_path) bytes.now)) }
 {
     let mut keys = keys;
     let mut rest = bytes;
@@ -104,9 +110,13 @@ pub fn with_keys(
 }
 
 /// Reads the keys of a field.
-pub fn read_keys(alloc: Global, bytes: &[u8], add_path: bool) -> Result<Vec<RouteKey>, AttrError>
-    ensures { Gives (λ v. v.items) result (route_keys_in add_path bytes.now) }
+pub fn read_keys<F: Unicast>(
+    alloc: Global,
+    bytes: &[u8],
+    add_path: bool,
+) -> Result<Vec<RouteKey<Prefix<F>>>, AttrError>
+    ensures { Gives (λ v. v.items) result (route_keys_in (form_of F.family add_path) bytes.now) }
 {
-    let count = key_count(bytes, add_path)?;
+    let count = key_count::<F>(bytes, add_path)?;
     with_keys(Vec::with_capacity(alloc, count)?, bytes, add_path)
 }

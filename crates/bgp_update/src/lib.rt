@@ -1,10 +1,14 @@
 //! BGP UPDATE messages (RFC 4271, 4.3): keys, path attributes and AS paths, and routes packed into bytes.
 //!
 //! What is read: withdrawn and announced keys, with path identifiers where the message has them (RFC 7911); attributes
-//! 1 to 7, 14 and 15 for IPv4 unicast (RFC 4760, RFC 8950), 17 and 18 (RFC 6793). Definitions state which bytes are
-//! well-formed and what they say without an order of reading, and which fault is the first one by a reading from left
-//! to right; the law `updates_agree_with_their_forms` ties the two.
+//! 1 to 7, 14 and 15 for the unicast routes of one family (RFC 4760, RFC 2545, RFC 8950), 17 and 18 (RFC 6793).
+//! Definitions state which bytes are well-formed and what they say without an order of reading, and which fault is the
+//! first one by a reading from left to right; the law `updates_agree_with_their_forms` ties the two.
 //!
+//! - A family is the type of its addresses (`Unicast`, on `u32` and `Ipv6`), and definitions take it as a `FamilyOf`.
+//!   An UPDATE's own fields, withdrawn routes, NLRI and NEXT_HOP, are of IPv4. For IPv6 the first two aren't examined
+//!   past their lengths, and MP_REACH_NLRI gives next hops in RIB entries too: alone after its length, as RFC 6396,
+//!   4.3.4, has it, or in the whole attribute, as some speakers write it.
 //! - Merging AS_PATH and AS4_PATH (RFC 6793, 4.2.3) is stated by a relation, `IsMerged`, and computed, `merged`.
 //!   `AsPath::merge` names both, so that a reader needs to trust only the relation.
 //! - Attributes are found and checked in one pass, which keeps the place of the first value of each type (RFC 7606, 3
@@ -17,8 +21,9 @@
 //! - Up to 46 bytes are stored inline: with their length and a count of owners they take an allocation of 64 bytes. In
 //!   generated dumps nine in ten routes are that short. A `Route` takes 200 bytes in two allocations.
 //! - Attributes are packed as they are read (`PackedRoute::read`, `read_packed_update`), without a `Route` in between,
-//!   except for a path of two-octet numbers, which may have to be merged, and for the keys of MP_REACH_NLRI, whose next
-//!   hop is another one. `read_update` still returns a `Route`: it is what definitions speak of.
+//!   except for a path of two-octet numbers, which may have to be merged, and for the keys of MP_REACH_NLRI and the RIB
+//!   entries of IPv6, whose next hop is another one. `read_update` still returns a `Route`: it is what definitions
+//!   speak of.
 //! - Every route that is read can be packed, since each segment has 1 to 255 numbers (`IsWritable`); one made by hand
 //!   need not be, so `PackedRoute::pack` requires it.
 //! - `Route`'s fields are declared in order of size, since the compiler keeps the order: 128 bytes instead of 144.
@@ -29,6 +34,7 @@ mod attr_error;
 mod attribute;
 mod attribute_type;
 mod carrier;
+mod families;
 mod key;
 mod merge;
 mod multiprotocol;
@@ -47,6 +53,7 @@ mod route_fields;
 mod route_writing;
 mod segment;
 mod short_bytes;
+mod unicast;
 mod update;
 mod values;
 mod width;
@@ -61,5 +68,6 @@ pub use packed_route::PackedRoute;
 pub use packed_update::PackedUpdate;
 pub use path::{AsPath, Segment, SegmentKind};
 pub use route::{Aggregator, Origin, Route, Update};
+pub use unicast::Unicast;
 pub use update::{read_attrs, read_update};
 pub use width::Width;

@@ -1,27 +1,29 @@
-//! MP_REACH_NLRI and MP_UNREACH_NLRI, read for IPv4 unicast only.
+//! MP_REACH_NLRI and MP_UNREACH_NLRI, read for one family's unicast routes only.
 
 ghost use Rattle.std.specs.Prelude.{◌≡◌, ℕ, ◌≤◌, ◌++◌, List, Option, Some, Ok, IsTrue, IfOk, length, option_map};
+ghost use Rattle.bgp_prefix.specs.Prefixes.{IpPrefix};
 ghost use Rattle.mrt_frame.specs.Fields.{Reads};
 ghost use Rattle.bgp_update.specs.Answers.{Gives};
 ghost use Rattle.bgp_update.specs.Keys as keys_spec;
 ghost use Rattle.bgp_update.specs.Multiprotocol as multiprotocol;
-ghost use Rattle.bgp_update.specs.Multiprotocol.{is_hop_len, SaysReach, SaysUnreach, reached_keys, unreached_keys};
+ghost use Rattle.bgp_update.specs.Multiprotocol.{is_hop_len, entry_hop_in, SaysReach, SaysUnreach, reached_keys, unreached_keys};
 
 use crate::attr_error::AttrError;
 use crate::attribute_type::AttributeType;
 use crate::key::{read_keys, with_keys};
 use crate::next_hop::NextHop;
-use bgp_prefix::RouteKey;
+use crate::unicast::Unicast;
+use bgp_prefix::{Prefix, RouteKey};
 use byteorder::{BigEndian, ByteOrder};
 use mrt_frame::{Fault, byte_at, bytes_at};
 use std::alloc::Global;
 
-/// Whether a value is for AFI 1 and SAFI 1.
-fn is_ipv4_unicast(value: &[u8]) -> bool
+/// Whether a value is for the family's AFI and SAFI 1.
+fn is_unicast<F: Unicast>(value: &[u8]) -> bool
     requires { 3 ≤ length value.now }
-    ensures { result ≡ multiprotocol.is_ipv4_unicast value.now }
+    ensures { result ≡ multiprotocol.is_unicast F.family value.now }
 {
-    BigEndian::read_u16(value) == 1 && value[2] == 1
+    BigEndian::read_u16(value) == F::AFI && value[2] == 1
 }
 
 /// Returns the next hop that these bytes encode.
@@ -39,10 +41,10 @@ fn next_hop_of(hop: &[u8]) -> NextHop
     }
 }
 
-/// Reads a next hop after its length and, after a reserved byte, the field of the keys.
-#[tactic(auto, unfolding(crate::specs::Multiprotocol::reach_at))]
-fn reach_at(bytes: &[u8]) -> Result<(NextHop, &[u8]), Fault>
-    ensures { Reads (λ x. (x.0, x.1.now)) result (multiprotocol.reach_at bytes.now) }
+/// Reads a next hop after its length, and returns it with the bytes after it.
+#[tactic(auto, unfolding(crate::specs::Multiprotocol::hop_at))]
+fn hop_at(bytes: &[u8]) -> Result<(NextHop, &[u8]), Fault>
+    ensures { Reads (λ x. (x.0, x.1.now)) result (multiprotocol.hop_at bytes.now) }
 {
     let bad = AttributeType::MpReachNlri.fault();
     let (len, rest) = byte_at(bytes, bad)?;
@@ -50,19 +52,66 @@ fn reach_at(bytes: &[u8]) -> Result<(NextHop, &[u8]), Fault>
         return Err(bad);
     }
     let (hop, rest) = bytes_at(rest, len as usize, bad)?;
-    let (_, keys) = byte_at(rest, bad)?;
-    Ok((next_hop_of(hop), keys))
+    Ok((next_hop_of(hop), rest))
+}
+
+/// Reads a next hop after its length and, after a reserved byte, the field of the keys.
+#[tactic(auto, unfolding(crate::specs::Multiprotocol::reach_at))]
+fn reach_at(bytes: &[u8]) -> Result<(NextHop, &[u8]), Fault>
+    ensures { Reads (λ x. (x.0, x.1.now)) result (multiprotocol.reach_at bytes.now) }
+{
+    let (hop, rest) = hop_at(bytes)?;
+    let (_, keys) = byte_at(rest, AttributeType::MpReachNlri.fault())?;
+    Ok((hop, keys))
+}
+
+/// Returns the next hop of a RIB entry's MP_REACH_NLRI: alone after its length (RFC 6396, 4.3.4), or within the whole
+/// attribute, which begins with a byte 0 and whose rest isn't read. None for another family.
+#[tactic(auto, unfolding(crate::specs::Multiprotocol::entry_hop_in))]
+pub fn entry_hop<F: Unicast>(value: &[u8]) -> Result<Option<NextHop>, Fault>
+    ensures { Reads (λ hop. hop) result (entry_hop_in F.family value.now) }
+{
+    let bad = AttributeType::MpReachNlri.fault();
+    let (first, _) = byte_at(value, bad)?;
+    if first != 0 {
+        let (hop, rest) = hop_at(value)?;
+        if !rest.is_empty() {
+            return Err(bad);
+        }
+        return Ok(Some(hop));
+    }
+    if value.len() < 3 {
+        return Err(bad);
+    }
+    if !is_unicast::<F>(value) {
+        return Ok(None);
+    }
+    let (hop, _) = hop_at(&value[3..])?;
+    Ok(Some(hop))
+}
+
+/// Returns the next hop of a RIB entry's MP_REACH_NLRI, if it is present.
+pub fn entry_hop_value<F: Unicast>(value: Option<&[u8]>) -> Option<NextHop>
+    ensures { result ≡ multiprotocol.entry_hop F.family (option_map (λ v. v.now) value.entry) }
+{
+    match value {
+        Some(value) => match entry_hop::<F>(value) {
+            Ok(hop) => hop,
+            Err(_) => None,
+        },
+        None => None,
+    }
 }
 
 /// Returns the next hop and the field of keys of an MP_REACH_NLRI; none for another family.
 #[tactic(auto, unfolding(crate::specs::Multiprotocol::reach_in))]
-pub fn reach_in(value: &[u8]) -> Result<Option<(NextHop, &[u8])>, Fault>
-    ensures { Reads (λ o. option_map (λ r. (r.0, r.1.now)) o) result (multiprotocol.reach_in value.now) }
+pub fn reach_in<F: Unicast>(value: &[u8]) -> Result<Option<(NextHop, &[u8])>, Fault>
+    ensures { Reads (λ o. option_map (λ r. (r.0, r.1.now)) o) result (multiprotocol.reach_in F.family value.now) }
 {
     if value.len() < 3 {
         return Err(AttributeType::MpReachNlri.fault());
     }
-    if !is_ipv4_unicast(value) {
+    if !is_unicast::<F>(value) {
         return Ok(None);
     }
     let reach = reach_at(&value[3..])?;
@@ -71,27 +120,27 @@ pub fn reach_in(value: &[u8]) -> Result<Option<(NextHop, &[u8])>, Fault>
 
 /// Returns the field of keys of an MP_UNREACH_NLRI; none for another family.
 #[tactic(auto, unfolding(crate::specs::Multiprotocol::unreach_in))]
-pub fn unreach_in(value: &[u8]) -> Result<Option<&[u8]>, Fault>
-    ensures { Reads (λ o. option_map (λ r. r.now) o) result (multiprotocol.unreach_in value.now) }
+pub fn unreach_in<F: Unicast>(value: &[u8]) -> Result<Option<&[u8]>, Fault>
+    ensures { Reads (λ o. option_map (λ r. r.now) o) result (multiprotocol.unreach_in F.family value.now) }
 {
     if value.len() < 3 {
         return Err(AttributeType::MpUnreachNlri.fault());
     }
-    if !is_ipv4_unicast(value) {
+    if !is_unicast::<F>(value) {
         return Ok(None);
     }
     Ok(Some(&value[3..]))
 }
 
 #[tactic(auto, unfolding(crate::specs::Multiprotocol::reached_keys, crate::specs::Keys::route_keys_in))]
-fn whole_reach(
+fn whole_reach<F: Unicast>(
     alloc: Global,
     value: &[u8],
     add_path: bool,
-) -> Result<(Option<NextHop>, Vec<RouteKey>), AttrError>
-    ensures { Gives (λ x. (x.0, x.1.items)) result (reached_keys add_path (Some value.now)) }
+) -> Result<(Option<NextHop>, Vec<RouteKey<Prefix<F>>>), AttrError>
+    ensures { Gives (λ x. (x.0, x.1.items)) result (reached_keys F.family add_path (Some value.now)) }
 {
-    match reach_in(value) {
+    match reach_in::<F>(value) {
         Ok(Some((hop, keys))) => Ok((Some(hop), read_keys(alloc, keys, add_path)?)),
         Ok(None) => Ok((None, Vec::new(alloc))),
         Err(fault) => Err(AttrError::Bad(fault)),
@@ -99,27 +148,27 @@ fn whole_reach(
 }
 
 /// Returns the next hop and the keys that a value of MP_REACH_NLRI encodes.
-fn read_reach(
+fn read_reach<F: Unicast>(
     alloc: Global,
     value: &[u8],
     add_path: bool,
-) -> Result<(Option<NextHop>, Vec<RouteKey>), AttrError>
-    ensures found { IfOk result (λ x. SaysReach add_path value.now x.0 x.1.items) }
-    ensures only { (hop : Option NextHop) (keys : List RouteKey) → SaysReach add_path value.now hop keys →
-        Gives {Y = Option NextHop × List RouteKey} (λ x. (x.0, x.1.items)) result (Ok (hop, keys)) }
-    ensures exact { Gives (λ x. (x.0, x.1.items)) result (reached_keys add_path (Some value.now)) }
+) -> Result<(Option<NextHop>, Vec<RouteKey<Prefix<F>>>), AttrError>
+    ensures found { IfOk result (λ x. SaysReach F.family add_path value.now x.0 x.1.items) }
+    ensures only { (hop : Option NextHop) (keys : List (RouteKey IpPrefix)) → SaysReach F.family add_path value.now hop keys →
+        Gives {Y = Option NextHop × List (RouteKey IpPrefix)} (λ x. (x.0, x.1.items)) result (Ok (hop, keys)) }
+    ensures exact { Gives (λ x. (x.0, x.1.items)) result (reached_keys F.family add_path (Some value.now)) }
 {
     whole_reach(alloc, value, add_path)
 }
 
 /// Returns the next hop and the keys in MP_REACH_NLRI, if it is present.
 #[tactic(auto, unfolding(crate::specs::Multiprotocol::reached_keys))]
-pub fn reached(
+pub fn reached<F: Unicast>(
     alloc: Global,
     value: Option<&[u8]>,
     add_path: bool,
-) -> Result<(Option<NextHop>, Vec<RouteKey>), AttrError>
-    ensures { Gives (λ x. (x.0, x.1.items)) result (reached_keys add_path (option_map (λ v. v.now) value.entry)) }
+) -> Result<(Option<NextHop>, Vec<RouteKey<Prefix<F>>>), AttrError>
+    ensures { Gives (λ x. (x.0, x.1.items)) result (reached_keys F.family add_path (option_map (λ v. v.now) value.entry)) }
 {
     match value {
         Some(value) => read_reach(alloc, value, add_path),
@@ -128,14 +177,14 @@ pub fn reached(
 }
 
 #[tactic(auto, unfolding(crate::specs::Multiprotocol::unreached_keys, crate::specs::Keys::route_keys_in))]
-fn with_whole_unreach(
-    keys: Vec<RouteKey>,
+fn with_whole_unreach<F: Unicast>(
+    keys: Vec<RouteKey<Prefix<F>>>,
     value: &[u8],
     add_path: bool,
-) -> Result<Vec<RouteKey>, AttrError>
-    ensures { Gives (λ v. v.items) result (keys_spec.with_keys keys.items (unreached_keys add_path (Some value.now))) }
+) -> Result<Vec<RouteKey<Prefix<F>>>, AttrError>
+    ensures { Gives (λ v. v.items) result (keys_spec.with_keys keys.items (unreached_keys F.family add_path (Some value.now))) }
 {
-    match unreach_in(value) {
+    match unreach_in::<F>(value) {
         Ok(Some(field)) => with_keys(keys, field, add_path),
         Ok(None) => Ok(keys),
         Err(fault) => Err(AttrError::Bad(fault)),
@@ -143,30 +192,30 @@ fn with_whole_unreach(
 }
 
 /// Returns these keys, followed by those that a value of MP_UNREACH_NLRI encodes.
-fn with_unreach(
-    keys: Vec<RouteKey>,
+fn with_unreach<F: Unicast>(
+    keys: Vec<RouteKey<Prefix<F>>>,
     value: &[u8],
     add_path: bool,
-) -> Result<Vec<RouteKey>, AttrError>
-    ensures found { IfOk result (λ v. (said : List RouteKey) × SaysUnreach add_path value.now said ×
+) -> Result<Vec<RouteKey<Prefix<F>>>, AttrError>
+    ensures found { IfOk result (λ v. (said : List (RouteKey IpPrefix)) × SaysUnreach F.family add_path value.now said ×
         (v.items ≡ keys.items ++ said)) }
-    ensures only { (said : List RouteKey) → SaysUnreach add_path value.now said →
+    ensures only { (said : List (RouteKey IpPrefix)) → SaysUnreach F.family add_path value.now said →
         Gives (λ v. v.items) result (Ok (keys.items ++ said)) }
     ensures exact { Gives (λ v. v.items) result
-        (keys_spec.with_keys keys.items (unreached_keys add_path (Some value.now))) }
+        (keys_spec.with_keys keys.items (unreached_keys F.family add_path (Some value.now))) }
 {
     with_whole_unreach(keys, value, add_path)
 }
 
 /// Returns these keys, followed by those in MP_UNREACH_NLRI, if it is present.
 #[tactic(auto, unfolding(crate::specs::Multiprotocol::unreached_keys))]
-pub fn with_unreached(
-    keys: Vec<RouteKey>,
+pub fn with_unreached<F: Unicast>(
+    keys: Vec<RouteKey<Prefix<F>>>,
     value: Option<&[u8]>,
     add_path: bool,
-) -> Result<Vec<RouteKey>, AttrError>
+) -> Result<Vec<RouteKey<Prefix<F>>>, AttrError>
     ensures { Gives (λ v. v.items) result
-        (keys_spec.with_keys keys.items (unreached_keys add_path (option_map (λ v. v.now) value.entry))) }
+        (keys_spec.with_keys keys.items (unreached_keys F.family add_path (option_map (λ v. v.now) value.entry))) }
 {
     match value {
         Some(value) => with_unreach(keys, value, add_path),

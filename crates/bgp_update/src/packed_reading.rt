@@ -19,10 +19,11 @@ use crate::packed_route::PackedRoute;
 use crate::packed_update::PackedUpdate;
 use crate::packing::pack_values;
 use crate::route_fields::route_from;
+use crate::unicast::Unicast;
 use crate::update::read_fields;
 use crate::values::FirstValues;
 use crate::width::Width;
-use bgp_prefix::{Memory, RouteKey, Sequence};
+use bgp_prefix::{Memory, Prefix, RouteKey, Sequence};
 use std::alloc::Global;
 
 /// Packs the route of these values with another next hop.
@@ -41,19 +42,19 @@ fn pack_reached(
 
 /// Returns the update of these keys and of what the attributes say.
 #[tactic(auto, unfolding(crate::specs::Updates::said_update))]
-fn packed_from(
+fn packed_from<F: Unicast>(
     alloc: Global,
     buffer: &mut Vec<u8>,
-    withdrawn: Vec<RouteKey>,
+    withdrawn: Vec<RouteKey<Prefix<F>>>,
     first: &FirstValues<'_>,
-    announced: Vec<RouteKey>,
+    announced: Vec<RouteKey<Prefix<F>>>,
     width: Width,
     add_path: bool,
-) -> Result<PackedUpdate, AttrError>
+) -> Result<PackedUpdate<Prefix<F>>, AttrError>
     requires four { width ≡ Four → IfSome (kept_value first.now AsPath) IsSpelled }
     requires writable { IsWritable (attributes.route_from width (kept_value first.now)).path }
     ensures { Gives plain_update result
-        (said_update width add_path withdrawn.items (kept_value first.now) announced.items) }
+        (said_update F.family width add_path withdrawn.items (kept_value first.now) announced.items) }
 {
     let unreached = first.value(AttributeType::MpUnreachNlri);
     let withdrawn = with_unreached(withdrawn, unreached, add_path)?;
@@ -76,14 +77,14 @@ fn packed_from(
 
 /// Reads an UPDATE as `read_update` does, and packs its routes by way of a buffer, whose contents are replaced. Paths
 /// with four-octet AS numbers are packed as they are written, without a copy of each number.
-pub fn read_packed_update(
+pub fn read_packed_update<F: Unicast>(
     alloc: Global,
     buffer: &mut Vec<u8>,
     body: &[u8],
     width: Width,
     add_path: bool,
-) -> Result<PackedUpdate, AttrError>
-    ensures { Gives plain_update result (update_in width add_path body.now) }
+) -> Result<PackedUpdate<Prefix<F>>, AttrError>
+    ensures { Gives plain_update result (update_in F.family width add_path body.now) }
 {
     let mut first = FirstValues::new();
     let (withdrawn, announced) = read_fields(alloc, body, width, add_path, &mut first)?;

@@ -4,14 +4,14 @@ ghost use Rattle.bgp_update.specs.Hops.{HasReachedRoute};
 
 use crate::next_hop::NextHop;
 use crate::packed_route::PackedRoute;
-use bgp_prefix::{RouteKey, Sequence};
+use bgp_prefix::{Prefix, RouteKey, Sequence};
 
 /// An UPDATE as `Update` has it, with packed routes.
 #[derive(Drop)]
-pub struct PackedUpdate {
-    pub withdrawn: Sequence<RouteKey>,
-    pub announced: Sequence<RouteKey>,
-    pub reached: Sequence<RouteKey>,
+pub struct PackedUpdate<P = Prefix> {
+    pub withdrawn: Sequence<RouteKey<P>>,
+    pub announced: Sequence<RouteKey<P>>,
+    pub reached: Sequence<RouteKey<P>>,
     /// The route of the keys in `announced`.
     pub route: PackedRoute,
     pub reached_hop: Option<NextHop>,

@@ -18,6 +18,8 @@ use crate::packed_route::PackedRoute;
 use crate::route_fields::route_from;
 use crate::route_writing::push_route;
 use crate::short_bytes::FewBytes;
+use crate::unicast::Unicast;
+use crate::update::entry_route;
 use crate::values::{FirstValues, keep_values};
 use crate::width::Width;
 use bgp_prefix::Memory;
@@ -125,21 +127,43 @@ pub(crate) fn pack_values(
     }
 }
 
+/// Packs the route of a RIB entry of these values: where NEXT_HOP isn't of the family, by way of a `Route`.
+#[inline(always)]
+#[tactic(auto, unfolding(crate::specs::Attributes::entry_route))]
+fn pack_entry<F: Unicast>(
+    alloc: Global,
+    buffer: &mut Vec<u8>,
+    first: &FirstValues<'_>,
+    width: Width,
+) -> Result<PackedRoute, AttrError>
+    requires four { width ≡ Four → IfSome (kept_value first.now AsPath) IsSpelled }
+    requires writable { IsWritable (attributes.route_from width (kept_value first.now)).path }
+    ensures ok { IfOk result (λ route. route ≡ attributes.entry_route F.family width (kept_value first.now)) }
+    ensures err { IfErr result (λ e. e ≡ errors.Memory) }
+{
+    if F::OWN_FIELDS {
+        return pack_values(alloc, buffer, first, width);
+    }
+    let route = entry_route::<F>(alloc, first, width)?;
+    let packed = PackedRoute::pack(alloc, &route)?;
+    Ok(packed)
+}
+
 impl PackedRoute {
     /// Reads the route that the attributes of a RIB entry encode (RFC 6396, 4.3.4), like `read_attrs`, if need be by
     /// way of a buffer, whose contents are replaced. With four-octet AS numbers it allocates nothing except for a route
     /// of more bytes than it stores inline, and to enlarge the buffer. `Bad` has the first fault from left to right.
     #[tactic(auto, unfolding(crate::specs::Attributes::route_in))]
-    pub fn read(
+    pub fn read<F: Unicast>(
         alloc: Global,
         buffer: &mut Vec<u8>,
         bytes: &[u8],
         width: Width,
     ) -> Result<PackedRoute, AttrError>
-        ensures { Gives (λ route. route) result (route_in width bytes.now) }
+        ensures { Gives (λ route. route) result (route_in F.family width bytes.now) }
     {
         let mut first = FirstValues::new();
-        keep_values(&mut first, bytes, Carrier::RibEntry, width)?;
-        pack_values(alloc, buffer, &first, width)
+        keep_values::<F>(&mut first, bytes, Carrier::RibEntry, width)?;
+        pack_entry::<F>(alloc, buffer, &first, width)
     }
 }

@@ -40,9 +40,9 @@ ends_address text n a =
 
 pub ends_prefix : (text : List ℕ) (p : IpPrefix) → SpellsPrefix text p → EndsAbove text
 ends_prefix text p (with_length front e a ip) =
-    let short : p.len ≤ 32 = ip.short in
+    let short : p.len ≤ 32 = ip.1 in
     subst EndsAbove (sym e) (ends_behind front (47 ∷ decimal p.len) (ends_after 47 (decimal p.len) (ends_decimal p.len (omega arith))))
-ends_prefix text p (alone a e) = ends_address text p.addr a
+ends_prefix text p (alone a e) = ends_address text a.number a.spelled
 
 -- the same list, the last element apart
 last_apart : (xs ys : List ℕ) (x y : ℕ) → xs ++ x ∷ [] ≡ ys ++ y ∷ [] → (xs ≡ ys) × (x ≡ y)

@@ -1,13 +1,14 @@
 -- The first slash in the text of a prefix.
-use Rattle.std.proofs.Common.{◌≡◌, ℕ, zero, suc, ◌+◌, ◌/◌, ◌%◌, ◌^◌, ◌≤◌, ◌<◌, Bool, false, eqb, List, [], ◌∷◌, ◌++◌, length, get_or, take, drop, Some, refl, sym, ap, subst, ◌∙◌, arith}
+use Rattle.std.proofs.Common.{◌≡◌, ℕ, zero, suc, ◌+◌, ◌*◌, ◌/◌, ◌%◌, ◌^◌, ◌≤◌, ◌<◌, Bool, false, eqb, List, [], ◌∷◌, ◌++◌, length, get_or, take, drop, Some, refl, sym, ap, subst, ◌∙◌, arith}
 use Rattle.std.specs.List.{AllByRecursion, position}
 use Rattle.std.specs.Fmt.{decimal}
 use Rattle.std.proofs.lemmas.Bool.{ne_eqb, eqb-true}
 use Rattle.std.proofs.lemmas.List.{take-append-drop}
 use Rattle.std.proofs.lemmas.List.Quantifiers.{position-Some}
 use Rattle.std.proofs.Math.Seq.{take-append_seam, drop-append-add, drop-cons}
-use Rattle.bgp_prefix.specs.Prefixes.{IsIpPrefix}
+use Rattle.std.proofs.lemmas.Nat.{shl-shr}
 use Rattle.command_line.specs.Addresses.{IsAddress}
+use Rattle.command_line.specs.Choices.{IsIpv4Prefix}
 use Rattle.command_line.proofs.Octets.{one, two, three, form_of}
 use Rattle.command_line.proofs.Points.{octet_itself, first_behind}
 
@@ -72,5 +73,5 @@ cut_at_slash text p e =
     sym (take-append-drop p text) ∙ ap (λ l. take p text ++ l) (drop-cons text p 0 at.0 ∙ ap (λ b. b ∷ drop (suc p) text) byte ∙ ap (λ k. 47 ∷ drop k text) {x = suc p} {y = p + 1} (omega arith))
 
 -- each address is a prefix of length 32
-pub is_host : (addr : ℕ) → addr < 2 ^ 32 → IsIpPrefix (record { addr = addr; len = 32 })
-is_host addr h = record { short = omega arith; fits = h; cleared = omega arith }
+pub is_host : (number : ℕ) → number < 2 ^ 32 → IsIpv4Prefix (record { addr = number * 2 ^ 96; len = 32 })
+is_host number h = (record { short = omega arith; fits = omega arith; cleared = ap (λ n. n * 2 ^ 96) (shl-shr number 96) }, omega arith)

@@ -1,11 +1,11 @@
 //! Prefixes as text, and how far they reach.
 
-ghost use Rattle.std.specs.Prelude.{◌≡◌, ℕ, ◌≤◌, ◌∷◌, [], ◌++◌, List, IfSome, IfNone, position, ◌==◌};
+ghost use Rattle.std.specs.Prelude.{◌≡◌, ℕ, ◌*◌, ◌^◌, ◌≤◌, ◌∷◌, [], ◌++◌, List, IfSome, IfNone, position, ◌==◌};
 ghost use Rattle.std.specs.Fmt.{decimal};
-ghost use Rattle.bgp_prefix.specs.Prefixes.{IpPrefix, IsIpPrefix};
+ghost use Rattle.bgp_prefix.specs.Prefixes.{IpPrefix};
 ghost use Rattle.mrt_body.specs.declared.choice.Reach.{Reach};
-ghost use Rattle.command_line.specs.Addresses.{IsAddress, IsNoAddress};
-ghost use Rattle.command_line.specs.Choices.{SpellsPrefix, SpellsChoice, IsNoChoice, mark_of};
+ghost use Rattle.command_line.specs.Addresses.{IsNoAddress};
+ghost use Rattle.command_line.specs.Choices.{SpellsBits, IsIpv4Prefix, SpellsPrefix, SpellsChoice, IsNoChoice, mark_of};
 
 use crate::address::{address_in, octet};
 use bgp_prefix::Prefix;
@@ -26,8 +26,8 @@ fn read_len(text: &[u8]) -> Option<u8>
 /// Returns the prefix of this address and length, unless the address has a bit past the length.
 fn exact_prefix(addr: u32, len: u8) -> Option<Prefix>
     requires { len ≤ 32 }
-    ensures some { IfSome result (λ p. (p ≡ record { addr = addr; len = len }) × IsIpPrefix p) }
-    ensures none { IfNone result (IsIpPrefix (record { addr = addr; len = len }) → ⊥) }
+    ensures some { IfSome result (λ p. (p ≡ record { addr = addr * 2 ^ 96; len = len }) × IsIpv4Prefix p) }
+    ensures none { IfNone result (IsIpv4Prefix (record { addr = addr * 2 ^ 96; len = len }) → ⊥) }
 {
     let prefix = Prefix::new(addr, len)?;
     if prefix.addr() == addr {
@@ -46,7 +46,7 @@ fn first_slash(text: &[u8]) -> Option<usize>
 
 /// Returns the prefix of an address alone, of length 32.
 fn host_prefix(text: &[u8]) -> Option<Prefix>
-    ensures some { IfSome result (λ p. IsAddress text.now p.addr × (p.len ≡ 32)) }
+    ensures some { IfSome result (λ p. SpellsBits text.now p.addr × (p.len ≡ 32)) }
     ensures none { IfNone result (IsNoAddress text.now) }
 {
     exact_prefix(address_in(text)?, MOST_LEN)
@@ -54,8 +54,8 @@ fn host_prefix(text: &[u8]) -> Option<Prefix>
 
 /// Returns the prefix of an address and a length.
 fn sized_prefix(front: &[u8], back: &[u8]) -> Option<Prefix>
-    ensures some { IfSome result (λ p. IsAddress front.now p.addr × (back.now ≡ decimal p.len) × IsIpPrefix p) }
-    ensures none { IfNone result ((p : IpPrefix) → IsAddress front.now p.addr → back.now ≡ decimal p.len → IsIpPrefix p → ⊥) }
+    ensures some { IfSome result (λ p. SpellsBits front.now p.addr × (back.now ≡ decimal p.len) × IsIpv4Prefix p) }
+    ensures none { IfNone result ((p : IpPrefix) → SpellsBits front.now p.addr → back.now ≡ decimal p.len → IsIpv4Prefix p → ⊥) }
 {
     let addr = address_in(front)?;
     let len = read_len(back)?;

@@ -50,7 +50,7 @@ pub struct CommandRow {
     pub examples: &'static [&'static str],
 }
 
-pub static OPTIONS: [OptionRow; 17] = [
+pub static OPTIONS: [OptionRow; 18] = [
     OptionRow {
         name: "address",
         value: "A",
@@ -150,6 +150,16 @@ pub static OPTIONS: [OptionRow; 17] = [
         commands: "",
         is_required: false,
         meaning: "Say what a RIB dump does to the routes before it. With add its entries are announcements like others. With replace its first record behind an index table clears all tables, so that routes that have gone don't stay",
+    },
+    OptionRow {
+        name: "addresses",
+        value: "FORM",
+        takes: Takes::Text,
+        default: "full",
+        offered: "full short",
+        commands: "",
+        is_required: false,
+        meaning: "Say how IPv6 addresses are printed, those of peers and of next hops alike. With full each has eight groups of four digits. With short leading zeros are left out, and :: stands for the longest run of zero groups (RFC 5952)",
     },
     OptionRow {
         name: "same",

@@ -15,7 +15,7 @@ use crate::refusal::refusal_of;
 use clap::error::ErrorKind;
 use clap::{ArgMatches, Error};
 use mrt_body::{PeerChoice, PrefixChoice, RibRule, Share, StateRule};
-use rib_report::Request;
+use rib_report::{AddressForm, AddressForms, Layout, Request};
 use std::alloc::{AllocError, AllocFailed, Global};
 
 static WORKERS_DEFAULT: usize = 4;
@@ -26,6 +26,8 @@ static RING_DEFAULT: usize = 1024;
 #[derive(Drop)]
 pub struct Job {
     pub request: Request,
+    /// How its lines are written.
+    pub layout: Layout,
     /// 1 to 64; 4 if the arguments don't say.
     pub workers: usize,
     /// Whether the arguments give the number of workers.
@@ -193,6 +195,24 @@ fn ribs_of(alloc: Global, matches: &ArgMatches<'_>) -> Result<RibRule, Usage>
     }
 }
 
+/// Returns how the lines of a report are written.
+fn layout_of(alloc: Global, matches: &ArgMatches<'_>) -> Result<Layout, Usage>
+    ensures { IfErr result IsRefusal }
+{
+    let form = match matches.get_str("addresses").unwrap_or("full") {
+        "full" => AddressForm::Full,
+        "short" => AddressForm::Short,
+        text => {
+            return Err(Usage::Words(format!(in alloc;
+                "error: invalid value '{text}' for '--addresses <FORM>': neither full nor short\n"
+            )?));
+        }
+    };
+    Ok(Layout {
+        addresses: AddressForms::all(form),
+    })
+}
+
 /// Refuses a text that is no prefix.
 fn no_choice(alloc: Global, text: &str) -> Result<Usage, AllocError>
     ensures { IfOk result IsRefusal }
@@ -302,6 +322,7 @@ fn job_of(alloc: Global, name: &str, matches: &ArgMatches<'_>) -> Result<Job, Us
     ensures { IfErr result IsRefusal }
 {
     let request = request_of(alloc, name, matches)?;
+    let layout = layout_of(alloc, matches)?;
     let until = second_of(alloc, "until", matches)?;
     if is_never(&request, until) {
         return refused(alloc, "error: --since is after --until\n");
@@ -331,6 +352,7 @@ fn job_of(alloc: Global, name: &str, matches: &ArgMatches<'_>) -> Result<Job, Us
     }
     Ok(Job {
         request,
+        layout,
         workers,
         has_workers: given.is_some(),
         ring,

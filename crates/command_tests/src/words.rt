@@ -5,7 +5,7 @@ use command_line::{
     read_file_list, read_second, read_words,
 };
 use mrt_body::{RibRule, StateRule};
-use rib_report::Request;
+use rib_report::{AddressForm, AddressForms, Request};
 use std::alloc::Global;
 use std::test::Fail;
 
@@ -66,6 +66,10 @@ fn wrong_words_are_refused(rt: HostRuntime) -> Result<(), Fail> {
         ("tables --rib x", "words"),
         ("tables --rib other x", "words"),
         ("history --rib Replace x", "words"),
+        ("tables --addresses x", "words"),
+        ("tables --addresses long x", "words"),
+        ("churn --addresses Short x", "words"),
+        ("tables --address 10.0.0.1 x", "words"),
         ("tables --peer AS65001 x", "words"),
         ("tables --peer 65001,192.0.2 x", "words"),
         ("tables --peers 0/4 x", "words"),
@@ -235,6 +239,30 @@ fn the_rule_of_state_changes_is_a_word(rt: HostRuntime) -> Result<(), Fail> {
     ] {
         match job_of(alloc, text)? {
             Ok(job) => assert!(rt; job.states == expected, "{text}"),
+            Err(_) => assert!(rt; false, "{text}"),
+        }
+    }
+    Ok(())
+}
+
+#[test]
+fn the_form_of_addresses_is_a_word(rt: HostRuntime) -> Result<(), Fail> {
+    let alloc = rt.alloc();
+    for (text, expected) in [
+        ("tables x", AddressForm::Full),
+        ("history --addresses full x", AddressForm::Full),
+        ("peers --addresses short x", AddressForm::Short),
+        ("faults x --addresses short", AddressForm::Short),
+        (
+            "match --address 10.0.0.1 --addresses full --addresses short x",
+            AddressForm::Short,
+        ),
+    ] {
+        match job_of(alloc, text)? {
+            Ok(job) => {
+                let addresses = job.layout.addresses;
+                assert!(rt; addresses == AddressForms::all(expected), "{text}");
+            }
             Err(_) => assert!(rt; false, "{text}"),
         }
     }

@@ -1,6 +1,6 @@
 //! Gates of the tests: who runs beside whom, and what gates are told.
 
-use crate::plans::PLAN;
+use crate::plans::{FULL, PLAN};
 use adj_rib::SharedRoute;
 use bgp_prefix::Radix;
 use fixtures::{THREE_PEERS, bytes_of};
@@ -43,11 +43,12 @@ fn run_with<G: Gate>(
     let bytes = bytes_of(alloc, words)?;
     let mut readers = [Counted::new(bytes.as_slice())];
     let mut out = Counted::new(Vec::<u8>::new(alloc));
-    Ok(run::<Radix<SharedRoute>, _, _, _, _, _>(
+    Ok(run::<Radix<u32, SharedRoute>, _, _, _, _, _>(
         rt,
         alloc,
         &mut readers,
         &Request::Tables,
+        FULL,
         Selection::all(alloc),
         plan,
         &ByTurns,

@@ -1,6 +1,7 @@
-//! The plan of the tests.
+//! The plan and the layout of the tests.
 
 use lane_deal::Plan;
+use rib_report::{AddressForm, AddressForms, Layout};
 
 /// Two workers and short rings and rounds.
 pub const PLAN: Plan = Plan {
@@ -9,4 +10,12 @@ pub const PLAN: Plan = Plan {
     batch: 8,
     looks: 0,
     max_records: 1 << 47,
+};
+
+/// Addresses in full.
+pub const FULL: Layout = Layout {
+    addresses: AddressForms {
+        peers: AddressForm::Full,
+        routes: AddressForm::Full,
+    },
 };

@@ -24,11 +24,13 @@ use Rattle.lane_deal.specs.Asking.{TakesUnits, as_refused, Asked, AskedInVain}
 use Rattle.lane_deal.specs.DealerSteps.{Asks, Next, NextInVain, Handles, Deals}
 use Rattle.lane_deal.specs.Feeds.{Dealt, in_lane}
 use Rattle.lane_deal.specs.Kept.{to_deal}
-use Rattle.lane_deal.specs.Numbers.{NumbersPeer, number_in, with_number, numbered}
+use Rattle.peer_tables.specs.Numbers.{NumbersPeer, number_in}
+use Rattle.lane_deal.specs.Numbers.{with_number, numbered}
 use Rattle.lane_deal.proofs.Asking.{TakesUnits-none, TakesUnits-more, front_from_takes, front_more, all_more_given, behind_more}
 use Rattle.lane_deal.proofs.Deals.{Dealt-append, Dealt-same, Dealt-none}
 use Rattle.lane_deal.proofs.Numbering.{unlisted}
-use Rattle.lane_deal.proofs.Peers.{peer_itself, is_seen, new_peer, peers_of-append, listed_peer, first_position, all_more}
+use Rattle.peer_tables.proofs.PeerPositions.{listed_now, peer_itself, first_position}
+use Rattle.lane_deal.proofs.Peers.{is_seen, new_peer, peers_of-append, listed_peer, all_more}
 
 abbrev Known : Type 0
 Known = List (Option (List ℕ))
@@ -85,15 +87,6 @@ keys_step before (Some k) given [] u keys keys' n h e p =
     let seen : list_any (peer_eq u.peer) keys ≡ true = ap (list_any (peer_eq u.peer)) same ∙ listed_peer (before ++ u ∷ []) u.peer (seen_last before u) in
     p.keys ∙ ap (λ b. keys ++ (if b then [] else u.peer ∷ [])) seen ∙ append-nil keys ∙ same
 keys_step before (Some k) given (d ∷ listed) u keys keys' n h e p = absurd (cc)
-
--- a peer with a number is listed
-pub listed_now : (keys keys' : List PeerKey) (q : PeerKey) (n : ℕ) → NumbersPeer keys keys' q n → list_any (peer_eq q) keys' ≡ true
-listed_now keys keys' q n p =
-    ap (list_any (peer_eq q)) p.keys
-    ∙ elim (list_any (peer_eq q) keys) as (λ b. list_any (peer_eq q) keys ≡ b → list_any (peer_eq q) (keys ++ (if b then [] else q ∷ [])) ≡ true) [
-      | true ↦ λ e. ap (list_any (peer_eq q)) (append-nil keys) ∙ e
-      | false ↦ λ e. list_any-append (peer_eq q) keys (q ∷ []) ∙ ap (λ b. list_any (peer_eq q) keys || (b || false)) (peer_itself q) ∙ or-true (list_any (peer_eq q) keys)
-    ] refl
 
 abbrev pub AreListed : List PeerKey → List ReplayUnit → Type 0
 AreListed keys units = AllByRecursion (λ u. list_any (peer_eq u.peer) keys ≡ true) units
@@ -224,19 +217,19 @@ module _ {D : Type 0} where
         (ap (λ l. filter_map damage_of done ++ l) (sym (append-nil listed) ∙ ap (λ l. listed ++ l) (sym none) ∙ ap (λ l. l ++ filter_map damage_of rest) (sym (all_damage listed)) ∙ sym (filter_map-append damage_of (as_refused listed) rest))
         ∙ sym (filter_map-append damage_of done (as_refused listed ++ rest)))
 
-    module _ (unit : ReplayUnit) (n : ℕ) (order : to_deal mid.kept more ≡ as_refused listed ++ found.Unit unit ∷ []) (number : NumbersPeer mid.peers.keys.items new.peers.keys.items unit.peer n) where
+    module _ (unit : ReplayUnit) (n : ℕ) (order : to_deal mid.kept more ≡ as_refused listed ++ found.Unit unit ∷ []) (number : NumbersPeer mid.peers new.peers unit.peer n) where
       extra : List PeerKey
-      extra = if list_any (peer_eq unit.peer) mid.peers.keys.items then [] else unit.peer ∷ []
+      extra = if list_any (peer_eq unit.peer) mid.peers then [] else unit.peer ∷ []
 
-      listed_still : AreListed new.peers.keys.items (filter_map unit_of done)
+      listed_still : AreListed new.peers (filter_map unit_of done)
       unfolding extra
-      listed_still = subst (λ l. AreListed l (filter_map unit_of done)) (sym number.keys) (listed_more mid.peers.keys.items extra (filter_map unit_of done) p.listed)
+      listed_still = subst (λ l. AreListed l (filter_map unit_of done)) (sym number.keys) (listed_more mid.peers extra (filter_map unit_of done) p.listed)
 
-      numbers_still : numbered new.peers.keys.items (filter_map unit_of done) ≡ numbered mid.peers.keys.items (filter_map unit_of done)
+      numbers_still : numbered new.peers (filter_map unit_of done) ≡ numbered mid.peers (filter_map unit_of done)
       unfolding extra
-      numbers_still = ap (λ l. numbered l (filter_map unit_of done)) number.keys ∙ numbered_stay mid.peers.keys.items extra (filter_map unit_of done) p.listed
+      numbers_still = ap (λ l. numbered l (filter_map unit_of done)) number.keys ∙ numbered_stay mid.peers extra (filter_map unit_of done) p.listed
 
-      item_is : record { number = n; unit = unit } ≡ with_number new.peers.keys.items unit
+      item_is : record { number = n; unit = unit } ≡ with_number new.peers unit
       item_is = ap (λ m. record { number = m; unit = unit }) number.number_is
 
       -- the unit was dealt
@@ -252,15 +245,15 @@ module _ {D : Type 0} where
             refused = damage_then (found.Unit unit ∷ []) refl;
             counted = (let n = ap length units ∙ length-append (filter_map unit_of done) (unit ∷ []) in let m = p.counted in omega arith);
             pushed =
-                subst (λ l. Dealt lane_of f f₂ (numbered new.peers.keys.items l)) (sym units)
-                (subst (Dealt lane_of f f₂) (sym (map-append (with_number new.peers.keys.items) (filter_map unit_of done) (unit ∷ [])))
-                (Dealt-append lane_of f f₁ f₂ (numbered new.peers.keys.items (filter_map unit_of done)) (with_number new.peers.keys.items unit ∷ [])
+                subst (λ l. Dealt lane_of f f₂ (numbered new.peers l)) (sym units)
+                (subst (Dealt lane_of f f₂) (sym (map-append (with_number new.peers) (filter_map unit_of done) (unit ∷ [])))
+                (Dealt-append lane_of f f₁ f₂ (numbered new.peers (filter_map unit_of done)) (with_number new.peers unit ∷ [])
                 (subst (Dealt lane_of f f₁) (sym numbers_still) p.pushed) (subst (λ i. Dealt lane_of f₁ f₂ (i ∷ [])) item_is q)));
             listed =
-                subst (AreListed new.peers.keys.items) (sym units)
-                (all_push (λ u. list_any (peer_eq u.peer) new.peers.keys.items ≡ true) (filter_map unit_of done) (unit ∷ []) listed_still (listed_now mid.peers.keys.items new.peers.keys.items unit.peer n number, tt));
+                subst (AreListed new.peers) (sym units)
+                (all_push (λ u. list_any (peer_eq u.peer) new.peers ≡ true) (filter_map unit_of done) (unit ∷ []) listed_still (listed_now mid.peers new.peers unit.peer n number, tt));
             keys = λ before h.
-                keys_step (before ++ filter_map unit_of done) mid.kept more listed unit mid.peers.keys.items new.peers.keys.items n (p.keys before h) order number
+                keys_step (before ++ filter_map unit_of done) mid.kept more listed unit mid.peers new.peers n (p.keys before h) order number
                 ∙ ap peers_of (append_assoc before (filter_map unit_of done) (unit ∷ []) ∙ ap (λ l. before ++ l) (sym units) ∙ sym (append-nil _) ∙ ap (λ o. (before ++ filter_map unit_of (done ++ (as_refused listed ++ found.Unit unit ∷ []))) ++ option_to_list o) (sym none));
           }
 
@@ -277,11 +270,11 @@ module _ {D : Type 0} where
             refused = damage_then [] refl;
             counted = counted ∙ p.counted ∙ ap (λ l. min (old.dealt + length l) (2 ^ 64 - 1)) (sym units);
             pushed =
-                subst (λ l. Dealt lane_of f f₂ (numbered new.peers.keys.items l)) (sym units)
-                (Dealt-same lane_of f f₁ f₂ (numbered new.peers.keys.items (filter_map unit_of done)) (subst (Dealt lane_of f f₁) (sym numbers_still) p.pushed) q);
-            listed = subst (AreListed new.peers.keys.items) (sym units) listed_still;
+                subst (λ l. Dealt lane_of f f₂ (numbered new.peers l)) (sym units)
+                (Dealt-same lane_of f f₁ f₂ (numbered new.peers (filter_map unit_of done)) (subst (Dealt lane_of f f₁) (sym numbers_still) p.pushed) q);
+            listed = subst (AreListed new.peers) (sym units) listed_still;
             keys = λ before h.
-                keys_step (before ++ filter_map unit_of done) mid.kept more listed unit mid.peers.keys.items new.peers.keys.items n (p.keys before h) order number
+                keys_step (before ++ filter_map unit_of done) mid.kept more listed unit mid.peers new.peers n (p.keys before h) order number
                 ∙ ap (λ l. peers_of ((before ++ l) ++ unit ∷ [])) (sym units) ∙ ap (λ o. peers_of ((before ++ filter_map unit_of (done ++ (as_refused listed ++ []))) ++ option_to_list o)) (sym kept);
           }
 
@@ -290,7 +283,7 @@ module _ {D : Type 0} where
     Handles-none order none counted peers =
         let units : filter_map unit_of (done ++ (as_refused listed ++ [])) ≡ filter_map unit_of done = units_then [] ∙ append-nil _ in
         let before_none : mid.kept ≡ None = none_kept mid.kept more listed order in
-        let keys : new.peers.keys.items ≡ mid.peers.keys.items = ap (λ q. q.keys.items) peers in
+        let keys : new.peers ≡ mid.peers = peers in
         record {
           dealing = dealing ∙ p.dealing;
           order =
@@ -298,8 +291,8 @@ module _ {D : Type 0} where
               ∙ sym (append-nil _) ∙ ap (λ o. (done ++ (as_refused listed ++ [])) ++ to_deal o []) (sym none);
           refused = damage_then [] refl;
           counted = counted ∙ p.counted ∙ ap (λ l. min (old.dealt + length l) (2 ^ 64 - 1)) (sym units);
-          pushed = subst (λ l. Dealt lane_of f f₁ (numbered l (filter_map unit_of (done ++ (as_refused listed ++ []))))) (sym keys) (subst (λ l. Dealt lane_of f f₁ (numbered mid.peers.keys.items l)) (sym units) p.pushed);
-          listed = subst (λ l. AreListed l (filter_map unit_of (done ++ (as_refused listed ++ [])))) (sym keys) (subst (AreListed mid.peers.keys.items) (sym units) p.listed);
+          pushed = subst (λ l. Dealt lane_of f f₁ (numbered l (filter_map unit_of (done ++ (as_refused listed ++ []))))) (sym keys) (subst (λ l. Dealt lane_of f f₁ (numbered mid.peers l)) (sym units) p.pushed);
+          listed = subst (λ l. AreListed l (filter_map unit_of (done ++ (as_refused listed ++ [])))) (sym keys) (subst (AreListed mid.peers) (sym units) p.listed);
           keys = λ before h.
               keys ∙ p.keys before h ∙ ap (λ l. peers_of ((before ++ l) ++ option_to_list mid.kept)) (sym units)
               ∙ ap (λ o. peers_of ((before ++ filter_map unit_of (done ++ (as_refused listed ++ []))) ++ option_to_list o)) (before_none ∙ sym none);
@@ -307,11 +300,11 @@ module _ {D : Type 0} where
 
   module _ (lane_of : ℕ → ℕ) (f f₁ f₂ : List Feed) (old mid asked new : Dealer D) (u u₁ u₂ : UnitsState) (k k₁ k₂ : Known) (count : ℕ) (s : SoFar lane_of f f₁ old mid u k u₁ k₁ count) where
     -- one unit more
-    pub SoFar-more : (unit : ReplayUnit) (n : ℕ) → Next mid asked u₁ k₁ u₂ k₂ (Some unit) → NumbersPeer asked.peers.keys.items new.peers.keys.items unit.peer n → new.dealing ≡ asked.dealing → new.kept ≡ asked.kept → new.refused ≡ asked.refused → new.dealt ≡ min (asked.dealt + 1) (2 ^ 64 - 1)
+    pub SoFar-more : (unit : ReplayUnit) (n : ℕ) → Next mid asked u₁ k₁ u₂ k₂ (Some unit) → NumbersPeer asked.peers new.peers unit.peer n → new.dealing ≡ asked.dealing → new.kept ≡ asked.kept → new.refused ≡ asked.refused → new.dealt ≡ min (asked.dealt + 1) (2 ^ 64 - 1)
         → Dealt lane_of f₁ f₂ (record { number = n; unit = unit } ∷ []) → SoFar lane_of f f₂ old new u k u₂ k₂ (count + 1)
     SoFar-more unit n next number dealing kept refused counted q =
-        let keys : asked.peers.keys.items ≡ mid.peers.keys.items = ap (λ o. o.keys.items) next.asks.peers in
-        let number' : NumbersPeer mid.peers.keys.items new.peers.keys.items unit.peer n = subst (λ l. NumbersPeer l new.peers.keys.items unit.peer n) keys number in
+        let keys : asked.peers ≡ mid.peers = next.asks.peers in
+        let number' : NumbersPeer mid.peers new.peers unit.peer n = subst (λ l. NumbersPeer l new.peers unit.peer n) keys number in
         let listing : new.refused.items ≡ mid.refused.items ++ next.listed = ap (λ o. o.items) refused ∙ next.refused in
         record {
           given = s.given ++ next.given;
@@ -324,11 +317,11 @@ module _ {D : Type 0} where
         }
 
     -- the unit came back
-    pub Deals-blocked : (batch : ℕ) → count ≤ batch → (unit back : ReplayUnit) (n lane : ℕ) → Next mid asked u₁ k₁ u₂ k₂ (Some unit) → NumbersPeer asked.peers.keys.items new.peers.keys.items unit.peer n → new.dealing ≡ asked.dealing → new.kept ≡ Some back → back ≡ unit → new.refused ≡ asked.refused → new.dealt ≡ asked.dealt
+    pub Deals-blocked : (batch : ℕ) → count ≤ batch → (unit back : ReplayUnit) (n lane : ℕ) → Next mid asked u₁ k₁ u₂ k₂ (Some unit) → NumbersPeer asked.peers new.peers unit.peer n → new.dealing ≡ asked.dealing → new.kept ≡ Some back → back ≡ unit → new.refused ≡ asked.refused → new.dealt ≡ asked.dealt
         → lane_of n ≡ lane → lane < length f → Dealt lane_of f₁ f₂ [] → ((d : Feed) → known_free (slice_index_or f₁ lane d).producer ≡ 0) → Deals lane_of batch f f₂ old new u k u₂ k₂ (Ok Blocked)
     Deals-blocked batch within unit back n lane next number dealing kept same refused counted at below q full =
-        let keys : asked.peers.keys.items ≡ mid.peers.keys.items = ap (λ o. o.keys.items) next.asks.peers in
-        let number' : NumbersPeer mid.peers.keys.items new.peers.keys.items unit.peer n = subst (λ l. NumbersPeer l new.peers.keys.items unit.peer n) keys number in
+        let keys : asked.peers ≡ mid.peers = next.asks.peers in
+        let number' : NumbersPeer mid.peers new.peers unit.peer n = subst (λ l. NumbersPeer l new.peers unit.peer n) keys number in
         let listing : new.refused.items ≡ mid.refused.items ++ next.listed = ap (λ o. o.items) refused ∙ next.refused in
         let kept' : new.kept ≡ Some unit = kept ∙ ap (λ v. Some v) same in
         let h = Handles-blocked lane_of f f₁ f₂ old mid new s.given s.done next.given next.listed s.handles listing (dealing ∙ next.asks.dealing) unit n next.order number' kept' (counted ∙ next.asks.dealt) q in
@@ -336,8 +329,8 @@ module _ {D : Type 0} where
         let units : filter_map unit_of (s.done ++ (as_refused next.listed ++ [])) ≡ filter_map unit_of s.done =
         units_then lane_of f f₁ f₂ old mid new s.given s.done next.given next.listed s.handles listing (dealing ∙ next.asks.dealing) [] ∙ append-nil _ in
         let still = numbers_still lane_of f f₁ f₂ old mid new s.given s.done next.given next.listed s.handles listing (dealing ∙ next.asks.dealing) unit n next.order number' in
-        let items : numbered new.peers.keys.items (filter_map unit_of (s.done ++ (as_refused next.listed ++ []))) ≡ numbered mid.peers.keys.items (filter_map unit_of s.done) = ap (numbered new.peers.keys.items) units ∙ still in
-        let lane_is : lane_of (number_in new.peers.keys.items unit.peer) ≡ lane = ap lane_of (sym number'.number_is) ∙ at in
+        let items : numbered new.peers (filter_map unit_of (s.done ++ (as_refused next.listed ++ []))) ≡ numbered mid.peers (filter_map unit_of s.done) = ap (numbered new.peers) units ∙ still in
+        let lane_is : lane_of (number_in new.peers unit.peer) ≡ lane = ap lane_of (sym number'.number_is) ∙ at in
         record {
           given = s.given ++ next.given;
           done = s.done ++ (as_refused next.listed ++ []);
@@ -350,7 +343,7 @@ module _ {D : Type 0} where
                 unit = unit;
                 kept = kept';
                 full = λ d.
-                    subst (λ m. known_free (slice_index_or f m d).producer ≤ length (in_lane lane_of m (numbered new.peers.keys.items (filter_map unit_of (s.done ++ (as_refused next.listed ++ [])))))) (sym lane_is)
+                    subst (λ m. known_free (slice_index_or f m d).producer ≤ length (in_lane lane_of m (numbered new.peers (filter_map unit_of (s.done ++ (as_refused next.listed ++ [])))))) (sym lane_is)
                     (subst (λ l. known_free (slice_index_or f lane d).producer ≤ length (in_lane lane_of lane l)) (sym items)
                     (let room = (s.handles.pushed.each lane d below).free in let none = full d in omega arith));
               };

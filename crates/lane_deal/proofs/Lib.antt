@@ -7,7 +7,6 @@ pub mod SettledLaws
 pub mod RoundLaws
 pub mod RouteCounts
 pub mod Examples
-pub mod PeerPositions
 pub mod ListedLaws
 pub mod UnitLists
 pub mod MovedLists

@@ -8,16 +8,8 @@ use Rattle.mrt_body.specs.declared.unit.PeerKey.{PeerKey}
 use Rattle.mrt_body.specs.declared.unit.Unit.{Unit as ReplayUnit}
 use Rattle.peer_tables.specs.Peers.{peer_eq, peers_of}
 use Rattle.lane_deal.specs.Lanes.{number_of_peer}
-use Rattle.lane_deal.proofs.Peers.{peer_itself, is_seen, new_peer, new_peers, peers_of-append, other_peer}
-
--- a peer that differs from these is behind them
-pub place_behind : (ps : List PeerKey) (q : PeerKey) (rest : List PeerKey) → list_any (peer_eq q) ps ≡ false → position_or_len (peer_eq q) (ps ++ q ∷ rest) ≡ length ps
-place_behind [] q rest e = ap (λ b. cond (not b) (1 + prefix_len (λ x. not (peer_eq q x)) rest) 0) (peer_itself q)
-place_behind (p ∷ ps) q rest e =
-    elim (peer_eq q p) as (λ b. (b || list_any (peer_eq q) ps) ≡ false → cond (not b) (1 + prefix_len (λ x. not (peer_eq q x)) (ps ++ q ∷ rest)) 0 ≡ length (p ∷ ps)) [
-      | true ↦ λ clash. cc
-      | false ↦ λ other. ap (λ n. 1 + n) (place_behind ps q rest other) ∙ omega arith
-    ] e
+use Rattle.peer_tables.proofs.PeerPositions.{other_peer, place_behind}
+use Rattle.lane_deal.proofs.Peers.{is_seen, new_peer, new_peers, peers_of-append}
 
 -- a peer of none of the units is none of their peers
 unseen_from : (before xs : List ReplayUnit) (q : PeerKey) → is_seen xs q ≡ false → list_any (peer_eq q) (new_peers before xs) ≡ false

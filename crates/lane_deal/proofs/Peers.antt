@@ -12,37 +12,9 @@ use Rattle.mrt_body.specs.declared.unit.PeerAddr.TheVariants.{V4, V6}
 use Rattle.mrt_body.specs.declared.unit.PeerKey.{PeerKey}
 use Rattle.mrt_body.specs.declared.unit.Unit.{Unit as ReplayUnit}
 use Rattle.peer_tables.specs.Peers.{addr_eq, peer_eq, peers_of, units_of_peer}
+use Rattle.peer_tables.proofs.ShareLaws.{same_peer}
+use Rattle.peer_tables.proofs.PeerPositions.{first_position, peer_itself}
 use Rattle.lane_deal.specs.Lanes.{number_of_peer}
-
--- ---- equality of peers
-
-same_addr : (a b : PeerAddr) → addr_eq a b ≡ true → a ≡ b
-same_addr (V4 a) (V4 b) e = ap V4 (eqb-true a b e)
-same_addr (V6 a) (V6 b) e = ap V6 (eqb-true a b e)
-same_addr (V4 a) (V6 b) e = cc
-same_addr (V6 a) (V4 b) e = cc
-
-addr_itself : (a : PeerAddr) → addr_eq a a ≡ true
-addr_itself (V4 a) = eq-eqb a a refl
-addr_itself (V6 a) = eq-eqb a a refl
-
-pub same_peer : (p q : PeerKey) → peer_eq p q ≡ true → p ≡ q
-same_peer p q e =
-    let parts = and_parts _ _ e in
-    let asn : p.asn ≡ q.asn = eqb-true _ _ parts.0 in
-    let addr = same_addr p.addr q.addr parts.1 in
-    λ i. record { asn = asn i; addr = addr i }
-
-pub peer_itself : (p : PeerKey) → peer_eq p p ≡ true
-peer_itself p = and_from _ _ (eq-eqb p.asn p.asn refl) (addr_itself p.addr)
-
--- equal peers are equal to the same ones
-pub other_peer : (p q : PeerKey) → peer_eq p q ≡ false → peer_eq q p ≡ false
-other_peer p q e =
-    elim (peer_eq q p) as (λ b. peer_eq q p ≡ b → b ≡ false) [
-      | true ↦ λ same. let clash : false ≡ true = sym e ∙ subst (λ r. peer_eq p r ≡ true) (sym (same_peer q p same)) (peer_itself p) in cc
-      | false ↦ λ apart. refl
-    ] refl
 
 -- ---- peers, one unit after the other
 
@@ -97,14 +69,6 @@ unfolding peers_of
 listed_peer units q seen = listed_when_new [] units q seen refl
 
 -- ---- numbers
-
-pub first_position : {X : Type 0} (p : X → Bool) (xs ys : List X) → list_any p xs ≡ true → position_or_len p (xs ++ ys) ≡ position_or_len p xs
-first_position p [] ys e = cc
-first_position p (x ∷ xs) ys e =
-    elim (p x) as (λ b. (b || list_any p xs) ≡ true → cond (not b) (1 + prefix_len (λ x. not (p x)) (xs ++ ys)) 0 ≡ cond (not b) (1 + prefix_len (λ x. not (p x)) xs) 0) [
-      | true ↦ λ _. refl
-      | false ↦ λ later. ap (λ n. 1 + n) (first_position p xs ys later)
-    ] e
 
 -- more units leave the number of a peer as it is
 pub number_stays : (units more : List ReplayUnit) (q : PeerKey) → is_seen units q ≡ true → number_of_peer (units ++ more) q ≡ number_of_peer units q

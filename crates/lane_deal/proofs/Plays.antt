@@ -13,6 +13,7 @@ use Rattle.mrt_body.specs.declared.unit.Unit.{Unit as ReplayUnit}
 use Rattle.mrt_body.specs.Units.{unit_of, damage_of}
 use Rattle.mrt_body.specs.ToCome.{UnitsState}
 use Rattle.peer_tables.specs.Peers.{peers_of}
+use Rattle.bgp_prefix.specs.declared.family.Family.{Ghosts as AddressGhosts}
 use Rattle.bgp_prefix.specs.declared.map.PrefixMap.{Ghosts}
 use Rattle.adj_rib.specs.declared.shared_route.SharedRoute.{SharedRoute}
 use Rattle.lane_deal.specs.declared.dealer.Dealer.{Dealer}
@@ -32,7 +33,8 @@ use Rattle.lane_deal.specs.Kept.{to_deal}
 use Rattle.lane_deal.specs.LaneRings.{AreReady, LanesStand, AreFresh, Settled}
 use Rattle.lane_deal.specs.LaneRounds.{PlaysLanes}
 use Rattle.lane_deal.specs.Lanes.{lane_units}
-use Rattle.lane_deal.specs.Numbers.{number_in, with_number, numbered}
+use Rattle.peer_tables.specs.Numbers.{number_in}
+use Rattle.lane_deal.specs.Numbers.{with_number, numbered}
 use Rattle.lane_deal.specs.Playing.{PlaysOn, IsLeft}
 use Rattle.lane_deal.specs.Replayers.{LaneState, ReplayerState, LaneStandsFor, ReplayerStandsFor, StandsForSome}
 use Rattle.std.proofs.Math.Logic.{∥∥₁_map}
@@ -77,11 +79,11 @@ no_more given left e = nil_from_length left (let n = ap length e in omega (arith
 
 -- ---- fresh lanes
 
-module _ {M : Type 0} {g : Ghosts M SharedRoute} where
-  pub ready_fresh : (capacity workers : ℕ) (fs : List Feed) (ws : List (Worker (Seats M g))) → AreFresh SeatsHold capacity workers fs ws → AreReady capacity fs ws
+module _ {M : Type 0} {g : Ghosts M SharedRoute ℕ} {a : AddressGhosts ℕ} where
+  pub ready_fresh : (capacity workers : ℕ) (fs : List Feed) (ws : List (Worker (Seats M g a))) → AreFresh SeatsHold capacity workers fs ws → AreReady capacity fs ws
   ready_fresh capacity workers fs ws h = (h.workers_count ∙ sym h.feeds_count, λ lane x y l. (h.each lane x y (let c = h.feeds_count in omega arith)).ready)
 
-  pub settled_fresh : (capacity workers : ℕ) (fs : List Feed) (ws : List (Worker (Seats M g))) → AreFresh SeatsHold capacity workers fs ws → (lane : ℕ) (state : LaneState) → slice_get (lane_states fs ws) lane ≡ Some state → state.ring.sent ≡ []
+  pub settled_fresh : (capacity workers : ℕ) (fs : List Feed) (ws : List (Worker (Seats M g a))) → AreFresh SeatsHold capacity workers fs ws → (lane : ℕ) (state : LaneState) → slice_get (lane_states fs ws) lane ≡ Some state → state.ring.sent ≡ []
   settled_fresh capacity workers fs ws h lane state e =
       let at = lane_at fs ws lane state e in ap (λ x. x.ring.sent) at.state_is ∙ (h.each lane at.feed at.worker (let l = at.within in let c = h.feeds_count in omega arith)).empty
 
@@ -92,8 +94,8 @@ some_settled dealing capacity old new s some = ∥∥₁_map some (λ h. record 
 
 -- ---- a round
 
-module _ {M D : Type 0} {g : Ghosts M SharedRoute} where
-  module _ (dealing : ℕ → ℕ → ℕ) (capacity : ℕ) (fs : List Feed) (ws : List (Worker (Seats M g))) (d : Dealer D) (spent : Bool) (ready : AreReady capacity fs ws) where
+module _ {M D : Type 0} {g : Ghosts M SharedRoute ℕ} {a : AddressGhosts ℕ} where
+  module _ (dealing : ℕ → ℕ → ℕ) (capacity : ℕ) (fs : List Feed) (ws : List (Worker (Seats M g a))) (d : Dealer D) (spent : Bool) (ready : AreReady capacity fs ws) where
     abbrev lane_of : ℕ → ℕ
     lane_of n = dealing n (length fs)
 
@@ -116,13 +118,13 @@ module _ {M D : Type 0} {g : Ghosts M SharedRoute} where
         (subst (LaneStandsFor capacity (units ++ option_to_list d.kept) (lane_units lane_of units lane)) (sym at.state_is)
         (stands_out lane_of units (option_to_list d.kept) lane capacity (get_or fs lane at.feed) (get_or ws lane at.worker) (ready.1 lane at.feed at.worker at.within) (h lane at.feed at.worker at.within)))
 
-    share_is : (n : ℕ) → n ≡ length fs → (lane : ℕ) (units : List ReplayUnit) → length (in_lane lane_of lane (numbered d.peers.keys.items units)) ≡ count_by (λ u. eqb (dealing (number_in d.peers.keys.items u.peer) n) lane) units
+    share_is : (n : ℕ) → n ≡ length fs → (lane : ℕ) (units : List ReplayUnit) → length (in_lane lane_of lane (numbered d.peers units)) ≡ count_by (λ u. eqb (dealing (number_in d.peers u.peer) n) lane) units
     share_is n e lane units =
-        ap length (filter_mapped (λ item. eqb (lane_of item.number) lane) (with_number d.peers.keys.items) units) ∙ length-map (filter (λ u. eqb (lane_of (number_in d.peers.keys.items u.peer)) lane) units) (with_number d.peers.keys.items)
-        ∙ length-filter (λ u. eqb (lane_of (number_in d.peers.keys.items u.peer)) lane) units
-        ∙ ap (λ m. count_by (λ u. eqb (dealing (number_in d.peers.keys.items u.peer) m) lane) units) (sym e)
+        ap length (filter_mapped (λ item. eqb (lane_of item.number) lane) (with_number d.peers) units) ∙ length-map (filter (λ u. eqb (lane_of (number_in d.peers u.peer)) lane) units) (with_number d.peers)
+        ∙ length-filter (λ u. eqb (lane_of (number_in d.peers u.peer)) lane) units
+        ∙ ap (λ m. count_by (λ u. eqb (dealing (number_in d.peers u.peer) m) lane) units) (sym e)
 
-  module _ (dealing : ℕ → ℕ → ℕ) (plan : Plan) (fs fs' : List Feed) (ws ws' : List (Worker (Seats M g))) (old new : Dealer D) (spent spent' : Bool) (u u' : UnitsState) (k k' : List (Option (List ℕ))) (result : Result Step ReplayError) (ready : AreReady plan.ring fs ws) (below : (n : ℕ) → dealing n (length fs) < length fs) (unspent : spent' ≡ false) (p : PlaysLanes SeatsHold (λ n. dealing n (length fs)) plan.ring plan.batch fs ws fs' ws' old new u k u' k' result) where
+  module _ (dealing : ℕ → ℕ → ℕ) (plan : Plan) (fs fs' : List Feed) (ws ws' : List (Worker (Seats M g a))) (old new : Dealer D) (spent spent' : Bool) (u u' : UnitsState) (k k' : List (Option (List ℕ))) (result : Result Step ReplayError) (ready : AreReady plan.ring fs ws) (below : (n : ℕ) → dealing n (length fs) < length fs) (unspent : spent' ≡ false) (p : PlaysLanes SeatsHold (λ n. dealing n (length fs)) plan.ring plan.batch fs ws fs' ws' old new u k u' k' result) where
     abbrev before : ReplayerState
     before = state_at old fs ws spent
 
@@ -139,7 +141,7 @@ module _ {M D : Type 0} {g : Ghosts M SharedRoute} where
     stands_then units refused h =
         let keys = p.deals.handles.keys units h.peers in
         let lanes = p.rounded.stands (dealt_items units) (lanes_before dealing plan.ring fs ws old spent ready units refused h) in
-        let all = subst (LanesStand SeatsHold (λ n. dealing n (length fs)) fs' ws') (dealt_items-append units dealt (option_to_list new.kept) new.peers.keys.items keys) lanes in
+        let all = subst (LanesStand SeatsHold (λ n. dealing n (length fs)) fs' ws') (dealt_items-append units dealt (option_to_list new.kept) new.peers keys) lanes in
         record {
           unspent = unspent;
           lanes = lanes_after dealing plan.ring fs' ws' new spent' p.rounded.ready (units ++ dealt) (subst (λ n. LanesStand SeatsHold (λ m. dealing m n) fs' ws' (dealt_items (units ++ dealt))) (sym p.rounded.count) all);
@@ -166,7 +168,7 @@ module _ {M D : Type 0} {g : Ghosts M SharedRoute} where
     stops_then : (step : Step) → StopsDealing (λ n. dealing n (length fs)) plan.batch fs new u k p.deals.given dealt step → (left : List Found) → (step ≡ End → IsLeft u k p.deals.given left) → Stops dealing plan before after left dealt step
     stops_then Blocked h left _ =
         let n = length (lane_states fs' ws') in
-        let number = number_in new.peers.keys.items h.unit.peer in
+        let number = number_in new.peers h.unit.peer in
         let same : dealing number n ≡ dealing number (length fs) = ap (dealing number) lanes_now in
         let lane = dealing number (length fs) in
         let within = below number in
@@ -211,7 +213,7 @@ module _ {M D : Type 0} {g : Ghosts M SharedRoute} where
     }
 
   -- the same, where the lists are told by what they equal
-  pub PlaysOn-of : (dealing : ℕ → ℕ → ℕ) (plan : Plan) (batch : ℕ) (fs fs' fs₂ : List Feed) (ws ws' ws₂ : List (Worker (Seats M g))) (old new : Dealer D) (spent spent' : Bool) (u u' : UnitsState) (k k' : List (Option (List ℕ))) (result : Result Step ReplayError)
+  pub PlaysOn-of : (dealing : ℕ → ℕ → ℕ) (plan : Plan) (batch : ℕ) (fs fs' fs₂ : List Feed) (ws ws' ws₂ : List (Worker (Seats M g a))) (old new : Dealer D) (spent spent' : Bool) (u u' : UnitsState) (k k' : List (Option (List ℕ))) (result : Result Step ReplayError)
       → AreReady plan.ring fs ws → ((n : ℕ) → dealing n (length fs) < length fs) → fs₂ ≡ fs' → ws₂ ≡ ws' → batch ≡ plan.batch → spent' ≡ false
       → PlaysLanes SeatsHold (λ n. dealing n (length fs)) plan.ring batch fs ws fs' ws' old new u k u' k' result → PlaysOn dealing plan (state_at old fs ws spent) (state_at new fs₂ ws₂ spent') u k u' k' result
   PlaysOn-of dealing plan batch fs fs' fs₂ ws ws' ws₂ old new spent spent' u u' k k' result ready below e f b unspent p =
@@ -221,7 +223,7 @@ module _ {M D : Type 0} {g : Ghosts M SharedRoute} where
       (subst (λ n. PlaysLanes SeatsHold (λ m. dealing m (length fs)) plan.ring n fs ws fs' ws' old new u k u' k' result) b p)))
 
   -- it still stands for some units and refusals
-  pub some_after : (law : D → ℕ → ℕ → ℕ) (plan : Plan) (batch : ℕ) (fs fs' fs₂ : List Feed) (ws ws' ws₂ : List (Worker (Seats M g))) (old new : Dealer D) (u u' : UnitsState) (k k' : List (Option (List ℕ))) (result : Result Step ReplayError)
+  pub some_after : (law : D → ℕ → ℕ → ℕ) (plan : Plan) (batch : ℕ) (fs fs' fs₂ : List Feed) (ws ws' ws₂ : List (Worker (Seats M g a))) (old new : Dealer D) (u u' : UnitsState) (k k' : List (Option (List ℕ))) (result : Result Step ReplayError)
       → AreReady plan.ring fs ws → ((n : ℕ) → law old.dealing n (length fs) < length fs) → fs₂ ≡ fs' → ws₂ ≡ ws' → batch ≡ plan.batch
       → PlaysLanes SeatsHold (λ n. law old.dealing n (length fs)) plan.ring batch fs ws fs' ws' old new u k u' k' result
       → ∥ StandsForSome (law old.dealing) plan.ring (state_at old fs ws false) ∥₁ → ∥ StandsForSome (law new.dealing) plan.ring (state_at new fs₂ ws₂ false) ∥₁
@@ -235,7 +237,7 @@ module _ {M D : Type 0} {g : Ghosts M SharedRoute} where
 
   -- ---- a settling
 
-  pub Settles-of : (dealing : ℕ → ℕ → ℕ) (capacity : ℕ) (fs fs' fs₂ : List Feed) (ws ws' ws₂ : List (Worker (Seats M g))) (d : Dealer D) (spent : Bool) → AreReady capacity fs ws → fs₂ ≡ fs' → ws₂ ≡ ws'
+  pub Settles-of : (dealing : ℕ → ℕ → ℕ) (capacity : ℕ) (fs fs' fs₂ : List Feed) (ws ws' ws₂ : List (Worker (Seats M g a))) (d : Dealer D) (spent : Bool) → AreReady capacity fs ws → fs₂ ≡ fs' → ws₂ ≡ ws'
       → Settled SeatsHold capacity fs ws fs' ws' → Settles dealing capacity (state_at d fs ws spent) (state_at d fs₂ ws₂ spent)
   Settles-of dealing capacity fs fs' fs₂ ws ws' ws₂ d spent ready e f s =
       let settled : Settles dealing capacity (state_at d fs ws spent) (state_at d fs' ws' spent) = record {
@@ -259,7 +261,7 @@ module _ {M D : Type 0} {g : Ghosts M SharedRoute} where
 
   -- ---- a new replayer
 
-  pub stands_fresh : (dealing : ℕ → ℕ → ℕ) (capacity count : ℕ) → 0 < count → (fs : List Feed) (ws : List (Worker (Seats M g))) (d : Dealer D) → AreFresh SeatsHold capacity count fs ws → d.peers.keys.items ≡ [] → d.kept ≡ None → d.refused.items ≡ [] → d.dealt ≡ 0
+  pub stands_fresh : (dealing : ℕ → ℕ → ℕ) (capacity count : ℕ) → 0 < count → (fs : List Feed) (ws : List (Worker (Seats M g a))) (d : Dealer D) → AreFresh SeatsHold capacity count fs ws → d.peers ≡ [] → d.kept ≡ None → d.refused.items ≡ [] → d.dealt ≡ 0
       → ReplayerStandsFor dealing capacity [] [] (state_at d fs ws false)
   unfolding peers_of
   stands_fresh dealing capacity count some fs ws d h keys kept refused counted =
@@ -275,7 +277,7 @@ module _ {M D : Type 0} {g : Ghosts M SharedRoute} where
 
 -- ---- what waits
 
-module _ {M : Type 0} {g : Ghosts M SharedRoute} (capacity : ℕ) (fs : List Feed) (ws : List (Worker (Seats M g))) (ready : AreReady capacity fs ws) where
+module _ {M : Type 0} {g : Ghosts M SharedRoute ℕ} {a : AddressGhosts ℕ} (capacity : ℕ) (fs : List Feed) (ws : List (Worker (Seats M g a))) (ready : AreReady capacity fs ws) where
   -- the dealer knows how many units wait
   pub waits_at : (lane : ℕ) (state : LaneState) → slice_get (lane_states fs ws) lane ≡ Some state → (d : Feed) (n : ℕ) → n + known_free (get_or fs lane d).producer ≡ ring_capacity (get_or fs lane d).producer → n ≡ length state.ring.sent
   waits_at lane state is d n count =
@@ -285,7 +287,7 @@ module _ {M : Type 0} {g : Ghosts M SharedRoute} (capacity : ℕ) (fs : List Fee
       let r = ready.1 lane at.feed at.worker at.within in
       (let a = r.1 in let b = r.5 in omega arith) ∙ ap length (sym (ap (λ s. s.ring.sent) at.state_is))
 
-  pub took_at : (lane : ℕ) (state : LaneState) → slice_get (lane_states fs ws) lane ≡ Some state → (e : Worker (Seats M g)) → (get_or ws lane e).taken ≡ state.took
+  pub took_at : (lane : ℕ) (state : LaneState) → slice_get (lane_states fs ws) lane ≡ Some state → (e : Worker (Seats M g a)) → (get_or ws lane e).taken ≡ state.took
   took_at lane state is e =
       let at = lane_at fs ws lane state is in
       let same : get_or ws lane e ≡ get_or ws lane at.worker = get_or_default ws lane e at.worker (let l = at.within in let c = ready.0 in omega arith) in

@@ -11,11 +11,13 @@ use Rattle.adj_rib.specs.declared.shared_route.SharedRoute.{SharedRoute}
 use Rattle.lane_deal.specs.declared.numbered.Numbered.{Numbered}
 use Rattle.lane_deal.specs.declared.schedule.OneLane.{OneLane}
 use Rattle.lane_deal.specs.Lanes.{number_of_peer, lane_of_unit}
-use Rattle.lane_deal.specs.Numbers.{NumbersPeer, with_number, numbered}
+use Rattle.peer_tables.specs.Numbers.{NumbersPeer}
+use Rattle.lane_deal.specs.Numbers.{with_number, numbered}
 use Rattle.lane_deal.specs.Schedules.{LanesState, dealt, took, start}
 use Rattle.lane_deal.specs.Shown.{SeatsHold}
 use Rattle.lane_deal.specs.ShownLanes.{LaneShows, LanesShow}
-use Rattle.lane_deal.proofs.DealerLaws.{listed_now, numbered_stay, AreListed, listed_more, all_push, peers_push}
+use Rattle.peer_tables.proofs.PeerPositions.{listed_now}
+use Rattle.lane_deal.proofs.DealerLaws.{numbered_stay, AreListed, listed_more, all_push, peers_push}
 
 -- ---- numbers
 
@@ -47,7 +49,7 @@ same_if : (f : ℕ → List ReplayUnit) (lane other : ℕ) → (if eqb lane othe
 same_if f lane other =
     elim (eqb lane other) as (λ b. eqb lane other ≡ b → (if b then f lane else f other) ≡ f other) [ true ↦ λ t. ap f (eqb-true lane other t) | false ↦ λ _. refl ] refl
 
-module _ {M : Type 0} {g : Ghosts M SharedRoute} where
+module _ {M : Type 0} {g : Ghosts M SharedRoute ℕ} where
   -- ---- empty lanes
 
   pub record AreEmpty (lanes : List (OneLane M g)) : Type 0 where

@@ -8,7 +8,7 @@ use Rattle.peer_tables.specs.Seats.{seat_of}
 use Rattle.peer_tables.specs.Tables.{Seat}
 use Rattle.peer_tables.specs.declared.tables.Seated.{Seated}
 use Rattle.lane_deal.specs.Seating.{AreIndexed}
-use Rattle.lane_deal.proofs.PeerPositions.{some_is, split_get, position_gets}
+use Rattle.peer_tables.proofs.PeerPositions.{some_is, split_get, position_gets}
 
 or_false : (a b : Bool) → (a || b) ≡ false → b ≡ false
 or_false true b e = absurd cc

@@ -17,12 +17,13 @@ use Rattle.peer_tables.specs.Seats.{seat_of}
 use Rattle.peer_tables.specs.Tables.{Seat}
 use Rattle.peer_tables.specs.declared.tables.Seated.{Seated}
 use Rattle.lane_deal.specs.declared.numbered.Numbered.{Numbered}
-use Rattle.lane_deal.specs.Keys.{AreApart}
-use Rattle.lane_deal.specs.Numbers.{number_in, units_in}
+use Rattle.peer_tables.specs.Numbers.{AreApart, number_in}
+use Rattle.lane_deal.specs.Numbers.{units_in}
 use Rattle.lane_deal.specs.Seating.{seat_by, seats_by, AreNumbered, HoldsUnits, new_seat, SeatFor, TakenAt}
 use Rattle.lane_deal.proofs.Numbering.{numbered_peers, numbers_of_positions}
-use Rattle.lane_deal.proofs.Peers.{peer_itself, same_peer, is_seen, listed_peer}
-use Rattle.lane_deal.proofs.PeerPositions.{listed_at, listed_gets}
+use Rattle.peer_tables.proofs.ShareLaws.{same_peer}
+use Rattle.peer_tables.proofs.PeerPositions.{peer_itself, listed_at, listed_gets}
+use Rattle.lane_deal.proofs.Peers.{is_seen, listed_peer}
 use Rattle.lane_deal.proofs.DealerLaws.{peers_push, listed_is_seen, seen_last}
 
 -- ---- lists

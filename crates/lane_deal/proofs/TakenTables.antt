@@ -24,7 +24,8 @@ use Rattle.adj_rib.specs.declared.shared_route.SharedRoute.{SharedRoute}
 use Rattle.lane_deal.specs.declared.numbered.Numbered.{Numbered}
 use Rattle.lane_deal.specs.declared.schedule.OneLane.{OneLane}
 use Rattle.lane_deal.specs.Lanes.{number_of_peer, lane_of_unit, seats_of_lane}
-use Rattle.lane_deal.specs.Numbers.{number_in, numbered, units_in}
+use Rattle.peer_tables.specs.Numbers.{number_in}
+use Rattle.lane_deal.specs.Numbers.{numbered, units_in}
 use Rattle.lane_deal.specs.OneLanes.{OneLaneState, one_lane_state, seats_of_lanes}
 use Rattle.lane_deal.specs.Schedules.{LanesState, IsShared}
 use Rattle.lane_deal.specs.Seating.{seats_by, HoldsUnits}
@@ -35,8 +36,9 @@ use Rattle.lane_deal.proofs.Classes.{of_class, by_class, by_class-IsPermutation,
 use Rattle.lane_deal.proofs.ClassLists.{kept_pass, all_pass, none_pass, any_alike, filters_swapped, of_lists, in_lists}
 use Rattle.lane_deal.proofs.HandingIn.{flat_each}
 use Rattle.lane_deal.proofs.Numbering.{numbered_peers, numbers_of_positions}
-use Rattle.lane_deal.proofs.PeerPositions.{listed_gets, some_is}
-use Rattle.lane_deal.proofs.Peers.{is_seen, new_peers, same_peer, peers_of-append, listed_peer, seen_after, all_more, units_of_chosen, peers_of_chosen}
+use Rattle.peer_tables.proofs.PeerPositions.{listed_gets, some_is}
+use Rattle.peer_tables.proofs.ShareLaws.{same_peer}
+use Rattle.lane_deal.proofs.Peers.{is_seen, new_peers, peers_of-append, listed_peer, seen_after, all_more, units_of_chosen, peers_of_chosen}
 use Rattle.lane_deal.proofs.Rising.{Rises, range_rises, rises_filtered, increasing, distinct}
 use Rattle.lane_deal.proofs.ScheduleLaws.{lane_units-front}
 use Rattle.lane_deal.proofs.SeatLaws.{map_filtered, flat_map_alike, map_of_lists}
@@ -187,7 +189,7 @@ numbers_are : (keys : List PeerKey) (units : List ReplayUnit) → AllByRecursion
 numbers_are keys [] = tt
 numbers_are keys (u ∷ units) = (refl, numbers_are keys units)
 
-module _ {M : Type 0} {g : Ghosts M SharedRoute} where
+module _ {M : Type 0} {g : Ghosts M SharedRoute ℕ} where
   lane_seats : (all waiting taken : List ReplayUnit) (x : OneLane M g) → LaneShows all x waiting taken → ((q : PeerKey) → is_seen taken q ≡ true → is_seen all q ≡ true) → map seat_of x.seats.seats.items ≡ seats_of_lane all taken
   lane_seats all waiting taken x p seen =
       let keys = peers_of all in

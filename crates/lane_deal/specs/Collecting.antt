@@ -4,6 +4,7 @@ use Rattle.std.specs.List.{flat_map}
 use Rattle.peer_tables.specs.declared.tables.Seated.{Seated}
 use Rattle.peer_tables.specs.Seats.{seat_of}
 use Rattle.peer_tables.specs.Tables.{Seat}
+use Rattle.bgp_prefix.specs.declared.family.Family.{Ghosts as AddressGhosts}
 use Rattle.bgp_prefix.specs.declared.map.PrefixMap.{Ghosts}
 use Rattle.adj_rib.specs.declared.shared_route.SharedRoute.{SharedRoute}
 use Rattle.lane_deal.specs.UnitRings.{ListConsumer}
@@ -41,10 +42,10 @@ pub record WorkerState (M : Type 0) : Type 0 where
   pub seats : List (Seated M)
   pub taken : ℕ
 
-module _ {M : Type 0} {g : Ghosts M SharedRoute} where
-  abbrev pub worker_state : Worker (Seats M g) → WorkerState M
+module _ {M : Type 0} {g : Ghosts M SharedRoute ℕ} {a : AddressGhosts ℕ} where
+  abbrev pub worker_state : Worker (Seats M g a) → WorkerState M
   worker_state w = record { lane = w.lane; consumer = w.consumer; seats = w.sessions.seats.items; taken = w.taken }
 
   -- the sessions of all workers
-  abbrev pub seats_of_workers : List (Worker (Seats M g)) → List Seat
+  abbrev pub seats_of_workers : List (Worker (Seats M g a)) → List Seat
   seats_of_workers workers = seats_held (λ w. w.sessions.seats.items) workers

@@ -16,7 +16,8 @@ use Rattle.lane_deal.specs.declared.step.Step.TheVariants.{Blocked, FullBatch, E
 use Rattle.lane_deal.specs.Answers.{IfAnswered}
 use Rattle.lane_deal.specs.Asking.{TakesUnits, ReadsOn, GivesFront, GivesAll, StopsBehind, as_refused}
 use Rattle.lane_deal.specs.Feeds.{Dealt, in_lane}
-use Rattle.lane_deal.specs.Numbers.{number_in, numbered}
+use Rattle.peer_tables.specs.Numbers.{number_in}
+use Rattle.lane_deal.specs.Numbers.{numbered}
 use Rattle.lane_deal.specs.Kept.{to_deal}
 
 module _ {D : Type 0} where
@@ -56,18 +57,18 @@ module _ {D : Type 0} where
     pub order : to_deal old.kept given ≡ done ++ to_deal new.kept []
     pub refused : new.refused.items ≡ old.refused.items ++ filter_map damage_of done
     pub counted : new.dealt ≡ min (old.dealt + length (filter_map unit_of done)) (2 ^ 64 - 1)
-    pub pushed : Dealt lane_of feeds feeds' (numbered new.peers.keys.items (filter_map unit_of done))
-    pub listed : AllByRecursion (λ u. list_any (peer_eq u.peer) new.peers.keys.items ≡ true) (filter_map unit_of done)
-    pub keys : (before : List ReplayUnit) → old.peers.keys.items ≡ peers_of (before ++ option_to_list old.kept) →
-        new.peers.keys.items ≡ peers_of ((before ++ filter_map unit_of done) ++ option_to_list new.kept)
+    pub pushed : Dealt lane_of feeds feeds' (numbered new.peers (filter_map unit_of done))
+    pub listed : AllByRecursion (λ u. list_any (peer_eq u.peer) new.peers ≡ true) (filter_map unit_of done)
+    pub keys : (before : List ReplayUnit) → old.peers ≡ peers_of (before ++ option_to_list old.kept) →
+        new.peers ≡ peers_of ((before ++ filter_map unit_of done) ++ option_to_list new.kept)
 
   -- a unit is kept: at least as many as its lane's ring had room for were dealt to it
   pub record IsFull (lane_of : ℕ → ℕ) (feeds : List Feed) (new : Dealer D) (dealt : List ReplayUnit) : Type 0 where
     pub unit : ReplayUnit
     pub kept : new.kept ≡ Some unit
-    pub full : (d : Feed) → known_free (slice_index_or feeds (lane_of (number_in new.peers.keys.items unit.peer))
-        d).producer ≤ length (in_lane lane_of (lane_of (number_in new.peers.keys.items unit.peer))
-        (numbered new.peers.keys.items dealt))
+    pub full : (d : Feed) → known_free (slice_index_or feeds (lane_of (number_in new.peers unit.peer))
+        d).producer ≤ length (in_lane lane_of (lane_of (number_in new.peers unit.peer))
+        (numbered new.peers dealt))
 
   -- why the dealer stopped
   abbrev pub StopsDealing : (ℕ → ℕ) → ℕ → List Feed → Dealer D → UnitsState → List (Option (List ℕ)) → List Found →

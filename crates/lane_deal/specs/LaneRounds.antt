@@ -34,4 +34,4 @@ pub record PlaysLanes {S D : Type 0} (stands_for : S → List Numbered → Type 
   pub between : List Feed
   pub deals : Deals lane_of batch feeds between old new u known u' known' result
   pub rounded : Rounded stands_for lane_of capacity feeds workers feeds' workers'
-      (numbered new.peers.keys.items (filter_map unit_of deals.done))
+      (numbered new.peers (filter_map unit_of deals.done))

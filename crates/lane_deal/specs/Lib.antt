@@ -5,7 +5,6 @@ pub mod Schedules
 pub mod Replayers
 pub mod Rounds
 pub mod Numbers
-pub mod Keys
 pub mod ListedPeers
 pub mod ListedUnits
 pub mod UnitLists

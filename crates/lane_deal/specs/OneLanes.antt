@@ -14,7 +14,7 @@ pub record OneLaneState (M : Type 0) : Type 0 where
   pub seats : List (Seated M)
   pub took : ℕ
 
-module _ {M : Type 0} {g : Ghosts M SharedRoute} where
+module _ {M : Type 0} {g : Ghosts M SharedRoute ℕ} where
   abbrev pub one_lane_state : OneLane M g → OneLaneState M
   one_lane_state lane = record { ring = lane.ring.items; seats = lane.seats.seats.items; took = lane.took }
 

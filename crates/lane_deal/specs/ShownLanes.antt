@@ -2,6 +2,7 @@
 use Rattle.std.specs.Prelude.{◌≡◌, ℕ, ◌<◌, ◌≤◌, ◌-◌, ◌^◌, List, [], length, map, min, slice_index_or}
 use Rattle.mrt_body.specs.declared.unit.Unit.{Unit as ReplayUnit}
 use Rattle.peer_tables.specs.Peers.{peers_of}
+use Rattle.bgp_prefix.specs.declared.family.Family.{Ghosts as AddressGhosts}
 use Rattle.bgp_prefix.specs.declared.map.PrefixMap.{Ghosts}
 use Rattle.adj_rib.specs.declared.shared_route.SharedRoute.{SharedRoute}
 use Rattle.lane_deal.specs.declared.numbered.Numbered.{Numbered}
@@ -12,7 +13,7 @@ use Rattle.lane_deal.specs.OneLanes.{one_lane_state}
 use Rattle.lane_deal.specs.Schedules.{LanesState, IsShared}
 use Rattle.lane_deal.specs.Shown.{SeatsHold}
 
-module _ {M : Type 0} {g : Ghosts M SharedRoute} where
+module _ {M : Type 0} {g : Ghosts M SharedRoute ℕ} where
   -- the units that wait in the lane and those that it took, of these
   pub record LaneShows (all : List ReplayUnit) (lane : OneLane M g) (waiting taken : List ReplayUnit) : Type 0 where
     pub ring : lane.ring.items ≡ numbered (peers_of all) waiting
@@ -26,13 +27,15 @@ module _ {M : Type 0} {g : Ghosts M SharedRoute} where
         LaneShows all (slice_index_or lanes lane d) (s.ring lane) (s.taken lane)
     pub past : (lane : ℕ) → length lanes ≤ lane → (s.ring lane ≡ []) × (s.taken lane ≡ [])
 
+module _ {M : Type 0} {g : Ghosts M SharedRoute ℕ} {a : AddressGhosts ℕ} where
   -- Lanes that deal these units are in this state: what each took and what waits in its ring are, in order, its own of
   -- those dealt.
-  pub record Shows (all : List ReplayUnit) (lanes : Lanes M g) (s : LanesState) : Type 0 where
+  pub record Shows (all : List ReplayUnit) (lanes : Lanes M g a) (s : LanesState) : Type 0 where
     pub lane_of : ℕ → ℕ
     pub shared : IsShared lane_of all s
     pub lists : LanesShow all lanes.undealt.items lanes.lanes.items s
 
   -- the same units are not dealt or wait, and the sessions are the same
-  abbrev pub ShowsSame : Lanes M g → Lanes M g → Type 0
-  ShowsSame a b = (a.undealt ≡ b.undealt) × (map one_lane_state a.lanes.items ≡ map one_lane_state b.lanes.items)
+  abbrev pub ShowsSame : Lanes M g a → Lanes M g a → Type 0
+  ShowsSame old new =
+      (old.undealt ≡ new.undealt) × (map one_lane_state old.lanes.items ≡ map one_lane_state new.lanes.items)

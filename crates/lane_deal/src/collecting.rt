@@ -16,7 +16,7 @@ use peer_tables::{Gathered, Seated, Tables, collect};
 use std::alloc::Global;
 
 /// The worker of a lane.
-impl<M: PrefixMap<SharedRoute> + Drop> HoldsSeats<M> for Worker<Seats<M>> {
+impl<M: PrefixMap<SharedRoute, Addr = u32> + Drop> HoldsSeats<M> for Worker<Seats<M>> {
     ghost use Rattle.std.specs.Prelude.{refl};
     ghost use Rattle.lane_deal.specs.Collecting.{WorkerState, worker_state};
 
@@ -36,7 +36,7 @@ impl<M: PrefixMap<SharedRoute> + Drop> HoldsSeats<M> for Worker<Seats<M>> {
 }
 
 /// So many empty lists.
-fn empty_lists<M: PrefixMap<SharedRoute> + Drop>(
+fn empty_lists<M: PrefixMap<SharedRoute, Addr = u32> + Drop>(
     alloc: Global,
     count: usize,
 ) -> Result<Vec<Sequence<Seated<M>>>, Memory>
@@ -50,7 +50,7 @@ fn empty_lists<M: PrefixMap<SharedRoute> + Drop>(
 }
 
 /// Exchanges the sessions of each lane for those of its list.
-fn exchange_all<M: PrefixMap<SharedRoute> + Drop, L: HoldsSeats<M>>(
+fn exchange_all<M: PrefixMap<SharedRoute, Addr = u32> + Drop, L: HoldsSeats<M>>(
     alloc: Global,
     lanes: &mut [L],
     lists: &mut [Sequence<Seated<M>>],
@@ -64,7 +64,7 @@ fn exchange_all<M: PrefixMap<SharedRoute> + Drop, L: HoldsSeats<M>>(
 }
 
 /// The tables of all sessions and the refusals, or both as they were.
-pub fn collect_lanes<M: PrefixMap<SharedRoute> + Drop, L: HoldsSeats<M> + Drop>(
+pub fn collect_lanes<M: PrefixMap<SharedRoute, Addr = u32> + Drop, L: HoldsSeats<M> + Drop>(
     alloc: Global,
     mut lanes: Vec<L>,
     refused: Vec<Damage>,

@@ -14,11 +14,11 @@ ghost use Rattle.lane_deal.specs.Feeds.{Dealt};
 use crate::dealing::Dealing;
 use crate::feed::Feed;
 use crate::gate::Gate;
-use crate::peer_numbers::Peers;
 use crate::step::Step;
 use bgp_prefix::Memory;
 use mrt_body::{Damage, LentUnit, PeerKey, Unit, Units};
 use mrt_frame::{ReplayError, Source};
+use peer_tables::Peers;
 use std::alloc::Global;
 use std::sync::atomic::AtomicBool;
 
@@ -102,12 +102,12 @@ fn list_refusals<R: Source>(
 impl<D: Dealing> Dealer<D> {
     ghost use Rattle.lane_deal.specs.DealerSteps.{Deals};
     ghost use Rattle.lane_deal.specs.Answers.{IfAnswered};
-    ghost use Rattle.lane_deal.specs.Numbers.{NumbersPeer};
+    ghost use Rattle.peer_tables.specs.Numbers.{NumbersPeer};
 
     pub fn new(alloc: Global, dealing: D) -> Result<Dealer<D>, Memory>
     where
         D: Drop,
-        ensures { IfOk result (λ dealer. (dealer.dealing ≡ dealing) × (dealer.peers.keys.items ≡ []) ×
+        ensures { IfOk result (λ dealer. (dealer.dealing ≡ dealing) × (dealer.peers ≡ []) ×
             (dealer.kept ≡ None) × (dealer.refused.items ≡ []) × (dealer.dealt ≡ 0)) }
     {
         Ok(Dealer {
@@ -184,7 +184,7 @@ impl<D: Dealing> Dealer<D> {
     ) -> Result<(usize, usize), Memory>
         requires { 0 < lanes }
         ensures numbers { IfOk result
-            (λ found. NumbersPeer self.old.peers.keys.items self.new.peers.keys.items peer.now found.0) }
+            (λ found. NumbersPeer self.old.peers self.new.peers peer.now found.0) }
         ensures lane { IfOk result (λ found. found.1 ≡ D.lane_of self.old.dealing found.0 lanes) }
         ensures same { self.new ≡ record self.old { peers = self.new.peers } }
     {

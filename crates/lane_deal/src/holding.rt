@@ -10,7 +10,7 @@ use std::alloc::Global;
 use std::mem;
 
 /// What holds a lane's sessions, which can be swapped in and out.
-pub trait HoldsSeats<M: PrefixMap<SharedRoute>> {
+pub trait HoldsSeats<M: PrefixMap<SharedRoute, Addr = u32>> {
     ghost use Rattle.std.specs.Prelude.{List};
     ghost use Rattle.peer_tables.specs.declared.tables.Seated.{Seated};
 
@@ -35,7 +35,7 @@ pub trait HoldsSeats<M: PrefixMap<SharedRoute>> {
 }
 
 /// Swaps the sessions for those of the list.
-pub fn exchange_seats<M: PrefixMap<SharedRoute> + Drop>(
+pub fn exchange_seats<M: PrefixMap<SharedRoute, Addr = u32> + Drop>(
     alloc: Global,
     seats: &mut Seats<M>,
     list: &mut Sequence<Seated<M>>,

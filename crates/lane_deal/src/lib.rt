@@ -44,7 +44,6 @@ mod lanes;
 mod listed_peer;
 mod listed_unit;
 mod numbered;
-mod peer_numbers;
 mod plan;
 mod replayer;
 mod round;

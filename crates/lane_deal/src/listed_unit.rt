@@ -10,8 +10,8 @@ use bgp_update::Width;
 use mrt_body::{Place, StateRule};
 
 /// A payload without its bytes.
-// Variants and fields stand in the order in which an entry takes the fewest instructions: a clear first, and the rule of
-// a state change before the bytes that a key has.
+// Variants and fields stand in the order in which an entry takes the fewest instructions: a clear first, and the rule
+// of a state change before the bytes that a key has.
 #[derive(Clone, Copy)]
 pub enum PayloadKind {
     Clear,

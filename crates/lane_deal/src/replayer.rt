@@ -29,7 +29,7 @@ use std::thread::Threads;
 
 /// Deals what the files yield to lanes, round by round.
 #[derive(Drop)]
-pub struct Replayer<M: PrefixMap<SharedRoute>, D: Dealing> {
+pub struct Replayer<M: PrefixMap<SharedRoute, Addr = u32>, D: Dealing> {
     plan: Plan,
     dealer: Dealer<D>,
     feeds: Vec<Feed>,
@@ -53,7 +53,7 @@ fn state_after(answer: &Result<Step, ReplayError>) -> State
     }
 }
 
-impl<M: PrefixMap<SharedRoute> + Send + Drop, D: Dealing + Send> Replayer<M, D> {
+impl<M: PrefixMap<SharedRoute, Addr = u32> + Send + Drop, D: Dealing + Send> Replayer<M, D> {
     ghost use Rattle.std.specs.Prelude.{◌≡◌, ◌≢◌, ◌<◌, ◌+◌, ◌↔◌, ℕ, IfOk, OnOk, OnErr, IfErr, IsErr, IsTrue, None, length, map, min, ◌^◌, ◌-◌, []};
     ghost use Rattle.lane_deal.specs.declared.state.State.TheVariants.{Running, Spent};
     ghost use Rattle.lane_deal.specs.Answers.{IfAnswered, Repeats};
@@ -184,7 +184,7 @@ impl<M: PrefixMap<SharedRoute> + Send + Drop, D: Dealing + Send> Replayer<M, D> 
     }
 }
 
-impl<M: PrefixMap<SharedRoute> + Drop, D: Dealing + Drop> Replayer<M, D> {
+impl<M: PrefixMap<SharedRoute, Addr = u32> + Drop, D: Dealing + Drop> Replayer<M, D> {
     ghost use Rattle.std.specs.Prelude.{◌≡◌, ◌≢◌, List, IfOk, IfErr, IsErr};
     ghost use Rattle.mrt_body.specs.declared.unit.Damage.{Damage};
     ghost use Rattle.mrt_body.specs.declared.unit.Unit.{Unit as ReplayUnit};
@@ -250,7 +250,7 @@ impl<M: PrefixMap<SharedRoute> + Drop, D: Dealing + Drop> Replayer<M, D> {
     }
 }
 
-impl<M: PrefixMap<SharedRoute>, D: Dealing> Replayer<M, D> {
+impl<M: PrefixMap<SharedRoute, Addr = u32>, D: Dealing> Replayer<M, D> {
     ghost use Rattle.std.specs.Prelude.{ℕ, ◌<◌, ◌≤◌, ◌≡◌, ◌≢◌, ◌^◌, ◌-◌, true, length, min, slice_get};
     ghost use Rattle.lane_deal.specs.Replayers.{LaneState, held_routes};
     ghost use Rattle.lane_deal.specs.Playing.{shown};

@@ -11,7 +11,6 @@ ghost use Rattle.lane_deal.specs.ShownLanes.{LaneShows, LanesShow, Shows};
 use crate::dealing::Dealing;
 use crate::holding::{HoldsSeats, exchange_seats};
 use crate::numbered::Numbered;
-use crate::peer_numbers::Peers;
 use crate::scheduled::Lanes;
 use crate::seats::Seats;
 use crate::sessions::Sessions;
@@ -20,20 +19,20 @@ use crate::unit_list::LentItem;
 use adj_rib::{ReadAhead, SharedRoute};
 use bgp_prefix::{Memory, PrefixMap, Sequence};
 use mrt_body::Unit;
-use peer_tables::Seated;
+use peer_tables::{Peers, Seated};
 use std::alloc::Global;
 use std::collections::VecDeque;
 
 /// A lane whose ring has no bound.
 #[derive(Drop)]
-pub struct OneLane<M: PrefixMap<SharedRoute>> {
+pub struct OneLane<M: PrefixMap<SharedRoute, Addr = u32>> {
     pub ring: VecDeque<Numbered>,
     pub seats: Seats<M>,
     pub took: usize,
 }
 
 /// A lane's sessions are those of its peers.
-impl<M: PrefixMap<SharedRoute> + Drop> HoldsSeats<M> for OneLane<M> {
+impl<M: PrefixMap<SharedRoute, Addr = u32> + Drop> HoldsSeats<M> for OneLane<M> {
     ghost use Rattle.std.specs.Prelude.{refl};
     ghost use Rattle.lane_deal.specs.OneLanes.{OneLaneState, one_lane_state};
 
@@ -66,7 +65,7 @@ fn number_all(alloc: Global, units: Vec<Unit>) -> Result<VecDeque<Numbered>, Mem
 }
 
 /// Makes lanes to which nothing has been dealt.
-fn empty_lanes<M: PrefixMap<SharedRoute> + Drop>(
+fn empty_lanes<M: PrefixMap<SharedRoute, Addr = u32> + Drop>(
     alloc: Global,
     count: usize,
 ) -> Result<Vec<OneLane<M>>, Memory>
@@ -85,7 +84,7 @@ fn empty_lanes<M: PrefixMap<SharedRoute> + Drop>(
 }
 
 /// Moves the first undealt unit to the end of its lane's ring.
-fn deal<M: PrefixMap<SharedRoute> + Drop, D: Dealing>(
+fn deal<M: PrefixMap<SharedRoute, Addr = u32> + Drop, D: Dealing>(
     undealt: &mut VecDeque<Numbered>,
     lanes: &mut [OneLane<M>],
     dealing: &D,
@@ -104,7 +103,7 @@ fn deal<M: PrefixMap<SharedRoute> + Drop, D: Dealing>(
 }
 
 /// Passes the first unit in a ring to its session.
-fn take_one<M: PrefixMap<SharedRoute> + Drop>(
+fn take_one<M: PrefixMap<SharedRoute, Addr = u32> + Drop>(
     alloc: Global,
     lane: &mut OneLane<M>,
 ) -> Result<(), Memory>
@@ -124,7 +123,7 @@ fn take_one<M: PrefixMap<SharedRoute> + Drop>(
 }
 
 /// Passes the first unit in a lane's ring to its session.
-fn take_from<M: PrefixMap<SharedRoute> + Drop>(
+fn take_from<M: PrefixMap<SharedRoute, Addr = u32> + Drop>(
     alloc: Global,
     lanes: &mut [OneLane<M>],
     lane: usize,
@@ -139,7 +138,7 @@ fn take_from<M: PrefixMap<SharedRoute> + Drop>(
 }
 
 /// Applies one event.
-fn apply<M: PrefixMap<SharedRoute> + Drop, D: Dealing>(
+fn apply<M: PrefixMap<SharedRoute, Addr = u32> + Drop, D: Dealing>(
     alloc: Global,
     undealt: &mut VecDeque<Numbered>,
     lanes: &mut [OneLane<M>],
@@ -158,7 +157,7 @@ fn apply<M: PrefixMap<SharedRoute> + Drop, D: Dealing>(
 }
 
 /// Applies the events in order to lanes to which nothing was dealt.
-fn apply_all<M: PrefixMap<SharedRoute> + Drop, D: Dealing>(
+fn apply_all<M: PrefixMap<SharedRoute, Addr = u32> + Drop, D: Dealing>(
     alloc: Global,
     undealt: &mut VecDeque<Numbered>,
     lanes: &mut [OneLane<M>],
@@ -177,7 +176,7 @@ fn apply_all<M: PrefixMap<SharedRoute> + Drop, D: Dealing>(
 }
 
 /// Applies the events in order to the lanes of so many workers, where at first none of the units is dealt.
-pub fn run_schedule<M: PrefixMap<SharedRoute> + Drop, D: Dealing>(
+pub fn run_schedule<M: PrefixMap<SharedRoute, Addr = u32> + Drop, D: Dealing>(
     alloc: Global,
     units: Vec<Unit>,
     turns: &[Turn],

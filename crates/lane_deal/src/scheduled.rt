@@ -16,13 +16,13 @@ use std::collections::VecDeque;
 
 /// Lanes on one thread. No peer's number appears twice among their sessions.
 #[derive(Drop)]
-pub struct Lanes<M: PrefixMap<SharedRoute>> {
+pub struct Lanes<M: PrefixMap<SharedRoute, Addr = u32>> {
     pub(crate) undealt: VecDeque<Numbered>,
     pub(crate) lanes: Vec<OneLane<M>>,
     ghost apart: { IsDistinct nat_eq (map (λ seat. seat.number) (seats_of_lanes lanes.items)) } by { IsDistinct-prop nat_eq _ },
 }
 
-impl<M: PrefixMap<SharedRoute> + Drop> Lanes<M> {
+impl<M: PrefixMap<SharedRoute, Addr = u32> + Drop> Lanes<M> {
     ghost use Rattle.std.specs.Prelude.{◌≡◌, ℕ, ◌-◌, ◌^◌, List, [], length, min, IfOk, IfErr};
     ghost use Rattle.mrt_body.specs.declared.unit.Unit.{Unit as ReplayUnit};
     ghost use Rattle.peer_tables.specs.Tables.{tables_of};

@@ -21,7 +21,7 @@ const MOST_NEAR: usize = 32;
 
 /// The sessions of one lane, in the order in which their peers first appeared.
 #[derive(Drop)]
-pub struct Seats<M: PrefixMap<SharedRoute>> {
+pub struct Seats<M: PrefixMap<SharedRoute, Addr = u32>> {
     pub seats: Vec<Seated<M>>,
     /// The position of each session, by its peer's number.
     positions: Vec<Option<usize>>,
@@ -36,7 +36,7 @@ pub struct Seats<M: PrefixMap<SharedRoute>> {
 
 /// Returns the position of this number's session, found by a linear scan.
 #[inline(never)]
-fn scan<M: PrefixMap<SharedRoute>>(seats: &[Seated<M>], number: usize) -> Option<usize>
+fn scan<M: PrefixMap<SharedRoute, Addr = u32>>(seats: &[Seated<M>], number: usize) -> Option<usize>
     ensures { MatchOption result
         (list_any (λ s. s.number == number) (map seat_of seats.now) ≡ false) (λ at. (at < length seats.now) ×
         ((d : _) → (slice_index_or (map seat_of seats.now) at d).number ≡ number)) }
@@ -51,7 +51,11 @@ fn scan<M: PrefixMap<SharedRoute>>(seats: &[Seated<M>], number: usize) -> Option
 
 /// Whether this number's session is at that position.
 #[inline(always)]
-fn stands_at<M: PrefixMap<SharedRoute>>(seats: &[Seated<M>], at: usize, number: usize) -> bool
+fn stands_at<M: PrefixMap<SharedRoute, Addr = u32>>(
+    seats: &[Seated<M>],
+    at: usize,
+    number: usize,
+) -> bool
     ensures here { result ≡ true → (at < length seats.now) ×
         ((d : _) → (slice_index_or (map seat_of seats.now) at d).number ≡ number) }
     ensures elsewhere { slice_get (map (λ seat. seat.number) seats.now) at ≡ Some number → result ≡ true }
@@ -78,7 +82,7 @@ fn remember(positions: &mut Vec<Option<usize>>, number: usize, at: usize) -> Res
 
 /// Passes the unit to the session at that position.
 #[inline(always)]
-fn take_at<M: PrefixMap<SharedRoute>>(
+fn take_at<M: PrefixMap<SharedRoute, Addr = u32>>(
     alloc: Global,
     buffer: &mut Vec<u8>,
     seats: &mut [Seated<M>],
@@ -94,7 +98,7 @@ fn take_at<M: PrefixMap<SharedRoute>>(
     seats[at].session.take_ahead(alloc, buffer, unit, ahead)
 }
 
-impl<M: PrefixMap<SharedRoute> + Drop> Seats<M> {
+impl<M: PrefixMap<SharedRoute, Addr = u32> + Drop> Seats<M> {
     /// Returns the position recorded for this number.
     #[inline(always)]
     fn position_of(&self, number: usize) -> Option<usize>
@@ -212,7 +216,7 @@ impl<M: PrefixMap<SharedRoute> + Drop> Seats<M> {
     }
 }
 
-impl<M: PrefixMap<SharedRoute> + Drop> Sessions for Seats<M> {
+impl<M: PrefixMap<SharedRoute, Addr = u32> + Drop> Sessions for Seats<M> {
     ghost use Rattle.std.specs.Prelude.{map};
     ghost use Rattle.peer_tables.specs.Seats.{seat_of};
     ghost use Rattle.lane_deal.specs.Seating.{HoldsUnits};

@@ -50,7 +50,7 @@ fn play_of<'a>(
     alloc: Global,
     rest: &'a [u8],
     workers: usize,
-) -> Play<Radix<SharedRoute>, Counted<Dripping<'a>>> {
+) -> Play<Radix<u32, SharedRoute>, Counted<Dripping<'a>>> {
     let plan = Plan {
         workers,
         batch: 1_048_576,

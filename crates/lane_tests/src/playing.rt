@@ -12,7 +12,7 @@ use bgp_prefix::{Memory, PrefixMap};
 use lane_deal::{ByTurns, Dealing, NoGate, Plan, Replayer, Step};
 use mrt_body::{Selection, Units};
 use mrt_frame::{Counted, ReplayError, Source};
-use rib_report::{Tables, churn, table_rows, write_churn, write_rows};
+use rib_report::{AddressForm, AddressForms, Tables, churn, table_rows, write_churn, write_rows};
 use std::alloc::Global;
 use std::marker::Sync;
 use std::process::Abort;
@@ -50,14 +50,14 @@ fn answer_name(answer: &Result<Step, ReplayError>) -> &'static str {
 
 /// A replay under way.
 #[derive(Drop)]
-pub struct Play<M: PrefixMap<SharedRoute>, R> {
+pub struct Play<M: PrefixMap<SharedRoute, Addr = u32>, R> {
     lanes: usize,
     readers: Vec<R>,
     units: Units,
     replayer: Replayer<M, ByTurns>,
 }
 
-impl<M: PrefixMap<SharedRoute> + Send + Drop, R: Source + Send + Drop> Play<M, R> {
+impl<M: PrefixMap<SharedRoute, Addr = u32> + Send + Drop, R: Source + Send + Drop> Play<M, R> {
     pub fn new(
         rt: &impl Abort,
         alloc: Global,
@@ -250,7 +250,7 @@ impl<M: PrefixMap<SharedRoute> + Send + Drop, R: Source + Send + Drop> Play<M, R
 }
 
 /// The routes and the churn of these tables.
-fn text_of<M: PrefixMap<SharedRoute>>(
+fn text_of<M: PrefixMap<SharedRoute, Addr = u32>>(
     alloc: Global,
     tables: &Tables<M>,
 ) -> Result<Vec<u8>, ReplayError> {
@@ -259,17 +259,18 @@ fn text_of<M: PrefixMap<SharedRoute>>(
     Ok(Vec::from_slice(alloc, out.device().as_slice())?)
 }
 
-fn write_text<M: PrefixMap<SharedRoute>>(
+fn write_text<M: PrefixMap<SharedRoute, Addr = u32>>(
     alloc: Global,
     tables: &Tables<M>,
     out: &mut Counted<Vec<u8>>,
 ) -> Result<(), ReplayError> {
-    write_rows(out, table_rows(alloc, tables)?.as_slice())?;
-    write_churn(out, churn(alloc, tables)?.as_slice())
+    let full = AddressForms::all(AddressForm::Full);
+    write_rows(out, full, table_rows(alloc, tables)?.as_slice())?;
+    write_churn(out, full, churn(alloc, tables)?.as_slice())
 }
 
 /// The tables of a replayer. Where a growth is refused it comes back, and the call is made again.
-fn tables_of<M: PrefixMap<SharedRoute> + Drop>(
+fn tables_of<M: PrefixMap<SharedRoute, Addr = u32> + Drop>(
     rt: &impl Abort,
     alloc: Global,
     replayer: Replayer<M, ByTurns>,
@@ -291,7 +292,7 @@ fn tables_of<M: PrefixMap<SharedRoute> + Drop>(
 }
 
 /// Whether its tables can be had: all rings are empty, or it is spent.
-fn may_end<M: PrefixMap<SharedRoute>, D: Dealing>(replayer: &Replayer<M, D>) -> bool
+fn may_end<M: PrefixMap<SharedRoute, Addr = u32>, D: Dealing>(replayer: &Replayer<M, D>) -> bool
     ensures { result ≡ true → replayer.now.state ≢ Spent → IsSettled (shown replayer.now) }
 {
     if replayer.is_spent() {

@@ -113,9 +113,9 @@ into_tables Ok
 
 /// Plays so many rows on replayers with each map.
 fn play_each(rt: &(impl Threads + Abort + Sync), alloc: Global, table: &str, rows: usize) {
-    assert!(rt; play_rows::<Radix<SharedRoute>>(rt, alloc, table) == rows);
-    assert!(rt; play_rows::<Flat<SharedRoute>>(rt, alloc, table) == rows);
-    assert!(rt; play_rows::<Shelf<SharedRoute>>(rt, alloc, table) == rows);
+    assert!(rt; play_rows::<Radix<u32, SharedRoute>>(rt, alloc, table) == rows);
+    assert!(rt; play_rows::<Flat<u32, SharedRoute>>(rt, alloc, table) == rows);
+    assert!(rt; play_rows::<Shelf<u32, SharedRoute>>(rt, alloc, table) == rows);
 }
 
 #[test]

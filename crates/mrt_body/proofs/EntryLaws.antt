@@ -78,7 +78,7 @@ entry_takes add_path peers bytes x e =
 
 -- ---- what stands before the entries
 
-octets_behind : (len : ℕ) (bytes : List ℕ) (x : List ℕ × List ℕ) → octets_at len bytes ≡ Ok x → Behind bytes x.1
+octets_behind : (len : ℕ) (bytes : List ℕ) (x : List ℕ × List ℕ) → octets_at 32 len bytes ≡ Ok x → Behind bytes x.1
 octets_behind len bytes x e =
     let g = guard_ok (ltb 32 len || ltb (length bytes) (div_ceil len 8)) BadPrefix (take (div_ceil len 8) bytes, drop (div_ceil len 8) bytes) x e in
     subst (λ (y : List ℕ × List ℕ). Behind bytes y.1) g.1 (behind_front (div_ceil len 8) bytes)
@@ -86,9 +86,9 @@ octets_behind len bytes x e =
 pub head_behind : (bytes : List ℕ) (x : RibHead × List ℕ) → rib_head_at bytes ≡ Ok x → Behind bytes x.1
 unfolding rib_head_at
 head_behind bytes x e =
-    let a = bind_ok (number_at ShortRecord 4 bytes) (λ sequence. byte_at ShortRecord sequence.1 >>= λ len. octets_at len.0 len.1 >>= λ octets. number_at ShortRecord 2 octets.1 >>= λ count. Ok (record { sequence = sequence.0; len = len.0; octets = octets.0; count = count.0 }, count.1)) x e in
-    let b = bind_ok (byte_at ShortRecord a.0.1) (λ len. octets_at len.0 len.1 >>= λ octets. number_at ShortRecord 2 octets.1 >>= λ count. Ok (record { sequence = a.0.0; len = len.0; octets = octets.0; count = count.0 }, count.1)) x a.2 in
-    let d = bind_ok (octets_at b.0.0 b.0.1) (λ octets. number_at ShortRecord 2 octets.1 >>= λ count. Ok (record { sequence = a.0.0; len = b.0.0; octets = octets.0; count = count.0 }, count.1)) x b.2 in
+    let a = bind_ok (number_at ShortRecord 4 bytes) (λ sequence. byte_at ShortRecord sequence.1 >>= λ len. octets_at 32 len.0 len.1 >>= λ octets. number_at ShortRecord 2 octets.1 >>= λ count. Ok (record { sequence = sequence.0; len = len.0; octets = octets.0; count = count.0 }, count.1)) x e in
+    let b = bind_ok (byte_at ShortRecord a.0.1) (λ len. octets_at 32 len.0 len.1 >>= λ octets. number_at ShortRecord 2 octets.1 >>= λ count. Ok (record { sequence = a.0.0; len = len.0; octets = octets.0; count = count.0 }, count.1)) x a.2 in
+    let d = bind_ok (octets_at 32 b.0.0 b.0.1) (λ octets. number_at ShortRecord 2 octets.1 >>= λ count. Ok (record { sequence = a.0.0; len = b.0.0; octets = octets.0; count = count.0 }, count.1)) x b.2 in
     let l = bind_ok (number_at ShortRecord 2 d.0.1) (λ count. Ok (record { sequence = a.0.0; len = b.0.0; octets = d.0.0; count = count.0 }, count.1)) x d.2 in
     behind_more bytes a.0.1 x.1 (number_behind ShortRecord 4 bytes a.0 a.1) (behind_more a.0.1 b.0.1 x.1 (byte_behind ShortRecord a.0.1 b.0 b.1) (behind_more b.0.1 d.0.1 x.1 (octets_behind b.0.0 b.0.1 d.0 d.1) (behind_more d.0.1 l.0.1 x.1 (number_behind ShortRecord 2 d.0.1 l.0 l.1)
     (ok_behind (record { sequence = a.0.0; len = b.0.0; octets = d.0.0; count = l.0.0 }) l.0.1 x l.2))))

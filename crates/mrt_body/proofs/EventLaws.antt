@@ -5,12 +5,12 @@ use Rattle.mrt_frame.specs.declared.fault.Fault.{Fault}
 use Rattle.mrt_frame.specs.Fields.{◌>>=◌}
 use Rattle.mrt_frame.proofs.FieldLaws.{IsBytes, IsBytes-drop}
 use Rattle.mrt_frame.proofs.Items.{bind_ok, ok_is}
-use Rattle.bgp_prefix.specs.declared.key.RouteKey.{RouteKey}
+use Rattle.bgp_prefix.specs.Keys.{RouteKey}
+use Rattle.bgp_update.specs.Families.{ipv4}
 use Rattle.bgp_update.specs.declared.width.Width.{Width}
 use Rattle.bgp_update.specs.declared.width.Width.TheVariants.{Four}
-use Rattle.bgp_update.specs.declared.route.Update.{Update}
 use Rattle.bgp_update.specs.Attributes.{route_in}
-use Rattle.bgp_update.specs.Updates.{update_in}
+use Rattle.bgp_update.specs.Updates.{Update, update_in}
 use Rattle.bgp_update.proofs.UpdateLaws.{route_takes, route_again, update_takes, update_again}
 use Rattle.mrt_body.specs.declared.unit.Payload.{Payload}
 use Rattle.mrt_body.specs.declared.unit.Payload.TheVariants.{State, Message, Entry, Clear}
@@ -25,16 +25,16 @@ done x = Ok x
 
 module _ (width : Width) (add_path : Bool) (bytes : List ℕ) where
   abbrev event_of : ℕ → List ℕ → Bool → Result Event Fault
-  event_of kind body is_update = cond is_update (update_in width add_path body >>= λ update. Ok (event.Change update)) (Ok event.Other)
+  event_of kind body is_update = cond is_update (update_in ipv4 width add_path body >>= λ update. Ok (event.Change update)) (Ok event.Other)
 
   body_is_fine : (kind : ℕ) (body : List ℕ) → IsBytes bytes → message_in bytes ≡ Ok (kind, body) → IsBytes body
   body_is_fine kind body fine read = IsBytes-drop 19 (message_bytes kind body) (subst IsBytes (message_takes bytes (kind, body) fine read).spelled fine)
 
   by_kind : (kind : ℕ) (body : List ℕ) (e : Event) → IsBytes bytes → message_in bytes ≡ Ok (kind, body) → (b : Bool) → eqb kind UPDATE ≡ b → event_of kind body b ≡ Ok e → IsMessageEvent width add_path bytes e
   by_kind kind body e fine read true is given =
-      let u = bind_ok (update_in width add_path body) (λ update. Ok (event.Change update)) e given in
+      let u = bind_ok (update_in ipv4 width add_path body) (λ update. Ok (event.Change update)) e given in
       subst (IsMessageEvent width add_path bytes) (ok_is (event.Change u.0) e u.2)
-      (change_found width add_path bytes kind body u.0 fine read (eqb-true _ _ is) (update_takes width add_path body u.0 (body_is_fine kind body fine read) u.1))
+      (change_found width add_path bytes kind body u.0 fine read (eqb-true _ _ is) (update_takes ipv4 width add_path body u.0 (body_is_fine kind body fine read) u.1))
   by_kind kind body e fine read false is given =
       subst (IsMessageEvent width add_path bytes) (ok_is event.Other e given) (other_found width add_path bytes kind body fine read (eqb-false _ _ is))
 
@@ -50,7 +50,7 @@ module _ (width : Width) (add_path : Bool) (bytes : List ℕ) where
 
   message_event_again : (e : Event) → IsMessageEvent width add_path bytes e → message_event_in width add_path bytes ≡ Ok e
   message_event_again (event.Change update) h =
-      reads_again UPDATE h.0 h.1 h.2 ∙ ap (λ (r : Result Update Fault). r >>= λ u. done (event.Change u)) (update_again width add_path h.0 update h.3)
+      reads_again UPDATE h.0 h.1 h.2 ∙ ap (λ (r : Result Update Fault). r >>= λ u. done (event.Change u)) (update_again ipv4 width add_path h.0 update h.3)
   message_event_again event.Other h =
       reads_again h.0 h.1 h.3 h.4 ∙ ap (event_of h.0 h.1) (no_update h.0 h.2)
     where
@@ -65,12 +65,12 @@ unfolding event_in
 event_takes (State from to rule) e fine given = sym (ok_is (event.State from to rule) e given)
 event_takes (Message bytes width add_path) e fine given = message_event_takes width add_path bytes e fine given
 event_takes (Entry key attrs) e fine given =
-    let r = bind_ok (route_in Four attrs) (λ route. Ok (event.Rib key route)) e given in
-    subst (IsEntryEvent key attrs) (ok_is (event.Rib key r.0) e r.2) (refl, route_takes Four attrs r.0 fine r.1)
+    let r = bind_ok (route_in ipv4 Four attrs) (λ route. Ok (event.Rib key route)) e given in
+    subst (IsEntryEvent key attrs) (ok_is (event.Rib key r.0) e r.2) (refl, route_takes ipv4 Four attrs r.0 fine r.1)
 event_takes Clear e fine given = sym (ok_is event.Clear e given)
 
-entry_again : (key : RouteKey) (attrs : List ℕ) (e : Event) → IsEntryEvent key attrs e → (route_in Four attrs >>= λ route. done (event.Rib key route)) ≡ Ok e
-entry_again key attrs (event.Rib other route) h = rw (route_again Four attrs route h.1) (ap (λ (k : RouteKey). done (event.Rib k route)) (sym h.0))
+entry_again : (key : RouteKey) (attrs : List ℕ) (e : Event) → IsEntryEvent key attrs e → (route_in ipv4 Four attrs >>= λ route. done (event.Rib key route)) ≡ Ok e
+entry_again key attrs (event.Rib other route) h = rw (route_again ipv4 Four attrs route h.1) (ap (λ (k : RouteKey). done (event.Rib k route)) (sym h.0))
 entry_again key attrs (event.Change update) h = absurd h
 entry_again key attrs (event.State old new rule) h = absurd h
 entry_again key attrs event.Other h = absurd h

@@ -1,8 +1,8 @@
 -- Examples of dumps, their units, faults and events, by computation.
-use Rattle.std.proofs.Common.{◌≡◌, ℕ, refl, true, false, Some, None, Ok, Err, List, [], ◌∷◌, ◌++◌, length}
+use Rattle.std.proofs.Common.{◌≡◌, ℕ, ◌*◌, ◌^◌, refl, true, false, Some, None, Ok, Err, List, [], ◌∷◌, ◌++◌, length}
 use Rattle.std.specs.Prelude.{codes, take, drop}
 use Rattle.mrt_frame.proofs.Hexadecimal.{hex}
-use Rattle.bgp_prefix.specs.declared.key.RouteKey.{RouteKey}
+use Rattle.bgp_prefix.specs.Keys.{RouteKey}
 use Rattle.mrt_frame.specs.declared.fault.Fault.{Fault}
 use Rattle.mrt_frame.specs.declared.fault.Fault.TheVariants.{ShortBody, ShortRecord, TrailingBytes, BadFamily, NoPeerIndex, BadPeerIndex, BadPrefix, BadMarker, BadLength, BadAttribute}
 use Rattle.mrt_frame.specs.Cuts.{cuts, cuts_within}
@@ -14,7 +14,7 @@ use Rattle.bgp_update.specs.declared.next_hop.NextHop.TheVariants as hop
 use Rattle.bgp_update.specs.Keys.{written_key_at, keys_in, route_keys_in}
 use Rattle.bgp_update.specs.Segments.{path_in, segment_at, segment_field_at}
 use Rattle.bgp_update.specs.Multiprotocol.{reached_keys, unreached_keys}
-use Rattle.bgp_update.specs.Attributes.{attribute_at, attributes_in, value_fault, route_from, route_in}
+use Rattle.bgp_update.specs.Attributes.{attribute_at, attributes_in, value_fault, route_from, entry_route, route_in}
 use Rattle.bgp_update.specs.Updates.{fields_in, said_update, update_in}
 use Rattle.mrt_body.specs.declared.state_rule.StateRule.TheVariants.{Recorded, Established}
 use Rattle.mrt_body.specs.declared.unit.PeerAddr.TheVariants.{V4, V6}
@@ -33,7 +33,7 @@ use Rattle.mrt_body.proofs.Dumps.{marker_16, session_four, plain_attributes, ann
 
 -- 10.0.0.0/8 with this identifier
 abbrev ten : ℕ → RouteKey
-ten id = record { prefix = record { addr = 0x0a000000; len = 8 }; id = id }
+ten id = record { prefix = record { addr = 0x0a000000 * 2 ^ 96; len = 8 }; id = id }
 
 announcement-length : length announcement ≡ 77
 announcement-length = refl
@@ -198,7 +198,7 @@ event-announcement : event_in (Message message_of_announcement Four false) ≡ O
   route = record { origin = Some Igp; path = Some (record { kind = AsSequence; numbers = 65000 ∷ [] } ∷ []); next_hop = Some (hop.V4 0xC0000201); med = None; local_pref = None; atomic = false; aggregator = None };
   reached_hop = None;
 }))
-unfolding event_in message_event_in message_in update_in fields_in said_update route_keys_in keys_in written_key_at attribute_at attributes_in value_fault route_from route_in items_after reached_keys unreached_keys path_in segment_at segment_field_at
+unfolding event_in message_event_in message_in update_in fields_in said_update route_keys_in keys_in written_key_at attribute_at attributes_in value_fault route_from entry_route route_in items_after reached_keys unreached_keys path_in segment_at segment_field_at
 event-announcement = refl
 
 event-path_announcement : event_in (Message (drop 32 path_announcement) Four true) ≡ Ok (event.Change (record {
@@ -208,28 +208,28 @@ event-path_announcement : event_in (Message (drop 32 path_announcement) Four tru
   route = record { origin = Some Igp; path = Some (record { kind = AsSequence; numbers = 65000 ∷ [] } ∷ []); next_hop = Some (hop.V4 0xC0000201); med = None; local_pref = None; atomic = false; aggregator = None };
   reached_hop = None;
 }))
-unfolding event_in message_event_in message_in update_in fields_in said_update route_keys_in keys_in written_key_at attribute_at attributes_in value_fault route_from route_in items_after reached_keys unreached_keys path_in segment_at segment_field_at
+unfolding event_in message_event_in message_in update_in fields_in said_update route_keys_in keys_in written_key_at attribute_at attributes_in value_fault route_from entry_route route_in items_after reached_keys unreached_keys path_in segment_at segment_field_at
 event-path_announcement = refl
 
 event-damaged_entry : event_in (Entry (ten 0) (hex (codes "40010103"))) ≡ Err (BadAttribute 1)
-unfolding event_in message_event_in message_in update_in fields_in said_update route_keys_in keys_in written_key_at attribute_at attributes_in value_fault route_from route_in items_after reached_keys unreached_keys path_in segment_at segment_field_at
+unfolding event_in message_event_in message_in update_in fields_in said_update route_keys_in keys_in written_key_at attribute_at attributes_in value_fault route_from entry_route route_in items_after reached_keys unreached_keys path_in segment_at segment_field_at
 event-damaged_entry = refl
 
 abbrev message_with : List ℕ → List ℕ → List ℕ
 message_with mark front = mark ++ front ++ plain_attributes ++ hex (codes "080A")
 
 event-marker : event_in (Message (message_with (hex (codes "00FFFFFF FFFFFFFF FFFFFFFF FFFFFFFF")) (hex (codes "002D 02 0000 0014"))) Four false) ≡ Err BadMarker
-unfolding event_in message_event_in message_in update_in fields_in said_update route_keys_in keys_in written_key_at attribute_at attributes_in value_fault route_from route_in items_after reached_keys unreached_keys path_in segment_at segment_field_at
+unfolding event_in message_event_in message_in update_in fields_in said_update route_keys_in keys_in written_key_at attribute_at attributes_in value_fault route_from entry_route route_in items_after reached_keys unreached_keys path_in segment_at segment_field_at
 event-marker = refl
 
 event-length : event_in (Message (message_with marker_16 (hex (codes "002C 02 0000 0014"))) Four false) ≡ Err BadLength
-unfolding event_in message_event_in message_in update_in fields_in said_update route_keys_in keys_in written_key_at attribute_at attributes_in value_fault route_from route_in items_after reached_keys unreached_keys path_in segment_at segment_field_at
+unfolding event_in message_event_in message_in update_in fields_in said_update route_keys_in keys_in written_key_at attribute_at attributes_in value_fault route_from entry_route route_in items_after reached_keys unreached_keys path_in segment_at segment_field_at
 event-length = refl
 
 event-keepalive : event_in (Message (message_with marker_16 (hex (codes "002D 04 0000 0014"))) Four false) ≡ Ok event.Other
-unfolding event_in message_event_in message_in update_in fields_in said_update route_keys_in keys_in written_key_at attribute_at attributes_in value_fault route_from route_in items_after reached_keys unreached_keys path_in segment_at segment_field_at
+unfolding event_in message_event_in message_in update_in fields_in said_update route_keys_in keys_in written_key_at attribute_at attributes_in value_fault route_from entry_route route_in items_after reached_keys unreached_keys path_in segment_at segment_field_at
 event-keepalive = refl
 
 event-empty : event_in (Message [] Four false) ≡ Err BadLength
-unfolding event_in message_event_in message_in update_in fields_in said_update route_keys_in keys_in written_key_at attribute_at attributes_in value_fault route_from route_in items_after reached_keys unreached_keys path_in segment_at segment_field_at
+unfolding event_in message_event_in message_in update_in fields_in said_update route_keys_in keys_in written_key_at attribute_at attributes_in value_fault route_from entry_route route_in items_after reached_keys unreached_keys path_in segment_at segment_field_at
 event-empty = refl

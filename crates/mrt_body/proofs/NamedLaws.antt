@@ -98,7 +98,7 @@ covers_through p q r known h i =
     covers_from p r (omega (arith, first.0, second.0)) (share_fewer p.len q.len r.addr q.addr first.0 known.short second.1 ∙ first.1)
 
 bits_up : (n a b : ℕ) → a ≤ b → leading_bits n a ≤ leading_bits n b
-bits_up n a b h = le-div (leading_bits n a) b (block_size n) (pow_pos (32 - n)) (omega (arith, div-mul-le_self a (block_size n), h))
+bits_up n a b h = le-div (leading_bits n a) b (block_size n) (pow_pos (128 - n)) (omega (arith, div-mul-le_self a (block_size n), h))
 
 -- what covers a prefix covers each one between them
 between : (c q p : IpPrefix) → IsIpPrefix c → IsIpPrefix q → Before c q → Before q p → covers c p ≡ true → covers c q ≡ true

@@ -72,7 +72,7 @@ entry_unknown add_path peers peer rest fits unknown = rw (number_at-again ShortR
 abbrev octets_of : ℕ → List ℕ → Reading (List ℕ)
 octets_of len rest = Ok (take (div_ceil len 8) rest, drop (div_ceil len 8) rest)
 
-octets_refused : (len : ℕ) (rest : List ℕ) (fault : Fault) → octets_at len rest ≡ Err fault → (fault ≡ BadPrefix) × ((32 < len) ⊎ (length rest < div_ceil len 8))
+octets_refused : (len : ℕ) (rest : List ℕ) (fault : Fault) → octets_at 32 len rest ≡ Err fault → (fault ≡ BadPrefix) × ((32 < len) ⊎ (length rest < div_ceil len 8))
 octets_refused len rest fault e = tested (ltb 32 len) (ltb (length rest) (div_ceil len 8)) (λ h. ltb-true _ _ h) (λ h. ltb-true _ _ h) e
   where
     tested : (a b : Bool) → (a ≡ true → 32 < len) → (b ≡ true → length rest < div_ceil len 8) → cond (a || b) (Err BadPrefix) (octets_of len rest) ≡ Err fault → (fault ≡ BadPrefix) × ((32 < len) ⊎ (length rest < div_ceil len 8))
@@ -80,7 +80,7 @@ octets_refused len rest fault e = tested (ltb 32 len) (ltb (length rest) (div_ce
     tested false true long few h = (cc, inr (few refl))
     tested false false long few h = absurd cc
 
-octets_bad : (len : ℕ) (rest : List ℕ) → (32 < len) ⊎ (length rest < div_ceil len 8) → octets_at len rest ≡ Err BadPrefix
+octets_bad : (len : ℕ) (rest : List ℕ) → (32 < len) ⊎ (length rest < div_ceil len 8) → octets_at 32 len rest ≡ Err BadPrefix
 octets_bad len rest (inl long) = rw (lt-ltb 32 len long) refl
 octets_bad len rest (inr few) = rw (lt-ltb (length rest) (div_ceil len 8) few) (either (ltb 32 len))
   where
@@ -94,12 +94,12 @@ as_head sequence len octets count = Ok (head_with sequence len octets count.0, c
 head_refused : (body : List ℕ) (fault : Fault) → IsBytes body → rib_head_at body ≡ Err fault → ((fault ≡ BadPrefix) × HasBadPrefix body) ⊎ (fault ≡ ShortRecord)
 unfolding rib_head_at
 head_refused body fault fine e =
-    then_short (number_at ShortRecord 4 body) (λ sequence. byte_at ShortRecord sequence.1 >>= λ len. octets_at len.0 len.1 >>= λ octets. number_at ShortRecord 2 octets.1 >>= λ count. Ok (head_with sequence.0 len.0 octets.0 count.0, count.1)) fault (number_short 4 body) (λ s s_is se.
-    then_short (byte_at ShortRecord s.1) (λ len. octets_at len.0 len.1 >>= λ octets. number_at ShortRecord 2 octets.1 >>= λ count. Ok (head_with s.0 len.0 octets.0 count.0, count.1)) fault (byte_short s.1) (λ l l_is le.
-    by_octets s l s_is l_is (bind_err (octets_at l.0 l.1) (λ octets. number_at ShortRecord 2 octets.1 >>= λ count. Ok (head_with s.0 l.0 octets.0 count.0, count.1)) fault le)) se) e
+    then_short (number_at ShortRecord 4 body) (λ sequence. byte_at ShortRecord sequence.1 >>= λ len. octets_at 32 len.0 len.1 >>= λ octets. number_at ShortRecord 2 octets.1 >>= λ count. Ok (head_with sequence.0 len.0 octets.0 count.0, count.1)) fault (number_short 4 body) (λ s s_is se.
+    then_short (byte_at ShortRecord s.1) (λ len. octets_at 32 len.0 len.1 >>= λ octets. number_at ShortRecord 2 octets.1 >>= λ count. Ok (head_with s.0 len.0 octets.0 count.0, count.1)) fault (byte_short s.1) (λ l l_is le.
+    by_octets s l s_is l_is (bind_err (octets_at 32 l.0 l.1) (λ octets. number_at ShortRecord 2 octets.1 >>= λ count. Ok (head_with s.0 l.0 octets.0 count.0, count.1)) fault le)) se) e
   where
     by_octets : (s l : ℕ × List ℕ) → number_at ShortRecord 4 body ≡ Ok s → byte_at ShortRecord s.1 ≡ Ok l
-        → (octets_at l.0 l.1 ≡ Err fault) ⊎ ((o : List ℕ × List ℕ) × (octets_at l.0 l.1 ≡ Ok o) × ((number_at ShortRecord 2 o.1 >>= as_head s.0 l.0 o.0) ≡ Err fault))
+        → (octets_at 32 l.0 l.1 ≡ Err fault) ⊎ ((o : List ℕ × List ℕ) × (octets_at 32 l.0 l.1 ≡ Ok o) × ((number_at ShortRecord 2 o.1 >>= as_head s.0 l.0 o.0) ≡ Err fault))
         → ((fault ≡ BadPrefix) × HasBadPrefix body) ⊎ (fault ≡ ShortRecord)
     by_octets s l s_is l_is (inl h) =
         let ts = number_takes ShortRecord 4 body s fine s_is in

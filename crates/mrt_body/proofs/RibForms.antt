@@ -102,7 +102,7 @@ pub record TakesOctets (len : ℕ) (bytes octets rest : List ℕ) : Type 0 where
   pub short : len ≤ 32
   pub fine : IsBytes rest
 
-octets_take : (len : ℕ) (bytes : List ℕ) (x : List ℕ × List ℕ) → IsBytes bytes → octets_at len bytes ≡ Ok x → TakesOctets len bytes x.0 x.1
+octets_take : (len : ℕ) (bytes : List ℕ) (x : List ℕ × List ℕ) → IsBytes bytes → octets_at 32 len bytes ≡ Ok x → TakesOctets len bytes x.0 x.1
 octets_take len bytes x fine e =
     let g = guard_ok (ltb 32 len || ltb (length bytes) (div_ceil len 8)) BadPrefix (take (div_ceil len 8) bytes, drop (div_ceil len 8) bytes) x e in
     let tests = neither (ltb 32 len) (ltb (length bytes) (div_ceil len 8)) g.0 in
@@ -110,7 +110,7 @@ octets_take len bytes x fine e =
     subst (λ (y : List ℕ × List ℕ). TakesOctets len bytes y.0 y.1) g.1
     (record { parts = sym (take-append-drop (div_ceil len 8) bytes); number = omega (arith, long, length-take (div_ceil len 8) bytes); short = ltb-false _ _ tests.0; fine = IsBytes-drop (div_ceil len 8) bytes fine })
 
-octets_again : (len : ℕ) (octets rest : List ℕ) → len ≤ 32 → length octets ≡ div_ceil len 8 → octets_at len (octets ++ rest) ≡ Ok (octets, rest)
+octets_again : (len : ℕ) (octets rest : List ℕ) → len ≤ 32 → length octets ≡ div_ceil len 8 → octets_at 32 len (octets ++ rest) ≡ Ok (octets, rest)
 octets_again len octets rest short e =
     rw (le-ltb 32 len short, le-ltb (length (octets ++ rest)) (div_ceil len 8) (omega (arith, e, length-append octets rest)), take_at octets rest (div_ceil len 8) e, drop_at octets rest (div_ceil len 8) e) refl
 
@@ -131,9 +131,9 @@ pub record TakesHead (body : List ℕ) (head : RibHead) (rest : List ℕ) : Type
 pub head_takes : (body : List ℕ) (x : RibHead × List ℕ) → IsBytes body → rib_head_at body ≡ Ok x → TakesHead body x.0 x.1
 unfolding rib_head_at
 head_takes body x fine e =
-    let s = bind_ok (number_at ShortRecord 4 body) (λ sequence. byte_at ShortRecord sequence.1 >>= λ len. octets_at len.0 len.1 >>= λ octets. number_at ShortRecord 2 octets.1 >>= λ count. Ok (head_with sequence.0 len.0 octets.0 count.0, count.1)) x e in
-    let l = bind_ok (byte_at ShortRecord s.0.1) (λ len. octets_at len.0 len.1 >>= λ octets. number_at ShortRecord 2 octets.1 >>= λ count. Ok (head_with s.0.0 len.0 octets.0 count.0, count.1)) x s.2 in
-    let o = bind_ok (octets_at l.0.0 l.0.1) (λ octets. number_at ShortRecord 2 octets.1 >>= λ count. Ok (head_with s.0.0 l.0.0 octets.0 count.0, count.1)) x l.2 in
+    let s = bind_ok (number_at ShortRecord 4 body) (λ sequence. byte_at ShortRecord sequence.1 >>= λ len. octets_at 32 len.0 len.1 >>= λ octets. number_at ShortRecord 2 octets.1 >>= λ count. Ok (head_with sequence.0 len.0 octets.0 count.0, count.1)) x e in
+    let l = bind_ok (byte_at ShortRecord s.0.1) (λ len. octets_at 32 len.0 len.1 >>= λ octets. number_at ShortRecord 2 octets.1 >>= λ count. Ok (head_with s.0.0 len.0 octets.0 count.0, count.1)) x s.2 in
+    let o = bind_ok (octets_at 32 l.0.0 l.0.1) (λ octets. number_at ShortRecord 2 octets.1 >>= λ count. Ok (head_with s.0.0 l.0.0 octets.0 count.0, count.1)) x l.2 in
     let n = bind_ok (number_at ShortRecord 2 o.0.1) (λ count. Ok (head_with s.0.0 l.0.0 o.0.0 count.0, count.1)) x o.2 in
     let ts = number_takes ShortRecord 4 body s.0 fine s.1 in
     let tl = byte_at-takes ShortRecord s.0.1 l.0 l.1 in

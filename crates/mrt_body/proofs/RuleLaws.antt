@@ -11,7 +11,7 @@ use Rattle.mrt_frame.specs.declared.cut.Cut.{Cut}
 use Rattle.mrt_frame.specs.declared.cut.Cut.TheVariants.{Whole, Broken}
 use Rattle.mrt_frame.specs.Cuts.{cuts}
 use Rattle.bgp_prefix.specs.Prefixes.{IpPrefix}
-use Rattle.bgp_prefix.specs.declared.key.RouteKey.{RouteKey}
+use Rattle.bgp_prefix.specs.Keys.{RouteKey}
 use Rattle.bgp_update.specs.declared.width.Width.{Width}
 use Rattle.mrt_body.specs.declared.at.RecordAt.{RecordAt}
 use Rattle.mrt_body.specs.declared.content.Content.{Content}

@@ -2,10 +2,11 @@
 use Rattle.std.specs.Prelude.{⊤, ◌≡◌, ◌≢◌, ℕ, ◌+◌, ◌^◌, ◌<◌, Bool, slice_index, List, ◌∷◌, ◌++◌, length, take, drop, replicate, Result, Ok, Err, nat_lt, ◌==◌, if◌then◌else◌}
 use Rattle.std.specs.List.{list_all}
 use Rattle.byteorder.specs.Endian.{big_number, big_bytes}
-use Rattle.bgp_prefix.specs.declared.key.RouteKey.{RouteKey}
+use Rattle.bgp_prefix.specs.Keys.{RouteKey}
 use Rattle.mrt_frame.specs.declared.fault.Fault.{Fault}
 use Rattle.mrt_frame.specs.declared.fault.Fault.TheVariants.{BadMarker, BadLength}
 use Rattle.mrt_frame.specs.Fields.{◌>>=◌}
+use Rattle.bgp_update.specs.Families.{ipv4}
 use Rattle.bgp_update.specs.declared.width.Width.{Width}
 use Rattle.bgp_update.specs.declared.width.Width.TheVariants.{Four}
 use Rattle.bgp_update.specs.Attributes.{ReadsAsRoute, route_in}
@@ -37,7 +38,7 @@ IsMessageEvent width add_path bytes (event.Change update) =
     (body : List ℕ)
     × (bytes ≡ message_bytes UPDATE body)
     × (message_header_len + length body < 256 ^ 2)
-    × ReadsAsUpdate width add_path body update
+    × ReadsAsUpdate ipv4 width add_path body update
 IsMessageEvent width add_path bytes event.Other =
     (kind : ℕ)
     × (body : List ℕ)
@@ -50,7 +51,7 @@ IsMessageEvent width add_path bytes event.Clear = ⊥
 
 -- a RIB entry's attributes are read with four-octet AS numbers (RFC 6396, 4.3.4)
 abbrev pub IsEntryEvent : RouteKey → List ℕ → Event → Type 0
-IsEntryEvent key attrs (event.Rib other route) = (other ≡ key) × ReadsAsRoute Four attrs route
+IsEntryEvent key attrs (event.Rib other route) = (other ≡ key) × ReadsAsRoute ipv4 Four attrs route
 IsEntryEvent key attrs (event.Change update) = ⊥
 IsEntryEvent key attrs (event.State old new rule) = ⊥
 IsEntryEvent key attrs event.Other = ⊥
@@ -83,11 +84,11 @@ message_in bytes =
 
 unfoldable pub message_event_in : Width → Bool → List ℕ → Result Event Fault
 message_event_in width add_path bytes = message_in bytes >>= λ m.
-    if m.0 == UPDATE then (update_in width add_path m.1 >>= λ update. Ok (event.Change update)) else
+    if m.0 == UPDATE then (update_in ipv4 width add_path m.1 >>= λ update. Ok (event.Change update)) else
     Ok event.Other
 
 unfoldable pub event_in : Payload → Result Event Fault
 event_in (State from to rule) = Ok (event.State from to rule)
 event_in (Message bytes width add_path) = message_event_in width add_path bytes
-event_in (Entry key attrs) = route_in Four attrs >>= λ route. Ok (event.Rib key route)
+event_in (Entry key attrs) = route_in ipv4 Four attrs >>= λ route. Ok (event.Rib key route)
 event_in Clear = Ok event.Clear

@@ -7,6 +7,7 @@ use Rattle.bgp_prefix.specs.Prefixes.{IpPrefix}
 use Rattle.mrt_frame.specs.declared.fault.Fault.{Fault}
 use Rattle.mrt_frame.specs.declared.fault.Fault.TheVariants.{ShortRecord, NoPeerIndex, BadPeerIndex}
 use Rattle.mrt_frame.specs.Fields.{Reading, ◌>>=◌, byte_at, number_at, bytes_at}
+use Rattle.bgp_update.specs.Families.{ipv4}
 use Rattle.bgp_update.specs.Keys.{octets_at, prefix_of}
 use Rattle.mrt_body.specs.declared.unit.PeerKey.{PeerKey}
 use Rattle.mrt_body.specs.Many.{many}
@@ -58,7 +59,7 @@ rib_bytes add_path form =
 
 pub record FitsRib (add_path : Bool) (peers : ℕ) (form : RibForm) : Type 0 where
   pub sequence : form.sequence < 256 ^ 4
-  pub short : form.len ≤ 32
+  pub short : form.len ≤ ipv4.width
   pub octets : length form.octets ≡ div_ceil form.len 8
   pub count : length form.entries < 256 ^ 2
   pub entries : AllByRecursion (FitsEntry add_path peers) form.entries
@@ -97,7 +98,7 @@ unfoldable pub rib_head_at : List ℕ → Reading RibHead
 rib_head_at bytes = do
   sequence ← number_at ShortRecord 4 bytes
   len ← byte_at ShortRecord sequence.1
-  octets ← octets_at len.0 len.1
+  octets ← octets_at ipv4.width len.0 len.1
   count ← number_at ShortRecord 2 octets.1
   Ok (record { sequence = sequence.0; len = len.0; octets = octets.0; count = count.0 }, count.1)
 

@@ -2,7 +2,7 @@
 use Rattle.std.specs.Prelude.{ℕ, ◌/◌, ◌&&◌, ◌||◌, Bool, true, false, List, Option, Some, None, Result, Ok, Err, nat_lt, if◌then◌else◌}
 use Rattle.std.specs.List.{list_any}
 use Rattle.bgp_prefix.specs.Prefixes.{IpPrefix}
-use Rattle.bgp_prefix.specs.declared.key.RouteKey.{RouteKey}
+use Rattle.bgp_prefix.specs.Keys.{RouteKey}
 use Rattle.mrt_frame.specs.declared.fault.Fault.{Fault}
 use Rattle.mrt_body.specs.declared.choice.PrefixChoice.{PrefixChoice}
 use Rattle.mrt_body.specs.declared.meaning.Event.{Event}

@@ -70,7 +70,7 @@ fn lent_event(alloc: Global, payload: &LentPayload<'_>) -> Result<Event, AttrErr
             width,
             add_path,
         } => message_event(alloc, bytes, width, add_path),
-        LentPayload::Entry { key, attrs } => match read_attrs(alloc, attrs, Width::Four) {
+        LentPayload::Entry { key, attrs } => match read_attrs::<u32>(alloc, attrs, Width::Four) {
             Ok(route) => Ok(Event::Rib(key, route)),
             Err(error) => Err(error),
         },

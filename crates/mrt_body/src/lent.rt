@@ -12,8 +12,8 @@ use bgp_update::Width;
 use std::alloc::Global;
 
 /// A payload whose bytes are lent: those of a message, or of the attributes of a RIB entry.
-// Variants and fields stand in the order in which an entry takes the fewest instructions: a clear first, and the rule of
-// a state change before the bytes that a key has.
+// Variants and fields stand in the order in which an entry takes the fewest instructions: a clear first, and the rule
+// of a state change before the bytes that a key has.
 #[derive(Clone, Copy, Debug)]
 pub enum LentPayload<'a> {
     /// A RIB dump begins that clears the peer's table.

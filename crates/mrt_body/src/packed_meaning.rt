@@ -70,7 +70,7 @@ pub fn packed_event(
             add_path,
         } => packed_message_event(alloc, buffer, bytes, width, add_path),
         LentPayload::Entry { key, attrs } => {
-            match PackedRoute::read(alloc, buffer, attrs, Width::Four) {
+            match PackedRoute::read::<u32>(alloc, buffer, attrs, Width::Four) {
                 Ok(route) => Ok(PackedEvent::Rib(key, route)),
                 Err(error) => Err(error),
             }

@@ -5,6 +5,8 @@ use Rattle.std.specs.List.{flat_map}
 use Rattle.mrt_frame.proofs.Hexadecimal.{hex}
 use Rattle.mrt_body.specs.Choices.{all_units}
 use Rattle.mrt_body.proofs.Dumps.{marker_16, session_four, session_two, plain_attributes, announcement_of, announcement_with}
+use Rattle.rib_report.specs.declared.forms.AddressForm.TheVariants.{Full}
+use Rattle.rib_report.specs.declared.request.Layout.{Layout}
 use Rattle.rib_report.specs.declared.request.Request.{Request}
 use Rattle.mrt_replay.specs.Reports.{report}
 
@@ -110,12 +112,16 @@ unreached = update (hex (codes "00000002 0010 0004 00000033")) session_four (hex
 
 -- ---- rows
 
--- the report of a request on files, up to a last second, and what it has to be
+-- the report of a request on files, with addresses in full, up to a last second, and what it has to be
 pub record Row : Type 0 where
   pub request : Request
   pub until : Option ℕ
   pub files : List (List ℕ)
   pub told : List ℕ
+
+-- addresses in full
+abbrev pub in_full : Layout
+in_full = record { addresses = record { peers = Full; routes = Full } }
 
 -- these lines are the report on a file
 abbrev pub row : Request → List ℕ → List (List ℕ) → Row
@@ -123,4 +129,4 @@ row request file lines = record { request = request; until = None; files = file 
 
 -- each row's report is what it has to be
 abbrev pub AreReports : List Row → Type 0
-AreReports rows = map (λ r. report r.request (record all_units { until = r.until }) r.files) rows ≡ map (λ r. r.told) rows
+AreReports rows = map (λ r. report r.request in_full (record all_units { until = r.until }) r.files) rows ≡ map (λ r. r.told) rows

@@ -2,7 +2,7 @@
 use Rattle.std.proofs.Common.{◌≡◌, ℕ, ◌+◌, ◌-◌, ◌^◌, min, List, [], ◌∷◌, ◌++◌, map, Option, Some, None, refl, sym, ap, ◌∙◌, subst, arith, length, length-append}
 use Rattle.std.specs.List.{flat_map}
 use Rattle.std.proofs.lemmas.List.{length-map}
-use Rattle.bgp_prefix.specs.declared.key.RouteKey.{RouteKey}
+use Rattle.bgp_prefix.specs.Keys.{RouteKey}
 use Rattle.bgp_update.specs.declared.route.Route.{Route}
 use Rattle.mrt_body.specs.Choices.{UnitSelection}
 use Rattle.mrt_body.specs.declared.choice.PrefixChoice.{PrefixChoice}
@@ -19,6 +19,7 @@ use Rattle.peer_tables.specs.Peers.{peers_of, units_of_peer}
 use Rattle.peer_tables.specs.Tables.{Seat, tables_of, chosen_seat, chosen_tables, all_faults, all_routes}
 use Rattle.peer_tables.proofs.RowLaws.{flat_map_twice}
 use Rattle.peer_tables.proofs.StandingLaws.{peer_seat, seats_from}
+use Rattle.rib_report.specs.declared.request.Layout.{Layout}
 use Rattle.rib_report.specs.declared.request.Request.{Request}
 use Rattle.lane_deal.specs.declared.plan.Plan.{Plan}
 use Rattle.mrt_replay.specs.Reports.{listing_of, told_lines, text_by, text, report, listed_faults, AreRounds, RoundsOf}
@@ -28,11 +29,11 @@ use Rattle.mrt_replay.proofs.RunLaws.{length_in_order}
 
 -- ---- the report
 
-pub history_is_report : (request : Request) (listing : Listing) (selection : UnitSelection) (files : List (List ℕ)) (rows : List RowState) (watches : List PeerWatch) → listing_of request selection.prefixes ≡ Some listing → rows ≡ history_rows listing selection.prefixes (units_of selection files)
-    → watches ≡ watches_of listing.since selection.prefixes (units_of selection files) → told_lines listing.listed rows watches ≡ report request selection files
+pub history_is_report : (request : Request) (layout : Layout) (listing : Listing) (selection : UnitSelection) (files : List (List ℕ)) (rows : List RowState) (watches : List PeerWatch) → listing_of request selection.prefixes ≡ Some listing → rows ≡ history_rows listing selection.prefixes (units_of selection files)
+    → watches ≡ watches_of listing.since selection.prefixes (units_of selection files) → told_lines layout listing.listed rows watches ≡ report request layout selection files
 unfolding report text
-history_is_report request listing selection files rows watches asked is took =
-    (λ i. told_lines listing.listed (is i) (took i)) ∙ sym (ap (λ (l : Option Listing). text_by l request selection.prefixes (units_of selection files) (refused_of selection files)) asked)
+history_is_report request layout listing selection files rows watches asked is took =
+    (λ i. told_lines layout listing.listed (is i) (took i)) ∙ sym (ap (λ (l : Option Listing). text_by l request layout selection.prefixes (units_of selection files) (refused_of selection files)) asked)
 
 pub rounds_of_tables : (request : Request) (choices : List PrefixChoice) (plan : Plan) (s : Summary) → listing_of request choices ≡ None → AreRounds plan s → RoundsOf (listing_of request choices) plan s
 rounds_of_tables request choices plan s none rounds = subst (λ (l : Option Listing). RoundsOf l plan s) (sym none) rounds

@@ -20,6 +20,7 @@ use Rattle.peer_tables.specs.Peers.{peers_of}
 use Rattle.mrt_body.specs.declared.choice.PrefixChoice.{PrefixChoice}
 use Rattle.peer_tables.specs.Tables.{Seat, TablesState, tables_of, chosen_seat, chosen_tables, all_faults, all_routes}
 use Rattle.rib_report.specs.Reports.{place_cmp, placed, in_place_order}
+use Rattle.rib_report.specs.declared.request.Layout.{Layout}
 use Rattle.rib_report.specs.declared.request.Request.{Request}
 use Rattle.mrt_replay.specs.Reports.{lines_of, listing_of, text_by, text, report, listed_faults}
 use Rattle.std.proofs.KnownBytes.{Keeps-refl}
@@ -32,10 +33,10 @@ abbrev of_files : UnitSelection → List (List ℕ) → TablesState
 of_files selection files = tables_of (units_of selection files) (refused_of selection files)
 
 -- the lines on tables that stand for the files are the report
-pub lines_are_report : (request : Request) (selection : UnitSelection) (files : List (List ℕ)) (tables : TablesState) → listing_of request selection.prefixes ≡ None → tables ≡ chosen_tables selection.prefixes (tables_of (units_of selection files) (refused_of selection files)) → lines_of request tables ≡ report request selection files
+pub lines_are_report : (request : Request) (layout : Layout) (selection : UnitSelection) (files : List (List ℕ)) (tables : TablesState) → listing_of request selection.prefixes ≡ None → tables ≡ chosen_tables selection.prefixes (tables_of (units_of selection files) (refused_of selection files)) → lines_of request layout tables ≡ report request layout selection files
 unfolding report text
-lines_are_report request selection files tables none stands =
-    ap (lines_of request) stands ∙ sym (ap (λ (l : Option Listing). text_by l request selection.prefixes (units_of selection files) (refused_of selection files)) none)
+lines_are_report request layout selection files tables none stands =
+    ap (lines_of request layout) stands ∙ sym (ap (λ (l : Option Listing). text_by l request layout selection.prefixes (units_of selection files) (refused_of selection files)) none)
 
 -- ---- counts
 
@@ -97,7 +98,7 @@ kept old new same = subst (Keeps old) (sym same) (Keeps-refl old)
 -- the two errors of writing a report
 pub stops_writing : (run : RunState) (e : ReplayError) → (e ≡ errors.Memory) ⊎ (e ≡ errors.Write)
     → (e ≡ errors.Memory → Keeps run.held run.held_after) → (e ≡ errors.Write → HasFailed run.writer run.writer_after)
-    → ((files : List (List ℕ)) → AreHonest run.told files → e ≡ errors.Write → WritesFront run.held run.held_after (report run.request run.selection files)) → IsStopped run e
+    → ((files : List (List ℕ)) → AreHonest run.told files → e ≡ errors.Write → WritesFront run.held run.held_after (report run.request run.layout run.selection files)) → IsStopped run e
 stops_writing run e (inl memory) keeps failed front = subst (IsStopped run) (sym memory) (keeps memory)
 stops_writing run e (inr write) keeps failed front = subst (IsStopped run) (sym write) (failed write, λ files honest. front files honest write)
 

@@ -7,6 +7,7 @@ use Rattle.mrt_frame.specs.declared.error.ReplayError.{ReplayError}
 use Rattle.mrt_frame.specs.declared.error.ReplayError.TheVariants as errors
 use Rattle.mrt_body.specs.Choices.{UnitSelection}
 use Rattle.lane_deal.specs.declared.plan.Plan.{Plan}
+use Rattle.rib_report.specs.declared.request.Layout.{Layout}
 use Rattle.rib_report.specs.declared.request.Request.{Request}
 use Rattle.mrt_replay.specs.declared.summary.Summary.{Summary}
 use Rattle.mrt_replay.specs.Reports.{report, IsSummary}
@@ -16,6 +17,7 @@ use Rattle.mrt_replay.specs.Premises.{AreSound, AreWithin, AreHonest}
 -- failed, and whether the writer is flushed.
 pub record RunState : Type 0 where
   pub request : Request
+  pub layout : Layout
   pub selection : UnitSelection
   pub plan : Plan
   pub told : List (Option (List ℕ))
@@ -32,7 +34,7 @@ pub record RunState : Type 0 where
 
 -- It wrote byte for byte the report that is defined over the records alone, and counted them.
 pub record IsReplayed (run : RunState) (files : List (List ℕ)) (summary : Summary) : Type 0 where
-  pub written : Appends run.held run.held_after (report run.request run.selection files)
+  pub written : Appends run.held run.held_after (report run.request run.layout run.selection files)
   pub counted : IsSummary run.request run.selection run.plan files summary
 
 -- For every list of files, every plan and every dealing, a run that completes has replayed them.
@@ -56,7 +58,7 @@ IsStopped run (errors.Read file) = (file < length run.readers) ×
     HasFailed (slice_index run.readers file) (slice_index run.readers_after file) × Keeps run.held run.held_after
 IsStopped run errors.Write = HasFailed run.writer run.writer_after ×
     ((files : List (List ℕ)) → AreHonest run.told files → WritesFront run.held run.held_after
-    (report run.request run.selection files))
+    (report run.request run.layout run.selection files))
 IsStopped run errors.Memory = Keeps run.held run.held_after
 IsStopped run errors.Records = ((files : List (List ℕ)) → AreHonest run.told files →
     AreWithin run.plan.max_records files → ⊥) × Keeps run.held run.held_after

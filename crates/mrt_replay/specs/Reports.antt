@@ -1,5 +1,5 @@
 -- The report of a request on the records of files, and what a run counts.
-use Rattle.std.specs.Prelude.{◌≡◌, ℕ, ◌+◌, ◌-◌, ◌*◌, ◌/◌, ◌≤◌, ◌||◌, not, is_some, Bool, List, [], Option, Some, None, length, if◌then◌else◌}
+use Rattle.std.specs.Prelude.{◌≡◌, ℕ, ◌+◌, ◌-◌, ◌*◌, ◌/◌, ◌^◌, ◌≤◌, ◌||◌, not, is_some, Bool, List, [], Option, Some, None, length, if◌then◌else◌}
 use Rattle.std.specs.List.{flat_map}
 use Rattle.mrt_body.specs.declared.unit.Damage.{Damage}
 use Rattle.mrt_body.specs.declared.unit.Unit.{Unit as ReplayUnit}
@@ -17,6 +17,7 @@ use Rattle.rib_report.specs.Lines.{route_line, visibility_line, origin_line, see
 use Rattle.rib_report.specs.HistoryLines.{history_line}
 use Rattle.mrt_body.specs.Choices.{UnitSelection, is_open}
 use Rattle.lane_deal.specs.declared.plan.Plan.{Plan}
+use Rattle.rib_report.specs.declared.request.Layout.{Layout}
 use Rattle.rib_report.specs.declared.request.Request.{Request}
 use Rattle.rib_report.specs.declared.request.Request.TheVariants as request
 use Rattle.mrt_replay.specs.declared.summary.Summary.{Summary}
@@ -43,37 +44,39 @@ listing_of request.Faults choices = None
 listing_of (request.History since same) choices = Some (record { since = since; listed = listed_by same })
 
 -- the lines of a request's rows on tables; a history is none of tables
-abbrev pub lines_of : Request → TablesState → List ℕ
-lines_of request.Tables tables = flat_map route_line (route_rows tables)
-lines_of request.Visibility tables = flat_map visibility_line (visibility_rows tables)
-lines_of request.Origins tables = flat_map origin_line (origin_rows tables)
-lines_of request.Seen tables = flat_map seen_line (seen_rows tables)
-lines_of (request.Churn since) tables = flat_map churn_line (churn_rows tables)
-lines_of request.Peers tables = flat_map peer_line (peer_rows tables)
-lines_of (request.Match addr) tables = flat_map route_line (match_rows tables addr)
-lines_of request.Faults tables = flat_map fault_line (fault_rows tables)
-lines_of (request.History since same) tables = []
+abbrev pub lines_of : Request → Layout → TablesState → List ℕ
+lines_of request.Tables layout tables = flat_map (route_line layout.addresses) (route_rows tables)
+lines_of request.Visibility layout tables = flat_map visibility_line (visibility_rows tables)
+lines_of request.Origins layout tables = flat_map origin_line (origin_rows tables)
+lines_of request.Seen layout tables = flat_map seen_line (seen_rows tables)
+lines_of (request.Churn since) layout tables = flat_map (churn_line layout.addresses) (churn_rows tables)
+lines_of request.Peers layout tables = flat_map (peer_line layout.addresses) (peer_rows tables)
+lines_of (request.Match addr) layout tables =
+    flat_map (route_line layout.addresses) (match_rows tables (addr * 2 ^ 96))
+lines_of request.Faults layout tables = flat_map fault_line (fault_rows tables)
+lines_of (request.History since same) layout tables = []
 
 -- the lines of the rows of what happened, or where none is listed those of the counts of watches
-abbrev pub told_lines : Listed → List RowState → List PeerWatch → List ℕ
-told_lines Nothing rows watches = flat_map churn_line (watch_churns watches)
-told_lines Changes rows watches = flat_map history_line rows
-told_lines All rows watches = flat_map history_line rows
+abbrev pub told_lines : Layout → Listed → List RowState → List PeerWatch → List ℕ
+told_lines layout Nothing rows watches = flat_map (churn_line layout.addresses) (watch_churns watches)
+told_lines layout Changes rows watches = flat_map (history_line layout.addresses) rows
+told_lines layout All rows watches = flat_map (history_line layout.addresses) rows
 
 -- the lines of what happened to chosen prefixes, in the order of units, or of its counts, or of the rows on the tables
 -- that the units leave
-abbrev pub text_by : Option Listing → Request → List PrefixChoice → List ReplayUnit → List Damage → List ℕ
-text_by None request choices units refused = lines_of request (chosen_tables choices (tables_of units refused))
-text_by (Some listing) request choices units refused =
-    told_lines listing.listed (history_rows listing choices units) (watches_of listing.since choices units)
+abbrev pub text_by : Option Listing → Request → Layout → List PrefixChoice → List ReplayUnit → List Damage → List ℕ
+text_by None request layout choices units refused = lines_of request layout (chosen_tables choices (tables_of units refused))
+text_by (Some listing) request layout choices units refused =
+    told_lines layout listing.listed (history_rows listing choices units) (watches_of listing.since choices units)
 
--- the text of a request about the chosen prefixes of units, and about refusals
-unfoldable pub text : Request → List PrefixChoice → List ReplayUnit → List Damage → List ℕ
-text request choices units refused = text_by (listing_of request choices) request choices units refused
+-- the text of a request, in a layout, about the chosen prefixes of units, and about refusals
+unfoldable pub text : Request → Layout → List PrefixChoice → List ReplayUnit → List Damage → List ℕ
+text request layout choices units refused = text_by (listing_of request choices) request layout choices units refused
 
--- the report on files, of a selection: workers, ring, batch, looks and dealing have no part in it
-unfoldable pub report : Request → UnitSelection → List (List ℕ) → List ℕ
-report request selection files = text request selection.prefixes (units_of selection files) (refused_of selection files)
+-- the report on files, in a layout, of a selection: workers, ring, batch, looks and dealing have no part in it
+unfoldable pub report : Request → Layout → UnitSelection → List (List ℕ) → List ℕ
+report request layout selection files =
+    text request layout selection.prefixes (units_of selection files) (refused_of selection files)
 
 -- all faults that are listed
 abbrev pub listed_faults : UnitSelection → List (List ℕ) → List Damage

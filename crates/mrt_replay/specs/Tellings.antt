@@ -1,7 +1,7 @@
 -- What a replay of files into rows of what happened gives.
 use Rattle.std.specs.Prelude.{◌≡◌, ℕ, List, length}
 use Rattle.std.specs.List.{flat_map}
-use Rattle.bgp_prefix.specs.declared.key.RouteKey.{RouteKey}
+use Rattle.bgp_prefix.specs.Keys.{RouteKey}
 use Rattle.bgp_update.specs.declared.route.Route.{Route}
 use Rattle.mrt_body.specs.Choices.{UnitSelection}
 use Rattle.mrt_body.specs.Units.{units_of, refused_of, records_of, aside_of}

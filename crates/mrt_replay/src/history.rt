@@ -15,7 +15,7 @@ use std::alloc::Global;
 
 /// The result of replaying files into rows of what happened, and what was counted.
 #[derive(Drop)]
-pub struct History<M: PrefixMap<SharedRoute>> {
+pub struct History<M: PrefixMap<SharedRoute, Addr = u32>> {
     pub told: Told<M>,
     pub records: u64,
     pub aside: u64,
@@ -31,7 +31,7 @@ pub fn list_history<M, R>(
     max_records: u64,
 ) -> Result<History<M>, ReplayError>
 where
-    M: PrefixMap<SharedRoute> + Drop,
+    M: PrefixMap<SharedRoute, Addr = u32> + Drop,
     R: Source,
     requires { (0 < max_records) × (max_records ≤ 2 ^ 47) }
     // If the readers state their bytes, the rows and watches are those of the units of these.
@@ -59,7 +59,10 @@ where
 }
 
 /// Returns the number of faults: so many refusals, and the damaged units of all peers. Saturates at `u64::MAX`.
-pub fn count_faults<M: PrefixMap<SharedRoute>>(refusals: u64, watches: &[Watched<M>]) -> u64
+pub fn count_faults<M: PrefixMap<SharedRoute, Addr = u32>>(
+    refusals: u64,
+    watches: &[Watched<M>],
+) -> u64
     ensures { result ≡ min (refusals + length (watch_faults (map watch_in watches.now))) (2 ^ 64 - 1) }
 {
     let mut count = refusals;
@@ -70,7 +73,7 @@ pub fn count_faults<M: PrefixMap<SharedRoute>>(refusals: u64, watches: &[Watched
 }
 
 /// Returns the number of routes of chosen prefixes in the tables of all peers. Saturates at `u64::MAX`.
-pub fn count_routes<M: PrefixMap<SharedRoute>>(watches: &[Watched<M>]) -> u64
+pub fn count_routes<M: PrefixMap<SharedRoute, Addr = u32>>(watches: &[Watched<M>]) -> u64
     ensures { result ≡ min (length (watch_routes (map watch_in watches.now))) (2 ^ 64 - 1) }
 {
     let mut count = 0u64;

@@ -55,7 +55,7 @@ impl Idle {
 }
 
 /// Returns the idle units that tables counted.
-pub(crate) fn idle_of_tables<M: PrefixMap<SharedRoute>>(tables: &Tables<M>) -> Idle {
+pub(crate) fn idle_of_tables<M: PrefixMap<SharedRoute, Addr = u32>>(tables: &Tables<M>) -> Idle {
     let mut idle = Idle::new();
     for seat in tables.seats() {
         idle.add(seat.key, seat.session.churn().idle);
@@ -64,7 +64,9 @@ pub(crate) fn idle_of_tables<M: PrefixMap<SharedRoute>>(tables: &Tables<M>) -> I
 }
 
 /// Returns the idle units that watches counted.
-pub(crate) fn idle_of_watches<M: PrefixMap<SharedRoute>>(watches: &[Watched<M>]) -> Idle {
+pub(crate) fn idle_of_watches<M: PrefixMap<SharedRoute, Addr = u32>>(
+    watches: &[Watched<M>],
+) -> Idle {
     let mut idle = Idle::new();
     for watched in watches {
         idle.add(*watched.key.key(), watched.watch.churn().idle);

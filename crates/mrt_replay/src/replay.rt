@@ -21,7 +21,7 @@ use mrt_body::{ChosenPrefixes, Damage, Selection};
 use mrt_frame::{ReplayError, Sink, Source};
 use peer_tables::{Listed, Listing, Watched};
 use rib_report::{
-    Request, Tables, churn, faults, list_tables, matches, origins_with_threads, peers,
+    Layout, Request, Tables, churn, faults, list_tables, matches, origins_with_threads, peers,
     seen_with_threads, visibility_with_threads, watched_churn, write_churn, write_faults,
     write_history, write_origins, write_peers, write_rows, write_seen, write_visibility,
 };
@@ -40,6 +40,7 @@ pub fn run<M, T, R, W, D, G>(
     alloc: Global,
     files: &mut [R],
     request: &Request,
+    layout: Layout,
     selection: Selection,
     plan: &Plan,
     dealing: &D,
@@ -47,7 +48,7 @@ pub fn run<M, T, R, W, D, G>(
     out: &mut W,
 ) -> Result<Summary, ReplayError>
 where
-    M: PrefixMap<SharedRoute> + Send + Sync + Drop,
+    M: PrefixMap<SharedRoute, Addr = u32> + Send + Sync + Drop,
     T: Threads + Sync,
     R: Source + Send,
     W: Sink,
@@ -60,6 +61,7 @@ where
     // memory.
     ensures promised { IsPromised (record {
       request = request.now;
+      layout = layout;
       selection = selection;
       plan = plan.now;
       told = map R.remaining files.old;
@@ -77,10 +79,10 @@ where
 {
     match listing_of(request, selection.prefixes()) {
         Some(listing) => run_history::<M, R, W, G>(
-            alloc, files, request, listing, selection, plan, gate, out,
+            alloc, files, request, layout, listing, selection, plan, gate, out,
         ),
         None => run_on_tables::<M, T, R, W, D, G>(
-            rt, alloc, files, request, selection, plan, dealing, gate, out,
+            rt, alloc, files, request, layout, selection, plan, dealing, gate, out,
         ),
     }
 }
@@ -131,6 +133,7 @@ fn run_on_tables<M, T, R, W, D, G>(
     alloc: Global,
     files: &mut [R],
     request: &Request,
+    layout: Layout,
     selection: Selection,
     plan: &Plan,
     dealing: &D,
@@ -138,7 +141,7 @@ fn run_on_tables<M, T, R, W, D, G>(
     out: &mut W,
 ) -> Result<Summary, ReplayError>
 where
-    M: PrefixMap<SharedRoute> + Send + Sync + Drop,
+    M: PrefixMap<SharedRoute, Addr = u32> + Send + Sync + Drop,
     T: Threads + Sync,
     R: Source + Send,
     W: Sink,
@@ -148,6 +151,7 @@ where
     requires tables { listing_of request.now selection.prefixes ≡ None }
     ensures promised { IsPromised (record {
       request = request.now;
+      layout = layout;
       selection = selection;
       plan = plan.now;
       told = map R.remaining files.old;
@@ -166,7 +170,8 @@ where
         Ok(replayed) => replayed,
         Err(error) => return Err(error),
     };
-    if let Err(error) = write_report(rt, alloc, plan.workers, request, &replayed.tables, out) {
+    let tables = &replayed.tables;
+    if let Err(error) = write_report(rt, alloc, plan.workers, request, layout, tables, out) {
         return Err(error);
     }
     if out.flush_all().is_err() {
@@ -194,6 +199,7 @@ fn run_history<M, R, W, G>(
     alloc: Global,
     files: &mut [R],
     request: &Request,
+    layout: Layout,
     listing: Listing,
     selection: Selection,
     plan: &Plan,
@@ -201,7 +207,7 @@ fn run_history<M, R, W, G>(
     writer: &mut W,
 ) -> Result<Summary, ReplayError>
 where
-    M: PrefixMap<SharedRoute> + Drop,
+    M: PrefixMap<SharedRoute, Addr = u32> + Drop,
     R: Source,
     W: Sink,
     G: Gate,
@@ -209,6 +215,7 @@ where
     requires history { listing_of request.now selection.prefixes ≡ Some listing }
     ensures promised { IsPromised (record {
       request = request.now;
+      layout = layout;
       selection = selection;
       plan = plan.now;
       told = map R.remaining files.old;
@@ -227,7 +234,7 @@ where
         Ok(history) => history,
         Err(cause) => return Err(cause),
     };
-    if let Err(error) = write_told(alloc, listing.listed, &history.told, writer) {
+    if let Err(error) = write_told(alloc, layout, listing.listed, &history.told, writer) {
         return Err(error);
     }
     if writer.flush_all().is_err() {
@@ -252,33 +259,35 @@ where
 }
 
 /// Writes the rows of what happened, or where none is listed the counts of the watches.
-fn write_told<M: PrefixMap<SharedRoute> + Drop, W: Sink>(
+fn write_told<M: PrefixMap<SharedRoute, Addr = u32> + Drop, W: Sink>(
     alloc: Global,
+    layout: Layout,
     listed: Listed,
     told: &Told<M>,
     out: &mut W,
 ) -> Result<(), ReplayError>
     ensures ok { OnOk result (Appends (W.contents out.old) (W.contents out.new)
-        (told_lines listed told.now.rows.items told.now.watches)) }
+        (told_lines layout listed told.now.rows.items told.now.watches)) }
     ensures sound { OnOk result (W.failure_count out.new ≡ W.failure_count out.old) }
     ensures errors { IfErr result (λ e. (e ≡ errors.Memory) ⊎ (e ≡ errors.Write)) }
     ensures untouched { result ≡ Err errors.Memory → out.new ≡ out.old }
     ensures front { result ≡ Err errors.Write → WritesFront (W.contents out.old) (W.contents out.new)
-        (told_lines listed told.now.rows.items told.now.watches) }
+        (told_lines layout listed told.now.rows.items told.now.watches) }
     ensures risen { result ≡ Err errors.Write → HasFailed (W.failure_count out.old) (W.failure_count out.new) }
 {
     match listed {
         Listed::Nothing => write_churn(
             out,
+            layout.addresses,
             watched_churn(alloc, told.watches.watched())?.as_slice(),
         ),
-        Listed::Changes => write_history(out, told.rows.as_slice()),
-        Listed::All => write_history(out, told.rows.as_slice()),
+        Listed::Changes => write_history(out, layout.addresses, told.rows.as_slice()),
+        Listed::All => write_history(out, layout.addresses, told.rows.as_slice()),
     }
 }
 
 /// Reports each listed fault to the gate.
-fn tell_history_faults<M: PrefixMap<SharedRoute>, G: Gate>(
+fn tell_history_faults<M: PrefixMap<SharedRoute, Addr = u32>, G: Gate>(
     gate: &G,
     refused: &[Damage],
     watches: &[Watched<M>],
@@ -294,7 +303,7 @@ fn tell_history_faults<M: PrefixMap<SharedRoute>, G: Gate>(
 }
 
 /// Reports each listed fault to the gate.
-fn tell_faults<M: PrefixMap<SharedRoute>, G: Gate>(gate: &G, tables: &Tables<M>) {
+fn tell_faults<M: PrefixMap<SharedRoute, Addr = u32>, G: Gate>(gate: &G, tables: &Tables<M>) {
     for damage in tables.refused() {
         gate.listed(damage, true);
     }
@@ -307,24 +316,26 @@ fn tell_faults<M: PrefixMap<SharedRoute>, G: Gate>(gate: &G, tables: &Tables<M>)
 
 /// Writes the report that is asked for. As many threads as there are workers make the lines of large tables, and two,
 /// if there are so many workers, the rows of `visibility`, `origins` and `seen`.
-fn write_report<M: PrefixMap<SharedRoute> + Sync + Drop, T: Threads + Sync, W: Sink>(
+fn write_report<M: PrefixMap<SharedRoute, Addr = u32> + Sync + Drop, T: Threads + Sync, W: Sink>(
     rt: &T,
     alloc: Global,
     workers: usize,
     request: &Request,
+    layout: Layout,
     tables: &Tables<M>,
     out: &mut W,
 ) -> Result<(), ReplayError>
-    ensures ok { OnOk result (Appends (W.contents out.old) (W.contents out.new) (lines_of request.now tables.now)) }
+    ensures ok { OnOk result (Appends (W.contents out.old) (W.contents out.new) (lines_of request.now layout tables.now)) }
     ensures sound { OnOk result (W.failure_count out.new ≡ W.failure_count out.old) }
     ensures errors { IfErr result (λ e. (e ≡ errors.Memory) ⊎ (e ≡ errors.Write)) }
     ensures untouched { result ≡ Err errors.Memory → out.new ≡ out.old }
     ensures front { result ≡ Err errors.Write → WritesFront (W.contents out.old) (W.contents out.new)
-        (lines_of request.now tables.now) }
+        (lines_of request.now layout tables.now) }
     ensures risen { result ≡ Err errors.Write → HasFailed (W.failure_count out.old) (W.failure_count out.new) }
 {
+    let forms = layout.addresses;
     match request {
-        Request::Tables => list_tables(rt, alloc, workers, out, tables),
+        Request::Tables => list_tables(rt, alloc, workers, out, forms, tables),
         Request::Visibility => {
             let rows = visibility_with_threads(rt, alloc, workers, tables)?;
             write_visibility(out, rows.as_slice())
@@ -337,9 +348,9 @@ fn write_report<M: PrefixMap<SharedRoute> + Sync + Drop, T: Threads + Sync, W: S
             let rows = seen_with_threads(rt, alloc, workers, tables)?;
             write_seen(out, rows.as_slice())
         }
-        Request::Churn { since: _ } => write_churn(out, churn(alloc, tables)?.as_slice()),
-        Request::Peers => write_peers(out, peers(alloc, tables)?.as_slice()),
-        Request::Match(addr) => write_rows(out, matches(alloc, tables, *addr)?.as_slice()),
+        Request::Churn { since: _ } => write_churn(out, forms, churn(alloc, tables)?.as_slice()),
+        Request::Peers => write_peers(out, forms, peers(alloc, tables)?.as_slice()),
+        Request::Match(addr) => write_rows(out, forms, matches(alloc, tables, *addr)?.as_slice()),
         Request::Faults => write_faults(out, faults(alloc, tables)?.as_slice()),
         Request::History { since: _, same: _ } => Ok(()),
     }

@@ -20,7 +20,7 @@ use std::thread::Threads;
 
 /// The result of replaying files: the tables of all peers, and what was counted.
 #[derive(Drop)]
-pub struct Replayed<M: PrefixMap<SharedRoute>> {
+pub struct Replayed<M: PrefixMap<SharedRoute, Addr = u32>> {
     pub tables: Tables<M>,
     pub records: u64,
     pub units: u64,
@@ -49,7 +49,7 @@ fn play<M, T, R, D, G>(
     gate: &G,
 ) -> Result<(), ReplayError>
 where
-    M: PrefixMap<SharedRoute> + Send + Drop,
+    M: PrefixMap<SharedRoute, Addr = u32> + Send + Drop,
     T: Threads + Sync,
     R: Source + Send,
     D: Dealing + Send,
@@ -94,7 +94,7 @@ pub fn replay<M, T, R, D, G>(
     gate: &G,
 ) -> Result<Replayed<M>, ReplayError>
 where
-    M: PrefixMap<SharedRoute> + Send + Drop,
+    M: PrefixMap<SharedRoute, Addr = u32> + Send + Drop,
     T: Threads + Sync,
     R: Source + Send,
     D: Dealing + Sync,

@@ -22,14 +22,14 @@ use std::alloc::Global;
 /// What a replay of files into rows leaves: the watches on all peers, the rows, the refusals, and how many units there
 /// were, which stops at `u64::MAX`.
 #[derive(Drop)]
-pub struct Told<M: PrefixMap<SharedRoute>> {
+pub struct Told<M: PrefixMap<SharedRoute, Addr = u32>> {
     pub watches: Watches<M>,
     pub rows: Vec<HistoryRow>,
     pub refused: Vec<Damage>,
     pub units: u64,
 }
 
-impl<M: PrefixMap<SharedRoute> + Drop> Told<M> {
+impl<M: PrefixMap<SharedRoute, Addr = u32> + Drop> Told<M> {
     ghost use Rattle.std.specs.Prelude.{◌≡◌, [], IfOk};
 
     /// Before the first unit.
@@ -106,7 +106,7 @@ pub fn tell<M, R>(
     told: &mut Told<M>,
 ) -> Result<(), ReplayError>
 where
-    M: PrefixMap<SharedRoute> + Drop,
+    M: PrefixMap<SharedRoute, Addr = u32> + Drop,
     R: Source,
     requires files { length files.old ≡ units.old.count }
     requires going { units.old.standing ≡ Going }

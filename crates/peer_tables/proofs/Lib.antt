@@ -6,3 +6,4 @@ pub mod ShareLaws
 pub mod ChosenLaws
 pub mod HistoryLaws
 pub mod WatchLaws
+pub mod PeerPositions

@@ -22,22 +22,9 @@ use Rattle.peer_tables.specs.Peers.{addr_eq, peer_eq, peers_of, units_of_peer}
 use Rattle.peer_tables.specs.Histories.{PeerWatch, RowState, history_of, history_rows, is_asked, is_listed, row_of, watches_of}
 use Rattle.peer_tables.specs.Watching.{asked_rows, keys_in, listed_rows}
 use Rattle.peer_tables.proofs.ShareLaws.{same_peer}
+use Rattle.peer_tables.proofs.PeerPositions.{listed_at, other_peer, peer_itself, some_is}
 
 -- ---- peers
-
-addr_itself : (a : PeerAddr) → addr_eq a a ≡ true
-addr_itself (V4 a) = eq-eqb a a refl
-addr_itself (V6 a) = eq-eqb a a refl
-
-pub peer_itself : (q : PeerKey) → peer_eq q q ≡ true
-peer_itself q = and_from _ _ (eq-eqb q.asn q.asn refl) (addr_itself q.addr)
-
-other_peer : (p q : PeerKey) → peer_eq p q ≡ false → peer_eq q p ≡ false
-other_peer p q e =
-    elim (peer_eq q p) as (λ b. peer_eq q p ≡ b → b ≡ false) [
-      | true ↦ λ same. let clash : false ≡ true = sym e ∙ subst (λ r. peer_eq p r ≡ true) (sym (same_peer q p same)) (peer_itself p) in cc
-      | false ↦ λ apart. refl
-    ] refl
 
 -- a unit of the peer is among these
 abbrev is_seen : List ReplayUnit → PeerKey → Bool
@@ -137,14 +124,6 @@ unfolding peers_of
 peers_apart units = apart_from [] units
 
 -- ---- the peers that a list of watches is on
-
-some_is : {A : Type 0} (x y : A) → Some x ≡ Some y → x ≡ y
-some_is x y e = ap (λ o. unwrap_or o x) e
-
-listed_at : (keys : List PeerKey) (n : ℕ) (q : PeerKey) → slice_get keys n ≡ Some q → list_any (peer_eq q) keys ≡ true
-listed_at [] n q e = cc
-listed_at (k ∷ keys) zero q e = ap (λ b. b || list_any (peer_eq q) keys) (ap (peer_eq q) (some_is k q e) ∙ peer_itself q)
-listed_at (k ∷ keys) (suc n) q e = ap (λ b. peer_eq q k || b) (listed_at keys n q e) ∙ or-true (peer_eq q k)
 
 differs_at : (keys : List PeerKey) (n : ℕ) (p q : PeerKey) → list_any (peer_eq q) keys ≡ false → slice_get keys n ≡ Some p → peer_eq q p ≡ false
 differs_at [] n p q none e = cc
@@ -319,20 +298,9 @@ key_of see [] n d h = absurd (omega (arith, h))
 key_of see (w ∷ ws) zero d h = refl
 key_of see (w ∷ ws) (suc n) d h = key_of see ws n d (omega (arith, h))
 
-none_after : (keys : List PeerKey) (q : PeerKey) (n : ℕ) (k : PeerKey) → slice_get keys n ≡ Some k → peer_eq q k ≡ false → list_any (peer_eq q) (take n keys) ≡ false → list_any (peer_eq q) (take (suc n) keys) ≡ false
-none_after [] q n k at other none = cc
-none_after (x ∷ keys) q zero k at other none = ap (λ (b : Bool). b || false) (subst (λ r. peer_eq q r ≡ false) (sym (some_is x k at)) other)
-none_after (x ∷ keys) q (suc n) k at other none =
-    elim (peer_eq q x) as (λ b. (b || list_any (peer_eq q) (take n keys)) ≡ false → (b || list_any (peer_eq q) (take (suc n) keys)) ≡ false) [
-      | true ↦ λ clash. cc
-      | false ↦ λ later. none_after keys q n k at other later
-    ] none
-
--- a search's step: one more position where the peer isn't
-pub none_more : (keys : List PeerKey) (q : PeerKey) (n : ℕ) (k : PeerKey) → slice_get keys n ≡ Some k → peer_eq q k ≡ false → list_any (peer_eq q) (take n keys) ≡ false → list_any (peer_eq q) (take (n + 1) keys) ≡ false
-none_more keys q n k at other none =
-    let next : suc n ≡ n + 1 = omega arith in
-    ap (λ m. list_any (peer_eq q) (take m keys)) (sym next) ∙ none_after keys q n k at other none
+-- a peer without a number has no watch
+pub unlisted : (watches : List PeerWatch) (keys : List PeerKey) (q : PeerKey) → keys_in watches ≡ keys → list_any (peer_eq q) keys ≡ false → list_any (peer_eq q) (keys_in watches) ≡ false
+unlisted watches keys q are new = ap (list_any (peer_eq q)) are ∙ new
 
 -- a position at which a key is found is within the list
 pub within_keys : (watches : List PeerWatch) (n : ℕ) (k : PeerKey) → slice_get (keys_in watches) n ≡ Some k → n < length watches

@@ -1,4 +1,5 @@
 pub mod Peers
+pub mod Numbers
 pub mod Tables
 pub mod Standing
 pub mod Seats

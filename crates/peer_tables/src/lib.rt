@@ -12,9 +12,12 @@
 //! `Watches` passes each unit to the watch on its peer, and makes rows of what it did (`HistoryRow`), in the order of
 //! the units: one thread, no lanes. The watches are those of the units' peers (`watches_of`): each took its peer's own
 //! units, and counts what they did from the same second on. A row is of a note that is listed (`history_rows`), and
-//! what happened at some of the peers is what their units did (`histories_are_of_peers`). A peer's watch is looked for
-//! first where that of the last peer with its index in the index table, or its hash, was. A row takes 40 bytes: it
+//! what happened at some of the peers is what their units did (`histories_are_of_peers`). A row takes 40 bytes: it
 //! shares its peer with the watch (`SharedPeer`), and its route with the table.
+//!
+//! `Peers` numbers the peers of units, for the lanes and for the watches: a peer has the next number when it first
+//! appears (`NumbersPeer`). It is looked for first where the last peer with its index in the index table, or with its
+//! hash, was found, and then in a map, so that it takes the same time among many peers as among few.
 //!
 //! It is a crate of its own, below both the lanes, which make the tables, and the reports, which read them: neither of
 //! these two long proofs waits for the other. `rib_report` re-exports `Tables` and `collect`, so a caller of reports
@@ -23,6 +26,7 @@
 
 mod histories;
 mod history;
+mod peer_numbers;
 mod shared_peer;
 mod shares;
 mod standing;
@@ -31,6 +35,7 @@ mod watches;
 
 pub use histories::histories_are_of_peers;
 pub use history::{By, HistoryRow, Listed, Listing};
+pub use peer_numbers::Peers;
 pub use shared_peer::SharedPeer;
 pub use shares::shares_keep_peers;
 pub use standing::{collected_stand_for_units, lanes_make_no_difference, tables_are_of_units};

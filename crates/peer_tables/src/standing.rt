@@ -28,7 +28,7 @@ pub fn collected_stand_for_units()
 
 /// What `collect` returns doesn't depend on how the sessions were spread over the lanes, nor on their order
 /// there: if the lanes hold the same sessions and the refusals are the same, the tables are the same.
-pub fn lanes_make_no_difference<M: PrefixMap<SharedRoute>>()
+pub fn lanes_make_no_difference<M: PrefixMap<SharedRoute, Addr = u32>>()
     ensures { (gathered others : LanesIn M) (tables other : TablesState) →
         IsPermutation (gathered_seats gathered) (gathered_seats others) → gathered.refused ≡ others.refused →
         IsCollected (gathered_seats gathered) gathered.refused tables →

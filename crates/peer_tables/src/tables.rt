@@ -16,7 +16,7 @@ use std::marker::Model;
 
 /// A session under its peer's number.
 #[derive(Drop)]
-pub struct Seated<M: PrefixMap<SharedRoute>> {
+pub struct Seated<M: PrefixMap<SharedRoute, Addr = u32>> {
     pub number: usize,
     pub key: PeerKey,
     pub session: Session<M>,
@@ -24,19 +24,19 @@ pub struct Seated<M: PrefixMap<SharedRoute>> {
 
 /// What the lanes pass to `collect`.
 #[derive(Drop)]
-pub struct Gathered<M: PrefixMap<SharedRoute>> {
+pub struct Gathered<M: PrefixMap<SharedRoute, Addr = u32>> {
     pub lanes: Sequence<Sequence<Seated<M>>>,
     pub refused: Sequence<Damage>,
 }
 
 /// One session for each peer, by number, and the refusals.
 #[derive(Drop)]
-pub struct Tables<M: PrefixMap<SharedRoute>> {
+pub struct Tables<M: PrefixMap<SharedRoute, Addr = u32>> {
     seats: Vec<Seated<M>>,
     refused: Vec<Damage>,
 }
 
-impl<M: PrefixMap<SharedRoute>> Model for Tables<M> {
+impl<M: PrefixMap<SharedRoute, Addr = u32>> Model for Tables<M> {
     ghost use Rattle.std.specs.Prelude.{map};
     ghost use Rattle.peer_tables.specs.Tables.{TablesState};
     ghost use Rattle.peer_tables.specs.Seats.{seat_of};
@@ -46,7 +46,7 @@ impl<M: PrefixMap<SharedRoute>> Model for Tables<M> {
     ghost view = { λ t. record { seats = map seat_of t.seats.items; refused = t.refused.items } };
 }
 
-impl<M: PrefixMap<SharedRoute>> Tables<M> {
+impl<M: PrefixMap<SharedRoute, Addr = u32>> Tables<M> {
     /// The sessions, by number.
     pub fn seats(&self) -> &[Seated<M>]
         ensures { map seat_of result.now ≡ self.now.seats }
@@ -100,7 +100,7 @@ impl<M: PrefixMap<SharedRoute>> Tables<M> {
 
 /// Removes the routes of prefixes that aren't chosen from each session.
 #[tactic(auto, using(crate::proofs::ChosenLaws::chosen_none, crate::proofs::ChosenLaws::chosen_all))]
-fn retain_seats<M: PrefixMap<SharedRoute>>(
+fn retain_seats<M: PrefixMap<SharedRoute, Addr = u32>>(
     alloc: Global,
     chosen: &ChosenPrefixes,
     seats: &mut [Seated<M>],
@@ -114,7 +114,7 @@ fn retain_seats<M: PrefixMap<SharedRoute>>(
 }
 
 /// Returns the number of routes in the tables of these sessions. Saturates at `u64::MAX`.
-pub fn count_routes<M: PrefixMap<SharedRoute>>(seats: &[Seated<M>]) -> u64
+pub fn count_routes<M: PrefixMap<SharedRoute, Addr = u32>>(seats: &[Seated<M>]) -> u64
     ensures { result ≡ min (length (seat_routes (map seat_of seats.now))) (2 ^ 64 - 1) }
 {
     let mut count = 0u64;
@@ -150,7 +150,7 @@ fn move_all<T: Drop>(mut lanes: Vec<Sequence<T>>, all: &mut Vec<T>)
 
 /// Collects each session passed in, once, by its peer's number, and the refusals. An `Err` returns what was
 /// passed in, unchanged.
-pub fn collect<M: PrefixMap<SharedRoute> + Drop>(
+pub fn collect<M: PrefixMap<SharedRoute, Addr = u32> + Drop>(
     alloc: Global,
     gathered: Gathered<M>,
 ) -> Result<Tables<M>, (Gathered<M>, Memory)>

@@ -15,7 +15,7 @@ use Rattle.bgp_prefix.specs.Prefixes.{IpPrefix, prefix_cmp, prefix_eq}
 use Rattle.bgp_prefix.specs.Keys.{key_cmp}
 use Rattle.bgp_prefix.specs.Searches.{IsGap}
 use Rattle.prefix_shelf.specs.Shelves.{routes_in, IsArrays, ids_put, ids_removed}
-use Rattle.bgp_prefix.specs.declared.key.RouteKey.{RouteKey}
+use Rattle.bgp_prefix.specs.Keys.{RouteKey}
 use Rattle.bgp_prefix.proofs.KeyLaws.{key_cmp_total}
 use Rattle.bgp_prefix.proofs.SearchLaws.{sorted_at, turn}
 use Rattle.bgp_prefix.proofs.JumpLaws.{first_up_to}

@@ -7,12 +7,12 @@ use Rattle.std.specs.declared.cmp.Ordering.TheVariants.{Less, Equal, Greater}
 use Rattle.std.specs.FinMap.{find, put, is_sorted}
 use Rattle.std.specs.FinMap.Entries.{where_key, below_all, by_order}
 use Rattle.std.proofs.Math.Dec.{eqb-suc-zero}
-use Rattle.std.proofs.lemmas.List.Elements.{All-head, All-tail, All-cons, All-take, All-drop, All-append}
+use Rattle.std.proofs.lemmas.List.Elements.{All-head, All-tail, All-nil, All-cons, All-take, All-drop, All-append}
 use Rattle.bgp_prefix.specs.Prefixes.{IpPrefix, prefix_cmp}
 use Rattle.bgp_prefix.specs.Keys.{key_cmp, is_nil}
 use Rattle.prefix_shelf.specs.Shelves.{EachKey}
 use Rattle.bgp_prefix.proofs.JumpLaws.{first_up_to}
-use Rattle.bgp_prefix.specs.declared.key.RouteKey.{RouteKey}
+use Rattle.bgp_prefix.specs.Keys.{RouteKey}
 use Rattle.bgp_prefix.proofs.KeyLaws.{key_cmp_total, key_cmp_exact}
 use Rattle.bgp_prefix.proofs.SearchLaws.{turn, first, second}
 
@@ -206,3 +206,8 @@ module _ {V : Type 0} where
   -- a key above the first of a list in order is below all of it
   pub each_past : (key : RouteKey) (e : RouteKey × V) (fs : List (RouteKey × V)) → T (is_sorted key_cmp (e ∷ fs)) → key_cmp e.0 key ≡ Greater → EachAbove key (e ∷ fs)
   each_past key e fs sorted above = (above, each_weaker (λ k. key_cmp e.0 k ≡ Less) (λ k. key_cmp k key ≡ Greater) fs (λ k less. turn key_cmp key_cmp_total key k Less (key_cmp_total.trans key e.0 k (turn key_cmp key_cmp_total e.0 key Greater above) less)) (each_below_all e.0 fs (first _ _ sorted)))
+
+-- what holds of each key, by position
+pub all_of_each : {V : Type 0} (P : RouteKey → Type 0) (es : List (RouteKey × V)) → EachKey P es → All (λ e. P e.0) es
+all_of_each {V} P [] h = All-nil (λ (e : RouteKey × V). P e.0)
+all_of_each {V} P (e ∷ es) h = All-cons (λ (d : RouteKey × V). P d.0) e es h.0 (all_of_each P es h.1)

@@ -15,7 +15,7 @@ use Rattle.prefix_shelf.proofs.ChunkLaws.{paths_of-append}
 use Rattle.bgp_prefix.specs.Maps.{IsLongestMatch, HasNoMatch, paths_of}
 use Rattle.std.specs.FinMap as finite
 use Rattle.std.specs.List.{filter}
-use Rattle.bgp_prefix.specs.declared.key.RouteKey.{RouteKey}
+use Rattle.bgp_prefix.specs.Keys.{RouteKey}
 use Rattle.bgp_prefix.proofs.KeyLaws.{key_cmp_total}
 use Rattle.bgp_prefix.proofs.SearchLaws.{sorted_at}
 use Rattle.bgp_prefix.proofs.SortedMaps.{other_of_less, other_of_greater, lesser_prefix, prefix_rises, greatest}
@@ -154,7 +154,7 @@ module _ {V : Type 0} where
   paths_on p cs i c lt read = ap (paths_of p) (chunks_more cs i c lt read) ∙ paths_of-append p (in_chunks (take i cs)) c
 
 -- what the last prefix up to a network says of the match
-module _ {V : Type 0} (es : List (RouteKey × V)) (addr limit : ℕ) (is : IsLimit es addr limit) where
+module _ {V : Type 0} {w : ℕ} (es : List (RouteKey × V)) (addr limit : ℕ) (is : IsLimit w es addr limit) where
   pub none_last : IsLastUpTo es (network addr limit) None → HasNoMatch (finite.from_entries {R = key_cmp} es) addr
   none_last last = none_found es addr limit last.count is last.inside last.end last.before
 
@@ -165,5 +165,5 @@ module _ {V : Type 0} (es : List (RouteKey × V)) (addr limit : ℕ) (is : IsLim
     pub falls_last : (shared : ℕ) → contains q addr ≡ false → shared ≤ q.len → leading_bits shared q.addr ≡ leading_bits shared addr → (shared < q.len → leading_bits (shared + 1) q.addr ≢ leading_bits (shared + 1) addr) → shared < limit
     falls_last shared = let b = last.before in subst (λ (p : IpPrefix). contains p addr ≡ false → shared ≤ p.len → leading_bits shared p.addr ≡ leading_bits shared addr → (shared < p.len → leading_bits (shared + 1) p.addr ≢ leading_bits (shared + 1) addr) → shared < limit) b.1.2 (falls es addr limit last.count is last.inside last.end b.1.0 b.0 b.1.1 shared)
 
-    pub miss_last : (shared : ℕ) → contains q addr ≡ false → shared ≤ q.len → leading_bits shared q.addr ≡ leading_bits shared addr → (shared < q.len → leading_bits (shared + 1) q.addr ≢ leading_bits (shared + 1) addr) → IsLimit es addr shared
-    miss_last shared = let b = last.before in subst (λ (p : IpPrefix). contains p addr ≡ false → shared ≤ p.len → leading_bits shared p.addr ≡ leading_bits shared addr → (shared < p.len → leading_bits (shared + 1) p.addr ≢ leading_bits (shared + 1) addr) → IsLimit es addr shared) b.1.2 (IsLimit-miss es addr limit last.count is last.inside last.end b.1.0 b.0 b.1.1 shared)
+    pub miss_last : (shared : ℕ) → contains q addr ≡ false → shared ≤ q.len → leading_bits shared q.addr ≡ leading_bits shared addr → (shared < q.len → leading_bits (shared + 1) q.addr ≢ leading_bits (shared + 1) addr) → IsLimit w es addr shared
+    miss_last shared = let b = last.before in subst (λ (p : IpPrefix). contains p addr ≡ false → shared ≤ p.len → leading_bits shared p.addr ≡ leading_bits shared addr → (shared < p.len → leading_bits (shared + 1) p.addr ≢ leading_bits (shared + 1) addr) → IsLimit w es addr shared) b.1.2 (IsLimit-miss es addr limit last.count is last.inside last.end b.1.0 b.0 b.1.1 shared)

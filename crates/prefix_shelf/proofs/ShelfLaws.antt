@@ -13,7 +13,7 @@ use Rattle.bgp_prefix.specs.Prefixes.{IpPrefix, IsIpPrefix, prefix_cmp}
 use Rattle.bgp_prefix.specs.Keys.{key_cmp, is_nil}
 use Rattle.prefix_shelf.specs.Shelves.{in_chunks, first_key, AreParts, EachKey, IsIndexOfKey, IsIndexOfPrefix, IsCut, lesser_key}
 use Rattle.std.specs.Option.{option_or}
-use Rattle.bgp_prefix.specs.declared.key.RouteKey.{RouteKey}
+use Rattle.bgp_prefix.specs.Keys.{RouteKey}
 use Rattle.bgp_prefix.proofs.KeyLaws.{key_cmp_total, find-parts, or_none}
 use Rattle.bgp_prefix.proofs.SearchLaws.{first}
 use Rattle.bgp_prefix.proofs.SortedMaps.{of_put}

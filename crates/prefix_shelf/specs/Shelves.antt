@@ -7,7 +7,7 @@ use Rattle.std.specs.declared.cmp.Ordering.TheVariants.{Less, Greater}
 use Rattle.std.specs.FinMap.{is_sorted}
 use Rattle.bgp_prefix.specs.Prefixes.{IpPrefix, IsIpPrefix, prefix_cmp}
 use Rattle.bgp_prefix.specs.Keys.{key_cmp, is_nil}
-use Rattle.bgp_prefix.specs.declared.key.RouteKey.{RouteKey}
+use Rattle.bgp_prefix.specs.Keys.{RouteKey}
 use lib.ListN.{replicate}
 
 -- the routes of three arrays; an identifier that is not there is 0

@@ -12,7 +12,7 @@ ghost use Rattle.bgp_prefix.specs.Searches.{IsAt, IsGap};
 ghost use Rattle.prefix_shelf.specs.Shelves.{ids_put, ids_removed};
 
 use crate::part::{FULL_LEN, GROWTH_STEP, HALF_LEN, Part};
-use bgp_prefix::{Memory, Prefix, RouteKey};
+use bgp_prefix::{Family, Memory, Prefix, RouteKey};
 use std::alloc::Global;
 use std::cmp::Ordering;
 use std::marker::Model;
@@ -21,15 +21,15 @@ use std::mem;
 /// A list of routes in three arrays. No identifiers are stored while all are 0. That the routes are in
 /// order is not an invariant of the chunk itself: a call that needs it requires it.
 #[derive(Drop)]
-pub(crate) struct Chunk<V> {
-    keys: Vec<Prefix>,
+pub(crate) struct Chunk<F: Family, V> {
+    keys: Vec<Prefix<F>>,
     ids: Vec<u32>,
     values: Vec<V>,
 }
 
-impl<V> Model for Chunk<V> {
+impl<F: Family, V> Model for Chunk<F, V> {
     ghost use Rattle.std.specs.Prelude.{List};
-    ghost use Rattle.bgp_prefix.specs.declared.key.RouteKey.{RouteKey};
+    ghost use Rattle.bgp_prefix.specs.Keys.{RouteKey};
     ghost use Rattle.prefix_shelf.specs.Shelves.{routes_in, IsArrays};
 
     ghost Value = { List (RouteKey × V) };
@@ -39,7 +39,7 @@ impl<V> Model for Chunk<V> {
     ghost invariant = { λ c. IsArrays c.keys.items c.ids.items c.values.items };
 }
 
-impl<V: Drop> Chunk<V> {
+impl<F: Family, V: Drop> Chunk<F, V> {
     // The number of routes.
     fn len(&self) -> usize
         ensures { result ≡ length self.now }
@@ -48,7 +48,7 @@ impl<V: Drop> Chunk<V> {
     }
 
     // The key of a route.
-    fn key_at(&self, at: usize) -> RouteKey
+    fn key_at(&self, at: usize) -> RouteKey<Prefix<F>>
         requires { at < length self.now }
         ensures { (d : _) → result ≡ (slice_index_or self.now at d).0 }
     {
@@ -67,7 +67,7 @@ impl<V: Drop> Chunk<V> {
     }
 
     // Where a key is, or would go. The end is tried first, since a RIB dump comes in order.
-    fn search(&self, key: &RouteKey) -> Result<usize, usize>
+    fn search(&self, key: &RouteKey<Prefix<F>>) -> Result<usize, usize>
         requires { T (is_sorted key_cmp self.now) }
         ensures found { IfOk result (λ i. IsAt key_cmp self.now key.now i) }
         ensures absent { IfErr result (λ i. IsGap key_cmp self.now key.now i) }
@@ -100,7 +100,13 @@ impl<V: Drop> Chunk<V> {
     }
 
     // Inserts a route at a position. An `Err` changes nothing.
-    fn put_at(&mut self, alloc: Global, at: usize, key: &RouteKey, value: V) -> Result<(), Memory>
+    fn put_at(
+        &mut self,
+        alloc: Global,
+        at: usize,
+        key: &RouteKey<Prefix<F>>,
+        value: V,
+    ) -> Result<(), Memory>
         requires { at ≤ length self.old }
         ensures { self.new ≡ (if is_ok result then insert self.old at (key.now, value) else self.old) }
     {
@@ -124,7 +130,7 @@ impl<V: Drop> Chunk<V> {
     }
 
     // Keeps the first half, and returns the rest. An `Err` changes nothing.
-    fn cut(&mut self, alloc: Global) -> Result<Chunk<V>, Memory>
+    fn cut(&mut self, alloc: Global) -> Result<Chunk<F, V>, Memory>
         requires { 64 < length self.old }
         ensures low { OnOk result (self.new ≡ take 64 self.old) }
         ensures high { IfOk result (λ high. high ≡ drop 64 self.old) }
@@ -142,7 +148,7 @@ impl<V: Drop> Chunk<V> {
     }
 
     // The number of routes whose prefixes are at most this one, in their order.
-    fn count_up_to(&self, last: &Prefix) -> usize
+    fn count_up_to(&self, last: &Prefix<F>) -> usize
         requires { T (is_sorted key_cmp self.now) }
         ensures bound { result ≤ length self.now }
         ensures end { IsPartitionPoint (λ e. is_le (prefix_cmp e.0.prefix last.now) ≡ true)
@@ -161,12 +167,17 @@ impl<V: Drop> Chunk<V> {
     }
 }
 
-impl<V: Drop> Part for Chunk<V> {
+impl<F: Family, V: Drop> Part<F> for Chunk<F, V> {
     type Value = V;
 
     ghost routes = { λ c. c };
 
-    fn single(alloc: Global, room: usize, key: &RouteKey, value: V) -> Result<Chunk<V>, Memory> {
+    fn single(
+        alloc: Global,
+        room: usize,
+        key: &RouteKey<Prefix<F>>,
+        value: V,
+    ) -> Result<Chunk<F, V>, Memory> {
         let mut keys = Vec::with_capacity(alloc, room)?;
         let mut values = Vec::with_capacity(alloc, room)?;
         let mut ids = Vec::new(alloc);
@@ -180,11 +191,11 @@ impl<V: Drop> Part for Chunk<V> {
         self.len() == 0
     }
 
-    fn first(&self) -> RouteKey {
+    fn first(&self) -> RouteKey<Prefix<F>> {
         self.key_at(0)
     }
 
-    fn ends_below(&self, key: &RouteKey) -> bool {
+    fn ends_below(&self, key: &RouteKey<Prefix<F>>) -> bool {
         let len = self.len();
         if len < FULL_LEN {
             return false;
@@ -199,14 +210,19 @@ impl<V: Drop> Part for Chunk<V> {
         self.len() > FULL_LEN
     }
 
-    fn get(&self, key: &RouteKey) -> Option<&V> {
+    fn get(&self, key: &RouteKey<Prefix<F>>) -> Option<&V> {
         match self.search(key) {
             Ok(at) => Some(self.value_at(at)),
             Err(_) => None,
         }
     }
 
-    fn insert(&mut self, alloc: Global, key: &RouteKey, value: V) -> Result<Option<V>, Memory> {
+    fn insert(
+        &mut self,
+        alloc: Global,
+        key: &RouteKey<Prefix<F>>,
+        value: V,
+    ) -> Result<Option<V>, Memory> {
         match self.search(key) {
             Ok(at) => Ok(Some(self.set(at, value))),
             Err(at) => {
@@ -217,7 +233,7 @@ impl<V: Drop> Part for Chunk<V> {
     }
 
     #[inline(always)]
-    fn push_within_capacity(&mut self, key: &RouteKey, value: V) -> Result<(), V> {
+    fn push_within_capacity(&mut self, key: &RouteKey<Prefix<F>>, value: V) -> Result<(), V> {
         if self.len() >= FULL_LEN || is_full(&self.keys) || is_full(&self.values) {
             return Err(value);
         }
@@ -229,14 +245,14 @@ impl<V: Drop> Part for Chunk<V> {
         Ok(())
     }
 
-    fn remove(&mut self, key: &RouteKey) -> Option<V> {
+    fn remove(&mut self, key: &RouteKey<Prefix<F>>) -> Option<V> {
         match self.search(key) {
             Ok(at) => Some(self.take_at(at)),
             Err(_) => None,
         }
     }
 
-    fn split(&mut self, alloc: Global) -> Option<Chunk<V>> {
+    fn split(&mut self, alloc: Global) -> Option<Chunk<F, V>> {
         if self.len() <= HALF_LEN {
             return None;
         }
@@ -246,7 +262,7 @@ impl<V: Drop> Part for Chunk<V> {
         }
     }
 
-    fn list<'a>(&'a self, all: &mut Vec<(RouteKey, &'a V)>) {
+    fn list<'a>(&'a self, all: &mut Vec<(RouteKey<Prefix<F>>, &'a V)>) {
         let mut at = 0;
         while at < self.len() {
             all.push_reserved((self.key_at(at), self.value_at(at)));
@@ -254,7 +270,7 @@ impl<V: Drop> Part for Chunk<V> {
         }
     }
 
-    fn paths<'a>(&'a self, prefix: &Prefix, all: &mut Vec<(u32, &'a V)>) -> Result<(), Memory> {
+    fn paths<'a>(&'a self, prefix: &Prefix<F>, all: &mut Vec<(u32, &'a V)>) -> Result<(), Memory> {
         let mut at = 0;
         while at < self.len() {
             let key = self.key_at(at);
@@ -269,7 +285,7 @@ impl<V: Drop> Part for Chunk<V> {
         Ok(())
     }
 
-    fn last_up_to(&self, last: &Prefix) -> Option<Prefix> {
+    fn last_up_to(&self, last: &Prefix<F>) -> Option<Prefix<F>> {
         let at = self.count_up_to(last);
         if at == 0 {
             return None;

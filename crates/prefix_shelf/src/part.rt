@@ -11,7 +11,7 @@ ghost use Rattle.bgp_prefix.specs.Keys.{key_cmp, is_nil, entries_now};
 ghost use Rattle.bgp_prefix.specs.Maps.{paths_of};
 ghost use Rattle.prefix_shelf.specs.Shelves.{first_key, EachKey, IsCut, IsLastUpTo};
 
-use bgp_prefix::{Memory, Prefix, RouteKey};
+use bgp_prefix::{Family, Memory, Prefix, RouteKey};
 use std::alloc::Global;
 
 /// The most routes in a chunk, and the most chunks in a row: a part with more is cut in two.
@@ -22,8 +22,8 @@ pub(crate) const HALF_LEN: usize = 64;
 pub(crate) const GROWTH_STEP: usize = 16;
 
 /// Routes in key order, which `Parts` keeps as consecutive parts.
-pub(crate) trait Part: Drop {
-    ghost use Rattle.bgp_prefix.specs.declared.key.RouteKey.{RouteKey};
+pub(crate) trait Part<F: Family>: Drop {
+    ghost use Rattle.bgp_prefix.specs.Keys.{RouteKey};
     ghost use Rattle.std.specs.Prelude.{List};
 
     type Value: Drop;
@@ -35,7 +35,7 @@ pub(crate) trait Part: Drop {
     fn single(
         alloc: Global,
         room: usize,
-        key: &RouteKey,
+        key: &RouteKey<Prefix<F>>,
         value: Self::Value,
     ) -> Result<Self, Memory>
         requires known { IsIpPrefix key.now.prefix }
@@ -47,12 +47,12 @@ pub(crate) trait Part: Drop {
         ensures { result ≡ is_nil (routes self.now) };
 
     /// The first key.
-    fn first(&self) -> RouteKey
+    fn first(&self) -> RouteKey<Prefix<F>>
         requires { 0 < length (routes self.now) }
         ensures { result ≡ first_key (routes self.now) };
 
     /// Whether it is full, and ends before a key.
-    fn ends_below(&self, key: &RouteKey) -> bool
+    fn ends_below(&self, key: &RouteKey<Prefix<F>>) -> bool
         requires { T (is_sorted key_cmp (routes self.now)) }
         ensures { IsTrue result → EachKey (λ k. key_cmp k key.now ≡ Less) (routes self.now) };
 
@@ -60,7 +60,7 @@ pub(crate) trait Part: Drop {
     fn is_overfull(&self) -> bool;
 
     /// Returns the value of a key.
-    fn get(&self, key: &RouteKey) -> Option<&Self::Value>
+    fn get(&self, key: &RouteKey<Prefix<F>>) -> Option<&Self::Value>
         requires { T (is_sorted key_cmp (routes self.now)) }
         ensures { option_copied result ≡ find key_cmp key.now (routes self.now) };
 
@@ -68,7 +68,7 @@ pub(crate) trait Part: Drop {
     fn insert(
         &mut self,
         alloc: Global,
-        key: &RouteKey,
+        key: &RouteKey<Prefix<F>>,
         value: Self::Value,
     ) -> Result<Option<Self::Value>, Memory>
         requires sorted { T (is_sorted key_cmp (routes self.old)) }
@@ -80,7 +80,7 @@ pub(crate) trait Part: Drop {
     /// Appends a route if the last chunk has room for it. An `Err` has its value, and changes nothing.
     fn push_within_capacity(
         &mut self,
-        key: &RouteKey,
+        key: &RouteKey<Prefix<F>>,
         value: Self::Value,
     ) -> Result<(), Self::Value>
         requires known { IsIpPrefix key.now.prefix }
@@ -90,7 +90,7 @@ pub(crate) trait Part: Drop {
         ensures value { IfErr result (λ given. given ≡ value) };
 
     /// Removes a key, and returns its value.
-    fn remove(&mut self, key: &RouteKey) -> Option<Self::Value>
+    fn remove(&mut self, key: &RouteKey<Prefix<F>>) -> Option<Self::Value>
         requires { T (is_sorted key_cmp (routes self.old)) }
         ensures before { result ≡ find key_cmp key.now (routes self.old) }
         ensures removed { routes self.new
@@ -102,7 +102,7 @@ pub(crate) trait Part: Drop {
         ensures same { IfNone result (routes self.new ≡ routes self.old) };
 
     /// Appends the routes to a list that has room for them, in order. Allocates nothing.
-    fn list<'a>(&'a self, all: &mut Vec<(RouteKey, &'a Self::Value)>)
+    fn list<'a>(&'a self, all: &mut Vec<(RouteKey<Prefix<F>>, &'a Self::Value)>)
         requires { vec_len all.old + length (routes self.now) ≤ vec_capacity all.old }
         ensures entries { entries_now all.new.items ≡ entries_now all.old.items ++ routes self.now }
         ensures len { vec_len all.new ≡ vec_len all.old + length (routes self.now) }
@@ -111,14 +111,14 @@ pub(crate) trait Part: Drop {
     /// Appends the identifiers and values of the routes of a prefix to a list. An `Err` leaves any part of them there.
     fn paths<'a>(
         &'a self,
-        prefix: &Prefix,
+        prefix: &Prefix<F>,
         all: &mut Vec<(u32, &'a Self::Value)>,
     ) -> Result<(), Memory>
         ensures { OnOk result (map (λ e. (e.0, e.1.now)) all.new.items
             ≡ map (λ e. (e.0, e.1.now)) all.old.items ++ paths_of prefix.now (routes self.now)) };
 
     /// Returns the last prefix up to this one.
-    fn last_up_to(&self, last: &Prefix) -> Option<Prefix>
+    fn last_up_to(&self, last: &Prefix<F>) -> Option<Prefix<F>>
         requires { T (is_sorted key_cmp (routes self.now)) }
         ensures { IsLastUpTo (routes self.now) last.now result };
 }

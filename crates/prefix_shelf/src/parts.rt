@@ -13,26 +13,26 @@ ghost use Rattle.prefix_shelf.specs.Shelves.{routes_of, first_key, lesser_key, E
 
 use crate::chunk::{copied_from, make_room, put};
 use crate::part::{FULL_LEN, GROWTH_STEP, HALF_LEN, Part};
-use bgp_prefix::{Memory, Prefix, RouteKey};
+use bgp_prefix::{Family, Memory, Prefix, RouteKey};
 use std::alloc::Global;
 use std::cmp::Ordering;
 
 /// Consecutive parts in key order, none of them empty, and the first key of each. A shelf uses it
 /// at two levels: its rows of chunks, and the chunks of a row.
 #[derive(Drop)]
-pub(crate) struct Parts<P> {
-    pub(crate) firsts: Vec<RouteKey>,
+pub(crate) struct Parts<F: Family, P> {
+    pub(crate) firsts: Vec<RouteKey<Prefix<F>>>,
     pub(crate) parts: Vec<P>,
 }
 
-impl<P: Part> Parts<P> {
+impl<F: Family, P: Part<F>> Parts<F, P> {
     /// Returns one part of one route, in a chunk with room for so many.
     pub(crate) fn single(
         alloc: Global,
         room: usize,
-        key: &RouteKey,
+        key: &RouteKey<Prefix<F>>,
         value: P::Value,
-    ) -> Result<Parts<P>, Memory>
+    ) -> Result<Parts<F, P>, Memory>
         requires known { IsIpPrefix key.now.prefix }
         requires room { 0 < room }
         ensures routes { IfOk result (λ one. routes_of P.routes one.parts.items ≡ (key.now, value) ∷ []) }
@@ -47,7 +47,7 @@ impl<P: Part> Parts<P> {
     }
 
     /// The first key.
-    pub(crate) fn first(&self) -> RouteKey
+    pub(crate) fn first(&self) -> RouteKey<Prefix<F>>
         requires parts { AreParts self.now.firsts.items (map P.routes self.now.parts.items) }
         requires some { 0 < length (routes_of P.routes self.now.parts.items) }
         ensures { result ≡ first_key (routes_of P.routes self.now.parts.items) }
@@ -64,7 +64,7 @@ impl<P: Part> Parts<P> {
     }
 
     /// Whether everything is full, and ends before a key.
-    pub(crate) fn ends_below(&self, key: &RouteKey) -> bool
+    pub(crate) fn ends_below(&self, key: &RouteKey<Prefix<F>>) -> bool
         requires { AreParts self.now.firsts.items (map P.routes self.now.parts.items) }
         ensures { IsTrue result → EachKey (λ k. key_cmp k key.now ≡ Less) (routes_of P.routes self.now.parts.items) }
     {
@@ -78,7 +78,7 @@ impl<P: Part> Parts<P> {
     }
 
     // The index of the part in which a key is, or would go. The end is tried first.
-    fn index_of_key(&self, key: &RouteKey) -> usize
+    fn index_of_key(&self, key: &RouteKey<Prefix<F>>) -> usize
         requires parts { AreParts self.now.firsts.items (map P.routes self.now.parts.items) }
         requires some { 0 < length self.now.parts.items }
         ensures { IsIndexOfKey (map P.routes self.now.parts.items) key.now result }
@@ -101,7 +101,7 @@ impl<P: Part> Parts<P> {
     }
 
     /// Returns the value of a key.
-    pub(crate) fn get(&self, key: &RouteKey) -> Option<&P::Value>
+    pub(crate) fn get(&self, key: &RouteKey<Prefix<F>>) -> Option<&P::Value>
         requires { AreParts self.now.firsts.items (map P.routes self.now.parts.items) }
         ensures { option_copied result ≡ find key_cmp key.now (routes_of P.routes self.now.parts.items) }
     {
@@ -116,7 +116,7 @@ impl<P: Part> Parts<P> {
         &mut self,
         alloc: Global,
         index: usize,
-        key: &RouteKey,
+        key: &RouteKey<Prefix<F>>,
         value: P::Value,
     ) -> Result<Option<P::Value>, Memory>
         requires parts { AreParts self.old.firsts.items (map P.routes self.old.parts.items) }
@@ -140,7 +140,7 @@ impl<P: Part> Parts<P> {
         &mut self,
         alloc: Global,
         room: usize,
-        key: &RouteKey,
+        key: &RouteKey<Prefix<F>>,
         value: P::Value,
     ) -> Result<(), Memory>
         requires room { 0 < room }
@@ -190,7 +190,7 @@ impl<P: Part> Parts<P> {
     pub(crate) fn insert(
         &mut self,
         alloc: Global,
-        key: &RouteKey,
+        key: &RouteKey<Prefix<F>>,
         value: P::Value,
     ) -> Result<Option<P::Value>, Memory>
         requires parts { AreParts self.old.firsts.items (map P.routes self.old.parts.items) }
@@ -221,7 +221,7 @@ impl<P: Part> Parts<P> {
     #[inline(always)]
     pub(crate) fn push_within_capacity(
         &mut self,
-        key: &RouteKey,
+        key: &RouteKey<Prefix<F>>,
         value: P::Value,
     ) -> Result<(), P::Value>
         requires parts { AreParts self.old.firsts.items (map P.routes self.old.parts.items) }
@@ -241,7 +241,7 @@ impl<P: Part> Parts<P> {
     }
 
     /// Removes a key, and returns its value.
-    pub(crate) fn remove(&mut self, key: &RouteKey) -> Option<P::Value>
+    pub(crate) fn remove(&mut self, key: &RouteKey<Prefix<F>>) -> Option<P::Value>
         requires { AreParts self.old.firsts.items (map P.routes self.old.parts.items) }
         ensures before { result ≡ find key_cmp key.now (routes_of P.routes self.old.parts.items) }
         ensures removed { routes_of P.routes self.new.parts.items
@@ -264,7 +264,7 @@ impl<P: Part> Parts<P> {
     }
 
     /// Keeps the first half of its parts, and returns the rest.
-    pub(crate) fn cut(&mut self, alloc: Global) -> Result<Parts<P>, Memory>
+    pub(crate) fn cut(&mut self, alloc: Global) -> Result<Parts<F, P>, Memory>
         requires parts { AreParts self.old.firsts.items (map P.routes self.old.parts.items) }
         requires long { 64 < length self.old.parts.items }
         ensures cut { IfOk result
@@ -283,7 +283,7 @@ impl<P: Part> Parts<P> {
     }
 
     /// Appends the routes to a list that has room for them, in order. Allocates nothing.
-    pub(crate) fn list<'a>(&'a self, all: &mut Vec<(RouteKey, &'a P::Value)>)
+    pub(crate) fn list<'a>(&'a self, all: &mut Vec<(RouteKey<Prefix<F>>, &'a P::Value)>)
         requires { vec_len all.old + length (routes_of P.routes self.now.parts.items) ≤ vec_capacity all.old }
         ensures entries { entries_now all.new.items
             ≡ entries_now all.old.items ++ routes_of P.routes self.now.parts.items }
@@ -300,7 +300,7 @@ impl<P: Part> Parts<P> {
     /// Appends the identifiers and values of the routes of a prefix to a list.
     pub(crate) fn paths<'a>(
         &'a self,
-        prefix: &Prefix,
+        prefix: &Prefix<F>,
         all: &mut Vec<(u32, &'a P::Value)>,
     ) -> Result<(), Memory>
         requires { AreParts self.now.firsts.items (map P.routes self.now.parts.items) }
@@ -327,7 +327,7 @@ impl<P: Part> Parts<P> {
     }
 
     // The index of the part that has the last prefix up to this one, if any has.
-    fn index_of_prefix(&self, last: &Prefix) -> usize
+    fn index_of_prefix(&self, last: &Prefix<F>) -> usize
         requires parts { AreParts self.now.firsts.items (map P.routes self.now.parts.items) }
         requires some { 0 < length self.now.parts.items }
         ensures { IsIndexOfPrefix (map P.routes self.now.parts.items) last.now result }
@@ -345,7 +345,7 @@ impl<P: Part> Parts<P> {
     }
 
     /// Returns the last prefix up to this one.
-    pub(crate) fn last_up_to(&self, last: &Prefix) -> Option<Prefix>
+    pub(crate) fn last_up_to(&self, last: &Prefix<F>) -> Option<Prefix<F>>
         requires { AreParts self.now.firsts.items (map P.routes self.now.parts.items) }
         ensures { IsLastUpTo (routes_of P.routes self.now.parts.items) last.now result }
     {
@@ -357,7 +357,11 @@ impl<P: Part> Parts<P> {
 }
 
 // Replaces a greater key by this one.
-fn lower_first_key(firsts: &mut Vec<RouteKey>, at: usize, key: &RouteKey)
+fn lower_first_key<F: Family>(
+    firsts: &mut Vec<RouteKey<Prefix<F>>>,
+    at: usize,
+    key: &RouteKey<Prefix<F>>,
+)
     requires { at < length firsts.old.items }
     ensures { (d : _) →
         firsts.new.items ≡ slice_set firsts.old.items at (lesser_key key.now (slice_index_or firsts.old.items at d)) }

@@ -1,17 +1,16 @@
 //! A prefix map as a sorted list in chunks.
 
-ghost use Rattle.std.specs.Prelude.{◌≡◌, ◌≢◌, None, IfOk, IfErr, OnOk, OnErr};
+ghost use Rattle.std.specs.Prelude.{◌≡◌, ◌≢◌, ◌≤◌, None, IfOk, IfErr, OnOk, OnErr};
 ghost use Rattle.std.specs.declared.cmp.Ordering.TheVariants.{Greater};
 ghost use Rattle.std.specs.Ordering.{is_lt};
 ghost use Rattle.std.specs.FinMap as finite;
 ghost use Rattle.std.specs.FinMap.{find, put};
-ghost use Rattle.bgp_prefix.specs.declared.key.RouteKey.{RouteKey};
-ghost use Rattle.bgp_prefix.specs.Prefixes.{IsIpPrefix};
+ghost use Rattle.bgp_prefix.specs.Prefixes.{IpPrefix, IsIpPrefix};
 ghost use Rattle.bgp_prefix.specs.Keys.{key_cmp};
 
 use crate::parts::Parts;
 use crate::row::Row;
-use bgp_prefix::{Memory, Prefix, PrefixMap, RouteKey, shared_len};
+use bgp_prefix::{Family, Memory, Prefix, PrefixMap, RouteKey, shared_len};
 use std::alloc::Global;
 use std::marker::Model;
 
@@ -23,7 +22,7 @@ use std::marker::Model;
 /// end tried first. A key after all that were inserted since the map was made or cleared, like each key of a
 /// RIB dump, is appended after one comparison where the last chunk has room, and keys in order leave full chunks.
 /// An insertion or a removal moves no more than a part of a chunk, of a row's list of chunks and of the list of rows.
-/// `longest` searches at most 33 times.
+/// `longest` searches at most once more than an address has bits.
 ///
 /// An entry takes the 8 bytes of its prefix, its value, and a share of the free room, which grows by 16 routes; while
 /// keys come in order, each chunk after the first has room for all its routes at once. Identifiers are stored only in a
@@ -32,18 +31,17 @@ use std::marker::Model;
 /// It suits many keys that come in order, or that should take little memory. Chunks that removals have
 /// shortened are not merged. `Radix` counts its steps; `Flat` serves a few keys.
 #[derive(Drop)]
-pub struct Shelf<V> {
-    rows: Parts<Row<V>>,
+pub struct Shelf<F: Family, V> {
+    rows: Parts<F, Row<F, V>>,
     len: usize,
     // No key comes after it: the greatest key inserted since the map was made or cleared.
-    bound: RouteKey,
+    bound: RouteKey<Prefix<F>>,
 }
 
-impl<V> Model for Shelf<V> {
-    ghost use Rattle.std.specs.Prelude.{◌≡◌, ◌≢◌, List, length, map};
+impl<F: Family, V> Model for Shelf<F, V> {
+    ghost use Rattle.std.specs.Prelude.{◌≡◌, ◌≢◌, ◌≤◌, List, length, map};
     ghost use Rattle.std.specs.declared.cmp.Ordering.TheVariants.{Greater};
-    ghost use Rattle.bgp_prefix.specs.declared.key.RouteKey.{RouteKey};
-    ghost use Rattle.bgp_prefix.specs.Keys.{key_cmp};
+    ghost use Rattle.bgp_prefix.specs.Keys.{RouteKey, key_cmp};
     ghost use Rattle.prefix_shelf.specs.Shelves.{routes_of, AreParts, EachKey};
 
     ghost Value = { List (RouteKey × V) };
@@ -54,15 +52,17 @@ impl<V> Model for Shelf<V> {
       rows : AreParts m.rows.firsts.items (map (λ r. r) m.rows.parts.items);
       count : m.len ≡ length (routes_of (λ r. r) m.rows.parts.items);
       bound : EachKey (λ k. key_cmp k m.bound ≢ Greater) (routes_of (λ r. r) m.rows.parts.items);
+      short : EachKey (λ k. k.prefix.len ≤ F.WIDTH) (routes_of (λ r. r) m.rows.parts.items);
     } };
 }
 
-impl<V: Drop> Shelf<V> {
+impl<F: Family, V: Drop> Shelf<F, V> {
     // Appends a route if its key comes after the bound and the last chunk has room for it. An `Err` has its value, and
     // changes nothing.
     #[inline(always)]
-    fn push_within_capacity(&mut self, key: &RouteKey, value: V) -> Result<(), V>
+    fn push_within_capacity(&mut self, key: &RouteKey<Prefix<F>>, value: V) -> Result<(), V>
         requires known { IsIpPrefix key.now.prefix }
+        requires short { key.now.prefix.len ≤ F.WIDTH }
         ensures absent { OnOk result (find key_cmp key.now self.old ≡ None) }
         ensures ok { OnOk result (self.new ≡ put key_cmp key.now value self.old) }
         ensures err { OnErr result (self.new ≡ self.old) }
@@ -84,10 +84,11 @@ impl<V: Drop> Shelf<V> {
     fn insert_anywhere(
         &mut self,
         alloc: Global,
-        key: &RouteKey,
+        key: &RouteKey<Prefix<F>>,
         value: V,
     ) -> Result<Option<V>, Memory>
         requires known { IsIpPrefix key.now.prefix }
+        requires short { key.now.prefix.len ≤ F.WIDTH }
         ensures before { IfOk result (λ before. before ≡ find key_cmp key.now self.old) }
         ensures ok { OnOk result (self.new ≡ put key_cmp key.now value self.old) }
         ensures err { OnErr result (self.new ≡ self.old) }
@@ -104,7 +105,9 @@ impl<V: Drop> Shelf<V> {
     }
 }
 
-impl<V: Drop> PrefixMap<V> for Shelf<V> {
+impl<F: Family, V: Drop> PrefixMap<V> for Shelf<F, V> {
+    type Addr = F;
+
     ghost contents = { λ m. finite.from_entries m };
 
     fn new(alloc: Global) -> Self {
@@ -120,17 +123,22 @@ impl<V: Drop> PrefixMap<V> for Shelf<V> {
 
     // Inlined at each of its callers: a call takes a fiftieth of a RIB entry's time.
     #[inline(always)]
-    fn insert(&mut self, alloc: Global, key: RouteKey, value: V) -> Result<Option<V>, Memory> {
-        // Its length is at most 32.
+    fn insert(
+        &mut self,
+        alloc: Global,
+        key: &RouteKey<Prefix<F>>,
+        value: V,
+    ) -> Result<Option<V>, Memory> {
+        // What holds of its prefix is known once it is read.
         let _ = key.prefix.len();
         // The keys of a RIB dump come in order.
-        match self.push_within_capacity(&key, value) {
+        match self.push_within_capacity(key, value) {
             Ok(()) => Ok(None),
-            Err(value) => self.insert_anywhere(alloc, &key, value),
+            Err(value) => self.insert_anywhere(alloc, key, value),
         }
     }
 
-    fn remove(&mut self, key: &RouteKey) -> Option<V> {
+    fn remove(&mut self, key: &RouteKey<Prefix<F>>) -> Option<V> {
         let before = self.rows.remove(key);
         if before.is_some() {
             self.len -= 1;
@@ -138,15 +146,15 @@ impl<V: Drop> PrefixMap<V> for Shelf<V> {
         before
     }
 
-    fn get(&self, key: &RouteKey) -> Option<&V> {
+    fn get(&self, key: &RouteKey<Prefix<F>>) -> Option<&V> {
         self.rows.get(key)
     }
 
-    fn longest(&self, addr: u32) -> Option<Prefix> {
-        let Some(host) = Prefix::new(addr, 32) else {
+    fn longest(&self, addr: F) -> Option<Prefix<F>> {
+        let Some(host) = Prefix::new(addr, F::WIDTH) else {
             unreachable!()
         };
-        let mut limit = 32;
+        let mut limit = F::WIDTH;
         loop {
             let Some(prefix) = self.rows.last_up_to(&host.shortened(limit)) else {
                 return None;
@@ -158,7 +166,7 @@ impl<V: Drop> PrefixMap<V> for Shelf<V> {
         }
     }
 
-    fn paths(&self, alloc: Global, prefix: &Prefix) -> Result<Vec<(u32, &V)>, Memory> {
+    fn paths(&self, alloc: Global, prefix: &Prefix<F>) -> Result<Vec<(u32, &V)>, Memory> {
         let mut all = Vec::new(alloc);
         self.rows.paths(prefix, &mut all)?;
         Ok(all)
@@ -175,16 +183,16 @@ impl<V: Drop> PrefixMap<V> for Shelf<V> {
         self.len
     }
 
-    fn list<'a>(&'a self, all: &mut Vec<(RouteKey, &'a V)>) {
+    fn list<'a>(&'a self, all: &mut Vec<(RouteKey<Prefix<F>>, &'a V)>) {
         self.rows.list(all);
     }
 }
 
 // The key that comes before all others.
-fn least_key() -> RouteKey
+fn least_key<F: Family>() -> RouteKey<Prefix<F>>
     ensures { result ≡ record { prefix = record { addr = 0; len = 0 }; id = 0 } }
 {
-    let Some(prefix) = Prefix::new(0, 0) else {
+    let Some(prefix) = Prefix::new(F::LOWEST, 0) else {
         unreachable!()
     };
     RouteKey { prefix, id: 0 }
@@ -192,16 +200,16 @@ fn least_key() -> RouteKey
 
 // Whether a key comes before another.
 #[inline(always)]
-fn precedes(key: &RouteKey, other: &RouteKey) -> bool
+fn precedes<F: Family>(key: &RouteKey<Prefix<F>>, other: &RouteKey<Prefix<F>>) -> bool
     ensures { result ≡ is_lt (key_cmp key.now other.now) }
 {
     *key < *other
 }
 
 // Replaces a lesser key by this one.
-fn raise_bound(bound: &mut RouteKey, key: &RouteKey)
+fn raise_bound<F: Family>(bound: &mut RouteKey<Prefix<F>>, key: &RouteKey<Prefix<F>>)
     ensures key { key_cmp key.now bound.new ≢ Greater }
-    ensures old { (k : RouteKey) → key_cmp k bound.old ≢ Greater → key_cmp k bound.new ≢ Greater }
+    ensures old { (k : RouteKey IpPrefix) → key_cmp k bound.old ≢ Greater → key_cmp k bound.new ≢ Greater }
 {
     if precedes(bound, key) {
         *bound = *key;

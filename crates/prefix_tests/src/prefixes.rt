@@ -2,6 +2,7 @@
 
 mod drawn;
 mod growths;
+mod ipv6_rows;
 mod keys;
 mod large;
 mod leaves;

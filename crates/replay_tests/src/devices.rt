@@ -1,6 +1,6 @@
 //! Rows on devices that fail: at each read, at each write, and past the limit on records.
 
-use crate::harness::{PLAN, replay, replay_readers};
+use crate::harness::{FULL, PLAN, replay, replay_readers};
 use adj_rib::SharedRoute;
 use bgp_prefix::Radix;
 use fixtures::{Dripping, THREE_PEERS, THREE_ROUTES, bytes_of};
@@ -57,7 +57,7 @@ fn expect_read(
 ) -> Result<(), Fail> {
     let plan = Plan { workers, ..PLAN };
     let mut readers = [Counted::new(Dripping::new(rest, Some(kind)))];
-    let outcome = replay_readers::<Radix<SharedRoute>, _>(
+    let outcome = replay_readers::<Radix<u32, SharedRoute>, _>(
         rt,
         alloc,
         &mut readers,
@@ -121,11 +121,12 @@ fn run_into(
 ) -> Result<(Result<Summary, ReplayError>, Vec<u8>), Fail> {
     let mut readers = [Counted::new(bytes)];
     let mut out = Counted::new(writer);
-    let result = run::<Radix<SharedRoute>, _, _, _, _, _>(
+    let result = run::<Radix<u32, SharedRoute>, _, _, _, _, _>(
         rt,
         alloc,
         &mut readers,
         &Request::Tables,
+        FULL,
         Selection::all(alloc),
         &PLAN,
         &ByTurns,
@@ -191,7 +192,7 @@ fn a_second_file_that_fails_at_once_is_named(rt: HostRuntime) -> Result<(), Fail
         Counted::new(Dripping::new(bytes.as_slice(), None)),
         Counted::new(Dripping::new(&[], Some(ErrorKind::Other))),
     ];
-    let outcome = replay_readers::<Radix<SharedRoute>, _>(
+    let outcome = replay_readers::<Radix<u32, SharedRoute>, _>(
         &rt,
         alloc,
         &mut readers,
@@ -230,7 +231,7 @@ fn one_record_past_the_limit_ends_the_run(rt: HostRuntime) -> Result<(), Fail> {
             max_records,
             ..PLAN
         };
-        let outcome = replay::<Radix<SharedRoute>>(&rt, alloc, &files, &request, &plan)?;
+        let outcome = replay::<Radix<u32, SharedRoute>>(&rt, alloc, &files, &request, &plan)?;
         assert!(rt; outcome.text.as_slice() == text.as_bytes(), "{words}");
         match &outcome.result {
             Err(_) => assert!(rt;

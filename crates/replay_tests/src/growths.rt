@@ -2,7 +2,7 @@
 //! leaves what it says. The gate runs them with ample memory; `make growths` refuses the Nth growth of each
 //! test, for N = 1, 2 and so on. A growth that is refused to a test itself ends it with an error.
 
-use crate::harness::PLAN;
+use crate::harness::{FULL, PLAN};
 use adj_rib::SharedRoute;
 use bgp_prefix::{Flat, PrefixMap, Radix};
 use command_line::{Usage, read_words};
@@ -20,7 +20,7 @@ use std::test::Fail;
 use std::thread::Threads;
 
 /// A run that is Ok wrote the report, and one that wants memory nothing. The writer has room for it.
-fn expect_report<M: PrefixMap<SharedRoute> + Send + Sync + Drop, D: Dealing + Sync>(
+fn expect_report<M: PrefixMap<SharedRoute, Addr = u32> + Send + Sync + Drop, D: Dealing + Sync>(
     rt: &(impl Threads + Abort + Sync),
     alloc: Global,
     words: &str,
@@ -36,6 +36,7 @@ fn expect_report<M: PrefixMap<SharedRoute> + Send + Sync + Drop, D: Dealing + Sy
         alloc,
         &mut readers,
         request,
+        FULL,
         Selection::all(alloc),
         &PLAN,
         dealing,
@@ -56,9 +57,9 @@ fn a_run_by_each_dealing_writes_its_report_or_wants_memory(rt: HostRuntime) -> R
     let tables = &Request::Tables;
     let list = ByList::new(vec![in alloc; 1, 1, 0]?);
     let blocks = ByBlocks::new(2);
-    expect_report::<Flat<_>, _>(&rt, alloc, THREE_PEERS, tables, &ByTurns, THREE_ROUTES)?;
-    expect_report::<Radix<_>, _>(&rt, alloc, THREE_PEERS, tables, &blocks, THREE_ROUTES)?;
-    expect_report::<Shelf<_>, _>(&rt, alloc, THREE_PEERS, tables, &list, THREE_ROUTES)
+    expect_report::<Flat<u32, _>, _>(&rt, alloc, THREE_PEERS, tables, &ByTurns, THREE_ROUTES)?;
+    expect_report::<Radix<u32, _>, _>(&rt, alloc, THREE_PEERS, tables, &blocks, THREE_ROUTES)?;
+    expect_report::<Shelf<u32, _>, _>(&rt, alloc, THREE_PEERS, tables, &list, THREE_ROUTES)
 }
 
 /// An index, a RIB record whose second entry is damaged, and an announcement.
@@ -103,7 +104,7 @@ fn a_run_of_each_request_writes_its_report_or_wants_memory(rt: HostRuntime) -> R
         (Request::Match(0x0A00_0001), lines),
         (Request::Faults, "1|56|2|14|BadAttribute(1)\n"),
     ] {
-        expect_report::<Shelf<_>, _>(&rt, alloc, words, &request, &ByTurns, expected)?;
+        expect_report::<Shelf<u32, _>, _>(&rt, alloc, words, &request, &ByTurns, expected)?;
     }
     Ok(())
 }

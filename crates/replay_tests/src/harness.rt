@@ -9,7 +9,7 @@ use mrt_body::{ChosenPrefixes, PeerChoice, PrefixChoice, RibRule, Selection, Sha
 use mrt_frame::{Counted, ReplayError, Source};
 use mrt_replay::{Summary, run, status};
 use prefix_shelf::Shelf;
-use rib_report::Request;
+use rib_report::{AddressForm, AddressForms, Layout, Request};
 use std::alloc::Global;
 use std::marker::Sync;
 use std::process::Abort;
@@ -23,6 +23,14 @@ pub const PLAN: Plan = Plan {
     batch: 8,
     looks: 0,
     max_records: 1 << 47,
+};
+
+/// Addresses in full.
+pub const FULL: Layout = Layout {
+    addresses: AddressForms {
+        peers: AddressForm::Full,
+        routes: AddressForm::Full,
+    },
 };
 
 /// What a run answered, and what it wrote.
@@ -44,7 +52,7 @@ impl Outcome {
 }
 
 /// Replays the selected units of these readers by turns, into memory.
-fn replay_selected<M: PrefixMap<SharedRoute> + Send + Sync + Drop, R: Source + Send>(
+fn replay_selected<M: PrefixMap<SharedRoute, Addr = u32> + Send + Sync + Drop, R: Source + Send>(
     rt: &(impl Threads + Abort + Sync),
     alloc: Global,
     readers: &mut [R],
@@ -55,14 +63,14 @@ fn replay_selected<M: PrefixMap<SharedRoute> + Send + Sync + Drop, R: Source + S
     assert!(rt; plan.check());
     let mut out = Counted::new(Vec::<u8>::new(alloc));
     let result = run::<M, _, _, _, _, _>(
-        rt, alloc, readers, request, selection, plan, &ByTurns, &NoGate, &mut out,
+        rt, alloc, readers, request, FULL, selection, plan, &ByTurns, &NoGate, &mut out,
     );
     let text = Vec::from_slice(alloc, out.device().as_slice())?;
     Ok(Outcome { result, text })
 }
 
 /// Replays these readers by turns, into memory.
-pub fn replay_readers<M: PrefixMap<SharedRoute> + Send + Sync + Drop, R: Source + Send>(
+pub fn replay_readers<M: PrefixMap<SharedRoute, Addr = u32> + Send + Sync + Drop, R: Source + Send>(
     rt: &(impl Threads + Abort + Sync),
     alloc: Global,
     readers: &mut [R],
@@ -83,7 +91,7 @@ fn readers_of(alloc: Global, files: &[Vec<u8>]) -> Result<Vec<Counted<&[u8]>>, F
 }
 
 /// Replays files in memory.
-pub fn replay<M: PrefixMap<SharedRoute> + Send + Sync + Drop>(
+pub fn replay<M: PrefixMap<SharedRoute, Addr = u32> + Send + Sync + Drop>(
     rt: &(impl Threads + Abort + Sync),
     alloc: Global,
     files: &[Vec<u8>],
@@ -207,7 +215,7 @@ impl<'a> Row<'a> {
     }
 
     /// Replays the row by a plan with this map, and compares.
-    fn replay<M: PrefixMap<SharedRoute> + Send + Sync + Drop>(
+    fn replay<M: PrefixMap<SharedRoute, Addr = u32> + Send + Sync + Drop>(
         &self,
         rt: &(impl Threads + Abort + Sync),
         alloc: Global,
@@ -235,7 +243,7 @@ impl<'a> Row<'a> {
         }
         let selection = self.selection(alloc)?;
         let readers = readers.as_mut_slice();
-        let outcome = replay_selected::<Shelf<SharedRoute>, _>(
+        let outcome = replay_selected::<Shelf<u32, SharedRoute>, _>(
             rt, alloc, readers, request, selection, &PLAN,
         )?;
         self.expect(rt, &outcome);
@@ -281,9 +289,9 @@ impl<'a> Row<'a> {
                 batch,
                 ..PLAN
             };
-            let radix = self.replay::<Radix<SharedRoute>>(rt, alloc, request, &plan)?;
-            self.replay::<Flat<SharedRoute>>(rt, alloc, request, &plan)?;
-            self.replay::<Shelf<SharedRoute>>(rt, alloc, request, &plan)?;
+            let radix = self.replay::<Radix<u32, SharedRoute>>(rt, alloc, request, &plan)?;
+            self.replay::<Flat<u32, SharedRoute>>(rt, alloc, request, &plan)?;
+            self.replay::<Shelf<u32, SharedRoute>>(rt, alloc, request, &plan)?;
             if workers == 2 && ring == 4 {
                 self.expect_rounds(rt, &radix);
             }

@@ -191,7 +191,7 @@ fn each_of_many_peers_counts_once(rt: HostRuntime) -> Result<(), Fail> {
             (Request::Origins, ORIGINS),
             (Request::Seen, SEEN),
         ] {
-            let outcome = replay::<Shelf<SharedRoute>>(&rt, alloc, &files, &request, &plan)?;
+            let outcome = replay::<Shelf<u32, SharedRoute>>(&rt, alloc, &files, &request, &plan)?;
             assert!(rt;
                 outcome.text.as_slice() == text.as_bytes(),
                 "{workers} workers"

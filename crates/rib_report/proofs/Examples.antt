@@ -1,9 +1,9 @@
 -- Reports and their lines, by computation.
-use Rattle.std.proofs.Common.{◌≡◌, ℕ, ◌+◌, Option, true, false, List, [], ◌∷◌, ◌++◌, Some, None, refl}
+use Rattle.std.proofs.Common.{◌≡◌, ℕ, ◌+◌, ◌*◌, ◌^◌, Option, true, false, List, [], ◌∷◌, ◌++◌, Some, None, refl}
 use Rattle.std.specs.Prelude.{codes}
 use Rattle.std.specs.List.{flat_map}
 use Rattle.std.specs.Fmt.{digits}
-use Rattle.bgp_prefix.specs.declared.key.RouteKey.{RouteKey}
+use Rattle.bgp_prefix.specs.Keys.{RouteKey}
 use Rattle.mrt_frame.specs.declared.fault.Fault.{Fault}
 use Rattle.mrt_frame.specs.declared.fault.Fault.TheVariants.{ShortHeader, ShortBody, BodyTooLong, ShortRecord, TrailingBytes, BadFamily, NoPeerIndex, BadPeerIndex, BadPrefix, BadMarker, BadLength, BadUpdate, ShortAttribute, BadAttribute, BadPath}
 use Rattle.bgp_update.specs.declared.next_hop.NextHop.TheVariants as next_hop
@@ -16,11 +16,16 @@ use Rattle.mrt_body.specs.declared.unit.PeerKey.{PeerKey}
 use Rattle.mrt_body.specs.declared.unit.Damage.{Damage}
 use Rattle.adj_rib.specs.declared.churn.Churn.{Churn}
 use Rattle.peer_tables.specs.Tables.{Seat, TablesState}
+use Rattle.rib_report.specs.declared.forms.AddressForm.TheVariants.{Full, Short}
+use Rattle.rib_report.specs.declared.forms.AddressForms.{AddressForms}
 use Rattle.rib_report.specs.Reports.{route_rows, match_rows, visibility_rows, origin_rows, seen_rows, churn_rows, peer_rows, fault_rows, in_place_order}
 use Rattle.rib_report.specs.Lines.{route_line, visibility_line, origin_line, seen_line, churn_line, peer_line, fault_line}
 
 abbrev end : List ℕ
 end = 10 ∷ []
+
+abbrev full : AddressForms
+full = record { peers = Full; routes = Full }
 
 -- a route of 192.0.2.1 whose path is 65000 and another segment
 abbrev route_to : PathSegment → Route
@@ -30,7 +35,7 @@ abbrev to_sequence : ℕ → Route
 to_sequence asn = route_to (record { kind = AsSequence; numbers = asn ∷ [] })
 
 abbrev key_of : ℕ → ℕ → ℕ → RouteKey
-key_of addr len id = record { prefix = record { addr = addr; len = len }; id = id }
+key_of addr len id = record { prefix = record { addr = addr * 2 ^ 96; len = len }; id = id }
 
 abbrev seat_at : ℕ → ℕ → List (RouteKey × Route) → Seat
 seat_at number addr table = record {
@@ -68,7 +73,7 @@ seen : flat_map seen_line (seen_rows tables) ≡ codes "0.0.0.0/0|65001|1" ++ en
 unfolding digits
 seen = refl
 
-matched : flat_map route_line (match_rows tables 0x0a01ffff)
+matched : flat_map (route_line full) (match_rows tables (0x0a01ffff * 2 ^ 96))
     ≡ codes "65000 192.0.2.1|10.0.0.0/8|65000 65001|192.0.2.1|IGP|-|-|-|-" ++ end
     ++ codes "65000 192.0.2.1|10.0.0.0/8#7|65000 65002|192.0.2.1|IGP|-|-|-|-" ++ end
     ++ codes "65000 192.0.2.2|10.1.0.0/16|65000 {65003,65001}|192.0.2.1|IGP|-|-|-|-" ++ end
@@ -79,11 +84,11 @@ listed : flat_map fault_line (fault_rows tables) ≡ codes "1|56|2|14|BadAttribu
 unfolding digits
 listed = refl
 
-counted : flat_map churn_line (churn_rows tables) ≡ codes "65000 192.0.2.1|1|2|3|4|5|6|7|8|1.000000|2.000050" ++ end ++ codes "65000 192.0.2.2|1|2|3|4|5|6|7|8|1.000000|2.000050" ++ end
+counted : flat_map (churn_line full) (churn_rows tables) ≡ codes "65000 192.0.2.1|1|2|3|4|5|6|7|8|1.000000|2.000050" ++ end ++ codes "65000 192.0.2.2|1|2|3|4|5|6|7|8|1.000000|2.000050" ++ end
 unfolding digits
 counted = refl
 
-peers_listed : flat_map peer_line (peer_rows tables) ≡ codes "65000 192.0.2.1|up|3|36|1.000000|2.000050|1|12|3" ++ end ++ codes "65000 192.0.2.2|up|2|36|1.000000|2.000050|1|12|3" ++ end
+peers_listed : flat_map (peer_line full) (peer_rows tables) ≡ codes "65000 192.0.2.1|up|3|36|1.000000|2.000050|1|12|3" ++ end ++ codes "65000 192.0.2.2|up|2|36|1.000000|2.000050|1|12|3" ++ end
 unfolding digits
 peers_listed = refl
 
@@ -99,7 +104,7 @@ whole_route = record {
   aggregator = Some (record { asn = 65000; addr = 0xc0000201 });
 }
 
-whole : flat_map route_line (route_rows (record { seats = seat_at 0 0xc0000201 ((key_of 0x0a000000 8 4294967295, whole_route) ∷ []) ∷ []; refused = [] }))
+whole : flat_map (route_line full) (route_rows (record { seats = seat_at 0 0xc0000201 ((key_of 0x0a000000 8 4294967295, whole_route) ∷ []) ∷ []; refused = [] }))
     ≡ codes "65000 192.0.2.1|10.0.0.0/8#4294967295||2001:0db8:0000:0000:0000:0000:0000:0001 fe80:0000:0000:0000:0000:0000:0000:0002|INCOMPLETE|0|100|atomic|65000 192.0.2.1" ++ end
 unfolding digits
 whole = refl
@@ -116,11 +121,11 @@ abbrev bare_route : Route
 bare_route = record { origin = None; path = None; next_hop = None; med = None; local_pref = None; atomic = false; aggregator = None }
 
 -- an absent path is not an empty one
-absent_path : route_line (record { peer = peer; key = key_of 0 0 0; route = bare_route }) ≡ codes "65000 192.0.2.1|0.0.0.0/0|-|-|-|-|-|-|-" ++ end
+absent_path : route_line full (record { peer = peer; key = key_of 0 0 0; route = bare_route }) ≡ codes "65000 192.0.2.1|0.0.0.0/0|-|-|-|-|-|-|-" ++ end
 unfolding digits
 absent_path = refl
 
-empty_path : route_line (record { peer = peer; key = key_of 0x0a000000 8 1; route = record bare_route { path = Some []; next_hop = Some (next_hop.V6 0x20010db8000000000000000000000001) } })
+empty_path : route_line full (record { peer = peer; key = key_of 0x0a000000 8 1; route = record bare_route { path = Some []; next_hop = Some (next_hop.V6 0x20010db8000000000000000000000001) } })
     ≡ codes "65000 192.0.2.1|10.0.0.0/8#1||2001:0db8:0000:0000:0000:0000:0000:0001|-|-|-|-|-" ++ end
 unfolding digits
 empty_path = refl
@@ -138,21 +143,47 @@ greatest_route = record {
   aggregator = Some (record { asn = 0xffffffff; addr = 0xffffffff });
 }
 
-greatest_entry : route_line (record { peer = last_peer; key = key_of 0xffffffff 32 0xffffffff; route = greatest_route })
+greatest_entry : route_line full (record { peer = last_peer; key = key_of 0xffffffff 32 0xffffffff; route = greatest_route })
     ≡ codes "4294967295 ffff:ffff:ffff:ffff:ffff:ffff:ffff:ffff|255.255.255.255/32#4294967295|(64512 1) [3,2] 4294967295 0 10 {70001,70000}"
     ++ codes "|ffff:ffff:ffff:ffff:ffff:ffff:ffff:ffff fe80:0000:0000:0000:0000:0000:0000:0000|INCOMPLETE|4294967295|4294967295|atomic|4294967295 255.255.255.255" ++ end
 unfolding digits
 greatest_entry = refl
 
-greatest_visibility : visibility_line (record { prefix = record { addr = 0xffffffff; len = 32 }; peers = 0xffffffffffffffff }) ≡ codes "255.255.255.255/32|18446744073709551615" ++ end
+-- ---- short addresses, of peers and of next hops alike, and of one of them
+
+abbrev short : AddressForms
+short = record { peers = Short; routes = Short }
+
+abbrev routes_short : AddressForms
+routes_short = record { peers = Full; routes = Short }
+
+abbrev short_peer : PeerKey
+short_peer = record { asn = 65000; addr = V6 0x20010db8000000000001000000000001 }
+
+-- an IPv4 address is dotted in either form
+short_pair : route_line short (record { peer = short_peer; key = key_of 0x0a000000 8 0; route = whole_route })
+    ≡ codes "65000 2001:db8::1:0:0:1|10.0.0.0/8||2001:db8::1 fe80::2|INCOMPLETE|0|100|atomic|65000 192.0.2.1" ++ end
+unfolding digits
+short_pair = refl
+
+short_hop : route_line routes_short (record { peer = short_peer; key = key_of 0x0a000000 8 0; route = record bare_route { next_hop = Some (next_hop.V6 0x00000000000000000000ffffc0000201) } })
+    ≡ codes "65000 2001:0db8:0000:0000:0001:0000:0000:0001|10.0.0.0/8|-|::ffff:c000:201|-|-|-|-|-" ++ end
+unfolding digits
+short_hop = refl
+
+short_peer_line : peer_line short (record { peer = short_peer; is_established = true; routes = 0; units = 0; first = None; last = None; place = None }) ≡ codes "65000 2001:db8::1:0:0:1|up|0|0|-|-|-|-|-" ++ end
+unfolding digits
+short_peer_line = refl
+
+greatest_visibility : visibility_line (record { prefix = record { addr = 0xffffffff * 2 ^ 96; len = 32 }; peers = 0xffffffffffffffff }) ≡ codes "255.255.255.255/32|18446744073709551615" ++ end
 unfolding digits
 greatest_visibility = refl
 
-greatest_origins : origin_line (record { prefix = record { addr = 0xfffffffe; len = 31 }; origins = 0 ∷ 65000 ∷ 0xffffffff ∷ [] }) ≡ codes "255.255.255.254/31|0 65000 4294967295" ++ end
+greatest_origins : origin_line (record { prefix = record { addr = 0xfffffffe * 2 ^ 96; len = 31 }; origins = 0 ∷ 65000 ∷ 0xffffffff ∷ [] }) ≡ codes "255.255.255.254/31|0 65000 4294967295" ++ end
 unfolding digits
 greatest_origins = refl
 
-greatest_seen : seen_line (record { prefix = record { addr = 0xffffffff; len = 32 }; origin = Some 0xffffffff; peers = 0xffffffffffffffff }) ≡ codes "255.255.255.255/32|4294967295|18446744073709551615" ++ end
+greatest_seen : seen_line (record { prefix = record { addr = 0xffffffff * 2 ^ 96; len = 32 }; origin = Some 0xffffffff; peers = 0xffffffffffffffff }) ≡ codes "255.255.255.255/32|4294967295|18446744073709551615" ++ end
 unfolding digits
 greatest_seen = refl
 
@@ -160,21 +191,21 @@ abbrev churn_between : Option ℕ → Option ℕ → Churn
 churn_between first last = record { added = 0xffffffffffffffff; changed = 0; same = 0; gone = 0; void = 0; resets = 0; idle = 0; refused = 0xffffffffffffffff; first = first; last = last }
 
 -- second 1 and 4,294,967,295 microseconds; and the greatest time
-greatest_churn : churn_line (record { peer = last_peer; churn = churn_between (Some (1000000 + 0xffffffff)) (Some 0xffffffffffffffff) })
+greatest_churn : churn_line full (record { peer = last_peer; churn = churn_between (Some (1000000 + 0xffffffff)) (Some 0xffffffffffffffff) })
     ≡ codes "4294967295 ffff:ffff:ffff:ffff:ffff:ffff:ffff:ffff|18446744073709551615|0|0|0|0|0|0|18446744073709551615|4295.967295|18446744073709.551615" ++ end
 unfolding digits
 greatest_churn = refl
 
-without_times : churn_line (record { peer = peer; churn = churn_between None None }) ≡ codes "65000 192.0.2.1|18446744073709551615|0|0|0|0|0|0|18446744073709551615|-|-" ++ end
+without_times : churn_line full (record { peer = peer; churn = churn_between None None }) ≡ codes "65000 192.0.2.1|18446744073709551615|0|0|0|0|0|0|18446744073709551615|-|-" ++ end
 unfolding digits
 without_times = refl
 
-greatest_peer : peer_line (record { peer = last_peer; is_established = false; routes = 0xffffffffffffffff; units = 0xffffffffffffffff; first = Some 0; last = Some 0xffffffffffffffff; place = Some (record { file = 0xffffffffffffffff; offset = 0xffffffffffffffff; entry = Some 65535 }) })
+greatest_peer : peer_line full (record { peer = last_peer; is_established = false; routes = 0xffffffffffffffff; units = 0xffffffffffffffff; first = Some 0; last = Some 0xffffffffffffffff; place = Some (record { file = 0xffffffffffffffff; offset = 0xffffffffffffffff; entry = Some 65535 }) })
     ≡ codes "4294967295 ffff:ffff:ffff:ffff:ffff:ffff:ffff:ffff|down|18446744073709551615|18446744073709551615|0.000000|18446744073709.551615|18446744073709551616|18446744073709551615|65535" ++ end
 unfolding digits
 greatest_peer = refl
 
-peer_without_units : peer_line (record { peer = peer; is_established = true; routes = 0; units = 0; first = None; last = None; place = None }) ≡ codes "65000 192.0.2.1|up|0|0|-|-|-|-|-" ++ end
+peer_without_units : peer_line full (record { peer = peer; is_established = true; routes = 0; units = 0; first = None; last = None; place = None }) ≡ codes "65000 192.0.2.1|up|0|0|-|-|-|-|-" ++ end
 unfolding digits
 peer_without_units = refl
 

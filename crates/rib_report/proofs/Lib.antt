@@ -16,7 +16,12 @@ pub mod OriginLaws
 pub mod SeenLaws
 pub mod MatchLaws
 pub mod ShortNumbers
+pub mod HexLaws
+pub mod MaskLaws
+pub mod SpellingLaws
+pub mod WrittenLaws
 pub mod UnitReportLaws
 pub mod DefinedLaws
 pub mod Examples
+pub mod ExamplesOfAddresses
 pub mod ExamplesOfUnits

@@ -6,27 +6,28 @@ use Rattle.std.proofs.lemmas.List.{take_more}
 use Rattle.std.proofs.lemmas.List.Concat.{flat_map-append}
 use Rattle.std.proofs.lemmas.List.Recursion.{max_push, max_bounds}
 use Rattle.bgp_prefix.specs.Keys.{entries_now}
-use Rattle.bgp_prefix.specs.declared.key.RouteKey.{RouteKey}
+use Rattle.bgp_prefix.specs.Keys.{RouteKey}
 use Rattle.bgp_prefix.proofs.ListedLaws.{entries_now-map}
 use Rattle.bgp_update.specs.declared.route.Route.{Route}
 use Rattle.peer_tables.specs.declared.tables.Seated.{Seated}
 use Rattle.peer_tables.specs.Tables.{Seat}
 use Rattle.peer_tables.specs.Seats.{seat_of}
 use Rattle.peer_tables.proofs.RowLaws.{map_twice, flat_map_twice}
+use Rattle.rib_report.specs.declared.forms.AddressForms.{AddressForms}
 use Rattle.rib_report.specs.Reports.{entry_row, rows_of_seat}
 use Rattle.rib_report.specs.Lines.{route_line}
 use Rattle.rib_report.specs.Listings.{reached_row, reached_lines, seat_lines, most_entries}
 
 -- a list of all entries of a peer's table
-pub lines_of_seat : (seat : Seat) (entries : List (RouteKey × Bor Route)) → entries_now entries ≡ seat.session.table → reached_lines seat.key entries ≡ seat_lines seat
-lines_of_seat seat entries whole =
+pub lines_of_seat : (forms : AddressForms) (seat : Seat) (entries : List (RouteKey × Bor Route)) → entries_now entries ≡ seat.session.table → reached_lines (record { key = seat.key; forms = forms }) entries ≡ seat_lines forms seat
+lines_of_seat forms seat entries whole =
     let listed = map_twice (λ e. (e.0, e.1.now)) (entry_row seat.key) entries ∙ ap (map (entry_row seat.key)) (sym (entries_now-map entries) ∙ whole) in
-    flat_map_twice (reached_row seat.key) route_line entries ∙ ap (flat_map route_line) listed
+    flat_map_twice (reached_row seat.key) (route_line forms) entries ∙ ap (flat_map (route_line forms)) listed
 
 -- the rows of every table
-pub lines_of_seats : (seats : List Seat) → flat_map seat_lines seats ≡ flat_map route_line (flat_map rows_of_seat seats)
-lines_of_seats [] = refl
-lines_of_seats (seat ∷ seats) = ap (λ l. seat_lines seat ++ l) (lines_of_seats seats) ∙ sym (flat_map-append route_line (rows_of_seat seat) (flat_map rows_of_seat seats))
+pub lines_of_seats : (forms : AddressForms) (seats : List Seat) → flat_map (seat_lines forms) seats ≡ flat_map (route_line forms) (flat_map rows_of_seat seats)
+lines_of_seats forms [] = refl
+lines_of_seats forms (seat ∷ seats) = ap (λ l. seat_lines forms seat ++ l) (lines_of_seats forms seats) ∙ sym (flat_map-append (route_line forms) (rows_of_seat seat) (flat_map rows_of_seat seats))
 
 -- a loop's step: the greatest number of one table more
 pub most_more : {M : Type 0} (seats : List (Seated M)) (i : ℕ) (seat : Seated M) → i < length seats → seat ≡ get_or seats i seat

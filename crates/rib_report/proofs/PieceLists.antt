@@ -8,9 +8,9 @@ use Rattle.std.proofs.lemmas.List.Concat.{flat_map-append}
 use Rattle.std.specs.List.{between, flat_map, All}
 use Rattle.std.specs.Borrow.{Bor}
 use Rattle.std.specs.Io.KnownBytes.{Appends}
-use Rattle.bgp_prefix.specs.declared.key.RouteKey.{RouteKey}
+use Rattle.bgp_prefix.specs.Keys.{RouteKey}
 use Rattle.bgp_update.specs.declared.route.Route.{Route}
-use Rattle.mrt_body.specs.declared.unit.PeerKey.{PeerKey}
+use Rattle.rib_report.specs.declared.forms.ShownPeer.{ShownPeer}
 use Rattle.rib_report.specs.declared.reports.tables.piece.Piece.{Piece}
 use Rattle.rib_report.specs.Lines.{route_line}
 use Rattle.rib_report.specs.Texts.{TextState, Adds, empty_buffer}
@@ -20,10 +20,10 @@ use Rattle.rib_report.proofs.TextLaws.{Adds_trans, Adds_as, text_begun}
 use Rattle.rib_report.proofs.JoinLaws.{between_join}
 
 -- the lines of a range behind those of the one before
-pub Adds_next : {s t u : TextState} (peer : PeerKey) (entries : List (RouteKey × Bor Route)) (i j k : ℕ) → i ≤ j → j ≤ k
+pub Adds_next : {s t u : TextState} (peer : ShownPeer) (entries : List (RouteKey × Bor Route)) (i j k : ℕ) → i ≤ j → j ≤ k
     → Adds s t (lines_between peer i j entries) → Adds t u (lines_between peer j k entries) → Adds s u (lines_between peer i k entries)
 Adds_next peer entries i j k ij jk f g =
-    let line : RouteKey × Bor Route → List ℕ = λ e. route_line (reached_row peer e) in
+    let line : RouteKey × Bor Route → List ℕ = λ e. route_line peer.forms (reached_row peer.key e) in
     Adds_as (sym (flat_map-append line (between i j entries) (between j k entries)) ∙ ap (flat_map line) (between_join entries i j k ij jk)) (Adds_trans f g)
 
 -- what was added to an empty buffer, where nothing can be written, waits in it
@@ -42,7 +42,7 @@ take_between xs i j k le =
     take-take k (j - i) (drop i xs) (omega arith) ∙ ap (λ m. take m (drop i xs)) same
 
 -- the lines of the first so many entries of a block behind those before it
-pub Adds_some : {s t u : TextState} (peer : PeerKey) (entries : List (RouteKey × Bor Route)) (i j end k : ℕ) → i ≤ j → j + k ≤ end
+pub Adds_some : {s t u : TextState} (peer : ShownPeer) (entries : List (RouteKey × Bor Route)) (i j end k : ℕ) → i ≤ j → j + k ≤ end
     → Adds s t (lines_between peer i j entries) → Adds t u (reached_lines peer (take k (between j end entries))) → Adds s u (lines_between peer i (j + k) entries)
 Adds_some peer entries i j end k ij within f g = Adds_next peer entries i j (j + k) ij (omega arith) f (Adds_as (ap (reached_lines peer) (take_between entries j end k within)) g)
 

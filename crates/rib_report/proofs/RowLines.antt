@@ -2,6 +2,7 @@
 use Rattle.std.proofs.Common.{◌≡◌, List, ℕ, ◌∷◌, ◌++◌, Option, Some, None, sym, ap, ◌∙◌, [], append_assoc}
 use Rattle.std.specs.Prelude.{codes, decimal}
 use Rattle.bgp_update.specs.declared.route.Route.{Route}
+use Rattle.rib_report.specs.declared.forms.AddressForms.{AddressForms}
 use Rattle.rib_report.specs.Digits.{line, field}
 use Rattle.rib_report.specs.Lines.{path_text, next_hop_text, origin_text, atomic_text, aggregator_text}
 use Rattle.rib_report.specs.LineParts.{line_end}
@@ -33,14 +34,14 @@ behind_five a b c d k rest t =
     ∙ sym (fronted a b c d (k ++ 124 ∷ rest) t)
 
 -- what a line has behind the key of what happened
-abbrev pub behind_key : Option Route → List ℕ
-behind_key None = codes "|-|-|-|-|-|-|-\n"
-behind_key (Some route) = (124 ∷ field path_text route.path) ++ line_end route
+abbrev pub behind_key : AddressForms → Option Route → List ℕ
+behind_key forms None = codes "|-|-|-|-|-|-|-\n"
+behind_key forms (Some route) = (124 ∷ field path_text route.path) ++ line_end forms route
 
-pub history_in_parts : (a b c d k : List ℕ) (o : Option Route) → (a ++ 124 ∷ (b ++ 124 ∷ (c ++ 124 ∷ (d ++ 124 ∷ k)))) ++ behind_key o ≡ line (a ∷ b ∷ c ∷ d ∷ k ∷ route_fields o)
-history_in_parts a b c d k None = behind_five a b c d k (codes "-|-|-|-|-|-|-") (10 ∷ [])
-history_in_parts a b c d k (Some route) =
+pub history_in_parts : (forms : AddressForms) (a b c d k : List ℕ) (o : Option Route) → (a ++ 124 ∷ (b ++ 124 ∷ (c ++ 124 ∷ (d ++ 124 ∷ k)))) ++ behind_key forms o ≡ line (a ∷ b ∷ c ∷ d ∷ k ∷ route_fields forms o)
+history_in_parts forms a b c d k None = behind_five a b c d k (codes "-|-|-|-|-|-|-") (10 ∷ [])
+history_in_parts forms a b c d k (Some route) =
     let path = field path_text route.path in
-    let rest = field next_hop_text route.next_hop ++ 124 ∷ (field origin_text route.origin ++ 124 ∷ (field decimal route.med ++ 124 ∷ (field decimal route.local_pref ++ 124 ∷ (atomic_text route.atomic ++ 124 ∷ field aggregator_text route.aggregator)))) in
+    let rest = field (next_hop_text forms) route.next_hop ++ 124 ∷ (field origin_text route.origin ++ 124 ∷ (field decimal route.med ++ 124 ∷ (field decimal route.local_pref ++ 124 ∷ (atomic_text route.atomic ++ 124 ∷ field aggregator_text route.aggregator)))) in
     ap (λ l. (a ++ 124 ∷ (b ++ 124 ∷ (c ++ 124 ∷ (d ++ 124 ∷ k)))) ++ 124 ∷ l) (sym (append_assoc path (124 ∷ rest) (10 ∷ [])))
     ∙ behind_five a b c d k (path ++ 124 ∷ rest) (10 ∷ [])

@@ -10,7 +10,7 @@ use Rattle.std.proofs.lemmas.Cmp.{tied_itself}
 use Rattle.bgp_prefix.specs.Prefixes.{IpPrefix, prefix_cmp, prefix_eq}
 use Rattle.bgp_prefix.specs.Keys.{key_cmp}
 use Rattle.bgp_prefix.specs.Ordered.{in_order}
-use Rattle.bgp_prefix.specs.declared.key.RouteKey.{RouteKey}
+use Rattle.bgp_prefix.specs.Keys.{RouteKey}
 use Rattle.bgp_prefix.proofs.KeyLaws.{prefix_cmp_total, prefix_cmp_exact, prefix_tied, same_prefix}
 use Rattle.bgp_update.specs.declared.route.Route.{Route}
 use Rattle.peer_tables.specs.Tables.{Seat, TablesState}

@@ -6,6 +6,7 @@ use Rattle.adj_rib.specs.declared.note.What.TheVariants.{New, Changed, Same, Gon
 use Rattle.peer_tables.specs.declared.history.By.{By}
 use Rattle.peer_tables.specs.declared.history.By.TheVariants.{Rib, Update, State}
 use Rattle.peer_tables.specs.Histories.{RowState}
+use Rattle.rib_report.specs.declared.forms.AddressForms.{AddressForms}
 use Rattle.rib_report.specs.Digits.{line, field, time_text}
 use Rattle.rib_report.specs.Lines.{peer_text, key_text, path_text, next_hop_text, origin_text, atomic_text, aggregator_text}
 
@@ -23,13 +24,13 @@ by_text Update = codes "update"
 by_text State = codes "state"
 
 -- path, next hop, origin, MED, LOCAL_PREF, atomic, aggregator; `-` in each where there is no route
-abbrev pub route_fields : Option Route → List (List ℕ)
-route_fields None = codes "-" ∷ codes "-" ∷ codes "-" ∷ codes "-" ∷ codes "-" ∷ codes "-" ∷ codes "-" ∷ []
-route_fields (Some route) = field path_text route.path ∷ field next_hop_text route.next_hop
+abbrev pub route_fields : AddressForms → Option Route → List (List ℕ)
+route_fields forms None = codes "-" ∷ codes "-" ∷ codes "-" ∷ codes "-" ∷ codes "-" ∷ codes "-" ∷ codes "-" ∷ []
+route_fields forms (Some route) = field path_text route.path ∷ field (next_hop_text forms) route.next_hop
     ∷ field origin_text route.origin ∷ field decimal route.med ∷ field decimal route.local_pref
     ∷ atomic_text route.atomic ∷ field aggregator_text route.aggregator ∷ []
 
 -- time, peer, what happened, what brought it about, key, and the fields of its route
-abbrev pub history_line : RowState → List ℕ
-history_line row = line (time_text row.time ∷ peer_text row.peer ∷ what_text row.note.what ∷ by_text row.by
-    ∷ key_text row.note.key ∷ route_fields row.note.route)
+abbrev pub history_line : AddressForms → RowState → List ℕ
+history_line forms row = line (time_text row.time ∷ peer_text forms row.peer ∷ what_text row.note.what ∷ by_text row.by
+    ∷ key_text row.note.key ∷ route_fields forms row.note.route)

@@ -1,5 +1,9 @@
 pub mod Texts
 pub mod Digits
+pub mod Ipv6Texts
+pub mod ZeroRuns
+pub mod HexTexts
+pub mod Spellings
 pub mod Runs
 pub mod Merges
 pub mod Rows

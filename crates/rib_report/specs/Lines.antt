@@ -1,9 +1,10 @@
 -- The lines of the reports.
-use Rattle.std.specs.Prelude.{ℕ, zero, suc, ◌+◌, Bool, List, [], ◌∷◌, ◌++◌, map, Option, option_and_then, option_map, codes, decimal, if◌then◌else◌}
+use Rattle.std.specs.Prelude.{ℕ, zero, suc, ◌+◌, ◌/◌, ◌^◌, Bool, List, [], ◌∷◌, ◌++◌, map, Option, option_and_then, option_map, codes, decimal, if◌then◌else◌}
 use Rattle.std.specs.List.{join_with_byte}
-use Rattle.rib_report.specs.Digits.{line, field, time_text, ipv4_text, ipv6_text, numbers_text}
+use Rattle.rib_report.specs.Digits.{line, field, time_text, ipv4_text, numbers_text}
+use Rattle.rib_report.specs.Ipv6Texts.{ipv6_text}
 use Rattle.bgp_prefix.specs.Prefixes.{IpPrefix}
-use Rattle.bgp_prefix.specs.declared.key.RouteKey.{RouteKey}
+use Rattle.bgp_prefix.specs.Keys.{RouteKey}
 use Rattle.mrt_frame.specs.Faults.{fault_number, fault_name}
 use Rattle.bgp_update.specs.declared.path.SegmentKind.{SegmentKind}
 use Rattle.bgp_update.specs.declared.path.SegmentKind.TheVariants.{AsSet, AsSequence, ConfedSequence, ConfedSet}
@@ -18,6 +19,8 @@ use Rattle.mrt_body.specs.declared.unit.PeerAddr.TheVariants.{V4, V6}
 use Rattle.mrt_body.specs.declared.unit.PeerKey.{PeerKey}
 use Rattle.mrt_body.specs.declared.unit.Place.{Place}
 use Rattle.mrt_body.specs.declared.unit.Damage.{Damage}
+use Rattle.rib_report.specs.declared.forms.AddressForm.{AddressForm}
+use Rattle.rib_report.specs.declared.forms.AddressForms.{AddressForms}
 use Rattle.rib_report.specs.Rows.{TableRow}
 use Rattle.rib_report.specs.declared.reports.visibility.VisibilityRow.{VisibilityRow}
 use Rattle.rib_report.specs.declared.reports.origins.OriginRow.{OriginRow}
@@ -27,16 +30,17 @@ use Rattle.rib_report.specs.declared.reports.peers.PeerRow.{PeerRow}
 
 -- ---- peers and routes
 
-abbrev pub addr_text : PeerAddr → List ℕ
-addr_text (V4 addr) = ipv4_text addr
-addr_text (V6 addr) = ipv6_text addr
+abbrev pub addr_text : AddressForm → PeerAddr → List ℕ
+addr_text form (V4 addr) = ipv4_text addr
+addr_text form (V6 addr) = ipv6_text form addr
 
 -- an AS and an address
-abbrev pub peer_text : PeerKey → List ℕ
-peer_text peer = decimal peer.asn ++ 32 ∷ addr_text peer.addr
+abbrev pub peer_text : AddressForms → PeerKey → List ℕ
+peer_text forms peer = decimal peer.asn ++ 32 ∷ addr_text forms.peers peer.addr
 
+-- the first 32 of the 128 bits
 abbrev pub prefix_text : IpPrefix → List ℕ
-prefix_text p = ipv4_text p.addr ++ 47 ∷ decimal p.len
+prefix_text p = ipv4_text (p.addr / 2 ^ 96) ++ 47 ∷ decimal p.len
 
 -- nothing for identifier 0, which stands for none (RFC 7911, 3)
 abbrev pub identifier_text : ℕ → List ℕ
@@ -57,10 +61,11 @@ abbrev pub path_text : List PathSegment → List ℕ
 path_text path = join_with_byte 32 (map (λ s. kind_text s.kind s.numbers) path)
 
 -- one address, or a global and a link-local one (RFC 2545, 3; RFC 8950, 3)
-abbrev pub next_hop_text : NextHop → List ℕ
-next_hop_text (next_hop.V4 addr) = ipv4_text addr
-next_hop_text (next_hop.V6 addr) = ipv6_text addr
-next_hop_text (next_hop.V6Pair global local) = ipv6_text global ++ 32 ∷ ipv6_text local
+abbrev pub next_hop_text : AddressForms → NextHop → List ℕ
+next_hop_text forms (next_hop.V4 addr) = ipv4_text addr
+next_hop_text forms (next_hop.V6 addr) = ipv6_text forms.routes addr
+next_hop_text forms (next_hop.V6Pair global local) =
+    ipv6_text forms.routes global ++ 32 ∷ ipv6_text forms.routes local
 
 abbrev pub origin_text : Origin → List ℕ
 origin_text Igp = codes "IGP"
@@ -74,9 +79,9 @@ abbrev pub atomic_text : Bool → List ℕ
 atomic_text atomic = if atomic then codes "atomic" else codes "-"
 
 -- peer, key, path, next hop, origin, MED, LOCAL_PREF, atomic, aggregator
-abbrev pub route_line : TableRow → List ℕ
-route_line row = line (peer_text row.peer ∷ key_text row.key
-    ∷ field path_text row.route.path ∷ field next_hop_text row.route.next_hop ∷ field origin_text row.route.origin
+abbrev pub route_line : AddressForms → TableRow → List ℕ
+route_line forms row = line (peer_text forms row.peer ∷ key_text row.key
+    ∷ field path_text row.route.path ∷ field (next_hop_text forms) row.route.next_hop ∷ field origin_text row.route.origin
     ∷ field decimal row.route.med ∷ field decimal row.route.local_pref
     ∷ atomic_text row.route.atomic ∷ field aggregator_text row.route.aggregator ∷ [])
 
@@ -90,8 +95,8 @@ abbrev pub seen_line : SeenRow → List ℕ
 seen_line row = line (prefix_text row.prefix ∷ field decimal row.origin ∷ decimal row.peers ∷ [])
 
 -- peer, new, changed, same, gone, void, resets, idle, refused, first and last time
-abbrev pub churn_line : ChurnRow → List ℕ
-churn_line row = line (peer_text row.peer
+abbrev pub churn_line : AddressForms → ChurnRow → List ℕ
+churn_line forms row = line (peer_text forms row.peer
     ∷ decimal row.churn.added ∷ decimal row.churn.changed ∷ decimal row.churn.same ∷ decimal row.churn.gone
     ∷ decimal row.churn.void ∷ decimal row.churn.resets ∷ decimal row.churn.idle ∷ decimal row.churn.refused
     ∷ field time_text row.churn.first ∷ field time_text row.churn.last ∷ [])
@@ -111,8 +116,8 @@ abbrev pub entry_of : Option Place → Option ℕ
 entry_of place = option_and_then (λ p. p.entry) place
 
 -- peer, up or down, routes, units, first and last time, and the place of the first unit
-abbrev pub peer_line : PeerRow → List ℕ
-peer_line row = line (peer_text row.peer ∷ state_text row.is_established ∷ decimal row.routes ∷ decimal row.units
+abbrev pub peer_line : AddressForms → PeerRow → List ℕ
+peer_line forms row = line (peer_text forms row.peer ∷ state_text row.is_established ∷ decimal row.routes ∷ decimal row.units
     ∷ field time_text row.first ∷ field time_text row.last
     ∷ field decimal (file_of row.place) ∷ field decimal (offset_of row.place) ∷ field decimal (entry_of row.place) ∷ [])
 

@@ -2,9 +2,11 @@
 use Rattle.std.specs.Prelude.{ℕ, List, [], ◌∷◌, length, max}
 use Rattle.std.specs.List.{flat_map}
 use Rattle.std.specs.Borrow.{Bor}
-use Rattle.bgp_prefix.specs.declared.key.RouteKey.{RouteKey}
+use Rattle.bgp_prefix.specs.Keys.{RouteKey}
 use Rattle.bgp_update.specs.declared.route.Route.{Route}
 use Rattle.mrt_body.specs.declared.unit.PeerKey.{PeerKey}
+use Rattle.rib_report.specs.declared.forms.AddressForms.{AddressForms}
+use Rattle.rib_report.specs.declared.forms.ShownPeer.{ShownPeer}
 use Rattle.peer_tables.specs.Tables.{Seat}
 use Rattle.rib_report.specs.Rows.{TableRow}
 use Rattle.rib_report.specs.Reports.{entry_row, rows_of_seat}
@@ -15,12 +17,12 @@ abbrev pub reached_row : PeerKey → RouteKey × Bor Route → TableRow
 reached_row peer e = entry_row peer (e.0, e.1.now)
 
 -- the lines of entries of one peer
-abbrev pub reached_lines : PeerKey → List (RouteKey × Bor Route) → List ℕ
-reached_lines peer entries = flat_map (λ e. route_line (reached_row peer e)) entries
+abbrev pub reached_lines : ShownPeer → List (RouteKey × Bor Route) → List ℕ
+reached_lines peer entries = flat_map (λ e. route_line peer.forms (reached_row peer.key e)) entries
 
 -- the lines of a peer's table
-abbrev pub seat_lines : Seat → List ℕ
-seat_lines seat = flat_map route_line (rows_of_seat seat)
+abbrev pub seat_lines : AddressForms → Seat → List ℕ
+seat_lines forms seat = flat_map (route_line forms) (rows_of_seat seat)
 
 -- the greatest number of entries in the table of any of these peers
 abbrev pub most_entries : List Seat → ℕ

@@ -1,7 +1,7 @@
 -- The rows of the reports, as definitions see them.
 use Rattle.std.specs.Prelude.{ℕ, List, Option}
 use Rattle.bgp_prefix.specs.Prefixes.{IpPrefix}
-use Rattle.bgp_prefix.specs.declared.key.RouteKey.{RouteKey}
+use Rattle.bgp_prefix.specs.Keys.{RouteKey}
 use Rattle.bgp_update.specs.declared.route.Route.{Route}
 use Rattle.mrt_body.specs.declared.unit.PeerKey.{PeerKey}
 use Rattle.rib_report.specs.declared.reports.tables.TableRow.{TableRow as BorrowingRow}

@@ -3,7 +3,7 @@ use Rattle.std.specs.Prelude.{◌≡◌, ℕ, Bool, List, ◌++◌, length, map,
 use Rattle.std.specs.List.{flat_map, filter, filter_map, count_by, list_any}
 use Rattle.bgp_prefix.specs.Prefixes.{IpPrefix, prefix_cmp, prefix_eq}
 use Rattle.bgp_prefix.specs.Ordered.{in_order}
-use Rattle.bgp_prefix.specs.declared.key.RouteKey.{RouteKey}
+use Rattle.bgp_prefix.specs.Keys.{RouteKey}
 use Rattle.bgp_update.specs.declared.route.Route.{Route}
 use Rattle.mrt_body.specs.declared.unit.Damage.{Damage}
 use Rattle.mrt_body.specs.declared.unit.PeerKey.{PeerKey}
@@ -14,6 +14,7 @@ use Rattle.adj_rib.specs.Arrived.{recorded_places}
 use Rattle.adj_rib.specs.Churns.{churn_of, damaged_of, stopped, first_of}
 use Rattle.peer_tables.specs.Peers.{peers_of, units_of_peer}
 use Rattle.peer_tables.specs.Tables.{TablesState}
+use Rattle.rib_report.specs.declared.forms.AddressForms.{AddressForms}
 use Rattle.rib_report.specs.Rows.{TableRow}
 use Rattle.rib_report.specs.declared.reports.visibility.VisibilityRow.{VisibilityRow}
 use Rattle.rib_report.specs.declared.reports.origins.OriginRow.{OriginRow}
@@ -105,13 +106,17 @@ pub record HasReportsOf (units : List ReplayUnit) (refused : List Damage) (table
   pub peers : peer_rows tables ≡ unit_peers units
   pub faults : fault_rows tables ≡ unit_faults units refused
 
--- The text of each report is the same.
+-- The text of each report is the same, whatever the forms of addresses.
 pub record HaveSameTexts (one other : TablesState) : Type 0 where
-  pub routes : flat_map route_line (route_rows one) ≡ flat_map route_line (route_rows other)
-  pub matches : (addr : ℕ) → flat_map route_line (match_rows one addr) ≡ flat_map route_line (match_rows other addr)
+  pub routes : (forms : AddressForms) →
+      flat_map (route_line forms) (route_rows one) ≡ flat_map (route_line forms) (route_rows other)
+  pub matches : (forms : AddressForms) (addr : ℕ) →
+      flat_map (route_line forms) (match_rows one addr) ≡ flat_map (route_line forms) (match_rows other addr)
   pub visibility : flat_map visibility_line (visibility_rows one) ≡ flat_map visibility_line (visibility_rows other)
   pub origins : flat_map origin_line (origin_rows one) ≡ flat_map origin_line (origin_rows other)
   pub seen : flat_map seen_line (seen_rows one) ≡ flat_map seen_line (seen_rows other)
-  pub churn : flat_map churn_line (churn_rows one) ≡ flat_map churn_line (churn_rows other)
-  pub peers : flat_map peer_line (peer_rows one) ≡ flat_map peer_line (peer_rows other)
+  pub churn : (forms : AddressForms) →
+      flat_map (churn_line forms) (churn_rows one) ≡ flat_map (churn_line forms) (churn_rows other)
+  pub peers : (forms : AddressForms) →
+      flat_map (peer_line forms) (peer_rows one) ≡ flat_map (peer_line forms) (peer_rows other)
   pub faults : flat_map fault_line (fault_rows one) ≡ flat_map fault_line (fault_rows other)

@@ -7,12 +7,12 @@ ghost use Rattle.rib_report.specs.LineParts.{line_beginning, line_end};
 ghost use Rattle.rib_report.specs.Texts.{BufferState, empty_buffer, text_state, IsText, IsWritten, IsCutOff, Writes};
 
 use crate::field::{Byte, Field, PeerText};
+use crate::forms::{AddressForms, ShownPeer};
 use crate::numbers::format_numbers;
 use crate::route_line::{BEGINNING_BYTES, END_BYTES, format_beginning, format_end};
 use crate::short::ShortTexts;
 use bgp_prefix::RouteKey;
 use bgp_update::{PackedRoute, PackedSegment};
-use mrt_body::PeerKey;
 use mrt_frame::{Failed, Sink, write_full};
 use std::marker::Model;
 
@@ -127,7 +127,6 @@ impl TextBuffer {
     }
 
     /// Adds the text of a field.
-    #[tactic(auto, using(crate::proofs::TextLaws::Adds_formatted))]
     pub(crate) fn put<W: Sink, F: Field>(&mut self, out: &mut W, field: F)
         requires { F.longest < 65536 }
         ensures { Writes W.contents W.failure_count out.old self.old out.new self.new (F.text_of field) }
@@ -137,7 +136,7 @@ impl TextBuffer {
     }
 
     /// Makes a peer's text, which `put_beginning` then adds to many lines.
-    pub(crate) fn peer_text(&self, peer: PeerKey) -> PeerText
+    pub(crate) fn peer_text(&self, peer: ShownPeer) -> PeerText
         ensures { result ≡ peer }
     {
         PeerText::new(peer, &self.shorts)
@@ -154,11 +153,11 @@ impl TextBuffer {
 
     /// Adds what a line has after the path of its route.
     #[inline(always)]
-    pub(crate) fn put_end<W: Sink>(&mut self, out: &mut W, route: &PackedRoute)
-        ensures { Writes W.contents W.failure_count out.old self.old out.new self.new (line_end route.now) }
+    pub(crate) fn put_end<W: Sink>(&mut self, out: &mut W, forms: AddressForms, route: &PackedRoute)
+        ensures { Writes W.contents W.failure_count out.old self.old out.new self.new (line_end forms route.now) }
     {
         self.make_room(out, END_BYTES);
-        self.len = format_end(&mut self.bytes, self.len, &self.shorts, route);
+        self.len = format_end(&mut self.bytes, self.len, &self.shorts, forms, route);
     }
 
     /// Adds a few numbers of a segment, from one to before another: the first behind one byte, and the others each

@@ -2,18 +2,21 @@
 
 ghost use Rattle.std.specs.Prelude.{◌≡◌, ℕ, ◌+◌, ◌-◌, ◌^◌, ◌<◌, ◌≤◌, ◌++◌, [], ◌∷◌, List, decimal, length, min};
 ghost use Rattle.rib_report.specs.Texts.{Formats};
-ghost use Rattle.rib_report.specs.Digits.{field, time_text, ipv6_text};
+ghost use Rattle.rib_report.specs.Digits.{field, time_text};
+ghost use Rattle.rib_report.specs.Ipv6Texts.{ipv6_text};
 ghost use Rattle.rib_report.specs.Lines.{addr_text, peer_text, prefix_text, identifier_text, key_text, next_hop_text, origin_text, aggregator_text, atomic_text, state_text};
 
 use crate::format::{
-    format_byte, format_front, format_ipv4, format_ipv6, format_number, format_short, format_six,
-    format_text, format_three,
+    format_byte, format_front, format_ipv4, format_number, format_short, format_six, format_text,
+    format_three,
 };
+use crate::forms::{AddressForm, AddressForms, ShownPeer};
+use crate::ipv6::format_ipv6;
 use crate::short::ShortTexts;
 use bgp_prefix::{Prefix, RouteKey};
 use bgp_update::{Aggregator, NextHop, Origin};
 use itoa::Buffer;
-use mrt_body::{PeerAddr, PeerKey};
+use mrt_body::PeerAddr;
 use std::marker::Model;
 
 /// A value with a text of limited length: a field of a line, several of them, or a part of one.
@@ -216,26 +219,26 @@ pub(crate) fn entry_field(entry: Option<u16>) -> Option<u32>
 
 // ---- peers and keys
 
-impl Field for PeerAddr {
-    ghost text_of = { addr_text };
-
-    ghost longest = { 39 };
-
-    fn longest() -> usize {
-        39
-    }
-
-    #[inline(always)]
-    fn format(self, bytes: &mut [u8], at: usize, shorts: &ShortTexts) -> usize {
-        match self {
-            PeerAddr::V4(addr) => format_ipv4(bytes, at, shorts, addr),
-            PeerAddr::V6(addr) => format_ipv6(bytes, at, addr),
-        }
+/// Writes an address of a peer.
+#[inline(always)]
+fn format_addr(
+    bytes: &mut [u8],
+    at: usize,
+    shorts: &ShortTexts,
+    form: AddressForm,
+    addr: PeerAddr,
+) -> usize
+    requires { at + 39 < length bytes.old }
+    ensures { Formats bytes.old at bytes.new result 39 (addr_text form addr) }
+{
+    match addr {
+        PeerAddr::V4(addr) => format_ipv4(bytes, at, shorts, addr),
+        PeerAddr::V6(addr) => format_ipv6(bytes, at, shorts, form, addr),
     }
 }
 
-impl Field for PeerKey {
-    ghost text_of = { peer_text };
+impl Field for ShownPeer {
+    ghost text_of = { λ p. peer_text p.forms p.key };
 
     ghost longest = { 52 };
 
@@ -246,9 +249,9 @@ impl Field for PeerKey {
     #[inline(never)]
     #[tactic(auto, using(crate::proofs::TextLaws::Formats_trans))]
     fn format(self, bytes: &mut [u8], at: usize, shorts: &ShortTexts) -> usize {
-        let at = format_number(bytes, at, shorts, self.asn);
+        let at = format_number(bytes, at, shorts, self.key.asn);
         let at = format_byte(bytes, at, b' ');
-        self.addr.format(bytes, at, shorts)
+        format_addr(bytes, at, shorts, self.forms.peers, self.key.addr)
     }
 }
 
@@ -277,45 +280,54 @@ impl Field for SessionUp {
 /// The most bytes of a peer's text and a bar, and one more.
 pub(crate) const PEER_BYTES: usize = 54;
 
-/// A peer's text with a bar behind it, made once for the lines of many of its routes. Contracts see it as the peer.
+/// A peer's text with a bar behind it, made once for the lines of many of its routes. Contracts see it as the peer with
+/// the forms of addresses.
 #[derive(Drop)]
 pub(crate) struct PeerText {
-    key: PeerKey,
+    peer: ShownPeer,
     bytes: [u8; PEER_BYTES],
     len: usize,
 }
 
 impl Model for PeerText {
     ghost use Rattle.std.specs.Prelude.{◌≡◌, ◌≤◌, ◌++◌, ◌∷◌, [], take};
-    ghost use Rattle.mrt_body.specs.declared.unit.PeerKey.{PeerKey as Peer};
+    ghost use Rattle.rib_report.specs.declared.forms.ShownPeer.{ShownPeer as Peer};
     ghost use Rattle.rib_report.specs.Lines.{peer_text};
 
     ghost Value = { Peer };
 
-    ghost view = { λ p. p.key };
+    ghost view = { λ p. p.peer };
 
     ghost invariant = { λ p. record {
       len : p.len ≤ 54;
-      text : take p.len p.bytes ≡ peer_text p.key ++ 124 ∷ [];
+      text : take p.len p.bytes ≡ peer_text p.peer.forms p.peer.key ++ 124 ∷ [];
     } };
 }
 
 impl PeerText {
     #[tactic(auto, using(crate::proofs::TextLaws::Formats_trans))]
-    pub(crate) fn new(key: PeerKey, shorts: &ShortTexts) -> PeerText
-        ensures { result ≡ key }
+    pub(crate) fn new(peer: ShownPeer, shorts: &ShortTexts) -> PeerText
+        ensures { result ≡ peer }
     {
         let mut bytes = [0; PEER_BYTES];
-        let at = key.format(&mut bytes, 0, shorts);
+        let at = peer.format(&mut bytes, 0, shorts);
         let len = format_byte(&mut bytes, at, b'|');
-        PeerText { key, bytes, len }
+        PeerText { peer, bytes, len }
+    }
+
+    /// The forms of addresses in its lines.
+    #[inline(always)]
+    pub(crate) fn forms(&self) -> AddressForms
+        ensures { result ≡ self.now.forms }
+    {
+        self.peer.forms
     }
 
     /// Writes the text and the bar.
     #[inline(always)]
     pub(crate) fn format(&self, bytes: &mut [u8], at: usize) -> usize
         requires { at + 54 ≤ length bytes.old }
-        ensures { Formats bytes.old at bytes.new result 54 (peer_text self.now ++ 124 ∷ []) }
+        ensures { Formats bytes.old at bytes.new result 54 (peer_text self.now.forms self.now.key ++ 124 ∷ []) }
     {
         // A copy is known not to overlap with `bytes`, so nothing tests whether it does.
         let block = self.bytes;
@@ -376,31 +388,41 @@ impl Field for RouteKey {
 /// Writes two addresses, separated by a space.
 #[inline(never)]
 #[tactic(auto, using(crate::proofs::TextLaws::Formats_trans))]
-fn format_ipv6_pair(bytes: &mut [u8], at: usize, global: u128, local: u128) -> usize
+fn format_ipv6_pair(
+    bytes: &mut [u8],
+    at: usize,
+    shorts: &ShortTexts,
+    form: AddressForm,
+    global: u128,
+    local: u128,
+) -> usize
     requires { at + 79 < length bytes.old }
-    ensures { Formats bytes.old at bytes.new result 79 (ipv6_text global ++ 32 ∷ ipv6_text local) }
+    ensures { Formats bytes.old at bytes.new result 79 (ipv6_text form global ++ 32 ∷ ipv6_text form local) }
 {
-    let at = format_ipv6(bytes, at, global);
+    let at = format_ipv6(bytes, at, shorts, form, global);
     let at = format_byte(bytes, at, b' ');
-    format_ipv6(bytes, at, local)
+    format_ipv6(bytes, at, shorts, form, local)
 }
 
-impl Field for NextHop {
-    ghost text_of = { next_hop_text };
-
-    ghost longest = { 79 };
-
-    fn longest() -> usize {
-        79
-    }
-
-    #[inline(always)]
-    fn format(self, bytes: &mut [u8], at: usize, shorts: &ShortTexts) -> usize {
-        match self {
-            NextHop::V4(addr) => format_ipv4(bytes, at, shorts, addr),
-            NextHop::V6(addr) => format_ipv6(bytes, at, addr),
-            NextHop::V6Pair(global, local) => format_ipv6_pair(bytes, at, global, local),
+/// Writes a next hop, or `-`.
+#[inline(always)]
+pub(crate) fn format_next_hop(
+    bytes: &mut [u8],
+    at: usize,
+    shorts: &ShortTexts,
+    forms: AddressForms,
+    hop: Option<NextHop>,
+) -> usize
+    requires { at + 80 < length bytes.old }
+    ensures { Formats bytes.old at bytes.new result 80 (field (next_hop_text forms) hop) }
+{
+    match hop {
+        Some(NextHop::V4(addr)) => format_ipv4(bytes, at, shorts, addr),
+        Some(NextHop::V6(addr)) => format_ipv6(bytes, at, shorts, forms.routes, addr),
+        Some(NextHop::V6Pair(global, local)) => {
+            format_ipv6_pair(bytes, at, shorts, forms.routes, global, local)
         }
+        None => format_byte(bytes, at, b'-'),
     }
 }
 

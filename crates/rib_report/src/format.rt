@@ -3,7 +3,7 @@
 
 ghost use Rattle.std.specs.Prelude.{◌≡◌, ◌+◌, ◌<◌, ◌≤◌, [], ◌∷◌, decimal, length, take};
 ghost use Rattle.rib_report.specs.Texts.{Formats};
-ghost use Rattle.rib_report.specs.Digits.{hexadecimal_glyph, decimal_glyph, digits_in, ipv4_text, ipv6_text};
+ghost use Rattle.rib_report.specs.Digits.{decimal_glyph, digits_in, ipv4_text};
 
 use crate::short::ShortTexts;
 
@@ -109,52 +109,4 @@ pub(crate) fn format_ipv4(bytes: &mut [u8], at: usize, shorts: &ShortTexts, addr
     let third = format_short(bytes, second, shorts, addr / 256 % 256);
     let third = format_byte(bytes, third, b'.');
     format_short(bytes, third, shorts, addr % 256)
-}
-
-fn hexadecimal_digit(digit: u16) -> u8
-    requires { digit < 16 }
-    ensures { result ≡ hexadecimal_glyph digit }
-{
-    if digit < 10 {
-        b'0' + digit as u8
-    } else {
-        b'a' + (digit - 10) as u8
-    }
-}
-
-/// Writes four hexadecimal digits.
-fn format_group(bytes: &mut [u8], at: usize, group: u16) -> usize
-    requires { at + 4 ≤ length bytes.old }
-    ensures { Formats bytes.old at bytes.new result 4 (digits_in hexadecimal_glyph 16 4 group) }
-{
-    let digits = [
-        hexadecimal_digit(group / 4_096 % 16),
-        hexadecimal_digit(group / 256 % 16),
-        hexadecimal_digit(group / 16 % 16),
-        hexadecimal_digit(group % 16),
-    ];
-    format_text(bytes, at, &digits)
-}
-
-/// Writes an address as eight groups of four digits.
-#[inline(never)]
-pub(crate) fn format_ipv6(bytes: &mut [u8], at: usize, addr: u128) -> usize
-    requires { at + 39 ≤ length bytes.old }
-    ensures { Formats bytes.old at bytes.new result 39 (ipv6_text addr) }
-{
-    let at = format_group(bytes, at, ((addr >> 112) % 65_536) as u16);
-    let at = format_byte(bytes, at, b':');
-    let at = format_group(bytes, at, ((addr >> 96) % 65_536) as u16);
-    let at = format_byte(bytes, at, b':');
-    let at = format_group(bytes, at, ((addr >> 80) % 65_536) as u16);
-    let at = format_byte(bytes, at, b':');
-    let at = format_group(bytes, at, ((addr >> 64) % 65_536) as u16);
-    let at = format_byte(bytes, at, b':');
-    let at = format_group(bytes, at, ((addr >> 48) % 65_536) as u16);
-    let at = format_byte(bytes, at, b':');
-    let at = format_group(bytes, at, ((addr >> 32) % 65_536) as u16);
-    let at = format_byte(bytes, at, b':');
-    let at = format_group(bytes, at, ((addr >> 16) % 65_536) as u16);
-    let at = format_byte(bytes, at, b':');
-    format_group(bytes, at, (addr % 65_536) as u16)
 }

@@ -2,20 +2,22 @@
 
 ghost use Rattle.std.specs.Prelude.{ℕ, List};
 ghost use Rattle.rib_report.specs.Texts.{Writes};
+ghost use Rattle.rib_report.specs.declared.forms.AddressForms.{AddressForms as Forms};
 
 use crate::buffer::TextBuffer;
+use crate::forms::AddressForms;
 use mrt_frame::Sink;
 
 /// The content of one report line.
 pub(crate) trait Line {
-    /// The line, including its end.
-    ghost line: { Self → List ℕ };
+    /// The line, including its end, by the forms of addresses.
+    ghost line: { Forms → Self → List ℕ };
 
     /// Prefetches what the row refers to, if it lies elsewhere in memory, by reading a little of it, and returns
     /// about how many bytes that is.
     fn prefetch(&self) -> usize;
 
     /// Adds the line.
-    fn put<W: Sink>(&self, text: &mut TextBuffer, out: &mut W)
-        ensures { Writes W.contents W.failure_count out.old text.old out.new text.new (line self.now) };
+    fn put<W: Sink>(&self, text: &mut TextBuffer, out: &mut W, forms: AddressForms)
+        ensures { Writes W.contents W.failure_count out.old text.old out.new text.new (line forms self.now) };
 }

@@ -1,3 +1,5 @@
+use crate::forms::AddressForms;
+
 /// Which report is asked for.
 #[derive(Clone, Copy, Debug, PartialEq, Eq)]
 pub enum Request {
@@ -20,4 +22,11 @@ pub enum Request {
     /// What happened to each key, from this second on, since 1970 UTC; with `None` all of it. Announcements of the
     /// route that was there are listed only with `same`.
     History { since: Option<u64>, same: bool },
+}
+
+/// How the lines of a report are written.
+#[derive(Clone, Copy, Debug, PartialEq, Eq)]
+pub struct Layout {
+    /// The forms of IPv6 addresses.
+    pub addresses: AddressForms,
 }

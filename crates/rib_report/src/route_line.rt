@@ -7,8 +7,9 @@ ghost use Rattle.rib_report.specs.Lines.{kind_text, path_text, route_line};
 ghost use Rattle.rib_report.specs.LineParts.{line_beginning, line_end};
 
 use crate::buffer::TextBuffer;
-use crate::field::{Atomic, Field, PeerText};
+use crate::field::{Atomic, Field, PeerText, format_next_hop};
 use crate::format::format_byte;
+use crate::forms::AddressForms;
 use crate::short::ShortTexts;
 use bgp_prefix::RouteKey;
 use bgp_update::{PackedRoute, PackedSegment, PackedSegments, SegmentKind};
@@ -44,13 +45,14 @@ pub(crate) fn format_end(
     bytes: &mut [u8],
     at: usize,
     shorts: &ShortTexts,
+    forms: AddressForms,
     route: &PackedRoute,
 ) -> usize
     requires { at + 159 < length bytes.old }
-    ensures { Formats bytes.old at bytes.new result 159 (line_end route.now) }
+    ensures { Formats bytes.old at bytes.new result 159 (line_end forms route.now) }
 {
     let at = format_byte(bytes, at, b'|');
-    let at = route.next_hop().format(bytes, at, shorts);
+    let at = format_next_hop(bytes, at, shorts, forms, route.next_hop());
     let at = format_byte(bytes, at, b'|');
     let at = route.origin().format(bytes, at, shorts);
     let at = format_byte(bytes, at, b'|');
@@ -134,12 +136,17 @@ fn put_path<W: Sink>(text: &mut TextBuffer, out: &mut W, path: Option<PackedSegm
 }
 
 /// Adds what a line has after the key: the fields of a route, each behind a bar, and the end of the line.
-pub(crate) fn put_route<W: Sink>(text: &mut TextBuffer, out: &mut W, route: &PackedRoute)
+pub(crate) fn put_route<W: Sink>(
+    text: &mut TextBuffer,
+    out: &mut W,
+    forms: AddressForms,
+    route: &PackedRoute,
+)
     ensures { Writes W.contents W.failure_count out.old text.old out.new text.new
-        ((124 ∷ field path_text route.now.path) ++ line_end route.now) }
+        ((124 ∷ field path_text route.now.path) ++ line_end forms route.now) }
 {
     put_path(text, out, route.path());
-    text.put_end(out, route);
+    text.put_end(out, forms, route);
 }
 
 /// Adds the line of a route.
@@ -151,9 +158,9 @@ pub(crate) fn put_row<W: Sink>(
     route: &PackedRoute,
 )
     ensures { Writes W.contents W.failure_count out.old text.old out.new text.new
-        (route_line (record { peer = peer.now; key = key.now; route = route.now })) }
+        (route_line peer.now.forms (record { peer = peer.now.key; key = key.now; route = route.now })) }
 {
     text.put_beginning(out, peer, *key);
     put_path(text, out, route.path());
-    text.put_end(out, route);
+    text.put_end(out, peer.forms(), route);
 }

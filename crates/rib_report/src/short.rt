@@ -1,9 +1,11 @@
-//! The decimal texts of small numbers, made once.
+//! The texts of small numbers, made once.
 
 ghost use Rattle.std.specs.Prelude.{◌≡◌, ℕ, ◌<◌, slice_index_or};
 ghost use Rattle.rib_report.specs.declared.short.ShortText.{ShortText};
 ghost use Rattle.rib_report.specs.Digits.{decimal_glyph, digits_in};
 ghost use Rattle.rib_report.specs.ShortTexts.{IsShortText};
+
+use crate::hexadecimal::HexTexts;
 
 /// The text of a number of at most three digits: in a block that is copied whole, and with zeros before it.
 #[derive(Clone, Copy)]
@@ -13,10 +15,11 @@ pub(crate) struct ShortText {
     pub(crate) len: u8,
 }
 
-/// The decimal text of each number of at most three digits.
+/// The decimal text of each number of at most three digits, and the hexadecimal one of each byte.
 #[derive(Drop)]
 pub(crate) struct ShortTexts {
     texts: [ShortText; 1000],
+    pub(crate) hexadecimal: HexTexts,
     ghost texts_of_numbers: { (k : ℕ) → k < 1000 → (d : ShortText) → IsShortText k (slice_index_or texts k d) },
 }
 
@@ -66,7 +69,10 @@ impl ShortTexts {
         for i in 0..1000 {
             texts[i] = short_text(i as u32);
         }
-        ShortTexts { texts }
+        ShortTexts {
+            texts,
+            hexadecimal: HexTexts::new(),
+        }
     }
 
     /// The text of a number.

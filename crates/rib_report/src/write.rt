@@ -5,6 +5,7 @@ ghost use Rattle.std.specs.List.{flat_map};
 ghost use Rattle.rib_report.specs.Texts.{IsOutput};
 
 use crate::buffer::TextBuffer;
+use crate::forms::AddressForms;
 use crate::line::Line;
 use mrt_frame::{Failed, ReplayError, Sink};
 
@@ -36,9 +37,13 @@ fn prefetch_rows<R: Line>(rows: &[R]) -> usize {
 }
 
 /// Writes a line for each row.
-pub(crate) fn write_lines<W: Sink, R: Line>(out: &mut W, rows: &[R]) -> Result<(), ReplayError>
+pub(crate) fn write_lines<W: Sink, R: Line>(
+    out: &mut W,
+    forms: AddressForms,
+    rows: &[R],
+) -> Result<(), ReplayError>
     ensures { IsOutput (W.contents out.old) (W.failure_count out.old) (W.contents out.new) (W.failure_count out.new)
-        (flat_map R.line rows.now) result }
+        (flat_map (R.line forms) rows.now) result }
 {
     let mut text = TextBuffer::new();
     let mut ahead = rows;
@@ -52,7 +57,7 @@ pub(crate) fn write_lines<W: Sink, R: Line>(out: &mut W, rows: &[R]) -> Result<(
             ahead = later;
         }
         near = near.saturating_sub(1);
-        row.put(&mut text, out);
+        row.put(&mut text, out, forms);
     }
     match text.finish(out) {
         Ok(()) => Ok(()),

@@ -10,19 +10,20 @@ ghost use Rattle.bgp_prefix.specs.Maps.{IsLongestMatch, HasNoMatch};
 ghost use Rattle.std.specs.FinMap as finite;
 
 use super::Flat;
+use crate::family::Family;
 use crate::prefix::{Prefix, shared_len};
 
-impl<V: Drop> Flat<V> {
+impl<F: Family, V: Drop> Flat<F, V> {
     /// Returns the longest prefix of a key that contains the address (RFC 1812, 5.2.4.3). Allocates
-    /// nothing, and searches at most 33 times.
-    pub fn longest(&self, addr: u32) -> Option<Prefix>
-        ensures found { IfSome result (IsLongestMatch (finite.from_entries self.now) addr) }
-        ensures none { IfNone result (HasNoMatch (finite.from_entries self.now) addr) }
+    /// nothing, and searches at most once more than an address has bits.
+    pub fn longest(&self, addr: F) -> Option<Prefix<F>>
+        ensures found { IfSome result (IsLongestMatch (finite.from_entries self.now) (F.bits addr)) }
+        ensures none { IfNone result (HasNoMatch (finite.from_entries self.now) (F.bits addr)) }
     {
-        let Some(host) = Prefix::new(addr, 32) else {
+        let Some(host) = Prefix::new(addr, F::WIDTH) else {
             unreachable!()
         };
-        let mut limit = 32;
+        let mut limit = F::WIDTH;
         loop {
             let at = self.count_up_to(&host.shortened(limit));
             if at == 0 {
@@ -37,35 +38,33 @@ impl<V: Drop> Flat<V> {
     }
 
     // The number of keys whose prefixes are at most this one, in their order.
-    fn count_up_to(&self, last: &Prefix) -> usize
+    fn count_up_to(&self, last: &Prefix<F>) -> usize
         ensures bound { result ≤ length self.now }
         ensures end { IsPartitionPoint (λ e. is_le (prefix_cmp e.0.prefix last.now) ≡ true)
             (λ e. is_le (prefix_cmp e.0.prefix last.now) ≡ false) self.now result }
     {
-        let last = *last;
-        self.items
-            .partition_point(move |item| item.0.prefix <= last)
+        self.items.partition_point(|item| item.0.prefix <= *last)
     }
 
     // The number of keys whose addresses are at most this one.
-    fn count_up_to_address(&self, addr: u32) -> usize
+    fn count_up_to_address(&self, addr: F) -> usize
         ensures bound { result ≤ length self.now }
-        ensures end { IsPartitionPoint (λ e. e.0.prefix.addr ≤ addr) (λ e. addr < e.0.prefix.addr) self.now result }
+        ensures end { IsPartitionPoint (λ e. e.0.prefix.addr ≤ F.bits addr) (λ e. F.bits addr < e.0.prefix.addr) self.now result }
     {
         self.items
-            .partition_point(move |item| item.0.prefix.addr() <= addr)
+            .partition_point(|item| item.0.prefix.addr().is_at_most(addr))
     }
 
     /// Returns the longest prefix of a key that contains the address, like `longest`. For short lists: it
     /// compares the prefixes one by one, from the end.
-    pub(crate) fn last_match(&self, addr: u32) -> Option<Prefix>
-        ensures last { result ≡ last_match self.now addr }
+    pub(crate) fn last_match(&self, addr: F) -> Option<Prefix<F>>
+        ensures last { result ≡ last_match self.now (F.bits addr) }
     {
         let mut at = self.items.len();
         while at > 0 {
             at -= 1;
             let last = self.items[at].0.prefix;
-            if last.addr() <= addr && last.contains(addr) {
+            if last.addr().is_at_most(addr) && last.contains(addr) {
                 return Some(last);
             }
         }
@@ -74,18 +73,18 @@ impl<V: Drop> Flat<V> {
 
     /// Like `longest`, and also returns how many prefixes were compared with the address. Their lengths differ.
     /// For short lists: it walks back through all prefixes whose addresses are at most this one.
-    pub fn longest_steps(&self, addr: u32) -> (Option<Prefix>, u32)
-        ensures found { IfSome result.0 (IsLongestMatch (finite.from_entries self.now) addr) }
-        ensures none { IfNone result.0 (HasNoMatch (finite.from_entries self.now) addr) }
-        ensures enough { matching_prefixes self.now addr ≤ result.1 }
-        ensures bound { (len : ℕ) → len ≤ 33 → All (λ e. len ≤ e.0.prefix.len) self.now → len + result.1 ≤ 33 }
+    pub fn longest_steps(&self, addr: F) -> (Option<Prefix<F>>, u32)
+        ensures found { IfSome result.0 (IsLongestMatch (finite.from_entries self.now) (F.bits addr)) }
+        ensures none { IfNone result.0 (HasNoMatch (finite.from_entries self.now) (F.bits addr)) }
+        ensures enough { matching_prefixes self.now (F.bits addr) ≤ result.1 }
+        ensures bound { (len : ℕ) → len ≤ F.WIDTH + 1 → All (λ e. len ≤ e.0.prefix.len) self.now → len + result.1 ≤ F.WIDTH + 1 }
     {
-        let Some(host) = Prefix::new(addr, 32) else {
+        let Some(host) = Prefix::new(addr, F::WIDTH) else {
             unreachable!()
         };
         let mut longest = None;
         let mut steps = 0;
-        let mut limit = 33;
+        let mut limit = F::WIDTH + 1;
         let mut at = self.count_up_to_address(addr);
         while at > 0 {
             at -= 1;

@@ -1,14 +1,16 @@
 //! Splitting a sorted list by the longest prefix that covers all of its keys.
 
-ghost use Rattle.std.specs.Prelude.{◌≡◌, ◌≤◌, [], T, IfOk, OnOk, OnErr, IfSome, IfNone, OnSome, length, take, drop, vec_len, nat_lt, true, false};
+ghost use Rattle.std.specs.Prelude.{◌≡◌, ◌≤◌, ◌<◌, ◌+◌, ◌*◌, if◌then◌else◌, [], T, IfOk, OnOk, OnErr, IfSome, IfNone, OnSome, length, take, drop, vec_len, nat_lt, true, false};
 ghost use Rattle.std.specs.List.{All};
 ghost use Rattle.std.specs.List.Sorted.{IsPartitionPoint};
-ghost use Rattle.bgp_prefix.specs.Prefixes.{IsIpPrefix, prefix_eq};
+ghost use Rattle.bgp_prefix.specs.Prefixes.{IsIpPrefix, leading_bits, prefix_eq};
 ghost use Rattle.bgp_prefix.specs.Keys.{key_cmp};
 ghost use Rattle.std.specs.FinMap.Entries.{is_sorted};
 ghost use Rattle.bgp_prefix.specs.Splits.{upper_half, IsCover, IsSplit, IsOfOnePrefix};
 
 use super::Flat;
+use crate::family::Family;
+use crate::key::RouteKey;
 use crate::memory::Memory;
 use crate::prefix::{Prefix, shared_len};
 use std::alloc::Global;
@@ -17,16 +19,16 @@ use std::mem;
 /// The routes around a prefix: those of the prefix itself, and those of longer prefixes, split by
 /// their next bit.
 #[derive(Drop)]
-pub(crate) struct Parts<V> {
-    pub(crate) at: Prefix,
-    pub(crate) here: Flat<V>,
-    pub(crate) low: Flat<V>,
-    pub(crate) high: Flat<V>,
+pub(crate) struct Parts<F: Family, V> {
+    pub(crate) at: Prefix<F>,
+    pub(crate) here: Flat<F, V>,
+    pub(crate) low: Flat<F, V>,
+    pub(crate) high: Flat<F, V>,
 }
 
-impl<V: Drop> Flat<V> {
+impl<F: Family, V: Drop> Flat<F, V> {
     // The longest prefix that covers those of all keys, if these are not all the same.
-    fn cover(&self) -> Option<Prefix>
+    fn cover(&self) -> Option<Prefix<F>>
         ensures cover { IfSome result (IsCover self.now) }
         ensures one { IfNone result (IsOfOnePrefix self.now) }
         ensures sorted { T (is_sorted key_cmp self.now) }
@@ -41,31 +43,35 @@ impl<V: Drop> Flat<V> {
     }
 
     // Where the keys of the prefix that covers all of them end.
-    fn own_end(&self, at: &Prefix) -> usize
+    fn own_end(&self, at: &Prefix<F>) -> usize
         requires { IsCover self.now at.now }
         ensures bound { result ≤ length self.now }
         ensures end { IsPartitionPoint (λ e. prefix_eq e.0.prefix at.now ≡ true)
             (λ e. prefix_eq e.0.prefix at.now ≡ false) self.now result }
     {
-        let at = *at;
-        self.items.partition_point(move |item| item.0.prefix == at)
+        self.items.partition_point(|item| item.0.prefix == *at)
     }
 
     // Where the keys end whose next bit after the prefix that covers all of them is 0.
-    fn low_end(&self, at: &Prefix) -> usize
+    fn low_end(&self, at: &Prefix<F>) -> usize
         requires { IsCover self.now at.now }
         ensures bound { result ≤ length self.now }
         ensures end { IsPartitionPoint (λ e. nat_lt e.0.prefix.addr (upper_half at.now) ≡ true)
             (λ e. nat_lt e.0.prefix.addr (upper_half at.now) ≡ false) self.now result }
     {
-        let half = at.addr() as u64 + (1u64 << (31 - at.len() as u32));
-        self.items
-            .partition_point(move |item| (item.0.prefix.addr() as u64) < half)
+        let len = at.len();
+        self.items.partition_point(
+            |item: &(RouteKey<Prefix<F>>, V)| -> bool
+                requires { len < 128 }
+                ensures { leading_bits (len + 1) item.now.0.prefix.addr
+                    ≡ 2 * leading_bits len item.now.0.prefix.addr + (if result then 0 else 1) }
+            { !item.0.prefix.addr().bit_after(len) },
+        )
     }
 
     /// Splits the list by the longest prefix that covers those of all keys. None if these are all the
     /// same. The list is empty after a split, and otherwise unchanged.
-    pub(crate) fn split(&mut self, alloc: Global) -> Result<Option<Parts<V>>, Memory>
+    pub(crate) fn split(&mut self, alloc: Global) -> Result<Option<Parts<F, V>>, Memory>
         ensures parts { IfOk result (λ o. IfSome o (λ p. IsSplit self.old p.at p.here p.low p.high)) }
         ensures left { IfOk result (λ o. OnSome o (self.new ≡ [])) }
         ensures whole { IfOk result (λ o. IfNone o (self.new ≡ self.old)) }

@@ -2,7 +2,8 @@
 
 ghost use Rattle.bgp_prefix.specs.Directions.{IsDirection, IsSearchDirection};
 
-use crate::prefix::{Prefix, bit_after};
+use crate::family::Family;
+use crate::prefix::Prefix;
 
 /// Where a prefix belongs in a fork.
 pub(super) enum Direction {
@@ -17,7 +18,7 @@ pub(super) enum Direction {
 }
 
 /// Returns where a prefix belongs in the fork at the prefix `at`.
-pub(super) fn direction_of(at: &Prefix, prefix: &Prefix) -> Direction
+pub(super) fn direction_of<F: Family>(at: &Prefix<F>, prefix: &Prefix<F>) -> Direction
     ensures { IsDirection at.now prefix.now result }
 {
     if at.len() >= prefix.len() {
@@ -28,7 +29,7 @@ pub(super) fn direction_of(at: &Prefix, prefix: &Prefix) -> Direction
         }
     } else if !at.contains(prefix.addr()) {
         Direction::Outside
-    } else if bit_after(prefix.addr(), at.len()) {
+    } else if prefix.addr().bit_after(at.len()) {
         Direction::High
     } else {
         Direction::Low
@@ -37,11 +38,11 @@ pub(super) fn direction_of(at: &Prefix, prefix: &Prefix) -> Direction
 
 /// Returns where the search for a prefix continues from the fork at the prefix `at`. The bits that a branch's prefixes
 /// share are not compared on the way down, since the search ends at a prefix that is compared whole.
-pub(super) fn search_direction(at: &Prefix, prefix: &Prefix) -> Direction
+pub(super) fn search_direction<F: Family>(at: &Prefix<F>, prefix: &Prefix<F>) -> Direction
     ensures { IsSearchDirection at.now prefix.now result }
 {
     if at.len() < prefix.len() {
-        if bit_after(prefix.addr(), at.len()) {
+        if prefix.addr().bit_after(at.len()) {
             Direction::High
         } else {
             Direction::Low

@@ -10,17 +10,18 @@ ghost use Rattle.bgp_prefix.specs.Tries.{routes, IsTrie, IsRoot, IsLeaf, IsInser
 use super::direction::{Direction, direction_of};
 use super::node::{Branch, Fork};
 use super::slot::{exchange, remove_into, single};
+use crate::family::Family;
 use crate::flat::Flat;
 use crate::key::RouteKey;
 use crate::memory::Memory;
-use crate::prefix::{Prefix, bit_after, shared_len};
+use crate::prefix::{Prefix, shared_len};
 use std::alloc::Global;
 use std::mem;
 
 /// A leaf with more routes becomes a fork, if they have several prefixes.
 const LEAF_ROUTES: usize = 32;
 
-impl<V: Drop> Branch<V> {
+impl<F: Family, V: Drop> Branch<F, V> {
     /// Sets the value of a key to that of a slot, and leaves the previous one in the slot. An `Err`
     /// changes nothing but the slot.
     ///
@@ -29,7 +30,7 @@ impl<V: Drop> Branch<V> {
     pub(super) fn insert(
         &mut self,
         alloc: Global,
-        key: &RouteKey,
+        key: &RouteKey<Prefix<F>>,
         slot: &mut Option<V>,
     ) -> Result<(), Memory>
         requires trie { IsTrie self.old }
@@ -59,7 +60,7 @@ impl<V: Drop> Branch<V> {
     fn insert_leaf(
         &mut self,
         alloc: Global,
-        key: &RouteKey,
+        key: &RouteKey<Prefix<F>>,
         slot: &mut Option<V>,
     ) -> Result<(), Memory>
         requires empty { self.old ≡ Empty }
@@ -78,7 +79,7 @@ impl<V: Drop> Branch<V> {
     fn insert_in_leaf(
         &mut self,
         alloc: Global,
-        key: &RouteKey,
+        key: &RouteKey<Prefix<F>>,
         slot: &mut Option<V>,
     ) -> Result<(), Memory>
         requires trie { IsTrie self.old }
@@ -114,8 +115,8 @@ impl<V: Drop> Branch<V> {
     fn insert_outside(
         &mut self,
         alloc: Global,
-        at: &Prefix,
-        key: &RouteKey,
+        at: &Prefix<F>,
+        key: &RouteKey<Prefix<F>>,
         slot: &mut Option<V>,
     ) -> Result<(), Memory>
         requires trie { IsTrie self.old }
@@ -131,14 +132,14 @@ impl<V: Drop> Branch<V> {
         if shared == key.prefix.len() {
             let here = single(alloc, key, slot)?;
             let mut fork = Fork::new(alloc, key.prefix, here)?;
-            let is_high = bit_after(at.addr(), shared);
+            let is_high = at.addr().bit_after(shared);
             fork.set_child(is_high, mem::replace(self, Branch::Empty));
             self.set(Branch::Fork(fork));
             return Ok(());
         }
         let new = single(alloc, key, slot)?;
         let mut fork = Fork::new(alloc, at.shortened(shared), Flat::new(alloc))?;
-        let is_high = bit_after(at.addr(), shared);
+        let is_high = at.addr().bit_after(shared);
         fork.set_child(!is_high, Branch::Leaf(new));
         fork.set_child(is_high, mem::replace(self, Branch::Empty));
         self.set(Branch::Fork(fork));

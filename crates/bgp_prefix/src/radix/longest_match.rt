@@ -1,18 +1,19 @@
 //! The longest match of an address in the trie, also with a count of the nodes looked at.
 
-ghost use Rattle.std.specs.Prelude.{◌≡◌, ◌≤◌, Some, IfSome};
+ghost use Rattle.std.specs.Prelude.{◌≡◌, ◌≤◌, ◌+◌, Some, IfSome};
 ghost use Rattle.bgp_prefix.specs.Keys.{last_match, matching_prefixes};
 ghost use Rattle.bgp_prefix.specs.Tries.{routes, IsTrie};
 
 use super::node::Branch;
-use crate::prefix::{Prefix, bit_after};
+use crate::family::Family;
+use crate::prefix::Prefix;
 
-impl<V: Drop> Branch<V> {
+impl<F: Family, V: Drop> Branch<F, V> {
     /// Returns the longest prefix that contains the address. Usually a leaf has it, and then each fork above it
     /// only needs to be looked at for its bit.
-    pub(super) fn longest(&self, addr: u32) -> Option<Prefix>
+    pub(super) fn longest(&self, addr: F) -> Option<Prefix<F>>
         requires { IsTrie self.now }
-        ensures { result ≡ last_match (routes self.now) addr }
+        ensures { result ≡ last_match (routes self.now) (F.bits addr) }
     {
         match self.longest_in_leaf(addr) {
             Some(prefix) => Some(prefix),
@@ -21,9 +22,9 @@ impl<V: Drop> Branch<V> {
     }
 
     /// Returns the longest prefix that contains the address, if it is in a leaf.
-    fn longest_in_leaf(&self, addr: u32) -> Option<Prefix>
+    fn longest_in_leaf(&self, addr: F) -> Option<Prefix<F>>
         requires { IsTrie self.now }
-        ensures { IfSome result (λ prefix. last_match (routes self.now) addr ≡ Some prefix) }
+        ensures { IfSome result (λ prefix. last_match (routes self.now) (F.bits addr) ≡ Some prefix) }
     {
         let mut at = self;
         loop {
@@ -31,7 +32,7 @@ impl<V: Drop> Branch<V> {
                 Branch::Empty => return None,
                 Branch::Leaf(leaf) => return leaf.last_match(addr),
                 Branch::Fork(fork) => {
-                    let Some(branch) = fork.branch(bit_after(addr, fork.prefix.len())) else {
+                    let Some(branch) = fork.branch(addr.bit_after(fork.prefix.len())) else {
                         return None;
                     };
                     at = branch;
@@ -42,9 +43,9 @@ impl<V: Drop> Branch<V> {
 
     /// Returns the longest prefix that contains the address, whether a leaf or a fork has it.
     #[inline(never)]
-    fn longest_on_descent(&self, addr: u32) -> Option<Prefix>
+    fn longest_on_descent(&self, addr: F) -> Option<Prefix<F>>
         requires { IsTrie self.now }
-        ensures { result ≡ last_match (routes self.now) addr }
+        ensures { result ≡ last_match (routes self.now) (F.bits addr) }
     {
         let mut at = self;
         let mut found = None;
@@ -59,7 +60,7 @@ impl<V: Drop> Branch<V> {
                         }
                         found = Some(fork.prefix);
                     }
-                    let Some(branch) = fork.branch(bit_after(addr, fork.prefix.len())) else {
+                    let Some(branch) = fork.branch(addr.bit_after(fork.prefix.len())) else {
                         return found;
                     };
                     at = branch;
@@ -69,11 +70,11 @@ impl<V: Drop> Branch<V> {
     }
 
     /// Returns the longest prefix that contains the address, and how many nodes were looked at.
-    pub(super) fn longest_steps(&self, addr: u32) -> (Option<Prefix>, u32)
+    pub(super) fn longest_steps(&self, addr: F) -> (Option<Prefix<F>>, u32)
         requires { IsTrie self.now }
-        ensures prefix { result.0 ≡ last_match (routes self.now) addr }
-        ensures enough { matching_prefixes (routes self.now) addr ≤ result.1 }
-        ensures bound { result.1 ≤ 33 }
+        ensures prefix { result.0 ≡ last_match (routes self.now) (F.bits addr) }
+        ensures enough { matching_prefixes (routes self.now) (F.bits addr) ≤ result.1 }
+        ensures bound { result.1 ≤ F.WIDTH + 1 }
     {
         let mut at = self;
         let mut longest = None;
@@ -86,14 +87,16 @@ impl<V: Drop> Branch<V> {
                     return (longer.or(longest), steps + more);
                 }
                 Branch::Fork(fork) => {
+                    let prefix = fork.prefix;
+                    let len = prefix.len();
                     steps += 1;
-                    if !fork.prefix.contains(addr) {
+                    if !prefix.contains(addr) {
                         return (longest, steps);
                     }
                     if !fork.here.is_empty() {
-                        longest = Some(fork.prefix);
+                        longest = Some(prefix);
                     }
-                    let Some(branch) = fork.branch(bit_after(addr, fork.prefix.len())) else {
+                    let Some(branch) = fork.branch(addr.bit_after(len)) else {
                         return (longest, steps);
                     };
                     at = branch;

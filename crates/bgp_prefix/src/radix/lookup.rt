@@ -9,14 +9,15 @@ ghost use Rattle.bgp_prefix.specs.Tries.{routes, IsTrie};
 
 use super::direction::{Direction, direction_of, search_direction};
 use super::node::Branch;
+use crate::family::Family;
 use crate::key::RouteKey;
 use crate::memory::Memory;
 use crate::prefix::Prefix;
 use std::alloc::Global;
 
-impl<V: Drop> Branch<V> {
+impl<F: Family, V: Drop> Branch<F, V> {
     /// Returns the value of a key.
-    pub(super) fn get(&self, key: &RouteKey) -> Option<&V>
+    pub(super) fn get(&self, key: &RouteKey<Prefix<F>>) -> Option<&V>
         requires { IsTrie self.now }
         ensures { option_copied result ≡ find key_cmp key.now (routes self.now) }
     {
@@ -42,7 +43,7 @@ impl<V: Drop> Branch<V> {
     }
 
     /// Returns the identifiers and values of one prefix, ascending by identifier.
-    pub(super) fn paths(&self, alloc: Global, prefix: &Prefix) -> Result<Vec<(u32, &V)>, Memory>
+    pub(super) fn paths(&self, alloc: Global, prefix: &Prefix<F>) -> Result<Vec<(u32, &V)>, Memory>
         requires { IsTrie self.now }
         ensures { IfOk result (λ v. map (λ e. (e.0, e.1.now)) v.items ≡ paths_of prefix.now (routes self.now)) }
     {
@@ -59,7 +60,7 @@ impl<V: Drop> Branch<V> {
     }
 
     /// Appends the routes to a list that has room for them, in key order. Allocates nothing.
-    pub(super) fn list<'a>(&'a self, all: &mut Vec<(RouteKey, &'a V)>)
+    pub(super) fn list<'a>(&'a self, all: &mut Vec<(RouteKey<Prefix<F>>, &'a V)>)
         requires { vec_len all.old + length (routes self.now) ≤ vec_capacity all.old }
         ensures entries { entries_now all.new.items ≡ entries_now all.old.items ++ routes self.now }
         ensures len { vec_len all.new ≡ vec_len all.old + length (routes self.now) }

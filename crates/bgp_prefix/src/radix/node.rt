@@ -4,6 +4,7 @@ ghost use Rattle.std.specs.Prelude.{◌≡◌, OnErr, IfOk, IfSome, IfNone, if�
 ghost use Rattle.bgp_prefix.specs.declared.radix.node.Branch.TheVariants.{Empty};
 ghost use Rattle.bgp_prefix.specs.Tries.{IsForkOf, branch_of, is_empty};
 
+use crate::family::Family;
 use crate::flat::{Flat, Parts};
 use crate::memory::Memory;
 use crate::prefix::Prefix;
@@ -11,29 +12,29 @@ use std::alloc::Global;
 
 /// A part of the trie: empty, a leaf with the routes of any prefixes in order, at least one, or a
 /// fork with two branches. Each prefix with routes is a node: a leaf's block has several nodes
-/// side by side. Forks' lengths increase strictly on the way down, so there are at most 33 levels,
-/// and the derived recursive drop is shallow.
+/// side by side. Forks' lengths increase strictly on the way down, so there is at most one level more than an address
+/// has bits, and the derived recursive drop is shallow.
 #[cycle(branch)]
 #[derive(Drop)]
-pub(super) enum Branch<V> {
+pub(super) enum Branch<F: Family, V> {
     Empty,
-    Leaf(Flat<V>),
-    Fork(Box<Fork<V>>),
+    Leaf(Flat<F, V>),
+    Fork(Box<Fork<F, V>>),
 }
 
 /// A prefix with its routes, if it has any, and the longer prefixes within it by their next bit.
 #[cycle(branch)]
 #[derive(Drop)]
-pub(super) struct Fork<V> {
-    pub(super) prefix: Prefix,
-    pub(super) low: Branch<V>,
-    pub(super) high: Branch<V>,
-    pub(super) here: Flat<V>,
+pub(super) struct Fork<F: Family, V> {
+    pub(super) prefix: Prefix<F>,
+    pub(super) low: Branch<F, V>,
+    pub(super) high: Branch<F, V>,
+    pub(super) here: Flat<F, V>,
 }
 
-impl<V: Drop> Branch<V> {
+impl<F: Family, V: Drop> Branch<F, V> {
     /// The branch, if it isn't empty.
-    pub(super) fn nonempty(&self) -> Option<&Branch<V>>
+    pub(super) fn nonempty(&self) -> Option<&Branch<F, V>>
         ensures branch { IfSome result (λ b. b.now ≡ self.now) }
         ensures empty { IfNone result (self.now ≡ Empty) }
     {
@@ -54,7 +55,7 @@ impl<V: Drop> Branch<V> {
     }
 
     /// Returns a branch of these routes, with no fork.
-    fn of(held: Flat<V>) -> Branch<V>
+    fn of(held: Flat<F, V>) -> Branch<F, V>
         ensures { result ≡ branch_of held }
     {
         if held.is_empty() {
@@ -65,16 +66,20 @@ impl<V: Drop> Branch<V> {
     }
 
     /// Replaces the branch.
-    pub(super) fn set(&mut self, branch: Branch<V>)
+    pub(super) fn set(&mut self, branch: Branch<F, V>)
         ensures { self.new ≡ branch }
     {
         *self = branch;
     }
 }
 
-impl<V: Drop> Fork<V> {
+impl<F: Family, V: Drop> Fork<F, V> {
     /// Returns a fork without branches.
-    pub(super) fn new(alloc: Global, prefix: Prefix, here: Flat<V>) -> Result<Box<Fork<V>>, Memory>
+    pub(super) fn new(
+        alloc: Global,
+        prefix: Prefix<F>,
+        here: Flat<F, V>,
+    ) -> Result<Box<Fork<F, V>>, Memory>
         ensures { IfOk result (λ fork. fork.value
             ≡ record { prefix = prefix; low = Empty; high = Empty; here = here }) }
     {
@@ -92,9 +97,9 @@ impl<V: Drop> Fork<V> {
     #[inline(never)]
     pub(super) fn of(
         alloc: Global,
-        any: &Prefix,
-        held: &mut Flat<V>,
-    ) -> Result<Option<Box<Fork<V>>>, Memory>
+        any: &Prefix<F>,
+        held: &mut Flat<F, V>,
+    ) -> Result<Option<Box<Fork<F, V>>>, Memory>
         ensures fork { IfOk result (λ o. IfSome o (λ fork. IsForkOf held.old fork.value)) }
         ensures whole { IfOk result (λ o. IfNone o (held.new ≡ held.old)) }
         ensures err { OnErr result (held.new ≡ held.old) }
@@ -108,7 +113,7 @@ impl<V: Drop> Fork<V> {
     }
 
     /// Sets the fork to these parts of a list, without further forks.
-    fn fill(&mut self, parts: Parts<V>)
+    fn fill(&mut self, parts: Parts<F, V>)
         ensures { self.new
             ≡ record { prefix = parts.at; low = branch_of parts.low; high = branch_of parts.high; here = parts.here } }
     {
@@ -122,7 +127,7 @@ impl<V: Drop> Fork<V> {
 
     /// Returns the branch of one half, if it isn't empty. Each half is tested separately, so
     /// the way down is a jump, which processors predict, and waits for no node before it.
-    pub(super) fn branch(&self, is_high: bool) -> Option<&Branch<V>>
+    pub(super) fn branch(&self, is_high: bool) -> Option<&Branch<F, V>>
         ensures branch { IfSome result (λ b. b.now ≡ (if is_high then self.now.high else self.now.low)) }
         ensures empty { IfNone result ((if is_high then self.now.high else self.now.low) ≡ Empty) }
     {
@@ -134,7 +139,7 @@ impl<V: Drop> Fork<V> {
     }
 
     /// Replaces the branch of one half.
-    pub(super) fn set_child(&mut self, is_high: bool, branch: Branch<V>)
+    pub(super) fn set_child(&mut self, is_high: bool, branch: Branch<F, V>)
         ensures { self.new ≡ (if is_high then record self.old { high = branch } else record self.old { low = branch }) }
     {
         if is_high {

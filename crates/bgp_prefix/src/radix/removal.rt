@@ -8,13 +8,15 @@ ghost use Rattle.bgp_prefix.specs.Tries.{routes, IsTrie, IsUnder, IsUnpruned, Is
 use super::direction::{Direction, search_direction};
 use super::node::Branch;
 use super::slot::remove_into;
+use crate::family::Family;
 use crate::key::RouteKey;
+use crate::prefix::Prefix;
 use std::mem;
 
-impl<V: Drop> Branch<V> {
+impl<F: Family, V: Drop> Branch<F, V> {
     /// Removes a key, and leaves its value in a slot, which is empty beforehand: as in `insert`, no
     /// value is among the locals of this recursion. Returns whether nothing is left.
-    pub(super) fn remove(&mut self, key: &RouteKey, slot: &mut Option<V>) -> bool
+    pub(super) fn remove(&mut self, key: &RouteKey<Prefix<F>>, slot: &mut Option<V>) -> bool
         requires trie { IsTrie self.old }
         requires empty { slot.old ≡ None }
         ensures before { slot.new ≡ find key_cmp key.now (routes self.old) }
@@ -63,7 +65,7 @@ impl<V: Drop> Branch<V> {
     }
 
     /// Takes out what replaces a redundant root: the child of a fork, if there is one.
-    fn take_only_child(&mut self) -> Branch<V>
+    fn take_only_child(&mut self) -> Branch<F, V>
         ensures { result ≡ only_child self.old }
     {
         match self {

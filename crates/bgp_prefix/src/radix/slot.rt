@@ -7,18 +7,20 @@ ghost use Rattle.std.specs.FinMap.{find, put};
 ghost use Rattle.std.specs.FinMap.Entries.{where_key};
 ghost use Rattle.bgp_prefix.specs.Keys.{key_cmp, is_nil};
 
+use crate::family::Family;
 use crate::flat::Flat;
 use crate::key::RouteKey;
 use crate::memory::Memory;
+use crate::prefix::Prefix;
 use std::alloc::Global;
 
 /// Returns a list of one route, whose value is taken from a slot.
 #[inline(never)]
-pub(super) fn single<V: Drop>(
+pub(super) fn single<F: Family, V: Drop>(
     alloc: Global,
-    key: &RouteKey,
+    key: &RouteKey<Prefix<F>>,
     slot: &mut Option<V>,
-) -> Result<Flat<V>, Memory>
+) -> Result<Flat<F, V>, Memory>
     requires { IsSome slot.old }
     ensures one { IfOk result (λ held. IfSome slot.old (λ value. held ≡ (key.now, value) ∷ [])) }
     ensures taken { slot.new ≡ None }
@@ -32,9 +34,9 @@ pub(super) fn single<V: Drop>(
 /// Sets the value of a key to that of a slot, and leaves the previous one in the slot. An `Err` changes
 /// nothing but the slot.
 #[inline(never)]
-pub(super) fn exchange<V: Drop>(
-    held: &mut Flat<V>,
-    key: &RouteKey,
+pub(super) fn exchange<F: Family, V: Drop>(
+    held: &mut Flat<F, V>,
+    key: &RouteKey<Prefix<F>>,
     slot: &mut Option<V>,
 ) -> Result<(), Memory>
     requires { IsSome slot.old }
@@ -51,7 +53,11 @@ pub(super) fn exchange<V: Drop>(
 
 /// Removes a key, and leaves its value in a slot. Returns whether none is left.
 #[inline(never)]
-pub(super) fn remove_into<V: Drop>(held: &mut Flat<V>, key: &RouteKey, slot: &mut Option<V>) -> bool
+pub(super) fn remove_into<F: Family, V: Drop>(
+    held: &mut Flat<F, V>,
+    key: &RouteKey<Prefix<F>>,
+    slot: &mut Option<V>,
+) -> bool
     ensures before { slot.new ≡ find key_cmp key.now held.old }
     ensures removed { held.new ≡ where_key key_cmp (λ x. not (eq_by_cmp key_cmp key.now x)) held.old }
     ensures none { result ≡ is_nil held.new }

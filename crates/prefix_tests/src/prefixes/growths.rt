@@ -1,7 +1,7 @@
 //! Growths of which one may be refused (`make growths`): each leaves the map as it was, and the same call is then
 //! answered.
 
-use super::keys::key;
+use super::keys::{Tried, key_at};
 use bgp_prefix::*;
 use prefix_shelf::Shelf;
 use std::alloc::Global;
@@ -23,43 +23,54 @@ const FIRST_KEYS: [(u32, u8, u32); 9] = [
 /// More keys than a leaf of the trie or a chunk of the shelf has, so that leaves become forks, and chunks two.
 const GROWING: usize = 200;
 
-/// The key of a place: after those of the table, prefixes of 24 bits by turns in two halves of a network.
-fn growing(i: usize) -> RouteKey {
+/// The key of a place after `from` bits that are 0: after those of the table, prefixes of 24 bits by turns in two
+/// halves of a network.
+fn growing<F: Tried>(from: u8, i: usize) -> RouteKey<Prefix<F>> {
     match FIRST_KEYS.get(i) {
-        Some((addr, len, id)) => key(*addr, *len, *id),
+        Some((addr, len, id)) => key_at(from, *addr, *len, *id),
         None => {
             let place = (i % GROWING) as u32;
-            key(0x0B00_0000 + place % 2 * 0x0080_0000 + place * 0x100, 24, 0)
+            let addr = 0x0B00_0000 + place % 2 * 0x0080_0000 + place * 0x100;
+            key_at(from, addr, 24, 0)
         }
     }
 }
 
 /// The first `count` keys have their places as values, and no other key has one.
-fn expect_first<M: PrefixMap<usize>>(rt: &impl Abort, map: &M, count: usize) {
+fn expect_first<F: Tried, M: PrefixMap<usize, Addr = F>>(
+    rt: &impl Abort,
+    map: &M,
+    from: u8,
+    count: usize,
+) {
     assert_eq!(rt; map.len(), count);
     for i in 0..GROWING {
-        let value = map.get(&growing(i)).copied();
+        let value = map.get(&growing(from, i)).copied();
         assert_eq!(rt; value, if i < count { Some(i) } else { None });
     }
 }
 
-fn grow<M: PrefixMap<usize> + Drop>(rt: &impl Abort, alloc: Global) -> Result<(), Fail> {
+fn grow<F: Tried, M: PrefixMap<usize, Addr = F> + Drop>(
+    rt: &impl Abort,
+    alloc: Global,
+    from: u8,
+) -> Result<(), Fail> {
     let mut map: M = PrefixMap::new(alloc);
     for i in 0..GROWING {
-        let new = growing(i);
-        if map.insert(alloc, new, i).is_err() {
-            expect_first(rt, &map, i);
-            assert!(rt; map.insert(alloc, new, i)?.is_none());
+        let new = growing(from, i);
+        if map.insert(alloc, &new, i).is_err() {
+            expect_first(rt, &map, from, i);
+            assert!(rt; map.insert(alloc, &new, i)?.is_none());
         }
-        expect_first(rt, &map, i + 1);
+        expect_first(rt, &map, from, i + 1);
     }
     if map.entries(alloc).is_err() {
-        expect_first(rt, &map, GROWING);
+        expect_first(rt, &map, from, GROWING);
         assert!(rt; map.entries(alloc)?.len() == GROWING);
     }
-    let prefix = key(0x0A02_0000, 16, 0).prefix;
+    let prefix = key_at(from, 0x0A02_0000, 16, 0).prefix;
     if map.paths(alloc, &prefix).is_err() {
-        expect_first(rt, &map, GROWING);
+        expect_first(rt, &map, from, GROWING);
         assert!(rt; map.paths(alloc, &prefix)?.len() == 4);
     }
     Ok(())
@@ -67,15 +78,30 @@ fn grow<M: PrefixMap<usize> + Drop>(rt: &impl Abort, alloc: Global) -> Result<()
 
 #[test]
 fn a_refused_growth_leaves_the_flat_map(rt: HostRuntime) -> Result<(), Fail> {
-    grow::<Flat<usize>>(&rt, rt.alloc())
+    grow::<u32, Flat<u32, usize>>(&rt, rt.alloc(), 0)
 }
 
 #[test]
 fn a_refused_growth_leaves_the_radix_map(rt: HostRuntime) -> Result<(), Fail> {
-    grow::<Radix<usize>>(&rt, rt.alloc())
+    grow::<u32, Radix<u32, usize>>(&rt, rt.alloc(), 0)
 }
 
 #[test]
 fn a_refused_growth_leaves_the_shelf(rt: HostRuntime) -> Result<(), Fail> {
-    grow::<Shelf<usize>>(&rt, rt.alloc())
+    grow::<u32, Shelf<u32, usize>>(&rt, rt.alloc(), 0)
+}
+
+#[test]
+fn a_refused_growth_leaves_the_flat_map_of_ipv6(rt: HostRuntime) -> Result<(), Fail> {
+    grow::<Ipv6, Flat<Ipv6, usize>>(&rt, rt.alloc(), 56)
+}
+
+#[test]
+fn a_refused_growth_leaves_the_radix_map_of_ipv6(rt: HostRuntime) -> Result<(), Fail> {
+    grow::<Ipv6, Radix<Ipv6, usize>>(&rt, rt.alloc(), 56)
+}
+
+#[test]
+fn a_refused_growth_leaves_the_shelf_of_ipv6(rt: HostRuntime) -> Result<(), Fail> {
+    grow::<Ipv6, Shelf<Ipv6, usize>>(&rt, rt.alloc(), 56)
 }

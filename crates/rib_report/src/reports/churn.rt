@@ -11,6 +11,7 @@ ghost use Rattle.rib_report.specs.Texts.{IsOutput, Writes};
 
 use crate::buffer::TextBuffer;
 use crate::field::{Ended, time_field};
+use crate::forms::{AddressForms, ShownPeer};
 use crate::line::Line;
 use crate::write::write_lines;
 use adj_rib::{Churn, SharedRoute};
@@ -28,7 +29,7 @@ pub struct ChurnRow {
 }
 
 /// Returns the churn of each peer, by number.
-pub fn churn<M: PrefixMap<SharedRoute>>(
+pub fn churn<M: PrefixMap<SharedRoute, Addr = u32>>(
     alloc: Global,
     tables: &Tables<M>,
 ) -> Result<Vec<ChurnRow>, Memory>
@@ -45,7 +46,7 @@ pub fn churn<M: PrefixMap<SharedRoute>>(
 }
 
 /// Returns the churn that each watch counted, in the order of the watches.
-pub fn watched_churn<M: PrefixMap<SharedRoute>>(
+pub fn watched_churn<M: PrefixMap<SharedRoute, Addr = u32>>(
     alloc: Global,
     watches: &[Watched<M>],
 ) -> Result<Vec<ChurnRow>, Memory>
@@ -68,7 +69,7 @@ impl Line for ChurnRow {
         0
     }
 
-    fn put<W: Sink>(&self, text: &mut TextBuffer, out: &mut W) {
+    fn put<W: Sink>(&self, text: &mut TextBuffer, out: &mut W, forms: AddressForms) {
         let churn = self.churn;
         let times = (time_field(churn.first), time_field(churn.last));
         let refused = (churn.refused as u128, times);
@@ -83,14 +84,22 @@ impl Line for ChurnRow {
             churn.added as u128,
             (churn.changed as u128, (churn.same as u128, changes)),
         );
-        text.put(out, Ended((self.peer, counts)));
+        let peer = ShownPeer {
+            key: self.peer,
+            forms,
+        };
+        text.put(out, Ended((peer, counts)));
     }
 }
 
 /// Writes the rows of `churn`. If it returns `Write`, a leading part of the text has been written.
-pub fn write_churn<W: Sink>(out: &mut W, rows: &[ChurnRow]) -> Result<(), ReplayError>
+pub fn write_churn<W: Sink>(
+    out: &mut W,
+    forms: AddressForms,
+    rows: &[ChurnRow],
+) -> Result<(), ReplayError>
     ensures { IsOutput (W.contents out.old) (W.failure_count out.old) (W.contents out.new) (W.failure_count out.new)
-        (flat_map churn_line rows.now) result }
+        (flat_map (churn_line forms) rows.now) result }
 {
-    write_lines(out, rows)
+    write_lines(out, forms, rows)
 }

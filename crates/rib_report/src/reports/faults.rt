@@ -12,6 +12,7 @@ ghost use Rattle.rib_report.specs.Texts.{IsOutput, Writes};
 
 use crate::buffer::TextBuffer;
 use crate::field::entry_field;
+use crate::forms::{AddressForm, AddressForms};
 use crate::line::Line;
 use crate::write::write_lines;
 use adj_rib::SharedRoute;
@@ -22,7 +23,7 @@ use peer_tables::Tables;
 use std::alloc::Global;
 
 /// The refusals, and then each peer's faults.
-fn gather_faults<M: PrefixMap<SharedRoute>>(
+fn gather_faults<M: PrefixMap<SharedRoute, Addr = u32>>(
     alloc: Global,
     tables: &Tables<M>,
 ) -> Result<Vec<Damage>, Memory>
@@ -36,7 +37,7 @@ fn gather_faults<M: PrefixMap<SharedRoute>>(
 }
 
 /// Returns all faults in place order; where places are equal, the refusals come first, then the peers' by number.
-pub fn faults<M: PrefixMap<SharedRoute>>(
+pub fn faults<M: PrefixMap<SharedRoute, Addr = u32>>(
     alloc: Global,
     tables: &Tables<M>,
 ) -> Result<Vec<Damage>, Memory>
@@ -68,13 +69,13 @@ fn put_fault<W: Sink>(text: &mut TextBuffer, out: &mut W, fault: Fault)
 }
 
 impl Line for Damage {
-    ghost line = { fault_line };
+    ghost line = { λ _. fault_line };
 
     fn prefetch(&self) -> usize {
         0
     }
 
-    fn put<W: Sink>(&self, text: &mut TextBuffer, out: &mut W) {
+    fn put<W: Sink>(&self, text: &mut TextBuffer, out: &mut W, _forms: AddressForms) {
         let file = self.place.file as u128 + 1;
         let offset = self.place.offset as u128;
         let number = self.fault.number() as u32;
@@ -93,5 +94,5 @@ pub fn write_faults<W: Sink>(out: &mut W, rows: &[Damage]) -> Result<(), ReplayE
     ensures { IsOutput (W.contents out.old) (W.failure_count out.old) (W.contents out.new) (W.failure_count out.new)
         (flat_map fault_line rows.now) result }
 {
-    write_lines(out, rows)
+    write_lines(out, AddressForms::all(AddressForm::Full), rows)
 }

@@ -9,6 +9,7 @@ ghost use Rattle.rib_report.specs.Texts.{IsOutput, Writes};
 use crate::buffer::TextBuffer;
 use crate::field::{Field, Microseconds};
 use crate::format::format_text;
+use crate::forms::{AddressForms, ShownPeer};
 use crate::line::Line;
 use crate::route_line::put_route;
 use crate::short::ShortTexts;
@@ -66,20 +67,28 @@ impl Line for HistoryRow {
         }
     }
 
-    fn put<W: Sink>(&self, text: &mut TextBuffer, out: &mut W) {
+    fn put<W: Sink>(&self, text: &mut TextBuffer, out: &mut W, forms: AddressForms) {
         let event = (self.what(), (self.by(), self.key()));
-        text.put(out, (Microseconds(self.time()), (self.peer(), event)));
+        let peer = ShownPeer {
+            key: self.peer(),
+            forms,
+        };
+        text.put(out, (Microseconds(self.time()), (peer, event)));
         match self.route() {
-            Some(route) => put_route(text, out, route.route()),
+            Some(route) => put_route(text, out, forms, route.route()),
             None => text.put_text(out, b"|-|-|-|-|-|-|-\n"),
         }
     }
 }
 
 /// Writes the rows of `history`. If it returns `Write`, a leading part of the text has been written.
-pub fn write_history<W: Sink>(out: &mut W, rows: &[HistoryRow]) -> Result<(), ReplayError>
+pub fn write_history<W: Sink>(
+    out: &mut W,
+    forms: AddressForms,
+    rows: &[HistoryRow],
+) -> Result<(), ReplayError>
     ensures { IsOutput (W.contents out.old) (W.failure_count out.old) (W.contents out.new) (W.failure_count out.new)
-        (flat_map history_line rows.now) result }
+        (flat_map (history_line forms) rows.now) result }
 {
-    write_lines(out, rows)
+    write_lines(out, forms, rows)
 }

@@ -1,7 +1,7 @@
 //! The report `match`: for each peer, the entries of the longest prefix in its table that contains an address. A line
 //! is one of `tables`.
 
-ghost use Rattle.std.specs.Prelude.{◌≡◌, ◌++◌, IfOk, OnOk, map};
+ghost use Rattle.std.specs.Prelude.{◌≡◌, ◌*◌, ◌^◌, ◌++◌, IfOk, OnOk, map};
 ghost use Rattle.bgp_prefix.specs.Maps.{paths_of};
 ghost use Rattle.rib_report.specs.Rows.{table_row};
 ghost use Rattle.rib_report.specs.Reports.{path_row, matches_of_seat, match_rows};
@@ -14,7 +14,7 @@ use peer_tables::{Seated, Tables};
 use std::alloc::Global;
 
 /// Adds the entries of a prefix in one peer's table.
-fn add_paths<'a, M: PrefixMap<SharedRoute>>(
+fn add_paths<'a, M: PrefixMap<SharedRoute, Addr = u32>>(
     alloc: Global,
     rows: &mut Vec<TableRow<'a>>,
     seat: &'a Seated<M>,
@@ -37,14 +37,14 @@ fn add_paths<'a, M: PrefixMap<SharedRoute>>(
 }
 
 /// Adds the entries of the longest-prefix match in one peer's table, if there is one.
-fn add_matches<'a, M: PrefixMap<SharedRoute>>(
+fn add_matches<'a, M: PrefixMap<SharedRoute, Addr = u32>>(
     alloc: Global,
     rows: &mut Vec<TableRow<'a>>,
     seat: &'a Seated<M>,
     addr: u32,
 ) -> Result<(), Memory>
     ensures { OnOk result (map table_row rows.new.items ≡ map table_row rows.old.items
-        ++ matches_of_seat addr (seat_of seat.now)) }
+        ++ matches_of_seat (addr * 2 ^ 96) (seat_of seat.now)) }
 {
     match seat.session.table().longest(addr) {
         Some(prefix) => add_paths(alloc, rows, seat, prefix),
@@ -54,12 +54,12 @@ fn add_matches<'a, M: PrefixMap<SharedRoute>>(
 
 /// Returns, for each peer by number, all entries of the longest prefix that contains the address, by identifier
 /// (RFC 1812, 5.2.4.3). A peer with no such prefix has none.
-pub fn matches<M: PrefixMap<SharedRoute>>(
+pub fn matches<M: PrefixMap<SharedRoute, Addr = u32>>(
     alloc: Global,
     tables: &Tables<M>,
     addr: u32,
 ) -> Result<Vec<TableRow<'_>>, Memory>
-    ensures { IfOk result (λ rows. map table_row rows.items ≡ match_rows tables.now addr) }
+    ensures { IfOk result (λ rows. map table_row rows.items ≡ match_rows tables.now (addr * 2 ^ 96)) }
 {
     let mut rows = Vec::new(alloc);
     for seat in tables.seats() {

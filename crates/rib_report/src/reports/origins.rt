@@ -10,6 +10,7 @@ ghost use Rattle.rib_report.specs.Texts.{IsOutput, Writes};
 ghost use Rattle.peer_tables.specs.Seats.{seat_of};
 
 use crate::buffer::TextBuffer;
+use crate::forms::{AddressForm, AddressForms};
 use crate::line::Line;
 use crate::merge::{Listed, Mergeable, list_peers, list_peers_by_few};
 use crate::write::write_lines;
@@ -69,7 +70,7 @@ fn add_origin(
 }
 
 /// Adds the prefix and the origin AS of each route of one peer that has an origin AS.
-fn add_origins<M: PrefixMap<SharedRoute>>(
+fn add_origins<M: PrefixMap<SharedRoute, Addr = u32>>(
     alloc: Global,
     pairs: &mut Vec<(Prefix, u32)>,
     seat: &Seated<M>,
@@ -88,7 +89,7 @@ fn add_origins<M: PrefixMap<SharedRoute>>(
 impl Listed for (Prefix, u32) {
     ghost list_of = { origins_in_order };
 
-    fn list_of_seat<M: PrefixMap<SharedRoute>>(
+    fn list_of_seat<M: PrefixMap<SharedRoute, Addr = u32>>(
         alloc: Global,
         seat: &Seated<M>,
     ) -> Result<Vec<(Prefix, u32)>, Memory> {
@@ -149,7 +150,7 @@ fn group_runs(alloc: Global, pairs: &[(Prefix, u32)]) -> Result<Vec<OriginRow>, 
 
 /// Returns the prefixes whose routes have at least two different origin ASes, by prefix, each with its origin
 /// ASes in ascending order.
-pub fn origins<M: PrefixMap<SharedRoute>>(
+pub fn origins<M: PrefixMap<SharedRoute, Addr = u32>>(
     alloc: Global,
     tables: &Tables<M>,
 ) -> Result<Vec<OriginRow>, Memory>
@@ -161,7 +162,7 @@ pub fn origins<M: PrefixMap<SharedRoute>>(
 
 /// Returns what `origins` returns. With two threads or more, two of them share the work; if no thread can be
 /// started, the calling thread does all of it.
-pub fn origins_with_threads<M: PrefixMap<SharedRoute> + Sync, T: Threads>(
+pub fn origins_with_threads<M: PrefixMap<SharedRoute, Addr = u32> + Sync, T: Threads>(
     rt: &T,
     alloc: Global,
     threads: usize,
@@ -177,13 +178,13 @@ pub fn origins_with_threads<M: PrefixMap<SharedRoute> + Sync, T: Threads>(
 }
 
 impl Line for OriginRow {
-    ghost line = { origin_line };
+    ghost line = { λ _. origin_line };
 
     fn prefetch(&self) -> usize {
         0
     }
 
-    fn put<W: Sink>(&self, text: &mut TextBuffer, out: &mut W) {
+    fn put<W: Sink>(&self, text: &mut TextBuffer, out: &mut W, _forms: AddressForms) {
         text.put(out, self.prefix);
         text.put_byte(out, b'|');
         text.put_numbers(out, b' ', self.origins.as_slice());
@@ -196,5 +197,5 @@ pub fn write_origins<W: Sink>(out: &mut W, rows: &[OriginRow]) -> Result<(), Rep
     ensures { IsOutput (W.contents out.old) (W.failure_count out.old) (W.contents out.new) (W.failure_count out.new)
         (flat_map origin_line rows.now) result }
 {
-    write_lines(out, rows)
+    write_lines(out, AddressForms::all(AddressForm::Full), rows)
 }

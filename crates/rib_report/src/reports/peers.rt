@@ -12,6 +12,7 @@ ghost use Rattle.rib_report.specs.Texts.{IsOutput, Writes};
 
 use crate::buffer::TextBuffer;
 use crate::field::{Ended, SessionUp, entry_field, time_field};
+use crate::forms::{AddressForms, ShownPeer};
 use crate::line::Line;
 use crate::write::write_lines;
 use adj_rib::SharedRoute;
@@ -40,7 +41,7 @@ pub struct PeerRow {
 }
 
 /// Returns the row of a peer.
-fn row_of<M: PrefixMap<SharedRoute>>(seat: &Seated<M>) -> PeerRow
+fn row_of<M: PrefixMap<SharedRoute, Addr = u32>>(seat: &Seated<M>) -> PeerRow
     ensures { result ≡ peer_row (seat_of seat.now) }
 {
     let churn = seat.session.churn();
@@ -57,7 +58,7 @@ fn row_of<M: PrefixMap<SharedRoute>>(seat: &Seated<M>) -> PeerRow
 }
 
 /// Returns the peers, by number.
-pub fn peers<M: PrefixMap<SharedRoute>>(
+pub fn peers<M: PrefixMap<SharedRoute, Addr = u32>>(
     alloc: Global,
     tables: &Tables<M>,
 ) -> Result<Vec<PeerRow>, Memory>
@@ -107,24 +108,29 @@ impl Line for PeerRow {
         0
     }
 
-    fn put<W: Sink>(&self, text: &mut TextBuffer, out: &mut W) {
+    fn put<W: Sink>(&self, text: &mut TextBuffer, out: &mut W, forms: AddressForms) {
         let place = (
             file_field(self.place),
             (offset_field(self.place), place_entry_field(self.place)),
         );
         let times = (time_field(self.first), (time_field(self.last), place));
         let counts = (self.routes as u128, (self.units as u128, times));
-        text.put(
-            out,
-            Ended((self.peer, (SessionUp(self.is_established), counts))),
-        );
+        let peer = ShownPeer {
+            key: self.peer,
+            forms,
+        };
+        text.put(out, Ended((peer, (SessionUp(self.is_established), counts))));
     }
 }
 
 /// Writes the rows of `peers`. If it returns `Write`, a leading part of the text has been written.
-pub fn write_peers<W: Sink>(out: &mut W, rows: &[PeerRow]) -> Result<(), ReplayError>
+pub fn write_peers<W: Sink>(
+    out: &mut W,
+    forms: AddressForms,
+    rows: &[PeerRow],
+) -> Result<(), ReplayError>
     ensures { IsOutput (W.contents out.old) (W.failure_count out.old) (W.contents out.new) (W.failure_count out.new)
-        (flat_map peer_line rows.now) result }
+        (flat_map (peer_line forms) rows.now) result }
 {
-    write_lines(out, rows)
+    write_lines(out, forms, rows)
 }

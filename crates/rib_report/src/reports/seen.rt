@@ -13,6 +13,7 @@ ghost use Rattle.peer_tables.specs.Seats.{seat_of};
 
 use crate::buffer::TextBuffer;
 use crate::field::Ended;
+use crate::forms::{AddressForm, AddressForms};
 use crate::line::Line;
 use crate::merge::{Listed, Mergeable, list_peers, list_peers_by_few};
 use crate::write::write_lines;
@@ -77,7 +78,7 @@ impl Mergeable for (PrefixOrigin, usize) {
 }
 
 /// Returns the prefix and the origin AS of each route of one peer, keys in order.
-fn pairs_of_routes<M: PrefixMap<SharedRoute>>(
+fn pairs_of_routes<M: PrefixMap<SharedRoute, Addr = u32>>(
     alloc: Global,
     seat: &Seated<M>,
 ) -> Result<Vec<PrefixOrigin>, Memory>
@@ -93,7 +94,7 @@ fn pairs_of_routes<M: PrefixMap<SharedRoute>>(
 }
 
 /// Returns the prefixes and origin ASes of one peer's routes in order, each pair once, whatever the path identifiers.
-fn pairs_of_seat<M: PrefixMap<SharedRoute>>(
+fn pairs_of_seat<M: PrefixMap<SharedRoute, Addr = u32>>(
     alloc: Global,
     seat: &Seated<M>,
 ) -> Result<Vec<PrefixOrigin>, Memory>
@@ -121,7 +122,7 @@ fn count_once(alloc: Global, pairs: &[PrefixOrigin]) -> Result<Vec<(PrefixOrigin
 impl Listed for (PrefixOrigin, usize) {
     ghost list_of = { seen_among };
 
-    fn list_of_seat<M: PrefixMap<SharedRoute>>(
+    fn list_of_seat<M: PrefixMap<SharedRoute, Addr = u32>>(
         alloc: Global,
         seat: &Seated<M>,
     ) -> Result<Vec<(PrefixOrigin, usize)>, Memory> {
@@ -152,7 +153,7 @@ fn rows_of(alloc: Global, counts: &[(PrefixOrigin, usize)]) -> Result<Vec<SeenRo
 /// Returns, for each prefix and each origin AS of its routes at any peer, the number of peers that have a route of
 /// this prefix with this origin AS: by prefix, then by origin AS, and the routes without one last. A peer counts once
 /// per row, whatever the identifiers of its routes.
-pub fn seen<M: PrefixMap<SharedRoute>>(
+pub fn seen<M: PrefixMap<SharedRoute, Addr = u32>>(
     alloc: Global,
     tables: &Tables<M>,
 ) -> Result<Vec<SeenRow>, Memory>
@@ -164,7 +165,7 @@ pub fn seen<M: PrefixMap<SharedRoute>>(
 
 /// Returns what `seen` returns. With two threads or more, two of them share the work; if no thread can be started, the
 /// calling thread does all of it.
-pub fn seen_with_threads<M: PrefixMap<SharedRoute> + Sync, T: Threads>(
+pub fn seen_with_threads<M: PrefixMap<SharedRoute, Addr = u32> + Sync, T: Threads>(
     rt: &T,
     alloc: Global,
     threads: usize,
@@ -180,13 +181,13 @@ pub fn seen_with_threads<M: PrefixMap<SharedRoute> + Sync, T: Threads>(
 }
 
 impl Line for SeenRow {
-    ghost line = { seen_line };
+    ghost line = { λ _. seen_line };
 
     fn prefetch(&self) -> usize {
         0
     }
 
-    fn put<W: Sink>(&self, text: &mut TextBuffer, out: &mut W) {
+    fn put<W: Sink>(&self, text: &mut TextBuffer, out: &mut W, _forms: AddressForms) {
         text.put(out, Ended((self.prefix, (self.origin, self.peers as u128))));
     }
 }
@@ -196,5 +197,5 @@ pub fn write_seen<W: Sink>(out: &mut W, rows: &[SeenRow]) -> Result<(), ReplayEr
     ensures { IsOutput (W.contents out.old) (W.failure_count out.old) (W.contents out.new) (W.failure_count out.new)
         (flat_map seen_line rows.now) result }
 {
-    write_lines(out, rows)
+    write_lines(out, AddressForms::all(AddressForm::Full), rows)
 }

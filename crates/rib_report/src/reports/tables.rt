@@ -19,6 +19,7 @@ ghost use Rattle.rib_report.specs.Texts.{IsOutput, Writes};
 
 use crate::buffer::TextBuffer;
 use crate::field::PeerText;
+use crate::forms::{AddressForms, ShownPeer};
 use crate::line::Line;
 use crate::route_line::put_row;
 use crate::write::{NEAR_ROWS, next_rows, write_lines};
@@ -41,7 +42,7 @@ pub struct TableRow<'a> {
 }
 
 /// Adds the entries of one peer's table.
-fn add_entries<'a, M: PrefixMap<SharedRoute>>(
+fn add_entries<'a, M: PrefixMap<SharedRoute, Addr = u32>>(
     alloc: Global,
     rows: &mut Vec<TableRow<'a>>,
     seat: &'a Seated<M>,
@@ -63,7 +64,7 @@ fn add_entries<'a, M: PrefixMap<SharedRoute>>(
 }
 
 /// Returns every entry of every table: peers by number, keys in order.
-pub fn table_rows<M: PrefixMap<SharedRoute>>(
+pub fn table_rows<M: PrefixMap<SharedRoute, Addr = u32>>(
     alloc: Global,
     tables: &Tables<M>,
 ) -> Result<Vec<TableRow<'_>>, Memory>
@@ -77,7 +78,7 @@ pub fn table_rows<M: PrefixMap<SharedRoute>>(
 }
 
 /// Returns the greatest number of entries in the table of any of these peers.
-fn max_entries<M: PrefixMap<SharedRoute>>(seats: &[Seated<M>]) -> usize
+fn max_entries<M: PrefixMap<SharedRoute, Addr = u32>>(seats: &[Seated<M>]) -> usize
     ensures { result ≡ most_entries (map seat_of seats.now) }
 {
     let mut most = 0usize;
@@ -117,7 +118,7 @@ fn put_block<W: Sink>(
 pub(crate) fn put_entries<W: Sink>(
     text: &mut TextBuffer,
     out: &mut W,
-    peer: PeerKey,
+    peer: ShownPeer,
     entries: &[(RouteKey, &SharedRoute)],
 )
     ensures { Writes W.contents W.failure_count out.old text.old out.new text.new (reached_lines peer entries.now) }
@@ -138,39 +139,45 @@ pub(crate) fn put_entries<W: Sink>(
 }
 
 /// Adds the lines of one peer's table. Its entries replace the contents of a list that has room for them.
-fn put_table<'a, M: PrefixMap<SharedRoute>, T: Threads + Sync, W: Sink>(
+fn put_table<'a, M: PrefixMap<SharedRoute, Addr = u32>, T: Threads + Sync, W: Sink>(
     rt: &T,
     pieces: &mut Pieces,
     text: &mut TextBuffer,
     out: &mut W,
+    forms: AddressForms,
     all: &mut Vec<(RouteKey, &'a SharedRoute)>,
     seat: &'a Seated<M>,
 )
     requires { length (seat_of seat.now).session.table ≤ vec_capacity all.old }
     ensures lines { Writes W.contents W.failure_count out.old text.old out.new text.new
-        (seat_lines (seat_of seat.now)) }
+        (seat_lines forms (seat_of seat.now)) }
     ensures capacity { vec_capacity all.new ≡ vec_capacity all.old }
 {
     all.clear();
     seat.session.table().list(all);
-    put_all_entries(rt, pieces, text, out, seat.key, all.as_slice());
+    let peer = ShownPeer {
+        key: seat.key,
+        forms,
+    };
+    put_all_entries(rt, pieces, text, out, peer, all.as_slice());
 }
 
 /// Adds the lines of every table, in order, by way of one list that has room for the entries of any of them.
-fn put_tables<'a, M: PrefixMap<SharedRoute>, T: Threads + Sync, W: Sink>(
+fn put_tables<'a, M: PrefixMap<SharedRoute, Addr = u32>, T: Threads + Sync, W: Sink>(
     rt: &T,
     pieces: &mut Pieces,
     text: &mut TextBuffer,
     out: &mut W,
+    forms: AddressForms,
     mut all: Vec<(RouteKey, &'a SharedRoute)>,
     seats: &'a [Seated<M>],
 )
     requires { most_entries (map seat_of seats.now) ≤ vec_capacity all }
     ensures { Writes W.contents W.failure_count out.old text.old out.new text.new
-        (flat_map seat_lines (map seat_of seats.now)) }
+        (flat_map (seat_lines forms) (map seat_of seats.now)) }
 {
     for seat in seats {
-        put_table(rt, pieces, text, out, &mut all, seat);
+        put_table(rt, pieces, text, out, forms, &mut all, seat);
     }
 }
 
@@ -178,17 +185,18 @@ fn put_tables<'a, M: PrefixMap<SharedRoute>, T: Threads + Sync, W: Sink>(
 /// up to as many threads as are asked for, while the calling thread writes those before. All memory is allocated
 /// before anything is written: if it returns `Memory`, nothing has been written. If it returns `Write`, a leading
 /// part of the text has been written.
-pub fn list_tables<M: PrefixMap<SharedRoute>, T: Threads + Sync, W: Sink>(
+pub fn list_tables<M: PrefixMap<SharedRoute, Addr = u32>, T: Threads + Sync, W: Sink>(
     rt: &T,
     alloc: Global,
     threads: usize,
     out: &mut W,
+    forms: AddressForms,
     tables: &Tables<M>,
 ) -> Result<(), ReplayError>
     ensures ok { OnOk result (Appends (W.contents out.old) (W.contents out.new)
-        (flat_map route_line (route_rows tables.now))) }
+        (flat_map (route_line forms) (route_rows tables.now))) }
     ensures front { OnErr result (WritesFront (W.contents out.old) (W.contents out.new)
-        (flat_map route_line (route_rows tables.now))) }
+        (flat_map (route_line forms) (route_rows tables.now))) }
     ensures errors { IfErr result (λ e. (e ≡ errors.Memory) ⊎ (e ≡ errors.Write)) }
     ensures untouched { result ≡ Err errors.Memory → out.new ≡ out.old }
     ensures sound { OnOk result (W.failure_count out.new ≡ W.failure_count out.old) }
@@ -199,7 +207,7 @@ pub fn list_tables<M: PrefixMap<SharedRoute>, T: Threads + Sync, W: Sink>(
     let all = Vec::with_capacity(alloc, most)?;
     let mut pieces = Pieces::new(alloc, threads, most)?;
     let mut text = TextBuffer::new();
-    put_tables(rt, &mut pieces, &mut text, out, all, seats);
+    put_tables(rt, &mut pieces, &mut text, out, forms, all, seats);
     match text.finish(out) {
         Ok(()) => Ok(()),
         Err(Failed) => Err(ReplayError::Write),
@@ -219,23 +227,30 @@ fn prefetch_route(route: &PackedRoute) -> usize {
 }
 
 impl Line for TableRow<'_> {
-    ghost line = { λ row. route_line (table_row row) };
+    ghost line = { λ forms row. route_line forms (table_row row) };
 
     fn prefetch(&self) -> usize {
         prefetch_route(self.route)
     }
 
-    fn put<W: Sink>(&self, text: &mut TextBuffer, out: &mut W) {
-        let peer_text = text.peer_text(self.peer);
+    fn put<W: Sink>(&self, text: &mut TextBuffer, out: &mut W, forms: AddressForms) {
+        let peer_text = text.peer_text(ShownPeer {
+            key: self.peer,
+            forms,
+        });
         put_row(text, out, &peer_text, &self.key, self.route);
     }
 }
 
 /// Writes the rows of `table_rows` or `matches`. If it returns `Write`, a leading part of the text has been
 /// written.
-pub fn write_rows<W: Sink>(out: &mut W, rows: &[TableRow<'_>]) -> Result<(), ReplayError>
+pub fn write_rows<W: Sink>(
+    out: &mut W,
+    forms: AddressForms,
+    rows: &[TableRow<'_>],
+) -> Result<(), ReplayError>
     ensures { IsOutput (W.contents out.old) (W.failure_count out.old) (W.contents out.new) (W.failure_count out.new)
-        (flat_map (λ row. route_line (table_row row)) rows.now) result }
+        (flat_map (λ row. route_line forms (table_row row)) rows.now) result }
 {
-    write_lines(out, rows)
+    write_lines(out, forms, rows)
 }

@@ -12,6 +12,7 @@ ghost use Rattle.rib_report.specs.Texts.{IsOutput, Writes};
 
 use crate::buffer::TextBuffer;
 use crate::field::Ended;
+use crate::forms::{AddressForm, AddressForms};
 use crate::line::Line;
 use crate::merge::{Listed, Mergeable, list_peers, list_peers_by_few};
 use crate::write::write_lines;
@@ -64,7 +65,7 @@ impl Listed for (Prefix, usize) {
     ghost list_of = { visible_among };
 
     /// Each prefix once and with a count of 1, whatever its path identifiers.
-    fn list_of_seat<M: PrefixMap<SharedRoute>>(
+    fn list_of_seat<M: PrefixMap<SharedRoute, Addr = u32>>(
         alloc: Global,
         seat: &Seated<M>,
     ) -> Result<Vec<(Prefix, usize)>, Memory> {
@@ -98,7 +99,7 @@ fn rows_of(alloc: Global, counts: &[(Prefix, usize)]) -> Result<Vec<VisibilityRo
 
 /// Returns, for each prefix visible at any peer, the number of peers at which it is visible, by prefix. A peer
 /// counts once per prefix, whatever the identifiers of its routes.
-pub fn visibility<M: PrefixMap<SharedRoute>>(
+pub fn visibility<M: PrefixMap<SharedRoute, Addr = u32>>(
     alloc: Global,
     tables: &Tables<M>,
 ) -> Result<Vec<VisibilityRow>, Memory>
@@ -110,7 +111,7 @@ pub fn visibility<M: PrefixMap<SharedRoute>>(
 
 /// Returns what `visibility` returns. With two threads or more, two of them share the work; if no thread can be
 /// started, the calling thread does all of it.
-pub fn visibility_with_threads<M: PrefixMap<SharedRoute> + Sync, T: Threads>(
+pub fn visibility_with_threads<M: PrefixMap<SharedRoute, Addr = u32> + Sync, T: Threads>(
     rt: &T,
     alloc: Global,
     threads: usize,
@@ -126,13 +127,13 @@ pub fn visibility_with_threads<M: PrefixMap<SharedRoute> + Sync, T: Threads>(
 }
 
 impl Line for VisibilityRow {
-    ghost line = { visibility_line };
+    ghost line = { λ _. visibility_line };
 
     fn prefetch(&self) -> usize {
         0
     }
 
-    fn put<W: Sink>(&self, text: &mut TextBuffer, out: &mut W) {
+    fn put<W: Sink>(&self, text: &mut TextBuffer, out: &mut W, _forms: AddressForms) {
         text.put(out, Ended((self.prefix, self.peers as u128)));
     }
 }
@@ -142,5 +143,5 @@ pub fn write_visibility<W: Sink>(out: &mut W, rows: &[VisibilityRow]) -> Result<
     ensures { IsOutput (W.contents out.old) (W.failure_count out.old) (W.contents out.new) (W.failure_count out.new)
         (flat_map visibility_line rows.now) result }
 {
-    write_lines(out, rows)
+    write_lines(out, AddressForms::all(AddressForm::Full), rows)
 }

@@ -86,7 +86,7 @@ fn expect_row(rt: &impl Abort, row: &HistoryRow, told: &Told) {
     }
 }
 
-fn expect_rows<M: PrefixMap<SharedRoute> + Drop>(
+fn expect_rows<M: PrefixMap<SharedRoute, Addr = u32> + Drop>(
     rt: &impl Abort,
     alloc: Global,
 ) -> Result<(), Memory> {
@@ -110,8 +110,8 @@ fn expect_rows<M: PrefixMap<SharedRoute> + Drop>(
 #[test]
 fn watches_make_a_row_of_each_change(rt: HostRuntime) {
     let alloc = rt.alloc();
-    expect_rows::<Flat<SharedRoute>>(&rt, alloc).expect(&rt, "memory");
-    expect_rows::<Radix<SharedRoute>>(&rt, alloc).expect(&rt, "memory");
+    expect_rows::<Flat<u32, SharedRoute>>(&rt, alloc).expect(&rt, "memory");
+    expect_rows::<Radix<u32, SharedRoute>>(&rt, alloc).expect(&rt, "memory");
 }
 
 #[test]

@@ -7,11 +7,18 @@ use fixtures::bytes_of;
 use mrt_body::{Damage, PeerAddr, PeerKey, Place};
 use mrt_frame::{Counted, Fault};
 use rib_report::{
-    ChurnRow, OriginRow, SeenRow, TableRow, VisibilityRow, write_churn, write_faults,
-    write_origins, write_rows, write_seen, write_visibility,
+    AddressForm, AddressForms, ChurnRow, OriginRow, SeenRow, TableRow, VisibilityRow, write_churn,
+    write_faults, write_origins, write_rows, write_seen, write_visibility,
 };
 use std::alloc::Global;
 use std::process::Abort;
+use std::test::Fail;
+
+/// Addresses in full.
+const FULL: AddressForms = AddressForms {
+    peers: AddressForm::Full,
+    routes: AddressForm::Full,
+};
 
 /// 65000 192.0.2.1.
 const PEER: PeerKey = PeerKey {
@@ -48,7 +55,7 @@ fn route_by(
     next_hop: Option<NextHop>,
 ) -> PackedRoute {
     let bytes = bytes_of(alloc, attributes).expect(rt, attributes);
-    let route = read_attrs(alloc, bytes.as_slice(), Width::Four).expect(rt, attributes);
+    let route = read_attrs::<u32>(alloc, bytes.as_slice(), Width::Four).expect(rt, attributes);
     PackedRoute::pack(alloc, &route.with_next_hop(next_hop)).expect(rt, attributes)
 }
 
@@ -108,8 +115,88 @@ fn each_field_of_a_route_has_its_text(rt: HostRuntime) {
 4294967295 ffff:ffff:ffff:ffff:ffff:ffff:ffff:ffff|255.255.255.255/32#4294967295|(64512 1) [3,2] 4294967295 0 10 {70001,70000}|ffff:ffff:ffff:ffff:ffff:ffff:ffff:ffff fe80:0000:0000:0000:0000:0000:0000:0000|INCOMPLETE|4294967295|4294967295|atomic|4294967295 255.255.255.255
 ";
     let mut out = Counted::new(Vec::<u8>::new(alloc));
-    assert!(rt; write_rows(&mut out, &rows).is_ok());
+    assert!(rt; write_rows(&mut out, FULL, &rows).is_ok());
     assert!(rt; out.device().as_slice() == lines.as_bytes());
+}
+
+/// The address of these two halves.
+fn address(high: u64, low: u64) -> u128 {
+    (high as u128 * (1 << 64)) + low as u128
+}
+
+/// IPv6 addresses, each with its short text (RFC 5952, 4).
+const SHORT_TEXTS: [(u64, u64, &str); 9] = [
+    (
+        0x2001_0DB8_0000_0000,
+        0x0001_0000_0000_0001,
+        "2001:db8::1:0:0:1",
+    ),
+    (0x2001_0000_0000_0001, 1, "2001:0:0:1::1"),
+    (
+        0x2001_0DB8_0000_0001,
+        0x0001_0001_0001_0001,
+        "2001:db8:0:1:1:1:1:1",
+    ),
+    (0, 0, "::"),
+    (0, 1, "::1"),
+    (0, 0x0000_FFFF_C000_0201, "::ffff:c000:201"),
+    (0x0001_0000_0000_0000, 0, "1::"),
+    (
+        0x2001_0DB8_0000_0000,
+        0x0000_0000_AAAA_BBCC,
+        "2001:db8::aaaa:bbcc",
+    ),
+    (
+        u64::MAX,
+        u64::MAX,
+        "ffff:ffff:ffff:ffff:ffff:ffff:ffff:ffff",
+    ),
+];
+
+#[test]
+fn each_address_has_its_short_text(rt: HostRuntime) -> Result<(), Fail> {
+    let alloc = rt.alloc();
+    for (high, low, text) in &SHORT_TEXTS {
+        let addr = address(*high, *low);
+        let route = route_by(&rt, alloc, "", Some(NextHop::V6(addr)));
+        let rows = [TableRow {
+            peer: PeerKey {
+                asn: 65_000,
+                addr: PeerAddr::V6(addr),
+            },
+            key: key(0, 0, 0),
+            route: &route,
+        }];
+        let mut out = Counted::new(Vec::<u8>::new(alloc));
+        assert!(rt; write_rows(&mut out, AddressForms::all(AddressForm::Short), &rows).is_ok());
+        let line = format!(in alloc; "65000 {text}|0.0.0.0/0|-|{text}|-|-|-|-|-\n")?;
+        assert!(rt; out.device().as_slice() == line.as_bytes(), "{text}");
+    }
+    Ok(())
+}
+
+#[test]
+fn peers_and_routes_have_their_own_forms(rt: HostRuntime) {
+    let alloc = rt.alloc();
+    let pair = NextHop::V6Pair(address(0x2001_0DB8 << 32, 1), address(0xFE80 << 48, 2));
+    let route = route_by(&rt, alloc, "", Some(pair));
+    let rows = [TableRow {
+        peer: PeerKey {
+            asn: 65_000,
+            addr: PeerAddr::V6(1),
+        },
+        key: key(0, 0, 0),
+        route: &route,
+    }];
+    let forms = AddressForms {
+        peers: AddressForm::Full,
+        routes: AddressForm::Short,
+    };
+    let line =
+        "65000 0000:0000:0000:0000:0000:0000:0000:0001|0.0.0.0/0|-|2001:db8::1 fe80::2|-|-|-|-|-\n";
+    let mut out = Counted::new(Vec::<u8>::new(alloc));
+    assert!(rt; write_rows(&mut out, forms, &rows).is_ok());
+    assert!(rt; out.device().as_slice() == line.as_bytes());
 }
 
 fn numbers(rt: &impl Abort, alloc: Global, numbers: &[u32]) -> Sequence<u32> {
@@ -236,7 +323,7 @@ fn churn_has_its_counts_and_times(rt: HostRuntime) {
 4294967295 ffff:ffff:ffff:ffff:ffff:ffff:ffff:ffff|18446744073709551615|18446744073709551615|18446744073709551615|18446744073709551615|18446744073709551615|18446744073709551615|18446744073709551615|18446744073709551615|4294971589.967295|18446744073709.551615
 ";
     let mut out = Counted::new(Vec::<u8>::new(alloc));
-    assert!(rt; write_churn(&mut out, &rows).is_ok());
+    assert!(rt; write_churn(&mut out, FULL, &rows).is_ok());
     assert!(rt; out.device().as_slice() == lines.as_bytes());
 }
 

@@ -6,13 +6,19 @@ use bgp_prefix::{Flat, PrefixMap, Radix};
 use mrt_body::{Damage, Place};
 use mrt_frame::{Counted, Fault, ReplayError, Sink};
 use rib_report::{
-    Tables, churn, faults, list_tables, matches, origins_with_threads, peers, seen_with_threads,
-    table_rows, visibility_with_threads, write_churn, write_faults, write_origins, write_peers,
-    write_rows, write_seen, write_visibility,
+    AddressForm, AddressForms, Tables, churn, faults, list_tables, matches, origins_with_threads,
+    peers, seen_with_threads, table_rows, visibility_with_threads, write_churn, write_faults,
+    write_origins, write_peers, write_rows, write_seen, write_visibility,
 };
 use std::alloc::Global;
 use std::process::Abort;
 use std::thread::Threads;
+
+/// Addresses in full.
+pub const FULL: AddressForms = AddressForms {
+    peers: AddressForm::Full,
+    routes: AddressForm::Full,
+};
 
 #[derive(Clone, Copy)]
 pub enum Report {
@@ -272,7 +278,7 @@ const DAMAGED: Case<'static> = Case {
 };
 
 /// Writes a report on tables, in so many threads.
-pub fn write_report<M: PrefixMap<SharedRoute> + Sync, T: Threads + Sync, W: Sink>(
+pub fn write_report<M: PrefixMap<SharedRoute, Addr = u32> + Sync, T: Threads + Sync, W: Sink>(
     rt: &T,
     alloc: Global,
     threads: usize,
@@ -281,7 +287,7 @@ pub fn write_report<M: PrefixMap<SharedRoute> + Sync, T: Threads + Sync, W: Sink
     report: Report,
 ) -> Result<(), ReplayError> {
     match report {
-        Report::Tables => list_tables(rt, alloc, threads, out, tables),
+        Report::Tables => list_tables(rt, alloc, threads, out, FULL, tables),
         Report::Visibility => {
             let rows = visibility_with_threads(rt, alloc, threads, tables)?;
             write_visibility(out, rows.as_slice())
@@ -294,15 +300,15 @@ pub fn write_report<M: PrefixMap<SharedRoute> + Sync, T: Threads + Sync, W: Sink
             let rows = seen_with_threads(rt, alloc, threads, tables)?;
             write_seen(out, rows.as_slice())
         }
-        Report::Churn => write_churn(out, churn(alloc, tables)?.as_slice()),
-        Report::Peers => write_peers(out, peers(alloc, tables)?.as_slice()),
-        Report::Match(addr) => write_rows(out, matches(alloc, tables, addr)?.as_slice()),
+        Report::Churn => write_churn(out, FULL, churn(alloc, tables)?.as_slice()),
+        Report::Peers => write_peers(out, FULL, peers(alloc, tables)?.as_slice()),
+        Report::Match(addr) => write_rows(out, FULL, matches(alloc, tables, addr)?.as_slice()),
         Report::Faults => write_faults(out, faults(alloc, tables)?.as_slice()),
     }
 }
 
 /// The entries of all peers, as rows.
-fn expect_rows<M: PrefixMap<SharedRoute>>(
+fn expect_rows<M: PrefixMap<SharedRoute, Addr = u32>>(
     rt: &impl Abort,
     alloc: Global,
     tables: &Tables<M>,
@@ -310,11 +316,11 @@ fn expect_rows<M: PrefixMap<SharedRoute>>(
 ) {
     let rows = table_rows(alloc, tables).expect(rt, "rows");
     let mut all = Counted::new(Vec::<u8>::new(alloc));
-    assert!(rt; write_rows(&mut all, rows.as_slice()).is_ok());
+    assert!(rt; write_rows(&mut all, FULL, rows.as_slice()).is_ok());
     assert!(rt; all.device().as_slice() == text.as_bytes());
 }
 
-fn expect_report<M: PrefixMap<SharedRoute> + Sync, T: Abort + Threads + Sync>(
+fn expect_report<M: PrefixMap<SharedRoute, Addr = u32> + Sync, T: Abort + Threads + Sync>(
     rt: &T,
     alloc: Global,
     tables: &Tables<M>,
@@ -336,7 +342,7 @@ fn expect_report<M: PrefixMap<SharedRoute> + Sync, T: Abort + Threads + Sync>(
 }
 
 /// Runs a case by one map, with the seats in this order.
-fn expect_order<M: PrefixMap<SharedRoute> + Sync + Drop, T: Abort + Threads + Sync>(
+fn expect_order<M: PrefixMap<SharedRoute, Addr = u32> + Sync + Drop, T: Abort + Threads + Sync>(
     rt: &T,
     alloc: Global,
     order: [usize; 3],
@@ -368,8 +374,8 @@ fn expect_case<T: Abort + Threads + Sync>(rt: &T, alloc: Global, case: &Case<'_>
         [2, 1, 0],
     ];
     for order in orders {
-        expect_order::<Radix<SharedRoute>, T>(rt, alloc, order, case);
-        expect_order::<Flat<SharedRoute>, T>(rt, alloc, order, case);
+        expect_order::<Radix<u32, SharedRoute>, T>(rt, alloc, order, case);
+        expect_order::<Flat<u32, SharedRoute>, T>(rt, alloc, order, case);
     }
 }
 

@@ -84,7 +84,7 @@ fn unit(alloc: Global, number: u32, entry: Entry) -> Result<Unit, Memory> {
 }
 
 /// The session of a peer with these routes.
-fn session<M: PrefixMap<SharedRoute> + Drop>(
+fn session<M: PrefixMap<SharedRoute, Addr = u32> + Drop>(
     rt: &impl Abort,
     alloc: Global,
     number: u32,
@@ -98,14 +98,17 @@ fn session<M: PrefixMap<SharedRoute> + Drop>(
     session
 }
 
-fn tables<M: PrefixMap<SharedRoute> + Drop>(rt: &impl Abort, alloc: Global) -> Tables<M> {
+fn tables<M: PrefixMap<SharedRoute, Addr = u32> + Drop>(
+    rt: &impl Abort,
+    alloc: Global,
+) -> Tables<M> {
     let first = session(rt, alloc, 0, &FIRST);
     let second = session(rt, alloc, 1, &SECOND);
     let third = session(rt, alloc, 2, &THIRD);
     tables_of_sessions(rt, alloc, first, second, third)
 }
 
-fn expect_lines<M: PrefixMap<SharedRoute> + Sync + Drop, T: Abort + Threads>(
+fn expect_lines<M: PrefixMap<SharedRoute, Addr = u32> + Sync + Drop, T: Abort + Threads>(
     rt: &T,
     alloc: Global,
 ) {
@@ -128,6 +131,6 @@ fn expect_lines<M: PrefixMap<SharedRoute> + Sync + Drop, T: Abort + Threads>(
 #[test]
 fn a_peer_counts_once_for_a_prefix_and_an_origin(rt: HostRuntime) {
     let alloc = rt.alloc();
-    expect_lines::<Radix<SharedRoute>, _>(&rt, alloc);
-    expect_lines::<Flat<SharedRoute>, _>(&rt, alloc);
+    expect_lines::<Radix<u32, SharedRoute>, _>(&rt, alloc);
+    expect_lines::<Flat<u32, SharedRoute>, _>(&rt, alloc);
 }

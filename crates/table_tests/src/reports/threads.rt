@@ -1,6 +1,7 @@
 //! Tables that are large enough for several threads to make their lines.
 
 use super::peers::{peer_of, tables_of_sessions};
+use super::reports::FULL;
 use super::writers::Narrow;
 use adj_rib::{Session, SharedRoute};
 use bgp_prefix::{Memory, Prefix, PrefixMap, Radix, RouteKey};
@@ -86,7 +87,7 @@ fn entry(alloc: Global, number: u32, i: u32) -> Result<Unit, Memory> {
 }
 
 /// The session of a peer with so many routes.
-fn session<M: PrefixMap<SharedRoute> + Drop>(
+fn session<M: PrefixMap<SharedRoute, Addr = u32> + Drop>(
     rt: &impl Abort,
     alloc: Global,
     number: u32,
@@ -132,13 +133,13 @@ fn lines(alloc: Global) -> Result<Vec<u8>, Memory> {
 fn expect_lines<T: Abort + Threads + Sync>(
     rt: &T,
     alloc: Global,
-    tables: &Tables<Radix<SharedRoute>>,
+    tables: &Tables<Radix<u32, SharedRoute>>,
     threads: usize,
     text: &[u8],
 ) {
     let mut out = Counted::new(Vec::<u8>::new(alloc));
     assert!(rt;
-        list_tables(rt, alloc, threads, &mut out, tables).is_ok(),
+        list_tables(rt, alloc, threads, &mut out, FULL, tables).is_ok(),
         "{threads} threads"
     );
     assert!(rt; out.device().as_slice() == text, "{threads} threads");
@@ -148,13 +149,13 @@ fn expect_lines<T: Abort + Threads + Sync>(
 fn expect_front<T: Abort + Threads + Sync>(
     rt: &T,
     alloc: Global,
-    tables: &Tables<Radix<SharedRoute>>,
+    tables: &Tables<Radix<u32, SharedRoute>>,
     threads: usize,
     front: &[u8],
 ) {
     let room = front.len();
     let mut out = Narrow::new(alloc, usize::MAX, room, false);
-    let answer = list_tables(rt, alloc, threads, &mut out, tables);
+    let answer = list_tables(rt, alloc, threads, &mut out, FULL, tables);
     assert!(rt;
         answer == Err(ReplayError::Write) && out.failures() == 1,
         "room for {room}"

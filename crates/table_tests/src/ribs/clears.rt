@@ -8,7 +8,7 @@ use std::alloc::Global;
 use std::process::Abort;
 
 /// The routes of a peer, what is counted of it, how many units came, and whether it is up and established.
-fn expect_session<M: PrefixMap<SharedRoute>>(
+fn expect_session<M: PrefixMap<SharedRoute, Addr = u32>>(
     rt: &impl Abort,
     session: &Session<M>,
     routes: usize,
@@ -84,7 +84,7 @@ const DOWN: Churn = Churn {
     last: Some(1_000_000),
 };
 
-fn expect_cleared<M: PrefixMap<SharedRoute> + Drop>(rt: &impl Abort, alloc: Global) {
+fn expect_cleared<M: PrefixMap<SharedRoute, Addr = u32> + Drop>(rt: &impl Abort, alloc: Global) {
     let mut session = Session::<M>::new(alloc);
     take_named(rt, alloc, &mut session, "clear");
     expect_session(rt, &session, 0, &NOTHING, 0, true);
@@ -106,12 +106,12 @@ fn expect_cleared<M: PrefixMap<SharedRoute> + Drop>(rt: &impl Abort, alloc: Glob
 
 #[test]
 fn a_clear_ends_the_routes_of_a_session_and_no_more(rt: HostRuntime) {
-    expect_cleared::<Flat<SharedRoute>>(&rt, rt.alloc());
-    expect_cleared::<Radix<SharedRoute>>(&rt, rt.alloc());
+    expect_cleared::<Flat<u32, SharedRoute>>(&rt, rt.alloc());
+    expect_cleared::<Radix<u32, SharedRoute>>(&rt, rt.alloc());
 }
 
 /// Takes the unit of a name, of any prefix and counted from the beginning on. Returns the notes.
-fn watch_named<M: PrefixMap<SharedRoute>>(
+fn watch_named<M: PrefixMap<SharedRoute, Addr = u32>>(
     rt: &impl Abort,
     alloc: Global,
     watch: &mut Watch<M>,
@@ -137,7 +137,7 @@ fn expect_notes(rt: &impl Abort, notes: &[Note], what: What, identifiers: &[u32]
     }
 }
 
-fn expect_watch<M: PrefixMap<SharedRoute>>(
+fn expect_watch<M: PrefixMap<SharedRoute, Addr = u32>>(
     rt: &impl Abort,
     watch: &Watch<M>,
     routes: usize,
@@ -149,7 +149,7 @@ fn expect_watch<M: PrefixMap<SharedRoute>>(
     assert!(rt; watch.is_up() == is_up && watch.faults().is_empty());
 }
 
-fn expect_lost<M: PrefixMap<SharedRoute> + Drop>(rt: &impl Abort, alloc: Global) {
+fn expect_lost<M: PrefixMap<SharedRoute, Addr = u32> + Drop>(rt: &impl Abort, alloc: Global) {
     let mut watch = Watch::<M>::new(alloc);
     let none = watch_named(rt, alloc, &mut watch, "clear");
     expect_notes(rt, none.as_slice(), What::Lost, &[]);
@@ -176,6 +176,6 @@ fn expect_lost<M: PrefixMap<SharedRoute> + Drop>(rt: &impl Abort, alloc: Global)
 
 #[test]
 fn a_watch_notes_each_route_that_a_clear_ends(rt: HostRuntime) {
-    expect_lost::<Flat<SharedRoute>>(&rt, rt.alloc());
-    expect_lost::<Radix<SharedRoute>>(&rt, rt.alloc());
+    expect_lost::<Flat<u32, SharedRoute>>(&rt, rt.alloc());
+    expect_lost::<Radix<u32, SharedRoute>>(&rt, rt.alloc());
 }

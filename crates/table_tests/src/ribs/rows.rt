@@ -8,7 +8,7 @@ use std::alloc::Global;
 use std::process::Abort;
 
 /// The session of a peer after these units.
-fn session_after<M: PrefixMap<SharedRoute> + Drop>(
+fn session_after<M: PrefixMap<SharedRoute, Addr = u32> + Drop>(
     rt: &impl Abort,
     alloc: Global,
     names: &str,
@@ -37,7 +37,7 @@ fn counts(churn: &Churn) -> [u64; 8] {
 /// Path identifiers of 10.0.0.0/8 in a table, each with its next hop.
 type Paths = &'static [(u32, u32)];
 
-fn expect_table<M: PrefixMap<SharedRoute>>(
+fn expect_table<M: PrefixMap<SharedRoute, Addr = u32>>(
     rt: &impl Abort,
     alloc: Global,
     session: &Session<M>,
@@ -208,7 +208,7 @@ const ROWS: [(&str, [u64; 8], u64, u64, Paths); 22] = [
 ];
 
 /// The counts are these, the first and the last unit were of these seconds, and the damaged units are listed.
-fn expect_churn<M: PrefixMap<SharedRoute>>(
+fn expect_churn<M: PrefixMap<SharedRoute, Addr = u32>>(
     rt: &impl Abort,
     session: &Session<M>,
     expected: [u64; 8],
@@ -225,7 +225,7 @@ fn expect_churn<M: PrefixMap<SharedRoute>>(
     assert!(rt; session.faults().len() as u64 == churn.refused, "{names}");
 }
 
-fn run_rows<M: PrefixMap<SharedRoute> + Drop>(rt: &impl Abort, alloc: Global) {
+fn run_rows<M: PrefixMap<SharedRoute, Addr = u32> + Drop>(rt: &impl Abort, alloc: Global) {
     for (names, expected, first, last, paths) in ROWS {
         let session = session_after::<M>(rt, alloc, names);
         expect_churn(rt, &session, expected, (first, last), names);
@@ -235,6 +235,6 @@ fn run_rows<M: PrefixMap<SharedRoute> + Drop>(rt: &impl Abort, alloc: Global) {
 
 #[test]
 fn units_change_the_table_and_its_counts(rt: HostRuntime) {
-    run_rows::<Flat<SharedRoute>>(&rt, rt.alloc());
-    run_rows::<Radix<SharedRoute>>(&rt, rt.alloc());
+    run_rows::<Flat<u32, SharedRoute>>(&rt, rt.alloc());
+    run_rows::<Radix<u32, SharedRoute>>(&rt, rt.alloc());
 }

@@ -23,7 +23,7 @@ fn expect_bad_origin(rt: &impl Abort, alloc: Global, name: &str) {
 #[test]
 fn damaged_units_are_listed_and_change_no_state(rt: HostRuntime) {
     let alloc = rt.alloc();
-    let mut session = Session::<Flat<SharedRoute>>::new(alloc);
+    let mut session = Session::<Flat<u32, SharedRoute>>::new(alloc);
     assert!(rt; session.is_up() && !session.is_spent());
     assert!(rt; session.churn().first.is_none() && session.faults().is_empty());
     for name in ["bad-origin", "damaged-entry"] {
@@ -50,7 +50,11 @@ fn entry_by_hop(alloc: Global, id: u32, number: u8) -> Result<Unit, Memory> {
     Ok(entry_unit(id, PayloadBytes::from_vec(attrs)))
 }
 
-fn expect_hops_by_number(rt: &impl Abort, alloc: Global, session: &Session<Radix<SharedRoute>>) {
+fn expect_hops_by_number(
+    rt: &impl Abort,
+    alloc: Global,
+    session: &Session<Radix<u32, SharedRoute>>,
+) {
     let entries = session.table().entries(alloc).expect(rt, "the entries");
     for entry in &entries {
         let (key, shared) = *entry;
@@ -64,7 +68,7 @@ fn expect_hops_by_number(rt: &impl Abort, alloc: Global, session: &Session<Radix
 #[test]
 fn entries_share_their_routes(rt: HostRuntime) {
     let alloc = rt.alloc();
-    let mut session = Session::<Radix<SharedRoute>>::new(alloc);
+    let mut session = Session::<Radix<u32, SharedRoute>>::new(alloc);
     for id in 0..120u32 {
         let unit = entry_by_hop(alloc, id, (id % 40) as u8).expect(&rt, "an entry");
         session.take(alloc, &unit).expect(&rt, "an entry");
@@ -85,7 +89,7 @@ fn units_of(alloc: Global, names: &str) -> Result<Vec<Unit>, Memory> {
 fn take_until_spent(
     rt: &impl Abort,
     alloc: Global,
-    session: &mut Session<Radix<SharedRoute>>,
+    session: &mut Session<Radix<u32, SharedRoute>>,
     units: &[Unit],
 ) {
     for unit in units {
@@ -106,7 +110,7 @@ fn a_session_is_spent_after_a_refused_growth(rt: HostRuntime) -> Result<(), Fail
     let names =
         "entry entry-with-identifier with-identifier withdrawn-and-announced bad-origin reached";
     let units = units_of(alloc, names)?;
-    let mut session = Session::<Radix<SharedRoute>>::new(alloc);
+    let mut session = Session::<Radix<u32, SharedRoute>>::new(alloc);
     take_until_spent(&rt, alloc, &mut session, units.as_slice());
     Ok(())
 }

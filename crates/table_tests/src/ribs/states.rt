@@ -49,7 +49,7 @@ fn change_with(states: (u16, u16), facts: [bool; 3]) -> Change {
 /// A peer announces a prefix, its state changes, and it announces the prefix again.
 fn expect_change(rt: &impl Abort, alloc: Global, rule: StateRule, change: &Change) {
     let (from, to) = change.states;
-    let mut session = Session::<Flat<SharedRoute>>::new(alloc);
+    let mut session = Session::<Flat<u32, SharedRoute>>::new(alloc);
     take_named(rt, alloc, &mut session, "announcement");
     session
         .take(alloc, &state_change(from, to, rule))

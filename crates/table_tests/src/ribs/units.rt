@@ -79,7 +79,7 @@ pub fn unit_of(alloc: Global, name: &str) -> Result<Unit, Memory> {
 }
 
 /// Takes the unit of a name.
-pub fn take_named<M: PrefixMap<SharedRoute>>(
+pub fn take_named<M: PrefixMap<SharedRoute, Addr = u32>>(
     rt: &impl Abort,
     alloc: Global,
     session: &mut Session<M>,

@@ -10,12 +10,12 @@ use std::process::Abort;
 /// The route that attributes give, with four-byte AS numbers.
 fn route_of(rt: &impl Abort, alloc: Global, text: &str) -> Route {
     let bytes = bytes_of(alloc, text).expect(rt, "memory");
-    read_attrs(alloc, bytes.as_slice(), Width::Four).expect(rt, "a route")
+    read_attrs::<u32>(alloc, bytes.as_slice(), Width::Four).expect(rt, "a route")
 }
 
 /// What is wrong with attributes.
 fn fault_of(rt: &impl Abort, alloc: Global, bytes: &[u8]) -> Option<Fault> {
-    match read_attrs(alloc, bytes, Width::Four).err() {
+    match read_attrs::<u32>(alloc, bytes, Width::Four).err() {
         None => None,
         Some(AttrError::Bad(fault)) => Some(fault),
         Some(AttrError::Memory) => panic!(rt; "memory"),

@@ -73,13 +73,13 @@ fn an_identifier_past_its_field_is_a_bad_prefix(rt: HostRuntime) {
 
 #[test]
 fn a_prefix_is_taken_off_the_front_of_bytes(rt: HostRuntime) {
-    match prefix_at(12, &[0x0A, 0xFF, 1]) {
+    match prefix_at::<u32>(12, &[0x0A, 0xFF, 1]) {
         Ok((prefix, rest)) => {
             assert!(rt; Some(prefix) == Prefix::new(0x0AF00000, 12));
             assert!(rt; rest.len() == 1);
         }
         Err(_) => assert!(rt; false),
     }
-    assert!(rt; prefix_at(33, &[0; 5]).is_err());
-    assert!(rt; prefix_at(9, &[0x0A]).is_err());
+    assert!(rt; prefix_at::<u32>(33, &[0; 5]).is_err());
+    assert!(rt; prefix_at::<u32>(9, &[0x0A]).is_err());
 }

@@ -34,7 +34,7 @@ pub fn fault_in(
     width: Width,
     add_path: bool,
 ) -> Option<Fault> {
-    match read_update(alloc, body, width, add_path).err() {
+    match read_update::<u32>(alloc, body, width, add_path).err() {
         None => None,
         Some(AttrError::Bad(fault)) => Some(fault),
         Some(AttrError::Memory) => panic!(rt; "memory"),

@@ -1,7 +1,7 @@
 use Rattle.std.proofs.Common.{◌∙◌, ap, List}
 use Rattle.std.specs.List.{fold}
 use Rattle.std.specs.FinMap as finite
-use Rattle.bgp_prefix.specs.declared.key.RouteKey.{RouteKey}
+use Rattle.bgp_prefix.specs.Keys.{RouteKey}
 use Rattle.adj_rib.specs.Selecting.{chooses}
 use Rattle.adj_rib.proofs.RetainLaws.{entries-retained}
 use Rattle.adj_rib.proofs.retaining.retain_chosen.Goals as goal

@@ -5,8 +5,8 @@ use Rattle.bgp_update.proofs.agreement.updates_agree_with_their_forms.Goals as g
 
 pub returns : goal.returns
 returns c = record {
-  updates = λ width add_path body update fine. (update_takes width add_path body update fine, update_again width add_path body update);
-  one_update = λ width add_path body update other h k. ok_is update other (sym (update_again width add_path body update h) ∙ update_again width add_path body other k);
-  routes = λ width bytes route fine. (route_takes width bytes route fine, route_again width bytes route);
-  one_route = λ width bytes route other h k. ok_is route other (sym (route_again width bytes route h) ∙ route_again width bytes other k);
+  updates = λ family width add_path body update fine. (update_takes family width add_path body update fine, update_again family width add_path body update);
+  one_update = λ family width add_path body update other h k. ok_is update other (sym (update_again family width add_path body update h) ∙ update_again family width add_path body other k);
+  routes = λ family width bytes route fine. (route_takes family width bytes route fine, route_again family width bytes route);
+  one_route = λ family width bytes route other h k. ok_is route other (sym (route_again family width bytes route h) ∙ route_again family width bytes other k);
 }

@@ -8,45 +8,45 @@ use Rattle.bgp_update.proofs.PackedReadings.{keeps_spelled, keeps_writable}
 use Rattle.bgp_update.proofs.values.keep_values.Goals as goal
 
 pub loop-rest-init : goal.loop-rest-init
-loop-rest-init c = record {
+loop-rest-init g c = record {
   whole = c.requires.whole;
-  reads = starts c.args.carrier c.args.width c.args.first.now c.args.bytes.now c.requires.none;
+  reads = starts g.F.Unicast.family c.args.carrier c.args.width c.args.first.now c.args.bytes.now c.requires.none;
 }
 
 pub returns-in_err-attribute-clause-fault : goal.returns-in_err-attribute-clause-fault
-returns-in_err-attribute-clause-fault c =
+returns-in_err-attribute-clause-fault g c =
     let some : 0 < length c.loop-rest.rest.now = grind (arith, nat_tests) in
     let p = err_from_is_err_and c.from_residual.result c.from_residual.ensures.1 in
-    rw (p.1, p.2) (fails c.args.carrier c.args.width c.loop-rest.first c.loop-rest.rest.now c.in_err-attribute.field-0.0 (attributes_in c.args.carrier c.args.width c.args.bytes.now) some c.in_err-attribute.ensures c.loop-rest.invariant.reads)
+    rw (p.1, p.2) (fails g.F.Unicast.family c.args.carrier c.args.width c.loop-rest.first c.loop-rest.rest.now c.in_err-attribute.field-0.0 (attributes_in g.F.Unicast.family c.args.carrier c.args.width c.args.bytes.now) some c.in_err-attribute.ensures c.loop-rest.invariant.reads)
 
 pub returns-in_err-take-clause-fault : goal.returns-in_err-take-clause-fault
-returns-in_err-take-clause-fault c =
+returns-in_err-take-clause-fault g c =
     let some : 0 < length c.loop-rest.rest.now = grind (arith, nat_tests) in
     let p = err_from_is_err_and c.from_residual-in_err-take.result c.from_residual-in_err-take.ensures.1 in
-    rw (p.1, p.2) (refuses c.args.carrier c.args.width c.loop-rest.first c.loop-rest.rest.now (as_written c.in_ok-attribute.attribute) c.in_ok-attribute.after.now c.in_err-take.field-0.0 (attributes_in c.args.carrier c.args.width c.args.bytes.now) some c.in_ok-attribute.ensures c.in_err-take.ensures.err c.loop-rest.invariant.reads)
+    rw (p.1, p.2) (refuses g.F.Unicast.family c.args.carrier c.args.width c.loop-rest.first c.loop-rest.rest.now (as_written c.in_ok-attribute.attribute) c.in_ok-attribute.after.now c.in_err-take.field-0.0 (attributes_in g.F.Unicast.family c.args.carrier c.args.width c.args.bytes.now) some c.in_ok-attribute.ensures c.in_err-take.ensures.err c.loop-rest.invariant.reads)
 
 pub loop-rest-smaller : goal.loop-rest-smaller
-loop-rest-smaller c = attribute_at_shorter c.loop-rest.rest.now (as_written c.in_ok-attribute.attribute) c.in_ok-attribute.after.now c.in_ok-attribute.ensures
+loop-rest-smaller g c = attribute_at_shorter c.loop-rest.rest.now (as_written c.in_ok-attribute.attribute) c.in_ok-attribute.after.now c.in_ok-attribute.ensures
 
 pub loop-rest-preserved : goal.loop-rest-preserved
-loop-rest-preserved c =
+loop-rest-preserved g c =
     let some : 0 < length c.loop-rest.rest.now = grind (arith, nat_tests) in
     record {
       whole = c.in_ok-take.ensures.whole;
-      reads = goes_on c.args.carrier c.args.width c.loop-rest.first c.take.new.self c.loop-rest.rest.now (as_written c.in_ok-attribute.attribute) c.in_ok-attribute.after.now (attributes_in c.args.carrier c.args.width c.args.bytes.now) some c.in_ok-attribute.ensures c.in_ok-take.ensures.ok c.loop-rest.invariant.reads;
+      reads = goes_on g.F.Unicast.family c.args.carrier c.args.width c.loop-rest.first c.take.new.self c.loop-rest.rest.now (as_written c.in_ok-attribute.attribute) c.in_ok-attribute.after.now (attributes_in g.F.Unicast.family c.args.carrier c.args.width c.args.bytes.now) some c.in_ok-attribute.ensures c.in_ok-take.ensures.ok c.loop-rest.invariant.reads;
     }
 
 pub returns-clause-values : goal.returns-clause-values
-returns-clause-values c =
+returns-clause-values g c =
     let none : length c.loop-rest.rest.now ≡ 0 = grind (arith, nat_tests) in
-    ends c.args.carrier c.args.width c.loop-rest.first c.args.bytes.now c.loop-rest.rest.now none c.loop-rest.invariant.reads
+    ends g.F.Unicast.family c.args.carrier c.args.width c.loop-rest.first c.args.bytes.now c.loop-rest.rest.now none c.loop-rest.invariant.reads
 
 pub returns-clause-spelled : goal.returns-clause-spelled
-returns-clause-spelled c =
+returns-clause-spelled g c =
     let none : length c.loop-rest.rest.now ≡ 0 = grind (arith, nat_tests) in
-    keeps_spelled c.args.carrier c.args.width c.args.bytes.now c.loop-rest.first (λ i. omega (arith, c.type_inv.bytes i)) (ends c.args.carrier c.args.width c.loop-rest.first c.args.bytes.now c.loop-rest.rest.now none c.loop-rest.invariant.reads)
+    keeps_spelled g.F.Unicast.family c.args.carrier c.args.width c.args.bytes.now c.loop-rest.first (λ i. omega (arith, c.type_inv.bytes i)) (ends g.F.Unicast.family c.args.carrier c.args.width c.loop-rest.first c.args.bytes.now c.loop-rest.rest.now none c.loop-rest.invariant.reads)
 
 pub returns-clause-writable : goal.returns-clause-writable
-returns-clause-writable c =
+returns-clause-writable g c =
     let none : length c.loop-rest.rest.now ≡ 0 = grind (arith, nat_tests) in
-    keeps_writable c.args.carrier c.args.width c.args.bytes.now c.loop-rest.first (λ i. omega (arith, c.type_inv.bytes i)) (ends c.args.carrier c.args.width c.loop-rest.first c.args.bytes.now c.loop-rest.rest.now none c.loop-rest.invariant.reads)
+    keeps_writable g.F.Unicast.family c.args.carrier c.args.width c.args.bytes.now c.loop-rest.first (λ i. omega (arith, c.type_inv.bytes i)) (ends g.F.Unicast.family c.args.carrier c.args.width c.loop-rest.first c.args.bytes.now c.loop-rest.rest.now none c.loop-rest.invariant.reads)

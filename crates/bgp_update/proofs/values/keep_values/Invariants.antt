@@ -5,10 +5,10 @@ use Rattle.bgp_update.proofs.AttributeLoop.{ReadsOn}
 use Rattle.bgp_update.proofs.values.keep_values.Given as goal
 
 abbrev pub invariant-loop-rest : goal.invariant-loop-rest
-invariant-loop-rest l = record {
+invariant-loop-rest g l = record {
   whole : length l.first.values ≡ value_count;
-  reads : ReadsOn l.carrier l.width l.first l.rest (attributes_in l.carrier l.width l.bytes);
+  reads : ReadsOn g.F.Unicast.family l.carrier l.width l.first l.rest (attributes_in g.F.Unicast.family l.carrier l.width l.bytes);
 }
 
 abbrev pub decreases-loop-rest : goal.decreases-loop-rest
-decreases-loop-rest l = length l.rest
+decreases-loop-rest g l = length l.rest

@@ -2,7 +2,7 @@ use Rattle.command_line.proofs.Spelled.{none_of_parts}
 use Rattle.command_line.proofs.choice.sized_prefix.Goals as goal
 
 pub returns-in_err-addr-clause-none : goal.returns-in_err-addr-clause-none
-returns-in_err-addr-clause-none c = rw c.from_residual.ensures (λ p a e ip. c.in_err-addr.ensures.none p.addr a)
+returns-in_err-addr-clause-none c = rw c.from_residual.ensures (λ p a e ip. c.in_err-addr.ensures.none a.number a.spelled)
 
 pub returns-clause-none : goal.returns-clause-none
 returns-clause-none c =

@@ -21,6 +21,7 @@ returns-in-Err-write_told-clause-promised g c =
     let h = c.in-Err-write_told.ensures in
     let run : RunState = record {
       request = c.args.request.now;
+      layout = c.args.layout;
       selection = c.args.selection;
       plan = c.args.plan.now;
       told = map g.R.Source.remaining c.args.files.now;
@@ -39,14 +40,15 @@ returns-in-Err-write_told-clause-promised g c =
     (λ files honest s.
     let p = c.in-Ok.ensures.listed files honest.readers_tell in
     subst (WritesFront (g.W.Sink.contents c.args.writer.now) (g.W.Sink.contents c.write_told.new.out))
-    (history_is_report c.args.request.now c.args.listing c.args.selection files told.rows.items told.watches c.requires.history p.rows p.watches) (h.front (ap (λ x. Err x) s))))
+    (history_is_report c.args.request.now c.args.layout c.args.listing c.args.selection files told.rows.items told.watches c.requires.history p.rows p.watches) (h.front (ap (λ x. Err x) s))))
 
 pub returns-then-is_err-clause-promised : goal.returns-then-is_err-clause-promised
 returns-then-is_err-clause-promised g c =
     let told = c.in-Ok.history.told in
-    let wrote = Appends-kept (g.W.Sink.contents c.args.writer.now) (g.W.Sink.contents c.write_told.new.out) (g.W.Sink.contents c.flush_all.new.self) (told_lines c.args.listing.listed told.rows.items told.watches) c.in_default.ensures.ok c.flush_all.ensures.bytes in
+    let wrote = Appends-kept (g.W.Sink.contents c.args.writer.now) (g.W.Sink.contents c.write_told.new.out) (g.W.Sink.contents c.flush_all.new.self) (told_lines c.args.layout c.args.listing.listed told.rows.items told.watches) c.in_default.ensures.ok c.flush_all.ensures.bytes in
     let run : RunState = record {
       request = c.args.request.now;
+      layout = c.args.layout;
       selection = c.args.selection;
       plan = c.args.plan.now;
       told = map g.R.Source.remaining c.args.files.now;
@@ -64,7 +66,7 @@ returns-then-is_err-clause-promised g c =
       λ files honest.
           let p = c.in-Ok.ensures.listed files honest.readers_tell in
           front_whole _ _ _ (subst (Appends (g.W.Sink.contents c.args.writer.now) (g.W.Sink.contents c.flush_all.new.self))
-          (history_is_report c.args.request.now c.args.listing c.args.selection files told.rows.items told.watches c.requires.history p.rows p.watches) wrote),
+          (history_is_report c.args.request.now c.args.layout c.args.listing c.args.selection files told.rows.items told.watches c.requires.history p.rows p.watches) wrote),
     )
 
 pub returns-clause-promised : goal.returns-clause-promised
@@ -76,10 +78,10 @@ returns-clause-promised g c = record {
       let since = c.args.listing.since in
       let watches = map watch_in c.watched-watches.result.now in
       let stands : watches ≡ watches_of since until.prefixes (units_of until files) = c.watched-watches.ensures ∙ p.watches in
-      let wrote = Appends-kept (g.W.Sink.contents c.args.writer.now) (g.W.Sink.contents c.write_told.new.out) (g.W.Sink.contents c.flush_all.new.self) (told_lines c.args.listing.listed told.rows.items told.watches) c.in_default.ensures.ok c.flush_all.ensures.bytes in
+      let wrote = Appends-kept (g.W.Sink.contents c.args.writer.now) (g.W.Sink.contents c.write_told.new.out) (g.W.Sink.contents c.flush_all.new.self) (told_lines c.args.layout c.args.listing.listed told.rows.items told.watches) c.in_default.ensures.ok c.flush_all.ensures.bytes in
       record {
         written = subst (Appends (g.W.Sink.contents c.args.writer.now) (g.W.Sink.contents c.flush_all.new.self))
-            (history_is_report c.args.request.now c.args.listing until files told.rows.items told.watches c.requires.history p.rows p.watches) wrote;
+            (history_is_report c.args.request.now c.args.layout c.args.listing until files told.rows.items told.watches c.requires.history p.rows p.watches) wrote;
         counted = record {
           records = p.records_counted;
           units = p.units_counted;

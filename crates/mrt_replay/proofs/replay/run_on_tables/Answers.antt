@@ -15,6 +15,7 @@ pub returns-in-Err-clause-promised : goal.returns-in-Err-clause-promised
 returns-in-Err-clause-promised g c =
     let run : RunState = record {
       request = c.args.request.now;
+      layout = c.args.layout;
       selection = c.args.selection;
       plan = c.args.plan.now;
       told = map g.R.Source.remaining c.args.files.now;
@@ -37,6 +38,7 @@ returns-in-Err-write_report-clause-promised g c =
     let h = c.in-Err-write_report.ensures in
     let run : RunState = record {
       request = request;
+      layout = c.args.layout;
       selection = c.args.selection;
       plan = c.args.plan.now;
       told = map g.R.Source.remaining c.args.files.now;
@@ -52,13 +54,14 @@ returns-in-Err-write_report-clause-promised g c =
     stopped run error refl (stops_writing run error h.errors
     (λ s. subst (λ o. Keeps (g.W.Sink.contents c.args.out.now) (g.W.Sink.contents o)) (sym (h.untouched (ap (λ x. Err x) s))) (Keeps-refl (g.W.Sink.contents c.args.out.now)))
     (λ s. h.risen (ap (λ x. Err x) s))
-    (λ files honest s. subst (WritesFront (g.W.Sink.contents c.args.out.now) (g.W.Sink.contents c.write_report.new.out)) (lines_are_report request c.args.selection files tables c.requires.tables (c.in-Ok.ensures.replayed files honest.readers_tell).stands) (h.front (ap (λ x. Err x) s))))
+    (λ files honest s. subst (WritesFront (g.W.Sink.contents c.args.out.now) (g.W.Sink.contents c.write_report.new.out)) (lines_are_report request c.args.layout c.args.selection files tables c.requires.tables (c.in-Ok.ensures.replayed files honest.readers_tell).stands) (h.front (ap (λ x. Err x) s))))
 
 pub returns-then-is_err-clause-promised : goal.returns-then-is_err-clause-promised
 returns-then-is_err-clause-promised g c =
-    let wrote = Appends-kept (g.W.Sink.contents c.args.out.now) (g.W.Sink.contents c.write_report.new.out) (g.W.Sink.contents c.flush_all.new.self) (lines_of c.args.request.now c.in-Ok.replayed.tables) c.in_default.ensures.ok c.flush_all.ensures.bytes in
+    let wrote = Appends-kept (g.W.Sink.contents c.args.out.now) (g.W.Sink.contents c.write_report.new.out) (g.W.Sink.contents c.flush_all.new.self) (lines_of c.args.request.now c.args.layout c.in-Ok.replayed.tables) c.in_default.ensures.ok c.flush_all.ensures.bytes in
     let run : RunState = record {
       request = c.args.request.now;
+      layout = c.args.layout;
       selection = c.args.selection;
       plan = c.args.plan.now;
       told = map g.R.Source.remaining c.args.files.now;
@@ -73,7 +76,7 @@ returns-then-is_err-clause-promised g c =
     } in
     stopped run errors.Write refl (
       flush_failed c.flush_all.result _ _ _ c.in_default.ensures.sound (sym c.is_err.ensures.value ∙ c.if-is_err.true) c.flush_all.ensures.counted,
-      λ files honest. front_whole _ _ _ (subst (Appends (g.W.Sink.contents c.args.out.now) (g.W.Sink.contents c.flush_all.new.self)) (lines_are_report c.args.request.now c.args.selection files c.in-Ok.replayed.tables c.requires.tables (c.in-Ok.ensures.replayed files honest.readers_tell).stands) wrote),
+      λ files honest. front_whole _ _ _ (subst (Appends (g.W.Sink.contents c.args.out.now) (g.W.Sink.contents c.flush_all.new.self)) (lines_are_report c.args.request.now c.args.layout c.args.selection files c.in-Ok.replayed.tables c.requires.tables (c.in-Ok.ensures.replayed files honest.readers_tell).stands) wrote),
     )
 
 pub returns-clause-promised : goal.returns-clause-promised
@@ -82,9 +85,9 @@ returns-clause-promised g c = record {
       let p = c.in-Ok.ensures.replayed files honest.readers_tell in
       let until = c.args.selection in
       let tables = c.in-Ok.replayed.tables in
-      let wrote = Appends-kept (g.W.Sink.contents c.args.out.now) (g.W.Sink.contents c.write_report.new.out) (g.W.Sink.contents c.flush_all.new.self) (lines_of c.args.request.now tables) c.in_default.ensures.ok c.flush_all.ensures.bytes in
+      let wrote = Appends-kept (g.W.Sink.contents c.args.out.now) (g.W.Sink.contents c.write_report.new.out) (g.W.Sink.contents c.flush_all.new.self) (lines_of c.args.request.now c.args.layout tables) c.in_default.ensures.ok c.flush_all.ensures.bytes in
       record {
-        written = subst (Appends (g.W.Sink.contents c.args.out.now) (g.W.Sink.contents c.flush_all.new.self)) (lines_are_report c.args.request.now until files tables c.requires.tables p.stands) wrote;
+        written = subst (Appends (g.W.Sink.contents c.args.out.now) (g.W.Sink.contents c.flush_all.new.self)) (lines_are_report c.args.request.now c.args.layout until files tables c.requires.tables p.stands) wrote;
         counted = record {
           records = p.records_counted;
           units = p.units_counted;

@@ -40,3 +40,8 @@ pub returns-clause-keys : goal.returns-clause-keys
 returns-clause-keys g c =
     let see = watch_in {M = g.row.M.Denot} in
     keys_set see c.args.peers.now.items c.args.at c.index_mut.result.now _ (ap (λ w. (see w).key) c.index_mut.ensures.value)
+
+pub returns-in_err-take-clause-keys : goal.returns-in_err-take-clause-keys
+returns-in_err-take-clause-keys g c =
+    let see = watch_in {M = g.row.M.Denot} in
+    keys_set see c.args.peers.now.items c.args.at c.index_mut.result.now _ (ap (λ w. (see w).key) c.index_mut.ensures.value)

@@ -1,12 +1,27 @@
-use Rattle.std.proofs.Common.{[], ◌∷◌, ◌++◌, map, sym, ap, ◌∙◌}
+use Rattle.std.proofs.Common.{[], ◌∷◌, ◌++◌, map, slice_get, sym, ap, ◌∙◌}
 use Rattle.std.proofs.lemmas.List.{map-append}
 use Rattle.mrt_body.specs.Lent.{lent_unit}
 use Rattle.mrt_body.specs.declared.unit.PeerKey.{PeerKey}
 use Rattle.adj_rib.specs.Histories.{watch_of}
 use Rattle.peer_tables.specs.Peers.{units_of_peer}
+use Rattle.peer_tables.specs.declared.watches.Watched.{Watched}
 use Rattle.peer_tables.specs.Watching.{keys_in, watch_in}
-use Rattle.peer_tables.proofs.WatchLaws.{keys_push, new_stands, none_before}
+use Rattle.peer_tables.proofs.PeerPositions.{grown_by, stands_at}
+use Rattle.peer_tables.proofs.WatchLaws.{keys_push, new_stands, none_before, unlisted}
 use Rattle.peer_tables.proofs.watches.take_new.Goals as goal
+
+pub returns-clause-numbered : goal.returns-clause-numbered
+returns-clause-numbered g c =
+    let see = watch_in {M = g.row.M.Denot} in
+    let q = (lent_unit c.args.unit.now).peer in
+    let item : Watched g.row.M.Denot = record { key = c.in_ok-key.key; watch = c.take.new.self } in
+    ap (λ l. keys_in (map see l)) (c.push_reserved.ensures.items ∙ ap (λ l. l ++ item ∷ []) c.in_ok-reserve.ensures.items)
+    ∙ keys_push see c.args.peers.now.items item q c.in_ok-key.ensures
+    ∙ ap (λ l. l ++ q ∷ []) c.requires.numbered
+    ∙ sym (grown_by _ _ q _ c.in_ok-at.ensures.numbers c.requires.new)
+
+pub returns-clause-at : goal.returns-clause-at
+returns-clause-at g c = ap (λ l. slice_get l c.in_ok-at.at) (returns-clause-numbered g c) ∙ stands_at _ _ _ _ c.in_ok-at.ensures.numbers
 
 pub returns-clause-stands : goal.returns-clause-stands
 returns-clause-stands g c = λ before are.
@@ -15,10 +30,12 @@ returns-clause-stands g c = λ before are.
     let choices = c.args.chosen.now in
     let peers = c.args.peers.now.items in
     let u = lent_unit c.args.unit.now in
-    let fresh = c.new-watch.ensures since choices ∙ ap (watch_of since choices) (sym (none_before since choices before u (map see peers) are c.requires)) in
-    ap (map see) c.in_ok-push.ensures.items ∙ map-append see peers _
+    let new = unlisted (map see peers) _ u.peer c.requires.numbered c.requires.new in
+    let fresh = c.new-watch.ensures since choices ∙ ap (watch_of since choices) (sym (none_before since choices before u (map see peers) are new)) in
+    let item : Watched g.row.M.Denot = record { key = c.in_ok-key.key; watch = c.take.new.self } in
+    ap (map see) (c.push_reserved.ensures.items ∙ ap (λ l. l ++ item ∷ []) c.in_ok-reserve.ensures.items) ∙ map-append see peers (item ∷ [])
     ∙ ap (λ (k : PeerKey). map see peers ++ record { key = k; watch = c.take.new.self } ∷ []) c.in_ok-key.ensures
-    ∙ new_stands since choices before u (map see peers) are c.take.new.self c.requires (c.in_ok-take.ensures.stands (units_of_peer before u.peer) fresh)
+    ∙ new_stands since choices before u (map see peers) are c.take.new.self new (c.in_ok-take.ensures.stands (units_of_peer before u.peer) fresh)
 
 pub returns-clause-notes : goal.returns-clause-notes
 returns-clause-notes g c = λ before are.
@@ -27,10 +44,6 @@ returns-clause-notes g c = λ before are.
     let choices = c.args.chosen.now in
     let peers = c.args.peers.now.items in
     let u = lent_unit c.args.unit.now in
-    let fresh = c.new-watch.ensures since choices ∙ ap (watch_of since choices) (sym (none_before since choices before u (map see peers) are c.requires)) in
+    let new = unlisted (map see peers) _ u.peer c.requires.numbered c.requires.new in
+    let fresh = c.new-watch.ensures since choices ∙ ap (watch_of since choices) (sym (none_before since choices before u (map see peers) are new)) in
     c.in_ok-take.ensures.notes (units_of_peer before u.peer) fresh
-
-pub returns-clause-keys : goal.returns-clause-keys
-returns-clause-keys g c =
-    let see = watch_in {M = g.row.M.Denot} in
-    ap (λ l. keys_in (map see l)) c.in_ok-push.ensures.items ∙ keys_push see c.args.peers.now.items _ (lent_unit c.args.unit.now).peer c.in_ok-key.ensures

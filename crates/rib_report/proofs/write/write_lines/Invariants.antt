@@ -5,4 +5,4 @@ use Rattle.rib_report.specs.Texts.{Writes}
 use Rattle.rib_report.proofs.write.write_lines.Given as goal
 
 abbrev pub invariant-loop-row : goal.invariant-loop-row
-invariant-loop-row g l = Writes g.W.Sink.contents g.W.Failures.failure_count l.initial.out l.initial.text l.out l.text (flat_map g.R.Line.line (take l.row-index l.rows))
+invariant-loop-row g l = Writes g.W.Sink.contents g.W.Failures.failure_count l.initial.out l.initial.text l.out l.text (flat_map (g.R.Line.line l.forms) (take l.row-index l.rows))

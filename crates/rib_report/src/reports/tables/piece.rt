@@ -9,13 +9,13 @@ ghost use Rattle.rib_report.specs.Pieces.{IsFilled, lines_between, range_of};
 use super::{prefetch_entries, put_entries};
 use crate::buffer::TextBuffer;
 use crate::field::PeerText;
+use crate::forms::ShownPeer;
 use crate::nowhere::Nowhere;
 use crate::route_line::put_row;
 use crate::write::NEAR_ROWS;
 use adj_rib::SharedRoute;
 use bgp_prefix::RouteKey;
 use bgp_update::PackedRoute;
-use mrt_body::PeerKey;
 use mrt_frame::Sink;
 
 /// The most bytes of a line without the numbers of its path, and some more.
@@ -69,7 +69,7 @@ fn put_fitting(
 fn put_while_fitting(
     text: &mut TextBuffer,
     nowhere: &mut Nowhere,
-    peer: PeerKey,
+    peer: ShownPeer,
     entries: &[(RouteKey, &SharedRoute)],
     start: usize,
     end: usize,
@@ -106,7 +106,7 @@ impl Piece {
     }
 
     /// Makes the lines of its entries: of all, or of the first ones, as many as there is room for.
-    pub(crate) fn fill(&mut self, peer: PeerKey, entries: &[(RouteKey, &SharedRoute)])
+    pub(crate) fn fill(&mut self, peer: ShownPeer, entries: &[(RouteKey, &SharedRoute)])
         requires { (self.old.start ≤ self.old.end) × (self.old.end ≤ length entries.now) }
         ensures range { range_of self.new ≡ range_of self.old }
         ensures filled { IsFilled peer entries.now self.new }
@@ -137,7 +137,7 @@ impl Piece {
 pub(crate) fn put_piece<W: Sink>(
     text: &mut TextBuffer,
     out: &mut W,
-    peer: PeerKey,
+    peer: ShownPeer,
     entries: &[(RouteKey, &SharedRoute)],
     piece: &Piece,
 )

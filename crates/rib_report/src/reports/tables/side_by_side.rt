@@ -10,9 +10,9 @@ ghost use Rattle.rib_report.specs.Pieces.{AreRanges, IsFilled, AreSuccessive, li
 use super::piece::{Piece, put_piece};
 use super::put_entries;
 use crate::buffer::TextBuffer;
+use crate::forms::ShownPeer;
 use adj_rib::SharedRoute;
 use bgp_prefix::{Memory, RouteKey};
-use mrt_body::PeerKey;
 use mrt_frame::Sink;
 use std::alloc::Global;
 use std::mem;
@@ -112,7 +112,7 @@ fn next_size(size: usize, pieces: &[Piece]) -> usize
 }
 
 /// Fills pieces in the calling thread.
-fn fill_each(peer: PeerKey, entries: &[(RouteKey, &SharedRoute)], pieces: &mut [Piece])
+fn fill_each(peer: ShownPeer, entries: &[(RouteKey, &SharedRoute)], pieces: &mut [Piece])
     requires { AreRanges (length entries.now) pieces.old }
     ensures ranges { map range_of pieces.new ≡ map range_of pieces.old }
     ensures filled { All (IsFilled peer entries.now) pieces.new }
@@ -126,7 +126,7 @@ fn fill_each(peer: PeerKey, entries: &[(RouteKey, &SharedRoute)], pieces: &mut [
 fn put_pieces<W: Sink>(
     text: &mut TextBuffer,
     out: &mut W,
-    peer: PeerKey,
+    peer: ShownPeer,
     entries: &[(RouteKey, &SharedRoute)],
     pieces: &[Piece],
     start: usize,
@@ -149,7 +149,7 @@ fn fill_and_put<T: Threads + Sync, W: Sink>(
     rt: &T,
     text: &mut TextBuffer,
     out: &mut W,
-    peer: PeerKey,
+    peer: ShownPeer,
     entries: &[(RouteKey, &SharedRoute)],
     near: &[Piece],
     far: &mut [Piece],
@@ -177,7 +177,7 @@ fn fill_some_and_put<T: Threads + Sync, W: Sink>(
     rt: &T,
     text: &mut TextBuffer,
     out: &mut W,
-    peer: PeerKey,
+    peer: ShownPeer,
     entries: &[(RouteKey, &SharedRoute)],
     near: &[Piece],
     some: &mut [Piece],
@@ -218,7 +218,7 @@ fn put_by_pieces<T: Threads + Sync, W: Sink>(
     far: &mut Vec<Piece>,
     text: &mut TextBuffer,
     out: &mut W,
-    peer: PeerKey,
+    peer: ShownPeer,
     entries: &[(RouteKey, &SharedRoute)],
 )
     requires { (0 < length near.old.items) × (0 < length far.old.items) }
@@ -259,7 +259,7 @@ pub(crate) fn put_all_entries<T: Threads + Sync, W: Sink>(
     pieces: &mut Pieces,
     text: &mut TextBuffer,
     out: &mut W,
-    peer: PeerKey,
+    peer: ShownPeer,
     entries: &[(RouteKey, &SharedRoute)],
 )
     ensures { Writes W.contents W.failure_count out.old text.old out.new text.new

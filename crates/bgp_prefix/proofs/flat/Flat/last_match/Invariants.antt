@@ -6,7 +6,7 @@ use Rattle.bgp_prefix.proofs.flat.Flat.last_match.Given as goal
 abbrev pub invariant-loop-at : goal.invariant-loop-at
 invariant-loop-at g l = record {
   inside : l.at ≤ length l.self;
-  none : last_match (drop l.at l.self) l.addr ≡ None;
+  none : last_match (drop l.at l.self) (g.F.Family.bits l.addr) ≡ None;
 }
 
 abbrev pub decreases-loop-at : goal.decreases-loop-at

@@ -1,11 +1,11 @@
-use Rattle.std.proofs.Common.{List, Some, not, sym, ap, ◌∙◌, subst, T}
+use Rattle.std.proofs.Common.{◌≤◌, List, Some, not, sym, ap, ◌∙◌, subst, T}
 use Rattle.std.specs.Ordering.{eq_by_cmp}
 use Rattle.std.specs.List.{All}
 use Rattle.std.proofs.lemmas.List.Elements.{All-filter}
 use Rattle.bgp_prefix.specs.Prefixes.{IsIpPrefix}
 use Rattle.bgp_prefix.specs.Keys.{key_cmp}
 use Rattle.std.specs.FinMap.Entries.{is_sorted, is_sorted-where_key}
-use Rattle.bgp_prefix.specs.declared.key.RouteKey.{RouteKey}
+use Rattle.bgp_prefix.specs.Keys.{RouteKey}
 use Rattle.bgp_prefix.proofs.KeyLaws.{key_cmp_total}
 use Rattle.bgp_prefix.proofs.SearchLaws.{at_find, at_without, gap_absent}
 use Rattle.bgp_prefix.proofs.flat.Flat.remove.Goals as goal
@@ -27,6 +27,7 @@ pub invariant_of-self : goal.invariant_of-self
 invariant_of-self g c = record {
   sorted = returns-in-Ok-clause-sorted g c;
   known = subst (λ (es : List (RouteKey × _)). All (λ e. IsIpPrefix e.0.prefix) es) (sym (returns-in-Ok-clause-removed g c)) (All-filter (λ e. not (eq_by_cmp key_cmp c.args.key.now e.0)) (λ e. IsIpPrefix e.0.prefix) c.args.self.now (rw c.self.view_is at c.self.invariant.known));
+  short = subst (λ (es : List (RouteKey × _)). All (λ e. e.0.prefix.len ≤ g.F.Family.WIDTH) es) (sym (returns-in-Ok-clause-removed g c)) (All-filter (λ e. not (eq_by_cmp key_cmp c.args.key.now e.0)) (λ e. e.0.prefix.len ≤ g.F.Family.WIDTH) c.args.self.now (rw c.self.view_is at c.self.invariant.short));
 }
 
 pub returns-in-Err-clause-before : goal.returns-in-Err-clause-before

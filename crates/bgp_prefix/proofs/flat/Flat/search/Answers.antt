@@ -10,7 +10,7 @@ use Rattle.bgp_prefix.proofs.SortedMaps.{gap_at_end}
 use Rattle.bgp_prefix.proofs.flat.Flat.search.Goals as goal
 
 -- the derived order is that of the keys
-lt_is : (a b c : Ordering) → is_lt (ordering_then (ordering_then a b) c) ≡ is_some_and is_lt (partial_ordering_then (partial_ordering_then (Some a) (Some b)) (Some c))
+lt_is : (a b c : Ordering) → is_lt (ordering_then (ordering_then a b) c) ≡ is_some_and is_lt (partial_ordering_then (Some (ordering_then a b)) (Some c))
 lt_is Less b c = refl
 lt_is Equal Less c = refl
 lt_is Equal Equal c = refl

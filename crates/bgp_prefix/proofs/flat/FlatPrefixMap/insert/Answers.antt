@@ -6,8 +6,8 @@ use Rattle.bgp_prefix.proofs.MapLaws.{found, inserted, Changes-put}
 use Rattle.bgp_prefix.proofs.flat.FlatPrefixMap.insert.Goals as goal
 
 pub returns-clause-before : goal.returns-clause-before
-returns-clause-before g c = rw (found c.args.self.now c.args.key) c.insert.ensures.before
+returns-clause-before g c = rw (found c.args.self.now c.args.key.now) c.insert.ensures.before
 
 pub returns-clause-ok : goal.returns-clause-ok
 returns-clause-ok g c =
-    ok_then {P = c.insert.new.self ≡ put key_cmp c.args.key c.args.value c.args.self.now} _ c.insert.ensures.ok (λ is. inserted c.args.self.now c.insert.new.self c.args.key c.args.value (Changes-put c.args.self.now c.insert.new.self c.args.key c.args.value is))
+    ok_then {P = c.insert.new.self ≡ put key_cmp c.args.key.now c.args.value c.args.self.now} _ c.insert.ensures.ok (λ is. inserted c.args.self.now c.insert.new.self c.args.key.now c.args.value (Changes-put c.args.self.now c.insert.new.self c.args.key.now c.args.value is))

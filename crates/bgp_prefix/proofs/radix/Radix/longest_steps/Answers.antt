@@ -8,13 +8,13 @@ pub returns-clause-found : goal.returns-clause-found
 returns-clause-found g c =
     let root = c.self.inside.root in
     let trie = c.self.invariant.0 in
-    rw (← c.self.view_is) (longest_found c.args.addr (routes root) (routes_sorted root trie) (keys_known root trie) _ c.longest_steps.ensures.prefix)
+    rw (← c.self.view_is) (longest_found (g.F.Family.bits c.args.addr) (routes root) (routes_sorted root trie) (keys_known root trie) _ c.longest_steps.ensures.prefix)
 
 pub returns-clause-none : goal.returns-clause-none
 returns-clause-none g c =
     let root = c.self.inside.root in
     let trie = c.self.invariant.0 in
-    rw (← c.self.view_is) (longest_none c.args.addr (routes root) (routes_sorted root trie) (keys_known root trie) _ c.longest_steps.ensures.prefix)
+    rw (← c.self.view_is) (longest_none (g.F.Family.bits c.args.addr) (routes root) (routes_sorted root trie) (keys_known root trie) _ c.longest_steps.ensures.prefix)
 
 pub returns-clause-enough : goal.returns-clause-enough
 returns-clause-enough g c =

@@ -1,7 +1,7 @@
 use Rattle.std.proofs.Common.{◌≡◌, ◌-◌, ◌<◌, ◌≤◌, get_or, length, true, false}
 use Rattle.std.specs.Ordering.{is_le}
 use Rattle.bgp_prefix.specs.Prefixes.{prefix_cmp}
-use Rattle.bgp_prefix.specs.declared.key.RouteKey.{RouteKey}
+use Rattle.bgp_prefix.specs.Keys.{RouteKey}
 use Rattle.prefix_shelf.proofs.chunk.Chunk.count_up_to.Given as goal
 
 abbrev pub invariant-loop-low : goal.invariant-loop-low

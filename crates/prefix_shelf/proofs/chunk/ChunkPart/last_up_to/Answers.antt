@@ -1,5 +1,5 @@
 use Rattle.std.proofs.Common.{ap, arith}
-use Rattle.bgp_prefix.specs.declared.key.RouteKey.{RouteKey}
+use Rattle.bgp_prefix.specs.Keys.{RouteKey}
 use Rattle.prefix_shelf.proofs.LastPrefixes.{last_here}
 use Rattle.prefix_shelf.proofs.chunk.ChunkPart.last_up_to.Goals as goal
 

@@ -3,7 +3,7 @@ use Rattle.std.proofs.lemmas.List.{length-map}
 use Rattle.std.specs.declared.cmp.Ordering.TheVariants.{Less}
 use Rattle.bgp_prefix.specs.Keys.{key_cmp}
 use Rattle.prefix_shelf.specs.Shelves.{EachKey}
-use Rattle.bgp_prefix.specs.declared.key.RouteKey.{RouteKey}
+use Rattle.bgp_prefix.specs.Keys.{RouteKey}
 use Rattle.prefix_shelf.proofs.KeyedLists.{part_read}
 use Rattle.prefix_shelf.proofs.ShelfLaws.{chunk_sorted}
 use Rattle.prefix_shelf.proofs.LastPrefixes.{last_of}

@@ -1,7 +1,7 @@
 use Rattle.std.proofs.Common.{◌≡◌, ◌≢◌, ◌-◌, ◌<◌, ◌≤◌, get_or, length}
 use Rattle.std.specs.declared.cmp.Ordering.TheVariants.{Greater}
 use Rattle.bgp_prefix.specs.Keys.{key_cmp}
-use Rattle.bgp_prefix.specs.declared.key.RouteKey.{RouteKey}
+use Rattle.bgp_prefix.specs.Keys.{RouteKey}
 use Rattle.prefix_shelf.proofs.parts.Parts.index_of_key.Given as goal
 
 -- the key before is no greater, and the one at the end is

@@ -3,7 +3,7 @@ use Rattle.std.proofs.lemmas.List.{get_or_default, length-map, append_assoc, app
 use Rattle.bgp_prefix.specs.Prefixes.{prefix_cmp}
 use Rattle.bgp_prefix.specs.Maps.{paths_of}
 use Rattle.prefix_shelf.specs.Shelves.{in_chunks}
-use Rattle.bgp_prefix.specs.declared.key.RouteKey.{RouteKey}
+use Rattle.bgp_prefix.specs.Keys.{RouteKey}
 use Rattle.prefix_shelf.proofs.KeyedLists.{part_read}
 use Rattle.prefix_shelf.proofs.LastPrefixes.{paths_below, paths_until, paths_on}
 use Rattle.prefix_shelf.proofs.parts.Parts.paths.Goals as goal

@@ -2,7 +2,7 @@ use Rattle.std.proofs.Common.{◌≡◌, ◌∙◌, ◌+◌, ◌<◌, ap, subst,
 use Rattle.std.proofs.lemmas.List.{length-map, map-set}
 use Rattle.std.proofs.Math.Seq.{map-set_same}
 use Rattle.prefix_shelf.specs.Shelves.{in_chunks, IsCut}
-use Rattle.bgp_prefix.specs.declared.key.RouteKey.{RouteKey}
+use Rattle.bgp_prefix.specs.Keys.{RouteKey}
 use Rattle.prefix_shelf.proofs.KeyedLists.{part_read, map_insert}
 use Rattle.prefix_shelf.proofs.ShelfLaws.{parts_split}
 use Rattle.prefix_shelf.proofs.parts.Parts.split_overfull.Goals as goal

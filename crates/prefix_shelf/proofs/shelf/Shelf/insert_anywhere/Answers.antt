@@ -1,7 +1,7 @@
-use Rattle.std.proofs.Common.{◌≢◌, List, ap, sym, subst, length, arith}
+use Rattle.std.proofs.Common.{◌≢◌, ◌≤◌, List, ap, sym, subst, length, arith}
 use Rattle.std.specs.declared.cmp.Ordering.TheVariants.{Greater}
 use Rattle.bgp_prefix.specs.Keys.{key_cmp}
-use Rattle.bgp_prefix.specs.declared.key.RouteKey.{RouteKey}
+use Rattle.bgp_prefix.specs.Keys.{RouteKey}
 use Rattle.prefix_shelf.specs.Shelves.{routes_of, EachKey}
 use Rattle.prefix_shelf.proofs.KeyedLists.{each_weaker, each_put}
 use Rattle.bgp_prefix.proofs.MapLaws.{Changes-put}
@@ -15,6 +15,7 @@ invariant_of-self g c =
       rows = c.in_err-before.ensures.parts;
       count = omega (arith, c.self.invariant.count, ap length kept);
       bound = subst (λ (es : List (RouteKey × _)). EachKey (λ k. key_cmp k c.self.inside.bound ≢ Greater) es) (sym kept) c.self.invariant.bound;
+      short = subst (λ (es : List (RouteKey × _)). EachKey (λ k. k.prefix.len ≤ g.F.Family.WIDTH) es) (sym kept) c.self.invariant.short;
     }
 
 pub invariant_of-self-then-is_none : goal.invariant_of-self-then-is_none
@@ -28,7 +29,7 @@ invariant_of-self-then-is_none g c =
     let after : EachKey (λ k. key_cmp k raised ≢ Greater) new = subst (λ (es : List (RouteKey × _)). EachKey (λ k. key_cmp k raised ≢ Greater) es) (sym c.in_ok-before.ensures.ok) (each_put (λ k. key_cmp k raised ≢ Greater) key c.args.value old c.raise_bound.ensures.key before) in
     let is = Changes-put old new key c.args.value c.in_ok-before.ensures.ok in
     let more = length_added old new key c.self.invariant.rows.sorted c.in_ok-before.ensures.parts.sorted c.in_ok-before.before c.in_ok-before.ensures.before c.args.value is c.if-is_none.ensures in
-    record { rows = c.in_ok-before.ensures.parts; count = omega (arith, more, c.self.invariant.count, c.in-Some.ensures); bound = after }
+    record { rows = c.in_ok-before.ensures.parts; count = omega (arith, more, c.self.invariant.count, c.in-Some.ensures); bound = after; short = subst (λ (es : List (RouteKey × _)). EachKey (λ k. k.prefix.len ≤ g.F.Family.WIDTH) es) (sym c.in_ok-before.ensures.ok) (each_put (λ k. k.prefix.len ≤ g.F.Family.WIDTH) key c.args.value old c.requires.short c.self.invariant.short) }
 
 pub invariant_of-self-else-is_none : goal.invariant_of-self-else-is_none
 invariant_of-self-else-is_none g c =
@@ -41,4 +42,4 @@ invariant_of-self-else-is_none g c =
     let after : EachKey (λ k. key_cmp k raised ≢ Greater) new = subst (λ (es : List (RouteKey × _)). EachKey (λ k. key_cmp k raised ≢ Greater) es) (sym c.in_ok-before.ensures.ok) (each_put (λ k. key_cmp k raised ≢ Greater) key c.args.value old c.raise_bound.ensures.key before) in
     let is = Changes-put old new key c.args.value c.in_ok-before.ensures.ok in
     let same = length_replaced old new key c.self.invariant.rows.sorted c.in_ok-before.ensures.parts.sorted c.in_ok-before.before c.in_ok-before.ensures.before c.args.value is c.if-is_none.ensures in
-    record { rows = c.in_ok-before.ensures.parts; count = omega (arith, same, c.self.invariant.count); bound = after }
+    record { rows = c.in_ok-before.ensures.parts; count = omega (arith, same, c.self.invariant.count); bound = after; short = subst (λ (es : List (RouteKey × _)). EachKey (λ k. k.prefix.len ≤ g.F.Family.WIDTH) es) (sym c.in_ok-before.ensures.ok) (each_put (λ k. k.prefix.len ≤ g.F.Family.WIDTH) key c.args.value old c.requires.short c.self.invariant.short) }

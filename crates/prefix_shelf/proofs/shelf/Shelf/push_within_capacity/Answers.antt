@@ -1,8 +1,8 @@
-use Rattle.std.proofs.Common.{◌≡◌, ◌≢◌, ◌∙◌, List, [], ◌∷◌, ap, sym, subst, arith, length}
+use Rattle.std.proofs.Common.{◌≡◌, ◌≢◌, ◌≤◌, ◌∙◌, List, [], ◌∷◌, ap, sym, subst, arith, length}
 use Rattle.std.proofs.lemmas.List.{length-append}
 use Rattle.std.specs.declared.cmp.Ordering.TheVariants.{Less, Greater}
 use Rattle.bgp_prefix.specs.Keys.{key_cmp}
-use Rattle.bgp_prefix.specs.declared.key.RouteKey.{RouteKey}
+use Rattle.bgp_prefix.specs.Keys.{RouteKey}
 use Rattle.prefix_shelf.specs.Shelves.{routes_of, EachKey}
 use Rattle.prefix_shelf.proofs.KeyedLists.{below_past, less_when, less_other, same_other, each_weaker, each_append, find_below, put_last}
 use Rattle.prefix_shelf.proofs.shelf.Shelf.push_within_capacity.Goals as goal
@@ -23,6 +23,7 @@ invariant_of-self g c =
       rows = c.in-Err.ensures.parts;
       count = omega (arith, c.self.invariant.count, ap length kept);
       bound = subst (λ (es : List (RouteKey × _)). EachKey (λ k. key_cmp k c.self.inside.bound ≢ Greater) es) (sym kept) c.self.invariant.bound;
+      short = subst (λ (es : List (RouteKey × _)). EachKey (λ k. k.prefix.len ≤ g.F.Family.WIDTH) es) (sym kept) c.self.invariant.short;
     }
 
 pub invariant_of-self-2 : goal.invariant_of-self-2
@@ -38,6 +39,7 @@ invariant_of-self-2 g c =
       rows = c.in_default.ensures.parts;
       count = omega (arith, c.self.invariant.count, ap length pushed, length-append old (e ∷ []));
       bound = subst (λ (es : List (RouteKey × _)). EachKey (λ k. key_cmp k key ≢ Greater) es) (sym pushed) (each_append (λ k. key_cmp k key ≢ Greater) old (e ∷ []) (each_weaker (λ k. key_cmp k key ≡ Less) (λ k. key_cmp k key ≢ Greater) old (λ k less. less_other k key less) below) (same_other key, tt));
+      short = subst (λ (es : List (RouteKey × _)). EachKey (λ k. k.prefix.len ≤ g.F.Family.WIDTH) es) (sym pushed) (each_append (λ k. k.prefix.len ≤ g.F.Family.WIDTH) old (e ∷ []) c.self.invariant.short (c.requires.short, tt));
     }
 
 pub returns-clause-absent : goal.returns-clause-absent

@@ -1,7 +1,7 @@
-use Rattle.std.proofs.Common.{◌≢◌, List, sym, subst, ◌∙◌, arith}
+use Rattle.std.proofs.Common.{◌≢◌, ◌≤◌, List, sym, subst, ◌∙◌, arith}
 use Rattle.std.specs.declared.cmp.Ordering.TheVariants.{Greater}
 use Rattle.bgp_prefix.specs.Keys.{key_cmp}
-use Rattle.bgp_prefix.specs.declared.key.RouteKey.{RouteKey}
+use Rattle.bgp_prefix.specs.Keys.{RouteKey}
 use Rattle.prefix_shelf.specs.Shelves.{routes_of, EachKey}
 use Rattle.prefix_shelf.proofs.KeyedLists.{each_without}
 use Rattle.bgp_prefix.proofs.MapLaws.{found, removed, Changes-without}
@@ -18,6 +18,7 @@ invariant_of-self g c =
       rows = c.remove-before.ensures.parts;
       count = omega (arith, length, c.self.invariant.count);
       bound = subst (λ (es : List (RouteKey × _)). EachKey (λ k. key_cmp k c.self.inside.bound ≢ Greater) es) (sym c.remove-before.ensures.removed) (each_without (λ k. key_cmp k c.self.inside.bound ≢ Greater) c.args.key.now old c.self.invariant.bound);
+      short = subst (λ (es : List (RouteKey × _)). EachKey (λ k. k.prefix.len ≤ g.F.Family.WIDTH) es) (sym c.remove-before.ensures.removed) (each_without (λ k. k.prefix.len ≤ g.F.Family.WIDTH) c.args.key.now old c.self.invariant.short);
     }
 
 pub invariant_of-self-else-is_some : goal.invariant_of-self-else-is_some
@@ -30,6 +31,7 @@ invariant_of-self-else-is_some g c =
       rows = c.remove-before.ensures.parts;
       count = omega (arith, length, c.self.invariant.count);
       bound = subst (λ (es : List (RouteKey × _)). EachKey (λ k. key_cmp k c.self.inside.bound ≢ Greater) es) (sym c.remove-before.ensures.removed) (each_without (λ k. key_cmp k c.self.inside.bound ≢ Greater) c.args.key.now old c.self.invariant.bound);
+      short = subst (λ (es : List (RouteKey × _)). EachKey (λ k. k.prefix.len ≤ g.F.Family.WIDTH) es) (sym c.remove-before.ensures.removed) (each_without (λ k. k.prefix.len ≤ g.F.Family.WIDTH) c.args.key.now old c.self.invariant.short);
     }
 
 pub returns-then-is_some-clause-before : goal.returns-then-is_some-clause-before

@@ -2,7 +2,7 @@ use Rattle.std.proofs.Common.{ℕ, Option, ◌∙◌, ap, map, [], ◌∷◌, �
 use Rattle.std.specs.Borrow.{Bor}
 use Rattle.bgp_prefix.specs.Prefixes.{IpPrefix}
 use Rattle.std.specs.List.{cons_option, filter_map}
-use Rattle.bgp_prefix.specs.declared.key.RouteKey.{RouteKey}
+use Rattle.bgp_prefix.specs.Keys.{RouteKey}
 use Rattle.bgp_update.specs.declared.route.Route.{Route}
 use Rattle.rib_report.specs.Reports.{origin_pair}
 use Rattle.peer_tables.proofs.RowLaws.{kept_of_all, kept_more}

@@ -7,7 +7,7 @@ use Rattle.rib_report.proofs.reports.tables.list_tables.Goals as goal
 
 pub returns-in-Ok-clause-ok : goal.returns-in-Ok-clause-ok
 returns-in-Ok-clause-ok g c =
-    let lines = ap (flat_map seat_lines) c.seats-seats.ensures ∙ lines_of_seats c.args.tables.now.seats in
+    let lines = ap (flat_map (seat_lines c.args.forms)) c.seats-seats.ensures ∙ lines_of_seats c.args.forms c.args.tables.now.seats in
     (c.in-Ok.ensures.ok _ _ _ (text_begun c.new-text.ensures (Adds_as lines c.put_tables.ensures))).held
 
 pub returns-in-Ok-clause-sound : goal.returns-in-Ok-clause-sound
@@ -15,7 +15,7 @@ returns-in-Ok-clause-sound g c = (c.in-Ok.ensures.ok _ _ _ (text_begun c.new-tex
 
 pub returns-clause-front : goal.returns-clause-front
 returns-clause-front g c =
-    let lines = ap (flat_map seat_lines) c.seats-seats.ensures ∙ lines_of_seats c.args.tables.now.seats in
+    let lines = ap (flat_map (seat_lines c.args.forms)) c.seats-seats.ensures ∙ lines_of_seats c.args.forms c.args.tables.now.seats in
     (c.in-Err.ensures.err _ _ _ (text_begun c.new-text.ensures (Adds_as lines c.put_tables.ensures))).held
 
 pub returns-clause-risen : goal.returns-clause-risen

@@ -40,7 +40,7 @@ returns-in-Low-clause-ok g t c =
     let direction = rw c.deref.ensures at c.in-Low.ensures in
     let call = c.insert in
     let value = c.deref_mut-in-Low.ensures.value in
-    rw (c.in-Fork.is, value) (ok_then {P = IfSome c.args.slot.now (IsInserted f.low call.new.self key)} _ (rw value at call.ensures.ok) (λ given. IfSome_then _ given (λ v is. inserted_low key v _ _ _ trie direction refl is)))
+    rw (c.in-Fork.is, value) (ok_then {P = IfSome c.args.slot.now (IsInserted f.low call.new.self key)} _ (rw value at call.ensures.ok) (λ given. IfSome_then c.args.slot.now {P = IsInserted f.low call.new.self key} given (λ v is. inserted_low key v c.in-Fork.fork _ call.new.self trie direction refl is)))
 
 pub returns-in-High-clause-before : goal.returns-in-High-clause-before
 returns-in-High-clause-before g t c =
@@ -57,7 +57,7 @@ returns-in-High-clause-ok g t c =
     let direction = rw c.deref.ensures at c.in-High.ensures in
     let call = c.insert-in-High in
     let value = c.deref_mut-in-High.ensures.value in
-    rw (c.in-Fork.is, value) (ok_then {P = IfSome c.args.slot.now (IsInserted f.high call.new.self key)} _ (rw value at call.ensures.ok) (λ given. IfSome_then _ given (λ v is. inserted_high key v _ _ _ trie direction refl is)))
+    rw (c.in-Fork.is, value) (ok_then {P = IfSome c.args.slot.now (IsInserted f.high call.new.self key)} _ (rw value at call.ensures.ok) (λ given. IfSome_then c.args.slot.now {P = IsInserted f.high call.new.self key} given (λ v is. inserted_high key v c.in-Fork.fork _ call.new.self trie direction refl is)))
 
 pub returns-in-Outside-clause-before : goal.returns-in-Outside-clause-before
 returns-in-Outside-clause-before g t c =

@@ -39,7 +39,7 @@ returns-in-Empty-low g c =
     let ok = subst IsTrie c.in-Fork.is c.loop-at.invariant.0 in
     let direction = rw c.deref.ensures at c.in-Low.ensures in
     let none = rw c.deref-in-Low.ensures at c.in-Empty-low.is in
-    ap (λ (b : Branch _). find key_cmp c.args.key.now (routes b)) (sym none) ∙ sym (find_in_low_half f ok c.args.key.now direction.0 direction.1) ∙ rw c.in-Fork.is at c.loop-at.invariant.1
+    ap (λ (b : Branch _ _). find key_cmp c.args.key.now (routes b)) (sym none) ∙ sym (find_in_low_half f ok c.args.key.now direction.0 direction.1) ∙ rw c.in-Fork.is at c.loop-at.invariant.1
 
 pub returns-in-Empty-high : goal.returns-in-Empty-high
 returns-in-Empty-high g c =
@@ -47,4 +47,4 @@ returns-in-Empty-high g c =
     let ok = subst IsTrie c.in-Fork.is c.loop-at.invariant.0 in
     let direction = rw c.deref.ensures at c.in-High.ensures in
     let none = rw c.deref-in-High.ensures at c.in-Empty-high.is in
-    ap (λ (b : Branch _). find key_cmp c.args.key.now (routes b)) (sym none) ∙ sym (find_in_high_half f ok c.args.key.now direction.0 direction.1) ∙ rw c.in-Fork.is at c.loop-at.invariant.1
+    ap (λ (b : Branch _ _). find key_cmp c.args.key.now (routes b)) (sym none) ∙ sym (find_in_high_half f ok c.args.key.now direction.0 direction.1) ∙ rw c.in-Fork.is at c.loop-at.invariant.1

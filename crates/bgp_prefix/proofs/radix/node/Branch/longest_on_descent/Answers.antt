@@ -16,7 +16,7 @@ returns-then-not-contains g c =
     let trie = subst IsTrie c.in-Fork.is c.loop-at.invariant.0 in
     let out = rw c.deref-then-not-is_empty.ensures at (sym c.contains.ensures ∙ c.if-not-contains.true) in
     let under : IsUnder f.prefix.len (leading_bits f.prefix.len f.prefix.addr) (Fork c.in-Fork.fork) = starts_itself f.prefix in
-    let none = no_match c.args.addr (Fork c.in-Fork.fork) trie _ _ under (missed c.args.addr f.prefix out) in
+    let none = no_match (g.F.Family.bits c.args.addr) (Fork c.in-Fork.fork) trie _ _ under (missed (g.F.Family.bits c.args.addr) f.prefix out) in
     rw none.0 at (rw c.in-Fork.is at c.loop-at.invariant.1)
 
 pub returns-in_default-branch-in-Fork : goal.returns-in_default-branch-in-Fork
@@ -24,7 +24,7 @@ returns-in_default-branch-in-Fork g c =
     let f = c.in-Fork.fork.value in
     let trie = subst IsTrie c.in-Fork.is c.loop-at.invariant.0 in
     let bit = rw (c.len.ensures.len, c.deref-in-Fork-2.ensures) at c.bit_after.ensures in
-    let either : (is_nil f.here ≡ true) ⊎ (contains f.prefix c.args.addr ≡ true) = elim c.if-not-is_empty.branch [
+    let either : (is_nil f.here ≡ true) ⊎ (contains f.prefix (g.F.Family.bits c.args.addr) ≡ true) = elim c.if-not-is_empty.branch [
       | then-not-is_empty+else-not-contains w ↦ inr (rw w.deref-then-not-is_empty.ensures at (sym w.contains.ensures ∙ w.if-not-contains.false))
       | else-not-is_empty w ↦ inl (rw c.deref.ensures at (sym c.is_empty.ensures ∙ w.if-not-is_empty.false))
     ] in
@@ -32,17 +32,17 @@ returns-in_default-branch-in-Fork g c =
       | then-not-is_empty+else-not-contains w ↦ own_kept f.prefix f.here _ _ (rw c.deref.ensures at (sym c.is_empty.ensures ∙ w.if-not-is_empty.true)) (rw w.deref-then-not-is_empty-2.ensures at w.found-is)
       | else-not-is_empty w ↦ own_none f.prefix f.here _ _ (rw c.deref.ensures at (sym c.is_empty.ensures ∙ w.if-not-is_empty.false)) w.found-is
     ] in
-    let below = match_below c.args.addr f trie c.bit_after.result bit either in
+    let below = match_below (g.F.Family.bits c.args.addr) f trie c.bit_after.result bit either in
     let whole = rw (c.in-Fork.is, below.0) at c.loop-at.invariant.1 in
     let nothing = rw c.deref-in-Fork.ensures at c.in_default-branch-in-Fork.ensures.empty in
-    subst (λ (b : Branch _). option_or (last_match (routes b) c.args.addr) c.if-not-is_empty.found ≡ last_match (routes c.args.self.now) c.args.addr) nothing (match_kept _ _ _ _ _ whole own)
+    subst (λ (b : Branch _ _). option_or (last_match (routes b) (g.F.Family.bits c.args.addr)) c.if-not-is_empty.found ≡ last_match (routes c.args.self.now) (g.F.Family.bits c.args.addr)) nothing (match_kept _ _ _ _ _ whole own)
 
 pub loop-at-preserved : goal.loop-at-preserved
 loop-at-preserved g c =
     let f = c.in-Fork.fork.value in
     let trie = subst IsTrie c.in-Fork.is c.loop-at.invariant.0 in
     let bit = rw (c.len.ensures.len, c.deref-in-Fork-2.ensures) at c.bit_after.ensures in
-    let either : (is_nil f.here ≡ true) ⊎ (contains f.prefix c.args.addr ≡ true) = elim c.if-not-is_empty.branch [
+    let either : (is_nil f.here ≡ true) ⊎ (contains f.prefix (g.F.Family.bits c.args.addr) ≡ true) = elim c.if-not-is_empty.branch [
       | then-not-is_empty+else-not-contains w ↦ inr (rw w.deref-then-not-is_empty.ensures at (sym w.contains.ensures ∙ w.if-not-contains.false))
       | else-not-is_empty w ↦ inl (rw c.deref.ensures at (sym c.is_empty.ensures ∙ w.if-not-is_empty.false))
     ] in
@@ -50,6 +50,6 @@ loop-at-preserved g c =
       | then-not-is_empty+else-not-contains w ↦ own_kept f.prefix f.here _ _ (rw c.deref.ensures at (sym c.is_empty.ensures ∙ w.if-not-is_empty.true)) (rw w.deref-then-not-is_empty-2.ensures at w.found-is)
       | else-not-is_empty w ↦ own_none f.prefix f.here _ _ (rw c.deref.ensures at (sym c.is_empty.ensures ∙ w.if-not-is_empty.false)) w.found-is
     ] in
-    let below = match_below c.args.addr f trie c.bit_after.result bit either in
+    let below = match_below (g.F.Family.bits c.args.addr) f trie c.bit_after.result bit either in
     let whole = rw (c.in-Fork.is, below.0) at c.loop-at.invariant.1 in
     rw (rw c.deref-in-Fork.ensures at c.in_Some-branch-in-Fork.ensures.branch) (below.1, match_kept _ _ _ _ _ whole own)

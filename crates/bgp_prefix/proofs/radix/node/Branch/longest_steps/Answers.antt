@@ -22,7 +22,7 @@ returns-in-Leaf-clause-prefix g c =
     let l = c.in-Leaf.leaf in
     let trie = subst IsTrie c.in-Leaf.is c.loop-at.invariant.0 in
     let call = c.longest_steps-longer in
-    let is : call.result.0 ≡ last_match l c.args.addr = last_is c.args.addr l trie.0.sorted (keys_known (Leaf l) trie) call.result.0 call.ensures.found call.ensures.none in
+    let is : call.result.0 ≡ last_match l (g.F.Family.bits c.args.addr) = last_is (g.F.Family.bits c.args.addr) l trie.0.sorted (keys_known {F = g.row.F.Denot} (Leaf l) trie) call.result.0 call.ensures.found call.ensures.none in
     c.or.ensures ∙ ap (λ o. option_or o c.loop-at.longest) is ∙ rw c.in-Leaf.is at c.loop-at.invariant.1
 
 pub returns-in-Leaf-clause-bound : goal.returns-in-Leaf-clause-bound
@@ -37,7 +37,7 @@ returns-then-not-contains-clause-prefix g c =
     let trie = subst IsTrie c.in-Fork.is c.loop-at.invariant.0 in
     let out = rw c.deref.ensures at (sym c.contains.ensures ∙ c.if-not-contains.true) in
     let under : IsUnder f.prefix.len (leading_bits f.prefix.len f.prefix.addr) (Fork c.in-Fork.fork) = starts_itself f.prefix in
-    let none = no_match c.args.addr (Fork c.in-Fork.fork) trie _ _ under (missed c.args.addr f.prefix out) in
+    let none = no_match (g.F.Family.bits c.args.addr) (Fork c.in-Fork.fork) trie _ _ under (missed (g.F.Family.bits c.args.addr) f.prefix out) in
     rw none.0 at (rw c.in-Fork.is at c.loop-at.invariant.1)
 
 pub returns-then-not-contains-clause-enough : goal.returns-then-not-contains-clause-enough
@@ -46,7 +46,7 @@ returns-then-not-contains-clause-enough g c =
     let trie = subst IsTrie c.in-Fork.is c.loop-at.invariant.0 in
     let out = rw c.deref.ensures at (sym c.contains.ensures ∙ c.if-not-contains.true) in
     let under : IsUnder f.prefix.len (leading_bits f.prefix.len f.prefix.addr) (Fork c.in-Fork.fork) = starts_itself f.prefix in
-    let none = no_match c.args.addr (Fork c.in-Fork.fork) trie _ _ under (missed c.args.addr f.prefix out) in
+    let none = no_match (g.F.Family.bits c.args.addr) (Fork c.in-Fork.fork) trie _ _ under (missed (g.F.Family.bits c.args.addr) f.prefix out) in
     let few = rw c.in-Fork.is at c.loop-at.invariant.2 in
     omega (arith, few, none.1)
 
@@ -55,39 +55,40 @@ loop-at-preserved g c =
     let f = c.in-Fork.fork.value in
     let trie = subst IsTrie c.in-Fork.is c.loop-at.invariant.0 in
     let in_f = rw c.deref.ensures at (sym c.contains.ensures ∙ c.if-not-contains.false) in
-    let bit = rw (c.len.ensures.len, c.deref-in-Fork-3.ensures) at c.bit_after.ensures in
-    let child = match_child c.args.addr f trie in_f c.bit_after.result bit in
+    let bit = rw (c.len-len.ensures.len, c.deref.ensures) at c.bit_after.ensures in
+    let at_prefix = rw c.deref.ensures at c.len-len.ensures.len in
+    let child = match_child (g.F.Family.bits c.args.addr) f trie in_f c.bit_after.result bit in
     let whole = rw (c.in-Fork.is, child.0) at c.loop-at.invariant.1 in
     let few = rw c.in-Fork.is at c.loop-at.invariant.2 in
     let passed = (rw c.in-Fork.is at c.loop-at.invariant.3.4).long in
     let own : option_or (cond (is_nil f.here) None (Some f.prefix)) c.loop-at.longest ≡ c.if-not-is_empty.longest = elim c.if-not-is_empty.branch [
-      | then-not-is_empty w ↦ own_kept f.prefix f.here _ _ (rw c.deref-in-Fork.ensures at (sym c.is_empty.ensures ∙ w.if-not-is_empty.true)) (rw w.deref-then-not-is_empty.ensures at w.longest-is)
+      | then-not-is_empty w ↦ own_kept f.prefix f.here _ _ (rw c.deref-in-Fork.ensures at (sym c.is_empty.ensures ∙ w.if-not-is_empty.true)) (rw c.deref.ensures at w.longest-is)
       | else-not-is_empty w ↦ own_none f.prefix f.here _ _ (rw c.deref-in-Fork.ensures at (sym c.is_empty.ensures ∙ w.if-not-is_empty.false)) w.longest-is
     ] in
-    rw (rw c.deref-in-Fork-2.ensures at c.in_Some-branch-in-Fork.ensures.branch) (child.2, match_kept _ _ _ _ _ whole own, omega (arith, few, child.1), (f.prefix.len + 1, child.3.0, omega (arith, passed, c.loop-at.invariant.3.2), omega (arith, trie.1), child.3.1))
+    rw (rw c.deref-in-Fork-2.ensures at c.in_Some-branch-in-Fork.ensures.branch) (child.2, match_kept _ _ _ _ _ whole own, omega (arith, few, child.1), (f.prefix.len + 1, child.3.0, omega (arith, passed, c.loop-at.invariant.3.2), omega (arith, c.len-len.ensures.short, c.len-len.ensures.len, at_prefix), child.3.1))
 
 pub returns-in_default-branch-in-Fork-clause-prefix : goal.returns-in_default-branch-in-Fork-clause-prefix
 returns-in_default-branch-in-Fork-clause-prefix g c =
     let f = c.in-Fork.fork.value in
     let trie = subst IsTrie c.in-Fork.is c.loop-at.invariant.0 in
     let in_f = rw c.deref.ensures at (sym c.contains.ensures ∙ c.if-not-contains.false) in
-    let bit = rw (c.len.ensures.len, c.deref-in-Fork-3.ensures) at c.bit_after.ensures in
-    let child = match_child c.args.addr f trie in_f c.bit_after.result bit in
+    let bit = rw (c.len-len.ensures.len, c.deref.ensures) at c.bit_after.ensures in
+    let child = match_child (g.F.Family.bits c.args.addr) f trie in_f c.bit_after.result bit in
     let whole = rw (c.in-Fork.is, child.0) at c.loop-at.invariant.1 in
     let own : option_or (cond (is_nil f.here) None (Some f.prefix)) c.loop-at.longest ≡ c.if-not-is_empty.longest = elim c.if-not-is_empty.branch [
-      | then-not-is_empty w ↦ own_kept f.prefix f.here _ _ (rw c.deref-in-Fork.ensures at (sym c.is_empty.ensures ∙ w.if-not-is_empty.true)) (rw w.deref-then-not-is_empty.ensures at w.longest-is)
+      | then-not-is_empty w ↦ own_kept f.prefix f.here _ _ (rw c.deref-in-Fork.ensures at (sym c.is_empty.ensures ∙ w.if-not-is_empty.true)) (rw c.deref.ensures at w.longest-is)
       | else-not-is_empty w ↦ own_none f.prefix f.here _ _ (rw c.deref-in-Fork.ensures at (sym c.is_empty.ensures ∙ w.if-not-is_empty.false)) w.longest-is
     ] in
     let nothing = rw c.deref-in-Fork-2.ensures at c.in_default-branch-in-Fork.ensures.empty in
-    subst (λ (b : Branch _). option_or (last_match (routes b) c.args.addr) c.if-not-is_empty.longest ≡ last_match (routes c.args.self.now) c.args.addr) nothing (match_kept _ _ _ _ _ whole own)
+    subst (λ (b : Branch _ _). option_or (last_match (routes b) (g.F.Family.bits c.args.addr)) c.if-not-is_empty.longest ≡ last_match (routes c.args.self.now) (g.F.Family.bits c.args.addr)) nothing (match_kept _ _ _ _ _ whole own)
 
 pub returns-in_default-branch-in-Fork-clause-enough : goal.returns-in_default-branch-in-Fork-clause-enough
 returns-in_default-branch-in-Fork-clause-enough g c =
     let f = c.in-Fork.fork.value in
     let trie = subst IsTrie c.in-Fork.is c.loop-at.invariant.0 in
     let in_f = rw c.deref.ensures at (sym c.contains.ensures ∙ c.if-not-contains.false) in
-    let bit = rw (c.len.ensures.len, c.deref-in-Fork-3.ensures) at c.bit_after.ensures in
-    let child = match_child c.args.addr f trie in_f c.bit_after.result bit in
+    let bit = rw (c.len-len.ensures.len, c.deref.ensures) at c.bit_after.ensures in
+    let child = match_child (g.F.Family.bits c.args.addr) f trie in_f c.bit_after.result bit in
     let few = rw c.in-Fork.is at c.loop-at.invariant.2 in
     let nothing = rw c.deref-in-Fork-2.ensures at c.in_default-branch-in-Fork.ensures.empty in
-    omega (arith, few, child.1, ap (λ (b : Branch _). matching_prefixes (routes b) c.args.addr) nothing)
+    omega (arith, few, child.1, ap (λ (b : Branch _ _). matching_prefixes (routes b) (g.F.Family.bits c.args.addr)) nothing)

@@ -14,7 +14,7 @@ returns-then-has_failed g c =
     let entries = c.args.entries.now in
     let start = c.loop-end.start in
     let so_far = Adds_next c.args.peer entries 0 0 start (omega arith) (omega arith) c.fill_and_put.ensures.put c.loop-end.invariant.written in
-    Adds_failed (λ e. route_line (reached_row c.args.peer e)) entries start
+    Adds_failed (λ e. route_line c.args.peer.forms (reached_row c.args.peer.key e)) entries start
     (Adds_as (ap (reached_lines c.args.peer) (between_from_start entries start)) so_far) (sym c.has_failed.ensures ∙ c.if-has_failed.true)
 
 pub loop-end-preserved : goal.loop-end-preserved

@@ -1,0 +1,30 @@
+-- Families of unicast routes (RFC 4760, section 3), and how their keys are written.
+use Rattle.std.specs.Prelude.{ℕ, ◌^◌, ◌<◌, Bool, true, false}
+use Rattle.std.proofs.Common.{arith}
+
+-- What a family has of its own: its number, of two bytes; the bits of its addresses; whether an UPDATE's own fields,
+-- withdrawn routes, NLRI and NEXT_HOP (RFC 4271, 4.3), are of this family; and the subtypes of its RIB records (RFC
+-- 6396, 4.3.2; RFC 8050, 4).
+pub record FamilyOf : Type 0 where
+  pub afi : ℕ
+  pub afi_fits : afi < 256 ^ 2
+  pub width : ℕ
+  pub own_fields : Bool
+  pub rib : ℕ
+  pub rib_add_path : ℕ
+
+abbrev pub ipv4 : FamilyOf
+ipv4 = record { afi = 1; afi_fits = omega arith; width = 32; own_fields = true; rib = 2; rib_add_path = 8 }
+
+-- only MP_REACH_NLRI and MP_UNREACH_NLRI are of this family (RFC 4760, section 2)
+abbrev pub ipv6 : FamilyOf
+ipv6 = record { afi = 2; afi_fits = omega arith; width = 128; own_fields = false; rib = 4; rib_add_path = 10 }
+
+-- the longest length of a key's prefix, and whether an identifier stands before it
+pub record KeyForm : Type 0 where
+  pub width : ℕ
+  pub add_path : Bool
+
+-- how the keys of a family are written, with ADD-PATH (RFC 7911, section 3) or without
+abbrev pub form_of : FamilyOf → Bool → KeyForm
+form_of family add_path = record { width = family.width; add_path = add_path }
