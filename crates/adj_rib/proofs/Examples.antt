@@ -5,6 +5,7 @@ use Rattle.bgp_prefix.specs.Keys.{RouteKey}
 use Rattle.mrt_frame.proofs.Hexadecimal.{hex}
 use Rattle.mrt_frame.specs.declared.fault.Fault.TheVariants.{BadAttribute}
 use Rattle.mrt_frame.specs.Fields.{items_after}
+use Rattle.bgp_update.specs.Families.{ipv4}
 use Rattle.bgp_update.specs.declared.width.Width.TheVariants.{Four}
 use Rattle.bgp_update.specs.declared.path.SegmentKind.TheVariants.{AsSequence}
 use Rattle.bgp_update.specs.declared.next_hop.NextHop.TheVariants as hop
@@ -18,10 +19,10 @@ use Rattle.bgp_update.specs.Attributes.{attribute_at, attributes_in, value_fault
 use Rattle.bgp_update.specs.Updates.{fields_in, said_update, update_in}
 use Rattle.mrt_body.specs.declared.state_rule.StateRule.TheVariants.{Recorded, Established}
 use Rattle.mrt_body.specs.declared.unit.Place.{Place}
-use Rattle.mrt_body.specs.declared.unit.Payload.{Payload}
+use Rattle.mrt_body.specs.Plain.{Payload}
 use Rattle.mrt_body.specs.declared.unit.Payload.TheVariants.{State, Message, Entry}
 use Rattle.mrt_body.specs.declared.unit.PeerAddr.TheVariants as addr
-use Rattle.mrt_body.specs.declared.unit.Unit.{Unit as ReplayUnit}
+use Rattle.mrt_body.specs.Plain.{Unit as ReplayUnit}
 use Rattle.mrt_body.specs.Events.{message_in, message_event_in, event_in}
 use Rattle.adj_rib.specs.declared.arrivals.Arrivals.{Arrivals}
 use Rattle.adj_rib.specs.declared.churn.Churn.{Churn}
@@ -39,7 +40,7 @@ abbrev unit_of : ℕ → Payload → ReplayUnit
 unit_of seconds payload = record { place = somewhere; time = seconds * 1000000; peer = record { asn = 65000; addr = addr.V4 0xC0000201 }; payload = payload }
 
 abbrev message : ℕ → Bool → List ℕ → ReplayUnit
-message seconds add_path bytes = unit_of seconds (Message (hex (codes "FFFFFFFF FFFFFFFF FFFFFFFF FFFFFFFF") ++ bytes) Four add_path)
+message seconds add_path bytes = unit_of seconds (Message (hex (codes "FFFFFFFF FFFFFFFF FFFFFFFF FFFFFFFF") ++ bytes) Four add_path ipv4)
 
 -- origin IGP, path 65000, next hop 192.0.2.1
 abbrev plain_attributes : List ℕ
@@ -143,6 +144,6 @@ damaged_unit : session_of (damaged ∷ []) ≡ record { up = true; established =
 unfolding items_after attribute_at attributes_in value_fault route_from entry_route route_in path_in segment_at segment_field_at written_key_at keys_in route_keys_in key_at reach_in reach_at hop_at unreach_in next_hop_of reached_keys unreached_keys fields_in said_update update_in message_in message_event_in event_in unit_steps steps_of route_eq outcomes_of churn_of arrivals_of damaged_of table_of session_of
 damaged_unit = refl
 
-entry_of_key : session_of (unit_of 3 (Entry (key 0x0A000000 5) plain_attributes) ∷ announcement ∷ []) ≡ record { up = true; established = true; table = (ten, plain_route) ∷ (key 0x0A000000 5, plain_route) ∷ []; churn = churn_with (2 ∷ 0 ∷ 0 ∷ 0 ∷ 0 ∷ 0 ∷ 0 ∷ 0 ∷ []) 3 1; arrivals = so_many 2; faults = []; spent = false }
+entry_of_key : session_of (unit_of 3 (Entry (key 0x0A000000 5) plain_attributes ipv4) ∷ announcement ∷ []) ≡ record { up = true; established = true; table = (ten, plain_route) ∷ (key 0x0A000000 5, plain_route) ∷ []; churn = churn_with (2 ∷ 0 ∷ 0 ∷ 0 ∷ 0 ∷ 0 ∷ 0 ∷ 0 ∷ []) 3 1; arrivals = so_many 2; faults = []; spent = false }
 unfolding items_after attribute_at attributes_in value_fault route_from entry_route route_in path_in segment_at segment_field_at written_key_at keys_in route_keys_in key_at reach_in reach_at hop_at unreach_in next_hop_of reached_keys unreached_keys fields_in said_update update_in message_in message_event_in event_in unit_steps steps_of route_eq outcomes_of churn_of arrivals_of damaged_of table_of session_of
 entry_of_key = refl

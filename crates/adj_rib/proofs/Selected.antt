@@ -16,15 +16,14 @@ use Rattle.bgp_update.specs.declared.route.Route.{Route}
 use Rattle.bgp_update.specs.Updates.{Update}
 use Rattle.bgp_update.specs.declared.width.Width.TheVariants.{Four}
 use Rattle.bgp_update.specs.Attributes.{route_in}
-use Rattle.bgp_update.specs.Families.{ipv4}
 use Rattle.bgp_update.specs.Hops.{by_hop}
-use Rattle.mrt_body.specs.declared.choice.PrefixChoice.{PrefixChoice}
-use Rattle.mrt_body.specs.declared.meaning.Event.{Event}
+use Rattle.mrt_body.specs.Plain.{PrefixChoice}
+use Rattle.mrt_body.specs.Plain.{Event}
 use Rattle.mrt_body.specs.declared.meaning.Event.TheVariants as event
 use Rattle.mrt_body.specs.declared.state_rule.StateRule.{StateRule}
-use Rattle.mrt_body.specs.declared.unit.Payload.{Payload}
+use Rattle.mrt_body.specs.Plain.{Payload}
 use Rattle.mrt_body.specs.declared.unit.Payload.TheVariants.{State, Message, Entry, Clear}
-use Rattle.mrt_body.specs.declared.unit.Unit.{Unit as ReplayUnit}
+use Rattle.mrt_body.specs.Plain.{Unit as ReplayUnit}
 use Rattle.mrt_body.specs.States.{up_by, established_by}
 use Rattle.mrt_body.specs.Events.{event_in}
 use Rattle.mrt_body.specs.Choices.{is_open, is_chosen}
@@ -149,8 +148,8 @@ module _ (choices : List PrefixChoice) where
     -- what concerns no chosen prefix is no state change
     quiet_state : (payload : Payload) → concerns choices payload ≡ false → state_says says payload ≡ None
     quiet_state (State from to rule) h = absurd cc
-    quiet_state (Message bytes width add_path) h = refl
-    quiet_state (Entry key attrs) h = refl
+    quiet_state (Message bytes width add_path family) h = refl
+    quiet_state (Entry key attrs family) h = refl
     quiet_state Clear h = absurd cc
 
     abbrev said_in : List ReplayUnit → List Bool
@@ -219,8 +218,8 @@ module _ (choices : List PrefixChoice) where
   quiet_payload : (up : Bool) (payload : Payload) → concerns choices payload ≡ false → kept_steps (reading_steps up (event_in payload)) ≡ []
   unfolding event_in
   quiet_payload up (State from to rule) h = absurd cc
-  quiet_payload up (Message bytes width add_path) h = quiet_reading up (event_in (Message bytes width add_path)) (or_parts (is_open choices) (speaks_of choices (event_in (Message bytes width add_path))) h).1
-  quiet_payload up (Entry key attrs) h = quiet_entry up key (route_in ipv4 Four attrs) h
+  quiet_payload up (Message bytes width add_path family) h = quiet_reading up (event_in (Message bytes width add_path family)) (or_parts (is_open choices) (speaks_of choices (event_in (Message bytes width add_path family))) h).1
+  quiet_payload up (Entry key attrs family) h = quiet_entry up key (route_in family Four attrs) h
   quiet_payload up Clear h = absurd cc
 
   pub quiet_unit : (up : Bool) (u : ReplayUnit) → concerns choices u.payload ≡ false → kept_steps (unit_steps up u) ≡ []

@@ -1,5 +1,5 @@
 -- A route of the table was announced by a unit that came while the peer was up, and after the last break.
-use Rattle.std.proofs.Common.{◌≡◌, ◌≢◌, ◌⊎◌, Bool, true, false, cond, not, ◌||◌, List, [], ◌∷◌, ◌++◌, map, Option, Some, None, Result, Ok, Err, refl, sym, ap, ◌∙◌, inl, inr, append_assoc, arith}
+use Rattle.std.proofs.Common.{◌≡◌, ◌⊎◌, Bool, true, false, cond, not, ◌||◌, List, [], ◌∷◌, ◌++◌, map, Option, Some, None, Result, Ok, Err, refl, sym, ap, ◌∙◌, inl, inr, append_assoc, arith}
 use Rattle.std.proofs.lemmas.List.{append-nil}
 use Rattle.std.specs.Prelude.{unwrap_or}
 use Rattle.std.specs.List.{Contains, AllByRecursion, filter}
@@ -13,10 +13,10 @@ use Rattle.mrt_frame.specs.declared.fault.Fault.{Fault}
 use Rattle.bgp_update.specs.declared.route.Route.{Route}
 use Rattle.bgp_update.specs.Updates.{Update}
 use Rattle.bgp_update.specs.Hops.{by_hop}
-use Rattle.mrt_body.specs.declared.unit.Payload.{Payload}
+use Rattle.mrt_body.specs.Plain.{Payload}
 use Rattle.mrt_body.specs.declared.unit.Payload.TheVariants.{State, Message, Entry, Clear}
-use Rattle.mrt_body.specs.declared.unit.Unit.{Unit as ReplayUnit}
-use Rattle.mrt_body.specs.declared.meaning.Event.{Event}
+use Rattle.mrt_body.specs.Plain.{Unit as ReplayUnit}
+use Rattle.mrt_body.specs.Plain.{Event}
 use Rattle.mrt_body.specs.declared.meaning.Event.TheVariants as event
 use Rattle.mrt_body.specs.Events.{event_in}
 use Rattle.mrt_body.specs.States.{breaks}
@@ -177,8 +177,8 @@ module _ (p : RouteKey) (route : Route) where
   kept_by_unit : (up : Bool) (payload : Payload) → NoneEmpties (reading_steps up (event_in payload)) → EndsRoutes payload → ⊥
   unfolding event_in
   kept_by_unit up (State from to rule) h broken = kept_by_state (breaks rule from to) h broken
-  kept_by_unit up (Message bytes width add_path) h broken = broken
-  kept_by_unit up (Entry key attrs) h broken = broken
+  kept_by_unit up (Message bytes width add_path family) h broken = broken
+  kept_by_unit up (Entry key attrs family) h broken = broken
   kept_by_unit up Clear h broken = h.0 tt
 
   -- a unit after the first ones gave the route, or it stood before them
@@ -220,22 +220,22 @@ broken_steps false broken = absurd cc
 -- the one step of what ends routes
 ending_step : (payload : Payload) → Step
 ending_step (State from to rule) = break
-ending_step (Message bytes width add_path) = break
-ending_step (Entry key attrs) = break
+ending_step (Message bytes width add_path family) = break
+ending_step (Entry key attrs family) = break
 ending_step Clear = clear
 
 steps_of_end : (up : Bool) (payload : Payload) → EndsRoutes payload → reading_steps up (event_in payload) ≡ ending_step payload ∷ []
 unfolding event_in ending_step
 steps_of_end up (State from to rule) broken = broken_steps (breaks rule from to) broken
-steps_of_end up (Message bytes width add_path) broken = absurd broken
-steps_of_end up (Entry key attrs) broken = absurd broken
+steps_of_end up (Message bytes width add_path family) broken = absurd broken
+steps_of_end up (Entry key attrs family) broken = absurd broken
 steps_of_end up Clear broken = refl
 
 empty_behind : (steps : List Step) (payload : Payload) → finite.entries (finite.empty {X = Route} {R = key_cmp}) ≡ table_of (steps ++ ending_step payload ∷ [])
 unfolding ending_step
 empty_behind steps (State from to rule) = entries-IsTable (steps ++ break ∷ []) finite.empty (IsTable_break steps)
-empty_behind steps (Message bytes width add_path) = entries-IsTable (steps ++ break ∷ []) finite.empty (IsTable_break steps)
-empty_behind steps (Entry key attrs) = entries-IsTable (steps ++ break ∷ []) finite.empty (IsTable_break steps)
+empty_behind steps (Message bytes width add_path family) = entries-IsTable (steps ++ break ∷ []) finite.empty (IsTable_break steps)
+empty_behind steps (Entry key attrs family) = entries-IsTable (steps ++ break ∷ []) finite.empty (IsTable_break steps)
 empty_behind steps Clear = entries-IsTable (steps ++ clear ∷ []) finite.empty (IsTable_clear steps)
 
 -- what ends routes leaves none

@@ -6,12 +6,12 @@ use Rattle.std.proofs.lemmas.Bool.Decides.{nat_tests}
 use Rattle.std.proofs.lemmas.List.Elements.{All-nil, All-head, All-tail, All-push}
 use Rattle.mrt_frame.specs.Positions.{flat_map_after}
 use Rattle.mrt_frame.specs.declared.fault.Fault.{Fault}
-use Rattle.mrt_body.specs.declared.meaning.Event.{Event}
+use Rattle.mrt_body.specs.Plain.{Event}
 use Rattle.mrt_body.specs.declared.state_rule.StateRule.{StateRule}
 use Rattle.mrt_body.specs.declared.state_rule.StateRule.TheVariants.{Recorded, Established}
-use Rattle.mrt_body.specs.declared.unit.Payload.{Payload}
+use Rattle.mrt_body.specs.Plain.{Payload}
 use Rattle.mrt_body.specs.declared.unit.Payload.TheVariants.{State, Message, Entry, Clear}
-use Rattle.mrt_body.specs.declared.unit.Unit.{Unit as ReplayUnit}
+use Rattle.mrt_body.specs.Plain.{Unit as ReplayUnit}
 use Rattle.mrt_body.specs.Events.{event_in}
 use Rattle.mrt_body.specs.States.{ESTABLISHED, IsByRule, AreByRule, breaks, established_by, up_by}
 use Rattle.adj_rib.specs.Churns.{churn_of, is_routing, reading_of, stopped}
@@ -74,8 +74,8 @@ up_by_last before unit from to h = is_up-push before unit ∙ up_by_read (is_up 
 
 says_alike : (payload : Payload) → IsByRule Recorded payload → state_says established_by payload ≡ state_says up_by payload
 says_alike (State from to rule) h = rw h refl
-says_alike (Message bytes width add_path) h = refl
-says_alike (Entry key attrs) h = refl
+says_alike (Message bytes width add_path family) h = refl
+says_alike (Entry key attrs family) h = refl
 says_alike Clear h = refl
 
 abbrev said : (StateRule → ℕ → ℕ → Option Bool) → List ReplayUnit → List Bool
@@ -99,8 +99,8 @@ up_from o (u ∷ units) e h =
     let rest : AreByRule Established units = All-tail (λ (unit : ReplayUnit). IsByRule Established unit.payload) u units h in
     elim u.payload as (λ p. IsByRule Established p → unwrap_or (last_or o (cons_option (state_says up_by p) (said up_by units))) true ≡ true) [
       | State from to rule ↦ λ is. rw is (up_from (Some true) units refl rest)
-      | Message bytes width add_path ↦ λ is. up_from o units e rest
-      | Entry key attrs ↦ λ is. up_from o units e rest
+      | Message bytes width add_path family ↦ λ is. up_from o units e rest
+      | Entry key attrs family ↦ λ is. up_from o units e rest
       | Clear ↦ λ is. up_from o units e rest
     ] (All-head (λ (unit : ReplayUnit). IsByRule Established unit.payload) u units h)
 

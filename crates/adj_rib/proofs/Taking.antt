@@ -1,5 +1,5 @@
 -- What a session keeps after one more unit is what the definitions say of one more unit.
-use Rattle.std.proofs.Common.{◌≡◌, ℕ, ◌+◌, ◌==◌, Bool, true, false, not, cond, ◌&&◌, List, [], ◌∷◌, ◌++◌, Option, Some, None, Result, Ok, Err, refl, sym, ap, ◌∙◌}
+use Rattle.std.proofs.Common.{◌≡◌, ℕ, ◌==◌, Bool, true, false, not, cond, ◌&&◌, List, [], ◌∷◌, ◌++◌, Option, Some, None, Result, Ok, Err, refl, sym, ap, ◌∙◌}
 use Rattle.std.specs.Prelude.{is_err, length, unwrap_or, if◌then◌else◌}
 use Rattle.std.specs.List.{fold, count_by, filter_map, cons_option, last_or}
 use Rattle.std.specs.FinMap as finite
@@ -15,15 +15,15 @@ use Rattle.bgp_update.specs.declared.width.Width.{Width}
 use Rattle.bgp_update.specs.declared.width.Width.TheVariants.{Four}
 use Rattle.bgp_update.specs.declared.route.Route.{Route}
 use Rattle.bgp_update.specs.Attributes.{route_in}
-use Rattle.bgp_update.specs.Families.{ipv4}
+use Rattle.bgp_update.specs.Families.{FamilyOf}
 use Rattle.bgp_update.specs.Updates.{Update, update_in}
 use Rattle.mrt_body.specs.declared.state_rule.StateRule.{StateRule}
-use Rattle.mrt_body.specs.declared.unit.Payload.{Payload}
+use Rattle.mrt_body.specs.Plain.{Payload}
 use Rattle.mrt_body.specs.declared.unit.Payload.TheVariants.{State, Message, Entry, Clear}
-use Rattle.mrt_body.specs.declared.unit.Unit.{Unit as ReplayUnit}
+use Rattle.mrt_body.specs.Plain.{Unit as ReplayUnit}
 use Rattle.mrt_body.specs.declared.unit.Damage.{Damage}
 use Rattle.mrt_body.specs.declared.unit.Place.{Place}
-use Rattle.mrt_body.specs.declared.meaning.Event.{Event}
+use Rattle.mrt_body.specs.Plain.{Event}
 use Rattle.mrt_body.specs.declared.meaning.Event.TheVariants as event
 use Rattle.mrt_body.specs.States.{up_by, established_by}
 use Rattle.mrt_body.specs.Units.{is_recorded}
@@ -60,19 +60,19 @@ module _ (says : StateRule → ℕ → ℕ → Option Bool) where
   no_state_in_route key (Ok route) = refl
   no_state_in_route key (Err fault) = refl
 
-  no_state_in_message : (width : Width) (add_path : Bool) (r : Result (ℕ × List ℕ) Fault) → said_by (r >>= λ m. cond (m.0 == UPDATE) (update_in ipv4 width add_path m.1 >>= λ update. Ok (event.Change update)) (Ok event.Other)) ≡ None
-  no_state_in_message width add_path (Err fault) = refl
-  no_state_in_message width add_path (Ok m) =
-      elim (m.0 == UPDATE) as (λ b. said_by (cond b (update_in ipv4 width add_path m.1 >>= λ update. Ok (event.Change update)) (Ok event.Other)) ≡ None) [
-        | true ↦ no_state_in_update (update_in ipv4 width add_path m.1)
+  no_state_in_message : (family : FamilyOf) (width : Width) (add_path : Bool) (r : Result (ℕ × List ℕ) Fault) → said_by (r >>= λ m. cond (m.0 == UPDATE) (update_in family width add_path m.1 >>= λ update. Ok (event.Change update)) (Ok event.Other)) ≡ None
+  no_state_in_message family width add_path (Err fault) = refl
+  no_state_in_message family width add_path (Ok m) =
+      elim (m.0 == UPDATE) as (λ b. said_by (cond b (update_in family width add_path m.1 >>= λ update. Ok (event.Change update)) (Ok event.Other)) ≡ None) [
+        | true ↦ no_state_in_update (update_in family width add_path m.1)
         | false ↦ refl
       ]
 
   said_of_reading : (payload : Payload) → state_says says payload ≡ said_by (event_in payload)
   unfolding event_in message_event_in
   said_of_reading (State from to rule) = refl
-  said_of_reading (Message bytes width add_path) = sym (no_state_in_message width add_path (message_in bytes))
-  said_of_reading (Entry key attrs) = sym (no_state_in_route key (route_in ipv4 Four attrs))
+  said_of_reading (Message bytes width add_path family) = sym (no_state_in_message family width add_path (message_in bytes))
+  said_of_reading (Entry key attrs family) = sym (no_state_in_route key (route_in family Four attrs))
   said_of_reading Clear = refl
 
   abbrev said_in : List ReplayUnit → List Bool

@@ -5,10 +5,10 @@ use Rattle.std.specs.FinMap as finite
 use Rattle.std.proofs.lemmas.List.Elements.{filter-append}
 use Rattle.bgp_prefix.specs.Keys.{RouteKey}
 use Rattle.bgp_update.specs.declared.route.Route.{Route}
-use Rattle.mrt_body.specs.declared.choice.PrefixChoice.{PrefixChoice}
-use Rattle.mrt_body.specs.declared.unit.Unit.{Unit as ReplayUnit}
+use Rattle.mrt_body.specs.Plain.{PrefixChoice}
+use Rattle.mrt_body.specs.Plain.{Unit as ReplayUnit}
 use Rattle.adj_rib.specs.declared.churn.Churn.{Churn}
-use Rattle.adj_rib.specs.declared.note.Note.{Note}
+use Rattle.adj_rib.specs.Plain.{Note}
 use Rattle.adj_rib.specs.declared.outcome.UnitKind.{UnitKind}
 use Rattle.adj_rib.specs.Steps.{Step, break, clear, announce, withdraw, is_up, unit_steps, reading_steps, steps_of}
 use Rattle.adj_rib.specs.Tables.{IsTable, route_at, table_of}

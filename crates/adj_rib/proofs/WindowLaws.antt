@@ -15,12 +15,12 @@ use Rattle.bgp_update.specs.declared.route.Route.{Route}
 use Rattle.bgp_update.specs.Updates.{Update}
 use Rattle.bgp_update.specs.Equality.{route_eq}
 use Rattle.bgp_update.specs.Hops.{by_hop}
-use Rattle.mrt_body.specs.declared.choice.PrefixChoice.{PrefixChoice}
-use Rattle.mrt_body.specs.declared.meaning.Event.{Event}
+use Rattle.mrt_body.specs.Plain.{PrefixChoice}
+use Rattle.mrt_body.specs.Plain.{Event}
 use Rattle.mrt_body.specs.declared.meaning.Event.TheVariants as event
-use Rattle.mrt_body.specs.declared.unit.Unit.{Unit as ReplayUnit}
+use Rattle.mrt_body.specs.Plain.{Unit as ReplayUnit}
 use Rattle.adj_rib.specs.declared.churn.Churn.{Churn}
-use Rattle.adj_rib.specs.declared.note.Note.{Note}
+use Rattle.adj_rib.specs.Plain.{Note}
 use Rattle.adj_rib.specs.declared.note.What.{What}
 use Rattle.adj_rib.specs.declared.note.What.TheVariants.{New, Changed, Same, Gone, Void, Lost}
 use Rattle.adj_rib.specs.declared.outcome.Outcome.{Outcome}

@@ -4,11 +4,11 @@ use Rattle.std.specs.List.{fold}
 use Rattle.mrt_frame.specs.declared.fault.Fault.{Fault}
 use Rattle.mrt_body.specs.declared.state_rule.StateRule.{StateRule}
 use Rattle.mrt_body.specs.States.{breaks}
-use Rattle.mrt_body.specs.declared.unit.Unit.{Unit as ReplayUnit}
-use Rattle.mrt_body.specs.declared.meaning.Event.{Event}
+use Rattle.mrt_body.specs.Plain.{Unit as ReplayUnit}
+use Rattle.mrt_body.specs.Plain.{Event}
 use Rattle.mrt_body.specs.declared.meaning.Event.TheVariants as event
 use Rattle.adj_rib.specs.declared.churn.Churn.{Churn}
-use Rattle.adj_rib.specs.declared.note.Note.{Note}
+use Rattle.adj_rib.specs.Plain.{Note}
 use Rattle.adj_rib.specs.declared.outcome.Outcome.{Outcome}
 use Rattle.adj_rib.specs.declared.outcome.UnitKind.{UnitKind}
 use Rattle.adj_rib.specs.declared.outcome.UnitKind.TheVariants.{Break, Idle, Damaged, Other}

@@ -6,15 +6,14 @@ use Rattle.bgp_update.specs.declared.route.Route.{Route}
 use Rattle.bgp_update.specs.Updates.{Update}
 use Rattle.bgp_update.specs.declared.width.Width.TheVariants.{Four}
 use Rattle.bgp_update.specs.Attributes.{route_in}
-use Rattle.bgp_update.specs.Families.{ipv4}
-use Rattle.mrt_body.specs.declared.unit.Payload.{Payload}
+use Rattle.mrt_body.specs.Plain.{Payload}
 use Rattle.mrt_body.specs.declared.unit.Payload.TheVariants.{State, Message, Entry, Clear}
 use Rattle.adj_rib.specs.declared.route_set.Slot.{Slot}
 use Rattle.adj_rib.specs.declared.route_set.Slot.TheVariants.{Empty, Kept}
 use Rattle.mrt_body.specs.declared.meaning.Event.TheVariants.{Change}
 use Rattle.mrt_body.specs.Events.{event_in}
-use Rattle.adj_rib.specs.declared.read_ahead.ReadAhead.{ReadAhead}
-use Rattle.adj_rib.specs.declared.read_ahead.Reading.{Reading}
+use Rattle.adj_rib.specs.Plain.{ReadAhead}
+use Rattle.adj_rib.specs.Plain.{Reading}
 use Rattle.adj_rib.specs.declared.read_ahead.Reading.TheVariants.{Nothing, Entry as EntryRoute, Announcement}
 
 -- the route that a slot holds, if the slot is there and holds one
@@ -25,8 +24,8 @@ kept_route None = None
 
 -- what the attributes of a RIB entry encode; nothing for a message, a state change or a clear
 abbrev pub entry_reading : Payload → Option (Result Route Fault)
-entry_reading (Entry key attrs) = Some (route_in ipv4 Four attrs)
-entry_reading (Message bytes width add_path) = None
+entry_reading (Entry key attrs family) = Some (route_in family Four attrs)
+entry_reading (Message bytes width add_path family) = None
 entry_reading (State from to rule) = None
 entry_reading Clear = None
 

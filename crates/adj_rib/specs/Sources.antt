@@ -4,10 +4,10 @@ use Rattle.std.specs.List.{Contains, AllByRecursion}
 use Rattle.bgp_prefix.specs.Keys.{RouteKey}
 use Rattle.bgp_update.specs.declared.route.Route.{Route}
 use Rattle.bgp_update.specs.Hops.{by_hop}
-use Rattle.mrt_body.specs.declared.unit.Payload.{Payload}
+use Rattle.mrt_body.specs.Plain.{Payload}
 use Rattle.mrt_body.specs.declared.unit.Payload.TheVariants.{State, Message, Entry, Clear}
-use Rattle.mrt_body.specs.declared.unit.Unit.{Unit as ReplayUnit}
-use Rattle.mrt_body.specs.declared.meaning.Event.{Event}
+use Rattle.mrt_body.specs.Plain.{Unit as ReplayUnit}
+use Rattle.mrt_body.specs.Plain.{Event}
 use Rattle.mrt_body.specs.declared.meaning.Event.TheVariants as event
 use Rattle.mrt_body.specs.States.{breaks}
 use Rattle.adj_rib.specs.Steps.{is_up}
@@ -25,8 +25,8 @@ Announces event.Clear key route = ⊥
 -- a state change that is a break by its rule, or a RIB dump's clear
 abbrev pub EndsRoutes : Payload → Type 0
 EndsRoutes (State from to rule) = breaks rule from to ≡ true
-EndsRoutes (Message bytes width add_path) = ⊥
-EndsRoutes (Entry key attrs) = ⊥
+EndsRoutes (Message bytes width add_path family) = ⊥
+EndsRoutes (Entry key attrs family) = ⊥
 EndsRoutes Clear = ⊤
 
 -- A unit that came while the peer was up announces the key with the route, and no unit after it ends routes.

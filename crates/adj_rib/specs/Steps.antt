@@ -9,10 +9,10 @@ use Rattle.bgp_update.specs.declared.route.Route.{Route}
 use Rattle.bgp_update.specs.Updates.{Update}
 use Rattle.bgp_update.specs.Hops.{by_hop}
 use Rattle.mrt_body.specs.declared.state_rule.StateRule.{StateRule}
-use Rattle.mrt_body.specs.declared.unit.Payload.{Payload}
+use Rattle.mrt_body.specs.Plain.{Payload}
 use Rattle.mrt_body.specs.declared.unit.Payload.TheVariants.{State, Message, Entry, Clear}
-use Rattle.mrt_body.specs.declared.unit.Unit.{Unit as ReplayUnit}
-use Rattle.mrt_body.specs.declared.meaning.Event.{Event}
+use Rattle.mrt_body.specs.Plain.{Unit as ReplayUnit}
+use Rattle.mrt_body.specs.Plain.{Event}
 use Rattle.mrt_body.specs.declared.meaning.Event.TheVariants as event
 use Rattle.mrt_body.specs.States.{breaks, established_by, up_by}
 use Rattle.mrt_body.specs.Events.{event_in}
@@ -27,8 +27,8 @@ pub data Step : Type 0 where
 -- what a payload says by this, if it is a state change and says anything
 abbrev pub state_says : (StateRule → ℕ → ℕ → Option Bool) → Payload → Option Bool
 state_says says (State from to rule) = says rule from to
-state_says says (Message bytes width add_path) = None
-state_says says (Entry key attrs) = None
+state_says says (Message bytes width add_path family) = None
+state_says says (Entry key attrs family) = None
 state_says says Clear = None
 
 -- what the last state change says that says anything; true where none does

@@ -3,11 +3,11 @@ use Rattle.std.specs.Prelude.{Bool, List, [], ◌∷◌, ◌++◌, map, Result, 
 use Rattle.std.specs.List.{fold}
 use Rattle.std.specs.FinMap as finite
 use Rattle.mrt_frame.specs.declared.fault.Fault.{Fault}
-use Rattle.mrt_body.specs.declared.choice.PrefixChoice.{PrefixChoice}
-use Rattle.mrt_body.specs.declared.meaning.Event.{Event}
+use Rattle.mrt_body.specs.Plain.{PrefixChoice}
+use Rattle.mrt_body.specs.Plain.{Event}
 use Rattle.mrt_body.specs.declared.unit.Damage.{Damage}
 use Rattle.mrt_body.specs.declared.unit.Place.{Place}
-use Rattle.adj_rib.specs.declared.note.Note.{Note}
+use Rattle.adj_rib.specs.Plain.{Note}
 use Rattle.adj_rib.specs.declared.watch.WatchedRib.{WatchedRib}
 use Rattle.adj_rib.specs.Steps.{Step, break, clear, announce, withdraw, reading_steps}
 use Rattle.adj_rib.specs.Applied.{RouteMap, table_after, up_after}
@@ -31,7 +31,7 @@ pub record Watching : Type 0 where
   pub faults : List Damage
 
 -- that of a peer's watched prefixes, with its map seen as what it contains
-abbrev pub watching_in : {M : Type 0} → (M → RouteMap) → WatchedRib M → Watching
+abbrev pub watching_in : {M A : Type 0} → (M → RouteMap) → WatchedRib M A → Watching
 watching_in contents rib = record { up = rib.up; table = contents rib.table; faults = rib.faults.items }
 
 -- a watch and the notes after the steps of a reading on chosen prefixes

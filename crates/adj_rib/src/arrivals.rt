@@ -1,6 +1,7 @@
 //! How many units of a peer came, and where the first one stands.
 
-use mrt_body::{LentUnit, Place};
+use bgp_update::Unicast;
+use mrt_body::{LentUnitOf, Place};
 
 /// How many units of a peer were taken, and where the first one stands.
 #[derive(Clone, Copy, Debug, PartialEq, Eq)]
@@ -29,7 +30,7 @@ impl Arrivals {
     /// Notes a unit, if it is recorded.
     #[inline(always)]
     #[tactic(auto, unfolding(crate::specs::Arrived::arrived))]
-    pub(crate) fn note(&mut self, unit: &LentUnit<'_>)
+    pub(crate) fn note<F: Unicast>(&mut self, unit: &LentUnitOf<'_, F>)
         ensures { self.new ≡ arrived_by (lent_unit unit.now) self.old }
     {
         if unit.payload.is_recorded() {

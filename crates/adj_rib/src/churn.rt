@@ -5,7 +5,9 @@ ghost use Rattle.adj_rib.specs.Histories.{is_before};
 
 use crate::note::{Note, What};
 use crate::outcome::{Outcome, UnitKind};
-use mrt_body::LentUnit;
+use bgp_prefix::Prefix;
+use bgp_update::Unicast;
+use mrt_body::LentUnitOf;
 
 /// Whether a time, in microseconds since 1970 UTC, is before this second.
 pub fn is_before(since: Option<u64>, time: u64) -> bool
@@ -88,7 +90,7 @@ impl Churn {
     /// Notes the time of a unit, if it is recorded.
     #[inline(always)]
     #[tactic(auto, unfolding(crate::specs::Applied::timed))]
-    pub(crate) fn note_unit(&mut self, unit: &LentUnit<'_>)
+    pub(crate) fn note_unit<F: Unicast>(&mut self, unit: &LentUnitOf<'_, F>)
         ensures { self.new ≡ timed_by (lent_unit unit.now) self.old }
     {
         if unit.payload.is_recorded() {
@@ -112,7 +114,7 @@ impl Churn {
     }
 
     /// Counts what happened to keys.
-    fn count_notes(&mut self, notes: &[Note])
+    fn count_notes<F: Unicast>(&mut self, notes: &[Note<Prefix<F>>])
         ensures { self.new ≡ fold counted_note self.old notes.now }
     {
         for note in notes {
@@ -134,12 +136,12 @@ impl Churn {
     }
 
     /// Counts a unit and what it did to keys, unless it is before this second.
-    pub(crate) fn count_within(
+    pub(crate) fn count_within<F: Unicast>(
         &mut self,
         since: Option<u64>,
-        unit: &LentUnit<'_>,
+        unit: &LentUnitOf<'_, F>,
         kind: UnitKind,
-        notes: &[Note],
+        notes: &[Note<Prefix<F>>],
     )
         ensures { self.new ≡ counted_within since (lent_unit unit.now) kind notes.now self.old }
     {

@@ -5,7 +5,7 @@
 //! from units to steps, and a table is what steps leave.
 //!
 //! - A table keeps a `SharedRoute`, an `Arc<PackedRoute>` that contracts see as the `Route` itself. So sessions require
-//!   `M: PrefixMap<SharedRoute, Addr = u32>`, while definitions speak of maps from keys to routes and know nothing of
+//!   `M: PrefixMap<SharedRoute>`, while definitions speak of maps from keys to routes and know nothing of
 //!   sharing. `share` allocates nothing, unless no further owner can be counted: then it makes an equal route.
 //! - A peer has one set of routes (`route_set.rt`), so that a route is stored once however many keys have it: a hash
 //!   table with open addressing, in which a look-up probes at most 8 slots. If all 8 are taken, a later route evicts

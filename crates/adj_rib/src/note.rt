@@ -1,7 +1,7 @@
 //! What happened to a key.
 
 use crate::shared_route::SharedRoute;
-use bgp_prefix::RouteKey;
+use bgp_prefix::{Prefix, RouteKey};
 
 /// What happened to a key.
 #[derive(Clone, Copy, Debug, PartialEq, Eq)]
@@ -22,9 +22,9 @@ pub enum What {
 
 /// One thing that happened to a key.
 #[derive(Drop)]
-pub struct Note {
+pub struct Note<P = Prefix> {
     pub what: What,
-    pub key: RouteKey,
+    pub key: RouteKey<P>,
     /// The route that the key has from then on, or the one that went. A withdrawal of a key without a route has none.
     pub route: Option<SharedRoute>,
 }

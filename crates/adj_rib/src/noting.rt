@@ -14,13 +14,16 @@ ghost use Rattle.adj_rib.specs.Watching.{watched};
 use crate::note::{Note, What};
 use crate::route_set::{HashedRoute, RouteSet};
 use crate::shared_route::SharedRoute;
-use bgp_prefix::{KeySet, Memory, PrefixMap, RouteKey};
-use bgp_update::{PackedRoute, PackedUpdate};
+use bgp_prefix::{KeySet, Memory, Prefix, PrefixMap, RouteKey};
+use bgp_update::{PackedRoute, PackedUpdate, Unicast};
 use mrt_body::ChosenPrefixes;
 use std::alloc::Global;
 
 /// Whether the prefix of a key is chosen.
-pub(crate) fn is_chosen_key(chosen: &ChosenPrefixes, key: &RouteKey) -> bool
+pub(crate) fn is_chosen_key<F: Unicast>(
+    chosen: &ChosenPrefixes<F>,
+    key: &RouteKey<Prefix<F>>,
+) -> bool
     ensures { result ≡ chooses chosen.now key.now }
 {
     chosen.takes(&key.prefix)
@@ -48,11 +51,11 @@ fn what_without(old: &Option<SharedRoute>) -> What
 }
 
 /// Puts the route into the table, and notes the effect.
-pub(crate) fn note_announcement<M: PrefixMap<SharedRoute, Addr = u32>>(
+pub(crate) fn note_announcement<F: Unicast, M: PrefixMap<SharedRoute, Addr = F>>(
     alloc: Global,
     table: &mut M,
-    notes: &mut Vec<Note>,
-    key: RouteKey,
+    notes: &mut Vec<Note<Prefix<F>>>,
+    key: RouteKey<Prefix<F>>,
     route: &SharedRoute,
 ) -> Result<(), Memory>
     ensures { OnOk result ((M.contents table.new, notes.new.items)
@@ -69,10 +72,10 @@ pub(crate) fn note_announcement<M: PrefixMap<SharedRoute, Addr = u32>>(
 }
 
 /// Removes a key from the table, and notes the effect.
-fn note_withdrawal<M: PrefixMap<SharedRoute, Addr = u32>>(
+fn note_withdrawal<F: Unicast, M: PrefixMap<SharedRoute, Addr = F>>(
     table: &mut M,
-    notes: &mut Vec<Note>,
-    key: &RouteKey,
+    notes: &mut Vec<Note<Prefix<F>>>,
+    key: &RouteKey<Prefix<F>>,
 ) -> Result<(), Memory>
     ensures { OnOk result ((M.contents table.new, notes.new.items)
         ≡ watched (M.contents table.old, notes.old.items) (withdraw key.now)) }
@@ -88,10 +91,10 @@ fn note_withdrawal<M: PrefixMap<SharedRoute, Addr = u32>>(
 }
 
 /// Notes that each of these routes was lost.
-fn note_lost(
+fn note_lost<F: Unicast>(
     alloc: Global,
-    entries: &[(RouteKey, &SharedRoute)],
-    notes: &mut Vec<Note>,
+    entries: &[(RouteKey<Prefix<F>>, &SharedRoute)],
+    notes: &mut Vec<Note<Prefix<F>>>,
 ) -> Result<(), Memory>
     ensures { OnOk result (notes.new.items
         ≡ notes.old.items ++ map lost_note (map (λ e. (e.0, e.1.now)) entries.now)) }
@@ -107,10 +110,10 @@ fn note_lost(
 }
 
 /// Notes that each route of the table was lost.
-fn note_table<M: PrefixMap<SharedRoute, Addr = u32>>(
+fn note_table<F: Unicast, M: PrefixMap<SharedRoute, Addr = F>>(
     alloc: Global,
     table: &M,
-    notes: &mut Vec<Note>,
+    notes: &mut Vec<Note<Prefix<F>>>,
 ) -> Result<(), Memory>
     ensures { OnOk result (notes.new.items
         ≡ notes.old.items ++ map lost_note (finite.entries (M.contents table.now))) }
@@ -120,10 +123,10 @@ fn note_table<M: PrefixMap<SharedRoute, Addr = u32>>(
 }
 
 /// Empties the table, and notes each route that it had.
-pub(crate) fn lose_all<M: PrefixMap<SharedRoute, Addr = u32>>(
+pub(crate) fn lose_all<F: Unicast, M: PrefixMap<SharedRoute, Addr = F>>(
     alloc: Global,
     table: &mut M,
-    notes: &mut Vec<Note>,
+    notes: &mut Vec<Note<Prefix<F>>>,
 ) -> Result<(), Memory>
     ensures { OnOk result ((M.contents table.new, notes.new.items)
         ≡ watched (M.contents table.old, notes.old.items) break) }
@@ -134,12 +137,12 @@ pub(crate) fn lose_all<M: PrefixMap<SharedRoute, Addr = u32>>(
 }
 
 /// Announces each chosen key with the route.
-fn announce_chosen<M: PrefixMap<SharedRoute, Addr = u32>>(
+fn announce_chosen<F: Unicast, M: PrefixMap<SharedRoute, Addr = F>>(
     alloc: Global,
-    chosen: &ChosenPrefixes,
+    chosen: &ChosenPrefixes<F>,
     table: &mut M,
-    notes: &mut Vec<Note>,
-    keys: &[RouteKey],
+    notes: &mut Vec<Note<Prefix<F>>>,
+    keys: &[RouteKey<Prefix<F>>],
     route: &SharedRoute,
 ) -> Result<(), Memory>
     ensures { OnOk result ((M.contents table.new, notes.new.items)
@@ -155,13 +158,13 @@ fn announce_chosen<M: PrefixMap<SharedRoute, Addr = u32>>(
 }
 
 /// Withdraws each chosen key that is neither announced nor reached.
-fn withdraw_chosen<M: PrefixMap<SharedRoute, Addr = u32>>(
-    chosen: &ChosenPrefixes,
+fn withdraw_chosen<F: Unicast, M: PrefixMap<SharedRoute, Addr = F>>(
+    chosen: &ChosenPrefixes<F>,
     table: &mut M,
-    notes: &mut Vec<Note>,
-    withdrawn: &[RouteKey],
-    announced: &KeySet,
-    reached: &KeySet,
+    notes: &mut Vec<Note<Prefix<F>>>,
+    withdrawn: &[RouteKey<Prefix<F>>],
+    announced: &KeySet<F>,
+    reached: &KeySet<F>,
 ) -> Result<(), Memory>
     ensures { OnOk result ((M.contents table.new, notes.new.items)
         ≡ fold watched (M.contents table.old, notes.old.items)
@@ -177,14 +180,14 @@ fn withdraw_chosen<M: PrefixMap<SharedRoute, Addr = u32>>(
 }
 
 /// Withdraws the chosen keys that an UPDATE withdraws but neither announces nor reaches.
-fn withdraw_update<M: PrefixMap<SharedRoute, Addr = u32>>(
+fn withdraw_update<F: Unicast, M: PrefixMap<SharedRoute, Addr = F>>(
     alloc: Global,
-    chosen: &ChosenPrefixes,
+    chosen: &ChosenPrefixes<F>,
     table: &mut M,
-    notes: &mut Vec<Note>,
-    withdrawn: &[RouteKey],
-    announced: &[RouteKey],
-    reached: &[RouteKey],
+    notes: &mut Vec<Note<Prefix<F>>>,
+    withdrawn: &[RouteKey<Prefix<F>>],
+    announced: &[RouteKey<Prefix<F>>],
+    reached: &[RouteKey<Prefix<F>>],
 ) -> Result<(), Memory>
     ensures { OnOk result ((M.contents table.new, notes.new.items)
         ≡ fold watched (M.contents table.old, notes.old.items)
@@ -200,13 +203,13 @@ fn withdraw_update<M: PrefixMap<SharedRoute, Addr = u32>>(
 }
 
 /// Announces the chosen ones of these keys, if any, with the one route that they share.
-fn announce_keys<M: PrefixMap<SharedRoute, Addr = u32>>(
+fn announce_keys<F: Unicast, M: PrefixMap<SharedRoute, Addr = F>>(
     alloc: Global,
-    chosen: &ChosenPrefixes,
+    chosen: &ChosenPrefixes<F>,
     routes: &mut RouteSet,
     table: &mut M,
-    notes: &mut Vec<Note>,
-    keys: &[RouteKey],
+    notes: &mut Vec<Note<Prefix<F>>>,
+    keys: &[RouteKey<Prefix<F>>],
     route: PackedRoute,
 ) -> Result<(), Memory>
     ensures { OnOk result ((M.contents table.new, notes.new.items)
@@ -224,13 +227,13 @@ fn announce_keys<M: PrefixMap<SharedRoute, Addr = u32>>(
 
 /// Announces the chosen keys that MP_REACH_NLRI has with their route, which is there if there are keys.
 #[tactic(auto, using(crate::proofs::Reached::reached_by))]
-fn announce_reached<M: PrefixMap<SharedRoute, Addr = u32>>(
+fn announce_reached<F: Unicast, M: PrefixMap<SharedRoute, Addr = F>>(
     alloc: Global,
-    chosen: &ChosenPrefixes,
+    chosen: &ChosenPrefixes<F>,
     routes: &mut RouteSet,
     table: &mut M,
-    notes: &mut Vec<Note>,
-    keys: &[RouteKey],
+    notes: &mut Vec<Note<Prefix<F>>>,
+    keys: &[RouteKey<Prefix<F>>],
     route: Option<PackedRoute>,
 ) -> Result<(), Memory>
     ensures { OnOk result ((by : Route) → (keys.now ≢ [] → route ≡ Some by) → (M.contents table.new, notes.new.items)
@@ -247,13 +250,13 @@ fn announce_reached<M: PrefixMap<SharedRoute, Addr = u32>>(
 }
 
 /// Announces what an UPDATE announces of the chosen keys, and then what it reaches by MP_REACH_NLRI.
-fn announce_update<M: PrefixMap<SharedRoute, Addr = u32>>(
+fn announce_update<F: Unicast, M: PrefixMap<SharedRoute, Addr = F>>(
     alloc: Global,
-    chosen: &ChosenPrefixes,
+    chosen: &ChosenPrefixes<F>,
     routes: &mut RouteSet,
     table: &mut M,
-    notes: &mut Vec<Note>,
-    update: PackedUpdate,
+    notes: &mut Vec<Note<Prefix<F>>>,
+    update: PackedUpdate<Prefix<F>>,
 ) -> Result<(), Memory>
     ensures { OnOk result ((M.contents table.new, notes.new.items)
         ≡ fold watched (M.contents table.old, notes.old.items)
@@ -275,13 +278,13 @@ fn announce_update<M: PrefixMap<SharedRoute, Addr = u32>>(
 }
 
 /// Takes the steps of an UPDATE on chosen keys.
-pub(crate) fn note_update<M: PrefixMap<SharedRoute, Addr = u32>>(
+pub(crate) fn note_update<F: Unicast, M: PrefixMap<SharedRoute, Addr = F>>(
     alloc: Global,
-    chosen: &ChosenPrefixes,
+    chosen: &ChosenPrefixes<F>,
     routes: &mut RouteSet,
     table: &mut M,
-    notes: &mut Vec<Note>,
-    update: PackedUpdate,
+    notes: &mut Vec<Note<Prefix<F>>>,
+    update: PackedUpdate<Prefix<F>>,
 ) -> Result<(), Memory>
     ensures { OnOk result ((M.contents table.new, notes.new.items)
         ≡ fold watched (M.contents table.old, notes.old.items)

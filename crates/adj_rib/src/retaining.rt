@@ -8,16 +8,17 @@ ghost use Rattle.bgp_update.specs.declared.route.Route.{Route};
 ghost use Rattle.adj_rib.specs.Selecting.{chooses, selected_entries};
 
 use crate::shared_route::SharedRoute;
-use bgp_prefix::{Memory, PrefixMap, RouteKey};
+use bgp_prefix::{Memory, Prefix, PrefixMap, RouteKey};
+use bgp_update::Unicast;
 use mrt_body::ChosenPrefixes;
 use std::alloc::Global;
 
 /// Returns the keys of these entries that aren't chosen.
-fn unchosen_keys(
+fn unchosen_keys<F: Unicast>(
     alloc: Global,
-    chosen: &ChosenPrefixes,
-    entries: &[(RouteKey, &SharedRoute)],
-) -> Result<Vec<RouteKey>, Memory>
+    chosen: &ChosenPrefixes<F>,
+    entries: &[(RouteKey<Prefix<F>>, &SharedRoute)],
+) -> Result<Vec<RouteKey<Prefix<F>>>, Memory>
     ensures { IfOk result (λ v. v.items ≡ filter (λ k. not (chooses chosen.now k))
         (map (λ (e : Key × Route). e.0) (map (λ e. (e.0, e.1.now)) entries.now))) }
 {
@@ -31,11 +32,11 @@ fn unchosen_keys(
 }
 
 /// Returns the keys of a table that aren't chosen.
-fn other_keys<M: PrefixMap<SharedRoute, Addr = u32>>(
+fn other_keys<F: Unicast, M: PrefixMap<SharedRoute, Addr = F>>(
     alloc: Global,
-    chosen: &ChosenPrefixes,
+    chosen: &ChosenPrefixes<F>,
     table: &M,
-) -> Result<Vec<RouteKey>, Memory>
+) -> Result<Vec<RouteKey<Prefix<F>>>, Memory>
     ensures { IfOk result (λ v. v.items ≡ filter (λ k. not (chooses chosen.now k))
         (map (λ e. e.0) (finite.entries (M.contents table.now)))) }
 {
@@ -44,7 +45,10 @@ fn other_keys<M: PrefixMap<SharedRoute, Addr = u32>>(
 }
 
 /// Removes each of these keys.
-fn remove_all<M: PrefixMap<SharedRoute, Addr = u32>>(table: &mut M, keys: &[RouteKey])
+fn remove_all<F: Unicast, M: PrefixMap<SharedRoute, Addr = F>>(
+    table: &mut M,
+    keys: &[RouteKey<Prefix<F>>],
+)
     ensures { M.contents table.new ≡ fold finite.remove (M.contents table.old) keys.now }
 {
     for key in keys {
@@ -53,9 +57,9 @@ fn remove_all<M: PrefixMap<SharedRoute, Addr = u32>>(table: &mut M, keys: &[Rout
 }
 
 /// Removes the routes of prefixes that aren't chosen.
-pub(crate) fn retain_chosen<M: PrefixMap<SharedRoute, Addr = u32>>(
+pub(crate) fn retain_chosen<F: Unicast, M: PrefixMap<SharedRoute, Addr = F>>(
     alloc: Global,
-    chosen: &ChosenPrefixes,
+    chosen: &ChosenPrefixes<F>,
     table: &mut M,
 ) -> Result<(), Memory>
     ensures { OnOk result (finite.entries (M.contents table.new)

@@ -10,14 +10,16 @@ use crate::route_set::{HashedRoute, RouteSet};
 use crate::shared_route::SharedRoute;
 use crate::table::announce_route;
 use crate::update::{apply_announcement, apply_update};
-use bgp_prefix::{Memory, PrefixMap, RouteKey};
-use bgp_update::{AttrError, PackedUpdate};
-use mrt_body::{Damage, LentPayload, LentUnit, PackedEvent, Place, StateRule, packed_event};
+use bgp_prefix::{Memory, Prefix, PrefixMap, RouteKey};
+use bgp_update::{AttrError, PackedUpdate, Unicast};
+use mrt_body::{
+    Damage, LentPayload, LentPayloadOf, LentUnitOf, PackedEvent, Place, StateRule, packed_event,
+};
 use std::alloc::Global;
 
 /// A peer's Adj-RIB-In, along with what is counted and listed for the peer.
 #[derive(Drop)]
-pub(crate) struct RibIn<M: PrefixMap<SharedRoute, Addr = u32>> {
+pub(crate) struct RibIn<M: PrefixMap<SharedRoute>> {
     pub(crate) up: bool,
     /// Whether the session is established, as far as state changes tell.
     pub(crate) established: bool,
@@ -27,7 +29,7 @@ pub(crate) struct RibIn<M: PrefixMap<SharedRoute, Addr = u32>> {
     routes: RouteSet,
 }
 
-impl<M: PrefixMap<SharedRoute, Addr = u32>> RibIn<M> {
+impl<F: Unicast, M: PrefixMap<SharedRoute, Addr = F>> RibIn<M> {
     ghost use Rattle.std.specs.Prelude.{◌≡◌, true, Ok, OnOk};
     ghost use Rattle.mrt_body.specs.Events.{event_in};
     ghost use Rattle.mrt_body.specs.Lent.{lent_payload, lent_unit};
@@ -85,7 +87,7 @@ impl<M: PrefixMap<SharedRoute, Addr = u32>> RibIn<M> {
 
     /// Takes the steps of an UPDATE.
     #[tactic(auto, unfolding(crate::specs::Applied::followed, crate::specs::Applied::noted))]
-    fn take_update(&mut self, alloc: Global, update: PackedUpdate) -> Result<(), Memory>
+    fn take_update(&mut self, alloc: Global, update: PackedUpdate<Prefix<F>>) -> Result<(), Memory>
         ensures { OnOk result (kept_in M.contents self.new
             ≡ followed (kept_in M.contents self.old) (Ok (events.Change (plain_update update)))) }
     {
@@ -107,7 +109,7 @@ impl<M: PrefixMap<SharedRoute, Addr = u32>> RibIn<M> {
     fn take_announcement(
         &mut self,
         alloc: Global,
-        keys: &[RouteKey],
+        keys: &[RouteKey<Prefix<F>>],
         route: &HashedRoute,
     ) -> Result<(), Memory>
         ensures { OnOk result ((update : Update) → IsAnnouncement keys.now route.now.route update →
@@ -142,7 +144,7 @@ impl<M: PrefixMap<SharedRoute, Addr = u32>> RibIn<M> {
     fn announce_entry(
         &mut self,
         alloc: Global,
-        key: RouteKey,
+        key: RouteKey<Prefix<F>>,
         hashed: &HashedRoute,
     ) -> Result<(), Memory>
         ensures { OnOk result (kept_in M.contents self.new
@@ -165,7 +167,7 @@ impl<M: PrefixMap<SharedRoute, Addr = u32>> RibIn<M> {
         alloc: Global,
         buffer: &mut Vec<u8>,
         place: Place,
-        payload: &LentPayload<'_>,
+        payload: &LentPayloadOf<'_, F>,
     ) -> Result<(), Memory>
         ensures { OnOk result (kept_in M.contents self.new
             ≡ read_as (kept_in M.contents self.old) place (event_in (lent_payload payload.now))) }
@@ -197,8 +199,8 @@ impl<M: PrefixMap<SharedRoute, Addr = u32>> RibIn<M> {
         alloc: Global,
         buffer: &mut Vec<u8>,
         place: Place,
-        payload: &LentPayload<'_>,
-        ahead: &ReadAhead,
+        payload: &LentPayloadOf<'_, F>,
+        ahead: &ReadAhead<Prefix<F>>,
     ) -> Result<(), Memory>
         requires { IsAheadOf (lent_payload payload.now) ahead.now }
         ensures { OnOk result (kept_in M.contents self.new
@@ -218,7 +220,7 @@ impl<M: PrefixMap<SharedRoute, Addr = u32>> RibIn<M> {
     }
 
     /// Prefetches the slot where `take` will look.
-    pub(crate) fn prefetch_slot(&self, ahead: &ReadAhead) -> usize {
+    pub(crate) fn prefetch_slot(&self, ahead: &ReadAhead<Prefix<F>>) -> usize {
         match ahead.route() {
             Some(hashed) => self.routes.prefetch_slot(hashed),
             None => 0,
@@ -226,7 +228,7 @@ impl<M: PrefixMap<SharedRoute, Addr = u32>> RibIn<M> {
     }
 
     /// Prefetches the route that `take` will find.
-    pub(crate) fn prefetch_route(&self, ahead: &ReadAhead) -> usize {
+    pub(crate) fn prefetch_route(&self, ahead: &ReadAhead<Prefix<F>>) -> usize {
         match ahead.route() {
             Some(hashed) => self.routes.prefetch_route(hashed),
             None => 0,
@@ -239,8 +241,8 @@ impl<M: PrefixMap<SharedRoute, Addr = u32>> RibIn<M> {
         &mut self,
         alloc: Global,
         buffer: &mut Vec<u8>,
-        unit: &LentUnit<'_>,
-        ahead: &ReadAhead,
+        unit: &LentUnitOf<'_, F>,
+        ahead: &ReadAhead<Prefix<F>>,
     ) -> Result<(), Memory>
         requires { IsAheadOf (lent_payload unit.now.payload) ahead.now }
         ensures { OnOk result

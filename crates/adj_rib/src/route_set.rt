@@ -4,12 +4,11 @@
 ghost use Rattle.std.specs.Prelude.{◌≡◌, ◌<◌, Some, IfOk, IfSome, IsTrue, OnOk, is_some, slice_get, true, vec_len};
 ghost use Rattle.bgp_update.specs.Answers.{Gives};
 ghost use Rattle.bgp_update.specs.Attributes.{route_in};
-ghost use Rattle.bgp_update.specs.Families.{ipv4};
 ghost use Rattle.bgp_update.specs.declared.width.Width.TheVariants.{Four};
 
 use crate::shared_route::SharedRoute;
 use bgp_prefix::Memory;
-use bgp_update::{AttrError, PackedRoute, Width};
+use bgp_update::{AttrError, PackedRoute, Unicast, Width};
 use std::alloc::Global;
 use std::mem;
 
@@ -52,14 +51,14 @@ impl HashedRoute {
     }
 
     /// Reads the attributes of a RIB entry by way of a buffer, whose contents are replaced.
-    pub(crate) fn read(
+    pub(crate) fn read<F: Unicast>(
         alloc: Global,
         buffer: &mut Vec<u8>,
         attrs: &[u8],
     ) -> Result<HashedRoute, AttrError>
-        ensures { Gives (λ hashed. hashed.route) result (route_in ipv4 Four attrs.now) }
+        ensures { Gives (λ hashed. hashed.route) result (route_in F.family Four attrs.now) }
     {
-        match PackedRoute::read::<u32>(alloc, buffer, attrs, Width::Four) {
+        match PackedRoute::read::<F>(alloc, buffer, attrs, Width::Four) {
             Ok(route) => Ok(HashedRoute::new(route)),
             Err(error) => Err(error),
         }

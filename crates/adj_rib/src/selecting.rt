@@ -2,8 +2,8 @@
 
 ghost use Rattle.std.specs.Prelude.{◌≡◌, [], Bool, List, None, false};
 ghost use Rattle.bgp_prefix.specs.Keys.{RouteKey};
-ghost use Rattle.mrt_body.specs.declared.choice.PrefixChoice.{PrefixChoice as Choice};
-ghost use Rattle.mrt_body.specs.declared.unit.Unit.{Unit as ReplayUnit};
+ghost use Rattle.mrt_body.specs.Plain.{PrefixChoice as Choice};
+ghost use Rattle.mrt_body.specs.Plain.{Unit as ReplayUnit};
 ghost use Rattle.mrt_body.specs.Selections.{concerns};
 ghost use Rattle.adj_rib.specs.Steps.{Step, is_established, is_up, steps_of};
 ghost use Rattle.adj_rib.specs.Tables.{table_of};

@@ -5,7 +5,7 @@ ghost use Rattle.std.specs.FinMap as finite;
 ghost use Rattle.adj_rib.specs.RouteSets.{IsAheadOf};
 ghost use Rattle.adj_rib.specs.Sessions.{StandsFor, chosen_session};
 ghost use Rattle.mrt_body.specs.Lent.{lent_payload, lent_unit};
-ghost use Rattle.mrt_body.specs.declared.unit.Unit.{Unit as ReplayUnit};
+ghost use Rattle.mrt_body.specs.Plain.{Unit as ReplayUnit};
 
 use crate::arrivals::Arrivals;
 use crate::churn::Churn;
@@ -13,20 +13,21 @@ use crate::read_ahead::ReadAhead;
 use crate::retaining::retain_chosen;
 use crate::rib_in::RibIn;
 use crate::shared_route::SharedRoute;
-use bgp_prefix::{Memory, PrefixMap};
-use mrt_body::{ChosenPrefixes, Damage, LentUnit, Unit};
+use bgp_prefix::{Memory, Prefix, PrefixMap};
+use bgp_update::Unicast;
+use mrt_body::{ChosenPrefixes, Damage, LentUnitOf, UnitOf};
 use std::alloc::Global;
 use std::marker::Model;
 
 /// A peer's session with the collector, as far as its units have been taken.
 #[derive(Drop)]
-pub struct Session<M: PrefixMap<SharedRoute, Addr = u32>> {
+pub struct Session<M: PrefixMap<SharedRoute>> {
     rib: RibIn<M>,
     arrivals: Arrivals,
     spent: bool,
 }
 
-impl<M: PrefixMap<SharedRoute, Addr = u32>> Model for Session<M> {
+impl<M: PrefixMap<SharedRoute>> Model for Session<M> {
     ghost use Rattle.std.specs.FinMap as finite;
     ghost use Rattle.adj_rib.specs.Sessions.{SessionState};
 
@@ -43,7 +44,7 @@ impl<M: PrefixMap<SharedRoute, Addr = u32>> Model for Session<M> {
     } };
 }
 
-impl<M: PrefixMap<SharedRoute, Addr = u32>> Session<M> {
+impl<F: Unicast, M: PrefixMap<SharedRoute, Addr = F>> Session<M> {
     /// Returns the session of a peer without units, which is up and has no routes. Allocates nothing.
     pub fn new(alloc: Global) -> Session<M>
         ensures { StandsFor result [] }
@@ -58,7 +59,7 @@ impl<M: PrefixMap<SharedRoute, Addr = u32>> Session<M> {
     /// Takes the next unit: its event changes the table (RFC 4271, 4.3 and 8), or it is damaged and is
     /// listed. After an `Err` the session is spent: each further `take` returns `Err`, and the results of the other
     /// calls, except `is_spent`, no longer mean anything.
-    pub fn take(&mut self, alloc: Global, unit: &Unit) -> Result<(), Memory>
+    pub fn take(&mut self, alloc: Global, unit: &UnitOf<F>) -> Result<(), Memory>
         ensures stands { (before : List ReplayUnit) → StandsFor self.old before →
             OnOk result (StandsFor self.new (before ++ unit.now ∷ [])) }
         ensures spent { self.new.spent ≡ is_err result }
@@ -79,8 +80,8 @@ impl<M: PrefixMap<SharedRoute, Addr = u32>> Session<M> {
         &mut self,
         alloc: Global,
         buffer: &mut Vec<u8>,
-        unit: &LentUnit<'_>,
-        ahead: &ReadAhead,
+        unit: &LentUnitOf<'_, F>,
+        ahead: &ReadAhead<Prefix<F>>,
     ) -> Result<(), Memory>
         requires { IsAheadOf (lent_payload unit.now.payload) ahead.now }
         ensures stands { (before : List ReplayUnit) → StandsFor self.old before →
@@ -104,12 +105,12 @@ impl<M: PrefixMap<SharedRoute, Addr = u32>> Session<M> {
     /// Prefetches the slot of the peer's routes where `take_ahead` will look. Slots and routes are far apart in memory:
     /// a caller that does this for several units first, and then `prefetch_route` for all of them, lets these cache
     /// misses overlap. The number means nothing.
-    pub fn prefetch_slot(&self, ahead: &ReadAhead) -> usize {
+    pub fn prefetch_slot(&self, ahead: &ReadAhead<Prefix<F>>) -> usize {
         self.rib.prefetch_slot(ahead)
     }
 
     /// Prefetches the route that `take_ahead` will find. The number means nothing.
-    pub fn prefetch_route(&self, ahead: &ReadAhead) -> usize {
+    pub fn prefetch_route(&self, ahead: &ReadAhead<Prefix<F>>) -> usize {
         self.rib.prefetch_route(ahead)
     }
 
@@ -137,7 +138,7 @@ impl<M: PrefixMap<SharedRoute, Addr = u32>> Session<M> {
 
     /// Removes the routes of prefixes that aren't chosen. The session is for reading then: it no longer stands for its
     /// units. After an `Err` the table is as it was.
-    pub fn retain(&mut self, alloc: Global, chosen: &ChosenPrefixes) -> Result<(), Memory>
+    pub fn retain(&mut self, alloc: Global, chosen: &ChosenPrefixes<F>) -> Result<(), Memory>
         ensures { OnOk result (self.new ≡ chosen_session chosen.now self.old) }
     {
         retain_chosen(alloc, chosen, &mut self.rib.table)

@@ -5,7 +5,7 @@ ghost use Rattle.std.specs.FinMap.{find};
 ghost use Rattle.bgp_prefix.specs.Keys.{key_cmp};
 ghost use Rattle.bgp_prefix.specs.Keys.{RouteKey};
 ghost use Rattle.bgp_update.specs.declared.route.Route.{Route};
-ghost use Rattle.mrt_body.specs.declared.unit.Unit.{Unit as ReplayUnit};
+ghost use Rattle.mrt_body.specs.Plain.{Unit as ReplayUnit};
 ghost use Rattle.adj_rib.specs.Steps.{steps_of};
 ghost use Rattle.adj_rib.specs.Tables.{table_of};
 ghost use Rattle.adj_rib.specs.Sources.{ComesFrom, EndsRoutes};

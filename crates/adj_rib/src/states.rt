@@ -3,7 +3,7 @@
 ghost use Rattle.std.specs.Prelude.{◌≡◌, ◌≢◌, ◌⊎◌, ◌↔◌, ℕ, List, [], ◌∷◌, ◌++◌, false, true, ◌==◌};
 ghost use Rattle.mrt_body.specs.declared.state_rule.StateRule.TheVariants.{Established, Recorded};
 ghost use Rattle.mrt_body.specs.declared.unit.Payload.TheVariants.{State};
-ghost use Rattle.mrt_body.specs.declared.unit.Unit.{Unit as ReplayUnit};
+ghost use Rattle.mrt_body.specs.Plain.{Unit as ReplayUnit};
 ghost use Rattle.mrt_body.specs.States.{ESTABLISHED, AreByRule, breaks};
 ghost use Rattle.adj_rib.specs.Churns.{churn_of};
 ghost use Rattle.adj_rib.specs.Steps.{is_established, is_up};

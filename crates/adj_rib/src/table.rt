@@ -9,7 +9,8 @@ ghost use Rattle.adj_rib.specs.Applied.{applied};
 use crate::churn::Churn;
 use crate::outcome::Outcome;
 use crate::shared_route::SharedRoute;
-use bgp_prefix::{Memory, PrefixMap, RouteKey};
+use bgp_prefix::{Memory, Prefix, PrefixMap, RouteKey};
+use bgp_update::Unicast;
 use std::alloc::Global;
 
 /// What the announcement of a route does, given the other route, if any, that was there.
@@ -24,11 +25,11 @@ fn outcome_over(old: Option<SharedRoute>, route: &SharedRoute) -> Outcome
 }
 
 /// Puts the route into the table, and counts the effect.
-pub(crate) fn announce_route<M: PrefixMap<SharedRoute, Addr = u32>>(
+pub(crate) fn announce_route<F: Unicast, M: PrefixMap<SharedRoute, Addr = F>>(
     alloc: Global,
     table: &mut M,
     churn: &mut Churn,
-    key: RouteKey,
+    key: RouteKey<Prefix<F>>,
     route: &SharedRoute,
 ) -> Result<(), Memory>
     ensures { OnOk result ((M.contents table.new, churn.new)
@@ -40,10 +41,10 @@ pub(crate) fn announce_route<M: PrefixMap<SharedRoute, Addr = u32>>(
 }
 
 /// Removes a key from the table, and counts the effect.
-pub(crate) fn withdraw_key<M: PrefixMap<SharedRoute, Addr = u32>>(
+pub(crate) fn withdraw_key<F: Unicast, M: PrefixMap<SharedRoute, Addr = F>>(
     table: &mut M,
     churn: &mut Churn,
-    key: &RouteKey,
+    key: &RouteKey<Prefix<F>>,
 )
     ensures { (M.contents table.new, churn.new) ≡ applied (M.contents table.old, churn.old) (withdraw key.now) }
 {

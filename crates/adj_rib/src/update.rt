@@ -14,17 +14,17 @@ use crate::churn::Churn;
 use crate::route_set::{HashedRoute, RouteSet};
 use crate::shared_route::SharedRoute;
 use crate::table::{announce_route, withdraw_key};
-use bgp_prefix::{KeySet, Memory, PrefixMap, RouteKey};
-use bgp_update::{PackedRoute, PackedUpdate};
+use bgp_prefix::{KeySet, Memory, Prefix, PrefixMap, RouteKey};
+use bgp_update::{PackedRoute, PackedUpdate, Unicast};
 use std::alloc::Global;
 
 /// Withdraws the keys that are neither announced nor reached.
-fn withdraw_others<M: PrefixMap<SharedRoute, Addr = u32>>(
+fn withdraw_others<F: Unicast, M: PrefixMap<SharedRoute, Addr = F>>(
     table: &mut M,
     churn: &mut Churn,
-    withdrawn: &[RouteKey],
-    announced: &KeySet,
-    reached: &KeySet,
+    withdrawn: &[RouteKey<Prefix<F>>],
+    announced: &KeySet<F>,
+    reached: &KeySet<F>,
 )
     ensures { (M.contents table.new, churn.new)
         ≡ fold applied (M.contents table.old, churn.old)
@@ -38,11 +38,11 @@ fn withdraw_others<M: PrefixMap<SharedRoute, Addr = u32>>(
 }
 
 /// Announces each key with the route.
-fn announce_all<M: PrefixMap<SharedRoute, Addr = u32>>(
+fn announce_all<F: Unicast, M: PrefixMap<SharedRoute, Addr = F>>(
     alloc: Global,
     table: &mut M,
     churn: &mut Churn,
-    keys: &[RouteKey],
+    keys: &[RouteKey<Prefix<F>>],
     route: &SharedRoute,
 ) -> Result<(), Memory>
     ensures { OnOk result ((M.contents table.new, churn.new)
@@ -55,12 +55,12 @@ fn announce_all<M: PrefixMap<SharedRoute, Addr = u32>>(
 }
 
 /// Announces each key, if any, with the one route that they share.
-fn announce_hashed<M: PrefixMap<SharedRoute, Addr = u32>>(
+fn announce_hashed<F: Unicast, M: PrefixMap<SharedRoute, Addr = F>>(
     alloc: Global,
     routes: &mut RouteSet,
     table: &mut M,
     churn: &mut Churn,
-    keys: &[RouteKey],
+    keys: &[RouteKey<Prefix<F>>],
     route: &HashedRoute,
 ) -> Result<(), Memory>
     ensures { OnOk result ((M.contents table.new, churn.new)
@@ -74,12 +74,12 @@ fn announce_hashed<M: PrefixMap<SharedRoute, Addr = u32>>(
 }
 
 /// Announces each key, if any, with this route.
-fn announce_keys<M: PrefixMap<SharedRoute, Addr = u32>>(
+fn announce_keys<F: Unicast, M: PrefixMap<SharedRoute, Addr = F>>(
     alloc: Global,
     routes: &mut RouteSet,
     table: &mut M,
     churn: &mut Churn,
-    keys: &[RouteKey],
+    keys: &[RouteKey<Prefix<F>>],
     route: PackedRoute,
 ) -> Result<(), Memory>
     ensures { OnOk result ((M.contents table.new, churn.new)
@@ -92,31 +92,34 @@ fn announce_keys<M: PrefixMap<SharedRoute, Addr = u32>>(
 
 /// Announces each key that MP_REACH_NLRI has with their route, which is there if there are keys.
 #[tactic(auto, using(crate::proofs::Reached::reached_by))]
-fn announce_reached<M: PrefixMap<SharedRoute, Addr = u32>>(
+fn announce_reached<F: Unicast, M: PrefixMap<SharedRoute, Addr = F>>(
     alloc: Global,
     routes: &mut RouteSet,
     table: &mut M,
     churn: &mut Churn,
-    keys: &[RouteKey],
+    keys: &[RouteKey<Prefix<F>>],
     route: Option<PackedRoute>,
 ) -> Result<(), Memory>
     ensures { OnOk result ((by : Route) → (keys.now ≢ [] → route ≡ Some by) → (M.contents table.new, churn.new)
         ≡ fold applied (M.contents table.old, churn.old) (map (λ key. announce key by) keys.now)) }
 {
     match route {
-        Some(route) => announce_keys(alloc, routes, table, churn, keys, route),
+        Some(route) => {
+            announce_keys(alloc, routes, table, churn, keys, route)?;
+            Ok(())
+        }
         None => Ok(()),
     }
 }
 
 /// Withdraws what an UPDATE withdraws but neither announces nor reaches.
-fn withdraw_update<M: PrefixMap<SharedRoute, Addr = u32>>(
+fn withdraw_update<F: Unicast, M: PrefixMap<SharedRoute, Addr = F>>(
     alloc: Global,
     table: &mut M,
     churn: &mut Churn,
-    withdrawn: &[RouteKey],
-    announced: &[RouteKey],
-    reached: &[RouteKey],
+    withdrawn: &[RouteKey<Prefix<F>>],
+    announced: &[RouteKey<Prefix<F>>],
+    reached: &[RouteKey<Prefix<F>>],
 ) -> Result<(), Memory>
     ensures { OnOk result ((M.contents table.new, churn.new)
         ≡ fold applied (M.contents table.old, churn.old)
@@ -131,12 +134,12 @@ fn withdraw_update<M: PrefixMap<SharedRoute, Addr = u32>>(
 }
 
 /// Announces what an UPDATE announces, and then what it reaches by MP_REACH_NLRI.
-fn announce_update<M: PrefixMap<SharedRoute, Addr = u32>>(
+fn announce_update<F: Unicast, M: PrefixMap<SharedRoute, Addr = F>>(
     alloc: Global,
     routes: &mut RouteSet,
     table: &mut M,
     churn: &mut Churn,
-    update: PackedUpdate,
+    update: PackedUpdate<Prefix<F>>,
 ) -> Result<(), Memory>
     ensures { OnOk result ((M.contents table.new, churn.new)
         ≡ fold applied (M.contents table.old, churn.old)
@@ -157,12 +160,12 @@ fn announce_update<M: PrefixMap<SharedRoute, Addr = u32>>(
 }
 
 /// Takes the steps of an UPDATE.
-pub(crate) fn apply_update<M: PrefixMap<SharedRoute, Addr = u32>>(
+pub(crate) fn apply_update<F: Unicast, M: PrefixMap<SharedRoute, Addr = F>>(
     alloc: Global,
     routes: &mut RouteSet,
     table: &mut M,
     churn: &mut Churn,
-    update: PackedUpdate,
+    update: PackedUpdate<Prefix<F>>,
 ) -> Result<(), Memory>
     ensures { OnOk result ((M.contents table.new, churn.new)
         ≡ fold applied (M.contents table.old, churn.old) (update_steps (plain_update update))) }
@@ -180,12 +183,12 @@ pub(crate) fn apply_update<M: PrefixMap<SharedRoute, Addr = u32>>(
 }
 
 /// Takes the steps of an UPDATE that announces these keys with this route, and does nothing else.
-pub(crate) fn apply_announcement<M: PrefixMap<SharedRoute, Addr = u32>>(
+pub(crate) fn apply_announcement<F: Unicast, M: PrefixMap<SharedRoute, Addr = F>>(
     alloc: Global,
     routes: &mut RouteSet,
     table: &mut M,
     churn: &mut Churn,
-    keys: &[RouteKey],
+    keys: &[RouteKey<Prefix<F>>],
     route: &HashedRoute,
 ) -> Result<(), Memory>
     ensures { OnOk result ((update : Update) → IsAnnouncement keys.now route.now.route update →

@@ -3,8 +3,8 @@
 ghost use Rattle.std.specs.Prelude.{◌≡◌, [], ◌∷◌, ◌++◌, List, OnOk, Option, ℕ};
 ghost use Rattle.std.specs.FinMap as finite;
 ghost use Rattle.mrt_body.specs.Lent.{lent_unit};
-ghost use Rattle.mrt_body.specs.declared.choice.PrefixChoice.{PrefixChoice as Choice};
-ghost use Rattle.mrt_body.specs.declared.unit.Unit.{Unit as ReplayUnit};
+ghost use Rattle.mrt_body.specs.Plain.{PrefixChoice as Choice};
+ghost use Rattle.mrt_body.specs.Plain.{Unit as ReplayUnit};
 ghost use Rattle.adj_rib.specs.Counting.{change_kind, kind_of, routing_kind};
 ghost use Rattle.adj_rib.specs.Histories.{WatchesFor, chosen_notes, unit_notes};
 
@@ -14,10 +14,11 @@ use crate::noting::{is_chosen_key, lose_all, note_announcement, note_update};
 use crate::outcome::UnitKind;
 use crate::route_set::{HashedRoute, RouteSet};
 use crate::shared_route::SharedRoute;
-use bgp_prefix::{Memory, PrefixMap, RouteKey};
-use bgp_update::{AttrError, PackedRoute, PackedUpdate};
+use bgp_prefix::{Memory, Prefix, PrefixMap, RouteKey};
+use bgp_update::{AttrError, PackedRoute, PackedUpdate, Unicast};
 use mrt_body::{
-    ChosenPrefixes, Damage, LentPayload, LentUnit, PackedEvent, Place, StateRule, packed_event,
+    ChosenPrefixes, Damage, LentPayload, LentPayloadOf, LentUnitOf, PackedEvent, Place, StateRule,
+    packed_event,
 };
 use std::alloc::Global;
 use std::marker::Model;
@@ -42,14 +43,14 @@ fn kind_of_routing(up: bool) -> UnitKind
 
 /// A peer's Adj-RIB-In (RFC 4271, 3.2) as far as it is watched: its routes of chosen prefixes, and its damaged units.
 #[derive(Drop)]
-struct WatchedRib<M: PrefixMap<SharedRoute, Addr = u32>> {
+struct WatchedRib<M: PrefixMap<SharedRoute>> {
     up: bool,
     table: M,
     faults: Vec<Damage>,
     routes: RouteSet,
 }
 
-impl<M: PrefixMap<SharedRoute, Addr = u32>> WatchedRib<M> {
+impl<F: Unicast, M: PrefixMap<SharedRoute, Addr = F>> WatchedRib<M> {
     ghost use Rattle.std.specs.Prelude.{◌≡◌, [], IfOk, Ok, OnOk, true};
     ghost use Rattle.std.specs.FinMap as finite;
     ghost use Rattle.bgp_update.specs.PackedUpdates.{plain_update};
@@ -75,7 +76,7 @@ impl<M: PrefixMap<SharedRoute, Addr = u32>> WatchedRib<M> {
     fn change_state(
         &mut self,
         alloc: Global,
-        notes: &mut Vec<Note>,
+        notes: &mut Vec<Note<Prefix<F>>>,
         old: u16,
         new: u16,
         rule: StateRule,
@@ -92,7 +93,7 @@ impl<M: PrefixMap<SharedRoute, Addr = u32>> WatchedRib<M> {
 
     /// Takes the step of a clear, whatever prefixes are chosen.
     #[tactic(auto, unfolding(crate::specs::Watching::watch_after))]
-    fn clear(&mut self, alloc: Global, notes: &mut Vec<Note>) -> Result<(), Memory>
+    fn clear(&mut self, alloc: Global, notes: &mut Vec<Note<Prefix<F>>>) -> Result<(), Memory>
         ensures { (choices : List Choice) → OnOk result ((watching_in M.contents self.new, notes.new.items)
             ≡ watch_after choices (watching_in M.contents self.old, notes.old.items) (Ok events.Clear)) }
     {
@@ -104,9 +105,9 @@ impl<M: PrefixMap<SharedRoute, Addr = u32>> WatchedRib<M> {
     fn take_update(
         &mut self,
         alloc: Global,
-        chosen: &ChosenPrefixes,
-        notes: &mut Vec<Note>,
-        update: PackedUpdate,
+        chosen: &ChosenPrefixes<F>,
+        notes: &mut Vec<Note<Prefix<F>>>,
+        update: PackedUpdate<Prefix<F>>,
     ) -> Result<(), Memory>
         ensures { OnOk result ((watching_in M.contents self.new, notes.new.items)
             ≡ watch_after chosen.now (watching_in M.contents self.old, notes.old.items)
@@ -130,9 +131,9 @@ impl<M: PrefixMap<SharedRoute, Addr = u32>> WatchedRib<M> {
     fn take_entry(
         &mut self,
         alloc: Global,
-        chosen: &ChosenPrefixes,
-        notes: &mut Vec<Note>,
-        key: RouteKey,
+        chosen: &ChosenPrefixes<F>,
+        notes: &mut Vec<Note<Prefix<F>>>,
+        key: RouteKey<Prefix<F>>,
         route: PackedRoute,
     ) -> Result<(), Memory>
         ensures { OnOk result ((watching_in M.contents self.new, notes.new.items)
@@ -160,10 +161,10 @@ impl<M: PrefixMap<SharedRoute, Addr = u32>> WatchedRib<M> {
         &mut self,
         alloc: Global,
         buffer: &mut Vec<u8>,
-        chosen: &ChosenPrefixes,
+        chosen: &ChosenPrefixes<F>,
         place: Place,
-        payload: &LentPayload<'_>,
-        notes: &mut Vec<Note>,
+        payload: &LentPayloadOf<'_, F>,
+        notes: &mut Vec<Note<Prefix<F>>>,
     ) -> Result<UnitKind, Memory>
         ensures watched { OnOk result ((watching_in M.contents self.new, notes.new.items)
             ≡ watch_read chosen.now (watching_in M.contents self.old, notes.old.items) place
@@ -202,12 +203,12 @@ impl<M: PrefixMap<SharedRoute, Addr = u32>> WatchedRib<M> {
 /// what its units did, counted from a second on. It stands for the units that it took, with the choices and the second
 /// that it was passed each time.
 #[derive(Drop)]
-pub struct Watch<M: PrefixMap<SharedRoute, Addr = u32>> {
+pub struct Watch<M: PrefixMap<SharedRoute>> {
     rib: WatchedRib<M>,
     churn: Churn,
 }
 
-impl<M: PrefixMap<SharedRoute, Addr = u32>> Model for Watch<M> {
+impl<M: PrefixMap<SharedRoute>> Model for Watch<M> {
     ghost use Rattle.std.specs.FinMap as finite;
     ghost use Rattle.adj_rib.specs.Histories.{WatchState};
 
@@ -221,7 +222,7 @@ impl<M: PrefixMap<SharedRoute, Addr = u32>> Model for Watch<M> {
     } };
 }
 
-impl<M: PrefixMap<SharedRoute, Addr = u32>> Watch<M> {
+impl<F: Unicast, M: PrefixMap<SharedRoute, Addr = F>> Watch<M> {
     /// Returns the watch on a peer without units, which is up and has no routes. Allocates nothing.
     pub fn new(alloc: Global) -> Watch<M>
         ensures { (since : Option ℕ) (choices : List Choice) → WatchesFor since choices [] result }
@@ -239,10 +240,10 @@ impl<M: PrefixMap<SharedRoute, Addr = u32>> Watch<M> {
         &mut self,
         alloc: Global,
         buffer: &mut Vec<u8>,
-        chosen: &ChosenPrefixes,
+        chosen: &ChosenPrefixes<F>,
         since: Option<u64>,
-        unit: &LentUnit<'_>,
-        notes: &mut Vec<Note>,
+        unit: &LentUnitOf<'_, F>,
+        notes: &mut Vec<Note<Prefix<F>>>,
     ) -> Result<(), Memory>
         ensures stands { (before : List ReplayUnit) → WatchesFor since chosen.now before self.old →
             OnOk result (WatchesFor since chosen.now (before ++ lent_unit unit.now ∷ []) self.new) }

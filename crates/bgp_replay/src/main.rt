@@ -32,6 +32,7 @@
 #![tactic(auto)]
 
 ghost use Rattle.std.specs.Prelude.{◌≡◌, ◌≤◌, ◌*◌, min, IfOk, IsTrue};
+ghost use Rattle.bgp_update.specs.Families.{ipv4};
 ghost use Rattle.lane_deal.specs.Plans.{IsPlan};
 
 mod counts;
@@ -172,6 +173,7 @@ fn most_threads(threads: &impl Threads, job: &Job) -> usize
 /// Returns which units a job asks for.
 fn selection_of(alloc: Global, job: &Job) -> Result<Selection, Memory>
     ensures { IfOk result (λ selection. selection ≡ record {
+      family = ipv4;
       until = job.now.until;
       prefixes = job.now.prefixes.items;
       peers = job.now.peers.items;

@@ -12,7 +12,7 @@ use Rattle.bgp_update.specs.declared.next_hop.NextHop.{NextHop}
 use Rattle.bgp_update.specs.declared.next_hop.NextHop.TheVariants.{V4, V6, V6Pair}
 use Rattle.bgp_update.specs.Families.{FamilyOf}
 use Rattle.bgp_update.specs.AttributeTypes.{bad_attribute}
-use Rattle.bgp_update.specs.Multiprotocol.{hop_bytes, hop_part, FitsHop, IsEntryHop, SaysEntryHop, is_unicast, hop_at, entry_hop_in, hop_or_none, entry_hop}
+use Rattle.bgp_update.specs.Multiprotocol.{hop_bytes, hop_part, IsEntryHop, SaysEntryHop, is_unicast, hop_at, entry_hop_in, hop_or_none, entry_hop}
 use Rattle.bgp_update.specs.Attributes.{HoldsEntryHop}
 use Rattle.bgp_update.proofs.MultiprotocolLaws.{both, not_both, test_ok, same_number, hop_takes, hop_part_again}
 

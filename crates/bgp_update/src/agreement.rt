@@ -12,10 +12,12 @@ ghost use Rattle.bgp_update.specs.Updates.{Update, ReadsAsUpdate, update_in};
 /// Bytes read as an UPDATE exactly if they are its fields in turn, and it is what those fields
 /// say; as a route exactly if they are attributes that say it. They read in no other way.
 pub fn updates_agree_with_their_forms()
-    ensures updates { (family : FamilyOf) (width : Width) (add_path : Bool) (body : List ℕ) (update : Update) → AreBytes body →
+    ensures updates { (family : FamilyOf) (width : Width) (add_path : Bool) (body : List ℕ) (update : Update) →
+        AreBytes body →
         (update_in family width add_path body ≡ Ok update) ↔ ReadsAsUpdate family width add_path body update }
     ensures one_update { (family : FamilyOf) (width : Width) (add_path : Bool) (body : List ℕ) (update other : Update) →
-        ReadsAsUpdate family width add_path body update → ReadsAsUpdate family width add_path body other → update ≡ other }
+        ReadsAsUpdate family width add_path body update →
+        ReadsAsUpdate family width add_path body other → update ≡ other }
     ensures routes { (family : FamilyOf) (width : Width) (bytes : List ℕ) (route : Route) → AreBytes bytes →
         (route_in family width bytes ≡ Ok route) ↔ ReadsAsRoute family width bytes route }
     ensures one_route { (family : FamilyOf) (width : Width) (bytes : List ℕ) (route other : Route) →

@@ -35,6 +35,7 @@ mod attribute;
 mod attribute_type;
 mod carrier;
 mod families;
+mod family_mark;
 mod key;
 mod merge;
 mod multiprotocol;
@@ -60,6 +61,7 @@ mod width;
 
 pub use agreement::{merging_is_unique, updates_agree_with_their_forms};
 pub use attr_error::AttrError;
+pub use family_mark::FamilyMark;
 pub use key::prefix_at;
 pub use next_hop::NextHop;
 pub use packed_path::{PackedSegment, PackedSegments};

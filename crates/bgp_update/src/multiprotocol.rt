@@ -154,7 +154,8 @@ fn read_reach<F: Unicast>(
     add_path: bool,
 ) -> Result<(Option<NextHop>, Vec<RouteKey<Prefix<F>>>), AttrError>
     ensures found { IfOk result (λ x. SaysReach F.family add_path value.now x.0 x.1.items) }
-    ensures only { (hop : Option NextHop) (keys : List (RouteKey IpPrefix)) → SaysReach F.family add_path value.now hop keys →
+    ensures only { (hop : Option NextHop) (keys : List (RouteKey IpPrefix)) →
+        SaysReach F.family add_path value.now hop keys →
         Gives {Y = Option NextHop × List (RouteKey IpPrefix)} (λ x. (x.0, x.1.items)) result (Ok (hop, keys)) }
     ensures exact { Gives (λ x. (x.0, x.1.items)) result (reached_keys F.family add_path (Some value.now)) }
 {
@@ -168,7 +169,8 @@ pub fn reached<F: Unicast>(
     value: Option<&[u8]>,
     add_path: bool,
 ) -> Result<(Option<NextHop>, Vec<RouteKey<Prefix<F>>>), AttrError>
-    ensures { Gives (λ x. (x.0, x.1.items)) result (reached_keys F.family add_path (option_map (λ v. v.now) value.entry)) }
+    ensures { Gives (λ x. (x.0, x.1.items)) result
+        (reached_keys F.family add_path (option_map (λ v. v.now) value.entry)) }
 {
     match value {
         Some(value) => read_reach(alloc, value, add_path),
@@ -182,7 +184,8 @@ fn with_whole_unreach<F: Unicast>(
     value: &[u8],
     add_path: bool,
 ) -> Result<Vec<RouteKey<Prefix<F>>>, AttrError>
-    ensures { Gives (λ v. v.items) result (keys_spec.with_keys keys.items (unreached_keys F.family add_path (Some value.now))) }
+    ensures { Gives (λ v. v.items) result
+        (keys_spec.with_keys keys.items (unreached_keys F.family add_path (Some value.now))) }
 {
     match unreach_in::<F>(value) {
         Ok(Some(field)) => with_keys(keys, field, add_path),

@@ -19,6 +19,23 @@ pub fn leading_octets_number(octets: &[u8]) -> u32
     }
 }
 
+/// Returns the number of 16 bytes whose leading ones these are. Most prefixes have at most eight.
+#[tactic(auto, using(crate::proofs::WideNumbers::of_four, crate::proofs::WideNumbers::of_eight))]
+#[inline]
+pub fn leading_octets_wide(octets: &[u8]) -> u128
+    ensures { result ≡ big_number 16 octets.now }
+{
+    if octets.len() <= 4 {
+        return (leading_octets_number(octets) as u128) << 96;
+    }
+    if octets.len() <= 8 {
+        let high = leading_octets_number(&octets[..4]) as u128;
+        let low = leading_octets_number(&octets[4..]) as u128;
+        return (high << 96) + (low << 64);
+    }
+    each_octet(octets)
+}
+
 /// The octet at a position, 0 past the end.
 #[inline]
 fn octet_at(octets: &[u8], at: usize) -> u8
@@ -27,8 +44,8 @@ fn octet_at(octets: &[u8], at: usize) -> u8
     if at < octets.len() { octets[at] } else { 0 }
 }
 
-/// Returns the number of 16 bytes whose leading ones these are.
-pub fn leading_octets_wide(octets: &[u8]) -> u128
+/// The same, octet by octet.
+fn each_octet(octets: &[u8]) -> u128
     ensures { result ≡ big_number 16 octets.now }
 {
     let mut number = 0u128;

@@ -111,7 +111,8 @@ pub(crate) fn read_fields<'a, F: Unicast>(
     requires whole { length first.old.values ≡ value_count }
     requires none { (t : AttributeType) → kept_value first.old t ≡ None }
     ensures said { IfOk result (λ keys.
-        said_update F.family width add_path keys.0.items (kept_value first.new) keys.1.items ≡ update_in F.family width add_path body.now) }
+        said_update F.family width add_path keys.0.items (kept_value first.new) keys.1.items
+        ≡ update_in F.family width add_path body.now) }
     ensures fault { IfErr result (λ e. Fails e (update_in F.family width add_path body.now)) }
     ensures spelled { OnOk result (width ≡ Four → IfSome (kept_value first.new AsPath) IsSpelled) }
     ensures writable { OnOk result (IsWritable (attributes.route_from width (kept_value first.new)).path) }

@@ -1,8 +1,9 @@
 pub mod Octets
 pub mod Points
+pub mod Unique
+pub mod Plain
 pub mod Slashes
 pub mod Marks
-pub mod Unique
 pub mod Spelled
 pub mod Lines
 pub mod Pieces

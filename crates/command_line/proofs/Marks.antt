@@ -1,48 +1,50 @@
 -- The mark behind a prefix.
-use Rattle.std.proofs.Common.{◌≡◌, ℕ, ◌+◌, ◌/◌, ◌%◌, ◌≤◌, ◌<◌, List, [], ◌∷◌, ◌++◌, length, get_or, refl, sym, ap, subst, ◌∙◌, arith, length-append}
+use Rattle.std.proofs.Common.{◌≡◌, ℕ, List, [], ◌∷◌, ◌++◌, length, get_or, refl, sym, ap, subst, ◌∙◌, arith, length-append}
+use Rattle.std.specs.Prelude.{◌≢◌}
+use Rattle.std.specs.List.{AllByRecursion}
 use Rattle.std.specs.Fmt.{decimal}
-use Rattle.std.proofs.lemmas.List.{append_assoc, append_cancel_right, append-nil}
+use Rattle.std.proofs.lemmas.List.{append_cancel_right, append-nil}
 use Rattle.std.proofs.Math.Seq.{get_or-append_seam}
 use Rattle.bgp_prefix.specs.Prefixes.{IpPrefix}
 use Rattle.mrt_body.specs.declared.choice.Reach.{Reach}
 use Rattle.mrt_body.specs.declared.choice.Reach.TheVariants.{Exact, Inside, Around}
-use Rattle.command_line.specs.Addresses.{IsAddress}
-use Rattle.command_line.specs.Choices.{SpellsPrefix, with_length, alone, mark_of}
-use Rattle.command_line.proofs.Octets.{one, two, three, form_of}
-use Rattle.command_line.proofs.Points.{octet_itself}
+use Rattle.command_line.specs.Choices.{IsPlain, SpellsPrefix, with_length, alone, mark_of, EndsInNoMark}
+use Rattle.command_line.proofs.Plain.{plain_decimal}
 
--- the last byte is a digit, or is past the digits
-pub record EndsAbove (text : List ℕ) : Type 0 where
-  pub front : List ℕ
-  pub last : ℕ
-  pub above : 48 ≤ last
-  pub written : text ≡ front ++ last ∷ []
+abbrev IsNoMark : ℕ → Type 0
+IsNoMark byte = (byte ≢ 43) × (byte ≢ 45)
 
-ends_behind : (xs ys : List ℕ) → EndsAbove ys → EndsAbove (xs ++ ys)
-ends_behind xs ys e = record { front = xs ++ e.front; last = e.last; above = e.above; written = ap (λ l. xs ++ l) e.written ∙ sym (append_assoc xs e.front (e.last ∷ [])) }
+abbrev HasNoMark : List ℕ → Type 0
+HasNoMark text = AllByRecursion IsNoMark text
 
-ends_after : (x : ℕ) (ys : List ℕ) → EndsAbove ys → EndsAbove (x ∷ ys)
-ends_after x ys e = record { front = x ∷ e.front; last = e.last; above = e.above; written = ap (λ l. x ∷ l) e.written }
+plain_has_none : (text : List ℕ) → IsPlain text → HasNoMark text
+plain_has_none [] plain = tt
+plain_has_none (x ∷ xs) plain = ((plain.0.0, plain.0.1), plain_has_none xs plain.1)
 
-ends_decimal : (n : ℕ) → n < 256 → EndsAbove (decimal n)
-ends_decimal n h = elim (form_of (decimal n) n (octet_itself n h)) [
-  | one small e ↦ record { front = []; last = 48 + n; above = omega arith; written = e }
-  | two lo hi e ↦ record { front = (48 + n / 10) ∷ []; last = 48 + n % 10; above = omega arith; written = e }
-  | three lo hi e ↦ record { front = (48 + n / 100) ∷ (48 + n / 10 % 10) ∷ []; last = 48 + n % 10; above = omega arith; written = e }
-]
+joined : (xs ys : List ℕ) → HasNoMark xs → HasNoMark ys → HasNoMark (xs ++ ys)
+joined [] ys a b = b
+joined (x ∷ xs) ys a b = (a.0, joined xs ys a.1 b)
 
-ends_address : (text : List ℕ) (n : ℕ) → IsAddress text n → EndsAbove text
-ends_address text n a =
-    let four = ends_after 46 (decimal a.fourth) (ends_decimal a.fourth a.fourth_below) in
-    let three_ = ends_after 46 (decimal a.third ++ 46 ∷ decimal a.fourth) (ends_behind (decimal a.third) (46 ∷ decimal a.fourth) four) in
-    let two_ = ends_after 46 (decimal a.second ++ 46 ∷ (decimal a.third ++ 46 ∷ decimal a.fourth)) (ends_behind (decimal a.second) (46 ∷ (decimal a.third ++ 46 ∷ decimal a.fourth)) three_) in
-    subst EndsAbove (sym a.written) (ends_behind (decimal a.first) (46 ∷ (decimal a.second ++ 46 ∷ (decimal a.third ++ 46 ∷ decimal a.fourth))) two_)
+back_of : (xs ys : List ℕ) → HasNoMark (xs ++ ys) → HasNoMark ys
+back_of [] ys h = h
+back_of (x ∷ xs) ys h = back_of xs ys h.1
 
-pub ends_prefix : (text : List ℕ) (p : IpPrefix) → SpellsPrefix text p → EndsAbove text
-ends_prefix text p (with_length front e a ip) =
-    let short : p.len ≤ 32 = ip.1 in
-    subst EndsAbove (sym e) (ends_behind front (47 ∷ decimal p.len) (ends_after 47 (decimal p.len) (ends_decimal p.len (omega arith))))
-ends_prefix text p (alone a e) = ends_address text a.number a.spelled
+ends_in_none : (text : List ℕ) → HasNoMark text → EndsInNoMark text
+ends_in_none text h front last e = (back_of front (last ∷ []) (subst HasNoMark e h)).0
+
+slash : IsNoMark 47
+slash = ((λ e. absurd (omega arith)), (λ e. absurd (omega arith)))
+
+-- a prefix has no mark, so what stands behind it is one
+module _ (Spells : List ℕ → ℕ → Type 0) (width : ℕ) (plain : (text : List ℕ) (bits : ℕ) → Spells text bits → IsPlain text) where
+  prefix_has_none : (text : List ℕ) (p : IpPrefix) → SpellsPrefix Spells width text p → HasNoMark text
+  prefix_has_none text p (with_length front e a within) =
+      let short = within.0.short in
+      subst HasNoMark (sym e) (joined front (47 ∷ decimal p.len) (plain_has_none front (plain front p.addr a)) (slash, plain_has_none (decimal p.len) (plain_decimal p.len (omega arith))))
+  prefix_has_none text p (alone a e) = plain_has_none text (plain text p.addr a)
+
+  pub prefix_ends : (text : List ℕ) (p : IpPrefix) → SpellsPrefix Spells width text p → EndsInNoMark text
+  prefix_ends text p s = ends_in_none text (prefix_has_none text p s)
 
 -- the same list, the last element apart
 last_apart : (xs ys : List ℕ) (x y : ℕ) → xs ++ x ∷ [] ≡ ys ++ y ∷ [] → (xs ≡ ys) × (x ≡ y)
@@ -58,34 +60,45 @@ no_mark text rest last e plus minus front Inside w = absurd (plus (last_apart re
 no_mark text rest last e plus minus front Around w = absurd (minus (last_apart rest front last 45 (sym e ∙ w)).1)
 
 -- nothing is split off no text
-pub empty_mark : (text front : List ℕ) (reach : Reach) → length text ≡ 0 → EndsAbove front → text ≡ front ++ mark_of reach → (front ≡ text) × (reach ≡ Exact)
-empty_mark text front reach none ends w =
-    let long = length-append front (mark_of reach) in
-    let own = ap length ends.written in
-    let parts = length-append ends.front (ends.last ∷ []) in
+pub empty_mark : (text front : List ℕ) (reach : Reach) → length text ≡ 0 → text ≡ front ++ mark_of reach → (front ≡ text) × (reach ≡ Exact)
+empty_mark text front Exact none w = (sym (w ∙ append-nil front), refl)
+empty_mark text front Inside none w =
+    let long = length-append front (43 ∷ []) in
     let whole = ap length w in
-    absurd (omega (arith, long, own, parts, whole))
+    absurd (omega (arith, long, whole))
+empty_mark text front Around none w =
+    let long = length-append front (45 ∷ []) in
+    let whole = ap length w in
+    absurd (omega (arith, long, whole))
 
 -- where the last byte is a mark, it is split off
-pub one_mark : (text rest : List ℕ) (last : ℕ) (found : Reach) → text ≡ rest ++ last ∷ [] → mark_of found ≡ last ∷ [] → (front : List ℕ) (reach : Reach) → EndsAbove front → text ≡ front ++ mark_of reach → (front ≡ rest) × (reach ≡ found)
+pub one_mark : (text rest : List ℕ) (last : ℕ) (found : Reach) → text ≡ rest ++ last ∷ [] → mark_of found ≡ last ∷ [] → (front : List ℕ) (reach : Reach) → EndsInNoMark front → text ≡ front ++ mark_of reach → (front ≡ rest) × (reach ≡ found)
 one_mark text rest last Exact e m front reach ends w = absurd cc
 one_mark text rest last Inside e m front Exact ends w =
-    let mark : 43 ≡ last = cc in
-    let same = (last_apart rest ends.front last ends.last (sym e ∙ w ∙ append-nil front ∙ ends.written)).1 in
-    let up : 48 ≤ ends.last = ends.above in
-    absurd (omega (arith, same))
+    let mark : last ≡ 43 = cc in
+    absurd ((ends rest last (sym (append-nil front) ∙ sym w ∙ e)).0 mark)
 one_mark text rest last Inside e m front Inside ends w = (sym (last_apart rest front last 43 (sym e ∙ w)).0, refl)
 one_mark text rest last Inside e m front Around ends w =
     let mark : 43 ≡ last = cc in
     let same = (last_apart rest front last 45 (sym e ∙ w)).1 in
     absurd (omega (arith, same))
 one_mark text rest last Around e m front Exact ends w =
-    let mark : 45 ≡ last = cc in
-    let same = (last_apart rest ends.front last ends.last (sym e ∙ w ∙ append-nil front ∙ ends.written)).1 in
-    let up : 48 ≤ ends.last = ends.above in
-    absurd (omega (arith, same))
+    let mark : last ≡ 45 = cc in
+    absurd ((ends rest last (sym (append-nil front) ∙ sym w ∙ e)).1 mark)
 one_mark text rest last Around e m front Inside ends w =
     let mark : 45 ≡ last = cc in
     let same = (last_apart rest front last 43 (sym e ∙ w)).1 in
     absurd (omega (arith, same))
 one_mark text rest last Around e m front Around ends w = (sym (last_apart rest front last 45 (sym e ∙ w)).0, refl)
+
+-- the same front and the same mark
+pub one_reach : (text front back : List ℕ) (r s : Reach) → EndsInNoMark front → EndsInNoMark back → text ≡ front ++ mark_of r → text ≡ back ++ mark_of s → (front ≡ back) × (r ≡ s)
+one_reach text front back Exact Exact f b u v = (sym (append-nil front) ∙ sym u ∙ v ∙ append-nil back, refl)
+one_reach text front back Exact Inside f b u v = absurd ((f back 43 (sym (append-nil front) ∙ sym u ∙ v)).0 refl)
+one_reach text front back Exact Around f b u v = absurd ((f back 45 (sym (append-nil front) ∙ sym u ∙ v)).1 refl)
+one_reach text front back Inside s f b u v =
+    let same = one_mark text front 43 Inside u refl back s b v in
+    (sym same.0, sym same.1)
+one_reach text front back Around s f b u v =
+    let same = one_mark text front 45 Around u refl back s b v in
+    (sym same.0, sym same.1)

@@ -1,26 +1,38 @@
--- Prefixes and how far they reach, in words.
-use Rattle.std.specs.Prelude.{◌≡◌, ℕ, ◌*◌, ◌^◌, ◌≤◌, List, [], ◌∷◌, ◌++◌}
+-- Prefixes and how far they reach, in words. What is said of a family of addresses takes two values of it: which text
+-- spells an address of which bits, as the first of 128, and how many bits an address has.
+use Rattle.std.specs.Prelude.{◌≡◌, ◌≢◌, ℕ, ◌*◌, ◌^◌, ◌≤◌, List, [], ◌∷◌, ◌++◌}
+use Rattle.std.specs.List.{AllByRecursion}
 use Rattle.std.specs.Fmt.{decimal}
 use Rattle.bgp_prefix.specs.Prefixes.{IpPrefix, IsIpPrefix}
 use Rattle.mrt_body.specs.declared.choice.Reach.{Reach}
 use Rattle.mrt_body.specs.declared.choice.Reach.TheVariants.{Exact, Inside, Around}
-use Rattle.mrt_body.specs.declared.choice.PrefixChoice.{PrefixChoice}
+use Rattle.mrt_body.specs.Plain.{PrefixChoice}
+use Rattle.rib_report.specs.Ipv6Texts.{short_ipv6_text}
 use Rattle.command_line.specs.Addresses.{IsAddress}
 
--- the text is an address, and these are its bits, as the first of 128
+-- the text is an IPv4 address, and these are its bits, as the first of 128
 pub record SpellsBits (text : List ℕ) (bits : ℕ) : Type 0 where
   pub number : ℕ
   pub spelled : IsAddress text number
   pub placed : bits ≡ number * 2 ^ 96
 
-abbrev pub IsIpv4Prefix : IpPrefix → Type 0
-IsIpv4Prefix prefix = IsIpPrefix prefix × (prefix.len ≤ 32)
+-- no slash, plus or minus stands in the text
+abbrev pub IsPlain : List ℕ → Type 0
+IsPlain text = AllByRecursion (λ byte. (byte ≢ 43) × (byte ≢ 45) × (byte ≢ 47)) text
+
+-- a prefix of a family whose addresses have so many bits
+abbrev pub IsPrefixWithin : ℕ → IpPrefix → Type 0
+IsPrefixWithin width prefix = IsIpPrefix prefix × (prefix.len ≤ width)
 
 -- the text is an address, a slash and a length in decimal, and no bit is past the length; or an address alone, which
 -- has all its bits
-pub data SpellsPrefix (text : List ℕ) (prefix : IpPrefix) : Type 0 where
-  with_length : (front : List ℕ) → text ≡ front ++ 47 ∷ decimal prefix.len → SpellsBits front prefix.addr → IsIpv4Prefix prefix → SpellsPrefix text prefix
-  alone : SpellsBits text prefix.addr → prefix.len ≡ 32 → SpellsPrefix text prefix
+pub data SpellsPrefix (Spells : List ℕ → ℕ → Type 0) (width : ℕ) (text : List ℕ) (prefix : IpPrefix) : Type 0 where
+  with_length : (front : List ℕ) → text ≡ front ++ 47 ∷ decimal prefix.len → Spells front prefix.addr → IsPrefixWithin width prefix → SpellsPrefix Spells width text prefix
+  alone : Spells text prefix.addr → prefix.len ≡ width → SpellsPrefix Spells width text prefix
+
+-- the text of an IPv6 prefix, its address in the short form
+abbrev pub short_prefix_text : IpPrefix → List ℕ
+short_prefix_text prefix = short_ipv6_text prefix.addr ++ 47 ∷ decimal prefix.len
 
 -- what stands behind a prefix: nothing, + for its more specifics too, - for its less specifics too
 abbrev pub mark_of : Reach → List ℕ
@@ -28,11 +40,19 @@ mark_of Exact = []
 mark_of Inside = 43 ∷ []
 mark_of Around = 45 ∷ []
 
--- the text is a prefix and a mark, and this is what they choose
-pub record SpellsChoice (text : List ℕ) (choice : PrefixChoice) : Type 0 where
+-- the last byte, if there is one, is neither a plus nor a minus
+abbrev pub EndsInNoMark : List ℕ → Type 0
+EndsInNoMark text = (front : List ℕ) (last : ℕ) → text ≡ front ++ last ∷ [] → (last ≢ 43) × (last ≢ 45)
+
+-- the text is a prefix and a mark, and this is how far the mark says that it reaches
+pub record SpellsReach (Spells : List ℕ → ℕ → Type 0) (width : ℕ) (text : List ℕ) (prefix : IpPrefix) (reach : Reach) : Type 0 where
   pub front : List ℕ
-  pub written : text ≡ front ++ mark_of choice.reach
-  pub prefix : SpellsPrefix front choice.prefix
+  pub written : text ≡ front ++ mark_of reach
+  pub spelled : SpellsPrefix Spells width front prefix
+
+-- the text is an IPv4 prefix and a mark, and this is what they choose
+abbrev pub SpellsChoice : List ℕ → PrefixChoice → Type 0
+SpellsChoice text choice = SpellsReach SpellsBits 32 text choice.prefix choice.reach
 
 -- the text chooses nothing
 abbrev pub IsNoChoice : List ℕ → Type 0

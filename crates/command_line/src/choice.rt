@@ -4,33 +4,30 @@ ghost use Rattle.std.specs.Prelude.{◌≡◌, ℕ, ◌*◌, ◌^◌, ◌≤◌,
 ghost use Rattle.std.specs.Fmt.{decimal};
 ghost use Rattle.bgp_prefix.specs.Prefixes.{IpPrefix};
 ghost use Rattle.mrt_body.specs.declared.choice.Reach.{Reach};
-ghost use Rattle.command_line.specs.Addresses.{IsNoAddress};
-ghost use Rattle.command_line.specs.Choices.{SpellsBits, IsIpv4Prefix, SpellsPrefix, SpellsChoice, IsNoChoice, mark_of};
+ghost use Rattle.command_line.specs.Choices.{IsPrefixWithin, SpellsPrefix, SpellsReach, SpellsChoice, IsNoChoice, EndsInNoMark, mark_of};
 
-use crate::address::{address_in, octet};
-use bgp_prefix::Prefix;
+use crate::address::octet;
+use crate::address_text::AddressText;
+use bgp_prefix::{Family, Prefix};
 use mrt_body::{PrefixChoice, Reach};
 
-/// The number of bits of an address.
-const MOST_LEN: u8 = 32;
-
-/// Returns the value of a prefix length: 0 to 32, without a leading zero.
-fn read_len(text: &[u8]) -> Option<u8>
-    ensures some { IfSome result (λ len. (text.now ≡ decimal len) × (len ≤ 32)) }
-    ensures none { IfNone result ((len : ℕ) → text.now ≡ decimal len → len ≤ 32 → ⊥) }
+/// Returns the value of a prefix length: 0 to the number of bits of an address, without a leading zero.
+fn read_len<F: AddressText>(text: &[u8]) -> Option<u8>
+    ensures some { IfSome result (λ len. (text.now ≡ decimal len) × (len ≤ F.WIDTH)) }
+    ensures none { IfNone result ((len : ℕ) → text.now ≡ decimal len → len ≤ F.WIDTH → ⊥) }
 {
     let len = octet(text)?;
-    if len <= MOST_LEN { Some(len) } else { None }
+    if len <= F::WIDTH { Some(len) } else { None }
 }
 
 /// Returns the prefix of this address and length, unless the address has a bit past the length.
-fn exact_prefix(addr: u32, len: u8) -> Option<Prefix>
-    requires { len ≤ 32 }
-    ensures some { IfSome result (λ p. (p ≡ record { addr = addr * 2 ^ 96; len = len }) × IsIpv4Prefix p) }
-    ensures none { IfNone result (IsIpv4Prefix (record { addr = addr * 2 ^ 96; len = len }) → ⊥) }
+fn exact_prefix<F: Family>(addr: F, len: u8) -> Option<Prefix<F>>
+    requires { len ≤ F.WIDTH }
+    ensures some { IfSome result (λ p. (p ≡ record { addr = F.bits addr; len = len }) × IsPrefixWithin F.WIDTH p) }
+    ensures none { IfNone result (IsPrefixWithin F.WIDTH (record { addr = F.bits addr; len = len }) → ⊥) }
 {
     let prefix = Prefix::new(addr, len)?;
-    if prefix.addr() == addr {
+    if prefix.addr().is_same(addr) {
         Some(prefix)
     } else {
         None
@@ -44,29 +41,32 @@ fn first_slash(text: &[u8]) -> Option<usize>
     text.iter().position(|byte| *byte == b'/')
 }
 
-/// Returns the prefix of an address alone, of length 32.
-fn host_prefix(text: &[u8]) -> Option<Prefix>
-    ensures some { IfSome result (λ p. SpellsBits text.now p.addr × (p.len ≡ 32)) }
-    ensures none { IfNone result (IsNoAddress text.now) }
+/// Returns the prefix of an address alone, of full length.
+fn host_prefix<F: AddressText>(text: &[u8]) -> Option<Prefix<F>>
+    ensures some { IfSome result (λ p. F.spells text.now p.addr × (p.len ≡ F.WIDTH)) }
+    ensures none { IfNone result ((bits : ℕ) → F.spells text.now bits → ⊥) }
 {
-    exact_prefix(address_in(text)?, MOST_LEN)
+    Prefix::new(F::address_in(text)?, F::WIDTH)
 }
 
 /// Returns the prefix of an address and a length.
-fn sized_prefix(front: &[u8], back: &[u8]) -> Option<Prefix>
-    ensures some { IfSome result (λ p. SpellsBits front.now p.addr × (back.now ≡ decimal p.len) × IsIpv4Prefix p) }
-    ensures none { IfNone result ((p : IpPrefix) → SpellsBits front.now p.addr → back.now ≡ decimal p.len → IsIpv4Prefix p → ⊥) }
+fn sized_prefix<F: AddressText>(front: &[u8], back: &[u8]) -> Option<Prefix<F>>
+    ensures some { IfSome result (λ p. F.spells front.now p.addr × (back.now ≡ decimal p.len) × IsPrefixWithin F.WIDTH p) }
+    ensures none { IfNone result ((p : IpPrefix) → F.spells front.now p.addr → back.now ≡ decimal p.len → IsPrefixWithin F.WIDTH p → ⊥) }
 {
-    let addr = address_in(front)?;
-    let len = read_len(back)?;
+    F::texts_spell_one_address();
+    let addr = F::address_in(front)?;
+    let len = read_len::<F>(back)?;
     exact_prefix(addr, len)
 }
 
-/// Returns the prefix of this text, as `192.0.2.0/24`, with no bit past its length; an address alone has length 32.
-fn read_prefix(text: &[u8]) -> Option<Prefix>
-    ensures some { IfSome result (SpellsPrefix text.now) }
-    ensures none { IfNone result ((p : IpPrefix) → SpellsPrefix text.now p → ⊥) }
+/// Returns the prefix of this text, as `192.0.2.0/24` or `2001:db8::/32`, with no bit past its length; an address alone
+/// has full length. Returns `None` for any other text.
+pub fn read_prefix<F: AddressText>(text: &[u8]) -> Option<Prefix<F>>
+    ensures some { IfSome result (SpellsPrefix F.spells F.WIDTH text.now) }
+    ensures none { IfNone result ((p : IpPrefix) → SpellsPrefix F.spells F.WIDTH text.now p → ⊥) }
 {
+    F::texts_spell_one_address();
     match first_slash(text) {
         Some(slash) => sized_prefix(&text[..slash], &text[slash + 1..]),
         None => host_prefix(text),
@@ -88,7 +88,7 @@ fn reach_of(mark: u8) -> Option<Reach>
 /// Splits off the mark behind a prefix.
 fn split_reach(text: &[u8]) -> (&[u8], Reach)
     ensures whole { text.now ≡ result.0.now ++ mark_of result.1 }
-    ensures only { (front : List ℕ) (p : IpPrefix) (reach : Reach) → SpellsPrefix front p → text.now ≡ front ++ mark_of reach →
+    ensures only { (front : List ℕ) (reach : Reach) → EndsInNoMark front → text.now ≡ front ++ mark_of reach →
         (front ≡ result.0.now) × (reach ≡ result.1) }
 {
     if let Some((mark, front)) = text.split_last() {
@@ -99,13 +99,24 @@ fn split_reach(text: &[u8]) -> (&[u8], Reach)
     (text, Reach::Exact)
 }
 
+/// Returns the prefix of this text and how far its mark says that it reaches: a prefix alone, with `+` itself and more
+/// specifics, with `-` itself and less specifics. Returns `None` for any other text.
+pub fn read_reach<F: AddressText>(text: &[u8]) -> Option<(Prefix<F>, Reach)>
+    ensures some { IfSome result (λ r. SpellsReach F.spells F.WIDTH text.now r.0 r.1) }
+    ensures none { IfNone result ((p : IpPrefix) (reach : Reach) → SpellsReach F.spells F.WIDTH text.now p reach → ⊥) }
+{
+    F::texts_spell_one_address();
+    let (text, reach) = split_reach(text);
+    let prefix = read_prefix(text)?;
+    Some((prefix, reach))
+}
+
 /// Returns what these bytes choose.
 pub(crate) fn choice_in(text: &[u8]) -> Option<PrefixChoice>
     ensures some { IfSome result (SpellsChoice text.now) }
     ensures none { IfNone result (IsNoChoice text.now) }
 {
-    let (text, reach) = split_reach(text);
-    let prefix = read_prefix(text)?;
+    let (prefix, reach) = read_reach::<u32>(text)?;
     Some(PrefixChoice { prefix, reach })
 }
 
@@ -118,17 +129,22 @@ pub fn read_choice(text: &str) -> Option<PrefixChoice>
     choice_in(text.as_bytes())
 }
 
-/// Returns why a text is no choice, in words for whoever wrote it.
-pub(crate) fn fault_of_choice(text: &[u8]) -> &'static str {
+/// Returns why [`read_reach`] refuses a text, in words for whoever wrote it.
+pub fn fault_of_reach<F: AddressText>(text: &[u8]) -> &'static str {
     let (text, _) = split_reach(text);
     let Some(slash) = first_slash(text) else {
-        return "it is no IPv4 address";
+        return F::NO_ADDRESS;
     };
-    if address_in(&text[..slash]).is_none() {
-        "no IPv4 address stands before its '/'"
-    } else if read_len(&text[slash + 1..]).is_none() {
-        "its length is not a number of 0 to 32"
+    if F::address_in(&text[..slash]).is_none() {
+        F::NO_ADDRESS_BEFORE
+    } else if read_len::<F>(&text[slash + 1..]).is_none() {
+        F::NO_LENGTH
     } else {
         "its address has bits past its length"
     }
+}
+
+/// Returns why a text is no choice, in words for whoever wrote it.
+pub(crate) fn fault_of_choice(text: &[u8]) -> &'static str {
+    fault_of_reach::<u32>(text)
 }

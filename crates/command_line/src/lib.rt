@@ -20,6 +20,8 @@
 //! - `--prefix` takes a prefix, alone or with `+` (itself and more specifics) or `-` (itself and what contains it); an
 //!   address alone is the prefix of length 32. Bits past the length are refused: they are mostly a typing error. Each
 //!   `--prefix` adds to the others, while of other options the last one counts.
+//! - A family's addresses are read through `AddressText`, on `u32` and `Ipv6`, and its prefixes by `read_prefix` and
+//!   `read_reach`. No IPv6 address is read with a zone or a dotted tail.
 //! - `--prefixes` takes files with a prefix in each line. `read_list` reads such a text and is exact in both
 //!   directions; a job has the files' names, which the program opens and reads.
 //! - `--files-from` takes files that name dumps. `read_file_list` reads such a text; the program opens and reads it, as
@@ -35,10 +37,12 @@
 #![tactic(auto)]
 
 mod address;
+mod address_text;
 mod build;
 mod choice;
 mod commands;
 mod file_list;
+mod ipv6;
 mod kind;
 mod list;
 mod moment;
@@ -46,13 +50,15 @@ mod mrt_names;
 mod names;
 mod options;
 mod peers;
+mod prefix_laws;
 mod records;
 mod refusal;
 mod words;
 mod wrap;
 
 pub use address::read_address;
-pub use choice::read_choice;
+pub use address_text::AddressText;
+pub use choice::{fault_of_reach, read_choice, read_prefix, read_reach};
 pub use file_list::{FileListError, fault_of_file_list, read_file_list};
 pub use kind::{FirstBytes, Kind};
 pub use list::{ListError, fault_of_list, read_list};
@@ -60,6 +66,7 @@ pub use moment::read_second;
 pub use mrt_names::RecordKind;
 pub use names::FileName;
 pub use peers::{read_peer, read_share};
+pub use prefix_laws::{one_prefix_to_a_text, written_prefixes_spell_themselves};
 pub use records::{Aside, Records};
 pub use words::{Job, Usage, read_words, standard_input_fault};
 pub use wrap::{read_width, wrapped};

@@ -30,7 +30,7 @@ impl RecordKind {
 
     /// Whether records of it are counted and not interpreted.
     pub fn is_aside(self) -> bool {
-        content_of(self.kind, self.subtype) == Content::Aside
+        content_of::<u32>(self.kind, self.subtype) == Content::Aside
     }
 
     /// The name of the type, if it has one.

@@ -4,6 +4,8 @@
 #[cfg(test)]
 mod choices;
 #[cfg(test)]
+mod ipv6;
+#[cfg(test)]
 mod peers;
 #[cfg(test)]
 mod records;

@@ -11,7 +11,7 @@ use Rattle.mrt_body.specs.declared.standing.Standing.TheVariants as standings
 use Rattle.mrt_body.specs.Units.{unit_of}
 use Rattle.std.proofs.lemmas.List.{append-nil, map-append}
 use Rattle.mrt_body.specs.declared.unit.Damage.{Damage}
-use Rattle.mrt_body.specs.declared.unit.Found.{Found}
+use Rattle.mrt_body.specs.Plain.{Found}
 use Rattle.mrt_body.specs.declared.unit.Found.TheVariants as found
 use Rattle.mrt_body.specs.ToCome.{UnitsState, TakesFound, KeepsPlan, NothingToCome, GivesAllBefore, found_to_come, refusals, units_left, Stops}
 use Rattle.lane_deal.specs.Asking.{TakesUnits, StopsReading, StopsBehind, as_refused, GivesFront, GivesAll, Asked, AskedInVain}

@@ -5,7 +5,7 @@ use Rattle.std.specs.List.{list_any, position_or_len, prefix_len, enumerate_from
 use Rattle.std.specs.List.Sorted.{IsStrictlyIncreasing}
 use Rattle.std.proofs.lemmas.List.FromFn.{length-range_with_len, get_or-range_with_len}
 use Rattle.mrt_body.specs.declared.unit.PeerKey.{PeerKey}
-use Rattle.mrt_body.specs.declared.unit.Unit.{Unit as ReplayUnit}
+use Rattle.mrt_body.specs.Plain.{Unit as ReplayUnit}
 use Rattle.peer_tables.specs.Peers.{peer_eq, peers_of}
 use Rattle.lane_deal.specs.Lanes.{number_of_peer}
 use Rattle.peer_tables.proofs.PeerPositions.{other_peer, place_behind}

@@ -10,7 +10,7 @@ use Rattle.mrt_frame.specs.Positions.{flat_map_after}
 use Rattle.mrt_body.specs.declared.unit.PeerAddr.{PeerAddr}
 use Rattle.mrt_body.specs.declared.unit.PeerAddr.TheVariants.{V4, V6}
 use Rattle.mrt_body.specs.declared.unit.PeerKey.{PeerKey}
-use Rattle.mrt_body.specs.declared.unit.Unit.{Unit as ReplayUnit}
+use Rattle.mrt_body.specs.Plain.{Unit as ReplayUnit}
 use Rattle.peer_tables.specs.Peers.{addr_eq, peer_eq, peers_of, units_of_peer}
 use Rattle.peer_tables.proofs.ShareLaws.{same_peer}
 use Rattle.peer_tables.proofs.PeerPositions.{first_position, peer_itself}

@@ -8,8 +8,8 @@ use Rattle.lane_deal.specs.UnitRings.{known_free, ring_capacity}
 use Rattle.mrt_frame.specs.declared.error.ReplayError.{ReplayError}
 use Rattle.mrt_frame.specs.declared.error.ReplayError.TheVariants.{Read, Write, Memory, Records, Spent as SpentBefore}
 use Rattle.mrt_body.specs.declared.unit.Damage.{Damage}
-use Rattle.mrt_body.specs.declared.unit.Found.{Found}
-use Rattle.mrt_body.specs.declared.unit.Unit.{Unit as ReplayUnit}
+use Rattle.mrt_body.specs.Plain.{Found}
+use Rattle.mrt_body.specs.Plain.{Unit as ReplayUnit}
 use Rattle.mrt_body.specs.Units.{unit_of, damage_of}
 use Rattle.mrt_body.specs.ToCome.{UnitsState}
 use Rattle.peer_tables.specs.Peers.{peers_of}

@@ -14,44 +14,44 @@ or_false : (a b : Bool) → (a || b) ≡ false → b ≡ false
 or_false true b e = absurd cc
 or_false false b e = e
 
-module _ {M : Type 0} where
-  abbrev numbers : List (Seated M) → List ℕ
+module _ {M A : Type 0} where
+  abbrev numbers : List (Seated M A) → List ℕ
   numbers seats = map (λ seat. seat.number) seats
 
-  abbrev has : ℕ → List (Seated M) → Bool
+  abbrev has : ℕ → List (Seated M A) → Bool
   has n seats = list_any (λ s. eqb s.number n) (map seat_of seats)
 
-  absent : (seats : List (Seated M)) (at m n : ℕ) → slice_get (numbers seats) at ≡ Some m → has n seats ≡ false → m ≡ n → ⊥
+  absent : (seats : List (Seated M A)) (at m n : ℕ) → slice_get (numbers seats) at ≡ Some m → has n seats ≡ false → m ≡ n → ⊥
   absent [] at m n g e is = absurd cc
   absent (s ∷ ss) zero m n g e is =
       let here : s.number ≡ n = some_is s.number m g ∙ is in
       let clash : true ≡ false = ap (λ b. b || has n ss) (sym (eq-eqb s.number n here)) ∙ e in cc
   absent (s ∷ ss) (suc at) m n g e is = absent ss at m n g (or_false (eqb s.number n) (has n ss) e) is
 
-  number_at : (seats : List (Seated M)) (at : ℕ) (x : Seat) → slice_get (map seat_of seats) at ≡ Some x → slice_get (numbers seats) at ≡ Some x.number
+  number_at : (seats : List (Seated M A)) (at : ℕ) (x : Seat) → slice_get (map seat_of seats) at ≡ Some x → slice_get (numbers seats) at ≡ Some x.number
   number_at [] at x e = absurd cc
   number_at (s ∷ ss) zero x e = ap (λ y. Some y.number) (some_is (seat_of s) x e)
   number_at (s ∷ ss) (suc at) x e = number_at ss at x e
 
   -- a session of another number is remembered
-  pub indexed_kept : (old new : List (Option ℕ)) (seats : List (Seated M)) (n : ℕ) → AreIndexed old (numbers seats) → has n seats ≡ false
+  pub indexed_kept : (old new : List (Option ℕ)) (seats : List (Seated M A)) (n : ℕ) → AreIndexed old (numbers seats) → has n seats ≡ false
       → ((other x : ℕ) → (other ≡ n → ⊥) → slice_get old other ≡ Some (Some x) → slice_get new other ≡ Some (Some x)) → AreIndexed new (numbers seats)
   indexed_kept old new seats n h none others at m g = others m at (λ is. absent seats at m n g none is) (h at m g)
 
   -- and so is one more session
-  pub indexed_more : (new : List (Option ℕ)) (seats after : List (Seated M)) (s : Seated M) (n : ℕ) → AreIndexed new (numbers seats) → slice_get new s.number ≡ Some (Some n) → n ≡ length seats
+  pub indexed_more : (new : List (Option ℕ)) (seats after : List (Seated M A)) (s : Seated M A) (n : ℕ) → AreIndexed new (numbers seats) → slice_get new s.number ≡ Some (Some n) → n ≡ length seats
       → after ≡ seats ++ s ∷ [] → AreIndexed new (numbers after)
   indexed_more new seats after s n h own is grown at m g =
-      let split = split_get (numbers seats) s.number at m (ap (λ l. slice_get l at) (sym (map-append (λ (x : Seated M). x.number) seats (s ∷ []))) ∙ ap (λ l. slice_get (numbers l) at) (sym grown) ∙ g) in
+      let split = split_get (numbers seats) s.number at m (ap (λ l. slice_get l at) (sym (map-append (λ (x : Seated M A). x.number) seats (s ∷ []))) ∙ ap (λ l. slice_get (numbers l) at) (sym grown) ∙ g) in
       elim split [
         | inl before ↦ h at m before
         | inr last ↦
-            let here : at ≡ n = last.0 ∙ (length-map seats (λ (x : Seated M). x.number) ∙ sym is) in
+            let here : at ≡ n = last.0 ∙ (length-map seats (λ (x : Seated M A). x.number) ∙ sym is) in
             ap (slice_get new) (sym last.1) ∙ (own ∙ ap (λ k. Some (Some k)) (sym here))
       ]
 
   -- what is not remembered is not there
-  pub not_there : (positions : List (Option ℕ)) (seats : List (Seated M)) (n : ℕ) → AreIndexed positions (numbers seats)
+  pub not_there : (positions : List (Option ℕ)) (seats : List (Seated M A)) (n : ℕ) → AreIndexed positions (numbers seats)
       → ((at : ℕ) → slice_get positions n ≡ Some (Some at) → slice_get (numbers seats) at ≡ Some n → ⊥) → has n seats ≡ false
   not_there positions seats n h nowhere =
       elim (has n seats) as (λ b. has n seats ≡ b → b ≡ false) [

@@ -10,7 +10,7 @@ use Rattle.std.proofs.lemmas.Bool.{eqb-true, eq-eqb}
 use Rattle.std.proofs.lemmas.Option.{slice_get_within, get_or_from_slice_get}
 use Rattle.std.proofs.Math.Bool.{or-true}
 use Rattle.mrt_body.specs.declared.unit.PeerKey.{PeerKey}
-use Rattle.mrt_body.specs.declared.unit.Unit.{Unit as ReplayUnit}
+use Rattle.mrt_body.specs.Plain.{Unit as ReplayUnit}
 use Rattle.adj_rib.specs.Sessions.{SessionState, session_of}
 use Rattle.peer_tables.specs.Peers.{peer_eq, peers_of, units_of_peer}
 use Rattle.peer_tables.specs.Seats.{seat_of}
@@ -217,14 +217,14 @@ unfolding peers_of
 HoldsUnits-none number a = refl
 
 -- a session that took a unit keeps its number
-pub numbers_stay_at : {M : Type 0} (seats : List (Seated M)) (position : ℕ) (x : Seated M) (session : SessionState) → position < length seats
+pub numbers_stay_at : {M A : Type 0} (seats : List (Seated M A)) (position : ℕ) (x : Seated M A) (session : SessionState) → position < length seats
     → map (λ seat. seat.number) (set seats position (record { number = (get_or seats position x).number; key = (get_or seats position x).key; session = session })) ≡ map (λ seat. seat.number) seats
 numbers_stay_at [] position x session l = refl
 numbers_stay_at (s ∷ seats) zero x session l = refl
 numbers_stay_at (s ∷ seats) (suc position) x session l = ap (λ ns. s.number ∷ ns) (numbers_stay_at seats position x session (omega (arith, l)))
 
 -- one session took a unit
-pub TakenAt-from : {M E : Type 0} (r : Result (Unit {0}) E) (seats : List (Seated M)) (position : ℕ) (u : ReplayUnit) (x : Seated M) (session : SessionState) → position < length seats
+pub TakenAt-from : {M A E : Type 0} (r : Result (Unit {0}) E) (seats : List (Seated M A)) (position : ℕ) (u : ReplayUnit) (x : Seated M A) (session : SessionState) → position < length seats
     → ((before : List ReplayUnit) → (get_or seats position x).session ≡ session_of before → OnOk r (session ≡ session_of (before ++ u ∷ [])))
     → OnOk r (TakenAt (map seat_of seats) (map seat_of (set seats position (record { number = (get_or seats position x).number; key = (get_or seats position x).key; session = session }))) position u)
 TakenAt-from (Ok o) seats position u x session l h = λ before d e.

@@ -14,7 +14,7 @@ use Rattle.lane_deal.specs.declared.worker.Worker.{Worker}
 -- ---- lanes of any kind, by what they show and the sessions that they hold
 
 -- the sessions of all lanes
-abbrev pub seats_held : {L M : Type 0} → (L → List (Seated M)) → List L → List Seat
+abbrev pub seats_held : {L M A : Type 0} → (L → List (Seated M A)) → List L → List Seat
 seats_held held lanes = flat_map (λ lane. map seat_of (held lane)) lanes
 
 module _ {L S X : Type 0} (state : L → S) (held : S → List X) (with_held : S → List X → S) where
@@ -39,7 +39,7 @@ module _ {L S X : Type 0} (state : L → S) (held : S → List X) (with_held : S
 pub record WorkerState (M : Type 0) : Type 0 where
   pub lane : ℕ
   pub consumer : ListConsumer
-  pub seats : List (Seated M)
+  pub seats : List (Seated M ℕ)
   pub taken : ℕ
 
 module _ {M : Type 0} {g : Ghosts M SharedRoute ℕ} {a : AddressGhosts ℕ} where

@@ -4,7 +4,7 @@ use Rattle.std.specs.List.{AllZip}
 use mathlib.Core.List.{IsPrefix}
 use Rattle.rtrb.specs.Ring.{SameConsumer}
 use Rattle.adj_rib.specs.RouteSets.{IsAheadOf}
-use Rattle.adj_rib.specs.declared.read_ahead.ReadAhead.{ReadAhead}
+use Rattle.adj_rib.specs.Plain.{ReadAhead}
 use Rattle.lane_deal.specs.declared.numbered.Numbered.{Numbered}
 use Rattle.lane_deal.specs.declared.worker.Worker.{Worker}
 use Rattle.lane_deal.specs.UnitRings.{received, known_items}

@@ -1,6 +1,7 @@
 -- The units of a list, whose bytes stand in one block, and whose records and peers are listed once.
 use Rattle.std.specs.Prelude.{◌≡◌, ℕ, ◌+◌, ◌≤◌, ◌<◌, ◌%◌, List, length, take, drop, slice_index_or}
-use Rattle.mrt_body.specs.declared.unit.Payload.{Payload}
+use Rattle.bgp_update.specs.Families.{ipv4}
+use Rattle.mrt_body.specs.Plain.{Payload}
 use Rattle.mrt_body.specs.declared.unit.Payload.TheVariants.{State, Message, Entry, Clear}
 use Rattle.mrt_body.specs.declared.unit.PeerAddr.TheVariants.{V4}
 use Rattle.mrt_body.specs.Lent.{lent_unit}
@@ -15,8 +16,8 @@ use Rattle.lane_deal.specs.declared.unit_list.LentItem.{LentItem}
 -- the payload of this kind with these bytes
 abbrev pub payload_with : PayloadKind → List ℕ → Payload
 payload_with (kinds.State rule from to) bytes = State (from % 65536) (to % 65536) rule
-payload_with (kinds.Message width add_path) bytes = Message bytes width add_path
-payload_with (kinds.Entry key) bytes = Entry key bytes
+payload_with (kinds.Message width add_path) bytes = Message bytes width add_path ipv4
+payload_with (kinds.Entry key) bytes = Entry key bytes ipv4
 payload_with kinds.Clear bytes = Clear
 
 -- x is the item at this index

@@ -11,7 +11,7 @@ use Rattle.lane_deal.specs.Collecting.{seats_held}
 -- a lane, but for where it looks for its sessions
 pub record OneLaneState (M : Type 0) : Type 0 where
   pub ring : List Numbered
-  pub seats : List (Seated M)
+  pub seats : List (Seated M ℕ)
   pub took : ℕ
 
 module _ {M : Type 0} {g : Ghosts M SharedRoute ℕ} where

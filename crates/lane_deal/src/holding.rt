@@ -11,7 +11,7 @@ use std::mem;
 
 /// What holds a lane's sessions, which can be swapped in and out.
 pub trait HoldsSeats<M: PrefixMap<SharedRoute, Addr = u32>> {
-    ghost use Rattle.std.specs.Prelude.{List};
+    ghost use Rattle.std.specs.Prelude.{List, ℕ};
     ghost use Rattle.peer_tables.specs.declared.tables.Seated.{Seated};
 
     /// All that it shows.
@@ -20,10 +20,10 @@ pub trait HoldsSeats<M: PrefixMap<SharedRoute, Addr = u32>> {
     ghost state: { Self → State };
 
     /// Its sessions.
-    ghost held: { State → List (Seated M) };
+    ghost held: { State → List (Seated M ℕ) };
 
     /// The same with these sessions.
-    ghost with_held: { State → List (Seated M) → State };
+    ghost with_held: { State → List (Seated M ℕ) → State };
 
     /// Swaps its sessions for those of the list.
     fn exchange(&mut self, alloc: Global, list: &mut Sequence<Seated<M>>)
@@ -31,7 +31,7 @@ pub trait HoldsSeats<M: PrefixMap<SharedRoute, Addr = u32>> {
         ensures got { state self.new ≡ with_held (state self.old) list.old };
 
     /// With its own sessions again it shows what it did.
-    ghost is_back: { (s : State) (list : List (Seated M)) → with_held (with_held s list) (held s) ≡ s };
+    ghost is_back: { (s : State) (list : List (Seated M ℕ)) → with_held (with_held s list) (held s) ≡ s };
 }
 
 /// Swaps the sessions for those of the list.

@@ -3,8 +3,8 @@ ghost use Rattle.std.specs.Prelude.{◌≡◌, ◌≢◌, ◌<◌, ◌≤◌, �
 ghost use Rattle.std.specs.List.{AllByRecursion, flat_map, range_with_len};
 ghost use Rattle.std.specs.List.Sorted.{IsStrictlyIncreasing};
 ghost use Rattle.mrt_body.specs.declared.unit.Damage.{Damage};
-ghost use Rattle.mrt_body.specs.declared.unit.Found.{Found};
-ghost use Rattle.mrt_body.specs.declared.unit.Unit.{Unit as ReplayUnit};
+ghost use Rattle.mrt_body.specs.Plain.{Found};
+ghost use Rattle.mrt_body.specs.Plain.{Unit as ReplayUnit};
 ghost use Rattle.peer_tables.specs.Tables.{tables_of};
 ghost use Rattle.lane_deal.specs.declared.plan.Plan.{Plan};
 ghost use Rattle.lane_deal.specs.declared.step.Step.TheVariants.{End};

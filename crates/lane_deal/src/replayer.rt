@@ -187,7 +187,7 @@ impl<M: PrefixMap<SharedRoute, Addr = u32> + Send + Drop, D: Dealing + Send> Rep
 impl<M: PrefixMap<SharedRoute, Addr = u32> + Drop, D: Dealing + Drop> Replayer<M, D> {
     ghost use Rattle.std.specs.Prelude.{◌≡◌, ◌≢◌, List, IfOk, IfErr, IsErr};
     ghost use Rattle.mrt_body.specs.declared.unit.Damage.{Damage};
-    ghost use Rattle.mrt_body.specs.declared.unit.Unit.{Unit as ReplayUnit};
+    ghost use Rattle.mrt_body.specs.Plain.{Unit as ReplayUnit};
     ghost use Rattle.peer_tables.specs.Tables.{tables_of};
     ghost use Rattle.lane_deal.specs.declared.state.State.TheVariants.{Spent};
     ghost use Rattle.lane_deal.specs.Playing.{shown};

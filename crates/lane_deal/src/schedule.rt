@@ -1,7 +1,7 @@
 //! The lanes on one thread, by a list of events.
 
 ghost use Rattle.std.specs.Prelude.{◌≡◌, ℕ, ◌<◌, ◌++◌, ◌∷◌, [], List, length, take, drop, IfOk, OnOk};
-ghost use Rattle.mrt_body.specs.declared.unit.Unit.{Unit as ReplayUnit};
+ghost use Rattle.mrt_body.specs.Plain.{Unit as ReplayUnit};
 ghost use Rattle.peer_tables.specs.Peers.{peers_of};
 ghost use Rattle.lane_deal.specs.Lanes.{lane_of_unit};
 ghost use Rattle.lane_deal.specs.Numbers.{numbered};

@@ -24,7 +24,7 @@ pub struct Lanes<M: PrefixMap<SharedRoute, Addr = u32>> {
 
 impl<M: PrefixMap<SharedRoute, Addr = u32> + Drop> Lanes<M> {
     ghost use Rattle.std.specs.Prelude.{◌≡◌, ℕ, ◌-◌, ◌^◌, List, [], length, min, IfOk, IfErr};
-    ghost use Rattle.mrt_body.specs.declared.unit.Unit.{Unit as ReplayUnit};
+    ghost use Rattle.mrt_body.specs.Plain.{Unit as ReplayUnit};
     ghost use Rattle.peer_tables.specs.Tables.{tables_of};
     ghost use Rattle.lane_deal.specs.Schedules.{LanesState};
     ghost use Rattle.lane_deal.specs.ShownLanes.{Shows, ShowsSame};

@@ -13,6 +13,7 @@ use crate::listed_unit::{
 };
 use adj_rib::ReadAhead;
 use bgp_prefix::Memory;
+use bgp_update::FamilyMark;
 use mrt_body::{LentPayload, LentUnit, Place};
 use std::alloc::Global;
 
@@ -69,8 +70,15 @@ fn parts_of<'a>(payload: &LentPayload<'a>) -> (PayloadKind, &'a [u8])
             bytes,
             width,
             add_path,
-        } => (PayloadKind::Message { width, add_path }, bytes),
-        LentPayload::Entry { key, attrs } => (PayloadKind::Entry { key }, attrs),
+            family,
+        } => {
+            family.is_known();
+            (PayloadKind::Message { width, add_path }, bytes)
+        }
+        LentPayload::Entry { key, attrs, family } => {
+            family.is_known();
+            (PayloadKind::Entry { key }, attrs)
+        }
         LentPayload::Clear => (PayloadKind::Clear, &[]),
     }
 }
@@ -90,8 +98,13 @@ fn with_bytes(kind: PayloadKind, bytes: &[u8]) -> LentPayload<'_>
             bytes,
             width,
             add_path,
+            family: FamilyMark::new(),
         },
-        PayloadKind::Entry { key } => LentPayload::Entry { key, attrs: bytes },
+        PayloadKind::Entry { key } => LentPayload::Entry {
+            key,
+            attrs: bytes,
+            family: FamilyMark::new(),
+        },
         PayloadKind::Clear => LentPayload::Clear,
     }
 }

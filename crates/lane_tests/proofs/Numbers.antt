@@ -10,15 +10,15 @@ use Rattle.peer_tables.specs.Tables.{Seat}
 use Rattle.peer_tables.specs.Seats.{seat_of}
 
 -- the numbers 1 and 0
-pub two_numbers : {M : Type 0} (gathered : Gathered M) (first second : List (Seated M))
+pub two_numbers : {M A : Type 0} (gathered : Gathered M A) (first second : List (Seated M A))
     → gathered.lanes ≡ first ∷ second ∷ []
     → map (λ seat. seat.number) first ≡ 1 ∷ [] → map (λ seat. seat.number) second ≡ 0 ∷ []
     → IsDistinct nat_eq (map (λ seat. seat.number) (gathered_seats gathered))
 unfolding IsDistinct
-two_numbers {M} gathered first second lanes one none =
+two_numbers {M} {A} gathered first second lanes one none =
     let number : Seat → ℕ = λ seat. seat.number in
     let plain : map number (gathered_seats gathered) ≡ 1 ∷ 0 ∷ [] =
-    ap (λ (ls : List (List (Seated M))). map number (flat_map (λ lane. map seat_of lane) ls)) lanes
+    ap (λ (ls : List (List (Seated M A))). map number (flat_map (λ lane. map seat_of lane) ls)) lanes
     ∙ map-append number (map seat_of first) (map seat_of second ++ [])
     ∙ ap (λ (l : List Seat). map number (map seat_of first) ++ map number l) (append-nil (map seat_of second))
     ∙ ap (λ l. l ++ map number (map seat_of second)) (map-map number seat_of first ∙ one)

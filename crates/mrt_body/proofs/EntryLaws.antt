@@ -14,11 +14,12 @@ use Rattle.bgp_update.specs.Answers.{Fails}
 use Rattle.bgp_update.specs.declared.attr_error.AttrError.{AttrError}
 use Rattle.bgp_update.specs.declared.attr_error.AttrError.TheVariants as errors
 use Rattle.bgp_update.specs.Keys.{octets_at, prefix_of}
+use Rattle.bgp_update.specs.Families.{FamilyOf}
 use Rattle.mrt_body.specs.declared.unit.PeerKey.{PeerKey}
-use Rattle.mrt_body.specs.declared.unit.Unit.{Unit as ReplayUnit}
+use Rattle.mrt_body.specs.Plain.{Unit as ReplayUnit}
 use Rattle.mrt_body.specs.declared.at.RecordAt.{RecordAt}
 use Rattle.mrt_body.specs.declared.rib.ListedEntry.{ListedEntry}
-use Rattle.mrt_body.specs.declared.entries.RibRecord.{RibRecord}
+use Rattle.mrt_body.specs.Pending.{RibRecord}
 use Rattle.mrt_body.specs.Many.{many}
 use Rattle.mrt_body.specs.RibRecords.{WrittenEntry, RibHead, RibForm, RibSummary, ReadEntry, read_of, peer_index_at, identifier_at, entry_at, read_entry_at, rib_head_at, read_head_at, rib_in}
 use Rattle.mrt_body.specs.Units.{entry_unit, entry_units, rib_units, rib_units_in}
@@ -78,19 +79,19 @@ entry_takes add_path peers bytes x e =
 
 -- ---- what stands before the entries
 
-octets_behind : (len : ℕ) (bytes : List ℕ) (x : List ℕ × List ℕ) → octets_at 32 len bytes ≡ Ok x → Behind bytes x.1
-octets_behind len bytes x e =
-    let g = guard_ok (ltb 32 len || ltb (length bytes) (div_ceil len 8)) BadPrefix (take (div_ceil len 8) bytes, drop (div_ceil len 8) bytes) x e in
+octets_behind : (width len : ℕ) (bytes : List ℕ) (x : List ℕ × List ℕ) → octets_at width len bytes ≡ Ok x → Behind bytes x.1
+octets_behind width len bytes x e =
+    let g = guard_ok (ltb width len || ltb (length bytes) (div_ceil len 8)) BadPrefix (take (div_ceil len 8) bytes, drop (div_ceil len 8) bytes) x e in
     subst (λ (y : List ℕ × List ℕ). Behind bytes y.1) g.1 (behind_front (div_ceil len 8) bytes)
 
-pub head_behind : (bytes : List ℕ) (x : RibHead × List ℕ) → rib_head_at bytes ≡ Ok x → Behind bytes x.1
+pub head_behind : (family : FamilyOf) (bytes : List ℕ) (x : RibHead × List ℕ) → rib_head_at family bytes ≡ Ok x → Behind bytes x.1
 unfolding rib_head_at
-head_behind bytes x e =
-    let a = bind_ok (number_at ShortRecord 4 bytes) (λ sequence. byte_at ShortRecord sequence.1 >>= λ len. octets_at 32 len.0 len.1 >>= λ octets. number_at ShortRecord 2 octets.1 >>= λ count. Ok (record { sequence = sequence.0; len = len.0; octets = octets.0; count = count.0 }, count.1)) x e in
-    let b = bind_ok (byte_at ShortRecord a.0.1) (λ len. octets_at 32 len.0 len.1 >>= λ octets. number_at ShortRecord 2 octets.1 >>= λ count. Ok (record { sequence = a.0.0; len = len.0; octets = octets.0; count = count.0 }, count.1)) x a.2 in
-    let d = bind_ok (octets_at 32 b.0.0 b.0.1) (λ octets. number_at ShortRecord 2 octets.1 >>= λ count. Ok (record { sequence = a.0.0; len = b.0.0; octets = octets.0; count = count.0 }, count.1)) x b.2 in
+head_behind family bytes x e =
+    let a = bind_ok (number_at ShortRecord 4 bytes) (λ sequence. byte_at ShortRecord sequence.1 >>= λ len. octets_at family.width len.0 len.1 >>= λ octets. number_at ShortRecord 2 octets.1 >>= λ count. Ok (record { sequence = sequence.0; len = len.0; octets = octets.0; count = count.0 }, count.1)) x e in
+    let b = bind_ok (byte_at ShortRecord a.0.1) (λ len. octets_at family.width len.0 len.1 >>= λ octets. number_at ShortRecord 2 octets.1 >>= λ count. Ok (record { sequence = a.0.0; len = len.0; octets = octets.0; count = count.0 }, count.1)) x a.2 in
+    let d = bind_ok (octets_at family.width b.0.0 b.0.1) (λ octets. number_at ShortRecord 2 octets.1 >>= λ count. Ok (record { sequence = a.0.0; len = b.0.0; octets = octets.0; count = count.0 }, count.1)) x b.2 in
     let l = bind_ok (number_at ShortRecord 2 d.0.1) (λ count. Ok (record { sequence = a.0.0; len = b.0.0; octets = d.0.0; count = count.0 }, count.1)) x d.2 in
-    behind_more bytes a.0.1 x.1 (number_behind ShortRecord 4 bytes a.0 a.1) (behind_more a.0.1 b.0.1 x.1 (byte_behind ShortRecord a.0.1 b.0 b.1) (behind_more b.0.1 d.0.1 x.1 (octets_behind b.0.0 b.0.1 d.0 d.1) (behind_more d.0.1 l.0.1 x.1 (number_behind ShortRecord 2 d.0.1 l.0 l.1)
+    behind_more bytes a.0.1 x.1 (number_behind ShortRecord 4 bytes a.0 a.1) (behind_more a.0.1 b.0.1 x.1 (byte_behind ShortRecord a.0.1 b.0 b.1) (behind_more b.0.1 d.0.1 x.1 (octets_behind family.width b.0.0 b.0.1 d.0 d.1) (behind_more d.0.1 l.0.1 x.1 (number_behind ShortRecord 2 d.0.1 l.0 l.1)
     (ok_behind (record { sequence = a.0.0; len = b.0.0; octets = d.0.0; count = l.0.0 }) l.0.1 x l.2))))
 
 -- ---- the entries of a record
@@ -101,22 +102,22 @@ summary prefix count = record { prefix = prefix; count = count }
 abbrev summary_of : RibHead → RibSummary
 summary_of head = summary (prefix_of head.len head.octets) head.count
 
-pub head_is : (body : List ℕ) (prefix : IpPrefix) (count : ℕ) (rest : List ℕ) → read_head_at body ≡ Ok (summary prefix count, rest)
-    → (head : RibHead) × (rib_head_at body ≡ Ok (head, rest)) × (prefix_of head.len head.octets ≡ prefix) × (head.count ≡ count)
+pub head_is : (family : FamilyOf) (body : List ℕ) (prefix : IpPrefix) (count : ℕ) (rest : List ℕ) → read_head_at family body ≡ Ok (summary prefix count, rest)
+    → (head : RibHead) × (rib_head_at family body ≡ Ok (head, rest)) × (prefix_of head.len head.octets ≡ prefix) × (head.count ≡ count)
 unfolding read_head_at
-head_is body prefix count rest h =
-    let s = seen_ok summary_of (rib_head_at body) (summary prefix count) rest h in
+head_is family body prefix count rest h =
+    let s = seen_ok summary_of (rib_head_at family body) (summary prefix count) rest h in
     (s.0, s.1, ap (λ (x : RibSummary). x.prefix) s.2, ap (λ (x : RibSummary). x.count) s.2)
 
-pub read_head_behind : (body : List ℕ) (prefix : IpPrefix) (count : ℕ) (rest : List ℕ) → read_head_at body ≡ Ok (summary prefix count, rest) → Behind body rest
-read_head_behind body prefix count rest h = let s = head_is body prefix count rest h in head_behind body (s.0, rest) s.1
+pub read_head_behind : (family : FamilyOf) (body : List ℕ) (prefix : IpPrefix) (count : ℕ) (rest : List ℕ) → read_head_at family body ≡ Ok (summary prefix count, rest) → Behind body rest
+read_head_behind family body prefix count rest h = let s = head_is family body prefix count rest h in head_behind family body (s.0, rest) s.1
 
 abbrev form_of : RibHead → List WrittenEntry → RibForm
 form_of head entries = record { sequence = head.sequence; len = head.len; octets = head.octets; entries = entries }
 
-head_fails : (add_path : Bool) (peers : ℕ) (body : List ℕ) (fault : Fault) → read_head_at body ≡ Err fault → rib_in add_path peers body ≡ Err fault
+head_fails : (family : FamilyOf) (add_path : Bool) (peers : ℕ) (body : List ℕ) (fault : Fault) → read_head_at family body ≡ Err fault → rib_in family add_path peers body ≡ Err fault
 unfolding rib_in read_head_at
-head_fails add_path peers body fault h = rw (seen_err summary_of (rib_head_at body) fault h) refl
+head_fails family add_path peers body fault h = rw (seen_err summary_of (rib_head_at family body) fault h) refl
 
 -- entries that are read as what is kept of them
 read_entries : (add_path : Bool) (peers count : ℕ) (bytes : List ℕ) → many (read_entry_at add_path peers) count bytes ≡ (many (entry_at add_path peers) count bytes >>= λ ws. Ok (map read_of ws))
@@ -132,61 +133,61 @@ entries_fault (Ok ws) fault e = absurd cc
 entries_fault (Err other) fault e = cc
 
 -- the units of entries, the first of which has this number
-abbrev read_units : RecordAt → List PeerKey → IpPrefix → ℕ → List ReadEntry → List ReplayUnit
-read_units at peers prefix number [] = []
-read_units at peers prefix number (e ∷ entries) = read_unit at peers prefix number e ∷ read_units at peers prefix (number + 1) entries
+abbrev read_units : FamilyOf → RecordAt → List PeerKey → IpPrefix → ℕ → List ReadEntry → List ReplayUnit
+read_units family at peers prefix number [] = []
+read_units family at peers prefix number (e ∷ entries) = read_unit family at peers prefix number e ∷ read_units family at peers prefix (number + 1) entries
 
-written_units : (at : RecordAt) (peers : List PeerKey) (prefix : IpPrefix) (n : ℕ) (ws : List WrittenEntry) → entry_units at peers prefix n ws ≡ read_units at peers prefix n (map read_of ws)
-written_units at peers prefix n [] = refl
-written_units at peers prefix n (w ∷ ws) = ap (λ (units : List ReplayUnit). entry_unit at peers prefix n w ∷ units) (written_units at peers prefix (n + 1) ws)
+written_units : (family : FamilyOf) (at : RecordAt) (peers : List PeerKey) (prefix : IpPrefix) (n : ℕ) (ws : List WrittenEntry) → entry_units family at peers prefix n ws ≡ read_units family at peers prefix n (map read_of ws)
+written_units family at peers prefix n [] = refl
+written_units family at peers prefix n (w ∷ ws) = ap (λ (units : List ReplayUnit). entry_unit family at peers prefix n w ∷ units) (written_units family at peers prefix (n + 1) ws)
 
 -- where they are numbered, each has the unit of its own number
-numbered_units : (at : RecordAt) (peers : List PeerKey) (prefix : IpPrefix) (body : List ℕ) (n : ℕ) (list : List ListedEntry) → AreNumbered n list → read_units at peers prefix n (map (read_listed body) list) ≡ map (listed_unit at peers prefix body) list
-numbered_units at peers prefix body n [] h = refl
-numbered_units at peers prefix body n (e ∷ list) h =
-    ap (λ (k : ℕ). read_unit at peers prefix k (read_listed body e) ∷ read_units at peers prefix (n + 1) (map (read_listed body) list)) (sym h.0)
-    ∙ ap (λ (units : List ReplayUnit). listed_unit at peers prefix body e ∷ units) (numbered_units at peers prefix body (n + 1) list h.1)
+numbered_units : (family : FamilyOf) (at : RecordAt) (peers : List PeerKey) (prefix : IpPrefix) (body : List ℕ) (n : ℕ) (list : List ListedEntry) → AreNumbered n list → read_units family at peers prefix n (map (read_listed body) list) ≡ map (listed_unit family at peers prefix body) list
+numbered_units family at peers prefix body n [] h = refl
+numbered_units family at peers prefix body n (e ∷ list) h =
+    ap (λ (k : ℕ). read_unit family at peers prefix k (read_listed body e) ∷ read_units family at peers prefix (n + 1) (map (read_listed body) list)) (sym h.0)
+    ∙ ap (λ (units : List ReplayUnit). listed_unit family at peers prefix body e ∷ units) (numbered_units family at peers prefix body (n + 1) list h.1)
 
-module _ (at : RecordAt) (peers : List PeerKey) (add_path : Bool) (body : List ℕ) (prefix : IpPrefix) (count : ℕ) (rest : List ℕ) where
+module _ (family : FamilyOf) (at : RecordAt) (peers : List PeerKey) (add_path : Bool) (body : List ℕ) (prefix : IpPrefix) (count : ℕ) (rest : List ℕ) where
   abbrev entries_of : Result (List WrittenEntry) Fault
   entries_of = many (entry_at add_path (length peers)) count rest
 
-  rib_by_head : (head : RibHead) → rib_head_at body ≡ Ok (head, rest) → head.count ≡ count → rib_in add_path (length peers) body ≡ (entries_of >>= λ entries. Ok (form_of head entries))
+  rib_by_head : (head : RibHead) → rib_head_at family body ≡ Ok (head, rest) → head.count ≡ count → rib_in family add_path (length peers) body ≡ (entries_of >>= λ entries. Ok (form_of head entries))
   unfolding rib_in
   rib_by_head head h same = rw h (ap (λ (n : ℕ). many (entry_at add_path (length peers)) n rest >>= λ entries. Ok (form_of head entries)) same)
 
   -- the units of a record are those of what is kept of its entries
-  units_read : (es : List ReadEntry) → read_head_at body ≡ Ok (summary prefix count, rest) → many (read_entry_at add_path (length peers)) count rest ≡ Ok es → rib_units_in at add_path (Some peers) body ≡ Ok (read_units at peers prefix 1 es)
+  units_read : (es : List ReadEntry) → read_head_at family body ≡ Ok (summary prefix count, rest) → many (read_entry_at add_path (length peers)) count rest ≡ Ok es → rib_units_in family at add_path (Some peers) body ≡ Ok (read_units family at peers prefix 1 es)
   units_read es h e =
-      let s = head_is body prefix count rest h in
+      let s = head_is family body prefix count rest h in
       let w = written_entries entries_of es (sym (read_entries add_path (length peers) count rest) ∙ e) in
-      let all : rib_in add_path (length peers) body ≡ Ok (form_of s.0 w.0) = rib_by_head s.0 s.1 s.3 ∙ ap (λ (r : Result (List WrittenEntry) Fault). r >>= λ entries. Ok (form_of s.0 entries)) w.1 in
-      ap (λ (r : Result RibForm Fault). r >>= λ form. Ok (rib_units at (Some peers) form)) all
-      ∙ ap (λ (p : IpPrefix). done (entry_units at peers p 1 w.0)) s.2
-      ∙ ap (λ (units : List ReplayUnit). done units) (written_units at peers prefix 1 w.0 ∙ ap (read_units at peers prefix 1) w.2)
+      let all : rib_in family add_path (length peers) body ≡ Ok (form_of s.0 w.0) = rib_by_head s.0 s.1 s.3 ∙ ap (λ (r : Result (List WrittenEntry) Fault). r >>= λ entries. Ok (form_of s.0 entries)) w.1 in
+      ap (λ (r : Result RibForm Fault). r >>= λ form. Ok (rib_units family at (Some peers) form)) all
+      ∙ ap (λ (p : IpPrefix). done (entry_units family at peers p 1 w.0)) s.2
+      ∙ ap (λ (units : List ReplayUnit). done units) (written_units family at peers prefix 1 w.0 ∙ ap (read_units family at peers prefix 1) w.2)
 
-  pub units_fail : (fault : Fault) → read_head_at body ≡ Ok (summary prefix count, rest) → many (read_entry_at add_path (length peers)) count rest ≡ Err fault → rib_units_in at add_path (Some peers) body ≡ Err fault
+  pub units_fail : (fault : Fault) → read_head_at family body ≡ Ok (summary prefix count, rest) → many (read_entry_at add_path (length peers)) count rest ≡ Err fault → rib_units_in family at add_path (Some peers) body ≡ Err fault
   units_fail fault h e =
-      let s = head_is body prefix count rest h in
+      let s = head_is family body prefix count rest h in
       let broken = entries_fault entries_of fault (sym (read_entries add_path (length peers) count rest) ∙ e) in
-      let all : rib_in add_path (length peers) body ≡ Err fault = rib_by_head s.0 s.1 s.3 ∙ ap (λ (r : Result (List WrittenEntry) Fault). r >>= λ entries. Ok (form_of s.0 entries)) broken in
-      ap (λ (r : Result RibForm Fault). r >>= λ form. Ok (rib_units at (Some peers) form)) all
+      let all : rib_in family add_path (length peers) body ≡ Err fault = rib_by_head s.0 s.1 s.3 ∙ ap (λ (r : Result (List WrittenEntry) Fault). r >>= λ entries. Ok (form_of s.0 entries)) broken in
+      ap (λ (r : Result RibForm Fault). r >>= λ form. Ok (rib_units family at (Some peers) form)) all
 
-  rest_is : read_head_at body ≡ Ok (summary prefix count, rest) → drop (length body - length rest) body ≡ rest
-  rest_is h = behind-drop body rest (read_head_behind body prefix count rest h)
+  rest_is : read_head_at family body ≡ Ok (summary prefix count, rest) → drop (length body - length rest) body ≡ rest
+  rest_is h = behind-drop body rest (read_head_behind family body prefix count rest h)
 
-  pub rest-le : read_head_at body ≡ Ok (summary prefix count, rest) → length rest ≤ length body
-  rest-le h = behind-le body rest (read_head_behind body prefix count rest h)
+  pub rest-le : read_head_at family body ≡ Ok (summary prefix count, rest) → length rest ≤ length body
+  rest-le h = behind-le body rest (read_head_behind family body prefix count rest h)
 
-  from_rest : read_head_at body ≡ Ok (summary prefix count, rest) → many (read_entry_at add_path (length peers)) count rest ≡ many (read_entry_at add_path (length peers)) count (drop (length body - length rest) body)
+  from_rest : read_head_at family body ≡ Ok (summary prefix count, rest) → many (read_entry_at add_path (length peers)) count rest ≡ many (read_entry_at add_path (length peers)) count (drop (length body - length rest) body)
   from_rest h = ap (many (read_entry_at add_path (length peers)) count) (sym (rest_is h))
 
   -- the record whose entries are listed
-  pub all_units : (list : List ListedEntry) → read_head_at body ≡ Ok (summary prefix count, rest) → many (read_entry_at add_path (length peers)) count (drop (length body - length rest) body) ≡ Ok (map (read_listed body) list) → AreNumbered 1 list
-      → rib_units_in at add_path (Some peers) body ≡ Ok (units_left peers list (record { at = at; prefix = prefix; body = body; given = 0 }))
+  pub all_units : (list : List ListedEntry) → read_head_at family body ≡ Ok (summary prefix count, rest) → many (read_entry_at add_path (length peers)) count (drop (length body - length rest) body) ≡ Ok (map (read_listed body) list) → AreNumbered 1 list
+      → rib_units_in family at add_path (Some peers) body ≡ Ok (units_left family peers list (record { at = at; prefix = prefix; body = body; given = 0 }))
   all_units list h e numbers =
       units_read (map (read_listed body) list) h (from_rest h ∙ e)
-      ∙ ap (λ (units : List ReplayUnit). done units) (numbered_units at peers prefix body 1 list numbers)
+      ∙ ap (λ (units : List ReplayUnit). done units) (numbered_units family at peers prefix body 1 list numbers)
 
   pub all_listed : (list : List ListedEntry) → count ≤ 65535 → many (read_entry_at add_path (length peers)) count (drop (length body - length rest) body) ≡ Ok (map (read_listed body) list) → All (IsListed (length peers) (length body)) list
       → AreListed peers list (record { at = at; prefix = prefix; body = body; given = 0 })
@@ -196,17 +197,17 @@ module _ (at : RecordAt) (peers : List PeerKey) (add_path : Bool) (body : List �
     within = within;
   }
 
-  pub no_units : (error : AttrError) → read_head_at body ≡ Ok (summary prefix count, rest) → Fails error (many (read_entry_at add_path (length peers)) count (drop (length body - length rest) body)) → Fails error (rib_units_in at add_path (Some peers) body)
+  pub no_units : (error : AttrError) → read_head_at family body ≡ Ok (summary prefix count, rest) → Fails error (many (read_entry_at add_path (length peers)) count (drop (length body - length rest) body)) → Fails error (rib_units_in family at add_path (Some peers) body)
   no_units errors.Memory h f = tt
   no_units (errors.Bad fault) h f = units_fail fault h (from_rest h ∙ f)
 
-pub units_fail_early : (at : RecordAt) (peers : List PeerKey) (add_path : Bool) (body : List ℕ) (fault : Fault) → read_head_at body ≡ Err fault → rib_units_in at add_path (Some peers) body ≡ Err fault
-units_fail_early at peers add_path body fault h = ap (λ (r : Result RibForm Fault). r >>= λ form. Ok (rib_units at (Some peers) form)) (head_fails add_path (length peers) body fault h)
+pub units_fail_early : (family : FamilyOf) (at : RecordAt) (peers : List PeerKey) (add_path : Bool) (body : List ℕ) (fault : Fault) → read_head_at family body ≡ Err fault → rib_units_in family at add_path (Some peers) body ≡ Err fault
+units_fail_early family at peers add_path body fault h = ap (λ (r : Result RibForm Fault). r >>= λ form. Ok (rib_units family at (Some peers) form)) (head_fails family add_path (length peers) body fault h)
 
 -- ---- how many there are
 
 -- at most as many as are listed
-pub units_left-few : (peers : List PeerKey) (list : List ListedEntry) (r : RibRecord) → AreListed peers list r → length (units_left peers list r) ≤ 65535
-units_left-few peers list r h =
+pub units_left-few : (family : FamilyOf) (peers : List PeerKey) (list : List ListedEntry) (r : RibRecord) → AreListed peers list r → length (units_left family peers list r) ≤ 65535
+units_left-few family peers list r h =
     let few = h.few in
-    omega (arith, few, length-map (drop r.given list) (listed_unit r.at peers r.prefix r.body), length-drop r.given list)
+    omega (arith, few, length-map (drop r.given list) (listed_unit family r.at peers r.prefix r.body), length-drop r.given list)

@@ -6,6 +6,7 @@ use Rattle.bgp_prefix.specs.Keys.{RouteKey}
 use Rattle.mrt_frame.specs.declared.fault.Fault.{Fault}
 use Rattle.mrt_frame.specs.declared.fault.Fault.TheVariants.{ShortBody, ShortRecord, TrailingBytes, BadFamily, NoPeerIndex, BadPeerIndex, BadPrefix, BadMarker, BadLength, BadAttribute}
 use Rattle.mrt_frame.specs.Cuts.{cuts, cuts_within}
+use Rattle.bgp_update.specs.Families.{ipv4}
 use Rattle.bgp_update.specs.declared.width.Width.TheVariants.{Four}
 use Rattle.bgp_update.specs.declared.path.SegmentKind.TheVariants.{AsSequence}
 use Rattle.bgp_update.specs.declared.route.Origin.TheVariants.{Igp}
@@ -19,7 +20,7 @@ use Rattle.bgp_update.specs.Updates.{fields_in, said_update, update_in}
 use Rattle.mrt_body.specs.declared.state_rule.StateRule.TheVariants.{Recorded, Established}
 use Rattle.mrt_body.specs.declared.unit.PeerAddr.TheVariants.{V4, V6}
 use Rattle.mrt_body.specs.declared.unit.Payload.TheVariants.{State, Message, Entry}
-use Rattle.mrt_body.specs.declared.unit.Found.{Found}
+use Rattle.mrt_body.specs.Plain.{Found}
 use Rattle.mrt_body.specs.declared.unit.Found.TheVariants as found
 use Rattle.mrt_body.specs.declared.meaning.Event.TheVariants as event
 use Rattle.mrt_body.specs.Indexes.{index_in, index_head_at, peers_in, written_peer_at}
@@ -44,7 +45,7 @@ message_of_announcement = drop 32 announcement
 abbrev everything : UnitSelection
 everything = all_units
 
-found-announcement : found_in everything (announcement ∷ []) ≡ found.Unit (record { place = record { file = 0; offset = 0; entry = None }; time = 1000000; peer = record { asn = 65000; addr = V4 0xC0000201 }; payload = Message message_of_announcement Four false }) ∷ []
+found-announcement : found_in everything (announcement ∷ []) ≡ found.Unit (record { place = record { file = 0; offset = 0; entry = None }; time = 1000000; peer = record { asn = 65000; addr = V4 0xC0000201 }; payload = Message message_of_announcement Four false ipv4 }) ∷ []
 unfolding found_in cuts cuts_within found_at content_of message_unit states_unit session_peer_at session_at states_in index_in index_head_at peers_in written_peer_at rib_in rib_head_at entry_at
 found-announcement = refl
 
@@ -53,8 +54,8 @@ unfolding found_in cuts cuts_within found_at content_of message_unit states_unit
 found-state_change = refl
 
 found-rib : found_in everything ((peer_table ++ rib_record) ∷ [])
-    ≡ found.Unit (record { place = record { file = 0; offset = 56; entry = Some 1 }; time = 3000000; peer = record { asn = 65000; addr = V6 0x20010DB8000000000000000000000001 }; payload = Entry (ten 0) plain_attributes })
-    ∷ found.Unit (record { place = record { file = 0; offset = 56; entry = Some 2 }; time = 3000000; peer = record { asn = 70000; addr = V4 0xC0000202 }; payload = Entry (ten 0) (hex (codes "40010103")) })
+    ≡ found.Unit (record { place = record { file = 0; offset = 56; entry = Some 1 }; time = 3000000; peer = record { asn = 65000; addr = V6 0x20010DB8000000000000000000000001 }; payload = Entry (ten 0) plain_attributes ipv4 })
+    ∷ found.Unit (record { place = record { file = 0; offset = 56; entry = Some 2 }; time = 3000000; peer = record { asn = 70000; addr = V4 0xC0000202 }; payload = Entry (ten 0) (hex (codes "40010103")) ipv4 })
     ∷ []
 unfolding found_in cuts cuts_within found_at content_of message_unit states_unit session_peer_at session_at states_in index_in index_head_at peers_in written_peer_at rib_in rib_head_at entry_at
 found-rib = refl
@@ -107,7 +108,7 @@ abbrev path_record : List ℕ
 path_record = hex (codes "00000003 000D 0008 00000028 00000000 080A 0001 0000 00000001 00000007 0014") ++ plain_attributes
 
 found-path_record : found_in everything ((peer_table ++ path_record) ∷ [])
-    ≡ found.Unit (record { place = record { file = 0; offset = 56; entry = Some 1 }; time = 3000000; peer = record { asn = 65000; addr = V6 0x20010DB8000000000000000000000001 }; payload = Entry (ten 7) plain_attributes }) ∷ []
+    ≡ found.Unit (record { place = record { file = 0; offset = 56; entry = Some 1 }; time = 3000000; peer = record { asn = 65000; addr = V6 0x20010DB8000000000000000000000001 }; payload = Entry (ten 7) plain_attributes ipv4 }) ∷ []
 unfolding found_in cuts cuts_within found_at content_of message_unit states_unit session_peer_at session_at states_in index_in index_head_at peers_in written_peer_at rib_in rib_head_at entry_at
 found-path_record = refl
 
@@ -120,18 +121,18 @@ short_identifier = refl
 abbrev path_announcement : List ℕ
 path_announcement = hex (codes "00000001 0010 0009 00000045") ++ session_four ++ marker_16 ++ hex (codes "0031 02 0000 0014") ++ plain_attributes ++ hex (codes "00000007 080A")
 
-found-path_announcement : found_in everything (path_announcement ∷ []) ≡ found.Unit (record { place = record { file = 0; offset = 0; entry = None }; time = 1000000; peer = record { asn = 65000; addr = V4 0xC0000201 }; payload = Message (drop 32 path_announcement) Four true }) ∷ []
+found-path_announcement : found_in everything (path_announcement ∷ []) ≡ found.Unit (record { place = record { file = 0; offset = 0; entry = None }; time = 1000000; peer = record { asn = 65000; addr = V4 0xC0000201 }; payload = Message (drop 32 path_announcement) Four true ipv4 }) ∷ []
 unfolding found_in cuts cuts_within found_at content_of message_unit states_unit session_peer_at session_at states_in index_in index_head_at peers_in written_peer_at rib_in rib_head_at entry_at
 found-path_announcement = refl
 
-local_aside : aside_of (hex (codes "00000001 0010 000B 00000000") ∷ []) ≡ 1
+local_aside : aside_of ipv4 (hex (codes "00000001 0010 000B 00000000") ∷ []) ≡ 1
 unfolding cuts cuts_within content_of
 local_aside = refl
 
 abbrev aside_record : List ℕ
 aside_record = hex (codes "00000001 000C 0001 00000000")
 
-aside_counted : aside_of ((aside_record ++ announcement) ∷ []) ≡ 1
+aside_counted : aside_of ipv4 ((aside_record ++ announcement) ∷ []) ≡ 1
 unfolding cuts cuts_within content_of
 aside_counted = refl
 
@@ -153,7 +154,7 @@ abbrev of_share : PeerShare → UnitSelection
 of_share share = record all_units { share = Some share }
 
 abbrev second_entry : Found
-second_entry = found.Unit (record { place = record { file = 0; offset = 56; entry = Some 2 }; time = 3000000; peer = record { asn = 70000; addr = V4 0xC0000202 }; payload = Entry (ten 0) (hex (codes "40010103")) })
+second_entry = found.Unit (record { place = record { file = 0; offset = 56; entry = Some 2 }; time = 3000000; peer = record { asn = 70000; addr = V4 0xC0000202 }; payload = Entry (ten 0) (hex (codes "40010103")) ipv4 })
 
 -- an entry keeps its number
 found-peer : found_in (of_peers (record { asn = 70000; addr = None } ∷ [])) ((peer_table ++ rib_record) ∷ []) ≡ second_entry ∷ []
@@ -191,7 +192,7 @@ many_shares = refl
 
 -- ---- events
 
-event-announcement : event_in (Message message_of_announcement Four false) ≡ Ok (event.Change (record {
+event-announcement : event_in (Message message_of_announcement Four false ipv4) ≡ Ok (event.Change (record {
   withdrawn = [];
   announced = ten 0 ∷ [];
   reached = [];
@@ -201,7 +202,7 @@ event-announcement : event_in (Message message_of_announcement Four false) ≡ O
 unfolding event_in message_event_in message_in update_in fields_in said_update route_keys_in keys_in written_key_at attribute_at attributes_in value_fault route_from entry_route route_in items_after reached_keys unreached_keys path_in segment_at segment_field_at
 event-announcement = refl
 
-event-path_announcement : event_in (Message (drop 32 path_announcement) Four true) ≡ Ok (event.Change (record {
+event-path_announcement : event_in (Message (drop 32 path_announcement) Four true ipv4) ≡ Ok (event.Change (record {
   withdrawn = [];
   announced = ten 7 ∷ [];
   reached = [];
@@ -211,25 +212,25 @@ event-path_announcement : event_in (Message (drop 32 path_announcement) Four tru
 unfolding event_in message_event_in message_in update_in fields_in said_update route_keys_in keys_in written_key_at attribute_at attributes_in value_fault route_from entry_route route_in items_after reached_keys unreached_keys path_in segment_at segment_field_at
 event-path_announcement = refl
 
-event-damaged_entry : event_in (Entry (ten 0) (hex (codes "40010103"))) ≡ Err (BadAttribute 1)
+event-damaged_entry : event_in (Entry (ten 0) (hex (codes "40010103")) ipv4) ≡ Err (BadAttribute 1)
 unfolding event_in message_event_in message_in update_in fields_in said_update route_keys_in keys_in written_key_at attribute_at attributes_in value_fault route_from entry_route route_in items_after reached_keys unreached_keys path_in segment_at segment_field_at
 event-damaged_entry = refl
 
 abbrev message_with : List ℕ → List ℕ → List ℕ
 message_with mark front = mark ++ front ++ plain_attributes ++ hex (codes "080A")
 
-event-marker : event_in (Message (message_with (hex (codes "00FFFFFF FFFFFFFF FFFFFFFF FFFFFFFF")) (hex (codes "002D 02 0000 0014"))) Four false) ≡ Err BadMarker
+event-marker : event_in (Message (message_with (hex (codes "00FFFFFF FFFFFFFF FFFFFFFF FFFFFFFF")) (hex (codes "002D 02 0000 0014"))) Four false ipv4) ≡ Err BadMarker
 unfolding event_in message_event_in message_in update_in fields_in said_update route_keys_in keys_in written_key_at attribute_at attributes_in value_fault route_from entry_route route_in items_after reached_keys unreached_keys path_in segment_at segment_field_at
 event-marker = refl
 
-event-length : event_in (Message (message_with marker_16 (hex (codes "002C 02 0000 0014"))) Four false) ≡ Err BadLength
+event-length : event_in (Message (message_with marker_16 (hex (codes "002C 02 0000 0014"))) Four false ipv4) ≡ Err BadLength
 unfolding event_in message_event_in message_in update_in fields_in said_update route_keys_in keys_in written_key_at attribute_at attributes_in value_fault route_from entry_route route_in items_after reached_keys unreached_keys path_in segment_at segment_field_at
 event-length = refl
 
-event-keepalive : event_in (Message (message_with marker_16 (hex (codes "002D 04 0000 0014"))) Four false) ≡ Ok event.Other
+event-keepalive : event_in (Message (message_with marker_16 (hex (codes "002D 04 0000 0014"))) Four false ipv4) ≡ Ok event.Other
 unfolding event_in message_event_in message_in update_in fields_in said_update route_keys_in keys_in written_key_at attribute_at attributes_in value_fault route_from entry_route route_in items_after reached_keys unreached_keys path_in segment_at segment_field_at
 event-keepalive = refl
 
-event-empty : event_in (Message [] Four false) ≡ Err BadLength
+event-empty : event_in (Message [] Four false ipv4) ≡ Err BadLength
 unfolding event_in message_event_in message_in update_in fields_in said_update route_keys_in keys_in written_key_at attribute_at attributes_in value_fault route_from entry_route route_in items_after reached_keys unreached_keys path_in segment_at segment_field_at
 event-empty = refl

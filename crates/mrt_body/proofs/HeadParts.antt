@@ -4,6 +4,7 @@ use Rattle.bgp_prefix.specs.Prefixes.{IpPrefix}
 use Rattle.mrt_frame.specs.declared.fault.Fault.TheVariants.{ShortRecord}
 use Rattle.mrt_frame.specs.Fields.{Reading, ◌>>=◌, byte_at, number_at}
 use Rattle.bgp_update.specs.Keys.{octets_at, prefix_of, prefix_at}
+use Rattle.bgp_update.specs.Families.{FamilyOf}
 use Rattle.mrt_body.specs.RibRecords.{RibHead, RibSummary, rib_head_at, read_head_at}
 
 abbrev as_head : ℕ → ℕ → List ℕ → ℕ × List ℕ → Reading RibHead
@@ -29,14 +30,14 @@ by_octets : (sequence len : ℕ) (r : Reading (List ℕ)) → ((r >>= λ octets.
 by_octets sequence len (Ok octets) = by_count sequence len octets.0 (number_at ShortRecord 2 octets.1)
 by_octets sequence len (Err fault) = refl
 
-by_len : (sequence : ℕ) (r : Reading ℕ) → ((r >>= λ len. octets_at 32 len.0 len.1 >>= λ octets. number_at ShortRecord 2 octets.1 >>= as_head sequence len.0 octets.0) >>= as_summary) ≡ (r >>= λ len. prefix_at 32 len.0 len.1 >>= after_prefix)
-by_len sequence (Ok len) = by_octets sequence len.0 (octets_at 32 len.0 len.1)
-by_len sequence (Err fault) = refl
+by_len : (width sequence : ℕ) (r : Reading ℕ) → ((r >>= λ len. octets_at width len.0 len.1 >>= λ octets. number_at ShortRecord 2 octets.1 >>= as_head sequence len.0 octets.0) >>= as_summary) ≡ (r >>= λ len. prefix_at width len.0 len.1 >>= after_prefix)
+by_len width sequence (Ok len) = by_octets sequence len.0 (octets_at width len.0 len.1)
+by_len width sequence (Err fault) = refl
 
-by_sequence : (r : Reading ℕ) → ((r >>= λ sequence. byte_at ShortRecord sequence.1 >>= λ len. octets_at 32 len.0 len.1 >>= λ octets. number_at ShortRecord 2 octets.1 >>= as_head sequence.0 len.0 octets.0) >>= as_summary) ≡ (r >>= λ sequence. byte_at ShortRecord sequence.1 >>= λ len. prefix_at 32 len.0 len.1 >>= after_prefix)
-by_sequence (Ok sequence) = by_len sequence.0 (byte_at ShortRecord sequence.1)
-by_sequence (Err fault) = refl
+by_sequence : (width : ℕ) (r : Reading ℕ) → ((r >>= λ sequence. byte_at ShortRecord sequence.1 >>= λ len. octets_at width len.0 len.1 >>= λ octets. number_at ShortRecord 2 octets.1 >>= as_head sequence.0 len.0 octets.0) >>= as_summary) ≡ (r >>= λ sequence. byte_at ShortRecord sequence.1 >>= λ len. prefix_at width len.0 len.1 >>= after_prefix)
+by_sequence width (Ok sequence) = by_len width sequence.0 (byte_at ShortRecord sequence.1)
+by_sequence width (Err fault) = refl
 
-pub head_parts : (bytes : List ℕ) → read_head_at bytes ≡ (number_at ShortRecord 4 bytes >>= λ sequence. byte_at ShortRecord sequence.1 >>= λ len. prefix_at 32 len.0 len.1 >>= after_prefix)
+pub head_parts : (family : FamilyOf) (bytes : List ℕ) → read_head_at family bytes ≡ (number_at ShortRecord 4 bytes >>= λ sequence. byte_at ShortRecord sequence.1 >>= λ len. prefix_at family.width len.0 len.1 >>= after_prefix)
 unfolding read_head_at rib_head_at
-head_parts bytes = by_sequence (number_at ShortRecord 4 bytes)
+head_parts family bytes = by_sequence family.width (number_at ShortRecord 4 bytes)

@@ -12,7 +12,7 @@ use Rattle.mrt_frame.specs.declared.fault.Fault.TheVariants.{BadMarker, BadLengt
 use Rattle.mrt_frame.proofs.FieldLaws.{IsBytes, IsBytes-drop, two_bytes}
 use Rattle.mrt_frame.proofs.Items.{ok_is}
 use Rattle.bgp_prefix.specs.Keys.{RouteKey}
-use Rattle.bgp_update.specs.Families.{ipv4}
+use Rattle.bgp_update.specs.Families.{FamilyOf}
 use Rattle.bgp_update.specs.declared.width.Width.{Width}
 use Rattle.bgp_update.specs.declared.width.Width.TheVariants.{Four}
 use Rattle.bgp_update.specs.declared.attr_error.AttrError.{AttrError}
@@ -21,7 +21,7 @@ use Rattle.bgp_update.specs.declared.route.Route.{Route}
 use Rattle.bgp_update.specs.Answers.{Gives}
 use Rattle.bgp_update.specs.Attributes.{ReadsAsRoute}
 use Rattle.bgp_update.specs.Updates.{Update, ReadsAsUpdate}
-use Rattle.mrt_body.specs.declared.meaning.Event.{Event}
+use Rattle.mrt_body.specs.Plain.{Event}
 use Rattle.mrt_body.specs.declared.meaning.Event.TheVariants as event
 use Rattle.mrt_body.specs.Events.{UPDATE, IsMessageEvent, IsEntryEvent, marker, message_bytes, message_in}
 
@@ -91,8 +91,8 @@ same_message bytes kind other body rest read spelled small =
     let same : (kind, body) ≡ (other, rest) = ok_is (kind, body) (other, rest) again in
     (ap (λ (x : ℕ × List ℕ). x.0) same, ap (λ (x : ℕ × List ℕ). x.1) same)
 
-module _ (width : Width) (add_path : Bool) (bytes : List ℕ) where
-  pub no_event : (fault : Fault) → message_in bytes ≡ Err fault → (e : Event) → IsMessageEvent width add_path bytes e → done e ≡ Err fault
+module _ (family : FamilyOf) (width : Width) (add_path : Bool) (bytes : List ℕ) where
+  pub no_event : (fault : Fault) → message_in bytes ≡ Err fault → (e : Event) → IsMessageEvent family width add_path bytes e → done e ≡ Err fault
   no_event fault read (event.Change update) h = absurd (differ (sym (ap message_in h.1 ∙ message_again UPDATE h.0 h.2) ∙ read))
     where
       differ : {x : ℕ × List ℕ} → done x ≡ Err fault → ⊥
@@ -105,33 +105,33 @@ module _ (width : Width) (add_path : Bool) (bytes : List ℕ) where
   no_event fault read (event.Rib key route) h = absurd h
   no_event fault read event.Clear h = absurd h
 
-  pub other_found : (kind : ℕ) (body : List ℕ) → IsBytes bytes → message_in bytes ≡ Ok (kind, body) → kind ≢ UPDATE → IsMessageEvent width add_path bytes event.Other
+  pub other_found : (kind : ℕ) (body : List ℕ) → IsBytes bytes → message_in bytes ≡ Ok (kind, body) → kind ≢ UPDATE → IsMessageEvent family width add_path bytes event.Other
   other_found kind body fine read other = let t = message_takes bytes (kind, body) fine read in (kind, body, other, t.spelled, t.small)
 
-  pub other_only : (kind : ℕ) (body : List ℕ) → message_in bytes ≡ Ok (kind, body) → kind ≢ UPDATE → (e : Event) → IsMessageEvent width add_path bytes e → done e ≡ Ok event.Other
+  pub other_only : (kind : ℕ) (body : List ℕ) → message_in bytes ≡ Ok (kind, body) → kind ≢ UPDATE → (e : Event) → IsMessageEvent family width add_path bytes e → done e ≡ Ok event.Other
   other_only kind body read other (event.Change update) h = absurd (other (same_message bytes kind UPDATE body h.0 read h.1 h.2).0)
   other_only kind body read other event.Other h = refl
   other_only kind body read other (event.State old new rule) h = absurd h
   other_only kind body read other (event.Rib key route) h = absurd h
   other_only kind body read other event.Clear h = absurd h
 
-  pub change_found : (kind : ℕ) (body : List ℕ) (update : Update) → IsBytes bytes → message_in bytes ≡ Ok (kind, body) → kind ≡ UPDATE → ReadsAsUpdate ipv4 width add_path body update → IsMessageEvent width add_path bytes (event.Change update)
+  pub change_found : (kind : ℕ) (body : List ℕ) (update : Update) → IsBytes bytes → message_in bytes ≡ Ok (kind, body) → kind ≡ UPDATE → ReadsAsUpdate family width add_path body update → IsMessageEvent family width add_path bytes (event.Change update)
   change_found kind body update fine read same reads =
       let t = message_takes bytes (kind, body) fine read in
       (body, t.spelled ∙ ap (λ (k : ℕ). message_bytes k body) same, t.small, reads)
 
   -- it is a change, to what the body reads as
-  change_only : (kind : ℕ) (body : List ℕ) → message_in bytes ≡ Ok (kind, body) → kind ≡ UPDATE → (e : Event) → IsMessageEvent width add_path bytes e → (update : Update) × (e ≡ event.Change update) × ReadsAsUpdate ipv4 width add_path body update
+  change_only : (kind : ℕ) (body : List ℕ) → message_in bytes ≡ Ok (kind, body) → kind ≡ UPDATE → (e : Event) → IsMessageEvent family width add_path bytes e → (update : Update) × (e ≡ event.Change update) × ReadsAsUpdate family width add_path body update
   change_only kind body read same (event.Change update) h =
       let m = same_message bytes kind UPDATE body h.0 read h.1 h.2 in
-      (update, refl, subst (λ (b : List ℕ). ReadsAsUpdate ipv4 width add_path b update) (sym m.1) h.3)
+      (update, refl, subst (λ (b : List ℕ). ReadsAsUpdate family width add_path b update) (sym m.1) h.3)
   change_only kind body read same event.Other h = absurd (h.2 (sym (same_message bytes kind h.0 body h.1 read h.3 h.4).0 ∙ same))
   change_only kind body read same (event.State old new rule) h = absurd h
   change_only kind body read same (event.Rib key route) h = absurd h
   change_only kind body read same event.Clear h = absurd h
 
   pub change_given : (kind : ℕ) (body : List ℕ) (r : Result Update AttrError) → message_in bytes ≡ Ok (kind, body) → kind ≡ UPDATE
-      → ((update : Update) → ReadsAsUpdate ipv4 width add_path body update → Gives (λ u. u) r (Ok update)) → (e : Event) → IsMessageEvent width add_path bytes e → Gives (λ u. event.Change u) r (Ok e)
+      → ((update : Update) → ReadsAsUpdate family width add_path body update → Gives (λ u. u) r (Ok update)) → (e : Event) → IsMessageEvent family width add_path bytes e → Gives (λ u. event.Change u) r (Ok e)
   change_given kind body r read same only e h =
       let c = change_only kind body read same e h in
       mapped r c.0 e c.1 (only c.0 c.2)
@@ -143,11 +143,11 @@ module _ (width : Width) (add_path : Bool) (bytes : List ℕ) where
 
 -- ---- the event of an entry
 
-pub entry_given : (key : RouteKey) (attrs : List ℕ) (r : Result Route AttrError) → ((route : Route) → ReadsAsRoute ipv4 Four attrs route → Gives (λ x. x) r (Ok route)) → (e : Event) → IsEntryEvent key attrs e → Gives (λ route. event.Rib key route) r (Ok e)
-entry_given key attrs (Ok route) only (event.Rib other said) h = let same = only said h.1 in let key_is = h.0 in cc
-entry_given key attrs (Err errors.Memory) only (event.Rib other said) h = tt
-entry_given key attrs (Err (errors.Bad fault)) only (event.Rib other said) h = let same = only said h.1 in absurd cc
-entry_given key attrs r only (event.Change update) h = absurd h
-entry_given key attrs r only (event.State old new rule) h = absurd h
-entry_given key attrs r only event.Other h = absurd h
-entry_given key attrs r only event.Clear h = absurd h
+pub entry_given : (family : FamilyOf) (key : RouteKey) (attrs : List ℕ) (r : Result Route AttrError) → ((route : Route) → ReadsAsRoute family Four attrs route → Gives (λ x. x) r (Ok route)) → (e : Event) → IsEntryEvent family key attrs e → Gives (λ route. event.Rib key route) r (Ok e)
+entry_given family key attrs (Ok route) only (event.Rib other said) h = let same = only said h.1 in let key_is = h.0 in cc
+entry_given family key attrs (Err errors.Memory) only (event.Rib other said) h = tt
+entry_given family key attrs (Err (errors.Bad fault)) only (event.Rib other said) h = let same = only said h.1 in absurd cc
+entry_given family key attrs r only (event.Change update) h = absurd h
+entry_given family key attrs r only (event.State old new rule) h = absurd h
+entry_given family key attrs r only event.Other h = absurd h
+entry_given family key attrs r only event.Clear h = absurd h

@@ -1,5 +1,5 @@
 -- Prefixes in order: a search finds what is named, what covers and what is covered.
-use Rattle.std.proofs.Common.{◌≡◌, ℕ, ◌+◌, ◌-◌, ◌<◌, ◌≤◌, Bool, true, false, cond, ◌&&◌, ◌||◌, List, [], ◌∷◌, ◌++◌, length, take, map, get_or, Result, Ok, Err, refl, sym, ap, subst, ◌∙◌, arith, inl, inr}
+use Rattle.std.proofs.Common.{append-nil, ◌≡◌, ℕ, ◌+◌, ◌-◌, ◌<◌, ◌≤◌, Bool, true, false, cond, ◌&&◌, ◌||◌, List, [], ◌∷◌, ◌++◌, length, take, map, get_or, Result, Ok, Err, refl, sym, ap, subst, ◌∙◌, arith, inl, inr}
 use Rattle.std.specs.Prelude.{is_ok}
 use Rattle.std.specs.List.{HoldsAt, filter, list_any}
 use Rattle.std.specs.List.Sorted.{IsPermutation, IsPartitionPoint, IsSearchInRange, IsBinarySearchResult}
@@ -8,8 +8,8 @@ use Rattle.std.specs.Ordering.{nat_cmp, is_lt, ordering_then, ordering_reverse}
 use Rattle.std.proofs.lemmas.Bool.{cases_lt, lt-ltb, leb-true, le-leb, eqb-true, eq-eqb, and_parts, and_from}
 use Rattle.std.proofs.lemmas.Cmp.{tied_itself, nat_cmp_total}
 use Rattle.std.proofs.lemmas.Nat.{le-div, pow_pos}
-use Rattle.std.proofs.lemmas.List.{get_or_append_left, get_or_default, get_or_push, take_all, length-append}
-use Rattle.std.proofs.lemmas.List.Elements.{All-nil, All-push}
+use Rattle.std.proofs.lemmas.List.{get_or_append_left, get_or_default, get_or_push, set-get_or, take_all, take_more_set, map-append, length-append}
+use Rattle.std.proofs.lemmas.List.Elements.{All-nil, All-push, filter-append}
 use Rattle.std.proofs.lemmas.List.Folds.{list_any-append, list_any_none, list_any_at, list_any_more}
 use Rattle.std.proofs.lemmas.List.Kept.{IsSortedBy-push}
 use Rattle.std.proofs.lemmas.List.Sorted.{ranks_by, sorted_far, searchable_from_sorted, list_any-IsPermutation}
@@ -20,7 +20,7 @@ use Rattle.bgp_prefix.proofs.KeyLaws.{prefix_cmp_total, prefix_cmp_exact}
 use Rattle.bgp_prefix.proofs.OrderLaws.{network_below}
 use Rattle.mrt_body.specs.declared.choice.Reach.{Reach}
 use Rattle.mrt_body.specs.declared.choice.Reach.TheVariants.{Exact, Inside, Around}
-use Rattle.mrt_body.specs.declared.choice.PrefixChoice.{PrefixChoice}
+use Rattle.mrt_body.specs.Plain.{PrefixChoice}
 use Rattle.mrt_body.specs.Choices.{stands_by, takes_prefix}
 use Rattle.mrt_body.specs.Named.{same_reach, named_as, is_named, is_inside, is_around, InOrder, AreApart, StandFor}
 
@@ -296,6 +296,19 @@ module _ (names : List IpPrefix) where
   keeps_all n kept keeps end p = keeps.same p ∙ ap (λ (l : List IpPrefix). is_inside l p) (take_all n names end)
 
 -- ---- by reach
+
+abbrev has_reach : Reach → PrefixChoice → Bool
+has_reach reach c = same_reach c.reach reach
+
+-- one more choice, of this reach or of another one
+pub named_next : (reach : Reach) (choices : List PrefixChoice) (n : ℕ) (x : PrefixChoice) → n < length choices → ((d : PrefixChoice) → x ≡ get_or choices n d) → named_as reach (take (n + 1) choices) ≡ cond (same_reach x.reach reach) (named_as reach (take n choices) ++ x.prefix ∷ []) (named_as reach (take n choices))
+named_next reach choices n x more read =
+    let parts : take (n + 1) choices ≡ take n choices ++ x ∷ [] = ap (take (n + 1)) (sym (set-get_or choices n x)) ∙ take_more_set choices n (get_or choices n x) more ∙ ap (λ (y : PrefixChoice). take n choices ++ y ∷ []) (sym (read x)) in
+    ap (named_as reach) parts ∙ ap (map (λ (c : PrefixChoice). c.prefix)) (filter-append (has_reach reach) (take n choices) (x ∷ [])) ∙ one (has_reach reach x)
+  where
+    one : (b : Bool) → map (λ (c : PrefixChoice). c.prefix) (filter (has_reach reach) (take n choices) ++ cond b (x ∷ []) []) ≡ cond b (map (λ (c : PrefixChoice). c.prefix) (filter (has_reach reach) (take n choices)) ++ x.prefix ∷ []) (map (λ (c : PrefixChoice). c.prefix) (filter (has_reach reach) (take n choices)))
+    one true = map-append (λ (c : PrefixChoice). c.prefix) (filter (has_reach reach) (take n choices)) (x ∷ [])
+    one false = ap (map (λ (c : PrefixChoice). c.prefix)) (append-nil (filter (has_reach reach) (take n choices)))
 
 reach_parts : (test : IpPrefix → Bool) (b : Bool) (choice : PrefixChoice) (choices : List PrefixChoice) → list_any test (map (λ c. c.prefix) (cond b (choice ∷ choices) choices)) ≡ ((b && test choice.prefix) || list_any test (map (λ c. c.prefix) choices))
 reach_parts test true choice choices = refl

@@ -1,14 +1,14 @@
 -- Where no prefix is named each payload concerns a chosen one.
 use Rattle.std.proofs.Common.{◌≡◌, true, List, [], ◌∷◌, refl}
-use Rattle.mrt_body.specs.declared.choice.PrefixChoice.{PrefixChoice}
-use Rattle.mrt_body.specs.declared.unit.Payload.{Payload}
+use Rattle.mrt_body.specs.Plain.{PrefixChoice}
+use Rattle.mrt_body.specs.Plain.{Payload}
 use Rattle.mrt_body.specs.declared.unit.Payload.TheVariants.{State, Message, Entry, Clear}
 use Rattle.mrt_body.specs.Choices.{is_open}
 use Rattle.mrt_body.specs.Selections.{concerns}
 
 pub open_concerns : (choices : List PrefixChoice) (payload : Payload) → is_open choices ≡ true → concerns choices payload ≡ true
 open_concerns [] (State from to rule) h = refl
-open_concerns [] (Message bytes width add_path) h = refl
-open_concerns [] (Entry key attrs) h = refl
+open_concerns [] (Message bytes width add_path family) h = refl
+open_concerns [] (Entry key attrs family) h = refl
 open_concerns [] Clear h = refl
 open_concerns (choice ∷ choices) payload h = absurd cc

@@ -5,12 +5,13 @@ use Rattle.mrt_frame.specs.declared.fault.Fault.TheVariants.{ShortRecord, Traili
 use Rattle.mrt_frame.specs.Fields.{◌>>=◌}
 use Rattle.mrt_frame.proofs.FieldLaws.{IsBytes}
 use Rattle.bgp_update.specs.declared.width.Width.{Width}
+use Rattle.bgp_update.specs.Families.{FamilyOf}
 use Rattle.mrt_body.specs.declared.at.RecordAt.{RecordAt}
 use Rattle.mrt_body.specs.declared.content.Content.{Content}
 use Rattle.mrt_body.specs.declared.content.Content.TheVariants as content
 use Rattle.mrt_body.specs.declared.state_rule.StateRule.{StateRule}
 use Rattle.mrt_body.specs.declared.unit.PeerKey.{PeerKey}
-use Rattle.mrt_body.specs.declared.unit.Unit.{Unit as ReplayUnit}
+use Rattle.mrt_body.specs.Plain.{Unit as ReplayUnit}
 use Rattle.mrt_body.specs.Indexes.{index_bytes, peers_of, peers_in}
 use Rattle.mrt_body.specs.RibRecords.{RibForm, rib_bytes, rib_in}
 use Rattle.mrt_body.specs.Units.{alone, units_in, rib_units, message_unit, states_unit}
@@ -28,10 +29,10 @@ alone_err : (r : Result ReplayUnit Fault) (fault : Fault) → alone r ≡ Err fa
 alone_err (Ok unit) fault e = absurd cc
 alone_err (Err other) fault e = cc
 
-module _ (rule : StateRule) (at : RecordAt) (extended : Bool) where
+module _ (family : FamilyOf) (rule : StateRule) (at : RecordAt) (extended : Bool) where
   -- ---- what is refused has a fault, or a field that runs past it
 
-  index_fault : (index : Option (List PeerKey)) (body : List ℕ) (fault : Fault) → ((fault ≡ TrailingBytes) × IndexAndMore body) ⊎ (fault ≡ ShortRecord) → HasFault rule at extended index content.IndexTable body fault ⊎ (fault ≡ ShortRecord)
+  index_fault : (index : Option (List PeerKey)) (body : List ℕ) (fault : Fault) → ((fault ≡ TrailingBytes) × IndexAndMore body) ⊎ (fault ≡ ShortRecord) → HasFault family rule at extended index content.IndexTable body fault ⊎ (fault ≡ ShortRecord)
   index_fault index body fault (inr short) = inr short
   index_fault index body fault (inl h) = inl (
     h.0,
@@ -45,14 +46,14 @@ module _ (rule : StateRule) (at : RecordAt) (extended : Bool) where
     },
   )
 
-  index_refused : (index : Option (List PeerKey)) (body : List ℕ) (fault : Fault) → IsBytes body → units_in rule at extended index content.IndexTable body ≡ Err fault → HasFault rule at extended index content.IndexTable body fault ⊎ (fault ≡ ShortRecord)
+  index_refused : (index : Option (List PeerKey)) (body : List ℕ) (fault : Fault) → IsBytes body → units_in family rule at extended index content.IndexTable body ≡ Err fault → HasFault family rule at extended index content.IndexTable body fault ⊎ (fault ≡ ShortRecord)
   index_refused index body fault fine e = by_peers (peers_in body) refl e
     where
-      by_peers : (r : Result (List PeerKey) Fault) → peers_in body ≡ r → ◌>>=◌ {B = Units} r (λ peers. Ok []) ≡ Err fault → HasFault rule at extended index content.IndexTable body fault ⊎ (fault ≡ ShortRecord)
+      by_peers : (r : Result (List PeerKey) Fault) → peers_in body ≡ r → ◌>>=◌ {B = Units} r (λ peers. Ok []) ≡ Err fault → HasFault family rule at extended index content.IndexTable body fault ⊎ (fault ≡ ShortRecord)
       by_peers (Ok peers) is h = absurd cc
       by_peers (Err other) is h = let same : other ≡ fault = cc in index_fault index body fault (peers_refused body fault fine (is ∙ ap (λ (f : Fault). Err f) same))
 
-  rib_fault : (add_path : Bool) (peers : List PeerKey) (body : List ℕ) (fault : Fault) → RibFault add_path (length peers) body fault ⊎ (fault ≡ ShortRecord) → HasRibFault rule at extended add_path (Some peers) body fault ⊎ (fault ≡ ShortRecord)
+  rib_fault : (add_path : Bool) (peers : List PeerKey) (body : List ℕ) (fault : Fault) → RibFault family add_path (length peers) body fault ⊎ (fault ≡ ShortRecord) → HasRibFault family rule at extended add_path (Some peers) body fault ⊎ (fault ≡ ShortRecord)
   rib_fault add_path peers body fault (inr short) = inr short
   rib_fault add_path peers body fault (inl (inl h)) = inl (inl h)
   rib_fault add_path peers body fault (inl (inr (inl h))) = inl (inr (inl h))
@@ -61,22 +62,22 @@ module _ (rule : StateRule) (at : RecordAt) (extended : Bool) where
     record {
       front = rib_bytes add_path h.1.form;
       more = h.1.more;
-      units = rib_units at (Some peers) h.1.form;
+      units = rib_units family at (Some peers) h.1.form;
       parts = h.1.parts;
       some = h.1.some;
       agrees = record { form = h.1.form; fits = h.1.fits; spelled = refl; said = refl };
     },
   )))
 
-  rib_is_refused : (add_path : Bool) (index : Option (List PeerKey)) (body : List ℕ) (fault : Fault) → IsBytes body → units_in rule at extended index (content.Rib add_path) body ≡ Err fault → HasRibFault rule at extended add_path index body fault ⊎ (fault ≡ ShortRecord)
+  rib_is_refused : (add_path : Bool) (index : Option (List PeerKey)) (body : List ℕ) (fault : Fault) → IsBytes body → units_in family rule at extended index (content.Rib add_path) body ≡ Err fault → HasRibFault family rule at extended add_path index body fault ⊎ (fault ≡ ShortRecord)
   rib_is_refused add_path None body fault fine e = inl cc
-  rib_is_refused add_path (Some peers) body fault fine e = by_form (rib_in add_path (length peers) body) refl e
+  rib_is_refused add_path (Some peers) body fault fine e = by_form (rib_in family add_path (length peers) body) refl e
     where
-      by_form : (r : Result RibForm Fault) → rib_in add_path (length peers) body ≡ r → ◌>>=◌ {B = Units} r (λ form. Ok (rib_units at (Some peers) form)) ≡ Err fault → HasRibFault rule at extended add_path (Some peers) body fault ⊎ (fault ≡ ShortRecord)
+      by_form : (r : Result RibForm Fault) → rib_in family add_path (length peers) body ≡ r → ◌>>=◌ {B = Units} r (λ form. Ok (rib_units family at (Some peers) form)) ≡ Err fault → HasRibFault family rule at extended add_path (Some peers) body fault ⊎ (fault ≡ ShortRecord)
       by_form (Ok form) is h = absurd cc
-      by_form (Err other) is h = let same : other ≡ fault = cc in rib_fault add_path peers body fault (rib_refused add_path (length peers) body fault fine (is ∙ ap (λ (f : Fault). Err f) same))
+      by_form (Err other) is h = let same : other ≡ fault = cc in rib_fault add_path peers body fault (rib_refused family add_path (length peers) body fault fine (is ∙ ap (λ (f : Fault). Err f) same))
 
-  states_fault : (index : Option (List PeerKey)) (width : Width) (body : List ℕ) (fault : Fault) → ChangeFault rule at extended width body fault ⊎ (fault ≡ ShortRecord) → HasFault rule at extended index (content.States width) body fault ⊎ (fault ≡ ShortRecord)
+  states_fault : (index : Option (List PeerKey)) (width : Width) (body : List ℕ) (fault : Fault) → ChangeFault rule at extended width body fault ⊎ (fault ≡ ShortRecord) → HasFault family rule at extended index (content.States width) body fault ⊎ (fault ≡ ShortRecord)
   states_fault index width body fault (inr short) = inr short
   states_fault index width body fault (inl (inl h)) = inl (inl h)
   states_fault index width body fault (inl (inr h)) = inl (inr (
@@ -91,39 +92,39 @@ module _ (rule : StateRule) (at : RecordAt) (extended : Bool) where
     },
   ))
 
-  refused : (index : Option (List PeerKey)) (c : Content) (body : List ℕ) (fault : Fault) → IsBytes body → units_in rule at extended index c body ≡ Err fault → HasFault rule at extended index c body fault ⊎ (fault ≡ ShortRecord)
+  refused : (index : Option (List PeerKey)) (c : Content) (body : List ℕ) (fault : Fault) → IsBytes body → units_in family rule at extended index c body ≡ Err fault → HasFault family rule at extended index c body fault ⊎ (fault ≡ ShortRecord)
   refused index content.IndexTable body fault fine e = index_refused index body fault fine e
   refused index (content.Rib add_path) body fault fine e = rib_is_refused add_path index body fault fine e
-  refused index (content.Message width add_path) body fault fine e = message_refused at extended width add_path body fault fine (alone_err (message_unit at extended width add_path body) fault e)
+  refused index (content.Message width add_path) body fault fine e = message_refused family at extended width add_path body fault fine (alone_err (message_unit family at extended width add_path body) fault e)
   refused index (content.States width) body fault fine e = states_fault index width body fault (change_refused rule at extended width body fault fine (alone_err (states_unit rule at extended width body) fault e))
   refused index content.Aside body fault fine e = absurd cc
 
   -- ---- what has a fault is refused for it
 
-  rib_has_fault : (add_path : Bool) (index : Option (List PeerKey)) (body : List ℕ) (fault : Fault) → HasRibFault rule at extended add_path index body fault → units_in rule at extended index (content.Rib add_path) body ≡ Err fault
+  rib_has_fault : (add_path : Bool) (index : Option (List PeerKey)) (body : List ℕ) (fault : Fault) → HasRibFault family rule at extended add_path index body fault → units_in family rule at extended index (content.Rib add_path) body ≡ Err fault
   rib_has_fault add_path None body fault h = ap (λ (f : Fault). Err f) (sym h)
-  rib_has_fault add_path (Some peers) body fault (inl h) = rw (bad_prefix_refused add_path (length peers) body h.1) (ap (λ (f : Fault). Err f) (sym h.0))
-  rib_has_fault add_path (Some peers) body fault (inr (inl h)) = rw (unknown_peer_refused add_path (length peers) body h.1) (ap (λ (f : Fault). Err f) (sym h.0))
+  rib_has_fault add_path (Some peers) body fault (inl h) = rw (bad_prefix_refused family add_path (length peers) body h.1) (ap (λ (f : Fault). Err f) (sym h.0))
+  rib_has_fault add_path (Some peers) body fault (inr (inl h)) = rw (unknown_peer_refused family add_path (length peers) body h.1) (ap (λ (f : Fault). Err f) (sym h.0))
   rib_has_fault add_path (Some peers) body fault (inr (inr h)) =
       let m = h.1 in
-      let front : IsRibBody at add_path peers m.front m.units = m.agrees in
-      let read : rib_in add_path (length peers) body ≡ Err TrailingBytes = ap (rib_in add_path (length peers)) (m.parts ∙ ap (λ (l : List ℕ). l ++ m.more) front.spelled) ∙ rib_goes_on add_path (length peers) front.form m.more front.fits m.some in
+      let front : IsRibBody family at add_path peers m.front m.units = m.agrees in
+      let read : rib_in family add_path (length peers) body ≡ Err TrailingBytes = ap (rib_in family add_path (length peers)) (m.parts ∙ ap (λ (l : List ℕ). l ++ m.more) front.spelled) ∙ rib_goes_on family add_path (length peers) front.form m.more front.fits m.some in
       rw read (ap (λ (f : Fault). Err f) (sym h.0))
 
-  has_fault : (index : Option (List PeerKey)) (c : Content) (body : List ℕ) (fault : Fault) → HasFault rule at extended index c body fault → units_in rule at extended index c body ≡ Err fault
+  has_fault : (index : Option (List PeerKey)) (c : Content) (body : List ℕ) (fault : Fault) → HasFault family rule at extended index c body fault → units_in family rule at extended index c body ≡ Err fault
   has_fault index content.IndexTable body fault h =
       let m = h.1 in
       let read : peers_in body ≡ Err TrailingBytes = ap peers_in m.parts ∙ peers_go_on m.front m.more m.agrees.0.0 m.agrees.0.1 m.some in
       rw read (ap (λ (f : Fault). Err f) (sym h.0))
   has_fault index (content.Rib add_path) body fault h = rib_has_fault add_path index body fault h
-  has_fault index (content.Message width add_path) body fault h = rw (message_other at extended width add_path body h.1) (ap (λ (f : Fault). Err f) (sym h.0))
+  has_fault index (content.Message width add_path) body fault h = rw (message_other family at extended width add_path body h.1) (ap (λ (f : Fault). Err f) (sym h.0))
   has_fault index (content.States width) body fault (inl h) = rw (change_other rule at extended width body h.1) (ap (λ (f : Fault). Err f) (sym h.0))
   has_fault index (content.States width) body fault (inr h) =
       let m = h.1 in
       rw (change_goes_on rule at extended width body m.front m.more m.agrees.0 m.parts m.some m.agrees.1) (ap (λ (f : Fault). Err f) (sym h.0))
   has_fault index content.Aside body fault h = absurd h
 
-  rib_not_short : (add_path : Bool) (index : Option (List PeerKey)) (body : List ℕ) → HasRibFault rule at extended add_path index body ShortRecord → ⊥
+  rib_not_short : (add_path : Bool) (index : Option (List PeerKey)) (body : List ℕ) → HasRibFault family rule at extended add_path index body ShortRecord → ⊥
   rib_not_short add_path None body h = differs h
     where
       differs : ShortRecord ≡ NoPeerIndex → ⊥
@@ -132,7 +133,7 @@ module _ (rule : StateRule) (at : RecordAt) (extended : Bool) where
   rib_not_short add_path (Some peers) body (inr (inl h)) = let e : ShortRecord ≡ BadPeerIndex = h.0 in cc
   rib_not_short add_path (Some peers) body (inr (inr h)) = let e : ShortRecord ≡ TrailingBytes = h.0 in cc
 
-  not_short : (index : Option (List PeerKey)) (c : Content) (body : List ℕ) → HasFault rule at extended index c body ShortRecord → ⊥
+  not_short : (index : Option (List PeerKey)) (c : Content) (body : List ℕ) → HasFault family rule at extended index c body ShortRecord → ⊥
   not_short index content.IndexTable body h = let e : ShortRecord ≡ TrailingBytes = h.0 in cc
   not_short index (content.Rib add_path) body h = rib_not_short add_path index body h
   not_short index (content.Message width add_path) body h = let e : ShortRecord ≡ BadFamily = h.0 in cc
@@ -151,25 +152,25 @@ module _ (rule : StateRule) (at : RecordAt) (extended : Bool) where
   same_fault a b (Err fault) e h = cc
 
   module _ (index : Option (List PeerKey)) (c : Content) (body : List ℕ) (fault : Fault) where
-    pub is_refused : IsBytes body → units_in rule at extended index c body ≡ Err fault → IsRefused rule at extended index c body fault
+    pub is_refused : IsBytes body → units_in family rule at extended index c body ≡ Err fault → IsRefused family rule at extended index c body fault
     is_refused fine e = by_fault (refused index c body fault fine e)
       where
-        by_fault : HasFault rule at extended index c body fault ⊎ (fault ≡ ShortRecord) → IsRefused rule at extended index c body fault
+        by_fault : HasFault family rule at extended index c body fault ⊎ (fault ≡ ShortRecord) → IsRefused family rule at extended index c body fault
         by_fault (inl h) = inl h
         by_fault (inr short) = inr (
           short,
-          λ units a. not_both units fault (units_in rule at extended index c body) (is_read rule at extended index c body units a) e,
-          λ other h. not_short index c body (subst (HasFault rule at extended index c body) (same_fault other fault (units_in rule at extended index c body) (has_fault index c body other h) e ∙ short) h),
+          λ units a. not_both units fault (units_in family rule at extended index c body) (is_read family rule at extended index c body units a) e,
+          λ other h. not_short index c body (subst (HasFault family rule at extended index c body) (same_fault other fault (units_in family rule at extended index c body) (has_fault index c body other h) e ∙ short) h),
         )
 
-    pub refusal : IsBytes body → IsRefused rule at extended index c body fault → units_in rule at extended index c body ≡ Err fault
+    pub refusal : IsBytes body → IsRefused family rule at extended index c body fault → units_in family rule at extended index c body ≡ Err fault
     refusal fine (inl h) = has_fault index c body fault h
-    refusal fine (inr h) = by_units (units_in rule at extended index c body) refl
+    refusal fine (inr h) = by_units (units_in family rule at extended index c body) refl
       where
-        by_fault : (other : Fault) → units_in rule at extended index c body ≡ Err other → HasFault rule at extended index c body other ⊎ (other ≡ ShortRecord) → units_in rule at extended index c body ≡ Err fault
+        by_fault : (other : Fault) → units_in family rule at extended index c body ≡ Err other → HasFault family rule at extended index c body other ⊎ (other ≡ ShortRecord) → units_in family rule at extended index c body ≡ Err fault
         by_fault other is (inl f) = absurd (h.2 other f)
         by_fault other is (inr short) = is ∙ ap (λ (f : Fault). Err f) (short ∙ sym h.0)
 
-        by_units : (r : Result Units Fault) → units_in rule at extended index c body ≡ r → units_in rule at extended index c body ≡ Err fault
-        by_units (Ok units) is = absurd (h.1 units (agrees rule at extended index c body units fine is))
+        by_units : (r : Result Units Fault) → units_in family rule at extended index c body ≡ r → units_in family rule at extended index c body ≡ Err fault
+        by_units (Ok units) is = absurd (h.1 units (agrees family rule at extended index c body units fine is))
         by_units (Err other) is = by_fault other is (refused index c body other fine is)

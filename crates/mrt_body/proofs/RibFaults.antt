@@ -9,6 +9,7 @@ use Rattle.mrt_frame.specs.declared.fault.Fault.TheVariants.{ShortRecord, Traili
 use Rattle.mrt_frame.specs.Fields.{Reading, ◌>>=◌, byte_at, number_at, bytes_at}
 use Rattle.mrt_frame.proofs.FieldLaws.{IsBytes, byte_at-takes, byte_at-again, number_takes, number_at-again}
 use Rattle.bgp_update.specs.Keys.{octets_at}
+use Rattle.bgp_update.specs.Families.{FamilyOf}
 use Rattle.mrt_body.specs.Many.{many}
 use Rattle.mrt_body.specs.RibRecords.{WrittenEntry, entry_bytes, FitsEntry, RibForm, rib_bytes, FitsRib, peer_index_at, identifier_at, entry_at, RibHead, rib_head_at, rib_in}
 use Rattle.mrt_body.specs.Refusals.{HasBadPrefix, HasUnknownPeer}
@@ -72,17 +73,17 @@ entry_unknown add_path peers peer rest fits unknown = rw (number_at-again ShortR
 abbrev octets_of : ℕ → List ℕ → Reading (List ℕ)
 octets_of len rest = Ok (take (div_ceil len 8) rest, drop (div_ceil len 8) rest)
 
-octets_refused : (len : ℕ) (rest : List ℕ) (fault : Fault) → octets_at 32 len rest ≡ Err fault → (fault ≡ BadPrefix) × ((32 < len) ⊎ (length rest < div_ceil len 8))
-octets_refused len rest fault e = tested (ltb 32 len) (ltb (length rest) (div_ceil len 8)) (λ h. ltb-true _ _ h) (λ h. ltb-true _ _ h) e
+octets_refused : (width len : ℕ) (rest : List ℕ) (fault : Fault) → octets_at width len rest ≡ Err fault → (fault ≡ BadPrefix) × ((width < len) ⊎ (length rest < div_ceil len 8))
+octets_refused width len rest fault e = tested (ltb width len) (ltb (length rest) (div_ceil len 8)) (λ h. ltb-true _ _ h) (λ h. ltb-true _ _ h) e
   where
-    tested : (a b : Bool) → (a ≡ true → 32 < len) → (b ≡ true → length rest < div_ceil len 8) → cond (a || b) (Err BadPrefix) (octets_of len rest) ≡ Err fault → (fault ≡ BadPrefix) × ((32 < len) ⊎ (length rest < div_ceil len 8))
+    tested : (a b : Bool) → (a ≡ true → width < len) → (b ≡ true → length rest < div_ceil len 8) → cond (a || b) (Err BadPrefix) (octets_of len rest) ≡ Err fault → (fault ≡ BadPrefix) × ((width < len) ⊎ (length rest < div_ceil len 8))
     tested true b long few h = (cc, inl (long refl))
     tested false true long few h = (cc, inr (few refl))
     tested false false long few h = absurd cc
 
-octets_bad : (len : ℕ) (rest : List ℕ) → (32 < len) ⊎ (length rest < div_ceil len 8) → octets_at 32 len rest ≡ Err BadPrefix
-octets_bad len rest (inl long) = rw (lt-ltb 32 len long) refl
-octets_bad len rest (inr few) = rw (lt-ltb (length rest) (div_ceil len 8) few) (either (ltb 32 len))
+octets_bad : (width len : ℕ) (rest : List ℕ) → (width < len) ⊎ (length rest < div_ceil len 8) → octets_at width len rest ≡ Err BadPrefix
+octets_bad width len rest (inl long) = rw (lt-ltb width len long) refl
+octets_bad width len rest (inr few) = rw (lt-ltb (length rest) (div_ceil len 8) few) (either (ltb width len))
   where
     either : (a : Bool) → cond (a || true) (Err BadPrefix) (octets_of len rest) ≡ Err BadPrefix
     either true = refl
@@ -91,41 +92,41 @@ octets_bad len rest (inr few) = rw (lt-ltb (length rest) (div_ceil len 8) few) (
 abbrev as_head : ℕ → ℕ → List ℕ → ℕ × List ℕ → Reading RibHead
 as_head sequence len octets count = Ok (head_with sequence len octets count.0, count.1)
 
-head_refused : (body : List ℕ) (fault : Fault) → IsBytes body → rib_head_at body ≡ Err fault → ((fault ≡ BadPrefix) × HasBadPrefix body) ⊎ (fault ≡ ShortRecord)
+head_refused : (family : FamilyOf) (body : List ℕ) (fault : Fault) → IsBytes body → rib_head_at family body ≡ Err fault → ((fault ≡ BadPrefix) × HasBadPrefix family body) ⊎ (fault ≡ ShortRecord)
 unfolding rib_head_at
-head_refused body fault fine e =
-    then_short (number_at ShortRecord 4 body) (λ sequence. byte_at ShortRecord sequence.1 >>= λ len. octets_at 32 len.0 len.1 >>= λ octets. number_at ShortRecord 2 octets.1 >>= λ count. Ok (head_with sequence.0 len.0 octets.0 count.0, count.1)) fault (number_short 4 body) (λ s s_is se.
-    then_short (byte_at ShortRecord s.1) (λ len. octets_at 32 len.0 len.1 >>= λ octets. number_at ShortRecord 2 octets.1 >>= λ count. Ok (head_with s.0 len.0 octets.0 count.0, count.1)) fault (byte_short s.1) (λ l l_is le.
-    by_octets s l s_is l_is (bind_err (octets_at 32 l.0 l.1) (λ octets. number_at ShortRecord 2 octets.1 >>= λ count. Ok (head_with s.0 l.0 octets.0 count.0, count.1)) fault le)) se) e
+head_refused family body fault fine e =
+    then_short (number_at ShortRecord 4 body) (λ sequence. byte_at ShortRecord sequence.1 >>= λ len. octets_at family.width len.0 len.1 >>= λ octets. number_at ShortRecord 2 octets.1 >>= λ count. Ok (head_with sequence.0 len.0 octets.0 count.0, count.1)) fault (number_short 4 body) (λ s s_is se.
+    then_short (byte_at ShortRecord s.1) (λ len. octets_at family.width len.0 len.1 >>= λ octets. number_at ShortRecord 2 octets.1 >>= λ count. Ok (head_with s.0 len.0 octets.0 count.0, count.1)) fault (byte_short s.1) (λ l l_is le.
+    by_octets s l s_is l_is (bind_err (octets_at family.width l.0 l.1) (λ octets. number_at ShortRecord 2 octets.1 >>= λ count. Ok (head_with s.0 l.0 octets.0 count.0, count.1)) fault le)) se) e
   where
     by_octets : (s l : ℕ × List ℕ) → number_at ShortRecord 4 body ≡ Ok s → byte_at ShortRecord s.1 ≡ Ok l
-        → (octets_at 32 l.0 l.1 ≡ Err fault) ⊎ ((o : List ℕ × List ℕ) × (octets_at 32 l.0 l.1 ≡ Ok o) × ((number_at ShortRecord 2 o.1 >>= as_head s.0 l.0 o.0) ≡ Err fault))
-        → ((fault ≡ BadPrefix) × HasBadPrefix body) ⊎ (fault ≡ ShortRecord)
+        → (octets_at family.width l.0 l.1 ≡ Err fault) ⊎ ((o : List ℕ × List ℕ) × (octets_at family.width l.0 l.1 ≡ Ok o) × ((number_at ShortRecord 2 o.1 >>= as_head s.0 l.0 o.0) ≡ Err fault))
+        → ((fault ≡ BadPrefix) × HasBadPrefix family body) ⊎ (fault ≡ ShortRecord)
     by_octets s l s_is l_is (inl h) =
         let ts = number_takes ShortRecord 4 body s fine s_is in
         let tl = byte_at-takes ShortRecord s.1 l l_is in
-        let o = octets_refused l.0 l.1 fault h in
+        let o = octets_refused family.width l.0 l.1 fault h in
         inl (o.0, record { sequence = s.0; len = l.0; rest = l.1; fits_sequence = ts.below; bad = o.1; spelled = ts.parts ∙ ap (λ (t : List ℕ). big_bytes 4 s.0 ++ t) tl.0 })
     by_octets s l s_is l_is (inr h) =
         then_short (number_at ShortRecord 2 h.0.1) (λ count. Ok (head_with s.0 l.0 h.0.0 count.0, count.1)) fault (number_short 2 h.0.1) (λ n n_is ne. ok_never (head_with s.0 l.0 h.0.0 n.0, n.1) fault ne) h.2
 
-head_bad : (sequence len : ℕ) (rest : List ℕ) → sequence < 256 ^ 4 → (32 < len) ⊎ (length rest < div_ceil len 8) → rib_head_at (big_bytes 4 sequence ++ (len ∷ rest)) ≡ Err BadPrefix
+head_bad : (family : FamilyOf) (sequence len : ℕ) (rest : List ℕ) → sequence < 256 ^ 4 → (family.width < len) ⊎ (length rest < div_ceil len 8) → rib_head_at family (big_bytes 4 sequence ++ (len ∷ rest)) ≡ Err BadPrefix
 unfolding rib_head_at
-head_bad sequence len rest fits bad = rw (number_at-again ShortRecord 4 sequence (len ∷ rest) fits, byte_at-again ShortRecord len rest, octets_bad len rest bad) refl
+head_bad family sequence len rest fits bad = rw (number_at-again ShortRecord 4 sequence (len ∷ rest) fits, byte_at-again ShortRecord len rest, octets_bad family.width len rest bad) refl
 
 -- ---- the record
 
 -- a RIB record, and then more bytes
-pub record RibAndMore (add_path : Bool) (peers : ℕ) (body : List ℕ) : Type 0 where
+pub record RibAndMore (family : FamilyOf) (add_path : Bool) (peers : ℕ) (body : List ℕ) : Type 0 where
   pub form : RibForm
   pub more : List ℕ
-  pub fits : FitsRib add_path peers form
+  pub fits : FitsRib family add_path peers form
   pub parts : body ≡ rib_bytes add_path form ++ more
   pub some : 0 < length more
 
 -- its faults other than a field that runs past it
-abbrev pub RibFault : Bool → ℕ → List ℕ → Fault → Type 0
-RibFault add_path peers body fault = ((fault ≡ BadPrefix) × HasBadPrefix body) ⊎ (((fault ≡ BadPeerIndex) × HasUnknownPeer add_path peers body) ⊎ ((fault ≡ TrailingBytes) × RibAndMore add_path peers body))
+abbrev pub RibFault : FamilyOf → Bool → ℕ → List ℕ → Fault → Type 0
+RibFault family add_path peers body fault = ((fault ≡ BadPrefix) × HasBadPrefix family body) ⊎ (((fault ≡ BadPeerIndex) × HasUnknownPeer family add_path peers body) ⊎ ((fault ≡ TrailingBytes) × RibAndMore family add_path peers body))
 
 behind_head : (head : RibHead) (front more : List ℕ) → head_bytes head (front ++ more) ≡ head_bytes head front ++ more
 behind_head head front more = sym (simp append_assoc)
@@ -133,16 +134,16 @@ behind_head head front more = sym (simp append_assoc)
 abbrev read_rib : RibHead → List WrittenEntry → Result RibForm Fault
 read_rib head entries = Ok (record { sequence = head.sequence; len = head.len; octets = head.octets; entries = entries })
 
-pub rib_refused : (add_path : Bool) (peers : ℕ) (body : List ℕ) (fault : Fault) → IsBytes body → rib_in add_path peers body ≡ Err fault → RibFault add_path peers body fault ⊎ (fault ≡ ShortRecord)
+pub rib_refused : (family : FamilyOf) (add_path : Bool) (peers : ℕ) (body : List ℕ) (fault : Fault) → IsBytes body → rib_in family add_path peers body ≡ Err fault → RibFault family add_path peers body fault ⊎ (fault ≡ ShortRecord)
 unfolding rib_in
-rib_refused add_path peers body fault fine e = by_head (bind_err (rib_head_at body) (λ head. many (entry_at add_path peers) head.0.count head.1 >>= λ entries. Ok (record { sequence = head.0.sequence; len = head.0.len; octets = head.0.octets; entries = entries })) fault e)
+rib_refused family add_path peers body fault fine e = by_head (bind_err (rib_head_at family body) (λ head. many (entry_at add_path peers) head.0.count head.1 >>= λ entries. Ok (record { sequence = head.0.sequence; len = head.0.len; octets = head.0.octets; entries = entries })) fault e)
   where
-    of_head : ((fault ≡ BadPrefix) × HasBadPrefix body) ⊎ (fault ≡ ShortRecord) → RibFault add_path peers body fault ⊎ (fault ≡ ShortRecord)
+    of_head : ((fault ≡ BadPrefix) × HasBadPrefix family body) ⊎ (fault ≡ ShortRecord) → RibFault family add_path peers body fault ⊎ (fault ≡ ShortRecord)
     of_head (inl h) = inl (inl h)
     of_head (inr h) = inr h
 
-    of_entry : (h : RibHead × List ℕ) → TakesHead body h.0 h.1 → (b : BreaksOff (entry_at add_path peers) (entry_bytes add_path) (FitsEntry add_path peers) h.0.count h.1 fault)
-        → ((fault ≡ BadPeerIndex) × UnknownPeer peers b.rest) ⊎ (fault ≡ ShortRecord) → RibFault add_path peers body fault ⊎ (fault ≡ ShortRecord)
+    of_entry : (h : RibHead × List ℕ) → TakesHead family body h.0 h.1 → (b : BreaksOff (entry_at add_path peers) (entry_bytes add_path) (FitsEntry add_path peers) h.0.count h.1 fault)
+        → ((fault ≡ BadPeerIndex) × UnknownPeer peers b.rest) ⊎ (fault ≡ ShortRecord) → RibFault family add_path peers body fault ⊎ (fault ≡ ShortRecord)
     of_entry h t b (inr short) = inr short
     of_entry h t b (inl u) =
         let fewer = b.fewer in
@@ -163,9 +164,9 @@ rib_refused add_path peers body fault fine e = by_head (bind_err (rib_head_at bo
           },
         )))
 
-    of_entries : (h : RibHead × List ℕ) → TakesHead body h.0 h.1
+    of_entries : (h : RibHead × List ℕ) → TakesHead family body h.0 h.1
         → BreaksOff (entry_at add_path peers) (entry_bytes add_path) (FitsEntry add_path peers) h.0.count h.1 fault ⊎ ((fault ≡ TrailingBytes) × GoesOn (entry_at add_path peers) (entry_bytes add_path) (FitsEntry add_path peers) h.0.count h.1)
-        → RibFault add_path peers body fault ⊎ (fault ≡ ShortRecord)
+        → RibFault family add_path peers body fault ⊎ (fault ≡ ShortRecord)
     of_entries h t (inl b) = of_entry h t b (entry_refused add_path peers b.rest fault b.fine b.refused)
     of_entries h t (inr m) =
         let entries : List ℕ = flat_map (entry_bytes add_path) m.1.items in
@@ -180,34 +181,34 @@ rib_refused add_path peers body fault fine e = by_head (bind_err (rib_head_at bo
           },
         )))
 
-    by_entries : (h : RibHead × List ℕ) → TakesHead body h.0 h.1 → (many (entry_at add_path peers) h.0.count h.1 ≡ Err fault) ⊎ ((ws : List WrittenEntry) × (many (entry_at add_path peers) h.0.count h.1 ≡ Ok ws) × (read_rib h.0 ws ≡ Err fault)) → RibFault add_path peers body fault ⊎ (fault ≡ ShortRecord)
+    by_entries : (h : RibHead × List ℕ) → TakesHead family body h.0 h.1 → (many (entry_at add_path peers) h.0.count h.1 ≡ Err fault) ⊎ ((ws : List WrittenEntry) × (many (entry_at add_path peers) h.0.count h.1 ≡ Ok ws) × (read_rib h.0 ws ≡ Err fault)) → RibFault family add_path peers body fault ⊎ (fault ≡ ShortRecord)
     by_entries h t (inl r) = of_entries h t (many-unread (entry_at add_path peers) (entry_bytes add_path) (FitsEntry add_path peers) (entry_takes add_path peers) h.0.count h.1 fault t.fine r)
     by_entries h t (inr r) = ok_never (record { sequence = h.0.sequence; len = h.0.len; octets = h.0.octets; entries = r.0 }) fault r.2
 
-    by_head : (rib_head_at body ≡ Err fault) ⊎ ((h : RibHead × List ℕ) × (rib_head_at body ≡ Ok h) × ((many (entry_at add_path peers) h.0.count h.1 >>= λ entries. read_rib h.0 entries) ≡ Err fault)) → RibFault add_path peers body fault ⊎ (fault ≡ ShortRecord)
-    by_head (inl r) = of_head (head_refused body fault fine r)
-    by_head (inr r) = by_entries r.0 (head_takes body r.0 fine r.1) (bind_err (many (entry_at add_path peers) r.0.0.count r.0.1) (λ entries. read_rib r.0.0 entries) fault r.2)
+    by_head : (rib_head_at family body ≡ Err fault) ⊎ ((h : RibHead × List ℕ) × (rib_head_at family body ≡ Ok h) × ((many (entry_at add_path peers) h.0.count h.1 >>= λ entries. read_rib h.0 entries) ≡ Err fault)) → RibFault family add_path peers body fault ⊎ (fault ≡ ShortRecord)
+    by_head (inl r) = of_head (head_refused family body fault fine r)
+    by_head (inr r) = by_entries r.0 (head_takes family body r.0 fine r.1) (bind_err (many (entry_at add_path peers) r.0.0.count r.0.1) (λ entries. read_rib r.0.0 entries) fault r.2)
 
 -- ---- and what has a fault is refused for it
 
-pub bad_prefix_refused : (add_path : Bool) (peers : ℕ) (body : List ℕ) → HasBadPrefix body → rib_in add_path peers body ≡ Err BadPrefix
+pub bad_prefix_refused : (family : FamilyOf) (add_path : Bool) (peers : ℕ) (body : List ℕ) → HasBadPrefix family body → rib_in family add_path peers body ≡ Err BadPrefix
 unfolding rib_in
-bad_prefix_refused add_path peers body h =
-    let read : rib_head_at body ≡ Err BadPrefix = ap rib_head_at h.spelled ∙ head_bad h.sequence h.len h.rest h.fits_sequence h.bad in
+bad_prefix_refused family add_path peers body h =
+    let read : rib_head_at family body ≡ Err BadPrefix = ap (rib_head_at family) h.spelled ∙ head_bad family h.sequence h.len h.rest h.fits_sequence h.bad in
     rw read refl
 
-pub unknown_peer_refused : (add_path : Bool) (peers : ℕ) (body : List ℕ) → HasUnknownPeer add_path peers body → rib_in add_path peers body ≡ Err BadPeerIndex
+pub unknown_peer_refused : (family : FamilyOf) (add_path : Bool) (peers : ℕ) (body : List ℕ) → HasUnknownPeer family add_path peers body → rib_in family add_path peers body ≡ Err BadPeerIndex
 unfolding rib_in
-unknown_peer_refused add_path peers body h =
+unknown_peer_refused family add_path peers body h =
     let form = h.form in
     let behind : List ℕ = flat_map (entry_bytes add_path) form.entries ++ (big_bytes 2 h.peer ++ h.rest) in
-    let head : rib_head_at body ≡ Ok (head_with form.sequence form.len form.octets h.count, behind) = ap rib_head_at h.spelled ∙ head_again (head_with form.sequence form.len form.octets h.count) behind h.fits.sequence h.fits.short h.fits.octets h.fits_count in
+    let head : rib_head_at family body ≡ Ok (head_with form.sequence form.len form.octets h.count, behind) = ap (rib_head_at family) h.spelled ∙ head_again family (head_with form.sequence form.len form.octets h.count) behind h.fits.sequence h.fits.short h.fits.octets h.fits_count in
     rw (head, many-breaks_off (entry_at add_path peers) (entry_bytes add_path) (FitsEntry add_path peers) (entry_again add_path peers) form.entries h.count (big_bytes 2 h.peer ++ h.rest) BadPeerIndex h.fits.entries h.fewer (entry_unknown add_path peers h.peer h.rest h.fits_peer h.unknown)) refl
 
-pub rib_goes_on : (add_path : Bool) (peers : ℕ) (form : RibForm) (more : List ℕ) → FitsRib add_path peers form → 0 < length more → rib_in add_path peers (rib_bytes add_path form ++ more) ≡ Err TrailingBytes
+pub rib_goes_on : (family : FamilyOf) (add_path : Bool) (peers : ℕ) (form : RibForm) (more : List ℕ) → FitsRib family add_path peers form → 0 < length more → rib_in family add_path peers (rib_bytes add_path form ++ more) ≡ Err TrailingBytes
 unfolding rib_in
-rib_goes_on add_path peers form more h some =
+rib_goes_on family add_path peers form more h some =
     let head : RibHead = head_with form.sequence form.len form.octets (length form.entries) in
     let entries : List ℕ = flat_map (entry_bytes add_path) form.entries in
-    ap (rib_in add_path peers) (sym (behind_head head entries more))
-    ∙ rw (head_again head (entries ++ more) h.sequence h.short h.octets h.count, many-goes_on (entry_at add_path peers) (entry_bytes add_path) (FitsEntry add_path peers) (entry_again add_path peers) form.entries more h.entries some) refl
+    ap (rib_in family add_path peers) (sym (behind_head head entries more))
+    ∙ rw (head_again family head (entries ++ more) h.sequence h.short h.octets h.count, many-goes_on (entry_at add_path peers) (entry_bytes add_path) (FitsEntry add_path peers) (entry_again add_path peers) form.entries more h.entries some) refl

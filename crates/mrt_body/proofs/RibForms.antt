@@ -10,9 +10,10 @@ use Rattle.mrt_frame.specs.Fields.{◌>>=◌, byte_at, number_at, bytes_at}
 use Rattle.mrt_frame.proofs.Items.{bind_ok, guard_ok, ok_is}
 use Rattle.mrt_frame.proofs.FieldLaws.{IsBytes, IsBytes-drop, TakesNumber, byte_at-takes, byte_at-again, number_takes, number_at-again, bytes_at-takes, bytes_at-again}
 use Rattle.bgp_update.specs.Keys.{octets_at}
+use Rattle.bgp_update.specs.Families.{FamilyOf}
 use Rattle.mrt_body.specs.declared.at.RecordAt.{RecordAt}
 use Rattle.mrt_body.specs.declared.unit.PeerKey.{PeerKey}
-use Rattle.mrt_body.specs.declared.unit.Unit.{Unit as ReplayUnit}
+use Rattle.mrt_body.specs.Plain.{Unit as ReplayUnit}
 use Rattle.mrt_body.specs.Many.{many}
 use Rattle.mrt_body.specs.RibRecords.{WrittenEntry, identifier_bytes, entry_bytes, FitsIdentifier, FitsEntry, RibForm, rib_bytes, FitsRib, peer_index_at, identifier_at, entry_at, RibHead, rib_head_at, rib_in}
 use Rattle.mrt_body.specs.Units.{rib_units, rib_units_in}
@@ -96,23 +97,23 @@ neither : (a b : Bool) → (a || b) ≡ false → (a ≡ false) × (b ≡ false)
 neither true b e = absurd cc
 neither false b e = (refl, e)
 
-pub record TakesOctets (len : ℕ) (bytes octets rest : List ℕ) : Type 0 where
+pub record TakesOctets (width len : ℕ) (bytes octets rest : List ℕ) : Type 0 where
   pub parts : bytes ≡ octets ++ rest
   pub number : length octets ≡ div_ceil len 8
-  pub short : len ≤ 32
+  pub short : len ≤ width
   pub fine : IsBytes rest
 
-octets_take : (len : ℕ) (bytes : List ℕ) (x : List ℕ × List ℕ) → IsBytes bytes → octets_at 32 len bytes ≡ Ok x → TakesOctets len bytes x.0 x.1
-octets_take len bytes x fine e =
-    let g = guard_ok (ltb 32 len || ltb (length bytes) (div_ceil len 8)) BadPrefix (take (div_ceil len 8) bytes, drop (div_ceil len 8) bytes) x e in
-    let tests = neither (ltb 32 len) (ltb (length bytes) (div_ceil len 8)) g.0 in
+octets_take : (width len : ℕ) (bytes : List ℕ) (x : List ℕ × List ℕ) → IsBytes bytes → octets_at width len bytes ≡ Ok x → TakesOctets width len bytes x.0 x.1
+octets_take width len bytes x fine e =
+    let g = guard_ok (ltb width len || ltb (length bytes) (div_ceil len 8)) BadPrefix (take (div_ceil len 8) bytes, drop (div_ceil len 8) bytes) x e in
+    let tests = neither (ltb width len) (ltb (length bytes) (div_ceil len 8)) g.0 in
     let long : div_ceil len 8 ≤ length bytes = ltb-false _ _ tests.1 in
-    subst (λ (y : List ℕ × List ℕ). TakesOctets len bytes y.0 y.1) g.1
+    subst (λ (y : List ℕ × List ℕ). TakesOctets width len bytes y.0 y.1) g.1
     (record { parts = sym (take-append-drop (div_ceil len 8) bytes); number = omega (arith, long, length-take (div_ceil len 8) bytes); short = ltb-false _ _ tests.0; fine = IsBytes-drop (div_ceil len 8) bytes fine })
 
-octets_again : (len : ℕ) (octets rest : List ℕ) → len ≤ 32 → length octets ≡ div_ceil len 8 → octets_at 32 len (octets ++ rest) ≡ Ok (octets, rest)
-octets_again len octets rest short e =
-    rw (le-ltb 32 len short, le-ltb (length (octets ++ rest)) (div_ceil len 8) (omega (arith, e, length-append octets rest)), take_at octets rest (div_ceil len 8) e, drop_at octets rest (div_ceil len 8) e) refl
+octets_again : (width len : ℕ) (octets rest : List ℕ) → len ≤ width → length octets ≡ div_ceil len 8 → octets_at width len (octets ++ rest) ≡ Ok (octets, rest)
+octets_again width len octets rest short e =
+    rw (le-ltb width len short, le-ltb (length (octets ++ rest)) (div_ceil len 8) (omega (arith, e, length-append octets rest)), take_at octets rest (div_ceil len 8) e, drop_at octets rest (div_ceil len 8) e) refl
 
 abbrev pub head_with : ℕ → ℕ → List ℕ → ℕ → RibHead
 head_with sequence len octets count = record { sequence = sequence; len = len; octets = octets; count = count }
@@ -120,27 +121,27 @@ head_with sequence len octets count = record { sequence = sequence; len = len; o
 abbrev pub head_bytes : RibHead → List ℕ → List ℕ
 head_bytes head rest = big_bytes 4 head.sequence ++ ((head.len ∷ head.octets) ++ (big_bytes 2 head.count ++ rest))
 
-pub record TakesHead (body : List ℕ) (head : RibHead) (rest : List ℕ) : Type 0 where
+pub record TakesHead (family : FamilyOf) (body : List ℕ) (head : RibHead) (rest : List ℕ) : Type 0 where
   pub parts : body ≡ head_bytes head rest
   pub sequence : head.sequence < 256 ^ 4
-  pub short : head.len ≤ 32
+  pub short : head.len ≤ family.width
   pub octets : length head.octets ≡ div_ceil head.len 8
   pub count : head.count < 256 ^ 2
   pub fine : IsBytes rest
 
-pub head_takes : (body : List ℕ) (x : RibHead × List ℕ) → IsBytes body → rib_head_at body ≡ Ok x → TakesHead body x.0 x.1
+pub head_takes : (family : FamilyOf) (body : List ℕ) (x : RibHead × List ℕ) → IsBytes body → rib_head_at family body ≡ Ok x → TakesHead family body x.0 x.1
 unfolding rib_head_at
-head_takes body x fine e =
-    let s = bind_ok (number_at ShortRecord 4 body) (λ sequence. byte_at ShortRecord sequence.1 >>= λ len. octets_at 32 len.0 len.1 >>= λ octets. number_at ShortRecord 2 octets.1 >>= λ count. Ok (head_with sequence.0 len.0 octets.0 count.0, count.1)) x e in
-    let l = bind_ok (byte_at ShortRecord s.0.1) (λ len. octets_at 32 len.0 len.1 >>= λ octets. number_at ShortRecord 2 octets.1 >>= λ count. Ok (head_with s.0.0 len.0 octets.0 count.0, count.1)) x s.2 in
-    let o = bind_ok (octets_at 32 l.0.0 l.0.1) (λ octets. number_at ShortRecord 2 octets.1 >>= λ count. Ok (head_with s.0.0 l.0.0 octets.0 count.0, count.1)) x l.2 in
+head_takes family body x fine e =
+    let s = bind_ok (number_at ShortRecord 4 body) (λ sequence. byte_at ShortRecord sequence.1 >>= λ len. octets_at family.width len.0 len.1 >>= λ octets. number_at ShortRecord 2 octets.1 >>= λ count. Ok (head_with sequence.0 len.0 octets.0 count.0, count.1)) x e in
+    let l = bind_ok (byte_at ShortRecord s.0.1) (λ len. octets_at family.width len.0 len.1 >>= λ octets. number_at ShortRecord 2 octets.1 >>= λ count. Ok (head_with s.0.0 len.0 octets.0 count.0, count.1)) x s.2 in
+    let o = bind_ok (octets_at family.width l.0.0 l.0.1) (λ octets. number_at ShortRecord 2 octets.1 >>= λ count. Ok (head_with s.0.0 l.0.0 octets.0 count.0, count.1)) x l.2 in
     let n = bind_ok (number_at ShortRecord 2 o.0.1) (λ count. Ok (head_with s.0.0 l.0.0 o.0.0 count.0, count.1)) x o.2 in
     let ts = number_takes ShortRecord 4 body s.0 fine s.1 in
     let tl = byte_at-takes ShortRecord s.0.1 l.0 l.1 in
-    let to = octets_take l.0.0 l.0.1 o.0 (tl.1 ts.fine) o.1 in
+    let to = octets_take family.width l.0.0 l.0.1 o.0 (tl.1 ts.fine) o.1 in
     let tn = number_takes ShortRecord 2 o.0.1 n.0 to.fine n.1 in
     let inner : l.0.1 ≡ o.0.0 ++ (big_bytes 2 n.0.0 ++ n.0.1) = to.parts ∙ ap (λ (t : List ℕ). o.0.0 ++ t) tn.parts in
-    subst (λ (y : RibHead × List ℕ). TakesHead body y.0 y.1) (ok_is (head_with s.0.0 l.0.0 o.0.0 n.0.0, n.0.1) x n.2) (record {
+    subst (λ (y : RibHead × List ℕ). TakesHead family body y.0 y.1) (ok_is (head_with s.0.0 l.0.0 o.0.0 n.0.0, n.0.1) x n.2) (record {
       parts = ts.parts ∙ ap (λ (t : List ℕ). big_bytes 4 s.0.0 ++ t) (tl.0 ∙ ap (λ (t : List ℕ). l.0.0 ∷ t) inner);
       sequence = ts.below;
       short = to.short;
@@ -149,49 +150,49 @@ head_takes body x fine e =
       fine = tn.fine;
     })
 
-pub head_again : (head : RibHead) (rest : List ℕ) → head.sequence < 256 ^ 4 → head.len ≤ 32 → length head.octets ≡ div_ceil head.len 8 → head.count < 256 ^ 2 → rib_head_at (head_bytes head rest) ≡ Ok (head, rest)
+pub head_again : (family : FamilyOf) (head : RibHead) (rest : List ℕ) → head.sequence < 256 ^ 4 → head.len ≤ family.width → length head.octets ≡ div_ceil head.len 8 → head.count < 256 ^ 2 → rib_head_at family (head_bytes head rest) ≡ Ok (head, rest)
 unfolding rib_head_at
-head_again head rest s short octets n =
-    rw (number_at-again ShortRecord 4 head.sequence ((head.len ∷ head.octets) ++ (big_bytes 2 head.count ++ rest)) s, byte_at-again ShortRecord head.len (head.octets ++ (big_bytes 2 head.count ++ rest)), octets_again head.len head.octets (big_bytes 2 head.count ++ rest) short octets, number_at-again ShortRecord 2 head.count rest n) refl
+head_again family head rest s short octets n =
+    rw (number_at-again ShortRecord 4 head.sequence ((head.len ∷ head.octets) ++ (big_bytes 2 head.count ++ rest)) s, byte_at-again ShortRecord head.len (head.octets ++ (big_bytes 2 head.count ++ rest)), octets_again family.width head.len head.octets (big_bytes 2 head.count ++ rest) short octets, number_at-again ShortRecord 2 head.count rest n) refl
 
 -- ---- the record
 
 abbrev rib_with : ℕ → ℕ → List ℕ → List WrittenEntry → RibForm
 rib_with sequence len octets entries = record { sequence = sequence; len = len; octets = octets; entries = entries }
 
-pub record TakesRib (add_path : Bool) (peers : ℕ) (body : List ℕ) (form : RibForm) : Type 0 where
+pub record TakesRib (family : FamilyOf) (add_path : Bool) (peers : ℕ) (body : List ℕ) (form : RibForm) : Type 0 where
   pub parts : body ≡ rib_bytes add_path form
-  pub fits : FitsRib add_path peers form
+  pub fits : FitsRib family add_path peers form
 
-rib_takes : (add_path : Bool) (peers : ℕ) (body : List ℕ) (form : RibForm) → IsBytes body → rib_in add_path peers body ≡ Ok form → TakesRib add_path peers body form
+rib_takes : (family : FamilyOf) (add_path : Bool) (peers : ℕ) (body : List ℕ) (form : RibForm) → IsBytes body → rib_in family add_path peers body ≡ Ok form → TakesRib family add_path peers body form
 unfolding rib_in
-rib_takes add_path peers body form fine e =
-    let h = bind_ok (rib_head_at body) (λ head. many (entry_at add_path peers) head.0.count head.1 >>= λ entries. Ok (rib_with head.0.sequence head.0.len head.0.octets entries)) form e in
+rib_takes family add_path peers body form fine e =
+    let h = bind_ok (rib_head_at family body) (λ head. many (entry_at add_path peers) head.0.count head.1 >>= λ entries. Ok (rib_with head.0.sequence head.0.len head.0.octets entries)) form e in
     let w = bind_ok (many (entry_at add_path peers) h.0.0.count h.0.1) (λ entries. Ok (rib_with h.0.0.sequence h.0.0.len h.0.0.octets entries)) form h.2 in
-    let th = head_takes body h.0 fine h.1 in
+    let th = head_takes family body h.0 fine h.1 in
     let tw = many-is (entry_at add_path peers) (entry_bytes add_path) (FitsEntry add_path peers) (entry_takes add_path peers) h.0.0.count h.0.1 w.0 th.fine w.1 in
     let head : RibHead = head_with h.0.0.sequence h.0.0.len h.0.0.octets (length w.0) in
-    subst (TakesRib add_path peers body) (ok_is (rib_with h.0.0.sequence h.0.0.len h.0.0.octets w.0) form w.2) (record {
+    subst (TakesRib family add_path peers body) (ok_is (rib_with h.0.0.sequence h.0.0.len h.0.0.octets w.0) form w.2) (record {
       parts = th.parts ∙ ap (λ (n : ℕ). head_bytes (head_with h.0.0.sequence h.0.0.len h.0.0.octets n) h.0.1) (sym tw.number) ∙ ap (head_bytes head) tw.parts;
       fits = record { sequence = th.sequence; short = th.short; octets = th.octets; count = subst (λ (n : ℕ). n < 256 ^ 2) (sym tw.number) th.count; entries = tw.good };
     })
 
-rib_again : (add_path : Bool) (peers : ℕ) (form : RibForm) → FitsRib add_path peers form → rib_in add_path peers (rib_bytes add_path form) ≡ Ok form
+rib_again : (family : FamilyOf) (add_path : Bool) (peers : ℕ) (form : RibForm) → FitsRib family add_path peers form → rib_in family add_path peers (rib_bytes add_path form) ≡ Ok form
 unfolding rib_in
-rib_again add_path peers form h =
-    rw (head_again (head_with form.sequence form.len form.octets (length form.entries)) (flat_map (entry_bytes add_path) form.entries) h.sequence h.short h.octets h.count, many-again (entry_at add_path peers) (entry_bytes add_path) (FitsEntry add_path peers) (entry_again add_path peers) form.entries h.entries) refl
+rib_again family add_path peers form h =
+    rw (head_again family (head_with form.sequence form.len form.octets (length form.entries)) (flat_map (entry_bytes add_path) form.entries) h.sequence h.short h.octets h.count, many-again (entry_at add_path peers) (entry_bytes add_path) (FitsEntry add_path peers) (entry_again add_path peers) form.entries h.entries) refl
 
 -- ---- the units of a record beside the index in force
 
-pub rib_body-is : (at : RecordAt) (add_path : Bool) (index : Option (List PeerKey)) (body : List ℕ) (units : List ReplayUnit) → IsBytes body → rib_units_in at add_path index body ≡ Ok units → IsRibBodyBeside at add_path index body units
-rib_body-is at add_path None body units fine e = absurd cc
-rib_body-is at add_path (Some peers) body units fine e =
-    let f = bind_ok (rib_in add_path (length peers) body) (λ form. Ok (rib_units at (Some peers) form)) units e in
-    let t = rib_takes add_path (length peers) body f.0 fine f.1 in
-    record { form = f.0; fits = t.fits; spelled = t.parts; said = sym (ok_is (rib_units at (Some peers) f.0) units f.2) }
+pub rib_body-is : (family : FamilyOf) (at : RecordAt) (add_path : Bool) (index : Option (List PeerKey)) (body : List ℕ) (units : List ReplayUnit) → IsBytes body → rib_units_in family at add_path index body ≡ Ok units → IsRibBodyBeside family at add_path index body units
+rib_body-is family at add_path None body units fine e = absurd cc
+rib_body-is family at add_path (Some peers) body units fine e =
+    let f = bind_ok (rib_in family add_path (length peers) body) (λ form. Ok (rib_units family at (Some peers) form)) units e in
+    let t = rib_takes family add_path (length peers) body f.0 fine f.1 in
+    record { form = f.0; fits = t.fits; spelled = t.parts; said = sym (ok_is (rib_units family at (Some peers) f.0) units f.2) }
 
-pub rib_body-again : (at : RecordAt) (add_path : Bool) (index : Option (List PeerKey)) (body : List ℕ) (units : List ReplayUnit) → IsRibBodyBeside at add_path index body units → rib_units_in at add_path index body ≡ Ok units
-rib_body-again at add_path None body units h = absurd h
-rib_body-again at add_path (Some peers) body units h =
-    let read : rib_in add_path (length peers) body ≡ Ok h.form = ap (rib_in add_path (length peers)) h.spelled ∙ rib_again add_path (length peers) h.form h.fits in
+pub rib_body-again : (family : FamilyOf) (at : RecordAt) (add_path : Bool) (index : Option (List PeerKey)) (body : List ℕ) (units : List ReplayUnit) → IsRibBodyBeside family at add_path index body units → rib_units_in family at add_path index body ≡ Ok units
+rib_body-again family at add_path None body units h = absurd h
+rib_body-again family at add_path (Some peers) body units h =
+    let read : rib_in family add_path (length peers) body ≡ Ok h.form = ap (rib_in family add_path (length peers)) h.spelled ∙ rib_again family add_path (length peers) h.form h.fits in
     rw read (ap (λ (us : List ReplayUnit). Ok us) (sym h.said))

@@ -8,12 +8,13 @@ use Rattle.mrt_frame.specs.Fields.{Reading, ◌>>=◌, number_at}
 use Rattle.mrt_frame.proofs.FieldLaws.{IsBytes, number_takes, number_at-again}
 use Rattle.bgp_update.specs.declared.width.Width.{Width}
 use Rattle.bgp_update.specs.Segments.{number_len}
+use Rattle.bgp_update.specs.Families.{FamilyOf}
 use Rattle.mrt_body.specs.declared.at.RecordAt.{RecordAt}
 use Rattle.mrt_body.specs.declared.state_rule.StateRule.{StateRule}
 use Rattle.mrt_body.specs.declared.unit.PeerAddr.{PeerAddr}
 use Rattle.mrt_body.specs.declared.unit.PeerKey.{PeerKey}
 use Rattle.mrt_body.specs.declared.unit.Payload.TheVariants.{State, Message}
-use Rattle.mrt_body.specs.declared.unit.Unit.{Unit as ReplayUnit}
+use Rattle.mrt_body.specs.Plain.{Unit as ReplayUnit}
 use Rattle.mrt_body.specs.Many.{ended}
 use Rattle.mrt_body.specs.Indexes.{asn_bytes, addr_at, asn_at}
 use Rattle.mrt_body.specs.Bgp4mp.{SessionForm, session_bytes, session_peer, family_at, session_at, session_peer_at, states_in, microseconds_at, microseconds_bytes}
@@ -183,18 +184,18 @@ behind_microseconds extended width body h = ap (microseconds_at extended) h.spel
 
 -- ---- messages
 
-module _ (at : RecordAt) (extended : Bool) (width : Width) where
-  pub message_refused : (add_path : Bool) (body : List ℕ) (fault : Fault) → IsBytes body → message_unit at extended width add_path body ≡ Err fault → ((fault ≡ BadFamily) × HasOtherFamily extended width body) ⊎ (fault ≡ ShortRecord)
+module _ (family : FamilyOf) (at : RecordAt) (extended : Bool) (width : Width) where
+  pub message_refused : (add_path : Bool) (body : List ℕ) (fault : Fault) → IsBytes body → message_unit family at extended width add_path body ≡ Err fault → ((fault ≡ BadFamily) × HasOtherFamily extended width body) ⊎ (fault ≡ ShortRecord)
   unfolding message_unit
   message_refused add_path body fault fine e =
-      then_short (microseconds_at extended body) (λ m. session_peer_at width m.1 >>= λ peer. Ok (session_unit at m.0 peer.0 (Message peer.1 width add_path))) fault (microseconds_short extended body) (λ m m_is me.
-      by_peer m m_is (bind_err (session_peer_at width m.1) (λ peer. Ok (session_unit at m.0 peer.0 (Message peer.1 width add_path))) fault me)) e
+      then_short (microseconds_at extended body) (λ m. session_peer_at width m.1 >>= λ peer. Ok (session_unit at m.0 peer.0 (Message peer.1 width add_path family))) fault (microseconds_short extended body) (λ m m_is me.
+      by_peer m m_is (bind_err (session_peer_at width m.1) (λ peer. Ok (session_unit at m.0 peer.0 (Message peer.1 width add_path family))) fault me)) e
     where
-      by_peer : (m : ℕ × List ℕ) → microseconds_at extended body ≡ Ok m → (session_peer_at width m.1 ≡ Err fault) ⊎ ((p : PeerKey × List ℕ) × (session_peer_at width m.1 ≡ Ok p) × (Ok (session_unit at m.0 p.0 (Message p.1 width add_path)) ≡ Err fault)) → ((fault ≡ BadFamily) × HasOtherFamily extended width body) ⊎ (fault ≡ ShortRecord)
+      by_peer : (m : ℕ × List ℕ) → microseconds_at extended body ≡ Ok m → (session_peer_at width m.1 ≡ Err fault) ⊎ ((p : PeerKey × List ℕ) × (session_peer_at width m.1 ≡ Ok p) × (Ok (session_unit at m.0 p.0 (Message p.1 width add_path family)) ≡ Err fault)) → ((fault ≡ BadFamily) × HasOtherFamily extended width body) ⊎ (fault ≡ ShortRecord)
       by_peer m m_is (inl h) = other_family extended width body fault m fine m_is h
-      by_peer m m_is (inr h) = ok_never (session_unit at m.0 h.0.0 (Message h.0.1 width add_path)) fault h.2
+      by_peer m m_is (inr h) = ok_never (session_unit at m.0 h.0.0 (Message h.0.1 width add_path family)) fault h.2
 
-  pub message_other : (add_path : Bool) (body : List ℕ) → HasOtherFamily extended width body → message_unit at extended width add_path body ≡ Err BadFamily
+  pub message_other : (add_path : Bool) (body : List ℕ) → HasOtherFamily extended width body → message_unit family at extended width add_path body ≡ Err BadFamily
   unfolding message_unit
   message_other add_path body h = rw (behind_microseconds extended width body h, peer_other width h.peer_as h.local_as h.interface h.family h.rest h.fits_peer_as h.fits_local_as h.fits_interface h.fits_family h.other.0 h.other.1) refl
 

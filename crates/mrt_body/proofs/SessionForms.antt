@@ -8,12 +8,13 @@ use Rattle.mrt_frame.proofs.Items.{bind_ok, ok_is}
 use Rattle.mrt_frame.proofs.FieldLaws.{IsBytes, number_takes, number_at-again}
 use Rattle.bgp_update.specs.declared.width.Width.{Width}
 use Rattle.bgp_update.specs.Segments.{number_len}
+use Rattle.bgp_update.specs.Families.{FamilyOf}
 use Rattle.mrt_body.specs.declared.at.RecordAt.{RecordAt}
 use Rattle.mrt_body.specs.declared.unit.PeerAddr.{PeerAddr}
 use Rattle.mrt_body.specs.declared.unit.PeerKey.{PeerKey}
 use Rattle.mrt_body.specs.declared.state_rule.StateRule.{StateRule}
 use Rattle.mrt_body.specs.declared.unit.Payload.TheVariants.{State, Message}
-use Rattle.mrt_body.specs.declared.unit.Unit.{Unit as ReplayUnit}
+use Rattle.mrt_body.specs.Plain.{Unit as ReplayUnit}
 use Rattle.mrt_body.specs.Many.{ended}
 use Rattle.mrt_body.specs.Indexes.{addr_bytes, is_ipv6, asn_bytes, addr_at, asn_at}
 use Rattle.mrt_body.specs.Bgp4mp.{SessionForm, family_of, session_bytes, FitsSession, session_peer, family_at, session_at, session_peer_at, states_in, microseconds_at, microseconds_bytes, FitsMicroseconds}
@@ -132,11 +133,11 @@ microseconds_again false microseconds rest fits = ap (λ (n : ℕ). Ok (n, rest)
 
 -- ---- messages
 
-pub message_body-is : (at : RecordAt) (extended : Bool) (width : Width) (add_path : Bool) (body : List ℕ) (unit : ReplayUnit) → IsBytes body → message_unit at extended width add_path body ≡ Ok unit → IsMessageBody at extended width add_path body unit
+pub message_body-is : (family : FamilyOf) (at : RecordAt) (extended : Bool) (width : Width) (add_path : Bool) (body : List ℕ) (unit : ReplayUnit) → IsBytes body → message_unit family at extended width add_path body ≡ Ok unit → IsMessageBody family at extended width add_path body unit
 unfolding message_unit
-message_body-is at extended width add_path body unit fine e =
-    let m = bind_ok (microseconds_at extended body) (λ m. session_peer_at width m.1 >>= λ peer. Ok (session_unit at m.0 peer.0 (Message peer.1 width add_path))) unit e in
-    let p = bind_ok (session_peer_at width m.0.1) (λ peer. Ok (session_unit at m.0.0 peer.0 (Message peer.1 width add_path))) unit m.2 in
+message_body-is family at extended width add_path body unit fine e =
+    let m = bind_ok (microseconds_at extended body) (λ m. session_peer_at width m.1 >>= λ peer. Ok (session_unit at m.0 peer.0 (Message peer.1 width add_path family))) unit e in
+    let p = bind_ok (session_peer_at width m.0.1) (λ peer. Ok (session_unit at m.0.0 peer.0 (Message peer.1 width add_path family))) unit m.2 in
     let tm = microseconds_take extended body m.0 fine m.1 in
     let tp = peer_takes width m.0.1 p.0 tm.fine p.1 in
     record {
@@ -146,12 +147,12 @@ message_body-is at extended width add_path body unit fine e =
       fits_microseconds = tm.fits;
       fits_session = tp.takes.fits;
       spelled = tm.parts ∙ ap (λ (l : List ℕ). microseconds_bytes extended m.0.0 ++ l) tp.takes.parts;
-      said = sym (ap (λ (peer : PeerKey). session_unit at m.0.0 peer (Message p.0.1 width add_path)) tp.same ∙ ok_is (session_unit at m.0.0 p.0.0 (Message p.0.1 width add_path)) unit p.2);
+      said = sym (ap (λ (peer : PeerKey). session_unit at m.0.0 peer (Message p.0.1 width add_path family)) tp.same ∙ ok_is (session_unit at m.0.0 p.0.0 (Message p.0.1 width add_path family)) unit p.2);
     }
 
-pub message_body-again : (at : RecordAt) (extended : Bool) (width : Width) (add_path : Bool) (body : List ℕ) (unit : ReplayUnit) → IsMessageBody at extended width add_path body unit → message_unit at extended width add_path body ≡ Ok unit
+pub message_body-again : (family : FamilyOf) (at : RecordAt) (extended : Bool) (width : Width) (add_path : Bool) (body : List ℕ) (unit : ReplayUnit) → IsMessageBody family at extended width add_path body unit → message_unit family at extended width add_path body ≡ Ok unit
 unfolding message_unit
-message_body-again at extended width add_path body unit h =
+message_body-again family at extended width add_path body unit h =
     let m : microseconds_at extended body ≡ Ok (h.microseconds, session_bytes width h.session ++ h.message) = ap (microseconds_at extended) h.spelled ∙ microseconds_again extended h.microseconds (session_bytes width h.session ++ h.message) h.fits_microseconds in
     rw (m, peer_again width h.session h.message h.fits_session) (ap (λ (u : ReplayUnit). Ok u) (sym h.said))
 

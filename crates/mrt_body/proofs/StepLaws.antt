@@ -7,9 +7,9 @@ use Rattle.mrt_frame.specs.declared.cut.Record.{Record}
 use Rattle.mrt_frame.specs.declared.cut.Cut.TheVariants.{Whole, Broken}
 use Rattle.mrt_frame.specs.Frames.{Position, to_come, TakesCuts}
 use Rattle.std.proofs.lemmas.List.Sums.{sum_by-cons}
-use Rattle.mrt_body.specs.declared.unit.Unit.{Unit as ReplayUnit}
+use Rattle.mrt_body.specs.Plain.{Unit as ReplayUnit}
 use Rattle.mrt_body.specs.declared.unit.Damage.{Damage}
-use Rattle.mrt_body.specs.declared.unit.Found.{Found}
+use Rattle.mrt_body.specs.Plain.{Found}
 use Rattle.mrt_body.specs.declared.content.Content.{Content}
 use Rattle.mrt_body.specs.RibDumps.{DumpsState}
 use Rattle.mrt_body.specs.Units.{begins, clears_at, dumps_behind, dumps_behind_cuts, found_from, found_at, found_units, units_in, content_of, is_extended, index_with, refused_at, at_record, is_whole, is_aside, aside_count}
@@ -26,7 +26,7 @@ step_end old new known left h bytes is =
         found = ap (found_from old.file old.selection old.index old.dumps) e.2;
         dumps = ap (dumps_behind_cuts old.file old.selection old.index old.dumps) e.2;
         records = ap (count_by is_whole) e.2;
-        aside = ap (count_by is_aside) e.2;
+        aside = ap (count_by (is_aside old.selection.family)) e.2;
       }),
     )
 
@@ -43,7 +43,7 @@ step_broken old new known left file offset fault cut file_is cut_is of_cut bytes
         found = ap (found_from old.file old.selection old.index old.dumps) e.2 ∙ ap (λ (f : ℕ). refused_at (at_record f offset 0) fault ∷ []) (sym file_is);
         dumps = ap (dumps_behind_cuts old.file old.selection old.index old.dumps) e.2;
         records = ap (count_by is_whole) e.2;
-        aside = ap (count_by is_aside) e.2;
+        aside = ap (count_by (is_aside old.selection.family)) e.2;
       }),
     )
 
@@ -58,14 +58,14 @@ module _ (old : UnitsState) (file : ℕ) (r : Record) where
   whole = Whole r
 
   abbrev held : Content
-  held = content_of r.kind r.subtype
+  held = content_of old.selection.family r.kind r.subtype
 
   abbrev mid_of : Position → UnitsState
   mid_of frames = record old { frames = frames; records = old.records + 1 }
 
   -- what the record gives and leaves, if it is one of this file and a reading stands so before it
   abbrev read_in : UnitsState → ℕ → Result (List ReplayUnit) Fault
-  read_in u f = units_in u.selection.states (at_record f r.offset r.seconds) (is_extended r.kind) u.index held r.body
+  read_in u f = units_in u.selection.family u.selection.states (at_record f r.offset r.seconds) (is_extended r.kind) u.index held r.body
 
   abbrev found_then : UnitsState → ℕ → List Found
   found_then u f = as_found (clears_at u.selection (at_record f r.offset r.seconds) u.index u.dumps held r.body) ++ found_units u.selection (at_record f r.offset r.seconds) (read_in u f)
@@ -92,7 +92,7 @@ module _ (old : UnitsState) (file : ℕ) (r : Record) where
         dumps = ap (dumps_behind_cuts old.file old.selection old.index old.dumps) cuts_are
             ∙ ap (λ (f : ℕ). dumps_behind_cuts old.file old.selection index (dumps_then old f) others) (sym file_is);
         records = ap (λ (cs : List Cut). old.records + count_by is_whole cs) cuts_are ∙ ap (λ (n : ℕ). old.records + n) (sum_by-cons (λ (c : Cut). cond (is_whole c) 1 0) whole others) ∙ one_more old.records 1 (count_by is_whole others);
-        aside = ap (λ (cs : List Cut). old.aside + count_by is_aside cs) cuts_are ∙ ap (λ (n : ℕ). old.aside + n) (sum_by-cons (λ (c : Cut). cond (is_aside c) 1 0) whole others) ∙ one_more old.aside (aside_count held) (count_by is_aside others);
+        aside = ap (λ (cs : List Cut). old.aside + count_by (is_aside old.selection.family) cs) cuts_are ∙ ap (λ (n : ℕ). old.aside + n) (sum_by-cons (λ (c : Cut). cond (is_aside old.selection.family c) 1 0) whole others) ∙ one_more old.aside (aside_count held) (count_by (is_aside old.selection.family) others);
       }
     where
       one_more : (a b c : ℕ) → a + (b + c) ≡ (a + b) + c

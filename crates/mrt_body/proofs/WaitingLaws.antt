@@ -1,6 +1,6 @@
 -- What is still to be given: the units that wait, and behind them entries.
 use Rattle.std.proofs.Common.{◌≡◌, List, [], ◌∷◌, ◌++◌, refl}
-use Rattle.mrt_body.specs.declared.unit.Unit.{Unit as ReplayUnit}
+use Rattle.mrt_body.specs.Plain.{Unit as ReplayUnit}
 
 -- where nothing is, neither is
 pub both_none : (waiting entries : List ReplayUnit) → waiting ++ entries ≡ [] → (waiting ≡ []) × (entries ≡ [])

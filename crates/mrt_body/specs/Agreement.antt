@@ -2,6 +2,7 @@
 -- (RFC 6396, 4.3 and 4.4, and 3 for extended timestamps; RFC 8050). And what such a body says.
 use Rattle.std.specs.Prelude.{◌≡◌, ℕ, ◌^◌, ◌<◌, Bool, List, [], ◌∷◌, ◌++◌, length, Option, Some, None}
 use Rattle.byteorder.specs.Endian.{big_bytes}
+use Rattle.bgp_update.specs.Families.{FamilyOf}
 use Rattle.bgp_update.specs.declared.width.Width.{Width}
 use Rattle.mrt_body.specs.declared.at.RecordAt.{RecordAt}
 use Rattle.mrt_body.specs.declared.content.Content.{Content}
@@ -9,7 +10,7 @@ use Rattle.mrt_body.specs.declared.content.Content.TheVariants as content
 use Rattle.mrt_body.specs.declared.state_rule.StateRule.{StateRule}
 use Rattle.mrt_body.specs.declared.unit.PeerKey.{PeerKey}
 use Rattle.mrt_body.specs.declared.unit.Payload.TheVariants.{State, Message}
-use Rattle.mrt_body.specs.declared.unit.Unit.{Unit as ReplayUnit}
+use Rattle.mrt_body.specs.Plain.{Unit as ReplayUnit}
 use Rattle.mrt_body.specs.Indexes.{IndexForm, FitsIndex, index_bytes, peers_of}
 use Rattle.mrt_body.specs.RibRecords.{RibForm, FitsRib, rib_bytes}
 use Rattle.mrt_body.specs.Bgp4mp.{SessionForm, FitsSession, session_bytes, session_peer, microseconds_bytes, FitsMicroseconds}
@@ -22,23 +23,24 @@ pub record IsIndexBody (body : List ℕ) (peers : List PeerKey) : Type 0 where
   pub spelled : body ≡ index_bytes form
   pub said : peers ≡ peers_of form
 
--- a RIB record beside an index of these peers
+-- a RIB record of the family beside an index of these peers
 pub record IsRibBody
-    (at : RecordAt) (add_path : Bool) (peers : List PeerKey) (body : List ℕ) (units : List ReplayUnit)
+    (family : FamilyOf) (at : RecordAt) (add_path : Bool) (peers : List PeerKey) (body : List ℕ) (units : List ReplayUnit)
     : Type 0 where
   pub form : RibForm
-  pub fits : FitsRib add_path (length peers) form
+  pub fits : FitsRib family add_path (length peers) form
   pub spelled : body ≡ rib_bytes add_path form
-  pub said : units ≡ rib_units at (Some peers) form
+  pub said : units ≡ rib_units family at (Some peers) form
 
 -- without an index no RIB record agrees
-abbrev pub IsRibBodyBeside : RecordAt → Bool → Option (List PeerKey) → List ℕ → List ReplayUnit → Type 0
-IsRibBodyBeside at add_path None body units = ⊥
-IsRibBodyBeside at add_path (Some peers) body units = IsRibBody at add_path peers body units
+abbrev pub IsRibBodyBeside : FamilyOf → RecordAt → Bool → Option (List PeerKey) → List ℕ → List ReplayUnit → Type 0
+IsRibBodyBeside family at add_path None body units = ⊥
+IsRibBodyBeside family at add_path (Some peers) body units = IsRibBody family at add_path peers body units
 
--- microseconds where the timestamp is extended, the session, and a message to the end, which may be empty
+-- microseconds where the timestamp is extended, the session, and a message to the end, which may be empty; the unit has
+-- the family that was asked for
 pub record IsMessageBody
-    (at : RecordAt) (extended : Bool) (width : Width) (add_path : Bool) (body : List ℕ) (unit : ReplayUnit)
+    (family : FamilyOf) (at : RecordAt) (extended : Bool) (width : Width) (add_path : Bool) (body : List ℕ) (unit : ReplayUnit)
     : Type 0 where
   pub microseconds : ℕ
   pub session : SessionForm
@@ -46,7 +48,7 @@ pub record IsMessageBody
   pub fits_microseconds : FitsMicroseconds extended microseconds
   pub fits_session : FitsSession width session
   pub spelled : body ≡ microseconds_bytes extended microseconds ++ (session_bytes width session ++ message)
-  pub said : unit ≡ session_unit at microseconds (session_peer session) (Message message width add_path)
+  pub said : unit ≡ session_unit at microseconds (session_peer session) (Message message width add_path family)
 
 -- microseconds where the timestamp is extended, the session, old state 2, and new state 2; the unit has the rule that
 -- was asked for
@@ -66,12 +68,12 @@ pub record IsStatesBody
   pub said : unit ≡ session_unit at microseconds (session_peer session) (State from to rule)
 
 -- a record with this content agrees with its form beside the index in force, and these are its units
-abbrev pub Agrees : StateRule → RecordAt → Bool → Option (List PeerKey) → Content → List ℕ → List ReplayUnit → Type 0
-Agrees rule at extended index content.IndexTable body units =
+abbrev pub Agrees : FamilyOf → StateRule → RecordAt → Bool → Option (List PeerKey) → Content → List ℕ → List ReplayUnit → Type 0
+Agrees family rule at extended index content.IndexTable body units =
     ((peers : List PeerKey) × IsIndexBody body peers) × (units ≡ [])
-Agrees rule at extended index (content.Rib add_path) body units = IsRibBodyBeside at add_path index body units
-Agrees rule at extended index (content.Message width add_path) body units =
-    (unit : ReplayUnit) × IsMessageBody at extended width add_path body unit × (units ≡ unit ∷ [])
-Agrees rule at extended index (content.States width) body units =
+Agrees family rule at extended index (content.Rib add_path) body units = IsRibBodyBeside family at add_path index body units
+Agrees family rule at extended index (content.Message width add_path) body units =
+    (unit : ReplayUnit) × IsMessageBody family at extended width add_path body unit × (units ≡ unit ∷ [])
+Agrees family rule at extended index (content.States width) body units =
     (unit : ReplayUnit) × IsStatesBody rule at extended width body unit × (units ≡ unit ∷ [])
-Agrees rule at extended index content.Aside body units = units ≡ []
+Agrees family rule at extended index content.Aside body units = units ≡ []

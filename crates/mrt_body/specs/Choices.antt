@@ -2,9 +2,10 @@
 use Rattle.std.specs.Prelude.{ℕ, ◌+◌, ◌*◌, ◌/◌, ◌%◌, ◌^◌, ◌<◌, ◌≤◌, ◌==◌, ◌&&◌, ◌||◌, Bool, true, false, Option, Some, None, List, [], ◌∷◌, nat_lt, nat_le, if◌then◌else◌}
 use Rattle.std.specs.List.{list_any}
 use Rattle.bgp_prefix.specs.Prefixes.{IpPrefix, prefix_eq, covers}
+use Rattle.bgp_update.specs.Families.{FamilyOf, ipv4}
 use Rattle.mrt_body.specs.declared.choice.Reach.{Reach}
 use Rattle.mrt_body.specs.declared.choice.Reach.TheVariants.{Exact, Inside, Around}
-use Rattle.mrt_body.specs.declared.choice.PrefixChoice.{PrefixChoice}
+use Rattle.mrt_body.specs.Plain.{PrefixChoice}
 use Rattle.mrt_body.specs.declared.choice.PeerChoice.{PeerChoice}
 use Rattle.mrt_body.specs.declared.rib_rule.RibRule.{RibRule}
 use Rattle.mrt_body.specs.declared.rib_rule.RibRule.TheVariants.{Add}
@@ -20,7 +21,8 @@ pub record PeerShare : Type 0 where
   pub count : ℕ
 
 -- what is asked for: up to this second, the prefixes and the peers that these take, or all where there are none, and
--- the peers of this share; and by which rules state changes and further RIB dumps are taken
+-- the peers of this share; by which rules state changes and further RIB dumps are taken; and of which family the routes
+-- are that are read
 pub record UnitSelection : Type 0 where
   pub until : Option ℕ
   pub prefixes : List PrefixChoice
@@ -28,10 +30,23 @@ pub record UnitSelection : Type 0 where
   pub share : Option PeerShare
   pub states : StateRule
   pub ribs : RibRule
+  pub family : FamilyOf
+
+-- where nothing but the family is named
+abbrev pub all_of : FamilyOf → UnitSelection
+all_of family = record {
+  until = None;
+  prefixes = [];
+  peers = [];
+  share = None;
+  states = Recorded;
+  ribs = Add;
+  family = family;
+}
 
 -- where nothing is named
 abbrev pub all_units : UnitSelection
-all_units = record { until = None; prefixes = []; peers = []; share = None; states = Recorded; ribs = Add }
+all_units = all_of ipv4
 
 -- ---- prefixes
 

@@ -6,15 +6,15 @@ use Rattle.bgp_prefix.specs.Keys.{RouteKey}
 use Rattle.mrt_frame.specs.declared.fault.Fault.{Fault}
 use Rattle.mrt_frame.specs.declared.fault.Fault.TheVariants.{BadMarker, BadLength}
 use Rattle.mrt_frame.specs.Fields.{◌>>=◌}
-use Rattle.bgp_update.specs.Families.{ipv4}
+use Rattle.bgp_update.specs.Families.{FamilyOf}
 use Rattle.bgp_update.specs.declared.width.Width.{Width}
 use Rattle.bgp_update.specs.declared.width.Width.TheVariants.{Four}
 use Rattle.bgp_update.specs.Attributes.{ReadsAsRoute, route_in}
 use Rattle.bgp_update.specs.Updates.{ReadsAsUpdate, update_in}
 use Rattle.bgp_update.specs.Packing.{IsWritable}
-use Rattle.mrt_body.specs.declared.unit.Payload.{Payload}
+use Rattle.mrt_body.specs.Plain.{Payload}
 use Rattle.mrt_body.specs.declared.unit.Payload.TheVariants.{State, Message, Entry, Clear}
-use Rattle.mrt_body.specs.declared.meaning.Event.{Event}
+use Rattle.mrt_body.specs.Plain.{Event}
 use Rattle.mrt_body.specs.declared.meaning.Event.TheVariants as event
 
 -- marker of 16 bytes FF, length 2 that counts the header, type 1
@@ -33,35 +33,35 @@ abbrev pub UPDATE : ℕ
 UPDATE = 2
 
 -- A message is an UPDATE with its reading, or of another type, which isn't read.
-abbrev pub IsMessageEvent : Width → Bool → List ℕ → Event → Type 0
-IsMessageEvent width add_path bytes (event.Change update) =
+abbrev pub IsMessageEvent : FamilyOf → Width → Bool → List ℕ → Event → Type 0
+IsMessageEvent family width add_path bytes (event.Change update) =
     (body : List ℕ)
     × (bytes ≡ message_bytes UPDATE body)
     × (message_header_len + length body < 256 ^ 2)
-    × ReadsAsUpdate ipv4 width add_path body update
-IsMessageEvent width add_path bytes event.Other =
+    × ReadsAsUpdate family width add_path body update
+IsMessageEvent family width add_path bytes event.Other =
     (kind : ℕ)
     × (body : List ℕ)
     × (kind ≢ UPDATE)
     × (bytes ≡ message_bytes kind body)
     × (message_header_len + length body < 256 ^ 2)
-IsMessageEvent width add_path bytes (event.State old new rule) = ⊥
-IsMessageEvent width add_path bytes (event.Rib key route) = ⊥
-IsMessageEvent width add_path bytes event.Clear = ⊥
+IsMessageEvent family width add_path bytes (event.State old new rule) = ⊥
+IsMessageEvent family width add_path bytes (event.Rib key route) = ⊥
+IsMessageEvent family width add_path bytes event.Clear = ⊥
 
 -- a RIB entry's attributes are read with four-octet AS numbers (RFC 6396, 4.3.4)
-abbrev pub IsEntryEvent : RouteKey → List ℕ → Event → Type 0
-IsEntryEvent key attrs (event.Rib other route) = (other ≡ key) × ReadsAsRoute ipv4 Four attrs route
-IsEntryEvent key attrs (event.Change update) = ⊥
-IsEntryEvent key attrs (event.State old new rule) = ⊥
-IsEntryEvent key attrs event.Other = ⊥
-IsEntryEvent key attrs event.Clear = ⊥
+abbrev pub IsEntryEvent : FamilyOf → RouteKey → List ℕ → Event → Type 0
+IsEntryEvent family key attrs (event.Rib other route) = (other ≡ key) × ReadsAsRoute family Four attrs route
+IsEntryEvent family key attrs (event.Change update) = ⊥
+IsEntryEvent family key attrs (event.State old new rule) = ⊥
+IsEntryEvent family key attrs event.Other = ⊥
+IsEntryEvent family key attrs event.Clear = ⊥
 
--- the event of a payload
+-- the event of a payload, by the family that it has
 abbrev pub IsEvent : Payload → Event → Type 0
 IsEvent (State from to rule) e = e ≡ event.State from to rule
-IsEvent (Message bytes width add_path) e = IsMessageEvent width add_path bytes e
-IsEvent (Entry key attrs) e = IsEntryEvent key attrs e
+IsEvent (Message bytes width add_path family) e = IsMessageEvent family width add_path bytes e
+IsEvent (Entry key attrs family) e = IsEntryEvent family key attrs e
 IsEvent Clear e = e ≡ event.Clear
 
 -- the path of the event's route, if it has one, can be written with four-octet AS numbers
@@ -82,13 +82,13 @@ message_in bytes =
     (if big_number 2 (drop 16 bytes) == length bytes then Ok (slice_index bytes 18, drop 19 bytes) else Err BadLength)
     else Err BadMarker)
 
-unfoldable pub message_event_in : Width → Bool → List ℕ → Result Event Fault
-message_event_in width add_path bytes = message_in bytes >>= λ m.
-    if m.0 == UPDATE then (update_in ipv4 width add_path m.1 >>= λ update. Ok (event.Change update)) else
+unfoldable pub message_event_in : FamilyOf → Width → Bool → List ℕ → Result Event Fault
+message_event_in family width add_path bytes = message_in bytes >>= λ m.
+    if m.0 == UPDATE then (update_in family width add_path m.1 >>= λ update. Ok (event.Change update)) else
     Ok event.Other
 
 unfoldable pub event_in : Payload → Result Event Fault
 event_in (State from to rule) = Ok (event.State from to rule)
-event_in (Message bytes width add_path) = message_event_in width add_path bytes
-event_in (Entry key attrs) = route_in ipv4 Four attrs >>= λ route. Ok (event.Rib key route)
+event_in (Message bytes width add_path family) = message_event_in family width add_path bytes
+event_in (Entry key attrs family) = route_in family Four attrs >>= λ route. Ok (event.Rib key route)
 event_in Clear = Ok event.Clear

@@ -1,3 +1,4 @@
+pub mod Plain
 pub mod Events
 pub mod PackedEvents
 pub mod Many

@@ -5,7 +5,7 @@ use Rattle.std.specs.List.Sorted.{IsSorted}
 use Rattle.bgp_prefix.specs.Prefixes.{IpPrefix, IsIpPrefix, prefix_cmp, prefix_eq, covers}
 use Rattle.mrt_body.specs.declared.choice.Reach.{Reach}
 use Rattle.mrt_body.specs.declared.choice.Reach.TheVariants.{Exact, Inside, Around}
-use Rattle.mrt_body.specs.declared.choice.PrefixChoice.{PrefixChoice}
+use Rattle.mrt_body.specs.Plain.{PrefixChoice}
 use Rattle.mrt_body.specs.Choices.{takes_prefix}
 
 -- ---- which are named

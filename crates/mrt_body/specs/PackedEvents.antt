@@ -1,8 +1,8 @@
 -- What payloads mean, with packed routes.
 use Rattle.bgp_update.specs.PackedUpdates.{plain_update}
-use Rattle.mrt_body.specs.declared.meaning.Event.{Event}
+use Rattle.mrt_body.specs.Plain.{Event}
 use Rattle.mrt_body.specs.declared.meaning.Event.TheVariants as events
-use Rattle.mrt_body.specs.declared.packed_meaning.PackedEvent.{PackedEvent}
+use Rattle.mrt_body.specs.Plain.{PackedEvent}
 use Rattle.mrt_body.specs.declared.packed_meaning.PackedEvent.TheVariants as packed
 
 -- the same with routes of fields

@@ -5,6 +5,7 @@ use Rattle.std.specs.List.{flat_map}
 use Rattle.byteorder.specs.Endian.{big_bytes}
 use Rattle.mrt_frame.specs.declared.fault.Fault.{Fault}
 use Rattle.mrt_frame.specs.declared.fault.Fault.TheVariants.{ShortRecord, TrailingBytes, BadFamily, NoPeerIndex, BadPeerIndex, BadPrefix}
+use Rattle.bgp_update.specs.Families.{FamilyOf}
 use Rattle.bgp_update.specs.declared.width.Width.{Width}
 use Rattle.bgp_update.specs.Segments.{number_len}
 use Rattle.mrt_body.specs.declared.at.RecordAt.{RecordAt}
@@ -12,7 +13,7 @@ use Rattle.mrt_body.specs.declared.content.Content.{Content}
 use Rattle.mrt_body.specs.declared.content.Content.TheVariants as content
 use Rattle.mrt_body.specs.declared.state_rule.StateRule.{StateRule}
 use Rattle.mrt_body.specs.declared.unit.PeerKey.{PeerKey}
-use Rattle.mrt_body.specs.declared.unit.Unit.{Unit as ReplayUnit}
+use Rattle.mrt_body.specs.Plain.{Unit as ReplayUnit}
 use Rattle.mrt_body.specs.Indexes.{asn_bytes}
 use Rattle.mrt_body.specs.RibRecords.{RibForm, FitsRib, entry_bytes}
 use Rattle.mrt_body.specs.Bgp4mp.{microseconds_bytes, FitsMicroseconds}
@@ -20,14 +21,14 @@ use Rattle.mrt_body.specs.Agreement.{Agrees}
 
 -- bytes stand behind a body that agrees
 pub record HasMore
-    (rule : StateRule) (at : RecordAt) (extended : Bool) (index : Option (List PeerKey)) (c : Content) (body : List ℕ)
+    (family : FamilyOf) (rule : StateRule) (at : RecordAt) (extended : Bool) (index : Option (List PeerKey)) (c : Content) (body : List ℕ)
     : Type 0 where
   pub front : List ℕ
   pub more : List ℕ
   pub units : List ReplayUnit
   pub parts : body ≡ front ++ more
   pub some : 0 < length more
-  pub agrees : Agrees rule at extended index c front units
+  pub agrees : Agrees family rule at extended index c front units
 
 -- behind the fields before it stands an address family that is neither IPv4 nor IPv6
 pub record HasOtherFamily (extended : Bool) (width : Width) (body : List ℕ) : Type 0 where
@@ -49,22 +50,23 @@ pub record HasOtherFamily (extended : Bool) (width : Width) (body : List ℕ) : 
       ++ (big_bytes 2 interface
       ++ (big_bytes 2 family ++ rest))))
 
--- behind the sequence number stands the length of a prefix that is over 32, or has more bytes than are left
-pub record HasBadPrefix (body : List ℕ) : Type 0 where
+-- behind the sequence number stands the length of a prefix that is over the width of the family's addresses, or has
+-- more bytes than are left
+pub record HasBadPrefix (family : FamilyOf) (body : List ℕ) : Type 0 where
   pub sequence : ℕ
   pub len : ℕ
   pub rest : List ℕ
   pub fits_sequence : sequence < 256 ^ 4
-  pub bad : (32 < len) ⊎ (length rest < div_ceil len 8)
+  pub bad : (family.width < len) ⊎ (length rest < div_ceil len 8)
   pub spelled : body ≡ big_bytes 4 sequence ++ (len ∷ rest)
 
 -- behind fewer entries than the count says stands an index that is that of none of so many peers
-pub record HasUnknownPeer (add_path : Bool) (peers : ℕ) (body : List ℕ) : Type 0 where
+pub record HasUnknownPeer (family : FamilyOf) (add_path : Bool) (peers : ℕ) (body : List ℕ) : Type 0 where
   pub form : RibForm
   pub count : ℕ
   pub peer : ℕ
   pub rest : List ℕ
-  pub fits : FitsRib add_path peers form
+  pub fits : FitsRib family add_path peers form
   pub fewer : length form.entries < count
   pub fits_count : count < 256 ^ 2
   pub fits_peer : peer < 256 ^ 2
@@ -76,30 +78,30 @@ pub record HasUnknownPeer (add_path : Bool) (peers : ℕ) (body : List ℕ) : Ty
       ++ (big_bytes 2 peer ++ rest))))
 
 -- what is wrong with a RIB record beside this index, other than a field that runs past the body
-abbrev pub HasRibFault : StateRule → RecordAt → Bool → Bool → Option (List PeerKey) → List ℕ → Fault → Type 0
-HasRibFault rule at extended add_path None body fault = fault ≡ NoPeerIndex
-HasRibFault rule at extended add_path (Some peers) body fault =
-    ((fault ≡ BadPrefix) × HasBadPrefix body)
-    ⊎ (((fault ≡ BadPeerIndex) × HasUnknownPeer add_path (length peers) body)
-    ⊎ ((fault ≡ TrailingBytes) × HasMore rule at extended (Some peers) (content.Rib add_path) body))
+abbrev pub HasRibFault : FamilyOf → StateRule → RecordAt → Bool → Bool → Option (List PeerKey) → List ℕ → Fault → Type 0
+HasRibFault family rule at extended add_path None body fault = fault ≡ NoPeerIndex
+HasRibFault family rule at extended add_path (Some peers) body fault =
+    ((fault ≡ BadPrefix) × HasBadPrefix family body)
+    ⊎ (((fault ≡ BadPeerIndex) × HasUnknownPeer family add_path (length peers) body)
+    ⊎ ((fault ≡ TrailingBytes) × HasMore family rule at extended (Some peers) (content.Rib add_path) body))
 
 -- what is wrong with a body, other than a field that runs past it
-abbrev pub HasFault : StateRule → RecordAt → Bool → Option (List PeerKey) → Content → List ℕ → Fault → Type 0
-HasFault rule at extended index content.IndexTable body fault =
-    (fault ≡ TrailingBytes) × HasMore rule at extended index content.IndexTable body
-HasFault rule at extended index (content.Rib add_path) body fault = HasRibFault rule at extended add_path index body fault
-HasFault rule at extended index (content.Message width add_path) body fault =
+abbrev pub HasFault : FamilyOf → StateRule → RecordAt → Bool → Option (List PeerKey) → Content → List ℕ → Fault → Type 0
+HasFault family rule at extended index content.IndexTable body fault =
+    (fault ≡ TrailingBytes) × HasMore family rule at extended index content.IndexTable body
+HasFault family rule at extended index (content.Rib add_path) body fault = HasRibFault family rule at extended add_path index body fault
+HasFault family rule at extended index (content.Message width add_path) body fault =
     (fault ≡ BadFamily) × HasOtherFamily extended width body
-HasFault rule at extended index (content.States width) body fault =
+HasFault family rule at extended index (content.States width) body fault =
     ((fault ≡ BadFamily) × HasOtherFamily extended width body)
-    ⊎ ((fault ≡ TrailingBytes) × HasMore rule at extended index (content.States width) body)
-HasFault rule at extended index content.Aside body fault = ⊥
+    ⊎ ((fault ≡ TrailingBytes) × HasMore family rule at extended index (content.States width) body)
+HasFault family rule at extended index content.Aside body fault = ⊥
 
 -- A body that doesn't agree is refused for what is wrong with it, and where nothing else is, for a field that runs
 -- past it.
-abbrev pub IsRefused : StateRule → RecordAt → Bool → Option (List PeerKey) → Content → List ℕ → Fault → Type 0
-IsRefused rule at extended index c body fault =
-    HasFault rule at extended index c body fault
+abbrev pub IsRefused : FamilyOf → StateRule → RecordAt → Bool → Option (List PeerKey) → Content → List ℕ → Fault → Type 0
+IsRefused family rule at extended index c body fault =
+    HasFault family rule at extended index c body fault
     ⊎ ((fault ≡ ShortRecord)
-    × ((units : List ReplayUnit) → Agrees rule at extended index c body units → ⊥)
-    × ((other : Fault) → HasFault rule at extended index c body other → ⊥))
+    × ((units : List ReplayUnit) → Agrees family rule at extended index c body units → ⊥)
+    × ((other : Fault) → HasFault family rule at extended index c body other → ⊥))

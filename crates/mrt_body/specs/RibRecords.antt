@@ -1,4 +1,5 @@
--- The RIB_IPV4_UNICAST record (RFC 6396, 4.3.2 and 4.3.4) and its form with path identifiers (RFC 8050, 4).
+-- The RIB records of one family, RIB_IPV4_UNICAST or RIB_IPV6_UNICAST (RFC 6396, 4.3.2 and 4.3.4), and their forms with
+-- path identifiers (RFC 8050, 4).
 use Rattle.std.specs.Prelude.{ℕ, ◌^◌, ◌<◌, ◌≤◌, ◌≡◌, Bool, true, false, List, [], ◌∷◌, ◌++◌, length, Option, Some, None, Result, Ok, Err, nat_lt, if◌then◌else◌}
 use Rattle.std.specs.Int.{div_ceil}
 use Rattle.std.specs.List.{flat_map, AllByRecursion}
@@ -7,7 +8,7 @@ use Rattle.bgp_prefix.specs.Prefixes.{IpPrefix}
 use Rattle.mrt_frame.specs.declared.fault.Fault.{Fault}
 use Rattle.mrt_frame.specs.declared.fault.Fault.TheVariants.{ShortRecord, NoPeerIndex, BadPeerIndex}
 use Rattle.mrt_frame.specs.Fields.{Reading, ◌>>=◌, byte_at, number_at, bytes_at}
-use Rattle.bgp_update.specs.Families.{ipv4}
+use Rattle.bgp_update.specs.Families.{FamilyOf}
 use Rattle.bgp_update.specs.Keys.{octets_at, prefix_of}
 use Rattle.mrt_body.specs.declared.unit.PeerKey.{PeerKey}
 use Rattle.mrt_body.specs.Many.{many}
@@ -57,9 +58,9 @@ rib_bytes add_path form =
     ++ ((form.len ∷ form.octets)
     ++ (big_bytes 2 (length form.entries) ++ flat_map (entry_bytes add_path) form.entries))
 
-pub record FitsRib (add_path : Bool) (peers : ℕ) (form : RibForm) : Type 0 where
+pub record FitsRib (family : FamilyOf) (add_path : Bool) (peers : ℕ) (form : RibForm) : Type 0 where
   pub sequence : form.sequence < 256 ^ 4
-  pub short : form.len ≤ ipv4.width
+  pub short : form.len ≤ family.width
   pub octets : length form.octets ≡ div_ceil form.len 8
   pub count : length form.entries < 256 ^ 2
   pub entries : AllByRecursion (FitsEntry add_path peers) form.entries
@@ -94,25 +95,25 @@ pub record RibHead : Type 0 where
   pub octets : List ℕ
   pub count : ℕ
 
-unfoldable pub rib_head_at : List ℕ → Reading RibHead
-rib_head_at bytes = do
+unfoldable pub rib_head_at : FamilyOf → List ℕ → Reading RibHead
+rib_head_at family bytes = do
   sequence ← number_at ShortRecord 4 bytes
   len ← byte_at ShortRecord sequence.1
-  octets ← octets_at ipv4.width len.0 len.1
+  octets ← octets_at family.width len.0 len.1
   count ← number_at ShortRecord 2 octets.1
   Ok (record { sequence = sequence.0; len = len.0; octets = octets.0; count = count.0 }, count.1)
 
 -- the record that a body spells beside an index of so many peers, or its first fault
-unfoldable pub rib_in : Bool → ℕ → List ℕ → Result RibForm Fault
-rib_in add_path peers body =
-    rib_head_at body >>= λ head.
+unfoldable pub rib_in : FamilyOf → Bool → ℕ → List ℕ → Result RibForm Fault
+rib_in family add_path peers body =
+    rib_head_at family body >>= λ head.
     many (entry_at add_path peers) head.0.count head.1 >>= λ entries.
     Ok (record { sequence = head.0.sequence; len = head.0.len; octets = head.0.octets; entries = entries })
 
 -- without an index no record is read
-abbrev pub rib_beside : Bool → Option (List PeerKey) → List ℕ → Result RibForm Fault
-rib_beside add_path None body = Err NoPeerIndex
-rib_beside add_path (Some peers) body = rib_in add_path (length peers) body
+abbrev pub rib_beside : FamilyOf → Bool → Option (List PeerKey) → List ℕ → Result RibForm Fault
+rib_beside family add_path None body = Err NoPeerIndex
+rib_beside family add_path (Some peers) body = rib_in family add_path (length peers) body
 
 abbrev pub rib_prefix : RibForm → IpPrefix
 rib_prefix form = prefix_of form.len form.octets
@@ -123,8 +124,8 @@ pub record RibSummary : Type 0 where
   pub prefix : IpPrefix
   pub count : ℕ
 
-unfoldable pub read_head_at : List ℕ → Reading RibSummary
-read_head_at bytes = rib_head_at bytes >>= λ head.
+unfoldable pub read_head_at : FamilyOf → List ℕ → Reading RibSummary
+read_head_at family bytes = rib_head_at family bytes >>= λ head.
     Ok (record { prefix = prefix_of head.0.len head.0.octets; count = head.0.count }, head.1)
 
 pub record ReadEntry : Type 0 where

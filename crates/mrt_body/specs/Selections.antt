@@ -4,12 +4,12 @@ use Rattle.std.specs.List.{list_any}
 use Rattle.bgp_prefix.specs.Prefixes.{IpPrefix}
 use Rattle.bgp_prefix.specs.Keys.{RouteKey}
 use Rattle.mrt_frame.specs.declared.fault.Fault.{Fault}
-use Rattle.mrt_body.specs.declared.choice.PrefixChoice.{PrefixChoice}
-use Rattle.mrt_body.specs.declared.meaning.Event.{Event}
+use Rattle.mrt_body.specs.Plain.{PrefixChoice}
+use Rattle.mrt_body.specs.Plain.{Event}
 use Rattle.mrt_body.specs.declared.meaning.Event.TheVariants as event
-use Rattle.mrt_body.specs.declared.unit.Payload.{Payload}
+use Rattle.mrt_body.specs.Plain.{Payload}
 use Rattle.mrt_body.specs.declared.unit.Payload.TheVariants.{State, Message, Entry, Clear}
-use Rattle.mrt_body.specs.declared.unit.Unit.{Unit as ReplayUnit}
+use Rattle.mrt_body.specs.Plain.{Unit as ReplayUnit}
 use Rattle.mrt_body.specs.declared.unit.PeerKey.{PeerKey}
 use Rattle.mrt_body.specs.Choices.{UnitSelection, is_open, is_chosen, is_chosen_peer, is_in_share, has_no_peers, has_no_share}
 use Rattle.mrt_body.specs.Events.{event_in}
@@ -55,9 +55,9 @@ speaks_of choices (Err fault) = true
 -- its key, whatever its attributes are.
 abbrev pub concerns : List PrefixChoice → Payload → Bool
 concerns choices (State from to rule) = true
-concerns choices (Message bytes width add_path) =
-    is_open choices || speaks_of choices (event_in (Message bytes width add_path))
-concerns choices (Entry key attrs) = is_chosen choices key.prefix
+concerns choices (Message bytes width add_path family) =
+    is_open choices || speaks_of choices (event_in (Message bytes width add_path family))
+concerns choices (Entry key attrs family) = is_chosen choices key.prefix
 concerns choices Clear = true
 
 -- ---- what is selected

@@ -1,11 +1,12 @@
 -- What state changes say of a session (RFC 4271, 8.2.2; RFC 6396, 4.4.1), by the rule that is asked for.
 use Rattle.std.specs.Prelude.{⊤, ◌≡◌, ℕ, Bool, true, not, ◌&&◌, List, Option, Some, None, ◌==◌, if◌then◌else◌}
 use Rattle.std.specs.List.{All}
+use Rattle.bgp_update.specs.Families.{FamilyOf}
 use Rattle.mrt_body.specs.declared.state_rule.StateRule.{StateRule}
 use Rattle.mrt_body.specs.declared.state_rule.StateRule.TheVariants.{Recorded, Established}
-use Rattle.mrt_body.specs.declared.unit.Payload.{Payload}
+use Rattle.mrt_body.specs.Plain.{Payload}
 use Rattle.mrt_body.specs.declared.unit.Payload.TheVariants.{State, Message, Entry, Clear}
-use Rattle.mrt_body.specs.declared.unit.Unit.{Unit as ReplayUnit}
+use Rattle.mrt_body.specs.Plain.{Unit as ReplayUnit}
 
 -- Established, of RFC 4271's states
 abbrev pub ESTABLISHED : ℕ
@@ -35,10 +36,21 @@ established_by Established old new = if breaks Established old new then Some (ne
 -- a payload that, if it is a state change, is taken by this rule
 abbrev pub IsByRule : StateRule → Payload → Type 0
 IsByRule rule (State from to other) = other ≡ rule
-IsByRule rule (Message bytes width add_path) = ⊤
-IsByRule rule (Entry key attrs) = ⊤
+IsByRule rule (Message bytes width add_path family) = ⊤
+IsByRule rule (Entry key attrs family) = ⊤
 IsByRule rule Clear = ⊤
 
 -- units whose state changes are all taken by this rule
 abbrev pub AreByRule : StateRule → List ReplayUnit → Type 0
 AreByRule rule units = All (λ unit. IsByRule rule unit.payload) units
+
+-- a payload that, if it is a message or an entry, is read by this family
+abbrev pub IsOfFamily : FamilyOf → Payload → Type 0
+IsOfFamily family (State from to rule) = ⊤
+IsOfFamily family (Message bytes width add_path other) = other ≡ family
+IsOfFamily family (Entry key attrs other) = other ≡ family
+IsOfFamily family Clear = ⊤
+
+-- units whose messages and entries are all read by this family
+abbrev pub AreOfFamily : FamilyOf → List ReplayUnit → Type 0
+AreOfFamily family units = All (λ unit. IsOfFamily family unit.payload) units

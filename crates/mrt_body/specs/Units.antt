@@ -10,6 +10,7 @@ use Rattle.mrt_frame.specs.declared.cut.Cut.{Cut}
 use Rattle.mrt_frame.specs.declared.cut.Cut.TheVariants.{Whole, Broken}
 use Rattle.mrt_frame.specs.Fields.{◌>>=◌}
 use Rattle.mrt_frame.specs.Cuts.{cuts}
+use Rattle.bgp_update.specs.Families.{FamilyOf}
 use Rattle.bgp_update.specs.declared.width.Width.{Width}
 use Rattle.bgp_update.specs.declared.width.Width.TheVariants.{Two, Four}
 use Rattle.mrt_body.specs.declared.at.RecordAt.{RecordAt}
@@ -20,10 +21,10 @@ use Rattle.mrt_body.specs.declared.unit.PeerAddr.TheVariants.{V4}
 use Rattle.mrt_body.specs.declared.unit.PeerKey.{PeerKey}
 use Rattle.mrt_body.specs.declared.unit.Place.{Place}
 use Rattle.mrt_body.specs.declared.unit.Damage.{Damage}
-use Rattle.mrt_body.specs.declared.unit.Payload.{Payload}
+use Rattle.mrt_body.specs.Plain.{Payload}
 use Rattle.mrt_body.specs.declared.unit.Payload.TheVariants.{State, Message, Entry, Clear}
-use Rattle.mrt_body.specs.declared.unit.Unit.{Unit as ReplayUnit}
-use Rattle.mrt_body.specs.declared.unit.Found.{Found}
+use Rattle.mrt_body.specs.Plain.{Unit as ReplayUnit}
+use Rattle.mrt_body.specs.Plain.{Found}
 use Rattle.mrt_body.specs.declared.unit.Found.TheVariants as found
 use Rattle.mrt_body.specs.Choices.{UnitSelection}
 use Rattle.mrt_body.specs.Indexes.{peers_in}
@@ -35,12 +36,12 @@ use Rattle.std.specs.Result.{is_ok}
 
 -- ---- kinds of record
 
--- TABLE_DUMP_V2 (RFC 6396, 4.3; RFC 8050, 4)
-abbrev pub dump_content : ℕ → Content
-dump_content subtype =
+-- TABLE_DUMP_V2 (RFC 6396, 4.3; RFC 8050, 4); RIB records of another family are aside
+abbrev pub dump_content : FamilyOf → ℕ → Content
+dump_content family subtype =
     if subtype == 1 then content.IndexTable else
-    (if subtype == 2 then content.Rib false else
-    (if subtype == 8 then content.Rib true else content.Aside))
+    (if subtype == family.rib then content.Rib false else
+    (if subtype == family.rib_add_path then content.Rib true else content.Aside))
 
 -- BGP4MP, and BGP4MP_ET (RFC 6396, 4.4; RFC 8050, 3)
 abbrev pub session_content : ℕ → Content
@@ -52,9 +53,9 @@ session_content subtype =
     (if subtype == 8 then content.Message Two true else
     (if subtype == 9 then content.Message Four true else content.Aside)))))
 
-unfoldable pub content_of : ℕ → ℕ → Content
-content_of kind subtype =
-    if kind == 13 then dump_content subtype else
+unfoldable pub content_of : FamilyOf → ℕ → ℕ → Content
+content_of family kind subtype =
+    if kind == 13 then dump_content family subtype else
     (if kind == 16 || kind == 17 then session_content subtype else content.Aside)
 
 -- the type with extended timestamps
@@ -82,42 +83,43 @@ abbrev pub no_peer : PeerKey
 no_peer = record { asn = 0; addr = V4 0 }
 
 -- the unit of the entry of this number, from this peer of the index
-abbrev pub rib_unit : RecordAt → List PeerKey → ℕ → ℕ → RouteKey → List ℕ → ReplayUnit
-rib_unit at peers number peer key attributes = record {
+abbrev pub rib_unit : FamilyOf → RecordAt → List PeerKey → ℕ → ℕ → RouteKey → List ℕ → ReplayUnit
+rib_unit family at peers number peer key attributes = record {
   place = place_of at (Some number);
   time = time_of at 0;
   peer = slice_index_or peers peer no_peer;
-  payload = Entry key attributes;
+  payload = Entry key attributes family;
 }
 
-abbrev pub entry_unit : RecordAt → List PeerKey → IpPrefix → ℕ → WrittenEntry → ReplayUnit
-entry_unit at peers prefix number e =
-    rib_unit at peers number e.peer (record { prefix = prefix; id = e.identifier }) e.attributes
+abbrev pub entry_unit : FamilyOf → RecordAt → List PeerKey → IpPrefix → ℕ → WrittenEntry → ReplayUnit
+entry_unit family at peers prefix number e =
+    rib_unit family at peers number e.peer (record { prefix = prefix; id = e.identifier }) e.attributes
 
 -- the units of entries, the first of which has this number
-abbrev pub entry_units : RecordAt → List PeerKey → IpPrefix → ℕ → List WrittenEntry → List ReplayUnit
-entry_units at peers prefix number [] = []
-entry_units at peers prefix number (e ∷ entries) =
-    entry_unit at peers prefix number e ∷ entry_units at peers prefix (number + 1) entries
+abbrev pub entry_units : FamilyOf → RecordAt → List PeerKey → IpPrefix → ℕ → List WrittenEntry → List ReplayUnit
+entry_units family at peers prefix number [] = []
+entry_units family at peers prefix number (e ∷ entries) =
+    entry_unit family at peers prefix number e ∷ entry_units family at peers prefix (number + 1) entries
 
 -- the entries of a RIB record, numbered from 1
-abbrev pub rib_units : RecordAt → Option (List PeerKey) → RibForm → List ReplayUnit
-rib_units at None form = []
-rib_units at (Some peers) form = entry_units at peers (rib_prefix form) 1 form.entries
+abbrev pub rib_units : FamilyOf → RecordAt → Option (List PeerKey) → RibForm → List ReplayUnit
+rib_units family at None form = []
+rib_units family at (Some peers) form = entry_units family at peers (rib_prefix form) 1 form.entries
 
-abbrev pub rib_units_in : RecordAt → Bool → Option (List PeerKey) → List ℕ → Result (List ReplayUnit) Fault
-rib_units_in at add_path index body = rib_beside add_path index body >>= λ form. Ok (rib_units at index form)
+abbrev pub rib_units_in : FamilyOf → RecordAt → Bool → Option (List PeerKey) → List ℕ → Result (List ReplayUnit) Fault
+rib_units_in family at add_path index body = rib_beside family add_path index body >>= λ form. Ok (rib_units family at index form)
 
 -- the unit of a message or state change
 abbrev pub session_unit : RecordAt → ℕ → PeerKey → Payload → ReplayUnit
 session_unit at microseconds peer payload =
     record { place = place_of at None; time = time_of at microseconds; peer = peer; payload = payload }
 
-unfoldable pub message_unit : RecordAt → Bool → Width → Bool → List ℕ → Result ReplayUnit Fault
-message_unit at extended width add_path body = do
+-- of the family that is asked for
+unfoldable pub message_unit : FamilyOf → RecordAt → Bool → Width → Bool → List ℕ → Result ReplayUnit Fault
+message_unit family at extended width add_path body = do
   microseconds ← microseconds_at extended body
   peer ← session_peer_at width microseconds.1
-  Ok (session_unit at microseconds.0 peer.0 (Message peer.1 width add_path))
+  Ok (session_unit at microseconds.0 peer.0 (Message peer.1 width add_path family))
 
 -- with the rule that is asked for
 unfoldable pub states_unit : StateRule → RecordAt → Bool → Width → List ℕ → Result ReplayUnit Fault
@@ -130,14 +132,14 @@ states_unit rule at extended width body = do
 abbrev pub alone : Result ReplayUnit Fault → Result (List ReplayUnit) Fault
 alone read = read >>= λ unit. Ok (unit ∷ [])
 
--- The units of a whole record, or its fault; index tables and records aside give none. A state change has the rule that
--- is asked for.
-abbrev pub units_in : StateRule → RecordAt → Bool → Option (List PeerKey) → Content → List ℕ → Result (List ReplayUnit) Fault
-units_in rule at extended index content.IndexTable body = peers_in body >>= λ peers. Ok []
-units_in rule at extended index (content.Rib add_path) body = rib_units_in at add_path index body
-units_in rule at extended index (content.Message width add_path) body = alone (message_unit at extended width add_path body)
-units_in rule at extended index (content.States width) body = alone (states_unit rule at extended width body)
-units_in rule at extended index content.Aside body = Ok []
+-- The units of a whole record, or its fault; index tables and records aside give none. Messages and entries have the
+-- family and state changes the rule that are asked for.
+abbrev pub units_in : FamilyOf → StateRule → RecordAt → Bool → Option (List PeerKey) → Content → List ℕ → Result (List ReplayUnit) Fault
+units_in family rule at extended index content.IndexTable body = peers_in body >>= λ peers. Ok []
+units_in family rule at extended index (content.Rib add_path) body = rib_units_in family at add_path index body
+units_in family rule at extended index (content.Message width add_path) body = alone (message_unit family at extended width add_path body)
+units_in family rule at extended index (content.States width) body = alone (states_unit rule at extended width body)
+units_in family rule at extended index content.Aside body = Ok []
 
 -- those of them that are selected; a fault stays
 abbrev pub selected_units : UnitSelection → Result (List ReplayUnit) Fault → Result (List ReplayUnit) Fault
@@ -168,7 +170,7 @@ clear_unit at peer = record { place = place_of at None; time = time_of at 0; pee
 -- Whether a record begins one, beside the index in force and the dumps before it. A refused record doesn't.
 abbrev pub begins : UnitSelection → RecordAt → Option (List PeerKey) → DumpsState → Content → List ℕ → Bool
 begins selection at index dumps (content.Rib add_path) body =
-    is_ok (rib_beside add_path index body) && may_begin selection dumps.begun (time_of at 0)
+    is_ok (rib_beside selection.family add_path index body) && may_begin selection dumps.begun (time_of at 0)
 begins selection at index dumps content.IndexTable body = false
 begins selection at index dumps (content.Message width add_path) body = false
 begins selection at index dumps (content.States width) body = false
@@ -200,18 +202,18 @@ dumps_behind selection begun dumps content read =
 unfoldable pub found_at : ℕ → UnitSelection → Option (List PeerKey) → DumpsState → Cut → List Found
 found_at file selection index dumps (Whole r) =
     let at = at_record file r.offset r.seconds in
-    let content = content_of r.kind r.subtype in
+    let content = content_of selection.family r.kind r.subtype in
     map (λ u. found.Unit u) (clears_at selection at index dumps content r.body)
-    ++ found_units selection at (units_in selection.states at (is_extended r.kind) index content r.body)
+    ++ found_units selection at (units_in selection.family selection.states at (is_extended r.kind) index content r.body)
 found_at file selection index dumps (Broken offset fault) = refused_at (at_record file offset 0) fault ∷ []
 
 -- the dumps behind a cut
 abbrev pub dumps_after : ℕ → UnitSelection → Option (List PeerKey) → DumpsState → Cut → DumpsState
 dumps_after file selection index dumps (Whole r) =
     let at = at_record file r.offset r.seconds in
-    let content = content_of r.kind r.subtype in
+    let content = content_of selection.family r.kind r.subtype in
     dumps_behind selection (begins selection at index dumps content r.body) dumps content
-    (units_in selection.states at (is_extended r.kind) index content r.body)
+    (units_in selection.family selection.states at (is_extended r.kind) index content r.body)
 dumps_after file selection index dumps (Broken offset fault) = dumps
 
 -- ---- the index in force
@@ -229,32 +231,32 @@ abbrev pub index_with : Option (List PeerKey) → Content → List ℕ → Optio
 index_with index content body = if is_index_content content then index_of_body body else index
 
 -- the index in force after a cut
-abbrev pub index_after : Option (List PeerKey) → Cut → Option (List PeerKey)
-index_after index (Whole r) = index_with index (content_of r.kind r.subtype) r.body
-index_after index (Broken offset fault) = index
+abbrev pub index_after : FamilyOf → Option (List PeerKey) → Cut → Option (List PeerKey)
+index_after family index (Whole r) = index_with index (content_of family r.kind r.subtype) r.body
+index_after family index (Broken offset fault) = index
 
 -- the bodies of index tables
-abbrev pub index_body : Cut → Option (List ℕ)
-index_body (Whole r) = if is_index_content (content_of r.kind r.subtype) then Some r.body else None
-index_body (Broken offset fault) = None
+abbrev pub index_body : FamilyOf → Cut → Option (List ℕ)
+index_body family (Whole r) = if is_index_content (content_of family r.kind r.subtype) then Some r.body else None
+index_body family (Broken offset fault) = None
 
 -- ---- what files give
 
 -- the index in force after these cuts: that of the last index table among them
-abbrev pub index_before : List Cut → Option (List PeerKey)
-index_before earlier = option_and_then index_of_body (last_or None (filter_map index_body earlier))
+abbrev pub index_before : FamilyOf → List Cut → Option (List PeerKey)
+index_before family earlier = option_and_then index_of_body (last_or None (filter_map (index_body family) earlier))
 
 -- the dumps behind these cuts, where this index is in force and these dumps were before the first
 abbrev pub dumps_behind_cuts : ℕ → UnitSelection → Option (List PeerKey) → DumpsState → List Cut → DumpsState
 dumps_behind_cuts file selection index dumps [] = dumps
 dumps_behind_cuts file selection index dumps (cut ∷ others) =
-    dumps_behind_cuts file selection (index_after index cut) (dumps_after file selection index dumps cut) others
+    dumps_behind_cuts file selection (index_after selection.family index cut) (dumps_after file selection index dumps cut) others
 
 -- an index holds in its own file alone; dumps are followed from one file to the next
 abbrev pub found_in_file : UnitSelection → ℕ → DumpsState → List ℕ → List Found
 found_in_file selection file dumps bytes =
     flat_map_after
-    (λ earlier cut. found_at file selection (index_before earlier)
+    (λ earlier cut. found_at file selection (index_before selection.family earlier)
     (dumps_behind_cuts file selection None dumps earlier) cut)
     [] (cuts 0 bytes)
 
@@ -276,7 +278,7 @@ abbrev pub found_from : ℕ → UnitSelection → Option (List PeerKey) → Dump
 found_from file selection index dumps [] = []
 found_from file selection index dumps (cut ∷ others) =
     found_at file selection index dumps cut
-    ++ found_from file selection (index_after index cut) (dumps_after file selection index dumps cut) others
+    ++ found_from file selection (index_after selection.family index cut) (dumps_after file selection index dumps cut) others
 
 abbrev pub unit_of : Found → Option ReplayUnit
 unit_of (found.Unit unit) = Some unit
@@ -297,8 +299,8 @@ refused_of selection files = filter_map damage_of (found_in selection files)
 -- whether a payload is what a record has of the peer, and not that a RIB dump clears its table
 abbrev pub is_recorded : Payload → Bool
 is_recorded (State from to rule) = true
-is_recorded (Message bytes width add_path) = true
-is_recorded (Entry key attrs) = true
+is_recorded (Message bytes width add_path family) = true
+is_recorded (Entry key attrs family) = true
 is_recorded Clear = false
 
 -- ---- how many bytes a unit carries
@@ -306,8 +308,8 @@ is_recorded Clear = false
 -- those of a message, or of an entry's attributes
 abbrev pub payload_bytes : Payload → List ℕ
 payload_bytes (State from to rule) = []
-payload_bytes (Message bytes width add_path) = bytes
-payload_bytes (Entry key attrs) = attrs
+payload_bytes (Message bytes width add_path family) = bytes
+payload_bytes (Entry key attrs family) = attrs
 payload_bytes Clear = []
 
 -- no more than the greatest body of a record
@@ -335,9 +337,9 @@ is_aside_content (content.States width) = false
 abbrev pub aside_count : Content → ℕ
 aside_count content = if is_aside_content content then 1 else 0
 
-abbrev pub is_aside : Cut → Bool
-is_aside (Whole r) = is_aside_content (content_of r.kind r.subtype)
-is_aside (Broken offset fault) = false
+abbrev pub is_aside : FamilyOf → Cut → Bool
+is_aside family (Whole r) = is_aside_content (content_of family r.kind r.subtype)
+is_aside family (Broken offset fault) = false
 
 abbrev pub all_cuts : List (List ℕ) → List Cut
 all_cuts files = flat_map (cuts 0) files
@@ -345,5 +347,5 @@ all_cuts files = flat_map (cuts 0) files
 abbrev pub records_of : List (List ℕ) → ℕ
 records_of files = count_by is_whole (all_cuts files)
 
-abbrev pub aside_of : List (List ℕ) → ℕ
-aside_of files = count_by is_aside (all_cuts files)
+abbrev pub aside_of : FamilyOf → List (List ℕ) → ℕ
+aside_of family files = count_by (is_aside family) (all_cuts files)

@@ -3,13 +3,14 @@
 ghost use Rattle.std.specs.Prelude.{◌≡◌, ◌↔◌, ℕ, Bool, List, Option, Ok, Err};
 ghost use Rattle.mrt_frame.specs.Bytes.{AreBytes};
 ghost use Rattle.mrt_frame.specs.declared.fault.Fault.{Fault};
+ghost use Rattle.bgp_update.specs.Families.{FamilyOf};
 ghost use Rattle.mrt_body.specs.declared.at.RecordAt.{RecordAt};
 ghost use Rattle.mrt_body.specs.declared.content.Content.{Content};
-ghost use Rattle.mrt_body.specs.declared.meaning.Event.{Event};
+ghost use Rattle.mrt_body.specs.Plain.{Event};
 ghost use Rattle.mrt_body.specs.declared.state_rule.StateRule.{StateRule};
-ghost use Rattle.mrt_body.specs.declared.unit.Payload.{Payload};
+ghost use Rattle.mrt_body.specs.Plain.{Payload};
 ghost use Rattle.mrt_body.specs.declared.unit.PeerKey.{PeerKey};
-ghost use Rattle.mrt_body.specs.declared.unit.Unit.{Unit as ReplayUnit};
+ghost use Rattle.mrt_body.specs.Plain.{Unit as ReplayUnit};
 ghost use Rattle.mrt_body.specs.Indexes.{peers_in};
 ghost use Rattle.mrt_body.specs.Events.{IsEvent, event_in};
 ghost use Rattle.mrt_body.specs.Units.{payload_bytes, units_in};
@@ -22,20 +23,20 @@ ghost use Rattle.mrt_body.specs.Refusals.{IsRefused};
 pub fn bodies_agree_with_their_forms()
     ensures peers { (body : List ℕ) (peers : List PeerKey) → AreBytes body →
         (peers_in body ≡ Ok peers) ↔ IsIndexBody body peers }
-    ensures units { (rule : StateRule) (at : RecordAt) (extended : Bool) (index : Option (List PeerKey))
+    ensures units { (family : FamilyOf) (rule : StateRule) (at : RecordAt) (extended : Bool) (index : Option (List PeerKey))
         (content : Content) (body : List ℕ) (units : List ReplayUnit) → AreBytes body →
-        (units_in rule at extended index content body ≡ Ok units) ↔ Agrees rule at extended index content body units }
-    ensures only { (rule : StateRule) (at : RecordAt) (extended : Bool) (index : Option (List PeerKey))
+        (units_in family rule at extended index content body ≡ Ok units) ↔ Agrees family rule at extended index content body units }
+    ensures only { (family : FamilyOf) (rule : StateRule) (at : RecordAt) (extended : Bool) (index : Option (List PeerKey))
         (content : Content) (body : List ℕ) (units others : List ReplayUnit) →
-        Agrees rule at extended index content body units →
-        Agrees rule at extended index content body others → units ≡ others }
-    ensures refused { (rule : StateRule) (at : RecordAt) (extended : Bool) (index : Option (List PeerKey))
+        Agrees family rule at extended index content body units →
+        Agrees family rule at extended index content body others → units ≡ others }
+    ensures refused { (family : FamilyOf) (rule : StateRule) (at : RecordAt) (extended : Bool) (index : Option (List PeerKey))
         (content : Content) (body : List ℕ) (fault : Fault) → AreBytes body →
-        (units_in rule at extended index content body ≡ Err fault) ↔ IsRefused rule at extended index content body fault }
+        (units_in family rule at extended index content body ≡ Err fault) ↔ IsRefused family rule at extended index content body fault }
 {}
 
 /// A payload has an event exactly if reading it yields one, and no event but this one
-/// (RFC 4271, 4.1 to 4.3).
+/// (RFC 4271, 4.1 to 4.3). It is read by the family that it has.
 pub fn events_agree_with_their_payloads()
     ensures events { (payload : Payload) (e : Event) → AreBytes (payload_bytes payload) →
         (event_in payload ≡ Ok e) ↔ IsEvent payload e }

@@ -4,7 +4,7 @@ ghost use Rattle.std.specs.Prelude.{◌≡◌};
 ghost use Rattle.mrt_body.specs.Choices.{addr_eq, is_chosen_peer, names_peer, takes_prefix};
 
 use crate::unit::{PeerAddr, PeerKey};
-use bgp_prefix::Prefix;
+use bgp_prefix::{Family, Prefix};
 
 /// How the prefix of a route may stand to one that is named.
 #[derive(Clone, Copy, Debug, PartialEq, Eq)]
@@ -19,20 +19,18 @@ pub enum Reach {
 
 /// Prefixes that stand in one way to one that is named.
 #[derive(Clone, Copy, Debug, PartialEq, Eq)]
-pub struct PrefixChoice {
-    pub prefix: Prefix,
+pub struct PrefixChoice<P = Prefix> {
+    pub prefix: P,
     pub reach: Reach,
 }
 
-impl PrefixChoice {
+impl<F: Family> PrefixChoice<Prefix<F>> {
     /// Whether this prefix is chosen.
-    pub fn takes(&self, prefix: &Prefix) -> bool
+    pub fn takes(&self, prefix: &Prefix<F>) -> bool
         ensures { result ≡ takes_prefix self.now prefix.now }
     {
         match self.reach {
-            Reach::Exact => {
-                self.prefix.addr() == prefix.addr() && self.prefix.len() == prefix.len()
-            }
+            Reach::Exact => self.prefix.is_same(prefix),
             Reach::Inside => self.prefix.covers(prefix),
             Reach::Around => prefix.covers(&self.prefix),
         }

@@ -8,29 +8,29 @@ ghost use Rattle.mrt_body.specs.Choices.{is_chosen, is_open, takes_prefix};
 ghost use Rattle.mrt_body.specs.Named.{AreApart, InOrder, is_around, is_inside, is_named, named_as};
 
 use crate::choice::{PrefixChoice, Reach};
-use bgp_prefix::{Memory, Prefix};
+use bgp_prefix::{Family, Memory, Prefix};
 use std::alloc::Global;
 use std::marker::Model;
 
 /// Which prefixes are chosen: those that one of some choices takes, or all if there are none. Whether it takes a prefix
 /// is found in the time of three binary searches, however many choices there are.
 #[derive(Debug, Drop)]
-pub struct ChosenPrefixes {
+pub struct ChosenPrefixes<F: Family = u32> {
     /// As they were given.
-    choices: Vec<PrefixChoice>,
+    choices: Vec<PrefixChoice<Prefix<F>>>,
     /// The prefixes that are named alone, in order.
-    exact: Vec<Prefix>,
+    exact: Vec<Prefix<F>>,
     /// Those that are named with their more specifics, in order, without those that another one covers: so the last one
     /// up to a prefix is the only one that can cover it.
-    inside: Vec<Prefix>,
+    inside: Vec<Prefix<F>>,
     /// Those that are named with their less specifics, in order: the first one from a prefix on is covered by it if
     /// any is.
-    around: Vec<Prefix>,
+    around: Vec<Prefix<F>>,
 }
 
-impl Model for ChosenPrefixes {
+impl<F: Family> Model for ChosenPrefixes<F> {
     ghost use Rattle.std.specs.Prelude.{List};
-    ghost use Rattle.mrt_body.specs.declared.choice.PrefixChoice.{PrefixChoice as Choice};
+    ghost use Rattle.mrt_body.specs.Plain.{PrefixChoice as Choice};
     ghost use Rattle.mrt_body.specs.Named.{StandFor};
 
     ghost Value = { List Choice };
@@ -41,14 +41,18 @@ impl Model for ChosenPrefixes {
 }
 
 /// A prefix has no bit past its length.
-fn is_known(prefix: &Prefix)
+fn is_known<F: Family>(prefix: &Prefix<F>)
     ensures { IsIpPrefix prefix.now }
 {
     prefix.len();
 }
 
 /// Returns the prefixes that are named with this reach, in order.
-fn named_as(alloc: Global, choices: &[PrefixChoice], reach: Reach) -> Result<Vec<Prefix>, Memory>
+fn named_as<F: Family>(
+    alloc: Global,
+    choices: &[PrefixChoice<Prefix<F>>],
+    reach: Reach,
+) -> Result<Vec<Prefix<F>>, Memory>
     ensures names { IfOk result (λ names. IsPermutation (named_as reach choices.now) names.items) }
     ensures order { IfOk result (λ names. InOrder names.items) }
 {
@@ -64,13 +68,13 @@ fn named_as(alloc: Global, choices: &[PrefixChoice], reach: Reach) -> Result<Vec
 }
 
 /// Returns those of these prefixes that no other one covers.
-fn outermost(alloc: Global, names: &[Prefix]) -> Result<Vec<Prefix>, Memory>
+fn outermost<F: Family>(alloc: Global, names: &[Prefix<F>]) -> Result<Vec<Prefix<F>>, Memory>
     requires { InOrder names.now }
     ensures order { IfOk result (λ kept. InOrder kept.items) }
     ensures apart { IfOk result (λ kept. AreApart kept.items) }
     ensures same { IfOk result (λ kept. (prefix : IpPrefix) → is_inside kept.items prefix ≡ is_inside names.now prefix) }
 {
-    let mut kept: Vec<Prefix> = Vec::new(alloc);
+    let mut kept: Vec<Prefix<F>> = Vec::new(alloc);
     for prefix in names {
         let is_covered = match kept.last() {
             Some(last) => last.covers(prefix),
@@ -84,7 +88,7 @@ fn outermost(alloc: Global, names: &[Prefix]) -> Result<Vec<Prefix>, Memory>
 }
 
 /// Whether the prefix is one of these.
-fn is_named(names: &[Prefix], prefix: &Prefix) -> bool
+fn is_named<F: Family>(names: &[Prefix<F>], prefix: &Prefix<F>) -> bool
     requires { InOrder names.now }
     ensures { result ≡ is_named names.now prefix.now }
 {
@@ -92,7 +96,7 @@ fn is_named(names: &[Prefix], prefix: &Prefix) -> bool
 }
 
 /// Whether one of these covers the prefix. If any does, so does the last one that isn't behind it.
-fn is_inside(names: &[Prefix], prefix: &Prefix) -> bool
+fn is_inside<F: Family>(names: &[Prefix<F>], prefix: &Prefix<F>) -> bool
     requires order { InOrder names.now }
     requires apart { AreApart names.now }
     ensures { result ≡ is_inside names.now prefix.now }
@@ -105,7 +109,7 @@ fn is_inside(names: &[Prefix], prefix: &Prefix) -> bool
 }
 
 /// Whether the prefix covers one of these. If it covers any, it covers the first one that isn't before it.
-fn is_around(names: &[Prefix], prefix: &Prefix) -> bool
+fn is_around<F: Family>(names: &[Prefix<F>], prefix: &Prefix<F>) -> bool
     requires { InOrder names.now }
     ensures { result ≡ is_around names.now prefix.now }
 {
@@ -117,9 +121,9 @@ fn is_around(names: &[Prefix], prefix: &Prefix) -> bool
     }
 }
 
-impl ChosenPrefixes {
+impl<F: Family> ChosenPrefixes<F> {
     /// Returns what chooses all prefixes.
-    pub fn all(alloc: Global) -> ChosenPrefixes
+    pub fn all(alloc: Global) -> ChosenPrefixes<F>
         ensures { result ≡ [] }
     {
         ChosenPrefixes {
@@ -131,7 +135,10 @@ impl ChosenPrefixes {
     }
 
     /// Returns what chooses the prefixes that one of these takes, or all if there are none.
-    pub fn new(alloc: Global, choices: Vec<PrefixChoice>) -> Result<ChosenPrefixes, Memory>
+    pub fn new(
+        alloc: Global,
+        choices: Vec<PrefixChoice<Prefix<F>>>,
+    ) -> Result<ChosenPrefixes<F>, Memory>
         ensures { IfOk result (λ chosen. chosen ≡ choices.items) }
     {
         let exact = named_as(alloc, &choices, Reach::Exact)?;
@@ -147,7 +154,7 @@ impl ChosenPrefixes {
     }
 
     /// Returns a copy.
-    pub fn copied(&self, alloc: Global) -> Result<ChosenPrefixes, Memory>
+    pub fn copied(&self, alloc: Global) -> Result<ChosenPrefixes<F>, Memory>
         ensures { IfOk result (λ copy. copy ≡ self.now) }
     {
         let choices = Vec::from_slice(alloc, &self.choices)?;
@@ -173,14 +180,14 @@ impl ChosenPrefixes {
     }
 
     /// Whether a prefix is chosen.
-    pub fn takes(&self, prefix: &Prefix) -> bool
+    pub fn takes(&self, prefix: &Prefix<F>) -> bool
         ensures { result ≡ is_chosen self.now prefix.now }
     {
         self.is_open() || self.takes_named(prefix)
     }
 
     /// Whether one of the choices takes a prefix.
-    fn takes_named(&self, prefix: &Prefix) -> bool
+    fn takes_named(&self, prefix: &Prefix<F>) -> bool
         ensures { result ≡ list_any (λ choice. takes_prefix choice prefix.now) self.now }
     {
         is_named(&self.exact, prefix)

@@ -3,14 +3,14 @@
 ghost use Rattle.std.specs.Prelude.{◌≡◌};
 ghost use Rattle.mrt_body.specs.Units as units_spec;
 
-use bgp_update::Width;
+use bgp_update::{Unicast, Width};
 
 /// What a record holds.
 #[derive(Clone, Copy, Debug, PartialEq, Eq)]
 pub enum Content {
     /// PEER_INDEX_TABLE.
     IndexTable,
-    /// RIB_IPV4_UNICAST, with path identifiers or without.
+    /// A RIB record of the family, with path identifiers or without.
     Rib { add_path: bool },
     /// A BGP message.
     Message { width: Width, add_path: bool },
@@ -36,14 +36,17 @@ pub(crate) fn is_extended(kind: u16) -> bool
     kind == BGP4MP_ET
 }
 
-fn dump_content(subtype: u16) -> Content
-    ensures { result ≡ units_spec.dump_content subtype }
+fn dump_content<F: Unicast>(subtype: u16) -> Content
+    ensures { result ≡ units_spec.dump_content F.family subtype }
 {
-    match subtype {
-        1 => Content::IndexTable,
-        2 => Content::Rib { add_path: false },
-        8 => Content::Rib { add_path: true },
-        _ => Content::Aside,
+    if subtype == 1 {
+        Content::IndexTable
+    } else if subtype == F::RIB {
+        Content::Rib { add_path: false }
+    } else if subtype == F::RIB_ADD_PATH {
+        Content::Rib { add_path: true }
+    } else {
+        Content::Aside
     }
 }
 
@@ -73,13 +76,13 @@ fn session_content(subtype: u16) -> Content
     }
 }
 
-/// Returns what a record of this type and subtype holds.
+/// Returns what a record of this type and subtype holds. RIB records of another family are set aside.
 #[tactic(auto, unfolding(crate::specs::Units::content_of))]
-pub fn content_of(kind: u16, subtype: u16) -> Content
-    ensures { result ≡ units_spec.content_of kind subtype }
+pub fn content_of<F: Unicast>(kind: u16, subtype: u16) -> Content
+    ensures { result ≡ units_spec.content_of F.family kind subtype }
 {
     match kind {
-        TABLE_DUMP_V2 => dump_content(subtype),
+        TABLE_DUMP_V2 => dump_content::<F>(subtype),
         BGP4MP | BGP4MP_ET => session_content(subtype),
         _ => Content::Aside,
     }

@@ -11,19 +11,19 @@ ghost use Rattle.mrt_body.specs.RibDumps.{heard_of};
 ghost use Rattle.mrt_body.specs.declared.rib_rule.RibRule.TheVariants.{Replace};
 
 use crate::at::RecordAt;
-use crate::lent::{LentPayload, LentUnit};
+use crate::lent::{LentPayload, LentUnit, LentUnitOf};
 use crate::rib::{ListedEntry, list_entries, rib_head_at};
 use crate::rib_dumps::RibDumps;
 use crate::selection::Selection;
 use crate::unit::{PeerAddr, PeerKey};
 use bgp_prefix::{Memory, Prefix, RouteKey, Sequence};
-use bgp_update::AttrError;
+use bgp_update::{AttrError, FamilyMark, Unicast};
 
 /// A RIB record along with a list of its entries, which are returned one by one.
 #[derive(Drop)]
-pub(crate) struct RibRecord {
+pub(crate) struct RibRecord<P> {
     pub(crate) at: RecordAt,
-    pub(crate) prefix: Prefix,
+    pub(crate) prefix: P,
     pub(crate) body: Sequence<u8>,
     /// How many entries of the list have been returned.
     pub(crate) given: u16,
@@ -43,7 +43,7 @@ fn peer_at(peers: &[PeerKey], index: u16) -> PeerKey
 }
 
 /// Keeps the entries of the peers that are taken.
-fn keep_taken(selection: &Selection, peers: &[PeerKey], list: &mut Vec<ListedEntry>)
+fn keep_taken<F: Unicast>(selection: &Selection<F>, peers: &[PeerKey], list: &mut Vec<ListedEntry>)
     ensures { list.new.items
         ≡ filter (λ e. takes_peer selection.now (slice_index_or peers.now e.peer no_peer)) list.old.items }
 {
@@ -58,7 +58,7 @@ fn bytes_from(bytes: &[u8], start: usize, len: usize) -> &[u8]
     &bytes[start..start + len]
 }
 
-impl RibRecord {
+impl<F: Unicast> RibRecord<Prefix<F>> {
     /// Reads a record against an index of these peers, and lists its entries. The list's memory is
     /// reused.
     pub(crate) fn read(
@@ -67,10 +67,10 @@ impl RibRecord {
         add_path: bool,
         peers: &[PeerKey],
         list: &mut Vec<ListedEntry>,
-    ) -> Result<RibRecord, AttrError>
+    ) -> Result<RibRecord<Prefix<F>>, AttrError>
         requires { length body ≤ 16777216 }
-        ensures units { Gives (units_left peers.now list.new.items) result
-            (rib_units_in at add_path (Some peers.now) body) }
+        ensures units { Gives (units_left F.family peers.now list.new.items) result
+            (rib_units_in F.family at add_path (Some peers.now) body) }
         ensures listed { IfOk result (AreListed peers.now list.new.items) }
         ensures first { IfOk result (λ r. r.given ≡ 0) }
         // A record takes no more room than for as many entries as its body can have.
@@ -103,7 +103,7 @@ impl RibRecord {
     #[inline(always)]
     pub(crate) fn is_pending(&self, peers: &[PeerKey], list: &[ListedEntry]) -> bool
         requires { AreListed peers.now list.now self.now }
-        ensures { result ≡ false ↔ (units_left peers.now list.now self.now ≡ []) }
+        ensures { result ≡ false ↔ (units_left F.family peers.now list.now self.now ≡ []) }
     {
         if self.given as usize == list.len() {
             return false;
@@ -115,14 +115,14 @@ impl RibRecord {
     /// those of some peers, or none.
     pub(crate) fn select(
         &self,
-        selection: &Selection,
+        selection: &Selection<F>,
         peers: &[PeerKey],
         list: &mut Vec<ListedEntry>,
     )
         requires listed { AreListed peers.now list.old.items self.now }
         requires first { self.now.given ≡ 0 }
-        ensures kept { units_left peers.now list.new.items self.now
-            ≡ filter (is_selected selection.now) (units_left peers.now list.old.items self.now) }
+        ensures kept { units_left F.family peers.now list.new.items self.now
+            ≡ filter (is_selected selection.now) (units_left F.family peers.now list.old.items self.now) }
         ensures listed { AreListed peers.now list.new.items self.now }
     {
         if !selection.takes_record(self.at.time(0), &self.prefix) {
@@ -141,7 +141,7 @@ impl RibRecord {
     ) -> Result<(), Memory>
         requires { AreListed peers.now list.now self.now }
         ensures { OnOk result (dumps.new
-            ≡ record dumps.old { heard = heard_of Replace dumps.old.heard (units_left peers.now list.now self.now) }) }
+            ≡ record dumps.old { heard = heard_of Replace dumps.old.heard (units_left F.family peers.now list.now self.now) }) }
     {
         for entry in &list[self.given as usize..] {
             dumps.hear(peer_at(peers, entry.peer))?;
@@ -151,13 +151,13 @@ impl RibRecord {
 
     /// Lends the unit of the next entry, or returns `None` at the end.
     #[inline(always)]
-    pub(crate) fn lend(&self, peers: &[PeerKey], list: &[ListedEntry]) -> Option<LentUnit<'_>>
+    pub(crate) fn lend(&self, peers: &[PeerKey], list: &[ListedEntry]) -> Option<LentUnitOf<'_, F>>
         requires { AreListed peers.now list.now self.now }
         ensures lends { IfSome result
-            (λ unit. units_left peers.now list.now self.now
-            ≡ lent_unit unit ∷ drop 1 (units_left peers.now list.now self.now)) }
-        ensures none { (result ≡ None → units_left peers.now list.now self.now ≡ [])
-            × (units_left peers.now list.now self.now ≡ [] → result ≡ None) }
+            (λ unit. units_left F.family peers.now list.now self.now
+            ≡ lent_unit unit ∷ drop 1 (units_left F.family peers.now list.now self.now)) }
+        ensures none { (result ≡ None → units_left F.family peers.now list.now self.now ≡ [])
+            × (units_left F.family peers.now list.now self.now ≡ [] → result ≡ None) }
         ensures small { IfSome result (λ unit. IsSmallUnit (lent_unit unit)) }
     {
         if self.given as usize == list.len() {
@@ -178,7 +178,11 @@ impl RibRecord {
             time: self.at.time(0),
             peer: peers[entry.peer as usize],
             peer_index: Some(entry.peer),
-            payload: LentPayload::Entry { key, attrs },
+            payload: LentPayload::Entry {
+                key,
+                attrs,
+                family: FamilyMark::new(),
+            },
         })
     }
 
@@ -186,7 +190,7 @@ impl RibRecord {
     #[inline(always)]
     pub(crate) fn pass(&mut self, peers: &[PeerKey], list: &[ListedEntry])
         requires { AreListed peers.now list.now self.old }
-        ensures passes { units_left peers.now list.now self.new ≡ drop 1 (units_left peers.now list.now self.old) }
+        ensures passes { units_left F.family peers.now list.now self.new ≡ drop 1 (units_left F.family peers.now list.now self.old) }
         ensures listed { AreListed peers.now list.now self.new }
     {
         if (self.given as usize) < list.len() {

@@ -10,38 +10,38 @@ ghost use Rattle.mrt_body.specs.declared.rib_rule.RibRule.TheVariants.{Replace};
 
 use crate::at::RecordAt;
 use crate::entries::RibRecord;
-use crate::lent::LentUnit;
+use crate::lent::LentUnitOf;
 use crate::rib::ListedEntry;
 use crate::rib_dumps::RibDumps;
 use crate::selection::Selection;
-use crate::unit::{PeerKey, Unit};
-use bgp_prefix::{Memory, Sequence};
-use bgp_update::AttrError;
+use crate::unit::{PeerKey, UnitOf};
+use bgp_prefix::{Memory, Prefix, Sequence};
+use bgp_update::{AttrError, Unicast};
 use std::alloc::Global;
 use std::marker::Model;
 
 /// The peers of an index table, and the entries of the last RIB record read against it that are still to
 /// be returned.
 #[derive(Drop)]
-pub(crate) struct Index {
+pub(crate) struct Index<F: Unicast> {
     peers: Vec<PeerKey>,
     /// The entries of the last record. The list is kept from one record to the next, to reuse its memory.
     list: Vec<ListedEntry>,
-    last: Option<RibRecord>,
+    last: Option<RibRecord<Prefix<F>>>,
 }
 
-impl Model for Index {
+impl<F: Unicast> Model for Index<F> {
     ghost use Rattle.mrt_body.specs.Pending.{IndexState, ArePending, pending_of};
 
     ghost Value = { IndexState };
 
-    ghost view = { λ i. record { peers = i.peers.items; pending = pending_of i.peers.items i.list.items i.last } };
+    ghost view = { λ i. record { peers = i.peers.items; pending = pending_of F.family i.peers.items i.list.items i.last } };
 
     ghost invariant = { λ i. ArePending i.peers.items i.list.items i.last };
 }
 
-impl Index {
-    pub(crate) fn new(alloc: Global, peers: Vec<PeerKey>) -> Index
+impl<F: Unicast> Index<F> {
+    pub(crate) fn new(alloc: Global, peers: Vec<PeerKey>) -> Index<F>
         ensures { result ≡ record { peers = peers.items; pending = [] } }
     {
         Index {
@@ -57,11 +57,11 @@ impl Index {
         at: RecordAt,
         add_path: bool,
         body: Sequence<u8>,
-        selection: &Selection,
+        selection: &Selection<F>,
     ) -> Result<(), AttrError>
         requires { length body ≤ 16777216 }
         ensures units { Gives (λ _. self.new.pending) result
-            (selected_units selection.now (rib_units_in at add_path (Some self.old.peers) body)) }
+            (selected_units selection.now (rib_units_in F.family at add_path (Some self.old.peers) body)) }
         ensures peers { self.new.peers ≡ self.old.peers }
         ensures few { length self.new.pending ≤ 65535 }
         ensures none { OnErr result (self.new.pending ≡ []) }
@@ -118,7 +118,7 @@ impl Index {
 
     /// Lends the unit of the next entry, or returns `None` at the end.
     #[inline(always)]
-    pub(crate) fn lend(&self) -> Option<LentUnit<'_>>
+    pub(crate) fn lend(&self) -> Option<LentUnitOf<'_, F>>
         ensures lends { IfSome result (λ unit. self.now.pending ≡ lent_unit unit ∷ drop 1 self.now.pending) }
         ensures none { (result ≡ None → self.now.pending ≡ []) × (self.now.pending ≡ [] → result ≡ None) }
         ensures small { IfSome result (λ unit. IsSmallUnit (lent_unit unit)) }
@@ -140,7 +140,7 @@ impl Index {
     }
 
     /// Returns the unit of the next entry, or `None` at the end.
-    pub(crate) fn next(&mut self, alloc: Global) -> Result<Option<Unit>, Memory>
+    pub(crate) fn next(&mut self, alloc: Global) -> Result<Option<UnitOf<F>>, Memory>
         ensures gives { IfOk result (λ unit. self.old.pending ≡ option_to_list unit ++ self.new.pending) }
         ensures ended { IfOk result (λ unit. unit ≡ None → self.old.pending ≡ []) }
         // At the end no memory is needed.

@@ -1,15 +1,17 @@
 //! What payloads mean (RFC 4271, 4.1 to 4.3).
 
 ghost use Rattle.std.specs.Prelude.{◌≡◌, IfOk, Ok};
+ghost use Rattle.bgp_prefix.specs.Prefixes.{IpPrefix};
 ghost use Rattle.bgp_update.specs.Answers.{Gives};
 ghost use Rattle.mrt_body.specs.Events.{IsEvent, IsMessageEvent, IsWritableEvent, event_in, message_event_in};
 ghost use Rattle.mrt_body.specs.Lent.{lent_payload};
 
-use crate::lent::LentPayload;
+use crate::lent::{LentPayload, LentPayloadOf};
 use crate::meaning::Event;
 use crate::message::message_in;
-use crate::unit::Payload;
-use bgp_update::{AttrError, Width, read_attrs, read_update};
+use crate::unit::PayloadOf;
+use bgp_prefix::Prefix;
+use bgp_update::{AttrError, Unicast, Width, read_attrs, read_update};
 use std::alloc::Global;
 
 /// The type of an UPDATE message.
@@ -17,15 +19,15 @@ pub(crate) const UPDATE: u8 = 2;
 
 /// Returns the event of a message.
 #[tactic(auto, unfolding(crate::specs::Events::message_event_in))]
-fn message_event(
+fn message_event<F: Unicast>(
     alloc: Global,
     bytes: &[u8],
     width: Width,
     add_path: bool,
-) -> Result<Event, AttrError>
-    ensures found { IfOk result (IsMessageEvent width add_path bytes.now) }
-    ensures only { (e : Event) → IsMessageEvent width add_path bytes.now e → Gives (λ e. e) result (Ok e) }
-    ensures exact { Gives (λ e. e) result (message_event_in width add_path bytes.now) }
+) -> Result<Event<Prefix<F>>, AttrError>
+    ensures found { IfOk result (IsMessageEvent F.family width add_path bytes.now) }
+    ensures only { (e : Event IpPrefix) → IsMessageEvent F.family width add_path bytes.now e → Gives (λ e. e) result (Ok e) }
+    ensures exact { Gives (λ e. e) result (message_event_in F.family width add_path bytes.now) }
     ensures writable { IfOk result IsWritableEvent }
 {
     let (kind, body) = match message_in(bytes) {
@@ -43,11 +45,14 @@ fn message_event(
 
 /// Returns the one event of a payload, or its first fault in the order of checks. A fault means that the
 /// unit is damaged and changes no route.
-pub fn event(alloc: Global, payload: &Payload) -> Result<Event, AttrError>
+pub fn event<F: Unicast>(
+    alloc: Global,
+    payload: &PayloadOf<F>,
+) -> Result<Event<Prefix<F>>, AttrError>
     // What is returned is what the payload means.
     ensures found { IfOk result (IsEvent payload.now) }
     // What it means is returned, unless memory runs out.
-    ensures only { (e : Event) → IsEvent payload.now e → Gives (λ e. e) result (Ok e) }
+    ensures only { (e : Event IpPrefix) → IsEvent payload.now e → Gives (λ e. e) result (Ok e) }
     // Which fault it is.
     ensures exact { Gives (λ e. e) result (event_in payload.now) }
     // Its route can be packed.
@@ -57,9 +62,12 @@ pub fn event(alloc: Global, payload: &Payload) -> Result<Event, AttrError>
 }
 
 #[tactic(auto, unfolding(crate::specs::Events::event_in))]
-fn lent_event(alloc: Global, payload: &LentPayload<'_>) -> Result<Event, AttrError>
+fn lent_event<F: Unicast>(
+    alloc: Global,
+    payload: &LentPayloadOf<'_, F>,
+) -> Result<Event<Prefix<F>>, AttrError>
     ensures found { IfOk result (IsEvent (lent_payload payload.now)) }
-    ensures only { (e : Event) → IsEvent (lent_payload payload.now) e → Gives (λ e. e) result (Ok e) }
+    ensures only { (e : Event IpPrefix) → IsEvent (lent_payload payload.now) e → Gives (λ e. e) result (Ok e) }
     ensures exact { Gives (λ e. e) result (event_in (lent_payload payload.now)) }
     ensures writable { IfOk result IsWritableEvent }
 {
@@ -69,11 +77,18 @@ fn lent_event(alloc: Global, payload: &LentPayload<'_>) -> Result<Event, AttrErr
             bytes,
             width,
             add_path,
-        } => message_event(alloc, bytes, width, add_path),
-        LentPayload::Entry { key, attrs } => match read_attrs::<u32>(alloc, attrs, Width::Four) {
-            Ok(route) => Ok(Event::Rib(key, route)),
-            Err(error) => Err(error),
-        },
+            family,
+        } => {
+            family.is_known();
+            message_event(alloc, bytes, width, add_path)
+        }
+        LentPayload::Entry { key, attrs, family } => {
+            family.is_known();
+            match read_attrs::<F>(alloc, attrs, Width::Four) {
+                Ok(route) => Ok(Event::Rib(key, route)),
+                Err(error) => Err(error),
+            }
+        }
         LentPayload::Clear => Ok(Event::Clear),
     }
 }

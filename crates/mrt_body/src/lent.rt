@@ -6,16 +6,16 @@ ghost use Rattle.mrt_body.specs.Units.{is_recorded, payload_bytes};
 
 use crate::payload_bytes::PayloadBytes;
 use crate::state_rule::StateRule;
-use crate::unit::{Payload, PeerKey, Place, Unit};
-use bgp_prefix::{Memory, RouteKey};
-use bgp_update::Width;
+use crate::unit::{Payload, PayloadOf, PeerKey, Place, Unit, UnitOf};
+use bgp_prefix::{Memory, Prefix, RouteKey};
+use bgp_update::{FamilyMark, Unicast, Width};
 use std::alloc::Global;
 
 /// A payload whose bytes are lent: those of a message, or of the attributes of a RIB entry.
 // Variants and fields stand in the order in which an entry takes the fewest instructions: a clear first, and the rule
 // of a state change before the bytes that a key has.
 #[derive(Clone, Copy, Debug)]
-pub enum LentPayload<'a> {
+pub enum LentPayload<'a, P = Prefix, K = FamilyMark> {
     /// A RIB dump begins that clears the peer's table.
     Clear,
     /// A state change (RFC 6396, 4.4.1): the old and the new state, any numbers, and the rule by which it is taken.
@@ -29,17 +29,19 @@ pub enum LentPayload<'a> {
         bytes: &'a [u8],
         width: Width,
         add_path: bool,
+        family: K,
     },
     /// An entry of a RIB record (RFC 6396, 4.3.4; with an identifier RFC 8050, 4.1).
     Entry {
-        key: RouteKey,
+        key: RouteKey<P>,
         attrs: &'a [u8],
+        family: K,
     },
 }
 
 /// A unit whose bytes are lent. Its time is in microseconds since 1970 UTC.
 #[derive(Clone, Copy, Debug)]
-pub struct LentUnit<'a> {
+pub struct LentUnit<'a, P = Prefix, K = FamilyMark> {
     pub place: Place,
     pub time: u64,
     pub peer: PeerKey,
@@ -47,13 +49,19 @@ pub struct LentUnit<'a> {
     /// part of the unit: a reader that keeps something for each peer can look there first, and then has to compare the
     /// peers.
     pub peer_index: Option<u16>,
-    pub payload: LentPayload<'a>,
+    pub payload: LentPayload<'a, P, K>,
 }
 
-impl<'a> LentPayload<'a> {
+/// A payload of a family whose bytes are lent.
+pub type LentPayloadOf<'a, F> = LentPayload<'a, Prefix<F>, FamilyMark<F>>;
+
+/// A unit of a family whose bytes are lent.
+pub type LentUnitOf<'a, F> = LentUnit<'a, Prefix<F>, FamilyMark<F>>;
+
+impl<'a, F: Unicast> LentPayload<'a, Prefix<F>, FamilyMark<F>> {
     /// Returns the same payload, whose bytes are lent as well.
     #[inline(always)]
-    pub fn same(&self) -> LentPayload<'a>
+    pub fn same(&self) -> LentPayloadOf<'a, F>
         ensures { lent_payload result ≡ lent_payload self.now }
     {
         match self {
@@ -66,12 +74,18 @@ impl<'a> LentPayload<'a> {
                 bytes,
                 width,
                 add_path,
+                family,
             } => LentPayload::Message {
                 bytes,
                 width: *width,
                 add_path: *add_path,
+                family: *family,
             },
-            LentPayload::Entry { key, attrs } => LentPayload::Entry { key: *key, attrs },
+            LentPayload::Entry { key, attrs, family } => LentPayload::Entry {
+                key: *key,
+                attrs,
+                family: *family,
+            },
             LentPayload::Clear => LentPayload::Clear,
         }
     }
@@ -88,7 +102,7 @@ impl<'a> LentPayload<'a> {
     }
 
     /// Returns the payload with a copy of its bytes. Up to 112 of them allocate nothing.
-    pub fn to_payload(&self, alloc: Global) -> Result<Payload, Memory>
+    pub fn to_payload(&self, alloc: Global) -> Result<PayloadOf<F>, Memory>
         ensures copies { IfOk result (λ payload. payload ≡ lent_payload self.now) }
         ensures short { length (payload_bytes (lent_payload self.now)) ≤ 112 → IsOk result }
     {
@@ -98,25 +112,28 @@ impl<'a> LentPayload<'a> {
                 bytes,
                 width,
                 add_path,
+                family,
             } => Payload::Message {
                 bytes: PayloadBytes::from_slice(alloc, bytes)?,
                 width,
                 add_path,
+                family,
             },
-            LentPayload::Entry { key, attrs } => Payload::Entry {
+            LentPayload::Entry { key, attrs, family } => Payload::Entry {
                 key,
                 attrs: PayloadBytes::from_slice(alloc, attrs)?,
+                family,
             },
             LentPayload::Clear => Payload::Clear,
         })
     }
 }
 
-impl LentUnit<'_> {
+impl<F: Unicast> LentUnit<'_, Prefix<F>, FamilyMark<F>> {
     /// Returns the unit with a copy of its bytes. Up to 112 of them allocate nothing.
     // Inlined, since for a call every lent unit would be kept in memory, padding and all.
     #[inline(always)]
-    pub fn to_unit(&self, alloc: Global) -> Result<Unit, Memory>
+    pub fn to_unit(&self, alloc: Global) -> Result<UnitOf<F>, Memory>
         ensures copies { IfOk result (λ unit. unit ≡ lent_unit self.now) }
         ensures short { length (payload_bytes (lent_payload self.now.payload)) ≤ 112 → IsOk result }
     {
@@ -129,9 +146,9 @@ impl LentUnit<'_> {
     }
 }
 
-impl Payload {
+impl<F: Unicast> Payload<Prefix<F>, FamilyMark<F>> {
     /// Lends the payload's bytes.
-    pub fn lend(&self) -> LentPayload<'_>
+    pub fn lend(&self) -> LentPayloadOf<'_, F>
         ensures { lent_payload result ≡ self.now }
     {
         match self {
@@ -144,23 +161,26 @@ impl Payload {
                 bytes,
                 width,
                 add_path,
+                family,
             } => LentPayload::Message {
                 bytes: bytes.as_slice(),
                 width: *width,
                 add_path: *add_path,
+                family: *family,
             },
-            Payload::Entry { key, attrs } => LentPayload::Entry {
+            Payload::Entry { key, attrs, family } => LentPayload::Entry {
                 key: *key,
                 attrs: attrs.as_slice(),
+                family: *family,
             },
             Payload::Clear => LentPayload::Clear,
         }
     }
 }
 
-impl Unit {
+impl<F: Unicast> Unit<Prefix<F>, FamilyMark<F>> {
     /// Lends the unit's bytes.
-    pub fn lend(&self) -> LentUnit<'_>
+    pub fn lend(&self) -> LentUnitOf<'_, F>
         ensures { lent_unit result ≡ self.now }
     {
         LentUnit {

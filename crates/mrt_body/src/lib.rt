@@ -12,6 +12,11 @@
 //!   prefix and others, the routes of others are taken out of the tables at the end (`Tables::retain`). That this is
 //!   the same as to select late is a law of `adj_rib`, `early_is_late`. Refusals, index tables and the counts of
 //!   records don't depend on the selection.
+//! - **Routes are those of one family** (`Unicast`), IPv4 where none is named. Messages and state changes are units of
+//!   either family; RIB records of another one are set aside (`content_of`). A payload carries its family, as a state
+//!   change carries its rule: a message and an entry have a mark of no size (`FamilyMark`), by which `event_in` reads
+//!   them. So no definition over units, sessions or lanes has a family as a further argument, and specs see each enum
+//!   at `IpPrefix` and `FamilyOf` (specs/Plain.antt).
 //! - **A RIB dump that replaces what came before it gives clears** (`RibRule::Replace`): before the entries of its
 //!   first record come units with the payload `Clear`, one for each peer that gave a unit since the last such dump, in
 //!   the order of the peers. So a restart of all tables is a unit of each peer, and no definition over units, lanes and
@@ -67,15 +72,20 @@ pub use choice::{PeerChoice, PrefixChoice, Reach};
 pub use chosen_prefixes::ChosenPrefixes;
 pub use content::{Content, content_of};
 pub use interpret::event;
-pub use lent::{LentPayload, LentUnit};
+pub use lent::{LentPayload, LentPayloadOf, LentUnit, LentUnitOf};
 pub use meaning::Event;
 pub use packed_meaning::{PackedEvent, packed_event};
 pub use payload_bytes::PayloadBytes;
-pub use reading::{added_dumps_clear_nothing, readings_give_all_found, units_have_their_rule};
+pub use reading::{
+    added_dumps_clear_nothing, readings_give_all_found, units_have_their_family,
+    units_have_their_rule,
+};
 pub use remarks::{Marked, Remarks};
 pub use rib_rule::RibRule;
 pub use selection::Selection;
 pub use share::Share;
 pub use state_rule::StateRule;
-pub use unit::{Damage, Found, Payload, PeerAddr, PeerKey, Place, Unit};
+pub use unit::{
+    Damage, Found, FoundOf, Payload, PayloadOf, PeerAddr, PeerKey, Place, Unit, UnitOf,
+};
 pub use units::Units;

@@ -6,22 +6,22 @@ ghost use Rattle.mrt_body.specs.Lent.{lent_payload};
 ghost use Rattle.mrt_body.specs.PackedEvents.{plain_event};
 
 use crate::interpret::UPDATE;
-use crate::lent::LentPayload;
+use crate::lent::{LentPayload, LentPayloadOf};
 use crate::message::message_in;
 use crate::state_rule::StateRule;
-use bgp_prefix::RouteKey;
-use bgp_update::{AttrError, PackedRoute, PackedUpdate, Width, read_packed_update};
+use bgp_prefix::{Prefix, RouteKey};
+use bgp_update::{AttrError, PackedRoute, PackedUpdate, Unicast, Width, read_packed_update};
 use std::alloc::Global;
 
 /// What a payload means, as `Event` has it, with packed routes.
 #[derive(Drop)]
-pub enum PackedEvent {
+pub enum PackedEvent<P = Prefix> {
     /// A state change: the old and the new state, and the rule by which it is taken.
     State(u16, u16, StateRule),
     /// An UPDATE.
-    Change(PackedUpdate),
+    Change(PackedUpdate<P>),
     /// A RIB entry, which announces its key.
-    Rib(RouteKey, PackedRoute),
+    Rib(RouteKey<P>, PackedRoute),
     /// A message of another type, which is not read.
     Other,
     /// A RIB dump begins that clears the peer's table.
@@ -30,14 +30,14 @@ pub enum PackedEvent {
 
 /// Returns the event of a message.
 #[tactic(auto, unfolding(crate::specs::Events::message_event_in))]
-fn packed_message_event(
+fn packed_message_event<F: Unicast>(
     alloc: Global,
     buffer: &mut Vec<u8>,
     bytes: &[u8],
     width: Width,
     add_path: bool,
-) -> Result<PackedEvent, AttrError>
-    ensures { Gives plain_event result (message_event_in width add_path bytes.now) }
+) -> Result<PackedEvent<Prefix<F>>, AttrError>
+    ensures { Gives plain_event result (message_event_in F.family width add_path bytes.now) }
 {
     let (kind, body) = match message_in(bytes) {
         Ok(message) => message,
@@ -55,11 +55,11 @@ fn packed_message_event(
 /// Returns the event of a payload whose bytes are lent, or its first fault, as `event` does. Its routes are packed by
 /// way of a buffer, whose contents are replaced. A session calls it for each unit that isn't read ahead.
 #[tactic(auto, unfolding(crate::specs::Events::event_in))]
-pub fn packed_event(
+pub fn packed_event<F: Unicast>(
     alloc: Global,
     buffer: &mut Vec<u8>,
-    payload: &LentPayload<'_>,
-) -> Result<PackedEvent, AttrError>
+    payload: &LentPayloadOf<'_, F>,
+) -> Result<PackedEvent<Prefix<F>>, AttrError>
     ensures { Gives plain_event result (event_in (lent_payload payload.now)) }
 {
     match *payload {
@@ -68,9 +68,14 @@ pub fn packed_event(
             bytes,
             width,
             add_path,
-        } => packed_message_event(alloc, buffer, bytes, width, add_path),
-        LentPayload::Entry { key, attrs } => {
-            match PackedRoute::read::<u32>(alloc, buffer, attrs, Width::Four) {
+            family,
+        } => {
+            family.is_known();
+            packed_message_event(alloc, buffer, bytes, width, add_path)
+        }
+        LentPayload::Entry { key, attrs, family } => {
+            family.is_known();
+            match PackedRoute::read::<F>(alloc, buffer, attrs, Width::Four) {
                 Ok(route) => Ok(PackedEvent::Rib(key, route)),
                 Err(error) => Err(error),
             }

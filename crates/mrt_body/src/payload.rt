@@ -10,20 +10,20 @@ use crate::session::{microseconds_at, session_peer_at, states_in};
 use crate::session_unit::{SessionKind, SessionUnit};
 use crate::state_rule::StateRule;
 use bgp_prefix::Sequence;
-use bgp_update::Width;
+use bgp_update::{FamilyMark, Unicast, Width};
 use mrt_frame::Fault;
 
 /// Returns the unit of a message, whose bytes are the end of the body.
 #[tactic(auto, unfolding(crate::specs::Units::message_unit))]
-pub(crate) fn message_unit(
+pub(crate) fn message_unit<F: Unicast>(
     at: RecordAt,
     is_extended: bool,
     width: Width,
     add_path: bool,
     body: Sequence<u8>,
-) -> Result<SessionUnit, Fault>
+) -> Result<SessionUnit<F>, Fault>
     requires { length body ≤ 16777216 }
-    ensures reads { Reads (λ unit. unit) result (units_spec.message_unit at is_extended width add_path body) }
+    ensures reads { Reads (λ unit. unit) result (units_spec.message_unit F.family at is_extended width add_path body) }
     ensures small { IfOk result (λ unit. length (payload_bytes unit.payload) ≤ length body) }
 {
     let bytes = body.as_slice();
@@ -35,6 +35,7 @@ pub(crate) fn message_unit(
         time: at.time(microseconds),
         peer,
         kind: SessionKind::Message { width, add_path },
+        family: FamilyMark::new(),
         body,
         start,
     })
@@ -42,13 +43,13 @@ pub(crate) fn message_unit(
 
 /// Returns the unit of a state change, which is taken by this rule.
 #[tactic(auto, unfolding(crate::specs::Units::states_unit))]
-pub(crate) fn states_unit(
+pub(crate) fn states_unit<F: Unicast>(
     rule: StateRule,
     at: RecordAt,
     is_extended: bool,
     width: Width,
     body: Sequence<u8>,
-) -> Result<SessionUnit, Fault>
+) -> Result<SessionUnit<F>, Fault>
     requires { length body ≤ 16777216 }
     ensures reads { Reads (λ unit. unit) result (units_spec.states_unit rule at is_extended width body) }
     ensures small { IfOk result (λ unit. payload_bytes unit.payload ≡ []) }
@@ -61,6 +62,7 @@ pub(crate) fn states_unit(
         time: at.time(microseconds),
         peer,
         kind: SessionKind::State { from, to, rule },
+        family: FamilyMark::new(),
         body,
         start: 0,
     })

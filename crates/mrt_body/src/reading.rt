@@ -4,9 +4,9 @@ ghost use Rattle.std.specs.Prelude.{◌≡◌, ◌++◌, ℕ, List, Option, Some
 ghost use Rattle.std.specs.List.{All};
 ghost use Rattle.mrt_frame.specs.declared.error.ReplayError.TheVariants.{Read};
 ghost use Rattle.mrt_body.specs.Choices.{UnitSelection};
-ghost use Rattle.mrt_body.specs.declared.unit.Found.{Found};
+ghost use Rattle.mrt_body.specs.Plain.{Found};
 ghost use Rattle.mrt_body.specs.ToCome.{UnitsState, FailsBehind, GivesAllBefore, HasEnded, TakesFound, fresh_units};
-ghost use Rattle.mrt_body.specs.States.{AreByRule};
+ghost use Rattle.mrt_body.specs.States.{AreByRule, AreOfFamily};
 ghost use Rattle.mrt_body.specs.Units.{aside_of, found_in, is_recorded, records_of, units_of};
 ghost use Rattle.mrt_body.specs.declared.rib_rule.RibRule.TheVariants.{Add};
 
@@ -27,7 +27,7 @@ pub fn readings_give_all_found()
         (contents : List (List ℕ)) (left : List (Option (List ℕ))) (given : List Found) →
         TakesFound (fresh_units count max_records selection) (map (λ bytes. Some bytes) contents) last left given →
         HasEnded last → length left ≡ last.count →
-        (given ≡ found_in selection contents) × (last.records ≡ records_of contents) × (last.aside ≡ aside_of contents) }
+        (given ≡ found_in selection contents) × (last.records ≡ records_of contents) × (last.aside ≡ aside_of selection.family contents) }
     ensures failed { (count max_records file : ℕ) (selection : UnitSelection) (last stopped : UnitsState)
         (contents : List (List ℕ)) (left after : List (Option (List ℕ))) (given : List Found) →
         TakesFound (fresh_units count max_records selection) (map (λ bytes. Some bytes) contents) last left given →
@@ -39,6 +39,12 @@ pub fn readings_give_all_found()
 pub fn units_have_their_rule()
     ensures { (selection : UnitSelection) (files : List (List ℕ)) →
         AreByRule selection.states (units_of selection files) }
+{}
+
+/// Each message and each entry has the family that the selection asks for.
+pub fn units_have_their_family()
+    ensures { (selection : UnitSelection) (files : List (List ℕ)) →
+        AreOfFamily selection.family (units_of selection files) }
 {}
 
 /// Where RIB dumps are added, no unit is a clear.

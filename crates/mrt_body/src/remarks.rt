@@ -2,6 +2,7 @@
 //! nothing is proved of it but that it is safe to look for.
 
 use crate::rib::ListedEntry;
+use bgp_update::Unicast;
 use std::alloc::Global;
 
 /// The most files that are told by their numbers.
@@ -58,9 +59,9 @@ impl Marked {
 /// What is remarkable about the records of files.
 #[derive(Clone, Copy, Debug, PartialEq, Eq)]
 pub struct Remarks {
-    /// RIB records of IPv4 unicast routes that were read (RFC 6396, 4.3.2; RFC 8050, 4).
+    /// RIB records of unicast routes of the family that were read (RFC 6396, 4.3.2; RFC 8050, 4).
     pub ribs: u64,
-    /// RIB records of IPv6 unicast routes, which are set aside.
+    /// RIB records of unicast routes of the other family, which are set aside.
     pub other_family: Marked,
     /// RIB dumps: RIB records that are the first ones behind an index table, and aren't past the last second.
     pub dumps: Marked,
@@ -103,8 +104,9 @@ impl Remarker {
     }
 
     /// Takes note of a record of this type and subtype.
-    pub(crate) fn see_record(&mut self, file: usize, kind: u16, subtype: u16) {
-        if kind == 13 && (subtype == 4 || subtype == 10) {
+    pub(crate) fn see_record<F: Unicast>(&mut self, file: usize, kind: u16, subtype: u16) {
+        let is_unicast = kind == 13 && matches!(subtype, 2 | 4 | 8 | 10);
+        if is_unicast && subtype != F::RIB && subtype != F::RIB_ADD_PATH {
             self.remarks.other_family.add(file);
         }
     }

@@ -1,5 +1,4 @@
-//! The RIB_IPV4_UNICAST record (RFC 6396, 4.3.2 and 4.3.4) and its form with path identifiers
-//! (RFC 8050, 4).
+//! The RIB records of a family (RFC 6396, 4.3.2 and 4.3.4), and their forms with path identifiers (RFC 8050, 4).
 
 ghost use Rattle.std.specs.Prelude.{◌≡◌, ◌≤◌, ◌+◌, ◌-◌, ◌/◌, IfOk, length, drop, map, max, vec_capacity};
 ghost use Rattle.std.specs.List.{All};
@@ -10,13 +9,13 @@ ghost use Rattle.mrt_body.specs.Many.{many};
 ghost use Rattle.mrt_body.specs.RibRecords as ribs;
 
 use bgp_prefix::Prefix;
-use bgp_update::{AttrError, prefix_at};
+use bgp_update::{AttrError, Unicast, prefix_at};
 use mrt_frame::{Fault, byte_at, bytes_at, u16_at, u32_at};
 
 /// What precedes the entries of a record.
 #[derive(Clone, Copy)]
-pub(crate) struct RibHead {
-    pub(crate) prefix: Prefix,
+pub(crate) struct RibHead<P> {
+    pub(crate) prefix: P,
     pub(crate) count: u16,
 }
 
@@ -30,9 +29,9 @@ pub(crate) struct RibEntry<'a> {
 
 /// Reads the fields before the entries, and returns them with the bytes after them.
 #[tactic(auto, using(crate::proofs::HeadParts::head_parts))]
-pub(crate) fn rib_head_at(bytes: &[u8]) -> Result<(RibHead, &[u8]), Fault>
+pub(crate) fn rib_head_at<F: Unicast>(bytes: &[u8]) -> Result<(RibHead<Prefix<F>>, &[u8]), Fault>
     ensures reads { Reads (λ x. (record { prefix = x.0.prefix; count = x.0.count }, x.1.now)) result
-        (ribs.read_head_at bytes.now) }
+        (ribs.read_head_at F.family bytes.now) }
     ensures few { IfOk result (λ x. x.0.count ≤ 65535) }
 {
     let (_, rest) = u32_at(bytes, Fault::ShortRecord)?;

@@ -7,6 +7,7 @@ use crate::rib_rule::RibRule;
 use crate::selection::Selection;
 use crate::unit::PeerKey;
 use bgp_prefix::Memory;
+use bgp_update::Unicast;
 use std::alloc::Global;
 use std::collections::BTreeSet;
 use std::marker::Model;
@@ -50,7 +51,7 @@ impl RibDumps {
 
     /// Whether a RIB record of this time begins a dump that clears the tables, if it isn't refused.
     #[inline(always)]
-    pub(crate) fn may_begin(&self, selection: &Selection, time: u64) -> bool
+    pub(crate) fn may_begin<F: Unicast>(&self, selection: &Selection<F>, time: u64) -> bool
         ensures { result ≡ may_begin selection.now self.now.begun time }
     {
         match selection.ribs() {

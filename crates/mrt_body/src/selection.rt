@@ -2,7 +2,7 @@
 
 ghost use Rattle.std.specs.Prelude.{◌≡◌, IfOk, true};
 ghost use Rattle.bgp_update.specs.PackedUpdates.{plain_update};
-ghost use Rattle.mrt_body.specs.Choices.{all_units, is_in_share, is_open};
+ghost use Rattle.mrt_body.specs.Choices.{all_of, is_in_share, is_open};
 ghost use Rattle.mrt_body.specs.Lent.{lent_payload};
 ghost use Rattle.mrt_body.specs.Selections.{concerns, has_chosen, is_past, is_selected, speaks_of, takes_each_peer, takes_peer, takes_record};
 ghost use Rattle.mrt_body.specs.declared.meaning.Event.TheVariants as events;
@@ -10,7 +10,7 @@ ghost use Rattle.std.specs.Prelude.{Ok};
 
 use crate::choice::{PeerChoice, is_chosen_peer};
 use crate::chosen_prefixes::ChosenPrefixes;
-use crate::lent::LentPayload;
+use crate::lent::{LentPayload, LentPayloadOf};
 use crate::packed_meaning::{PackedEvent, packed_event};
 use crate::rib_rule::RibRule;
 use crate::session_unit::SessionUnit;
@@ -18,21 +18,22 @@ use crate::share::Share;
 use crate::state_rule::StateRule;
 use crate::unit::PeerKey;
 use bgp_prefix::{Memory, Prefix, RouteKey};
-use bgp_update::{AttrError, PackedUpdate};
+use bgp_update::{AttrError, PackedUpdate, Unicast};
 use std::alloc::Global;
 use std::marker::Model;
 
 /// Which of the units that records give are returned: those that meet each criterion. Any other unit is
 /// skipped, as if no record gave it. Refused records, index tables and the counts of records are the same
-/// for each selection. It also says by which rules state changes and further RIB dumps are taken.
+/// for each selection. It also says by which rules state changes and further RIB dumps are taken, and by its type of
+/// which family the routes are that are read.
 #[derive(Debug, Drop)]
-pub struct Selection {
+pub struct Selection<F: Unicast = u32> {
     /// The last second of which units are returned, in seconds since 1970 UTC. A unit is skipped if the
     /// whole second of its time is past it. With `None` no time is.
     until: Option<u64>,
     /// Which prefixes are chosen. A unit that can't concern a chosen prefix is skipped: a RIB entry of another prefix,
     /// or an UPDATE that speaks of others only.
-    prefixes: ChosenPrefixes,
+    prefixes: ChosenPrefixes<F>,
     /// Which peers are chosen: those that one of these takes, or all if there are none.
     peers: Vec<PeerChoice>,
     /// Of the chosen peers those in this share alone, or all with `None`.
@@ -43,7 +44,7 @@ pub struct Selection {
     ribs: RibRule,
 }
 
-impl Model for Selection {
+impl<F: Unicast> Model for Selection<F> {
     ghost use Rattle.mrt_body.specs.Choices.{UnitSelection};
 
     ghost Value = { UnitSelection };
@@ -55,11 +56,12 @@ impl Model for Selection {
       share = s.share;
       states = s.states;
       ribs = s.ribs;
+      family = F.family;
     } };
 }
 
 /// Whether one of the keys has a chosen prefix.
-fn has_chosen(chosen: &ChosenPrefixes, keys: &[RouteKey]) -> bool
+fn has_chosen<F: Unicast>(chosen: &ChosenPrefixes<F>, keys: &[RouteKey<Prefix<F>>]) -> bool
     ensures { result ≡ has_chosen chosen.now keys.now }
 {
     for key in keys {
@@ -71,7 +73,7 @@ fn has_chosen(chosen: &ChosenPrefixes, keys: &[RouteKey]) -> bool
 }
 
 /// Whether an UPDATE speaks of a chosen prefix.
-fn speaks_of(chosen: &ChosenPrefixes, update: &PackedUpdate) -> bool
+fn speaks_of<F: Unicast>(chosen: &ChosenPrefixes<F>, update: &PackedUpdate<Prefix<F>>) -> bool
     ensures { result ≡ speaks_of chosen.now (Ok (events.Change (plain_update update.now))) }
 {
     has_chosen(chosen, update.withdrawn.as_slice())
@@ -80,11 +82,11 @@ fn speaks_of(chosen: &ChosenPrefixes, update: &PackedUpdate) -> bool
 }
 
 /// Whether a payload can concern a chosen prefix. A message is read by way of a buffer, whose contents are replaced.
-fn concerns(
+fn concerns<F: Unicast>(
     alloc: Global,
     buffer: &mut Vec<u8>,
-    chosen: &ChosenPrefixes,
-    payload: &LentPayload<'_>,
+    chosen: &ChosenPrefixes<F>,
+    payload: &LentPayloadOf<'_, F>,
 ) -> Result<bool, Memory>
     ensures { IfOk result (λ concerned. concerned ≡ concerns chosen.now (lent_payload payload.now)) }
 {
@@ -116,10 +118,10 @@ fn is_in_share(share: Option<Share>, peer: &PeerKey) -> bool
     }
 }
 
-impl Selection {
+impl<F: Unicast> Selection<F> {
     /// Returns the selection of all units, with state changes taken as they are recorded and RIB dumps added.
-    pub fn all(alloc: Global) -> Selection
-        ensures { result ≡ all_units }
+    pub fn all(alloc: Global) -> Selection<F>
+        ensures { result ≡ all_of F.family }
     {
         Selection {
             until: None,
@@ -132,7 +134,7 @@ impl Selection {
     }
 
     /// Returns the same selection up to the end of this second since 1970 UTC, or of all times with `None`.
-    pub fn up_to(mut self, until: Option<u64>) -> Selection
+    pub fn up_to(mut self, until: Option<u64>) -> Selection<F>
         ensures { result ≡ record self { until = until } }
     {
         self.until = until;
@@ -140,7 +142,7 @@ impl Selection {
     }
 
     /// Returns the same selection of what can concern the chosen prefixes.
-    pub fn of_prefixes(mut self, prefixes: ChosenPrefixes) -> Selection
+    pub fn of_prefixes(mut self, prefixes: ChosenPrefixes<F>) -> Selection<F>
         ensures { result ≡ record self { prefixes = prefixes } }
     {
         self.prefixes = prefixes;
@@ -148,7 +150,7 @@ impl Selection {
     }
 
     /// Returns the same selection of the peers that these take, or of all peers if there are none.
-    pub fn of_peers(mut self, peers: Vec<PeerChoice>) -> Selection
+    pub fn of_peers(mut self, peers: Vec<PeerChoice>) -> Selection<F>
         ensures { result ≡ record self { peers = peers.items } }
     {
         self.peers = peers;
@@ -156,7 +158,7 @@ impl Selection {
     }
 
     /// Returns the same selection of the peers in this share, or in any with `None`.
-    pub fn of_share(mut self, share: Option<Share>) -> Selection
+    pub fn of_share(mut self, share: Option<Share>) -> Selection<F>
         ensures { result ≡ record self { share = share } }
     {
         self.share = share;
@@ -164,7 +166,7 @@ impl Selection {
     }
 
     /// Returns the same selection, with state changes taken by this rule.
-    pub fn by_states(mut self, states: StateRule) -> Selection
+    pub fn by_states(mut self, states: StateRule) -> Selection<F>
         ensures { result ≡ record self { states = states } }
     {
         self.states = states;
@@ -172,11 +174,19 @@ impl Selection {
     }
 
     /// Returns the same selection, with further RIB dumps taken by this rule.
-    pub fn by_ribs(mut self, ribs: RibRule) -> Selection
+    pub fn by_ribs(mut self, ribs: RibRule) -> Selection<F>
         ensures { result ≡ record self { ribs = ribs } }
     {
         self.ribs = ribs;
         self
+    }
+
+    /// A selection is of no other family than that of its type.
+    #[inline(always)]
+    pub(crate) fn is_known(&self)
+        ensures { self.now.family ≡ F.family }
+    {
+        let _until = self.until;
     }
 
     /// The rule by which further RIB dumps are taken.
@@ -194,7 +204,7 @@ impl Selection {
     }
 
     /// The prefixes that are chosen.
-    pub fn prefixes(&self) -> &ChosenPrefixes
+    pub fn prefixes(&self) -> &ChosenPrefixes<F>
         ensures { result.now ≡ self.now.prefixes }
     {
         &self.prefixes
@@ -236,7 +246,7 @@ impl Selection {
 
     /// Whether a unit is selected, where all prefixes are chosen: then its time and its peer decide.
     #[tactic(auto, using(crate::proofs::OpenLaws::open_concerns))]
-    pub(crate) fn takes_unread(&self, unit: &SessionUnit) -> bool
+    pub(crate) fn takes_unread(&self, unit: &SessionUnit<F>) -> bool
         requires { is_open self.now.prefixes ≡ true }
         ensures { result ≡ is_selected self.now unit.now }
     {
@@ -248,7 +258,7 @@ impl Selection {
         &self,
         alloc: Global,
         buffer: &mut Vec<u8>,
-        unit: &SessionUnit,
+        unit: &SessionUnit<F>,
     ) -> Result<bool, Memory>
         ensures { IfOk result (λ selected. selected ≡ is_selected self.now unit.now) }
     {
@@ -259,7 +269,7 @@ impl Selection {
     }
 
     /// Whether the entries of a RIB record of this time and prefix are selected, as far as these decide.
-    pub(crate) fn takes_record(&self, time: u64, prefix: &Prefix) -> bool
+    pub(crate) fn takes_record(&self, time: u64, prefix: &Prefix<F>) -> bool
         ensures { result ≡ takes_record self.now time prefix.now }
     {
         if self.is_past(time) {

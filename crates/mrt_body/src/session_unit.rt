@@ -1,11 +1,11 @@
 //! The unit of a BGP4MP record, which keeps the record's body; or one that clears a table.
 
-use crate::lent::{LentPayload, LentUnit};
+use crate::lent::{LentPayload, LentUnit, LentUnitOf};
 use crate::payload_bytes::PayloadBytes;
 use crate::state_rule::StateRule;
-use crate::unit::{Payload, PeerKey, Place, Unit};
+use crate::unit::{Payload, PeerKey, Place, Unit, UnitOf};
 use bgp_prefix::{Memory, Sequence};
-use bgp_update::Width;
+use bgp_update::{FamilyMark, Unicast, Width};
 use std::alloc::Global;
 use std::marker::Model;
 
@@ -19,35 +19,36 @@ pub(crate) enum SessionKind {
 
 /// A message or a state change, as the record has it: a message is the end of the body. Or a clear, without a body.
 #[derive(Drop)]
-pub(crate) struct SessionUnit {
+pub(crate) struct SessionUnit<F: Unicast> {
     pub(crate) place: Place,
     pub(crate) time: u64,
     pub(crate) peer: PeerKey,
     pub(crate) kind: SessionKind,
+    pub(crate) family: FamilyMark<F>,
     pub(crate) body: Sequence<u8>,
     /// Where the message begins in the body.
     pub(crate) start: usize,
 }
 
-impl Model for SessionUnit {
+impl<F: Unicast> Model for SessionUnit<F> {
     ghost use Rattle.std.specs.Prelude.{◌≤◌, length};
-    ghost use Rattle.mrt_body.specs.declared.unit.Unit.{Unit as ReplayUnit};
+    ghost use Rattle.mrt_body.specs.Plain.{Unit as ReplayUnit};
     ghost use Rattle.mrt_body.specs.SessionUnits.{session_unit_of};
 
     ghost Value = { ReplayUnit };
 
-    ghost view = { λ u. session_unit_of u.place u.time u.peer u.kind u.body u.start };
+    ghost view = { λ u. session_unit_of F.family u.place u.time u.peer u.kind u.body u.start };
 
     ghost invariant = { λ u. (u.start ≤ length u.body) × (length u.body ≤ 16777216) };
 }
 
-impl SessionUnit {
+impl<F: Unicast> SessionUnit<F> {
     ghost use Rattle.std.specs.Prelude.{◌≡◌, IfOk};
     ghost use Rattle.mrt_body.specs.Lent.{lent_unit};
     ghost use Rattle.mrt_body.specs.Units.{IsSmallUnit};
 
     /// Returns the unit with a copy of its bytes.
-    pub(crate) fn to_unit(&self, alloc: Global) -> Result<Unit, Memory>
+    pub(crate) fn to_unit(&self, alloc: Global) -> Result<UnitOf<F>, Memory>
         ensures copies { IfOk result (λ unit. unit ≡ self.now) }
         ensures small { IfOk result IsSmallUnit }
     {
@@ -57,6 +58,7 @@ impl SessionUnit {
                 bytes: PayloadBytes::from_slice(alloc, &self.body.as_slice()[self.start..])?,
                 width,
                 add_path,
+                family: FamilyMark::new(),
             },
             SessionKind::Clear => Payload::Clear,
         };
@@ -69,7 +71,7 @@ impl SessionUnit {
     }
 
     /// Lends the unit's bytes.
-    pub(crate) fn lend(&self) -> LentUnit<'_>
+    pub(crate) fn lend(&self) -> LentUnitOf<'_, F>
         ensures lends { lent_unit result ≡ self.now }
         ensures small { IsSmallUnit (lent_unit result) }
     {
@@ -84,6 +86,7 @@ impl SessionUnit {
                     bytes: &self.body.as_slice()[self.start..],
                     width,
                     add_path,
+                    family: FamilyMark::new(),
                 },
                 SessionKind::Clear => LentPayload::Clear,
             },

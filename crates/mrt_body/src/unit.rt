@@ -2,8 +2,8 @@
 
 use crate::payload_bytes::PayloadBytes;
 use crate::state_rule::StateRule;
-use bgp_prefix::RouteKey;
-use bgp_update::Width;
+use bgp_prefix::{Prefix, RouteKey};
+use bgp_update::{FamilyMark, Width};
 use mrt_frame::Fault;
 
 /// The address of a peer.
@@ -37,9 +37,10 @@ pub struct Damage {
     pub fault: Fault,
 }
 
-/// What a unit says, as it appears in the record: its bytes are not yet interpreted.
+/// What a unit says, as it appears in the record: its bytes are not yet interpreted. A message and an entry have a mark
+/// of the family by which they are read, which takes no room.
 #[derive(Debug, Drop)]
-pub enum Payload {
+pub enum Payload<P = Prefix, K = FamilyMark> {
     /// A state change (RFC 6396, 4.4.1): the old and the new state, any numbers, and the rule by which it is taken,
     /// which is that of the selection.
     State {
@@ -52,11 +53,13 @@ pub enum Payload {
         bytes: PayloadBytes,
         width: Width,
         add_path: bool,
+        family: K,
     },
     /// An entry of a RIB record (RFC 6396, 4.3.4; with an identifier RFC 8050, 4.1).
     Entry {
-        key: RouteKey,
+        key: RouteKey<P>,
         attrs: PayloadBytes,
+        family: K,
     },
     /// Nothing that the peer said: a RIB dump begins that replaces what came before it, and clears the peer's table.
     Clear,
@@ -65,16 +68,25 @@ pub enum Payload {
 /// A message, a state change or a RIB entry of one peer, or that a dump clears the peer's table. Its time is in
 /// microseconds since 1970 UTC.
 #[derive(Debug, Drop)]
-pub struct Unit {
+pub struct Unit<P = Prefix, K = FamilyMark> {
     pub place: Place,
     pub time: u64,
     pub peer: PeerKey,
-    pub payload: Payload,
+    pub payload: Payload<P, K>,
 }
 
 /// What comes next in the files: a unit, or a record that yields none.
 #[derive(Debug, Drop)]
-pub enum Found {
-    Unit(Unit),
+pub enum Found<P = Prefix, K = FamilyMark> {
+    Unit(Unit<P, K>),
     Refused(Damage),
 }
+
+/// A payload of a family.
+pub type PayloadOf<F> = Payload<Prefix<F>, FamilyMark<F>>;
+
+/// A unit of a family.
+pub type UnitOf<F> = Unit<Prefix<F>, FamilyMark<F>>;
+
+/// What comes next in files that are read for a family.
+pub type FoundOf<F> = Found<Prefix<F>, FamilyMark<F>>;

@@ -12,31 +12,32 @@ ghost use Rattle.mrt_body.specs.declared.standing.Standing.TheVariants as standi
 use crate::at::RecordAt;
 use crate::content::{content_of, is_extended};
 use crate::in_force::Index;
-use crate::lent::LentUnit;
+use crate::lent::LentUnitOf;
 use crate::remarks::{Remarker, Remarks};
 use crate::rib_dumps::RibDumps;
 use crate::selection::Selection;
 use crate::standing::Standing;
-use crate::unit::{Damage, Found, Unit};
+use crate::unit::{Damage, Found, FoundOf, UnitOf};
 use crate::waiting::Waiting;
+use bgp_update::Unicast;
 use mrt_frame::{Cut, FrameReader, ReplayError, Source};
 use record::refused;
 use std::alloc::Global;
 use std::marker::Model;
 
-/// The units and refusals of files, one by one.
+/// The units and refusals of files, one by one, with routes of one family.
 #[derive(Drop)]
-pub struct Units {
+pub struct Units<F: Unicast = u32> {
     count: usize,
     file: usize,
     frames: FrameReader,
-    index: Option<Index>,
+    index: Option<Index<F>>,
     dumps: RibDumps,
     /// What is to be returned before the entries of the record cut last.
-    waiting: Waiting,
+    waiting: Waiting<F>,
     /// The memory of a record whose units were passed over, into which the next one is read.
     spare: Option<Vec<u8>>,
-    selection: Selection,
+    selection: Selection<F>,
     /// By way of which messages are read that are only selected by their prefixes. Its contents have no meaning.
     buffer: Option<Vec<u8>>,
     max_records: u64,
@@ -46,7 +47,7 @@ pub struct Units {
     remarker: Remarker,
 }
 
-impl Model for Units {
+impl<F: Unicast> Model for Units<F> {
     ghost use Rattle.std.specs.Prelude.{◌++◌};
     ghost use Rattle.mrt_body.specs.ToCome.{UnitsState, StandsWithin, index_peers, index_pending};
 
@@ -69,10 +70,10 @@ impl Model for Units {
     ghost invariant = { λ u. StandsWithin u.count u.file u.frames u.max_records u.records u.aside u.standing };
 }
 
-impl Units {
+impl<F: Unicast> Units<F> {
     /// Returns the units of these files, of which at most `max_records` whole records are cut. A unit
     /// that isn't selected is skipped.
-    pub fn new(alloc: Global, count: usize, max_records: u64, selection: Selection) -> Units
+    pub fn new(alloc: Global, count: usize, max_records: u64, selection: Selection<F>) -> Units<F>
         requires { (0 < max_records) × (max_records ≤ 2 ^ 47) }
         ensures fresh { result ≡ fresh_units count max_records selection }
         // All that the files hold is to come.
@@ -130,7 +131,7 @@ impl Units {
         &mut self,
         alloc: Global,
         files: &mut [R],
-    ) -> Result<Option<Found>, ReplayError>
+    ) -> Result<Option<FoundOf<F>>, ReplayError>
         requires { length files.old ≡ self.old.count }
         // It is the first of what is still to come, and leaves the rest.
         ensures found { IfOk result
@@ -236,6 +237,14 @@ impl Units {
         }
     }
 
+    /// What is selected is of no other family than that of the type.
+    #[inline(always)]
+    fn is_known(&self)
+        ensures { self.now.selection.family ≡ F.family }
+    {
+        self.selection.is_known();
+    }
+
     /// Whether a unit of the record that was cut last is to be returned.
     #[tactic(auto, using(crate::proofs::WaitingLaws::both_none))]
     fn is_pending(&self) -> bool
@@ -254,7 +263,7 @@ impl Units {
     /// them were returned, or after an error. Whoever is done with the unit calls `pass`, and needs no unit of their
     /// own.
     #[inline(always)]
-    pub fn lend(&self) -> Option<LentUnit<'_>>
+    pub fn lend(&self) -> Option<LentUnitOf<'_, F>>
         ensures lends { IfSome result
             (λ unit. (self.now.standing ≡ standings.Going)
             × (self.now.pending ≡ lent_unit unit ∷ drop 1 self.now.pending)) }
@@ -307,7 +316,7 @@ impl Units {
 
     /// Returns the next unit of the record that was cut last.
     #[tactic(auto, using(crate::proofs::WaitingLaws::both_none))]
-    fn next_pending(&mut self, alloc: Global) -> Result<Option<Unit>, ReplayError>
+    fn next_pending(&mut self, alloc: Global) -> Result<Option<UnitOf<F>>, ReplayError>
         ensures gives { IfOk result (λ unit. GivesPending self.old self.new (option_to_list unit)) }
         ensures ended { IfOk result (λ unit. unit ≡ None → self.old.pending ≡ []) }
         ensures none { self.old.pending ≡ [] → result ≡ Ok None }
@@ -370,7 +379,7 @@ impl Units {
                 }
                 self.records += 1;
                 self.remarker
-                    .see_record(self.file, record.kind, record.subtype);
+                    .see_record::<F>(self.file, record.kind, record.subtype);
                 Ok(Some(Cut::Whole(record)))
             }
             Ok(end) => {
@@ -415,6 +424,7 @@ impl Units {
         ensures unfailed { IfErr result (KeepsUnlessRead (R.failure_count reader.old) (R.failure_count reader.new)) }
         ensures plan { KeepsPlan self.old self.new }
     {
+        self.is_known();
         let file = self.file;
         self.reuse_record();
         match self.cut(alloc, reader)? {
@@ -433,7 +443,7 @@ impl Units {
                     offset: record.offset,
                     seconds: record.seconds,
                 };
-                let content = content_of(record.kind, record.subtype);
+                let content = content_of::<F>(record.kind, record.subtype);
                 self.take(alloc, at, is_extended(record.kind), content, record.body)
             }
         }

@@ -5,10 +5,11 @@ ghost use Rattle.mrt_body.specs.Lent.{lent_unit};
 ghost use Rattle.mrt_body.specs.Units.{IsSmallUnit, clear_unit};
 
 use crate::at::RecordAt;
-use crate::lent::LentUnit;
+use crate::lent::LentUnitOf;
 use crate::session_unit::{SessionKind, SessionUnit};
-use crate::unit::{PeerKey, Unit};
+use crate::unit::{PeerKey, UnitOf};
 use bgp_prefix::{Memory, Sequence};
+use bgp_update::{FamilyMark, Unicast};
 use std::alloc::Global;
 use std::collections::BTreeSet;
 use std::marker::Model;
@@ -16,17 +17,17 @@ use std::marker::Model;
 /// The unit of the BGP4MP record that was cut last, or the clears of the RIB dump that began last, as far as they are
 /// still to be returned.
 #[derive(Drop)]
-pub(crate) struct Waiting {
-    first: Option<SessionUnit>,
+pub(crate) struct Waiting<F: Unicast> {
+    first: Option<SessionUnit<F>>,
     /// The peers whose tables are to be cleared behind the first unit, by the dump that begins there.
     cleared: BTreeSet<PeerKey>,
     at: RecordAt,
     alloc: Global,
 }
 
-impl Model for Waiting {
+impl<F: Unicast> Model for Waiting<F> {
     ghost use Rattle.std.specs.Prelude.{◌≡◌, ◌++◌, List, [], None, map, option_to_list};
-    ghost use Rattle.mrt_body.specs.declared.unit.Unit.{Unit as ReplayUnit};
+    ghost use Rattle.mrt_body.specs.Plain.{Unit as ReplayUnit};
     ghost use Rattle.mrt_body.specs.Units.{clear_unit};
 
     ghost Value = { List ReplayUnit };
@@ -38,7 +39,11 @@ impl Model for Waiting {
 
 /// Takes out the clear of the first of these peers, by a record at this place.
 #[inline(always)]
-fn next_clear(alloc: Global, at: &RecordAt, cleared: &mut BTreeSet<PeerKey>) -> Option<SessionUnit>
+fn next_clear<F: Unicast>(
+    alloc: Global,
+    at: &RecordAt,
+    cleared: &mut BTreeSet<PeerKey>,
+) -> Option<SessionUnit<F>>
     ensures gives { map (clear_unit at.now) cleared.old.keys
         ≡ option_to_list result ++ map (clear_unit at.now) cleared.new.keys }
     ensures none { result ≡ None → cleared.new.keys ≡ [] }
@@ -50,7 +55,11 @@ fn next_clear(alloc: Global, at: &RecordAt, cleared: &mut BTreeSet<PeerKey>) -> 
 }
 
 #[inline(never)]
-fn pop_clear(alloc: Global, at: &RecordAt, cleared: &mut BTreeSet<PeerKey>) -> Option<SessionUnit>
+fn pop_clear<F: Unicast>(
+    alloc: Global,
+    at: &RecordAt,
+    cleared: &mut BTreeSet<PeerKey>,
+) -> Option<SessionUnit<F>>
     ensures gives { map (clear_unit at.now) cleared.old.keys
         ≡ option_to_list result ++ map (clear_unit at.now) cleared.new.keys }
     ensures none { result ≡ None → cleared.new.keys ≡ [] }
@@ -61,14 +70,15 @@ fn pop_clear(alloc: Global, at: &RecordAt, cleared: &mut BTreeSet<PeerKey>) -> O
         time: at.time(0),
         peer,
         kind: SessionKind::Clear,
+        family: FamilyMark::new(),
         body: Sequence::from_vec(Vec::new(alloc)),
         start: 0,
     })
 }
 
-impl Waiting {
+impl<F: Unicast> Waiting<F> {
     /// Returns none. Allocates nothing.
-    pub(crate) fn new(alloc: Global) -> Waiting
+    pub(crate) fn new(alloc: Global) -> Waiting<F>
         ensures { result ≡ [] }
     {
         Waiting {
@@ -93,7 +103,7 @@ impl Waiting {
 
     /// Keeps a unit to be returned.
     #[inline(always)]
-    pub(crate) fn put(&mut self, unit: SessionUnit)
+    pub(crate) fn put(&mut self, unit: SessionUnit<F>)
         requires { self.old ≡ [] }
         ensures { self.new ≡ unit ∷ [] }
     {
@@ -122,7 +132,7 @@ impl Waiting {
 
     /// Lends the next unit.
     #[inline(always)]
-    pub(crate) fn lend(&self) -> Option<LentUnit<'_>>
+    pub(crate) fn lend(&self) -> Option<LentUnitOf<'_, F>>
         ensures lends { IfSome result (λ unit. self.now ≡ lent_unit unit ∷ drop 1 self.now) }
         ensures none { result ≡ None → self.now ≡ [] }
         ensures small { IfSome result (λ unit. IsSmallUnit (lent_unit unit)) }
@@ -134,7 +144,7 @@ impl Waiting {
     }
 
     /// Returns the next unit with a copy of its bytes, and doesn't pass over it.
-    pub(crate) fn copy(&self, alloc: Global) -> Result<Option<Unit>, Memory>
+    pub(crate) fn copy(&self, alloc: Global) -> Result<Option<UnitOf<F>>, Memory>
         ensures copies { IfOk result (λ unit. IfSome unit (λ unit. self.now ≡ unit ∷ drop 1 self.now)) }
         ensures none { IfOk result (λ unit. unit ≡ None → self.now ≡ []) }
         ensures free { self.now ≡ [] → result ≡ Ok None }

@@ -10,9 +10,9 @@ use Rattle.mrt_frame.specs.declared.error.ReplayError.TheVariants as errors
 use Rattle.mrt_frame.specs.Devices.{HasFailed}
 use Rattle.mrt_body.specs.Choices.{UnitSelection}
 use Rattle.mrt_body.specs.declared.unit.Damage.{Damage}
-use Rattle.mrt_body.specs.declared.unit.Found.{Found}
+use Rattle.mrt_body.specs.Plain.{Found}
 use Rattle.mrt_body.specs.declared.unit.Found.TheVariants as found
-use Rattle.mrt_body.specs.declared.unit.Unit.{Unit as ReplayUnit}
+use Rattle.mrt_body.specs.Plain.{Unit as ReplayUnit}
 use Rattle.mrt_body.specs.Units.{unit_of, damage_of, units_of, refused_of, records_of, aside_of, found_in, all_cuts, is_whole, is_aside}
 use Rattle.mrt_body.specs.ToCome.{UnitsState, TakesFound, NothingToCome, found_to_come, cuts_to_come, units_left, unit_count, fresh_units}
 use Rattle.mrt_replay.specs.Replays.{HasTaken, HasTakenFiles, StopsFiles, StopsReplay}
@@ -92,7 +92,7 @@ module _ {T : Type 0} (Took : T → List ReplayUnit → List Damage → Type 0) 
           let x = h.came contents known in
           let y = step x.0 x.1 in
           let none : y.0 ≡ [] = none_known next.file later y.0 (size ∙ sym at_end) y.1 in
-          let last : count_by is_aside (cuts_to_come next y.0) ≡ 0 = ap (λ l. count_by is_aside (cuts_to_come next l)) none in
+          let last : count_by (is_aside next.selection.family) (cuts_to_come next y.0) ≡ 0 = ap (λ l. count_by (is_aside next.selection.family) (cuts_to_come next l)) none in
           omega (arith, x.2.aside, y.2.aside, last);
       took = h.took;
       few = omega (arith, h.few);
@@ -139,11 +139,13 @@ module _ (start : UnitsState) (count max_records : ℕ) (until : UnitSelection) 
         let cuts : count_by is_whole (cuts_to_come start contents) ≡ count_by is_whole (all_cuts contents) = ap (count_by is_whole) all in
         omega (arith, h.records contents known_from, none, cuts)
 
-    pub aside_taken : cuts_to_come start contents ≡ all_cuts contents → last.aside ≡ aside_of contents
+    pub aside_taken : cuts_to_come start contents ≡ all_cuts contents → last.aside ≡ aside_of until.family contents
     aside_taken all =
         let none : start.aside ≡ 0 = ap (λ (u : UnitsState). u.aside) fresh in
-        let cuts : count_by is_aside (cuts_to_come start contents) ≡ count_by is_aside (all_cuts contents) = ap (count_by is_aside) all in
-        omega (arith, h.aside contents known_from, none, cuts)
+        let family = start.selection.family in
+        let same : count_by (is_aside family) (all_cuts contents) ≡ aside_of until.family contents = ap (λ (u : UnitsState). count_by (is_aside u.selection.family) (all_cuts contents)) fresh in
+        let cuts : count_by (is_aside family) (cuts_to_come start contents) ≡ count_by (is_aside family) (all_cuts contents) = ap (count_by (is_aside family)) all in
+        omega (arith, h.aside contents known_from, none, cuts, same)
 
 -- why a reading from the start stops
 module _ (start : UnitsState) (count max_records : ℕ) (until : UnitSelection) (fresh : start ≡ fresh_units count max_records until) (told : List (Option Bytes)) where

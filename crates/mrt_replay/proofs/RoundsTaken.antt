@@ -11,8 +11,8 @@ use Rattle.mrt_frame.specs.declared.error.ReplayError.{ReplayError}
 use Rattle.mrt_frame.specs.declared.error.ReplayError.TheVariants as errors
 use Rattle.mrt_body.specs.declared.standing.Standing.TheVariants.{Going}
 use Rattle.mrt_body.specs.declared.unit.Damage.{Damage}
-use Rattle.mrt_body.specs.declared.unit.Found.{Found}
-use Rattle.mrt_body.specs.declared.unit.Unit.{Unit as ReplayUnit}
+use Rattle.mrt_body.specs.Plain.{Found}
+use Rattle.mrt_body.specs.Plain.{Unit as ReplayUnit}
 use Rattle.mrt_body.specs.Units.{unit_of, damage_of, is_whole, is_aside}
 use Rattle.mrt_body.specs.ToCome.{UnitsState, cuts_to_come, units_left}
 use Rattle.lane_deal.specs.declared.plan.Plan.{Plan}
@@ -167,7 +167,7 @@ module _ (dealing : ℕ → ℕ → ℕ) (plan : Plan) where
             aside = λ contents known.
                 let x = last.takes.found contents known in
                 let none : x.0 ≡ [] = none_known next.file later x.0 (size ∙ sym at_end) x.1 in
-                let cuts : count_by is_aside (cuts_to_come next x.0) ≡ 0 = ap (λ l. count_by is_aside (cuts_to_come next l)) none in
+                let cuts : count_by (is_aside next.selection.family) (cuts_to_come next x.0) ≡ 0 = ap (λ l. count_by (is_aside next.selection.family) (cuts_to_come next l)) none in
                 omega (arith, x.2.aside, cuts);
             took = last.took;
             few = (let h = last.takes.few in omega arith);

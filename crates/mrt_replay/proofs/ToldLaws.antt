@@ -7,7 +7,7 @@ use Rattle.mrt_frame.specs.declared.error.ReplayError.{ReplayError}
 use Rattle.mrt_frame.specs.declared.error.ReplayError.TheVariants as errors
 use Rattle.mrt_body.specs.declared.standing.Standing.TheVariants.{Going}
 use Rattle.mrt_body.specs.declared.unit.Damage.{Damage}
-use Rattle.mrt_body.specs.declared.unit.Unit.{Unit as ReplayUnit}
+use Rattle.mrt_body.specs.Plain.{Unit as ReplayUnit}
 use Rattle.mrt_body.specs.Units.{is_whole}
 use Rattle.mrt_body.specs.ToCome.{UnitsState, KeepsPlan, Stops, cuts_to_come}
 use Rattle.adj_rib.specs.Churns.{stopped}

@@ -5,8 +5,8 @@ use Rattle.mrt_frame.specs.Devices.{HasFailed}
 use Rattle.mrt_frame.specs.declared.error.ReplayError.{ReplayError}
 use Rattle.mrt_frame.specs.declared.error.ReplayError.TheVariants as errors
 use Rattle.mrt_body.specs.declared.unit.Damage.{Damage}
-use Rattle.mrt_body.specs.declared.unit.Found.{Found}
-use Rattle.mrt_body.specs.declared.unit.Unit.{Unit as ReplayUnit}
+use Rattle.mrt_body.specs.Plain.{Found}
+use Rattle.mrt_body.specs.Plain.{Unit as ReplayUnit}
 use Rattle.mrt_body.specs.Units.{units_of, refused_of, records_of, aside_of, unit_of, damage_of, is_whole, is_aside}
 use Rattle.mrt_body.specs.ToCome.{UnitsState, TakesFound, HasMoreRecords, found_to_come, cuts_to_come, units_left}
 use Rattle.peer_tables.specs.Tables.{tables_of, chosen_tables}
@@ -37,7 +37,7 @@ pub record HasTakenFiles {T : Type 0} (Took : T → List ReplayUnit → List Dam
   pub records : (contents : List (List ℕ)) → drop start.file told ≡ map (λ bytes. Some bytes) contents →
       start.records + count_by is_whole (cuts_to_come start contents) ≡ now.records
   pub aside : (contents : List (List ℕ)) → drop start.file told ≡ map (λ bytes. Some bytes) contents →
-      start.aside + count_by is_aside (cuts_to_come start contents) ≡ now.aside
+      start.aside + count_by (is_aside start.selection.family) (cuts_to_come start contents) ≡ now.aside
   pub took : (units : List ReplayUnit) (refused : List Damage) → Took before units refused →
       Took after (units ++ filter_map unit_of items) (refused ++ filter_map damage_of items)
   pub few : length (filter_map unit_of items) ≤ units_left start
@@ -82,7 +82,7 @@ pub record IsReplayOf {M : Type 0} (selection : UnitSelection) (plan : Plan) (fi
       ≡ chosen_tables selection.prefixes (tables_of (units_of selection files) (refused_of selection files))
   pub records_counted : r.records ≡ records_of files
   pub units_counted : r.units ≡ length (units_of selection files)
-  pub aside_counted : r.aside ≡ aside_of files
+  pub aside_counted : r.aside ≡ aside_of selection.family files
   pub few_rounds : r.rounds ≤ 2 * r.units / plan.ring + r.units / plan.batch + 2
   pub two_rounds : 2 ≤ r.rounds
   pub enough_rounds : r.units ≤ (r.rounds - 1) * plan.batch

@@ -2,7 +2,7 @@
 use Rattle.std.specs.Prelude.{◌≡◌, ℕ, ◌+◌, ◌-◌, ◌*◌, ◌/◌, ◌^◌, ◌≤◌, ◌||◌, not, is_some, Bool, List, [], Option, Some, None, length, if◌then◌else◌}
 use Rattle.std.specs.List.{flat_map}
 use Rattle.mrt_body.specs.declared.unit.Damage.{Damage}
-use Rattle.mrt_body.specs.declared.unit.Unit.{Unit as ReplayUnit}
+use Rattle.mrt_body.specs.Plain.{Unit as ReplayUnit}
 use Rattle.mrt_body.specs.Units.{units_of, refused_of, records_of, aside_of}
 use Rattle.adj_rib.specs.Churns.{stopped}
 use Rattle.peer_tables.specs.declared.history.Listed.{Listed}
@@ -11,7 +11,7 @@ use Rattle.peer_tables.specs.declared.history.Listing.{Listing}
 use Rattle.peer_tables.specs.Histories.{PeerWatch, RowState, history_rows, watches_of}
 use Rattle.peer_tables.specs.Peers.{peers_of}
 use Rattle.peer_tables.specs.Tables.{TablesState, tables_of, chosen_tables, all_routes}
-use Rattle.mrt_body.specs.declared.choice.PrefixChoice.{PrefixChoice}
+use Rattle.mrt_body.specs.Plain.{PrefixChoice}
 use Rattle.rib_report.specs.Reports.{route_rows, match_rows, visibility_rows, origin_rows, seen_rows, churn_rows, watch_churns, peer_rows, fault_rows}
 use Rattle.rib_report.specs.Lines.{route_line, visibility_line, origin_line, seen_line, churn_line, peer_line, fault_line}
 use Rattle.rib_report.specs.HistoryLines.{history_line}
@@ -97,7 +97,7 @@ RoundsOf (Some listing) plan s = s.rounds ≡ 0
 pub record IsSummary (request : Request) (selection : UnitSelection) (plan : Plan) (files : List (List ℕ)) (s : Summary) : Type 0 where
   pub records : s.records ≡ records_of files
   pub units : s.units ≡ length (units_of selection files)
-  pub aside : s.aside ≡ aside_of files
+  pub aside : s.aside ≡ aside_of selection.family files
   pub damaged : s.damaged ≡ stopped (length (listed_faults selection files))
   pub peers : s.peers ≡ length (peers_of (units_of selection files))
   pub routes : s.routes

@@ -5,9 +5,9 @@ use Rattle.bgp_prefix.specs.Keys.{RouteKey}
 use Rattle.bgp_update.specs.declared.route.Route.{Route}
 use Rattle.mrt_body.specs.Choices.{UnitSelection}
 use Rattle.mrt_body.specs.Units.{units_of, refused_of, records_of, aside_of}
-use Rattle.mrt_body.specs.declared.choice.PrefixChoice.{PrefixChoice}
+use Rattle.mrt_body.specs.Plain.{PrefixChoice}
 use Rattle.mrt_body.specs.declared.unit.Damage.{Damage}
-use Rattle.mrt_body.specs.declared.unit.Unit.{Unit as ReplayUnit}
+use Rattle.mrt_body.specs.Plain.{Unit as ReplayUnit}
 use Rattle.adj_rib.specs.Churns.{stopped}
 use Rattle.peer_tables.specs.declared.history.Listing.{Listing}
 use Rattle.peer_tables.specs.Histories.{PeerWatch, history_rows, watches_of}
@@ -38,4 +38,4 @@ pub record IsHistoryOf {M : Type 0} (listing : Listing) (selection : UnitSelecti
   pub refused_kept : h.told.refused.items ≡ refused_of selection files
   pub records_counted : h.records ≡ records_of files
   pub units_counted : h.told.units ≡ length (units_of selection files)
-  pub aside_counted : h.aside ≡ aside_of files
+  pub aside_counted : h.aside ≡ aside_of selection.family files

@@ -4,10 +4,10 @@ ghost use Rattle.std.specs.Prelude.{◌≡◌, [], ◌∷◌, ◌++◌, IfErr, I
 ghost use Rattle.std.specs.List.{filter_map};
 ghost use Rattle.mrt_body.specs.Lent.{lent_unit};
 ghost use Rattle.mrt_body.specs.Units.{damage_of, unit_of};
-ghost use Rattle.mrt_body.specs.declared.choice.PrefixChoice.{PrefixChoice as Choice};
+ghost use Rattle.mrt_body.specs.Plain.{PrefixChoice as Choice};
 ghost use Rattle.mrt_body.specs.declared.standing.Standing.TheVariants.{Going};
 ghost use Rattle.mrt_body.specs.declared.unit.Damage.{Damage as AnyDamage};
-ghost use Rattle.mrt_body.specs.declared.unit.Unit.{Unit as ReplayUnit};
+ghost use Rattle.mrt_body.specs.Plain.{Unit as ReplayUnit};
 ghost use Rattle.peer_tables.specs.declared.history.Listing.{Listing as AnyListing};
 ghost use Rattle.mrt_replay.specs.Replays.{HasTakenFiles, StopsFiles};
 ghost use Rattle.mrt_replay.specs.Tellings.{Tells};

@@ -1,6 +1,6 @@
 -- Where no prefix is named all routes are chosen.
 use Rattle.std.proofs.Common.{◌≡◌, true, ℕ, zero, suc, ◌+◌, ◌<◌, List, [], ◌∷◌, map, length, set, get_or, refl, sym, ap, ◌∙◌, arith}
-use Rattle.mrt_body.specs.declared.choice.PrefixChoice.{PrefixChoice}
+use Rattle.mrt_body.specs.Plain.{PrefixChoice}
 use Rattle.mrt_body.specs.Choices.{is_open}
 use Rattle.bgp_prefix.specs.Keys.{RouteKey}
 use Rattle.bgp_update.specs.declared.route.Route.{Route}

@@ -4,8 +4,8 @@ use Rattle.std.specs.List.{filter}
 use Rattle.std.proofs.lemmas.List.Elements.{filter-append}
 use Rattle.mrt_frame.specs.Positions.{flat_map_after}
 use Rattle.mrt_body.specs.declared.unit.PeerKey.{PeerKey}
-use Rattle.mrt_body.specs.declared.unit.Unit.{Unit as ReplayUnit}
-use Rattle.adj_rib.specs.declared.note.Note.{Note}
+use Rattle.mrt_body.specs.Plain.{Unit as ReplayUnit}
+use Rattle.adj_rib.specs.Plain.{Note}
 use Rattle.adj_rib.specs.Histories.{unit_notes}
 use Rattle.peer_tables.specs.Histories.{history_of, history_of_own, history_where}
 use Rattle.peer_tables.specs.Peers.{peer_eq, units_of_peer}

@@ -1,24 +1,21 @@
 -- The watches on all peers, one unit after the other.
-use Rattle.std.proofs.Common.{◌≡◌, ℕ, zero, suc, ◌+◌, ◌<◌, ◌||◌, ◌&&◌, not, if◌then◌else◌, Bool, true, false, cond, List, [], ◌∷◌, ◌++◌, map, set, take, get_or, length, Option, Some, refl, sym, ap, ◌∙◌, subst, append-nil, arith}
-use Rattle.std.specs.Prelude.{slice_get, unwrap_or}
+use Rattle.std.proofs.Common.{◌≡◌, ℕ, zero, suc, ◌<◌, ◌||◌, ◌&&◌, not, if◌then◌else◌, Bool, true, false, cond, List, [], ◌∷◌, ◌++◌, map, set, get_or, length, Option, Some, refl, sym, ap, ◌∙◌, subst, append-nil, arith}
+use Rattle.std.specs.Prelude.{slice_get}
 use Rattle.std.specs.List.{filter, list_any}
 use Rattle.std.proofs.Math.Bool.{or-true}
-use Rattle.std.proofs.lemmas.Bool.{and_from, eq-eqb}
 use Rattle.std.proofs.lemmas.List.{map-append}
 use Rattle.std.proofs.lemmas.List.Elements.{filter-append}
 use Rattle.std.proofs.lemmas.List.Folds.{list_any-append}
 use Rattle.mrt_frame.specs.Positions.{flat_map_after}
 use Rattle.mrt_frame.proofs.PositionLaws.{flat_map_after-push}
-use Rattle.mrt_body.specs.declared.choice.PrefixChoice.{PrefixChoice}
-use Rattle.mrt_body.specs.declared.unit.PeerAddr.{PeerAddr}
-use Rattle.mrt_body.specs.declared.unit.PeerAddr.TheVariants.{V4, V6}
+use Rattle.mrt_body.specs.Plain.{PrefixChoice}
 use Rattle.mrt_body.specs.declared.unit.PeerKey.{PeerKey}
-use Rattle.mrt_body.specs.declared.unit.Unit.{Unit as ReplayUnit}
-use Rattle.adj_rib.specs.declared.note.Note.{Note}
+use Rattle.mrt_body.specs.Plain.{Unit as ReplayUnit}
+use Rattle.adj_rib.specs.Plain.{Note}
 use Rattle.adj_rib.specs.Histories.{WatchState, is_before, watch_of, unit_notes, chosen_notes}
 use Rattle.adj_rib.specs.Selecting.{chooses}
 use Rattle.peer_tables.specs.declared.history.Listing.{Listing}
-use Rattle.peer_tables.specs.Peers.{addr_eq, peer_eq, peers_of, units_of_peer}
+use Rattle.peer_tables.specs.Peers.{peer_eq, peers_of, units_of_peer}
 use Rattle.peer_tables.specs.Histories.{PeerWatch, RowState, history_of, history_rows, is_asked, is_listed, row_of, watches_of}
 use Rattle.peer_tables.specs.Watching.{asked_rows, keys_in, listed_rows}
 use Rattle.peer_tables.proofs.ShareLaws.{same_peer}

@@ -6,5 +6,5 @@ use Rattle.peer_tables.specs.Tables.{Seat}
 use Rattle.peer_tables.specs.Seats.{seat_of}
 
 -- lane after lane
-abbrev pub gathered_seats : {M : Type 0} → Gathered M → List Seat
+abbrev pub gathered_seats : {M A : Type 0} → Gathered M A → List Seat
 gathered_seats gathered = flat_map (λ lane. map seat_of lane) gathered.lanes

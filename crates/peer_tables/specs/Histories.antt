@@ -2,12 +2,12 @@
 use Rattle.std.specs.Prelude.{ℕ, Bool, true, false, not, ◌&&◌, Option, List, [], map}
 use Rattle.std.specs.List.{filter}
 use Rattle.mrt_frame.specs.Positions.{flat_map_after}
-use Rattle.mrt_body.specs.declared.choice.PrefixChoice.{PrefixChoice}
-use Rattle.mrt_body.specs.declared.unit.Payload.{Payload}
+use Rattle.mrt_body.specs.Plain.{PrefixChoice}
+use Rattle.mrt_body.specs.Plain.{Payload}
 use Rattle.mrt_body.specs.declared.unit.Payload.TheVariants.{State, Message, Entry, Clear}
 use Rattle.mrt_body.specs.declared.unit.PeerKey.{PeerKey}
-use Rattle.mrt_body.specs.declared.unit.Unit.{Unit as ReplayUnit}
-use Rattle.adj_rib.specs.declared.note.Note.{Note}
+use Rattle.mrt_body.specs.Plain.{Unit as ReplayUnit}
+use Rattle.adj_rib.specs.Plain.{Note}
 use Rattle.adj_rib.specs.declared.note.What.{What}
 use Rattle.adj_rib.specs.declared.note.What.TheVariants.{New, Changed, Same, Gone, Void, Lost}
 use Rattle.adj_rib.specs.Histories.{WatchState, is_before, unit_notes, watch_of}
@@ -40,8 +40,8 @@ history_where takes history = filter (λ e. takes e.0.peer) history
 -- what brings about what a unit does
 abbrev pub by_of : Payload → By
 by_of (State from to rule) = by.State
-by_of (Message bytes width add_path) = by.Update
-by_of (Entry key attrs) = by.Rib
+by_of (Message bytes width add_path family) = by.Update
+by_of (Entry key attrs family) = by.Rib
 by_of Clear = by.Rib
 
 -- one thing that happened to a key of a peer, at a time in microseconds

@@ -2,8 +2,9 @@
 use Rattle.std.specs.Prelude.{List, [], map, Some, None, if◌then◌else◌}
 use Rattle.std.specs.List.{filter}
 use Rattle.mrt_body.specs.declared.unit.PeerKey.{PeerKey}
-use Rattle.mrt_body.specs.declared.unit.Unit.{Unit as ReplayUnit}
-use Rattle.adj_rib.specs.declared.note.Note.{Note}
+use Rattle.mrt_body.specs.Plain.{Unit as ReplayUnit}
+use Rattle.adj_rib.specs.Plain.{Note}
+use Rattle.bgp_prefix.specs.Prefixes.{IpPrefix}
 use Rattle.peer_tables.specs.declared.history.Held.{Held}
 use Rattle.peer_tables.specs.declared.history.Held.TheVariants.{Routed, Routeless}
 use Rattle.peer_tables.specs.declared.history.Listed.{Listed}
@@ -13,7 +14,7 @@ use Rattle.adj_rib.specs.Histories.{is_before}
 use Rattle.peer_tables.specs.Histories.{PeerWatch, RowState, is_asked, row_of}
 
 -- a watch, as definitions see it
-abbrev pub watch_in : {M : Type 0} → Watched M → PeerWatch
+abbrev pub watch_in : {M A : Type 0} → Watched M A → PeerWatch
 watch_in w = record { key = w.key; watch = w.watch }
 
 -- the peers that watches are on
@@ -21,7 +22,7 @@ abbrev pub keys_in : List PeerWatch → List PeerKey
 keys_in watches = map (λ w. w.key) watches
 
 -- a row, by what it holds
-abbrev pub row_in : Held → RowState
+abbrev pub row_in : Held IpPrefix → RowState
 row_in (Routed by what key time peer route) =
     record { time = time; peer = peer; by = by; note = record { what = what; key = key; route = Some route } }
 row_in (Routeless by what key time peer) =

@@ -2,7 +2,7 @@
 
 ghost use Rattle.std.specs.Prelude.{◌≡◌, Bool, List};
 ghost use Rattle.mrt_body.specs.declared.unit.PeerKey.{PeerKey as AnyPeer};
-ghost use Rattle.mrt_body.specs.declared.unit.Unit.{Unit as ReplayUnit};
+ghost use Rattle.mrt_body.specs.Plain.{Unit as ReplayUnit};
 ghost use Rattle.peer_tables.specs.Histories.{history_of, history_of_own, history_where};
 ghost use Rattle.peer_tables.specs.Peers.{peer_eq, units_of_peer};
 ghost use Rattle.peer_tables.specs.Shares.{units_where};

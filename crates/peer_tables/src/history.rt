@@ -7,8 +7,9 @@ ghost use Rattle.peer_tables.specs.Watching.{asked_rows, listed_rows};
 
 use crate::shared_peer::SharedPeer;
 use adj_rib::{Note, SharedRoute, What, is_before};
-use bgp_prefix::{Memory, RouteKey};
-use mrt_body::{LentPayload, LentUnit, PeerKey};
+use bgp_prefix::{Family, Memory, Prefix, RouteKey};
+use bgp_update::Unicast;
+use mrt_body::{LentPayload, LentPayloadOf, LentUnitOf, PeerKey};
 use std::alloc::Global;
 use std::marker::Model;
 
@@ -23,14 +24,14 @@ pub enum By {
     State,
 }
 
-/// What a row holds. Whole dumps have as many rows as routes, so a row takes 40 bytes: the fields lie in an order that
-/// leaves no gap, and a row without a route has none.
+/// What a row holds. Whole dumps have as many rows as routes, so a row of an IPv4 key takes 40 bytes: the fields lie in
+/// an order that leaves no gap, and a row without a route has none.
 #[derive(Drop)]
-enum Held {
+enum Held<P = Prefix> {
     Routed {
         by: By,
         what: What,
-        key: RouteKey,
+        key: RouteKey<P>,
         time: u64,
         peer: SharedPeer,
         route: SharedRoute,
@@ -38,7 +39,7 @@ enum Held {
     Routeless {
         by: By,
         what: What,
-        key: RouteKey,
+        key: RouteKey<P>,
         time: u64,
         peer: SharedPeer,
     },
@@ -46,11 +47,11 @@ enum Held {
 
 /// One thing that happened to a key of a peer.
 #[derive(Drop)]
-pub struct HistoryRow {
-    held: Held,
+pub struct HistoryRow<F: Family = u32> {
+    held: Held<Prefix<F>>,
 }
 
-impl Model for HistoryRow {
+impl<F: Family> Model for HistoryRow<F> {
     ghost use Rattle.peer_tables.specs.Histories.{RowState};
     ghost use Rattle.peer_tables.specs.Watching.{row_in};
 
@@ -59,15 +60,15 @@ impl Model for HistoryRow {
     ghost view = { λ r. row_in r.held };
 }
 
-impl HistoryRow {
+impl<F: Family> HistoryRow<F> {
     /// Returns the row of a note on a key of this peer, at this time in microseconds since 1970 UTC.
     fn new(
         alloc: Global,
         time: u64,
         peer: &SharedPeer,
         by: By,
-        note: &Note,
-    ) -> Result<HistoryRow, Memory>
+        note: &Note<Prefix<F>>,
+    ) -> Result<HistoryRow<F>, Memory>
         ensures { IfOk result (λ row. row ≡ record { time = time; peer = peer.now; by = by; note = note.now }) }
     {
         let peer = peer.share(alloc)?;
@@ -128,7 +129,7 @@ impl HistoryRow {
     }
 
     /// The key that it happened to.
-    pub fn key(&self) -> RouteKey
+    pub fn key(&self) -> RouteKey<Prefix<F>>
         ensures { result ≡ self.now.note.key }
     {
         match &self.held {
@@ -169,7 +170,7 @@ pub struct Listing {
 }
 
 /// Returns what brings about what a unit does.
-fn by_of(payload: &LentPayload<'_>) -> By
+fn by_of<F: Unicast>(payload: &LentPayloadOf<'_, F>) -> By
     ensures { result ≡ by_of (lent_payload payload.now) }
 {
     match payload {
@@ -201,13 +202,13 @@ fn is_asked(listed: Listed, what: What) -> bool
 }
 
 /// Adds a row of each of the notes that is asked for, on keys of the unit's peer.
-fn list_notes(
+fn list_notes<F: Unicast>(
     alloc: Global,
     listed: Listed,
     peer: &SharedPeer,
-    unit: &LentUnit<'_>,
-    notes: &[Note],
-    rows: &mut Vec<HistoryRow>,
+    unit: &LentUnitOf<'_, F>,
+    notes: &[Note<Prefix<F>>],
+    rows: &mut Vec<HistoryRow<F>>,
 ) -> Result<(), Memory>
     requires { peer.now ≡ (lent_unit unit.now).peer }
     ensures { OnOk result (rows.new.items ≡ rows.old.items ++ asked_rows listed (lent_unit unit.now) notes.now) }
@@ -222,13 +223,13 @@ fn list_notes(
 }
 
 /// Adds a row of each of a unit's notes that is listed, on keys of its peer.
-pub(crate) fn list_unit(
+pub(crate) fn list_unit<F: Unicast>(
     alloc: Global,
     listing: Listing,
     peer: &SharedPeer,
-    unit: &LentUnit<'_>,
-    notes: &[Note],
-    rows: &mut Vec<HistoryRow>,
+    unit: &LentUnitOf<'_, F>,
+    notes: &[Note<Prefix<F>>],
+    rows: &mut Vec<HistoryRow<F>>,
 ) -> Result<(), Memory>
     requires { peer.now ≡ (lent_unit unit.now).peer }
     ensures { OnOk result (rows.new.items ≡ rows.old.items ++ listed_rows listing (lent_unit unit.now) notes.now) }

@@ -12,8 +12,8 @@
 //! `Watches` passes each unit to the watch on its peer, and makes rows of what it did (`HistoryRow`), in the order of
 //! the units: one thread, no lanes. The watches are those of the units' peers (`watches_of`): each took its peer's own
 //! units, and counts what they did from the same second on. A row is of a note that is listed (`history_rows`), and
-//! what happened at some of the peers is what their units did (`histories_are_of_peers`). A row takes 40 bytes: it
-//! shares its peer with the watch (`SharedPeer`), and its route with the table.
+//! what happened at some of the peers is what their units did (`histories_are_of_peers`). A row of an IPv4 key takes 40
+//! bytes: it shares its peer with the watch (`SharedPeer`), and its route with the table.
 //!
 //! `Peers` numbers the peers of units, for the lanes and for the watches: a peer has the next number when it first
 //! appears (`NumbersPeer`). It is looked for first where the last peer with its index in the index table, or with its

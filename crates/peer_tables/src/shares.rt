@@ -3,7 +3,7 @@
 ghost use Rattle.std.specs.Prelude.{◌≡◌, Bool, true, List};
 ghost use Rattle.std.specs.List.{filter};
 ghost use Rattle.mrt_body.specs.declared.unit.PeerKey.{PeerKey as AnyPeer};
-ghost use Rattle.mrt_body.specs.declared.unit.Unit.{Unit as ReplayUnit};
+ghost use Rattle.mrt_body.specs.Plain.{Unit as ReplayUnit};
 ghost use Rattle.peer_tables.specs.Peers.{peers_of, units_of_peer};
 ghost use Rattle.peer_tables.specs.Shares.{units_where};
 

@@ -2,7 +2,7 @@
 
 ghost use Rattle.std.specs.Prelude.{◌≡◌, IsPermutation, List};
 ghost use Rattle.mrt_body.specs.declared.unit.Damage.{Damage as ListedFault};
-ghost use Rattle.mrt_body.specs.declared.unit.Unit.{Unit as ReplayUnit};
+ghost use Rattle.mrt_body.specs.Plain.{Unit as ReplayUnit};
 ghost use Rattle.peer_tables.specs.declared.tables.Gathered.{Gathered as LanesIn};
 ghost use Rattle.peer_tables.specs.Tables.{Seat, TablesState, IsCollected, tables_of};
 ghost use Rattle.peer_tables.specs.Gathers.{gathered_seats};
@@ -28,8 +28,8 @@ pub fn collected_stand_for_units()
 
 /// What `collect` returns doesn't depend on how the sessions were spread over the lanes, nor on their order
 /// there: if the lanes hold the same sessions and the refusals are the same, the tables are the same.
-pub fn lanes_make_no_difference<M: PrefixMap<SharedRoute, Addr = u32>>()
-    ensures { (gathered others : LanesIn M) (tables other : TablesState) →
+pub fn lanes_make_no_difference<M: PrefixMap<SharedRoute>>()
+    ensures { (gathered others : LanesIn M M.Addr) (tables other : TablesState) →
         IsPermutation (gathered_seats gathered) (gathered_seats others) → gathered.refused ≡ others.refused →
         IsCollected (gathered_seats gathered) gathered.refused tables →
         IsCollected (gathered_seats others) others.refused other →

@@ -3,8 +3,8 @@
 ghost use Rattle.std.specs.Prelude.{◌≡◌, [], ◌∷◌, ◌++◌, IfOk, List, OnErr, OnOk, Some, false, map, slice_get};
 ghost use Rattle.std.specs.List.{list_any};
 ghost use Rattle.mrt_body.specs.Lent.{lent_unit};
-ghost use Rattle.mrt_body.specs.declared.choice.PrefixChoice.{PrefixChoice as Choice};
-ghost use Rattle.mrt_body.specs.declared.unit.Unit.{Unit as ReplayUnit};
+ghost use Rattle.mrt_body.specs.Plain.{PrefixChoice as Choice};
+ghost use Rattle.mrt_body.specs.Plain.{Unit as ReplayUnit};
 ghost use Rattle.adj_rib.specs.Histories.{chosen_notes, unit_notes};
 ghost use Rattle.peer_tables.specs.Peers.{peer_eq, units_of_peer};
 ghost use Rattle.peer_tables.specs.Histories.{history_rows, watches_of};
@@ -14,28 +14,29 @@ use crate::history::{HistoryRow, Listing, list_unit};
 use crate::peer_numbers::Peers;
 use crate::shared_peer::SharedPeer;
 use adj_rib::{Note, SharedRoute, Watch};
-use bgp_prefix::{Memory, PrefixMap};
-use mrt_body::{ChosenPrefixes, LentUnit};
+use bgp_prefix::{Memory, Prefix, PrefixMap};
+use bgp_update::Unicast;
+use mrt_body::{ChosenPrefixes, LentUnitOf};
 use std::alloc::Global;
 use std::marker::Model;
 
 /// A watch on a peer.
 #[derive(Drop)]
-pub struct Watched<M: PrefixMap<SharedRoute, Addr = u32>> {
+pub struct Watched<M: PrefixMap<SharedRoute>> {
     pub key: SharedPeer,
     pub watch: Watch<M>,
 }
 
 /// Passes the unit to the watch at this position, which replaces the notes.
-fn take_known<M: PrefixMap<SharedRoute, Addr = u32>>(
+fn take_known<F: Unicast, M: PrefixMap<SharedRoute, Addr = F>>(
     alloc: Global,
     buffer: &mut Vec<u8>,
-    chosen: &ChosenPrefixes,
+    chosen: &ChosenPrefixes<F>,
     since: Option<u64>,
     peers: &mut Vec<Watched<M>>,
     at: usize,
-    unit: &LentUnit<'_>,
-    notes: &mut Vec<Note>,
+    unit: &LentUnitOf<'_, F>,
+    notes: &mut Vec<Note<Prefix<F>>>,
 ) -> Result<(), Memory>
     requires { slice_get (keys_in (map watch_in peers.old.items)) at ≡ Some (lent_unit unit.now).peer }
     ensures stands { (before : List ReplayUnit) → map watch_in peers.old.items ≡ watches_of since chosen.now before →
@@ -53,15 +54,15 @@ fn take_known<M: PrefixMap<SharedRoute, Addr = u32>>(
 
 /// Passes the unit to a new watch, which replaces the notes, and returns its position. An `Err` leaves the watches as
 /// they were.
-fn take_new<M: PrefixMap<SharedRoute, Addr = u32> + Drop>(
+fn take_new<F: Unicast, M: PrefixMap<SharedRoute, Addr = F> + Drop>(
     alloc: Global,
     buffer: &mut Vec<u8>,
-    chosen: &ChosenPrefixes,
+    chosen: &ChosenPrefixes<F>,
     since: Option<u64>,
     numbers: &mut Peers,
     peers: &mut Vec<Watched<M>>,
-    unit: &LentUnit<'_>,
-    notes: &mut Vec<Note>,
+    unit: &LentUnitOf<'_, F>,
+    notes: &mut Vec<Note<Prefix<F>>>,
 ) -> Result<usize, Memory>
     requires numbered { keys_in (map watch_in peers.old.items) ≡ numbers.old }
     requires new { list_any (peer_eq (lent_unit unit.now).peer) numbers.old ≡ false }
@@ -84,15 +85,15 @@ fn take_new<M: PrefixMap<SharedRoute, Addr = u32> + Drop>(
 }
 
 /// Passes the unit to the watch on its peer, and returns its position.
-fn take_unit<M: PrefixMap<SharedRoute, Addr = u32> + Drop>(
+fn take_unit<F: Unicast, M: PrefixMap<SharedRoute, Addr = F> + Drop>(
     alloc: Global,
     buffer: &mut Vec<u8>,
-    chosen: &ChosenPrefixes,
+    chosen: &ChosenPrefixes<F>,
     since: Option<u64>,
     numbers: &mut Peers,
     peers: &mut Vec<Watched<M>>,
-    unit: &LentUnit<'_>,
-    notes: &mut Vec<Note>,
+    unit: &LentUnitOf<'_, F>,
+    notes: &mut Vec<Note<Prefix<F>>>,
 ) -> Result<usize, Memory>
     requires { keys_in (map watch_in peers.old.items) ≡ numbers.old }
     ensures numbered { keys_in (map watch_in peers.new.items) ≡ numbers.new }
@@ -114,17 +115,17 @@ fn take_unit<M: PrefixMap<SharedRoute, Addr = u32> + Drop>(
 
 /// The watches on all peers, by first appearance, and what they are passed units by.
 #[derive(Drop)]
-pub struct Watches<M: PrefixMap<SharedRoute, Addr = u32>> {
+pub struct Watches<M: PrefixMap<SharedRoute>> {
     peers: Vec<Watched<M>>,
     /// The peers that they are on, by position.
     numbers: Peers,
     /// By way of which units are read. Its contents mean nothing.
     buffer: Vec<u8>,
     /// What the last unit did.
-    notes: Vec<Note>,
+    notes: Vec<Note<Prefix<M::Addr>>>,
 }
 
-impl<M: PrefixMap<SharedRoute, Addr = u32>> Model for Watches<M> {
+impl<M: PrefixMap<SharedRoute>> Model for Watches<M> {
     ghost use Rattle.std.specs.Prelude.{◌≡◌, List, map};
     ghost use Rattle.peer_tables.specs.Histories.{PeerWatch};
     ghost use Rattle.peer_tables.specs.Watching.{keys_in, watch_in};
@@ -136,7 +137,7 @@ impl<M: PrefixMap<SharedRoute, Addr = u32>> Model for Watches<M> {
     ghost invariant = { λ w. keys_in (map watch_in w.peers.items) ≡ w.numbers };
 }
 
-impl<M: PrefixMap<SharedRoute, Addr = u32> + Drop> Watches<M> {
+impl<F: Unicast, M: PrefixMap<SharedRoute, Addr = F> + Drop> Watches<M> {
     ghost use Rattle.std.specs.Prelude.{◌≡◌, [], IfOk, Option, ℕ};
 
     /// Returns no watch.
@@ -156,10 +157,10 @@ impl<M: PrefixMap<SharedRoute, Addr = u32> + Drop> Watches<M> {
     pub fn take(
         &mut self,
         alloc: Global,
-        chosen: &ChosenPrefixes,
+        chosen: &ChosenPrefixes<F>,
         listing: Listing,
-        unit: &LentUnit<'_>,
-        rows: &mut Vec<HistoryRow>,
+        unit: &LentUnitOf<'_, F>,
+        rows: &mut Vec<HistoryRow<F>>,
     ) -> Result<(), Memory>
         ensures stands { (before : List ReplayUnit) → self.old ≡ watches_of listing.since chosen.now before →
             OnOk result (self.new ≡ watches_of listing.since chosen.now (before ++ lent_unit unit.now ∷ [])) }
@@ -181,7 +182,9 @@ impl<M: PrefixMap<SharedRoute, Addr = u32> + Drop> Watches<M> {
         list_unit(alloc, listing, peer, unit, self.notes.as_slice(), rows)?;
         Ok(())
     }
+}
 
+impl<M: PrefixMap<SharedRoute>> Watches<M> {
     /// The watches, by first appearance of their peers.
     pub fn watched(&self) -> &[Watched<M>]
         ensures { map watch_in result.now ≡ self.now }

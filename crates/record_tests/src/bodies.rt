@@ -2,6 +2,7 @@
 
 mod devices;
 mod dumps;
+mod families;
 mod lent;
 mod lines;
 mod remarks;
@@ -75,7 +76,7 @@ fn expect_entry(
     assert!(rt; unit.place.entry == Some(number));
     assert!(rt; unit.place.offset == offset && unit.time == 3_000_000);
     match &unit.payload {
-        Payload::Entry { key, attrs } => {
+        Payload::Entry { key, attrs, .. } => {
             assert!(rt; key.prefix.addr() == 0x0A00_0000 && key.prefix.len() == 8);
             assert!(rt; key.id == id);
             assert!(rt; attrs.as_slice() == attributes);
@@ -158,6 +159,7 @@ fn expect_message(rt: &impl Abort, found: &Found, message: &[u8], paths: bool) {
             bytes,
             width,
             add_path,
+            ..
         } => {
             assert!(rt; bytes.as_slice() == message);
             assert!(rt; *width == Width::Four && *add_path == paths);

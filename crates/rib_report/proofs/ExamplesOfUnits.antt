@@ -6,6 +6,7 @@ use Rattle.std.specs.Fmt.{digits}
 use Rattle.mrt_frame.proofs.Hexadecimal.{hex}
 use Rattle.mrt_frame.specs.declared.fault.Fault.TheVariants.{NoPeerIndex}
 use Rattle.mrt_frame.specs.Fields.{items_after}
+use Rattle.bgp_update.specs.Families.{ipv4}
 use Rattle.bgp_update.specs.declared.width.Width.TheVariants.{Four}
 use Rattle.bgp_update.specs.Equality.{route_eq}
 use Rattle.bgp_update.specs.Segments.{path_in, segment_at, segment_field_at}
@@ -16,7 +17,7 @@ use Rattle.bgp_update.specs.Updates.{fields_in, said_update, update_in}
 use Rattle.mrt_body.specs.declared.unit.Damage.{Damage}
 use Rattle.mrt_body.specs.declared.unit.Payload.TheVariants.{Message}
 use Rattle.mrt_body.specs.declared.unit.PeerAddr.TheVariants as addr
-use Rattle.mrt_body.specs.declared.unit.Unit.{Unit as ReplayUnit}
+use Rattle.mrt_body.specs.Plain.{Unit as ReplayUnit}
 use Rattle.mrt_body.specs.Events.{message_in, message_event_in, event_in}
 use Rattle.adj_rib.specs.Steps.{unit_steps, steps_of}
 use Rattle.adj_rib.specs.Tables.{table_of}
@@ -41,7 +42,7 @@ message offset seconds peer add_path bytes = record {
   place = record { file = 0; offset = offset; entry = None };
   time = seconds * 1000000;
   peer = record { asn = 65000; addr = addr.V4 peer };
-  payload = Message (hex (codes "FFFFFFFF FFFFFFFF FFFFFFFF FFFFFFFF") ++ bytes) Four add_path;
+  payload = Message (hex (codes "FFFFFFFF FFFFFFFF FFFFFFFF FFFFFFFF") ++ bytes) Four add_path ipv4;
 }
 
 -- origin IGP, path 65000, next hop 192.0.2.1

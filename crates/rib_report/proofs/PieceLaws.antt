@@ -30,15 +30,15 @@ lines_of_seats forms [] = refl
 lines_of_seats forms (seat ∷ seats) = ap (λ l. seat_lines forms seat ++ l) (lines_of_seats forms seats) ∙ sym (flat_map-append (route_line forms) (rows_of_seat seat) (flat_map rows_of_seat seats))
 
 -- a loop's step: the greatest number of one table more
-pub most_more : {M : Type 0} (seats : List (Seated M)) (i : ℕ) (seat : Seated M) → i < length seats → seat ≡ get_or seats i seat
+pub most_more : {M A : Type 0} (seats : List (Seated M A)) (i : ℕ) (seat : Seated M A) → i < length seats → seat ≡ get_or seats i seat
     → most_entries (map seat_of (take (i + 1) seats)) ≡ max (most_entries (map seat_of (take i seats))) (length (seat_of seat).session.table)
-most_more {M = M} seats i seat below at =
+most_more {M = M} {A = A} seats i seat below at =
     ap (λ l. most_entries (map seat_of l)) (take_more seats i seat below ∙ ap (λ s. take i seats ++ s ∷ []) (sym at))
-    ∙ max_push (λ (l : List (Seated M)). most_entries (map seat_of l)) (λ s. length (seat_of s).session.table) refl (λ s l. refl) (take i seats) seat
+    ∙ max_push (λ (l : List (Seated M A)). most_entries (map seat_of l)) (λ s. length (seat_of s).session.table) refl (λ s l. refl) (take i seats) seat
 
 -- no table has more
-pub most_at : {M : Type 0} (seats : List (Seated M)) (i : ℕ) (seat : Seated M) → i < length seats → seat ≡ get_or seats i seat
+pub most_at : {M A : Type 0} (seats : List (Seated M A)) (i : ℕ) (seat : Seated M A) → i < length seats → seat ≡ get_or seats i seat
     → length (seat_of seat).session.table ≤ most_entries (map seat_of seats)
-most_at {M = M} seats i seat below at =
-    subst (λ (s : Seated M). length (seat_of s).session.table ≤ most_entries (map seat_of seats)) (sym at)
-    (max_bounds (λ (l : List (Seated M)). most_entries (map seat_of l)) (λ s. length (seat_of s).session.table) refl (λ s l. refl) seats i seat below)
+most_at {M = M} {A = A} seats i seat below at =
+    subst (λ (s : Seated M A). length (seat_of s).session.table ≤ most_entries (map seat_of seats)) (sym at)
+    (max_bounds (λ (l : List (Seated M A)). most_entries (map seat_of l)) (λ s. length (seat_of s).session.table) refl (λ s l. refl) seats i seat below)

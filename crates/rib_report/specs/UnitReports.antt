@@ -7,7 +7,7 @@ use Rattle.bgp_prefix.specs.Keys.{RouteKey}
 use Rattle.bgp_update.specs.declared.route.Route.{Route}
 use Rattle.mrt_body.specs.declared.unit.Damage.{Damage}
 use Rattle.mrt_body.specs.declared.unit.PeerKey.{PeerKey}
-use Rattle.mrt_body.specs.declared.unit.Unit.{Unit as ReplayUnit}
+use Rattle.mrt_body.specs.Plain.{Unit as ReplayUnit}
 use Rattle.adj_rib.specs.Steps.{is_established, steps_of}
 use Rattle.adj_rib.specs.Tables.{table_of}
 use Rattle.adj_rib.specs.Arrived.{recorded_places}

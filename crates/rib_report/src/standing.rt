@@ -6,7 +6,7 @@ ghost use Rattle.mrt_body.specs.States.{AreByRule};
 ghost use Rattle.mrt_body.specs.declared.state_rule.StateRule.TheVariants.{Recorded};
 ghost use Rattle.mrt_body.specs.declared.unit.Damage.{Damage as ListedFault};
 ghost use Rattle.mrt_body.specs.declared.unit.PeerKey.{PeerKey as AnyPeer};
-ghost use Rattle.mrt_body.specs.declared.unit.Unit.{Unit as ReplayUnit};
+ghost use Rattle.mrt_body.specs.Plain.{Unit as ReplayUnit};
 ghost use Rattle.adj_rib.specs.Steps.{is_up};
 ghost use Rattle.peer_tables.specs.Peers.{units_of_peer};
 ghost use Rattle.peer_tables.specs.Tables.{TablesState};

@@ -23,11 +23,11 @@ use crate::standing::Standing;
 use crate::unit::Damage;
 use crate::waiting::Waiting;
 use bgp_prefix::{Memory, Sequence};
-use bgp_update::AttrError;
+use bgp_update::{AttrError, Unicast};
 use mrt_frame::{Fault, ReplayError};
 use std::alloc::Global;
 
-impl Units {
+impl<F: Unicast> Units<F> {
     /// Returns what comes of a whole record. Entries are still to be returned afterwards.
     pub(super) fn take(
         &mut self,
@@ -48,6 +48,7 @@ impl Units {
         ensures here { self.new.file ≡ self.old.file }
         ensures plan { KeepsPlan self.old self.new }
     {
+        self.is_known();
         match content {
             Content::IndexTable => self.take_index(alloc, at, body.as_slice()),
             Content::Rib { add_path } => self.take_rib(alloc, at, add_path, body),
@@ -68,7 +69,7 @@ impl Units {
 
     /// Whether a unit is selected. Where all prefixes are chosen its time and its peer decide, and nothing is read.
     #[inline(always)]
-    fn selects(&mut self, alloc: Global, unit: &SessionUnit) -> Result<bool, Memory>
+    fn selects(&mut self, alloc: Global, unit: &SessionUnit<F>) -> Result<bool, Memory>
         ensures selected { IfOk result (λ selected. selected ≡ is_selected self.old.selection unit.now) }
         ensures same { self.new ≡ self.old }
     {
@@ -80,7 +81,7 @@ impl Units {
 
     /// Whether a unit is selected, where some prefixes are chosen.
     #[inline(never)]
-    fn selects_by_prefix(&mut self, alloc: Global, unit: &SessionUnit) -> Result<bool, Memory>
+    fn selects_by_prefix(&mut self, alloc: Global, unit: &SessionUnit<F>) -> Result<bool, Memory>
         ensures selected { IfOk result (λ selected. selected ≡ is_selected self.old.selection unit.now) }
         ensures same { self.new ≡ self.old }
     {
@@ -100,7 +101,7 @@ impl Units {
         &mut self,
         alloc: Global,
         at: RecordAt,
-        unit: Result<SessionUnit, Fault>,
+        unit: Result<SessionUnit<F>, Fault>,
     ) -> Result<Option<Damage>, ReplayError>
         requires given { self.old.pending ≡ [] }
         requires small { IfOk unit IsSmallUnit }
@@ -198,31 +199,36 @@ impl Units {
         ensures here { self.new.file ≡ self.old.file }
         ensures plan { KeepsPlan self.old self.new }
     {
+        self.is_known();
         let Some(index) = &mut self.index else {
             return Ok(Some(refused(at, Fault::NoPeerIndex)));
         };
         match index.read(at, add_path, body, &self.selection) {
-            Ok(()) => match follow(
-                &self.selection,
-                &mut self.dumps,
-                &mut self.waiting,
-                index,
-                at,
-            ) {
-                Ok(()) => {
-                    let is_past = self.selection.is_past(at.time(0));
-                    let (peers, entries) = index.listed();
-                    self.remarker
-                        .see_rib(alloc, at.file, is_past, add_path, peers, entries);
-                    Ok(None)
-                }
-                Err(_) => {
-                    self.standing = Standing::Spent;
-                    Err(ReplayError::Memory)
-                }
-            },
-            Err(AttrError::Bad(fault)) => Ok(Some(refused(at, fault))),
+            Ok(()) => {}
+            Err(AttrError::Bad(fault)) => return Ok(Some(refused(at, fault))),
             Err(AttrError::Memory) => {
+                self.standing = Standing::Spent;
+                return Err(ReplayError::Memory);
+            }
+        }
+        let Some(index) = &self.index else {
+            return Ok(None);
+        };
+        match follow(
+            &self.selection,
+            &mut self.dumps,
+            &mut self.waiting,
+            index,
+            at,
+        ) {
+            Ok(()) => {
+                let is_past = self.selection.is_past(at.time(0));
+                let (peers, entries) = index.listed();
+                self.remarker
+                    .see_rib(alloc, at.file, is_past, add_path, peers, entries);
+                Ok(None)
+            }
+            Err(_) => {
                 self.standing = Standing::Spent;
                 Err(ReplayError::Memory)
             }
@@ -233,11 +239,11 @@ impl Units {
 /// Begins a dump with the record at this place that was read against an index, if it is the first one behind the index
 /// table: then the clears wait to be returned. Takes note of the peers of its entries.
 #[inline(always)]
-fn follow(
-    selection: &Selection,
+fn follow<F: Unicast>(
+    selection: &Selection<F>,
     dumps: &mut RibDumps,
-    waiting: &mut Waiting,
-    index: &Index,
+    waiting: &mut Waiting<F>,
+    index: &Index<F>,
     at: RecordAt,
 ) -> Result<(), Memory>
     requires { waiting.old ≡ [] }
@@ -259,7 +265,11 @@ fn follow(
 
 /// Takes note of the peer of a unit, where a RIB dump may clear its table.
 #[inline(always)]
-fn hear(selection: &Selection, dumps: &mut RibDumps, unit: &SessionUnit) -> Result<(), Memory>
+fn hear<F: Unicast>(
+    selection: &Selection<F>,
+    dumps: &mut RibDumps,
+    unit: &SessionUnit<F>,
+) -> Result<(), Memory>
     ensures { OnOk result (dumps.new
         ≡ record dumps.old { heard = heard_of selection.now.ribs dumps.old.heard (unit.now ∷ []) }) }
 {

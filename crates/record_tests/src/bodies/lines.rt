@@ -29,11 +29,12 @@ fn push_payload(rt: &impl Abort, text: &mut String, payload: &Payload) {
             bytes,
             width,
             add_path,
+            ..
         } => {
             let count = bytes.as_slice().len();
             writeln!(text, "message {count} {width:?} {add_path}")
         }
-        Payload::Entry { key, attrs } => {
+        Payload::Entry { key, attrs, .. } => {
             let count = attrs.as_slice().len();
             let addr = key.prefix.addr();
             let len = key.prefix.len();

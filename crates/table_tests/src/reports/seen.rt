@@ -3,6 +3,7 @@
 use super::peers::{peer_of, tables_of_sessions};
 use adj_rib::{Session, SharedRoute};
 use bgp_prefix::{Flat, Memory, Prefix, PrefixMap, Radix, RouteKey};
+use bgp_update::FamilyMark;
 use fixtures::bytes_of;
 use mrt_body::{Payload, PayloadBytes, Place, Unit};
 use mrt_frame::Counted;
@@ -79,6 +80,7 @@ fn unit(alloc: Global, number: u32, entry: Entry) -> Result<Unit, Memory> {
         payload: Payload::Entry {
             key: RouteKey { prefix, id },
             attrs: PayloadBytes::from_vec(bytes_of(alloc, attributes)?),
+            family: FamilyMark::new(),
         },
     })
 }

@@ -5,6 +5,7 @@ use super::reports::FULL;
 use super::writers::Narrow;
 use adj_rib::{Session, SharedRoute};
 use bgp_prefix::{Memory, Prefix, PrefixMap, Radix, RouteKey};
+use bgp_update::FamilyMark;
 use mrt_body::{Payload, PayloadBytes, Place, Unit};
 use mrt_frame::{Counted, Failures, ReplayError};
 use rib_report::{Tables, list_tables};
@@ -82,6 +83,7 @@ fn entry(alloc: Global, number: u32, i: u32) -> Result<Unit, Memory> {
                 id: 0,
             },
             attrs: PayloadBytes::from_vec(attributes(alloc, i)?),
+            family: FamilyMark::new(),
         },
     })
 }

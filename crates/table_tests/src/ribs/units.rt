@@ -3,6 +3,7 @@
 use crate::payloads::message_in;
 use adj_rib::{Session, SharedRoute};
 use bgp_prefix::{Memory, Prefix, PrefixMap, RouteKey};
+use bgp_update::FamilyMark;
 use fixtures::bytes_of;
 use mrt_body::{Payload, PayloadBytes, PeerAddr, PeerKey, Place, StateRule, Unit};
 use std::alloc::Global;
@@ -50,6 +51,7 @@ pub fn entry_unit(id: u32, attrs: PayloadBytes) -> Unit {
         Payload::Entry {
             key: ten(id),
             attrs,
+            family: FamilyMark::new(),
         },
     )
 }

@@ -4,7 +4,7 @@ use Rattle.adj_rib.specs.Steps.{Step}
 use Rattle.adj_rib.specs.Applied.{RouteMap}
 use Rattle.adj_rib.specs.Selecting.{chooses, selected_steps}
 use Rattle.adj_rib.specs.Watching.{watched}
-use Rattle.adj_rib.specs.declared.note.Note.{Note}
+use Rattle.adj_rib.specs.Plain.{Note}
 use Rattle.adj_rib.proofs.Reached.{reached_by}
 use Rattle.adj_rib.proofs.noting.announce_reached.Goals as goal
 

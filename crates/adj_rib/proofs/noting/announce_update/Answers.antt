@@ -7,7 +7,7 @@ use Rattle.adj_rib.specs.Steps.{announcements, reachings}
 use Rattle.adj_rib.specs.Applied.{RouteMap}
 use Rattle.adj_rib.specs.Selecting.{chooses, selected_steps}
 use Rattle.adj_rib.specs.Watching.{watched}
-use Rattle.adj_rib.specs.declared.note.Note.{Note}
+use Rattle.adj_rib.specs.Plain.{Note}
 use Rattle.adj_rib.proofs.noting.announce_update.Goals as goal
 
 pub returns : goal.returns

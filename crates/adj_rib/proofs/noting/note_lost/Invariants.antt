@@ -3,4 +3,4 @@ use Rattle.adj_rib.specs.Histories.{lost_note}
 use Rattle.adj_rib.proofs.noting.note_lost.Given as goal
 
 abbrev pub invariant-loop-key : goal.invariant-loop-key
-invariant-loop-key l = l.notes.items ≡ l.initial.notes.items ++ map lost_note (map (λ e. (e.0, e.1.now)) (take l.key-index l.entries))
+invariant-loop-key g l = l.notes.items ≡ l.initial.notes.items ++ map lost_note (map (λ e. (e.0, e.1.now)) (take l.key-index l.entries))

@@ -6,7 +6,7 @@ use Rattle.mrt_body.proofs.chosen_prefixes.outermost.Goals as goal
 use Rattle.mrt_body.proofs.chosen_prefixes.outermost.Goals.{in-Some, in-None, then-not-is_covered+in_ok-push, else-not-is_covered}
 
 pub loop-prefix-preserved : goal.loop-prefix-preserved
-loop-prefix-preserved c =
+loop-prefix-preserved g c =
     let names = c.args.names.now in
     let n = c.loop-prefix.prefix-index in
     let kept = c.loop-prefix.kept.items in

@@ -3,4 +3,4 @@ use Rattle.std.proofs.lemmas.Fn.{filter_same}
 use Rattle.mrt_body.proofs.entries.keep_taken.Goals as goal
 
 pub returns : goal.returns
-returns c = filter_same _ _ _ (λ x b f' k. search rules) _ _ c.retain.ensures.filtered
+returns g c = filter_same _ _ _ (λ x b f' k. search rules) _ _ c.retain.ensures.filtered

@@ -2,7 +2,7 @@ use Rattle.std.proofs.Common.{◌≡◌, ◌≤◌, ◌+◌, ◌-◌, ◌^◌, m
 use Rattle.std.specs.Prelude.{option_to_list}
 use Rattle.std.specs.List.{filter_map}
 use Rattle.std.proofs.lemmas.List.{length-map}
-use Rattle.mrt_body.specs.declared.unit.Unit.{Unit as ReplayUnit}
+use Rattle.mrt_body.specs.Plain.{Unit as ReplayUnit}
 use Rattle.mrt_body.specs.Units.{units_of, refused_of, unit_of}
 use Rattle.peer_tables.specs.Tables.{chosen_tables}
 use Rattle.lane_deal.specs.Playing.{shown}

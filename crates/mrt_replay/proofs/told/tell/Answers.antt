@@ -1,7 +1,7 @@
 use Rattle.std.proofs.Common.{◌+◌, ◌≤◌, Option, map, refl, sym, subst, ◌∙◌}
 use Rattle.std.specs.Prelude.{option_to_list}
 use Rattle.std.proofs.lemmas.List.{length-map}
-use Rattle.mrt_body.specs.declared.unit.Found.{Found}
+use Rattle.mrt_body.specs.Plain.{Found}
 use Rattle.mrt_body.specs.ToCome.{TakesFound, units_left, unit_count}
 use Rattle.mrt_replay.specs.Tellings.{Tells}
 use Rattle.mrt_replay.proofs.FilesTaken.{taken_none, taken_more, taken_all}

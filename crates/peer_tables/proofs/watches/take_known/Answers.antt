@@ -10,7 +10,7 @@ use Rattle.peer_tables.proofs.watches.take_known.Goals as goal
 
 pub returns-clause-stands : goal.returns-clause-stands
 returns-clause-stands g c = λ before are.
-    let see = watch_in {M = g.row.M.Denot} in
+    let see = watch_in {M = g.row.M.Denot} {A = g.row.F.Denot} in
     let peers = c.args.peers.now.items in
     let at = c.args.at in
     let u = lent_unit c.args.unit.now in
@@ -26,7 +26,7 @@ returns-clause-stands g c = λ before are.
 
 pub returns-clause-notes : goal.returns-clause-notes
 returns-clause-notes g c = λ before are.
-    let see = watch_in {M = g.row.M.Denot} in
+    let see = watch_in {M = g.row.M.Denot} {A = g.row.F.Denot} in
     let peers = c.args.peers.now.items in
     let at = c.args.at in
     let u = lent_unit c.args.unit.now in
@@ -38,10 +38,10 @@ returns-clause-notes g c = λ before are.
 
 pub returns-clause-keys : goal.returns-clause-keys
 returns-clause-keys g c =
-    let see = watch_in {M = g.row.M.Denot} in
+    let see = watch_in {M = g.row.M.Denot} {A = g.row.F.Denot} in
     keys_set see c.args.peers.now.items c.args.at c.index_mut.result.now _ (ap (λ w. (see w).key) c.index_mut.ensures.value)
 
 pub returns-in_err-take-clause-keys : goal.returns-in_err-take-clause-keys
 returns-in_err-take-clause-keys g c =
-    let see = watch_in {M = g.row.M.Denot} in
+    let see = watch_in {M = g.row.M.Denot} {A = g.row.F.Denot} in
     keys_set see c.args.peers.now.items c.args.at c.index_mut.result.now _ (ap (λ w. (see w).key) c.index_mut.ensures.value)

@@ -12,9 +12,9 @@ use Rattle.peer_tables.proofs.watches.take_new.Goals as goal
 
 pub returns-clause-numbered : goal.returns-clause-numbered
 returns-clause-numbered g c =
-    let see = watch_in {M = g.row.M.Denot} in
+    let see = watch_in {M = g.row.M.Denot} {A = g.row.F.Denot} in
     let q = (lent_unit c.args.unit.now).peer in
-    let item : Watched g.row.M.Denot = record { key = c.in_ok-key.key; watch = c.take.new.self } in
+    let item : Watched g.row.M.Denot g.row.F.Denot = record { key = c.in_ok-key.key; watch = c.take.new.self } in
     ap (λ l. keys_in (map see l)) (c.push_reserved.ensures.items ∙ ap (λ l. l ++ item ∷ []) c.in_ok-reserve.ensures.items)
     ∙ keys_push see c.args.peers.now.items item q c.in_ok-key.ensures
     ∙ ap (λ l. l ++ q ∷ []) c.requires.numbered
@@ -25,21 +25,21 @@ returns-clause-at g c = ap (λ l. slice_get l c.in_ok-at.at) (returns-clause-num
 
 pub returns-clause-stands : goal.returns-clause-stands
 returns-clause-stands g c = λ before are.
-    let see = watch_in {M = g.row.M.Denot} in
+    let see = watch_in {M = g.row.M.Denot} {A = g.row.F.Denot} in
     let since = c.args.since in
     let choices = c.args.chosen.now in
     let peers = c.args.peers.now.items in
     let u = lent_unit c.args.unit.now in
     let new = unlisted (map see peers) _ u.peer c.requires.numbered c.requires.new in
     let fresh = c.new-watch.ensures since choices ∙ ap (watch_of since choices) (sym (none_before since choices before u (map see peers) are new)) in
-    let item : Watched g.row.M.Denot = record { key = c.in_ok-key.key; watch = c.take.new.self } in
+    let item : Watched g.row.M.Denot g.row.F.Denot = record { key = c.in_ok-key.key; watch = c.take.new.self } in
     ap (map see) (c.push_reserved.ensures.items ∙ ap (λ l. l ++ item ∷ []) c.in_ok-reserve.ensures.items) ∙ map-append see peers (item ∷ [])
     ∙ ap (λ (k : PeerKey). map see peers ++ record { key = k; watch = c.take.new.self } ∷ []) c.in_ok-key.ensures
     ∙ new_stands since choices before u (map see peers) are c.take.new.self new (c.in_ok-take.ensures.stands (units_of_peer before u.peer) fresh)
 
 pub returns-clause-notes : goal.returns-clause-notes
 returns-clause-notes g c = λ before are.
-    let see = watch_in {M = g.row.M.Denot} in
+    let see = watch_in {M = g.row.M.Denot} {A = g.row.F.Denot} in
     let since = c.args.since in
     let choices = c.args.chosen.now in
     let peers = c.args.peers.now.items in

@@ -2,13 +2,13 @@ use Rattle.std.proofs.Common.{◌∙◌, subst, ap, List}
 use Rattle.std.specs.List.Sorted.{IsPermutation}
 use Rattle.bgp_prefix.specs.Prefixes.{IpPrefix}
 use Rattle.mrt_body.specs.declared.choice.Reach.TheVariants.{Exact, Inside, Around}
-use Rattle.mrt_body.specs.declared.choice.PrefixChoice.{PrefixChoice}
+use Rattle.mrt_body.specs.Plain.{PrefixChoice}
 use Rattle.mrt_body.specs.Named.{named_as, is_inside}
 use Rattle.mrt_body.proofs.NamedLaws.{stand_for}
 use Rattle.mrt_body.proofs.chosen_prefixes.ChosenPrefixes.new.Goals as goal
 
 pub invariant_of-result : goal.invariant_of-result
-invariant_of-result c =
+invariant_of-result g c =
     let exact = c.in_ok-exact.exact.items in
     let named = c.in_ok-named.named.items in
     let inside = c.in_ok-inside.inside.items in

@@ -3,8 +3,8 @@ use Rattle.std.proofs.lemmas.List.{append-nil}
 use Rattle.std.specs.List.{filter_map}
 use Rattle.mrt_body.specs.Units.{damage_of, unit_of}
 use Rattle.mrt_body.specs.declared.unit.Damage.{Damage}
-use Rattle.mrt_body.specs.declared.unit.Found.{Found}
-use Rattle.mrt_body.specs.declared.unit.Unit.{Unit as ReplayUnit}
+use Rattle.mrt_body.specs.Plain.{Found}
+use Rattle.mrt_body.specs.Plain.{Unit as ReplayUnit}
 use Rattle.mrt_replay.specs.Tellings.{Tells}
 use Rattle.mrt_replay.proofs.told.Told.take.Goals as goal
 

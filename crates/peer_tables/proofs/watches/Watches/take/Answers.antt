@@ -8,7 +8,7 @@ use Rattle.peer_tables.proofs.watches.Watches.take.Goals as goal
 
 pub list_unit-requires : goal.list_unit-requires
 list_unit-requires g c =
-    let see = watch_in {M = g.row.M.Denot} in
+    let see = watch_in {M = g.row.M.Denot} {A = g.row.F.Denot} in
     let peers = c.take_unit.new.peers.items in
     let at = c.in_ok-at.at in
     let peer = (lent_unit c.args.unit.now).peer in

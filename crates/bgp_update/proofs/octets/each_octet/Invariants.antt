@@ -1,6 +1,6 @@
 use Rattle.std.proofs.Common.{◌≡◌, ◌≤◌, ◌<◌, ◌+◌, ◌-◌, ◌*◌, ◌^◌}
 use Rattle.byteorder.specs.Endian.{big_from, big_number}
-use Rattle.bgp_update.proofs.octets.leading_octets_wide.Given as goal
+use Rattle.bgp_update.proofs.octets.each_octet.Given as goal
 
 abbrev pub invariant-loop-at : goal.invariant-loop-at
 invariant-loop-at l = record {

@@ -2,10 +2,10 @@ use Rattle.std.proofs.Common.{◌≡◌, map, take}
 use Rattle.mrt_body.specs.RibDumps.{heard_of}
 use Rattle.mrt_body.specs.Pending.{listed_unit}
 use Rattle.mrt_body.specs.declared.rib_rule.RibRule.TheVariants.{Replace}
-use Rattle.mrt_body.proofs.entries.RibRecord.hear.Given as goal
+use Rattle.mrt_body.proofs.entries.RibRecord+Prefix+F.hear.Given as goal
 
 abbrev pub invariant-loop-entry : goal.invariant-loop-entry
-invariant-loop-entry l =
+invariant-loop-entry g l =
     l.dumps ≡ record l.initial.dumps {
-      heard = heard_of Replace l.initial.dumps.heard (map (listed_unit l.self.at l.peers l.self.prefix l.self.body) (take l.entry-index l.entry-items));
+      heard = heard_of Replace l.initial.dumps.heard (map (listed_unit g.F.Unicast.family l.self.at l.peers l.self.prefix l.self.body) (take l.entry-index l.entry-items));
     }

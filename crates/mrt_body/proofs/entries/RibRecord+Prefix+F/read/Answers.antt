@@ -1,0 +1,20 @@
+use Rattle.mrt_body.proofs.EntryLaws.{all_units, all_listed, no_units, units_fail_early, rest-le}
+use Rattle.mrt_body.proofs.entries.RibRecord+Prefix+F.read.Goals as goal
+
+pub overflow_sub-start : goal.overflow_sub-start
+overflow_sub-start g c = rest-le g.F.Unicast.family c.args.at c.args.peers.now c.args.add_path c.as_slice-bytes.result.now c.in-Ok.head.prefix c.in-Ok.head.count c.in-Ok.rest.now c.in-Ok.ensures.reads
+
+pub returns-in-Ok-list_entries-clause-units : goal.returns-in-Ok-list_entries-clause-units
+returns-in-Ok-list_entries-clause-units g c =
+    all_units g.F.Unicast.family c.args.at c.args.peers.now c.args.add_path c.args.body c.in-Ok.head.prefix c.in-Ok.head.count c.in-Ok.rest.now c.list_entries.new.list.items (rw c.as_slice-bytes.ensures at c.in-Ok.ensures.reads) (rw c.as_slice-bytes.ensures at c.in-Ok-list_entries.ensures.listed) c.in-Ok-list_entries.ensures.numbered
+
+pub returns-in-Ok-list_entries-clause-listed : goal.returns-in-Ok-list_entries-clause-listed
+returns-in-Ok-list_entries-clause-listed g c =
+    all_listed g.F.Unicast.family c.args.at c.args.peers.now c.args.add_path c.args.body c.in-Ok.head.prefix c.in-Ok.head.count c.in-Ok.rest.now c.list_entries.new.list.items c.in-Ok.ensures.few (rw c.as_slice-bytes.ensures at c.in-Ok-list_entries.ensures.listed) (rw c.as_slice-bytes.ensures at c.in-Ok-list_entries.ensures.within)
+
+pub returns-in-Err-list_entries-clause-units : goal.returns-in-Err-list_entries-clause-units
+returns-in-Err-list_entries-clause-units g c =
+    no_units g.F.Unicast.family c.args.at c.args.peers.now c.args.add_path c.args.body c.in-Ok.head.prefix c.in-Ok.head.count c.in-Ok.rest.now c.in-Err-list_entries.error (rw c.as_slice-bytes.ensures at c.in-Ok.ensures.reads) (rw c.as_slice-bytes.ensures at c.in-Err-list_entries.ensures.listed)
+
+pub returns-in-Err-clause-units : goal.returns-in-Err-clause-units
+returns-in-Err-clause-units g c = units_fail_early g.F.Unicast.family c.args.at c.args.peers.now c.args.add_path c.args.body c.in-Err.fault (rw c.as_slice-bytes.ensures at c.in-Err.ensures.reads)

@@ -1,0 +1,40 @@
+-- Units and what they mean, with keys and choices of prefixes of either family.
+use Rattle.bgp_prefix.specs.Prefixes.{IpPrefix}
+use Rattle.bgp_update.specs.Families.{FamilyOf}
+use Rattle.mrt_body.specs.declared.choice.PrefixChoice.{PrefixChoice as PrefixChoiceOf}
+use Rattle.mrt_body.specs.declared.unit.Payload.{Payload as PayloadOf}
+use Rattle.mrt_body.specs.declared.unit.Unit.{Unit as UnitOf}
+use Rattle.mrt_body.specs.declared.unit.Found.{Found as FoundOf}
+use Rattle.mrt_body.specs.declared.lent.LentPayload.{LentPayload as LentPayloadOf}
+use Rattle.mrt_body.specs.declared.lent.LentUnit.{LentUnit as LentUnitOf}
+use Rattle.mrt_body.specs.declared.meaning.Event.{Event as EventOf}
+use Rattle.mrt_body.specs.declared.packed_meaning.PackedEvent.{PackedEvent as PackedEventOf}
+
+-- a prefix that is named, and how others may stand to it
+abbrev pub PrefixChoice : Type 0
+PrefixChoice = PrefixChoiceOf IpPrefix
+
+-- what a unit says; a message and an entry have the family by which they are read
+abbrev pub Payload : Type 0
+Payload = PayloadOf IpPrefix FamilyOf
+
+abbrev pub Unit : Type 0
+Unit = UnitOf IpPrefix FamilyOf
+
+abbrev pub Found : Type 0
+Found = FoundOf IpPrefix FamilyOf
+
+-- the same, with bytes that are lent
+abbrev pub LentPayload : Type 0
+LentPayload = LentPayloadOf IpPrefix FamilyOf
+
+abbrev pub LentUnit : Type 0
+LentUnit = LentUnitOf IpPrefix FamilyOf
+
+-- what a payload means
+abbrev pub Event : Type 0
+Event = EventOf IpPrefix
+
+-- the same, with packed routes
+abbrev pub PackedEvent : Type 0
+PackedEvent = PackedEventOf IpPrefix
