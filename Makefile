@@ -98,6 +98,7 @@ python-deb: $(BINARY)
 # Lines and statuses, packages, recipes, what the build records and refuses, and pages that are made: quick.
 scripts: $(BINARY)
 	tests/program.sh '$(BINARY)'
+	tests/family.sh '$(BINARY)'
 	tests/notes.sh '$(BINARY)'
 	tests/packaging.sh '$(BINARY)'
 	tests/recipes.sh '$(BINARY)'
@@ -140,6 +141,7 @@ same: $(BINARY)
 
 fuzz: $(BINARY)
 	tests/fuzz.sh '$(BINARY)' $(FILES)
+	FAMILY=ipv6 tests/fuzz.sh '$(BINARY)' $(FILES)
 
 hostile: $(BINARY)
 	tests/hostile.sh '$(BINARY)'

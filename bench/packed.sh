@@ -6,17 +6,20 @@
 # tool alone and with the loop.
 #   bench/packed.sh PROGRAM [PREFIXES] [PEERS] [MESSAGES] [FILES]
 # Defaults: 200,000 prefixes x 20 peers, and 1,500,000 messages in 64 files. Needs cc, gzip, bzip2 and GNU time.
-# ROUNDS (3) can be set in the environment.
+# ROUNDS (3) can be set in the environment, and FAMILY (ipv4) to ipv6: dumps of IPv6 routes, by family ipv6.
 set -eu
 program=$(realpath "$1"); prefixes=${2:-200000}; peers=${3:-20}; messages=${4:-1500000}; files=${5:-64}
+family=${FAMILY:-ipv4}
+case $family in ipv4) asked= of=;; ipv6) asked='--family ipv6' of=-6;; *) echo "no such family: $family"; exit 2;; esac
 here=$(dirname "$(realpath "$0")"); out=$here/out; mkdir -p "$out"
 cc -O2 -o "$out/gen_mrt" "$here/gen_mrt.c" -lm
-rib=$out/rib-$prefixes-$peers.mrt; series=$out/series-$messages-$peers-$files
-[ -f "$rib" ] || "$out/gen_mrt" rib "$prefixes" "$peers" 1 > "$rib"
+rib=$out/rib$of-$prefixes-$peers.mrt; series=$out/series$of-$messages-$peers-$files
+[ -f "$rib" ] || "$out/gen_mrt" rib "$prefixes" "$peers" 1 $family > "$rib"
 if [ ! -d "$series" ]; then
   rm -rf "$series.new"; mkdir "$series.new"
   for number in $(seq -w "$files"); do # the same session goes on in each, with other messages
-    "$out/gen_mrt" updates $((messages / files)) $((prefixes * 3 / 2)) "$peers" "$((10#$number))" > "$series.new/$number.mrt"
+    "$out/gen_mrt" updates $((messages / files)) $((prefixes * 3 / 2)) "$peers" "$((10#$number))" $family \
+      > "$series.new/$number.mrt"
   done
   mv "$series.new" "$series"
 fi
@@ -25,6 +28,10 @@ for file in "$rib" "$series"/*.mrt; do
   [ -f "$file.bz2" ] || { bzip2 -c "$file" > "$file.new"; mv "$file.new" "$file.bz2"; }
 done
 times=$(mktemp -d); trap 'rm -rf "$times"' EXIT
+
+# Unpacks files by a tool into the program's standard input.
+unpacking='tool=$1 program=$2; shift 2; for file; do $tool -dc "$file"; done | '
+unpacking+="\"\$program\" churn $asked --workers 1 -"
 
 # One run: its name, and the command. Adds wall, user and system seconds and KiB to the list of that name.
 run() {
@@ -41,15 +48,15 @@ measure() { # LABEL FILE..
   local packed=("${@/%/.gz}") bzipped=("${@/%/.bz2}")
   rm -f "$times"/*
   for _ in $(seq "${ROUNDS:-3}"); do
-    run plain "$program" churn --workers 1 "$@"
-    run gzip "$program" churn --workers 1 "${packed[@]}"
-    run bzip2 "$program" churn --workers 1 "${bzipped[@]}"
-    run gzip-threads "$program" churn "${packed[@]}"
-    run bzip2-threads "$program" churn "${bzipped[@]}"
+    run plain "$program" churn $asked --workers 1 "$@"
+    run gzip "$program" churn $asked --workers 1 "${packed[@]}"
+    run bzip2 "$program" churn $asked --workers 1 "${bzipped[@]}"
+    run gzip-threads "$program" churn $asked "${packed[@]}"
+    run bzip2-threads "$program" churn $asked "${bzipped[@]}"
     run gzip-dc gzip -dc "${packed[@]}"
     run bzip2-dc bzip2 -dc "${bzipped[@]}"
-    run gzip-loop sh -c 'program=$1; shift; for file; do gzip -dc "$file"; done | "$program" churn --workers 1 -' sh "$program" "${packed[@]}"
-    run bzip2-loop sh -c 'program=$1; shift; for file; do bzip2 -dc "$file"; done | "$program" churn --workers 1 -' sh "$program" "${bzipped[@]}"
+    run gzip-loop sh -c "$unpacking" sh gzip "$program" "${packed[@]}"
+    run bzip2-loop sh -c "$unpacking" sh bzip2 "$program" "${bzipped[@]}"
   done
   printf '%-24s %8s %8s %8s\n' "$label" 'wall s' 'cpu s' 'peak MB'
   for name in plain gzip gzip-threads gzip-dc gzip-loop bzip2 bzip2-threads bzip2-dc bzip2-loop; do

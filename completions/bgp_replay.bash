@@ -9,6 +9,7 @@ _bgp_replay() {
   done
   COMPREPLY=()
   case $before in
+    --family) mapfile -t COMPREPLY < <(compgen -W 'ipv4 ipv6' -- "$word"); return;;
     --states) mapfile -t COMPREPLY < <(compgen -W 'recorded established' -- "$word"); return;;
     --rib) mapfile -t COMPREPLY < <(compgen -W 'add replace' -- "$word"); return;;
     --addresses) mapfile -t COMPREPLY < <(compgen -W 'full short' -- "$word"); return;;
@@ -19,7 +20,7 @@ _bgp_replay() {
   if [[ -z $command ]]; then
     mapfile -t COMPREPLY < <(compgen -W "$commands help --help --version" -- "$word")
   elif [[ $word == -* ]]; then
-    local options='--files-from --prefix --prefixes --peer --peers --until --states --rib --addresses --header --summary --progress --quiet --workers --ring --help --version'
+    local options='--files-from --family --prefix --prefixes --peer --peers --until --states --rib --addresses --header --summary --progress --quiet --workers --ring --help --version'
     case $command in match) options="--address $options";; esac
     case $command in churn|history) options="--since $options";; esac
     case $command in history) options="--same $options";; esac

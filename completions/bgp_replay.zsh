@@ -20,6 +20,7 @@ _bgp_replay() {
     words)
       options=(
         '*--files-from[replay the dumps that this file names, too]:FILE:_files'
+        '--family[say which unicast routes are replayed, those of ipv4 or those of ipv6]:FAMILY:(ipv4 ipv6)'
         '*--prefix[report on this prefix alone]:PREFIX:'
         '*--prefixes[report on the prefixes in this file alone]:FILE:_files'
         '*--peer[report on this peer alone]:PEER:'
@@ -38,7 +39,7 @@ _bgp_replay() {
         '(- *)'{-V,--version}'[print the version]'
         '*:dump:_files'
       )
-      case ${words[1]} in match) options+=('--address[look up this IPv4 address, as 192.0.2.1]:A:');; esac
+      case ${words[1]} in match) options+=('--address[look up this address, as 192.0.2.1, or 2001\:db8\:\:1 with --family ipv6]:A:');; esac
       case ${words[1]} in churn|history) options+=('--since[list or count what was recorded from this second on]:TIME:');; esac
       case ${words[1]} in history) options+=('--same[list announcements of the very route that was there, too]');; esac
       _arguments $options;;

@@ -1,4 +1,5 @@
-/* Writes to standard output a dump that is dear to read: NAME says in what, N how much of it. `gen_hostile` alone lists the names, each with an N.
+/* Writes to standard output a dump that is dear to read: NAME says in what, N how much of it. `gen_hostile` alone lists the names, each with an N,
+   the family of routes by which it is dear, and what it is.
      gen_hostile NAME N          cc -O2 -o gen_hostile gen_hostile.c */
 #include <stdint.h>
 #include <stdio.h>
@@ -162,6 +163,113 @@ static void damaged(u32 count) {                          /* each message's mark
 static void zeros(u32 count) { memset(bytes, 0, 65536); for (u32 i = 0; i < count; i++) { u32 k = i + 1 < count ? 65536 : 65531; if (fwrite(bytes, 1, k, stdout) != k) exit(1); } }
 static void longest_bodies(u32 count) { for (u32 i = 0; i < count; i++) { begin(1, 99, 1); memset(bytes + n, 1, WHOLE_BODY); n += WHOLE_BODY; end(); } }
 
+/* --- IPv6 routes: RIB records with attribute 14 in their entries, and UPDATEs with attributes 14 and 15 --- */
+static void path(u32 origin_as) { four(0x40010100); four(0x40020602); one(1); four(origin_as); }     /* 13 bytes */
+static void address(u32 first, u32 last) { four(first); four(0); four(0); four(last); }
+static void prefix_48(u32 number) { one(48); four(0x20010DB8); two(number); }
+static void prefix_128(u32 number) { one(128); address(0x2A000000 + (scattered(number) >> 8), number); }
+static void hop_of_entry(void) { four(0x800E1110); address(0x20010DB8, 1); }                          /* 20 bytes */
+static void rib6(u32 records, u32 subtype, u32 peers) {
+  index_table(peers);
+  for (u32 r = 0; r < records; r++) {
+    begin(2, 13, subtype); four(r); prefix_48(r); two(65535);
+    for (u32 e = 0; e < 65535; e++) {
+      two(e % peers); four(1); if (subtype == 10) four(e);
+      two(33); path(65000 + e % 7); hop_of_entry();
+    }
+    end();
+  }
+}
+static void entries6(u32 count) { rib6(count, 4, 1); }
+static void entries_of_peers6(u32 count) { rib6(count, 4, 65535); }
+static void entries_with_ids6(u32 count) { rib6(count, 10, 1); }
+/* Records of nearly 16 MB, in each 255 entries with 65,520 bytes of attributes 14: empty ones behind a good one, or one whole attribute, of which nothing
+   is read behind the next hop. */
+static void wide6(u32 count, int is_whole) {
+  index_table(1);
+  for (u32 r = 0; r < count; r++) {
+    begin(2, 13, 4); four(r); prefix_48(r); two(255);
+    for (u32 e = 0; e < 255; e++) {
+      two(0); four(1); two(65520); u32 to = n + 65520;
+      if (is_whole) {
+        two(0x900E); two(65516); two(2); one(1); one(16); address(0x20010DB8, e);
+        memset(bytes + n, 0x81, to - n); n = to;
+      } else {
+        path(65000); hop_of_entry();
+        while (n < to) { two(0x800E); one(0); }
+      }
+    }
+    end();
+  }
+}
+static void repeated6(u32 count) { wide6(count, 0); }
+static void whole6(u32 count) { wide6(count, 1); }
+static void long_prefixes(u32 count) {
+  index_table(1);
+  for (u32 r = 0; r < count; r++) {
+    begin(2, 13, 4); four(r); prefix_128(scattered(r)); two(1); two(0); four(1); two(33); path(65000); hop_of_entry(); end();
+  }
+}
+
+static u32 attributes_at, value_at;
+static void begin_attributes(void) { two(0); attributes_at = n; two(0); }
+static void begin_multi(u32 code) {
+  two(0x9000 + code); value_at = n; two(0); two(2); one(1);
+  if (code == 14) { one(16); address(0x20010DB8, 1); one(0); }
+}
+static void end_multi(void) { set_two(value_at, n - value_at - 2); }
+static void end_attributes(void) { set_two(attributes_at, n - attributes_at - 2); }
+static void begin_reach(u32 second, u32 subtype) {
+  begin_message(second, subtype, 0xC0000201, 65000); begin_attributes(); path(65000); begin_multi(14);
+}
+static void end_update(void) { end_multi(); end_attributes(); end_message(); }
+
+static void identifiers6(u32 count) {
+  for (u32 i = 0; i < count; ) {
+    begin_reach(1, 9);
+    for (; i < count && message_room() >= 11; i++) { four(scattered(i)); prefix_48(7); }
+    end_update();
+  }
+}
+static void prefixes6(u32 count) {                          /* every length, each below another */
+  for (u32 i = 0; i < count; ) {
+    begin_reach(1, 4);
+    for (; i < count && message_room() >= 17; i++) {
+      u32 bits = i % 129; one(bits);
+      for (u32 b = 0; b < (bits + 7) / 8; b++) one((b < 4 ? turned(i) : scattered(i + b / 4)) >> (24 - 8 * (b % 4)));
+    }
+    end_update();
+  }
+}
+static void defaults6(u32 count) {                          /* keys of one byte */
+  for (u32 m = 0; m < count; m++) { begin_reach(m, 4); while (message_room() > 0) one(0); end_update(); }
+}
+static void withdrawals6(u32 count) {
+  for (u32 m = 0; m < count; m++) {
+    begin_message(m, 4, 0xC0000201, 65000); begin_attributes(); begin_multi(15);
+    for (u32 i = 0; message_room() >= 9; i++) { one(64); four(0x2A000000 + m); four(scattered(i)); }
+    end_update();
+  }
+}
+static void overlap6(u32 count) {                           /* messages whose withdrawn keys are reached too, in the other order */
+  for (u32 m = 0; m < count; m++) {
+    u32 keys = (WHOLE_MESSAGE - 23 - 13 - 4 - 3 - 4 - 3 - 18) / 34;
+    begin_message(m, 4, 0xC0000201, 65000); begin_attributes(); path(65000 + m); begin_multi(15);
+    for (u32 i = 0; i < keys; i++) prefix_128(m * 131 + i);
+    end_multi(); begin_multi(14);
+    for (u32 i = keys; i > 0; i--) prefix_128(m * 131 + i - 1);
+    end_update();
+  }
+}
+static void own_fields6(u32 count) {                        /* what isn't examined by family ipv6, and a key in attribute 14 */
+  for (u32 m = 0; m < count; m++) {
+    begin_message(m, 4, 0xC0000201, 65000); two(32000); memset(bytes + n, 255, 32000); n += 32000;
+    attributes_at = n; two(0); path(65000); begin_multi(14); prefix_128(m); end_multi(); end_attributes();
+    u32 room = message_room(); memset(bytes + n, 33, room); n += room;
+    end_message();
+  }
+}
+
 static const struct { const char *name; void (*make)(u32); u32 count; const char *what; } dumps[] = {
   { "entries", entries_of_one, 5, "65,535 entries a record, all of one peer" },
   { "entries-of-peers", entries_of_peers, 5, "65,535 entries a record, each of another peer" },
@@ -189,15 +297,33 @@ static const struct { const char *name; void (*make)(u32); u32 count; const char
   { "damaged", damaged, 500000, "messages with a wrong marker" },
   { "zeros", zeros, 400, "zeros, cut inside a header" },
   { "bodies", longest_bodies, 4, "records of the greatest length that nothing reads" },
+}, dumps6[] = {                                             /* dear by family ipv6 */
+  { "entries-6", entries6, 4, "65,535 entries a record, all of one peer" },
+  { "entries-of-peers-6", entries_of_peers6, 4, "65,535 entries a record, each of another peer" },
+  { "entries-with-ids-6", entries_with_ids6, 4, "65,535 entries a record, each with another identifier" },
+  { "repeats-6", repeated6, 2, "16 MB of attributes in a record: 21,829 of type 14 an entry" },
+  { "whole-6", whole6, 2, "16 MB of attributes in a record: of type 14, unread behind the next hop" },
+  { "long-prefixes-6", long_prefixes, 300000, "RIB records of 128 bits, scattered" },
+  { "ids-mixed-6", identifiers6, 500000, "identifiers under one prefix, scattered" },
+  { "nested-6", prefixes6, 500000, "prefixes of every length, scattered" },
+  { "defaults-6", defaults6, 50, "messages of 65,535 bytes that reach ::/0 65,000 times" },
+  { "withdrawals-6", withdrawals6, 50, "messages of 65,535 bytes of withdrawals of what isn't there" },
+  { "overlaps-6", overlap6, 100, "messages of 65,535 bytes that withdraw what they reach" },
+  { "own-fields-6", own_fields6, 300, "messages of 65,535 bytes, of which one key is read" },
 };
 
 int main(int words, char **given) {
-  size_t count = sizeof dumps / sizeof *dumps;
-  if (words == 1) { for (size_t i = 0; i < count; i++) printf("%s %u %s\n", dumps[i].name, dumps[i].count, dumps[i].what); return 0; }
+  size_t count = sizeof dumps / sizeof *dumps, count6 = sizeof dumps6 / sizeof *dumps6;
+  if (words == 1) {
+    for (size_t i = 0; i < count; i++) printf("%s %u ipv4 %s\n", dumps[i].name, dumps[i].count, dumps[i].what);
+    for (size_t i = 0; i < count6; i++) printf("%s %u ipv6 %s\n", dumps6[i].name, dumps6[i].count, dumps6[i].what);
+    return 0;
+  }
   if (words != 3) { fprintf(stderr, "gen_hostile [NAME N]\n"); return 2; }
   if (!(bytes = malloc(ROOM))) return 1;
   setvbuf(stdout, NULL, _IOFBF, 1 << 20);
   for (size_t i = 0; i < count; i++) if (!strcmp(dumps[i].name, given[1])) { dumps[i].make((u32) atol(given[2])); return fflush(stdout) != 0; }
+  for (size_t i = 0; i < count6; i++) if (!strcmp(dumps6[i].name, given[1])) { dumps6[i].make((u32) atol(given[2])); return fflush(stdout) != 0; }
   fprintf(stderr, "no such dump: %s\n", given[1]);
   return 2;
 }

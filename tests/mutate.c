@@ -1,9 +1,10 @@
 /* Writes to standard output a damaged dump that a seed and some good dumps make. The same words give the same bytes.
-     mutate SEED SIZE DUMP..
+     mutate [-6] SEED SIZE DUMP..
    A run of records of one dump, of about SIZE bytes at most and with its index table, and now and then with records of a second
    dump, is changed one to eight times: bits, bytes and numbers are overwritten, spans are cut, moved, repeated and put in,
    records are dropped, doubled, exchanged and given other types and lengths, states change, and attributes and prefixes are repeated, lengthened
    and cut with the lengths around them kept right, so that the damage lies deep. Now and then the file is cut at the end.
+     -6   attributes 14 and 15 and their keys are mostly those of IPv6 routes, and attributes of RIB entries are changed, too
                                                                                         cc -O2 -o mutate mutate.c */
 #include <stdint.h>
 #include <stdio.h>
@@ -11,7 +12,7 @@
 #include <string.h>
 
 typedef uint8_t u8; typedef uint32_t u32; typedef uint64_t u64;
-static u64 state;
+static u64 state; static int six;
 static u64 draw(void) {
   u64 z = state += 0x9E3779B97F4A7C15ull;
   z = (z ^ (z >> 30)) * 0xBF58476D1CE4E5B9ull; z = (z ^ (z >> 27)) * 0x94D049BB133111EBull;
@@ -127,6 +128,37 @@ static const u32 ODD[] = { 0, 1, 2, 3, 4, 5, 7, 8, 11, 12, 16, 18, 19, 22, 23, 2
 static u32 odd(void) { return ODD[below(sizeof ODD / sizeof *ODD)]; }
 static const u8 FORMS[][2] = { {13,1},{13,2},{13,8},{13,4},{16,0},{16,1},{16,4},{16,5},{16,8},{16,9},{16,6},{16,10},{17,0},{17,1},{17,4},{17,5},{17,8},{17,9},{12,1},{48,0} };
 
+/* Bytes of a drawn key: of IPv6 routes mostly where they are asked for. */
+static size_t a_key(u8 *made) {
+  size_t n = 0, wide = six && below(4);
+  if (!below(3)) { made[n++] = 0; made[n++] = 0; made[n++] = 0; made[n++] = (u8) below(4); }
+  static const u8 LENGTHS[] = { 0, 1, 32, 48, 64, 127, 128, 129 };
+  u8 bits = (u8) (below(40) ? (wide && below(2) ? LENGTHS[below(8)] : below(wide ? 129 : 33)) : below(256)); made[n++] = bits;
+  for (size_t b = 0, most = wide ? 16 : 4; b < (bits + 7u) / 8 && b < most; b++) made[n++] = (u8) (below(3) ? below(4) : draw());
+  return n;
+}
+/* The value of an attribute 14 or 15: as it stands in an UPDATE, or as in a RIB entry, whole or shortened. */
+static size_t a_value(u8 *made, u8 type, int is_entry) {
+  size_t n = 0, keys = below(4), is_short = is_entry && type == 14 && below(2);
+  static const u8 HOPS[] = { 16, 16, 16, 32, 32, 4, 0, 5, 24, 48 };
+  if (!is_short) { made[n++] = 0; made[n++] = (u8) (2 - !below(5)); made[n++] = (u8) (1 + !below(8)); }
+  if (type == 14) {
+    u8 hop = HOPS[below(10)]; made[n++] = hop;
+    for (u8 i = 0; i < hop; i++) made[n++] = (u8) (below(3) ? below(4) : draw());
+    if (is_short) return n - !below(12) + !below(12);
+    made[n++] = (u8) below(2);
+  }
+  for (size_t i = 0; i < keys; i++) n += a_key(made + n);
+  return below(16) ? n : below(n + 1);
+}
+static size_t an_attribute_of_routes(u8 *made, int is_entry) {
+  u8 type = (u8) (14 + !below(3)), value[512]; memset(value, 0, sizeof value);
+  size_t n = 0, length = a_value(value, type, is_entry);
+  made[n++] = 0x90; made[n++] = type; made[n++] = (u8) (length >> 8); made[n++] = (u8) length;
+  memcpy(made + n, value, length);
+  return n + length;
+}
+
 static void change_message(void) {
   struct message m = find_message(); if (!m.ready) return;
   u8 made[4096]; size_t n = 0, length = 0, at = an_attribute(&m, &length);
@@ -136,6 +168,11 @@ static void change_message(void) {
     case 2: if (at) { n = 1 + below(40); for (size_t i = 0; i < n; i++) made[i] = (u8) draw(); edit_message(&m, at + length, 0, made, n); } break;            /* loose bytes */
     case 3: if (at && length > 3) { bytes[at + 3 + below(length - 3)] = (u8) odd(); } break;
     case 4: {                                                                       /* one of a known type with a drawn value */
+      if (six && below(3)) {
+        n = an_attribute_of_routes(made, 0); edit_message(&m, m.attributes, 0, made, n);
+        if (m.attributes_end == m.attributes) put_two(m.attributes - 2, (u32) n);
+        break;
+      }
       static const u8 TYPES[] = { 1, 2, 3, 4, 5, 6, 7, 8, 14, 15, 17, 18, 32 };
       u8 type = TYPES[below(sizeof TYPES)]; size_t value = below(4) ? below(12) : below(300);
       made[n++] = (u8) (value > 255 || !below(3) ? 0xD0 : 0x40); made[n++] = type;
@@ -143,7 +180,7 @@ static void change_message(void) {
       made[n++] = (u8) value;
       for (size_t i = 0; i < value; i++) made[n + i] = (u8) (below(3) ? below(5) : draw());
       if ((type == 2 || type == 17) && value > 2 && below(3)) { made[n] = (u8) (1 + below(4)); made[n + 1] = (u8) ((value - 2) / (below(2) ? 4 : 2)); }
-      if ((type == 14 || type == 15) && value > 3) { made[n] = 0; made[n + 1] = (u8) (1 + !below(5)); made[n + 2] = 1; }
+      if ((type == 14 || type == 15) && value > 3) { made[n] = 0; made[n + 1] = (u8) (six ? 2 - !below(5) : 1 + !below(5)); made[n + 2] = 1; }
       if (type == 14 && value > 8) { static const u8 HOPS[] = { 4, 16, 32, 0, 5 }; made[n + 3] = HOPS[below(5)]; }
       edit_message(&m, m.attributes, 0, made, n + value);
       if (m.attributes_end == m.attributes) put_two(m.attributes - 2, (u32) (n + value));
@@ -151,7 +188,8 @@ static void change_message(void) {
     }
     case 5: {                                                                       /* more prefixes, announced or withdrawn */
       size_t keys = 1 + below(below(6) ? 8 : 400);
-      for (size_t i = 0; i < keys && n + 9 < sizeof made; i++) {
+      for (size_t i = 0; i < keys && n + 24 < sizeof made && six; i++) n += a_key(made + n);
+      for (size_t i = 0; i < keys && n + 9 < sizeof made && !six; i++) {
         if (!below(3)) { made[n++] = 0; made[n++] = 0; made[n++] = 0; made[n++] = (u8) below(4); }
         u8 bits = (u8) (below(40) ? below(33) : below(256)); made[n++] = bits;
         for (int b = 0; b < (bits + 7) / 8 && b < 4; b++) made[n++] = (u8) (below(3) ? below(4) : draw());
@@ -163,6 +201,40 @@ static void change_message(void) {
     case 6: put_two(m.start + 19, below(2) ? odd() : two(m.start + 19) + (u32) below(3) - 1); break;
     case 7: put_two(m.attributes - 2, below(2) ? odd() : two(m.attributes - 2) + (u32) below(3) - 1); break;
     default: put_two(m.start + 16, below(2) ? odd() : two(m.start + 16) + (u32) below(3) - 1); break;
+  }
+}
+
+/* An attribute of a drawn entry of a RIB record is changed, or one put in, with the lengths around it kept right. */
+static void change_entry(void) {
+  for (int tries = 0; tries < 24 && records; tries++) {
+    size_t r = below(records), at = starts[r], end = end_of(r); u32 subtype = two(at + 6);
+    if (two(at + 4) != 13 || (subtype != 2 && subtype != 4 && subtype != 8 && subtype != 10) || at + 17 > end) continue;
+    size_t prefix = at + 16, place = prefix + 1 + (bytes[prefix] + 7u) / 8, chosen = 0, fixed = subtype < 8 ? 6 : 10;
+    if (place + 2 > end) continue;
+    u32 count = two(place); place += 2;
+    for (u32 seen = 0; seen < count && place + fixed + 2 <= end; ) {
+      size_t length = two(place + fixed);
+      if (place + fixed + 2 + length > end) break;
+      if (!below(++seen)) chosen = place;
+      place += fixed + 2 + length;
+    }
+    if (!chosen) continue;
+    size_t field = chosen + fixed, from = field + 2, to = from + two(field), n, gone = 0; u8 made[1024];
+    size_t of = from; for (size_t next = from, seen = 0; next + 3 <= to; ) {            /* a drawn attribute */
+      size_t size_of = bytes[next] & 16 ? 4 + two(next + 2) : 3u + bytes[next + 2];
+      if (next + size_of > to) break;
+      if (!below(++seen)) { of = next; gone = size_of; }
+      next += size_of;
+    }
+    switch (below(5)) {
+      case 0: n = 0; break;                                                           /* drop */
+      case 1: n = gone < sizeof made ? gone : 0; memcpy(made, bytes + of, n); gone = 0; break;   /* repeat */
+      case 2: n = 1 + below(8); for (size_t i = 0; i < n; i++) made[i] = (u8) draw(); gone = 0; break;
+      default: n = an_attribute_of_routes(made, 1); gone = 0;
+    }
+    edit(of, gone, made, n);
+    put_two(field, (u32) (two(field) + n - gone)); put_four(at + 8, (u32) (four(at + 8) + n - gone));
+    return;
   }
 }
 
@@ -216,7 +288,8 @@ static void change_bytes(void) {
 }
 
 int main(int n, char **words) {
-  if (n < 4) { fprintf(stderr, "mutate SEED SIZE DUMP..\n"); return 2; }
+  if (n > 1 && !strcmp(words[1], "-6")) { six = 1; n--; words++; }
+  if (n < 4) { fprintf(stderr, "mutate [-6] SEED SIZE DUMP..\n"); return 2; }
   state = strtoull(words[1], NULL, 10) * 0xD1342543DE82EF95ull + 1; draw();
   size_t most = strtoull(words[2], NULL, 10), dumps = (size_t) n - 3;
   bytes = room(ROOM); starts = room(RECORDS * sizeof *starts);
@@ -225,6 +298,7 @@ int main(int n, char **words) {
   if (!below(4)) take_records(words[3 + below(dumps)], most / 2, (int) below(2));
   for (size_t changes = 1 + below(below(3) ? 4 : 8); changes > 0; changes--) {
     find_records();
+    if (six && below(2)) { if (below(2)) change_entry(); else change_message(); continue; }
     switch (below(8)) {
       case 0: case 1: change_bytes(); break;
       case 2: case 3: change_record(); break;

@@ -11,7 +11,8 @@
 # requests and those that the C library makes of its allocator for it, as for a thread's locals. The memory of a thread's stack is mapped
 # by pthread_create itself: its want is the start of a thread that fails. Where a growth isn't needed, as a thread's, the answer is as with
 # ample memory. A kind of failure that reached no run of a line has failed too. Dumps: UPDATEs of three peers; an index, a RIB record and an UPDATE; both
-# as files of one run; the sample; and a large RIB of one peer, whose lines are made by several threads. Needs cc. The last line is `N passed, M failed`, counted in runs.
+# as files of one run; the sample; and a large RIB of one peer, whose lines are made by several threads. Of all but the sample there is one of IPv6
+# routes, too, by family ipv6. Needs cc. The last line is `N passed, M failed`, counted in runs.
 set -u
 program=$(realpath "$1"); here=$(dirname "$(realpath "$0")"); work=$(mktemp -d); trap 'rm -rf "$work"' EXIT
 cc -O2 -shared -fPIC -o "$work/refuse.so" "$here/refuse.c" && cc -O2 -o "$work/refusals" "$here/refusals.c" || exit 2
@@ -28,6 +29,21 @@ cd "$work" && ln -s "$program" program || exit 2
 # 17,000 prefixes of one peer: as many lines as several threads make
 routes() { awk -v attributes=$attributes 'BEGIN { for (i = 0; i < 17000; i++) printf "00000003000D00020000002600000000180A%04X00010000000000010014%s", i, attributes }'; }
 { index; bytes "$(routes)"; } > large
+# the same of IPv6 routes: attribute 14 of an UPDATE, and of a RIB entry in its short form
+path=4001010040020602010000FDE8
+hop=20010DB8000000000000000000000009
+update6() {
+  bytes 00000001 0010 0004 00000055 0000FDE8 0000FDE9 0000 0001 "$1" C0000202 $marker 0041 02 0000 002A $path 800E1A 0002 01 10 $hop 00 20 20010DB8
+}
+table6() { bytes 00000003 000D 0004 00000040 00000000 20 20010DB8 0002 0000 00000001 0021 $path 800E1110 $hop 0001 00000001 0004 40010103; }
+{ update6 C0000201; update6 C0000202; update6 C0000201; update6 C0000203; update6 C0000202; } > three-peers-6
+{ index; table6; update6 C0000201; } > table-and-update-6
+routes6() {
+  awk -v attributes=${path}800E1110$hop 'BEGIN {
+    for (i = 0; i < 17000; i++) printf "00000003000D0004000000360000000030" "20010DB8%04X00010000000000010021%s", i, attributes
+  }'
+}
+{ index; bytes "$(routes6)"; } > large-6
 cp "$here/../examples/sample.mrt" sample
 gzip -9nc sample > sample.gz; bzip2 -9c sample > sample.bz2
 
@@ -44,6 +60,15 @@ tries() {
       for kind in read-EIO read-EINTR; do echo $kind 1 1 $file tables $by $file; echo $kind 1 1 $file churn $by -; done
       for kind in thread thread-on short-reads short-writes; do echo $kind 1 1 $file tables $by $file; done
     done
+    six="--family ipv6 $by"
+    for file in three-peers-6 table-and-update-6; do
+      for request in tables visibility origins seen churn peers history 'match --address 2001:db8::1' faults; do echo memory $step 1 $file $request $six $file; done
+      echo memory $step 1 $file tables --prefix 2001:db8::/32+ --prefix 2001:db8::1- --peer 65000 --peers 1/1 $six $file
+      echo memory $step 1 $file 'history --same' --rib replace $six $file table-and-update-6
+      echo memory-on $step 1 $file tables $six $file
+      for kind in read-EIO read-EINTR; do echo $kind 1 1 $file tables $six $file; echo $kind 1 1 $file churn $six -; done
+      for kind in thread thread-on short-reads short-writes; do echo $kind 1 1 $file tables $six $file; done
+    done
     [ $1 = 64 ] && step=61 || step=3
     echo memory $step 1 sample tables $by sample
     echo memory-on $((step * 3)) 1 sample churn $by sample
@@ -59,6 +84,7 @@ tries() {
   done
   for kind in memory thread thread-on short-writes; do echo $kind 1 1 large tables --workers 4 --ring 1024 large; done
   echo memory-on 7 1 large tables --workers 4 --ring 1024 large
+  for kind in memory thread-on short-writes; do echo $kind 1 1 large-6 tables --family ipv6 --workers 4 --ring 1024 large-6; done
   for kind in write-EIO write-none; do echo $kind 997 1 large tables --workers 4 --ring 1024 large; done
   for kind in write-EIO write-ENOSPC write-EINTR write-EPIPE write-none; do
     for request in tables visibility origins seen churn peers history 'match --address 17.150.214.7'; do echo $kind 1 1 sample $request sample; done

@@ -1,4 +1,5 @@
-/* Runs all nine reports on dumps, by several numbers of workers and sizes of rings, and compares what they write.
+/* Runs all nine reports on dumps, by several numbers of workers and sizes of rings, and compares what they write. Options of every run, as
+   --family ipv6, can stand behind the dumps.
      same [-w N,N..] [-r N,N..] [-p SEED] [-b LIBRARY] [-v MEGABYTES] [-m MEGABYTES] PROGRAM DUMP..
    The first run of a report has one worker and a ring of 65,536. Its status must be 0 with nothing on standard error, or 1 with `damaged: N`, where N is
    the number of lines of `faults`; never a signal. Each run by workers of -w and rings of -r must give the same bytes and status.
@@ -10,7 +11,7 @@
 
 static char *reports[] = { "tables", "visibility", "origins", "churn", "faults", "match", "seen", "peers", "history" };
 enum { REPORTS = 9, MOST = 16 };
-static char address[40] = "10.0.0.1";
+static char address[48] = "10.0.0.1";
 static long runs, failed;
 
 static int numbers_of(char *text, char **to) {
@@ -41,11 +42,16 @@ static void failure(char **words, const char *why, const struct ended *ended) {
   print_first_line(stdout, &ended->err); printf("\n");
 }
 
+/* The address that is matched where no prefix is listed: of the family that is asked for. */
+static void first_address(char **dumps) {
+  for (; *dumps; dumps++) if (!strcmp(*dumps, "--family") && dumps[1] && !strcmp(dumps[1], "ipv6")) strcpy(address, "2001:db8::1");
+}
+
 /* An address of one of the prefixes in a report on visibility. */
 static void draw_address(const struct written *out, uint64_t seed) {
   size_t at = out->length ? mixed(seed) % out->length : 0, n = 0;
   while (at > 0 && out->bytes[at - 1] != '\n') at--;
-  while (at + n < out->length && out->bytes[at + n] != '/' && n < 20) n++;
+  while (at + n < out->length && out->bytes[at + n] != '/' && n < 40) n++;
   if (at + n < out->length && out->bytes[at + n] == '/') snprintf(address, sizeof address, "%.*s", (int) n, out->bytes + at);
 }
 
@@ -66,7 +72,7 @@ int main(int n, char **given) {
   if (n - optind < 2) { fprintf(stderr, "same [-w N,N..] [-r N,N..] [-p SEED] [-b LIBRARY] [-v MEGABYTES] [-m MEGABYTES] PROGRAM DUMP..\n"); return 2; }
   char *program = given[optind], **dumps = given + optind + 1;
   struct ended whole[REPORTS]; long damaged = -1;
-  terms.seconds = 120;
+  terms.seconds = 120; first_address(dumps);
   for (int report = 0; report < REPORTS; report++) {
     word(words, program, report, "1", "65536", dumps);
     whole[report] = run(words, &terms); runs++;

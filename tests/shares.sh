@@ -5,19 +5,23 @@
 # of the whole report, and so are those of `tables`, `churn` and `match` where they follow it.
 #   tests/shares.sh PROGRAM
 # The dumps are those of examples/, both as one run, the front of a generated RIB dump and of generated updates, and each file in the directory that
-# the variable SAMPLES names, where it is set; and RIB dumps with updates between them, with --rib replace. A front is cut at FRONT bytes (200000), where its last record is damaged mostly. Needs awk and cc. The
-# last line is `N passed, M failed`.
+# the variable SAMPLES names, where it is set; and RIB dumps with updates between them, with --rib replace. So much by family ipv4; by family ipv6
+# the fronts of a generated RIB dump and of updates of IPv6 routes, those of SAMPLES, and the first two together, with --rib replace too. A front is
+# cut at FRONT bytes (200000), where its last record is damaged mostly. Needs awk and cc. The last line is `N passed, M failed`.
 set -u
 program=$(realpath "$1"); here=$(dirname "$(realpath "$0")"); work=$(mktemp -d); trap 'rm -rf "$work"' EXIT
 export LC_ALL=C
 front=${FRONT:-200000}
 cc -O2 -o "$work/gen_mrt" "$here/../bench/gen_mrt.c" -lm || exit 2
-mkdir "$work/dumps" && cd "$work" || exit 2
+mkdir "$work/dumps" "$work/dumps6" && cd "$work" || exit 2
 cp "$here/../examples/sample.mrt" dumps/sample.mrt; cp "$here/../examples/updates.mrt" dumps/updates.mrt
 ./gen_mrt rib 300 20 1 | head -c "$front" > dumps/generated-rib.mrt
 ./gen_mrt updates 2000 300 20 1 | head -c "$front" > dumps/generated-updates.mrt
+./gen_mrt rib 300 20 1 ipv6 | head -c "$front" > dumps6/generated-rib.mrt
+./gen_mrt updates 2000 300 20 1 ipv6 | head -c "$front" > dumps6/generated-updates.mrt
 if [ -n "${SAMPLES:-}" ]; then
   for dump in "$SAMPLES"/*; do [ -f "$dump" ] && head -c "$front" "$dump" > "dumps/front-of-$(basename "$dump" | tr -c 'A-Za-z0-9._\n-' _)"; done
+  for dump in dumps/front-of-*; do [ ! -f "$dump" ] || ln -s "../$dump" dumps6/; done
 fi
 passed=0; failed=0
 check() { # NAME COMMAND..
@@ -38,9 +42,13 @@ by_place() { sort -t'|' -k7,7n -k8,8n -k9,9n "$@"; }
 by_peers() { awk -F'|' 'NR == FNR { order[++peers] = $1; next } { lines[$1] = lines[$1] $0 "\n" } END { for (i = 1; i <= peers; i++) printf "%s", lines[order[i]] }' "$@"; }
 nothing_twice() { [ -z "$(for part in "$@"; do cut -d'|' -f1 "$part" | sort -u; done | sort | uniq -d)" ]; }
 
+six=(dumps6/*)
 for dump in dumps/* 'dumps/sample.mrt dumps/updates.mrt' '--rib replace dumps/sample.mrt dumps/updates.mrt dumps/sample.mrt' \
-  '--rib replace dumps/generated-rib.mrt dumps/generated-updates.mrt dumps/generated-rib.mrt dumps/sample.mrt'; do
-  address=$(report tables $dump | head -n 1 | cut -d'|' -f2 | cut -d/ -f1); address=${address:-192.0.2.1}
+  '--rib replace dumps/generated-rib.mrt dumps/generated-updates.mrt dumps/generated-rib.mrt dumps/sample.mrt' \
+  "${six[@]/#/--family ipv6 }" '--family ipv6 dumps6/generated-rib.mrt dumps6/generated-updates.mrt' \
+  '--family ipv6 --rib replace dumps6/generated-rib.mrt dumps6/generated-updates.mrt dumps6/generated-rib.mrt'; do
+  address=$(report tables $dump | head -n 1 | cut -d'|' -f2 | cut -d/ -f1)
+  case $dump in --family\ ipv6*) address=${address:-2001:db8::1};; *) address=${address:-192.0.2.1};; esac
   for words in tables churn peers "match --address $address" visibility seen origins faults; do report $words $dump > "whole-${words%% *}"; done
   for count in 1 2 3 7; do
     for words in tables churn peers "match --address $address" visibility seen faults; do

@@ -218,6 +218,7 @@ impl RouteSet {
     }
 
     /// Prefetches the route with this hash, if the set has one. The number means nothing.
+    #[inline(always)]
     pub(crate) fn prefetch_route(&self, hashed: &HashedRoute) -> usize {
         let bucket = self.bucket_of(hashed.hash);
         for at in bucket..bucket.saturating_add(PROBED_SLOTS) {

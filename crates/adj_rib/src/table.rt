@@ -14,6 +14,7 @@ use bgp_update::Unicast;
 use std::alloc::Global;
 
 /// What the announcement of a route does, given the other route, if any, that was there.
+#[inline(always)]
 fn outcome_over(old: Option<SharedRoute>, route: &SharedRoute) -> Outcome
     ensures { result ≡ announced_over old route.now }
 {

@@ -6,4 +6,4 @@ pub mod Searches
 pub mod Tries
 pub mod Directions
 pub mod Splits
-pub mod Halves
+pub mod Words

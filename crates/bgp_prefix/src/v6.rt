@@ -7,27 +7,38 @@ use std::alloc::AllocError;
 use std::cmp::Ordering;
 use std::marker::Model;
 
-/// An IPv6 address in two halves: it needs no more alignment than they do.
+/// An IPv6 address in four words: it needs no more alignment than they do, so that a prefix takes 20 bytes.
 #[derive(Debug)]
 pub struct Ipv6 {
-    high: u64,
-    low: u64,
+    fourth: u32,
+    third: u32,
+    second: u32,
+    first: u32,
 }
 
 impl Model for Ipv6 {
     ghost use Rattle.std.specs.Prelude.{ℕ, ◌+◌, ◌*◌, ◌/◌, ◌%◌, ◌^◌, ◌<◌};
+    ghost use Rattle.bgp_prefix.specs.Words.{of_words, first_of, second_of, third_of, fourth_of};
 
     ghost Value = { ℕ };
 
-    ghost view = { λ a. a.high * 2 ^ 64 + a.low };
+    ghost view = { λ a. of_words a.first a.second a.third a.fourth };
 
-    ghost invariant = { λ a. a.low < 2 ^ 64 };
+    ghost invariant = { λ a. record { second : a.second < 2 ^ 32; third : a.third < 2 ^ 32; fourth : a.fourth < 2 ^ 32 } };
 
-    ghost inverse = { λ n. record { high = n / 2 ^ 64; low = n % 2 ^ 64 } };
+    ghost inverse = { λ n. record {
+      first = n / 2 ^ 96;
+      second = n / 2 ^ 64 % 2 ^ 32;
+      third = n / 2 ^ 32 % 2 ^ 32;
+      fourth = n % 2 ^ 32;
+    } };
 
-    ghost use Rattle.bgp_prefix.specs.Halves.{high_of, low_of};
-
-    ghost inverse_ok = { λ a h. λ i. record { high = high_of a.high a.low h i; low = low_of a.high a.low h i } };
+    ghost inverse_ok = { λ a h. λ i. record {
+      first = first_of a.first a.second a.third a.fourth h.second h.third h.fourth i;
+      second = second_of a.first a.second a.third a.fourth h.second h.third h.fourth i;
+      third = third_of a.first a.second a.third a.fourth h.second h.third h.fourth i;
+      fourth = fourth_of a.first a.second a.third a.fourth h.second h.third h.fourth i;
+    } };
 }
 
 impl Copy for Ipv6 {}
@@ -45,8 +56,10 @@ impl Ipv6 {
         ensures { result ≡ number }
     {
         Ipv6 {
-            high: (number >> 64) as u64,
-            low: (number % (1u128 << 64)) as u64,
+            fourth: (number % (1u128 << 32)) as u32,
+            third: ((number >> 32) % (1u128 << 32)) as u32,
+            second: ((number >> 64) % (1u128 << 32)) as u32,
+            first: (number >> 96) as u32,
         }
     }
 
@@ -55,7 +68,10 @@ impl Ipv6 {
     pub fn number(&self) -> u128
         ensures { result ≡ self.now }
     {
-        ((self.high as u128) << 64) + self.low as u128
+        ((self.first as u128) << 96)
+            + ((self.second as u128) << 64)
+            + ((self.third as u128) << 32)
+            + self.fourth as u128
     }
 }
 
@@ -77,7 +93,12 @@ impl Family for Ipv6 {
 
     const WIDTH: u8 = 128;
 
-    const LOWEST: Ipv6 = Ipv6 { high: 0, low: 0 };
+    const LOWEST: Ipv6 = Ipv6 {
+        fourth: 0,
+        third: 0,
+        second: 0,
+        first: 0,
+    };
 
     #[inline]
     fn masked(self, len: u8) -> Ipv6 {

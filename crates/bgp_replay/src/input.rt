@@ -9,7 +9,7 @@ use crate::files::{Device, Files};
 use crate::naps::Naps;
 use crate::progress::{Board, LOOK, ReadSoFar};
 use bgp_prefix::Memory;
-use command_line::{FirstBytes, Kind, Records};
+use command_line::{AddressFamily, FirstBytes, Kind, Records};
 use mrt_frame::Counted;
 use packed_io::{Format, PackedFault, PackedFiles, PackedReader, Unpacked};
 use std::io::{self, Read};
@@ -27,9 +27,9 @@ struct Watch<'a> {
 }
 
 impl<'a> Watch<'a> {
-    fn new(rt: &HostRuntime, board: Option<&'a Board>) -> Watch<'a> {
+    fn new(rt: &HostRuntime, family: AddressFamily, board: Option<&'a Board>) -> Watch<'a> {
         Watch {
-            records: Records::new(rt.alloc()),
+            records: Records::new(rt.alloc(), family),
             board,
             bytes: 0,
         }
@@ -57,6 +57,8 @@ impl<'a> Watch<'a> {
 /// What the dumps of a run share.
 #[derive(Clone, Copy)]
 pub struct Watched<'a> {
+    /// The family of the routes that are read.
+    pub family: AddressFamily,
     /// The files that are read.
     pub files: &'a Files,
     /// Where units are counted, if records are.
@@ -163,7 +165,7 @@ impl<'a, D: Read + Drop> Dump<'a, D> {
         ensures { dump_contents result ≡ contents.entry }
     {
         let watch = if watched.is_any() {
-            Some(Watch::new(rt, watched.board))
+            Some(Watch::new(rt, watched.family, watched.board))
         } else {
             None
         };

@@ -1,9 +1,10 @@
 //! The files that choose prefixes, and those that name dumps.
 
 use crate::telling::{tell_list, tell_memory};
+use bgp_prefix::Prefix;
 use command_line::{
-    FileListError, FileName, ListError, fault_of_file_list, fault_of_list, read_file_list,
-    read_list,
+    AddressText, FileListError, FileName, ListError, fault_of_file_list, fault_of_list,
+    read_file_list, read_list,
 };
 use mrt_body::PrefixChoice;
 use std::alloc::AllocError;
@@ -121,14 +122,18 @@ fn text_of(rt: &HostRuntime, listed: Listed, number: usize, name: &str) -> Resul
 }
 
 /// Returns what the lines of a file choose, or the status to exit with.
-fn choices_of(rt: &HostRuntime, number: usize, name: &str) -> Result<Vec<PrefixChoice>, u8> {
+fn choices_of<F: AddressText>(
+    rt: &HostRuntime,
+    number: usize,
+    name: &str,
+) -> Result<Vec<PrefixChoice<Prefix<F>>>, u8> {
     let listed = Listed::Prefixes;
     let text = text_of(rt, listed, number, name)?;
-    match read_list(rt.alloc(), &text) {
+    match read_list::<F>(rt.alloc(), &text) {
         Ok(choices) if choices.is_empty() => Err(explain_none(rt, listed, name)),
         Ok(choices) => Ok(choices),
         Err(ListError::Line(line)) => {
-            let fault = fault_of_list(rt.alloc(), name, &text, line);
+            let fault = fault_of_list::<F>(rt.alloc(), name, &text, line);
             Err(explain_text(rt, listed, fault))
         }
         Err(ListError::Memory) => Err(without_memory(rt, listed)),
@@ -136,10 +141,13 @@ fn choices_of(rt: &HostRuntime, number: usize, name: &str) -> Result<Vec<PrefixC
 }
 
 /// Returns what the lines of these files choose, in order, or the status to exit with.
-pub fn listed_prefixes(rt: &HostRuntime, names: &[String]) -> Result<Vec<PrefixChoice>, u8> {
+pub fn listed_prefixes<F: AddressText>(
+    rt: &HostRuntime,
+    names: &[String],
+) -> Result<Vec<PrefixChoice<Prefix<F>>>, u8> {
     let mut choices = Vec::new(rt.alloc());
     for (i, name) in names.iter().enumerate() {
-        let mut listed = choices_of(rt, i.saturating_add(1), name.as_str())?;
+        let mut listed = choices_of::<F>(rt, i.saturating_add(1), name.as_str())?;
         if choices.append(&mut listed).is_err() {
             return Err(without_memory(rt, Listed::Prefixes));
         }

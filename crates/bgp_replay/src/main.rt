@@ -3,6 +3,8 @@
 //! The program reads arguments, opens files, calls `run` and reports the outcome. All that it can leave to a library is
 //! in one, since a function of a program can't be called by a test.
 //!
+//! - **A run replays the routes of one family**, whose type of addresses is a parameter of all that has a job: the two
+//!   are told apart where the arguments were read (`Asked`), and the map of routes is chosen with it.
 //! - **All files are opened before any is read**, so that a wrong name is reported at once. The first 16 stay open, as
 //!   long as the system lets so many be open; a later one is closed and opened again when its turn comes, except pipes
 //!   and the like, which can't be opened twice. A file is closed when the next one is begun, if its end wasn't read.
@@ -32,7 +34,6 @@
 #![tactic(auto)]
 
 ghost use Rattle.std.specs.Prelude.{◌≡◌, ◌≤◌, ◌*◌, min, IfOk, IsTrue};
-ghost use Rattle.bgp_update.specs.Families.{ipv4};
 ghost use Rattle.lane_deal.specs.Plans.{IsPlan};
 
 mod counts;
@@ -46,8 +47,11 @@ mod progress;
 mod telling;
 
 use adj_rib::SharedRoute;
-use bgp_prefix::Memory;
-use command_line::{Job, Usage, read_words, standard_input_fault, wrapped};
+use bgp_prefix::{Ipv6, Memory, Prefix};
+use bgp_update::Unicast;
+use command_line::{
+    AddressFamily, AddressText, Asked, Job, Usage, read_words, standard_input_fault, wrapped,
+};
 use counts::Counts;
 use files::{Device, Files, OpenError};
 use input::{Input, Watched, inputs_of, packed_files_of};
@@ -62,15 +66,22 @@ use output::{Output, Report, columns};
 use packed_io::PackedFiles;
 use prefix_shelf::Shelf;
 use progress::{Board, Counter, terminal_width};
-use rib_report::Request;
+use rib_report::{Request, WrittenAddress};
 use std::alloc::Global;
 use std::env::{Env, FillError};
 use std::io::ErrorKind;
-use std::marker::Sync;
+use std::marker::{Send, Sync};
 use std::process::ExitCode;
 use std::thread::{Threads, available_parallelism, join};
 use std::time::{Duration, Instant};
 use telling::{has_ended_early, tell, tell_memory, tell_open, tell_summary, tell_write};
+
+/// A family whose routes are replayed by threads: its addresses are read and written.
+trait Replayed: AddressText + WrittenAddress + Send + Sync {}
+
+impl Replayed for u32 {}
+
+impl Replayed for Ipv6 {}
 
 /// How many units are dealt in a round for each worker. Each round starts its threads anew, and at its end the dealer
 /// waits for the slowest worker. Routes are counted between rounds.
@@ -105,31 +116,41 @@ const MOST_WORDS: usize = 100_000;
 /// The maximum number of workers.
 const MOST_WORKERS: usize = 64;
 
-/// The number of addresses, those of a prefix of length 6, whose routes are few among all.
-const MOST_NARROW: u64 = 1 << 26;
+/// How many routes are few among all: about those of an IPv4 prefix of length 6, or of an IPv6 prefix of length 18.
+const MOST_NARROW: u64 = 1 << 14;
 
-/// The number of addresses that a route has in a whole table, more or less: those of a prefix of length 20.
-const ADDRESSES_EACH: u64 = 1 << 12;
+/// Returns the length of a prefix that has about one route in a whole table of the family. Of IPv4 that is a table's
+/// mean: it has a million routes to nearly all addresses. Of IPv6 it is the least block that the registries allocate.
+fn length_each(family: AddressFamily) -> u8
+    ensures { result ≤ 32 }
+{
+    match family {
+        AddressFamily::Ipv4 => 20,
+        AddressFamily::Ipv6 => 32,
+    }
+}
 
-/// Returns the number of addresses that have about as many routes as a choice takes.
-fn addresses_of(choice: &PrefixChoice) -> u64 {
+/// Returns about how many routes of a whole table a choice takes.
+fn routes_of<F: AddressText>(choice: &PrefixChoice<Prefix<F>>) -> u64 {
     match choice.reach {
-        Reach::Inside => (1u64 << (32 - choice.prefix.len() as u32)).max(ADDRESSES_EACH),
-        Reach::Exact | Reach::Around => ADDRESSES_EACH,
+        Reach::Inside => {
+            1u64 << length_each(F::FAMILY).saturating_sub(choice.prefix.len()) as u32
+        }
+        Reach::Exact | Reach::Around => 1,
     }
 }
 
 /// Whether few routes are chosen. Then nearly all the time goes into reading, and threads only cost.
-fn is_narrow(choices: &[PrefixChoice]) -> bool {
-    let mut addresses = 0u64;
+fn is_narrow<F: AddressText>(choices: &[PrefixChoice<Prefix<F>>]) -> bool {
+    let mut routes = 0u64;
     for choice in choices {
-        addresses = addresses.saturating_add(addresses_of(choice));
+        routes = routes.saturating_add(routes_of(choice));
     }
-    !choices.is_empty() && addresses <= MOST_NARROW
+    !choices.is_empty() && routes <= MOST_NARROW
 }
 
 /// Whether what happened is listed, or a part of it counted, which one thread does.
-fn is_history(request: &Request, choices: &[PrefixChoice]) -> bool {
+fn is_history<F: Unicast>(request: &Request<F>, choices: &[PrefixChoice<Prefix<F>>]) -> bool {
     match request {
         Request::History { since: _, same: _ } => true,
         Request::Churn { since } => since.is_some() || !choices.is_empty(),
@@ -140,7 +161,7 @@ fn is_history(request: &Request, choices: &[PrefixChoice]) -> bool {
 /// Returns as many workers as the arguments ask for, otherwise one if few prefixes are chosen or what happened is
 /// listed or a part of it counted, else one per processor; if the system doesn't report how many there are, as many as
 /// the job has.
-fn workers_of(threads: &impl Threads, job: &Job) -> usize
+fn workers_of<F: AddressText>(threads: &impl Threads, job: &Job<F>) -> usize
     ensures least { 1 ≤ result }
     ensures most { result ≤ 64 }
     ensures asked { IsTrue job.now.has_workers → result ≡ job.now.workers }
@@ -156,7 +177,7 @@ fn workers_of(threads: &impl Threads, job: &Job) -> usize
 
 /// Returns as many threads as the arguments ask for, else one per processor; if the system doesn't report how many
 /// there are, as many as the job has.
-fn most_threads(threads: &impl Threads, job: &Job) -> usize
+fn most_threads<F: Unicast>(threads: &impl Threads, job: &Job<F>) -> usize
     ensures least { 1 ≤ result }
     ensures most { result ≤ 64 }
     ensures asked { IsTrue job.now.has_workers → result ≡ job.now.workers }
@@ -171,15 +192,15 @@ fn most_threads(threads: &impl Threads, job: &Job) -> usize
 }
 
 /// Returns which units a job asks for.
-fn selection_of(alloc: Global, job: &Job) -> Result<Selection, Memory>
+fn selection_of<F: Unicast>(alloc: Global, job: &Job<F>) -> Result<Selection<F>, Memory>
     ensures { IfOk result (λ selection. selection ≡ record {
-      family = ipv4;
       until = job.now.until;
       prefixes = job.now.prefixes.items;
       peers = job.now.peers.items;
       share = job.now.share;
       states = job.now.states;
       ribs = job.now.ribs;
+      family = F.family;
     }) }
 {
     let choices = Vec::from_slice(alloc, &job.prefixes)?;
@@ -209,7 +230,7 @@ fn batch_of(workers: usize) -> u64
     (BATCH_EACH * workers as u64).min(MOST_BATCH)
 }
 
-fn plan_of(job: &Job, workers: usize) -> Plan
+fn plan_of<F: Unicast>(job: &Job<F>, workers: usize) -> Plan
     requires least { 1 ≤ workers }
     requires most { workers ≤ 64 }
     ensures plan { IsPlan result }
@@ -253,7 +274,7 @@ fn explain(rt: &HostRuntime, usage: &Usage) -> u8 {
             let _ = eprint!(rt; "{text}");
             REFUSED
         }
-        Usage::Address(text) => {
+        Usage::Address(_, text) => {
             let _ = eprintln!(rt; "bad address: {text}");
             REFUSED
         }
@@ -298,8 +319,8 @@ fn given_words(rt: &HostRuntime) -> Result<Vec<String>, u8> {
 }
 
 /// Adds what the files that the arguments name list, or returns the status to exit with.
-fn add_listed(rt: &HostRuntime, job: &mut Job) -> Result<(), u8> {
-    let mut prefixes = listed_prefixes(rt, job.lists.as_slice())?;
+fn add_listed<F: AddressText>(rt: &HostRuntime, job: &mut Job<F>) -> Result<(), u8> {
+    let mut prefixes = listed_prefixes::<F>(rt, job.lists.as_slice())?;
     if job.prefixes.append(&mut prefixes).is_err() {
         return Err(without_memory(rt, "the prefixes were read"));
     }
@@ -317,13 +338,10 @@ fn add_listed(rt: &HostRuntime, job: &mut Job) -> Result<(), u8> {
 }
 
 /// Returns the job that the command line asks for, or the status to exit with.
-fn given_job(rt: &HostRuntime) -> Result<Job, u8> {
+fn given_job(rt: &HostRuntime) -> Result<Asked, u8> {
     let words = given_words(rt)?;
     match read_words(rt.alloc(), words.as_slice()) {
-        Ok(mut job) => {
-            add_listed(rt, &mut job)?;
-            Ok(job)
-        }
+        Ok(asked) => Ok(asked),
         Err(usage) => Err(explain(rt, &usage)),
     }
 }
@@ -347,7 +365,7 @@ fn since(rt: &HostRuntime, start: Option<Instant>) -> Option<Duration> {
 }
 
 /// Returns the board that shows the progress, if that is asked for and the clock reports the time.
-fn board_of(rt: &HostRuntime, job: &Job, start: Option<Instant>) -> Option<Board> {
+fn board_of<F: Unicast>(rt: &HostRuntime, job: &Job<F>, start: Option<Instant>) -> Option<Board> {
     match start {
         Some(start) if job.progress => Some(Board::new(rt, job.files.len(), start)),
         _ => None,
@@ -355,7 +373,7 @@ fn board_of(rt: &HostRuntime, job: &Job, start: Option<Instant>) -> Option<Board
 }
 
 /// Returns the counts of the dumps, if the summary is asked for, or the status to exit with.
-fn counts_of(rt: &HostRuntime, job: &Job) -> Result<Option<Counts>, u8> {
+fn counts_of<F: Unicast>(rt: &HostRuntime, job: &Job<F>) -> Result<Option<Counts>, u8> {
     if !job.summary {
         return Ok(None);
     }
@@ -366,60 +384,60 @@ fn counts_of(rt: &HostRuntime, job: &Job) -> Result<Option<Counts>, u8> {
 }
 
 /// What a replay is given beside its dumps.
-#[derive(Clone, Copy)]
-struct Asked<'a> {
-    job: &'a Job,
+#[derive(Drop)]
+struct Given<'a, F: Unicast> {
+    job: &'a Job<F>,
     plan: Plan,
     watched: Watched<'a>,
     ghost planned: { IsPlan plan },
 }
 
 /// Replays dumps.
-fn replay<R: Threads + Sync>(
+fn replay<F: Replayed, R: Threads + Sync>(
     rt: &HostRuntime,
     threads: &R,
-    asked: Asked<'_>,
-    selection: Selection,
+    given: &Given<'_, F>,
+    selection: Selection<F>,
     inputs: &mut [Input<'_, '_>],
     out: &mut Output<'_>,
 ) -> Result<Summary, ReplayError> {
-    run::<Shelf<u32, SharedRoute>, _, _, _, _, _>(
+    run::<F, Shelf<F, SharedRoute>, _, _, _, _, _>(
         threads,
         rt.alloc(),
         inputs,
-        &asked.job.request,
-        asked.job.layout,
+        &given.job.request,
+        given.job.layout,
         selection,
-        &asked.plan,
+        &given.plan,
         &ByTurns,
         &Counter {
             rt: *rt,
-            board: asked.watched.board,
-            counts: asked.watched.counts,
+            board: given.watched.board,
+            counts: given.watched.counts,
         },
         out,
     )
 }
 
 /// Replays dumps, while other threads unpack packed ones.
-fn replay_ahead<R: Threads + Sync>(
+fn replay_ahead<F: Replayed, R: Threads + Sync>(
     rt: &HostRuntime,
     threads: &R,
-    asked: Asked<'_>,
-    selection: Selection,
+    given: &Given<'_, F>,
+    selection: Selection<F>,
     packed: &PackedFiles<Device<'_>>,
     inputs: &mut [Input<'_, '_>],
     out: &mut Output<'_>,
 ) -> Result<Summary, ReplayError> {
     if packed.is_empty() {
-        return replay(rt, threads, asked, selection, inputs, out);
+        return replay(rt, threads, given, selection, inputs, out);
     }
-    let naps = Naps::new(rt, asked.watched.files);
+    let naps = Naps::new(rt, given.watched.files);
     let (_, outcome) = join(
         threads,
         || packed.unpack(threads, &naps),
         || {
-            let outcome = replay(rt, threads, asked, selection, inputs, out);
+            let outcome = replay(rt, threads, given, selection, inputs, out);
             packed.end();
             outcome
         },
@@ -428,10 +446,10 @@ fn replay_ahead<R: Threads + Sync>(
 }
 
 /// Replays the files of a job with threads, and returns the status.
-fn replay_files(
+fn replay_files<F: Replayed>(
     rt: &HostRuntime,
     threads: &(impl Threads + Sync),
-    job: &Job,
+    job: &Job<F>,
     watched: Watched<'_>,
     start: Option<Instant>,
 ) -> u8 {
@@ -446,7 +464,7 @@ fn replay_files(
         return without_memory(rt, "the words were read");
     };
     let workers = workers_of(threads, job);
-    let asked = Asked {
+    let given = Given {
         job,
         plan: plan_of(job, workers),
         watched,
@@ -460,7 +478,7 @@ fn replay_files(
     let outcome = replay_ahead(
         rt,
         threads,
-        asked,
+        &given,
         selection,
         &packed,
         inputs.as_mut_slice(),
@@ -471,7 +489,7 @@ fn replay_files(
     }
     tell(rt, &outcome, &job.request, inputs.as_slice(), &out);
     if let (Ok(summary), false) = (&outcome, job.quiet) {
-        tell_notes(rt, summary, job.ribs, inputs.as_slice());
+        tell_notes(rt, summary, watched.family, job.ribs, inputs.as_slice());
     }
     if job.summary {
         let elapsed = since(rt, start);
@@ -491,7 +509,7 @@ fn replay_files(
 }
 
 /// Replays the dumps of a job with threads, and returns the status.
-fn replay_job(rt: &HostRuntime, threads: &(impl Threads + Sync), job: &Job) -> u8 {
+fn replay_job<F: Replayed>(rt: &HostRuntime, threads: &(impl Threads + Sync), job: &Job<F>) -> u8 {
     let start = Instant::now(rt).ok();
     let board = board_of(rt, job, start);
     let counts = match counts_of(rt, job) {
@@ -504,6 +522,7 @@ fn replay_job(rt: &HostRuntime, threads: &(impl Threads + Sync), job: &Job) -> u
         Err(code) => return code,
     };
     let watched = Watched {
+        family: F::FAMILY,
         files: &files,
         counts: counts.as_ref(),
         board: board.as_ref(),
@@ -511,9 +530,23 @@ fn replay_job(rt: &HostRuntime, threads: &(impl Threads + Sync), job: &Job) -> u
     replay_files(rt, threads, job, watched, start)
 }
 
-fn main(rt: HostRuntime) -> ExitCode {
-    match given_job(&rt) {
-        Ok(job) => ExitCode::from(replay_job(&rt, &rt, &job)),
-        Err(code) => ExitCode::from(code),
+/// Replays the dumps of a job and those that its lists name, and returns the status.
+fn replay_listed<F: Replayed>(
+    rt: &HostRuntime,
+    threads: &(impl Threads + Sync),
+    mut job: Job<F>,
+) -> u8 {
+    match add_listed(rt, &mut job) {
+        Ok(()) => replay_job(rt, threads, &job),
+        Err(code) => code,
     }
+}
+
+fn main(rt: HostRuntime) -> ExitCode {
+    let code = match given_job(&rt) {
+        Ok(Asked::Ipv4(job)) => replay_listed(&rt, &rt, job),
+        Ok(Asked::Ipv6(job)) => replay_listed(&rt, &rt, job),
+        Err(code) => code,
+    };
+    ExitCode::from(code)
 }

@@ -2,7 +2,7 @@
 //! note is a line that begins with two spaces and `note: `; no report and no status depends on it.
 
 use crate::input::Input;
-use command_line::FileName;
+use command_line::{AddressFamily, FileName};
 use mrt_body::{Marked, PeerAddr, PeerKey, RibRule};
 use mrt_replay::{Idle, Summary};
 use std::alloc::{AllocError, Global};
@@ -171,10 +171,19 @@ fn dumps_note(
     )?))
 }
 
+/// Returns the name of a family and that of the other one.
+fn names_of_families(family: AddressFamily) -> (&'static str, &'static str) {
+    match family {
+        AddressFamily::Ipv4 => ("IPv4", "IPv6"),
+        AddressFamily::Ipv6 => ("IPv6", "IPv4"),
+    }
+}
+
 /// Returns the notes on a run, in their order.
 fn notes_of(
     alloc: Global,
     summary: &Summary,
+    family: AddressFamily,
     ribs: RibRule,
     inputs: &[Input<'_, '_>],
 ) -> Result<Vec<String>, AllocError> {
@@ -186,8 +195,9 @@ fn notes_of(
     if remarks.ribs == 0 && remarks.other_family.records() > 0 {
         let records = remarks.other_family.records();
         let names = names_of(alloc, &remarks.other_family, inputs)?;
+        let (asked, other) = names_of_families(family);
         notes.push(format!(in alloc;
-            "no RIB record of IPv4 routes, and {records} of IPv6 routes, which aren't read: {names}"
+            "no RIB record of {asked} routes, and {records} of {other} routes, which aren't read: {names}"
         )?)?;
     }
     let (empty, early) = order_notes(alloc, inputs)?;
@@ -211,8 +221,14 @@ fn notes_of(
 }
 
 /// Reports what is remarkable about the dumps. Without memory for it nothing is.
-pub fn tell_notes(rt: &HostRuntime, summary: &Summary, ribs: RibRule, inputs: &[Input<'_, '_>]) {
-    if let Ok(notes) = notes_of(rt.alloc(), summary, ribs, inputs) {
+pub fn tell_notes(
+    rt: &HostRuntime,
+    summary: &Summary,
+    family: AddressFamily,
+    ribs: RibRule,
+    inputs: &[Input<'_, '_>],
+) {
+    if let Ok(notes) = notes_of(rt.alloc(), summary, family, ribs, inputs) {
         for note in &notes {
             let _ = eprintln!(rt; "  note: {note}");
         }

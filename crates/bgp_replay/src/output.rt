@@ -17,7 +17,7 @@ static ROUTE_COLUMNS: &str =
     "peer|prefix|as_path|next_hop|origin|med|local_pref|atomic|aggregator\n";
 
 /// Returns the names of a report's columns, as a line.
-pub fn columns(request: &Request) -> &'static str {
+pub fn columns<A>(request: &Request<A>) -> &'static str {
     match request {
         Request::Tables | Request::Match(_) => ROUTE_COLUMNS,
         Request::Visibility => "prefix|peers\n",

@@ -128,7 +128,7 @@ fn tell_read(rt: &HostRuntime, file: usize, inputs: &[Input<'_, '_>]) {
 }
 
 /// Returns the command of a request.
-fn command_of(request: &Request) -> &'static str {
+fn command_of<A>(request: &Request<A>) -> &'static str {
     match request {
         Request::Tables => "tables",
         Request::Visibility => "visibility",
@@ -156,7 +156,7 @@ fn tell_unpacking(rt: &HostRuntime, command: &str, unpacker: &str, kind: Kind, n
 }
 
 /// Reports, for each file that doesn't look like a dump, what it looks like.
-fn tell_kinds(rt: &HostRuntime, request: &Request, inputs: &[Input<'_, '_>]) {
+fn tell_kinds<A>(rt: &HostRuntime, request: &Request<A>, inputs: &[Input<'_, '_>]) {
     for input in inputs {
         let dump = input.device();
         if let Some(kind) = dump.kind() {
@@ -175,10 +175,10 @@ fn tell_kinds(rt: &HostRuntime, request: &Request, inputs: &[Input<'_, '_>]) {
 }
 
 /// Reports why the status isn't 0.
-pub fn tell(
+pub fn tell<A>(
     rt: &HostRuntime,
     outcome: &Result<Summary, ReplayError>,
-    request: &Request,
+    request: &Request<A>,
     inputs: &[Input<'_, '_>],
     out: &Output<'_>,
 ) {

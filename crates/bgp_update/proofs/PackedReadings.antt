@@ -5,7 +5,9 @@ use Rattle.std.specs.Option.{option_and_then}
 use Rattle.mrt_frame.proofs.FieldLaws.{IsBytes}
 use Rattle.bgp_update.specs.Families.{FamilyOf}
 use Rattle.bgp_update.specs.declared.attribute_type.AttributeType.{AttributeType}
-use Rattle.bgp_update.specs.declared.attribute_type.AttributeType.TheVariants.{AsPath}
+use Rattle.bgp_update.specs.declared.attribute_type.AttributeType.TheVariants.{AsPath, NextHop as AsNextHop}
+use Rattle.bgp_update.specs.declared.next_hop.NextHop.{NextHop}
+use Rattle.bgp_update.specs.Hops.{by_hop}
 use Rattle.bgp_update.specs.declared.width.Width.{Width}
 use Rattle.bgp_update.specs.declared.width.Width.TheVariants.{Four}
 use Rattle.bgp_update.specs.declared.carrier.Carrier.{Carrier}
@@ -13,7 +15,7 @@ use Rattle.bgp_update.specs.declared.values.FirstValues.{FirstValues}
 use Rattle.bgp_update.specs.declared.route.Route.{Route}
 use Rattle.bgp_update.specs.Paths.{PathSegment}
 use Rattle.bgp_update.specs.Segments.{path_of_value, well_formed}
-use Rattle.bgp_update.specs.Attributes.{value_of, IsFormed, route_from}
+use Rattle.bgp_update.specs.Attributes.{value_of, IsFormed, next_hop_value, route_from}
 use Rattle.bgp_update.specs.Values.{kept_value, KeepsFirst}
 use Rattle.bgp_update.specs.Packing.{IsSpelled, spelled_path, IsWritable, HaveWidths, without_path, fields_bytes, path_part, bytes_or_none, route_bytes}
 use Rattle.bgp_update.proofs.SegmentLaws.{path_in-bytes}
@@ -55,16 +57,20 @@ four_bytes None h = refl
 four_bytes (Some value) h = h.written ∙ ap path_part (sym (spelled_is value h))
 
 -- the fields are those of the route, and then its path comes
-pub four_route : (value_at : AttributeType → Option (List ℕ)) (fields : Route) (o : Option (List ℕ)) (b : Bool) (old mid new : List ℕ) → IfSome (value_at AsPath) IsSpelled
-    → fields ≡ without_path (route_from Four value_at) → o ≡ value_at AsPath → b ≡ is_some o → mid ≡ old ++ fields_bytes fields b → new ≡ mid ++ bytes_or_none o → new ≡ old ++ route_bytes (route_from Four value_at)
+pub four_route : (value_at : AttributeType → Option (List ℕ)) (r fields : Route) (o : Option (List ℕ)) (b : Bool) (old mid new : List ℕ) → IfSome (value_at AsPath) IsSpelled
+    → r.path ≡ (route_from Four value_at).path → fields ≡ without_path r → o ≡ value_at AsPath → b ≡ is_some o → mid ≡ old ++ fields_bytes fields b → new ≡ mid ++ bytes_or_none o → new ≡ old ++ route_bytes r
 unfolding route_from fields_bytes
-four_route value_at fields o b old mid new h fields_are o-is b-is first second =
-    let r : Route = route_from Four value_at in
-    let there : b ≡ is_some r.path = b-is ∙ ap is_some o-is ∙ four_there (value_at AsPath) h in
-    let path : bytes_or_none o ≡ path_part r.path = ap bytes_or_none o-is ∙ four_bytes (value_at AsPath) h in
+four_route value_at r fields o b old mid new h path-is fields_are o-is b-is first second =
+    let there : b ≡ is_some r.path = b-is ∙ ap is_some o-is ∙ four_there (value_at AsPath) h ∙ ap is_some (sym path-is) in
+    let path : bytes_or_none o ≡ path_part r.path = ap bytes_or_none o-is ∙ four_bytes (value_at AsPath) h ∙ ap path_part (sym path-is) in
     let front : fields_bytes fields b ≡ fields_bytes r (is_some r.path) = ap (λ (f : Route). fields_bytes f b) fields_are ∙ ap (fields_bytes r) there in
     second ∙ ap (λ (xs : List ℕ). xs ++ bytes_or_none o) first ∙ append_assoc old (fields_bytes fields b) (bytes_or_none o)
     ∙ ap (λ (xs : List ℕ). old ++ (xs ++ bytes_or_none o)) front ∙ ap (λ (xs : List ℕ). old ++ (fields_bytes r (is_some r.path) ++ xs)) path ∙ ap (λ (xs : List ℕ). old ++ xs) (route_bytes-fields r)
 
 pub widths_without : (fields r : Route) → fields ≡ without_path r → HaveWidths fields → HaveWidths r
 widths_without fields r e h = let w = subst HaveWidths e h in record { next_hop = w.next_hop; med = w.med; local_pref = w.local_pref; aggregator = w.aggregator }
+
+-- by the next hop of NEXT_HOP a route is itself
+pub by_own_hop : (width : Width) (value_at : AttributeType → Option (List ℕ)) (hop : Option NextHop) → hop ≡ next_hop_value (value_at AsNextHop) → by_hop (route_from width value_at) hop ≡ route_from width value_at
+unfolding route_from
+by_own_hop width value_at hop e = ap (by_hop (route_from width value_at)) e

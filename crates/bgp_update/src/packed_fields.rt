@@ -3,20 +3,22 @@
 
 ghost use Rattle.std.specs.Prelude.{◌≡◌, ◌+◌, ◌≤◌, ◌<◌, ◌^◌, [], ◌++◌, IfSome, length};
 ghost use Rattle.bgp_update.specs.Attributes as attributes;
+ghost use Rattle.bgp_update.specs.Hops.{by_hop};
 ghost use Rattle.bgp_update.specs.Packing as packing;
 ghost use Rattle.bgp_update.specs.Packing.{FitsAggregator, HaveWidths, without_path, route_by, fields_bytes, number_bytes, aggregator_bytes};
 ghost use Rattle.bgp_update.specs.Values.{kept_value};
 ghost use Rattle.bgp_update.specs.declared.width.Width.TheVariants.{Four};
 
 use crate::attribute_type::AttributeType;
-use crate::route::{Aggregator, Origin};
+use crate::next_hop::NextHop;
+use crate::route::{Aggregator, Origin, Route};
 use crate::route_fields::{aggregator_from, number_value, origin_value};
 use crate::route_writing::{flag, origin_code};
 use crate::short_bytes::FewBytes;
 use crate::values::FirstValues;
 use crate::width::Width;
 
-/// The fields of a route except its path, as `Route` has them, with an IPv4 next hop.
+/// The fields of a route except its path, as `Route` has them, with the next hop of NEXT_HOP.
 #[derive(Clone, Copy)]
 pub(crate) struct PlainFields {
     origin: Option<Origin>,
@@ -40,6 +42,24 @@ pub(crate) fn fields_of(first: &FirstValues<'_>) -> PlainFields
         local_pref: number_value(first.value(AttributeType::LocalPref)),
         atomic: first.value(AttributeType::AtomicAggregate).is_some(),
         aggregator: aggregator_from(first, Width::Four),
+    }
+}
+
+impl PlainFields {
+    /// Returns the route of these fields and another next hop, with no path.
+    #[inline(always)]
+    pub(crate) fn with_next_hop(self, next_hop: Option<NextHop>) -> Route
+        ensures { result ≡ by_hop (route_by self) next_hop }
+    {
+        Route {
+            origin: self.origin,
+            path: None,
+            next_hop,
+            med: self.med,
+            local_pref: self.local_pref,
+            atomic: self.atomic,
+            aggregator: self.aggregator,
+        }
     }
 }
 

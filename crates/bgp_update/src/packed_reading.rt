@@ -1,9 +1,8 @@
 //! UPDATE messages, their routes packed as they are read.
 
-ghost use Rattle.std.specs.Prelude.{◌≡◌, IfOk, IfSome};
+ghost use Rattle.std.specs.Prelude.{◌≡◌, IfSome};
 ghost use Rattle.bgp_update.specs.Answers.{Gives};
 ghost use Rattle.bgp_update.specs.Attributes as attributes;
-ghost use Rattle.bgp_update.specs.Hops.{by_hop};
 ghost use Rattle.bgp_update.specs.PackedUpdates.{plain_update};
 ghost use Rattle.bgp_update.specs.Packing.{IsSpelled, IsWritable};
 ghost use Rattle.bgp_update.specs.Updates.{said_update, update_in};
@@ -14,31 +13,15 @@ ghost use Rattle.bgp_update.specs.declared.width.Width.TheVariants.{Four};
 use crate::attr_error::AttrError;
 use crate::attribute_type::AttributeType;
 use crate::multiprotocol::{reached, with_unreached};
-use crate::next_hop::NextHop;
 use crate::packed_route::PackedRoute;
 use crate::packed_update::PackedUpdate;
-use crate::packing::pack_values;
-use crate::route_fields::route_from;
+use crate::packing::{pack_by_hop, pack_values};
 use crate::unicast::Unicast;
 use crate::update::read_fields;
 use crate::values::FirstValues;
 use crate::width::Width;
-use bgp_prefix::{Memory, Prefix, RouteKey, Sequence};
+use bgp_prefix::{Prefix, RouteKey, Sequence};
 use std::alloc::Global;
-
-/// Packs the route of these values with another next hop.
-fn pack_reached(
-    alloc: Global,
-    first: &FirstValues<'_>,
-    width: Width,
-    hop: Option<NextHop>,
-) -> Result<PackedRoute, Memory>
-    requires { IsWritable (attributes.route_from width (kept_value first.now)).path }
-    ensures { IfOk result (λ route. route ≡ by_hop (attributes.route_from width (kept_value first.now)) hop) }
-{
-    let route = route_from(alloc, first, width)?.with_next_hop(hop);
-    PackedRoute::pack(alloc, &route)
-}
 
 /// Returns the update of these keys and of what the attributes say.
 #[tactic(auto, unfolding(crate::specs::Updates::said_update))]
@@ -63,7 +46,7 @@ fn packed_from<F: Unicast>(
     let reached_route = if reached.is_empty() {
         None
     } else {
-        Some(pack_reached(alloc, first, width, reached_hop)?)
+        Some(pack_by_hop(alloc, buffer, first, width, reached_hop)?)
     };
     Ok(PackedUpdate {
         withdrawn: Sequence::from_vec(withdrawn),

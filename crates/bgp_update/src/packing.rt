@@ -4,6 +4,7 @@ ghost use Rattle.std.specs.Prelude.{◌≡◌, [], ◌++◌, IfOk, IfErr, IfSome
 ghost use Rattle.bgp_update.specs.Answers.{Gives};
 ghost use Rattle.bgp_update.specs.Attributes as attributes;
 ghost use Rattle.bgp_update.specs.Attributes.{route_in};
+ghost use Rattle.bgp_update.specs.Hops.{by_hop};
 ghost use Rattle.bgp_update.specs.Packing.{IsSpelled, IsWritable, HaveWidths, route_bytes};
 ghost use Rattle.bgp_update.specs.Values.{kept_value};
 ghost use Rattle.bgp_update.specs.declared.attr_error.AttrError.TheVariants as errors;
@@ -13,13 +14,14 @@ ghost use Rattle.bgp_update.specs.declared.width.Width.TheVariants.{Four};
 use crate::attr_error::AttrError;
 use crate::attribute_type::AttributeType;
 use crate::carrier::Carrier;
+use crate::multiprotocol::entry_hop_value;
+use crate::next_hop::NextHop;
 use crate::packed_fields::{fields_of, push_front};
 use crate::packed_route::PackedRoute;
-use crate::route_fields::route_from;
-use crate::route_writing::push_route;
+use crate::route_fields::{next_hop_value, route_from};
+use crate::route_writing::{push_fields, push_route};
 use crate::short_bytes::FewBytes;
 use crate::unicast::Unicast;
-use crate::update::entry_route;
 use crate::values::{FirstValues, keep_values};
 use crate::width::Width;
 use bgp_prefix::Memory;
@@ -41,17 +43,15 @@ fn push_few(out: &mut FewBytes, first: &FirstValues<'_>) -> bool
     }
 }
 
-/// Writes the route of values with four-octet AS numbers: the bytes of AS_PATH are copied.
-fn push_four(out: &mut Vec<u8>, first: &FirstValues<'_>) -> Result<(), Memory>
+/// Writes the route of values with four-octet AS numbers by a next hop: the bytes of AS_PATH are copied.
+fn push_four(out: &mut Vec<u8>, first: &FirstValues<'_>, hop: Option<NextHop>) -> Result<(), Memory>
     requires { IfSome (kept_value first.now AsPath) IsSpelled }
     ensures bytes { OnOk result (out.new.items
-        ≡ out.old.items ++ route_bytes (attributes.route_from Four (kept_value first.now))) }
-    ensures widths { OnOk result (HaveWidths (attributes.route_from Four (kept_value first.now))) }
+        ≡ out.old.items ++ route_bytes (by_hop (attributes.route_from Four (kept_value first.now)) hop)) }
+    ensures widths { OnOk result (HaveWidths (by_hop (attributes.route_from Four (kept_value first.now)) hop)) }
 {
     let path = first.value(AttributeType::AsPath);
-    let mut front = FewBytes::new();
-    push_front(&mut front, fields_of(first), path.is_some());
-    out.extend_from_slice(front.as_slice())?;
+    push_fields(out, &fields_of(first).with_next_hop(hop), path.is_some())?;
     match path {
         Some(path) => {
             out.extend_from_slice(path)?;
@@ -61,31 +61,51 @@ fn push_four(out: &mut Vec<u8>, first: &FirstValues<'_>) -> Result<(), Memory>
     }
 }
 
-/// Writes the route of these values.
-fn push_attrs(
+/// Writes the route of these values by a next hop.
+fn push_by_hop(
     alloc: Global,
     out: &mut Vec<u8>,
     first: &FirstValues<'_>,
     width: Width,
+    hop: Option<NextHop>,
 ) -> Result<(), Memory>
     requires four { width ≡ Four → IfSome (kept_value first.now AsPath) IsSpelled }
     requires writable { IsWritable (attributes.route_from width (kept_value first.now)).path }
     ensures bytes { OnOk result (out.new.items
-        ≡ out.old.items ++ route_bytes (attributes.route_from width (kept_value first.now))) }
-    ensures widths { OnOk result (HaveWidths (attributes.route_from width (kept_value first.now))) }
+        ≡ out.old.items ++ route_bytes (by_hop (attributes.route_from width (kept_value first.now)) hop)) }
+    ensures widths { OnOk result (HaveWidths (by_hop (attributes.route_from width (kept_value first.now)) hop)) }
 {
     match width {
-        Width::Four => push_four(out, first),
+        Width::Four => push_four(out, first, hop),
         Width::Two => {
-            let route = route_from(alloc, first, width)?;
+            let route = route_from(alloc, first, width)?.with_next_hop(hop);
             push_route(out, &route)?;
             Ok(())
         }
     }
 }
 
-/// Packs the route of these values by way of a buffer, whose contents are replaced.
+/// Packs the route of these values with a next hop, by way of a buffer, whose contents are replaced.
 #[inline(never)]
+pub(crate) fn pack_by_hop(
+    alloc: Global,
+    buffer: &mut Vec<u8>,
+    first: &FirstValues<'_>,
+    width: Width,
+    hop: Option<NextHop>,
+) -> Result<PackedRoute, Memory>
+    requires four { width ≡ Four → IfSome (kept_value first.now AsPath) IsSpelled }
+    requires writable { IsWritable (attributes.route_from width (kept_value first.now)).path }
+    ensures { IfOk result (λ route. route ≡ by_hop (attributes.route_from width (kept_value first.now)) hop) }
+{
+    buffer.clear();
+    push_by_hop(alloc, buffer, first, width, hop)?;
+    PackedRoute::of_bytes(alloc, buffer.as_slice())
+}
+
+/// Packs the route of these values, by way of a buffer, whose contents are replaced.
+#[inline(never)]
+#[tactic(auto, using(crate::proofs::PackedReadings::by_own_hop))]
 fn pack_long(
     alloc: Global,
     buffer: &mut Vec<u8>,
@@ -96,9 +116,8 @@ fn pack_long(
     requires writable { IsWritable (attributes.route_from width (kept_value first.now)).path }
     ensures { IfOk result (λ route. route ≡ attributes.route_from width (kept_value first.now)) }
 {
-    buffer.clear();
-    push_attrs(alloc, buffer, first, width)?;
-    PackedRoute::of_bytes(alloc, buffer.as_slice())
+    let hop = next_hop_value(first.value(AttributeType::NextHop));
+    pack_by_hop(alloc, buffer, first, width, hop)
 }
 
 /// Packs the route of these values. If its AS numbers have four octets and it is stored inline, it is written as it is
@@ -127,7 +146,7 @@ pub(crate) fn pack_values(
     }
 }
 
-/// Packs the route of a RIB entry of these values: where NEXT_HOP isn't of the family, by way of a `Route`.
+/// Packs the route of a RIB entry of these values: where NEXT_HOP isn't of the family, by the next hop of MP_REACH_NLRI.
 #[inline(always)]
 #[tactic(auto, unfolding(crate::specs::Attributes::entry_route))]
 fn pack_entry<F: Unicast>(
@@ -144,9 +163,11 @@ fn pack_entry<F: Unicast>(
     if F::OWN_FIELDS {
         return pack_values(alloc, buffer, first, width);
     }
-    let route = entry_route::<F>(alloc, first, width)?;
-    let packed = PackedRoute::pack(alloc, &route)?;
-    Ok(packed)
+    let hop = entry_hop_value::<F>(first.value(AttributeType::MpReachNlri));
+    match pack_by_hop(alloc, buffer, first, width, hop) {
+        Ok(route) => Ok(route),
+        Err(_) => Err(AttrError::Memory),
+    }
 }
 
 impl PackedRoute {

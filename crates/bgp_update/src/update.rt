@@ -84,6 +84,7 @@ fn update_from<F: Unicast>(
 }
 
 /// Reads the keys of one of an UPDATE's own fields; none where they aren't of the family.
+#[inline(always)]
 fn own_keys<F: Unicast>(
     alloc: Global,
     field: &[u8],

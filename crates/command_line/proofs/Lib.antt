@@ -8,3 +8,4 @@ pub mod Spelled
 pub mod Lines
 pub mod Pieces
 pub mod FileNames
+pub mod Families

@@ -38,35 +38,36 @@ line_alone text none = piece_alone 10 text none
 entries-more : (before : List (List ℕ)) (line : List ℕ) → entries (before ++ line ∷ []) ≡ entries before ++ cond (not (is_passed (trimmed line))) (trimmed line ∷ []) []
 entries-more before line = ap (filter (λ l. not (is_passed l))) (map-append trimmed before (line ∷ [])) ∙ filter-append (λ l. not (is_passed l)) (map trimmed before) (trimmed line ∷ [])
 
-pub passed_over : (before : List (List ℕ)) (line : List ℕ) (choices : List PrefixChoice) → is_passed (trimmed line) ≡ true → NameChoices before choices → NameChoices (before ++ line ∷ []) choices
-passed_over before line choices passed named =
-    subst (λ (l : List (List ℕ)). AllZip SpellsChoice l choices) (sym (entries-more before line ∙ ap (λ b. entries before ++ cond (not b) (trimmed line ∷ []) []) passed ∙ append-nil (entries before))) named
+module _ (Spells : List ℕ → ℕ → Type 0) (width : ℕ) where
+  pub passed_over : (before : List (List ℕ)) (line : List ℕ) (choices : List PrefixChoice) → is_passed (trimmed line) ≡ true → NameChoices Spells width before choices → NameChoices Spells width (before ++ line ∷ []) choices
+  passed_over before line choices passed named =
+      subst (λ (l : List (List ℕ)). AllZip (SpellsChoice Spells width) l choices) (sym (entries-more before line ∙ ap (λ b. entries before ++ cond (not b) (trimmed line ∷ []) []) passed ∙ append-nil (entries before))) named
 
-zip_more : (lines : List (List ℕ)) (choices : List PrefixChoice) (line : List ℕ) (choice : PrefixChoice) → AllZip SpellsChoice lines choices → SpellsChoice line choice → AllZip SpellsChoice (lines ++ line ∷ []) (choices ++ choice ∷ [])
-zip_more [] [] line choice all one = (one, tt)
-zip_more [] (c ∷ choices) line choice all one = absurd all
-zip_more (l ∷ lines) [] line choice all one = absurd all
-zip_more (l ∷ lines) (c ∷ choices) line choice all one = (all.0, zip_more lines choices line choice all.1 one)
+  zip_more : (lines : List (List ℕ)) (choices : List PrefixChoice) (line : List ℕ) (choice : PrefixChoice) → AllZip (SpellsChoice Spells width) lines choices → SpellsChoice Spells width line choice → AllZip (SpellsChoice Spells width) (lines ++ line ∷ []) (choices ++ choice ∷ [])
+  zip_more [] [] line choice all one = (one, tt)
+  zip_more [] (c ∷ choices) line choice all one = absurd all
+  zip_more (l ∷ lines) [] line choice all one = absurd all
+  zip_more (l ∷ lines) (c ∷ choices) line choice all one = (all.0, zip_more lines choices line choice all.1 one)
 
-pub one_named : (before : List (List ℕ)) (line : List ℕ) (choices : List PrefixChoice) (choice : PrefixChoice) → is_passed (trimmed line) ≡ false → SpellsChoice (trimmed line) choice → NameChoices before choices → NameChoices (before ++ line ∷ []) (choices ++ choice ∷ [])
-one_named before line choices choice other spelled named =
-    subst (λ (l : List (List ℕ)). AllZip SpellsChoice l (choices ++ choice ∷ [])) (sym (entries-more before line ∙ ap (λ b. entries before ++ cond (not b) (trimmed line ∷ []) []) other)) (zip_more (entries before) choices (trimmed line) choice named spelled)
+  pub one_named : (before : List (List ℕ)) (line : List ℕ) (choices : List PrefixChoice) (choice : PrefixChoice) → is_passed (trimmed line) ≡ false → SpellsChoice Spells width (trimmed line) choice → NameChoices Spells width before choices → NameChoices Spells width (before ++ line ∷ []) (choices ++ choice ∷ [])
+  one_named before line choices choice other spelled named =
+      subst (λ (l : List (List ℕ)). AllZip (SpellsChoice Spells width) l (choices ++ choice ∷ [])) (sym (entries-more before line ∙ ap (λ b. entries before ++ cond (not b) (trimmed line ∷ []) []) other)) (zip_more (entries before) choices (trimmed line) choice named spelled)
 
 -- ---- line after line
 
 -- what was read before the line of this number, and what is left
-pub record IsRead (text rest : List ℕ) (number : ℕ) (choices : List PrefixChoice) : Type 0 where
+pub record IsRead (Spells : List ℕ → ℕ → Type 0) (width : ℕ) (text rest : List ℕ) (number : ℕ) (choices : List PrefixChoice) : Type 0 where
   pub before : List (List ℕ)
   pub whole : lines_of text ≡ before ++ lines_of rest
   pub counted : number ≡ length before + 1
-  pub named : NameChoices before choices
+  pub named : NameChoices Spells width before choices
   pub short : number + length rest ≤ length text + 1
 
-pub nothing_read : (text : List ℕ) → IsRead text text 1 []
-nothing_read text = record { before = []; whole = refl; counted = omega arith; named = tt; short = omega arith }
+pub nothing_read : (Spells : List ℕ → ℕ → Type 0) (width : ℕ) (text : List ℕ) → IsRead Spells width text text 1 []
+nothing_read Spells width text = record { before = []; whole = refl; counted = omega arith; named = tt; short = omega arith }
 
-module _ (text rest : List ℕ) (number : ℕ) (choices : List PrefixChoice) (so_far : IsRead text rest number choices) (line : List ℕ) where
-  pub read_on : (left : List ℕ) (more : List PrefixChoice) → lines_of rest ≡ line ∷ lines_of left → length left < length rest → ((before : List (List ℕ)) → NameChoices before choices → NameChoices (before ++ line ∷ []) more) → IsRead text left (number + 1) more
+module _ (Spells : List ℕ → ℕ → Type 0) (width : ℕ) (text rest : List ℕ) (number : ℕ) (choices : List PrefixChoice) (so_far : IsRead Spells width text rest number choices) (line : List ℕ) where
+  pub read_on : (left : List ℕ) (more : List PrefixChoice) → lines_of rest ≡ line ∷ lines_of left → length left < length rest → ((before : List (List ℕ)) → NameChoices Spells width before choices → NameChoices Spells width (before ++ line ∷ []) more) → IsRead Spells width text left (number + 1) more
   read_on left more first shorter taken = record {
     before = so_far.before ++ line ∷ [];
     whole = so_far.whole ∙ ap (λ (l : List (List ℕ)). so_far.before ++ l) first ∙ sym (append_assoc so_far.before (line ∷ []) (lines_of left));
@@ -75,10 +76,10 @@ module _ (text rest : List ℕ) (number : ℕ) (choices : List PrefixChoice) (so
     short = omega (arith, so_far.short, shorter);
   }
 
-  pub read_all : (more : List PrefixChoice) → lines_of rest ≡ line ∷ [] → ((before : List (List ℕ)) → NameChoices before choices → NameChoices (before ++ line ∷ []) more) → NameChoices (lines_of text) more
-  read_all more last taken = subst (λ (l : List (List ℕ)). NameChoices l more) (sym (so_far.whole ∙ ap (λ (l : List (List ℕ)). so_far.before ++ l) last)) (taken so_far.before so_far.named)
+  pub read_all : (more : List PrefixChoice) → lines_of rest ≡ line ∷ [] → ((before : List (List ℕ)) → NameChoices Spells width before choices → NameChoices Spells width (before ++ line ∷ []) more) → NameChoices Spells width (lines_of text) more
+  read_all more last taken = subst (λ (l : List (List ℕ)). NameChoices Spells width l more) (sym (so_far.whole ∙ ap (λ (l : List (List ℕ)). so_far.before ++ l) last)) (taken so_far.before so_far.named)
 
-  pub first_fault : (behind : List (List ℕ)) → lines_of rest ≡ line ∷ behind → is_passed (trimmed line) ≡ false → IsNoChoice (trimmed line) → IsFirstFault (lines_of text) number
+  pub first_fault : (behind : List (List ℕ)) → lines_of rest ≡ line ∷ behind → is_passed (trimmed line) ≡ false → IsNoChoice Spells width (trimmed line) → IsFirstFault Spells width (lines_of text) number
   first_fault behind first entry none = record {
     before = so_far.before;
     line = line;

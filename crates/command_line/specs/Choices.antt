@@ -50,10 +50,10 @@ pub record SpellsReach (Spells : List ℕ → ℕ → Type 0) (width : ℕ) (tex
   pub written : text ≡ front ++ mark_of reach
   pub spelled : SpellsPrefix Spells width front prefix
 
--- the text is an IPv4 prefix and a mark, and this is what they choose
-abbrev pub SpellsChoice : List ℕ → PrefixChoice → Type 0
-SpellsChoice text choice = SpellsReach SpellsBits 32 text choice.prefix choice.reach
+-- the text is a prefix and a mark, and this is what they choose
+abbrev pub SpellsChoice : (List ℕ → ℕ → Type 0) → ℕ → List ℕ → PrefixChoice → Type 0
+SpellsChoice Spells width text choice = SpellsReach Spells width text choice.prefix choice.reach
 
 -- the text chooses nothing
-abbrev pub IsNoChoice : List ℕ → Type 0
-IsNoChoice text = (choice : PrefixChoice) → SpellsChoice text choice → ⊥
+abbrev pub IsNoChoice : (List ℕ → ℕ → Type 0) → ℕ → List ℕ → Type 0
+IsNoChoice Spells width text = (choice : PrefixChoice) → SpellsChoice Spells width text choice → ⊥

@@ -1,5 +1,6 @@
 pub mod Addresses
 pub mod Choices
+pub mod Families
 pub mod Words
 pub mod Lists
 pub mod FileLists

@@ -1,4 +1,4 @@
--- Prefixes in a text, one a line.
+-- Prefixes in a text, one a line. What is said of them takes two values of their family, as what is said of one does.
 use Rattle.std.specs.Prelude.{◌≡◌, ℕ, ◌+◌, ◌==◌, ◌||◌, Bool, true, false, not, List, [], ◌∷◌, ◌++◌, length, map, if◌then◌else◌}
 use Rattle.std.specs.List.{AllZip, filter, slice_split}
 use Rattle.mrt_body.specs.Plain.{PrefixChoice}
@@ -34,22 +34,22 @@ abbrev pub entries : List (List ℕ) → List (List ℕ)
 entries lines = filter (λ line. not (is_passed line)) (map trimmed lines)
 
 -- these are what the lines choose, in order
-abbrev pub NameChoices : List (List ℕ) → List PrefixChoice → Type 0
-NameChoices lines choices = AllZip SpellsChoice (entries lines) choices
+abbrev pub NameChoices : (List ℕ → ℕ → Type 0) → ℕ → List (List ℕ) → List PrefixChoice → Type 0
+NameChoices Spells width lines choices = AllZip (SpellsChoice Spells width) (entries lines) choices
 
 -- the line of this number, from 1, is the first one that chooses nothing though it isn't passed over
-pub record IsFirstFault (lines : List (List ℕ)) (number : ℕ) : Type 0 where
+pub record IsFirstFault (Spells : List ℕ → ℕ → Type 0) (width : ℕ) (lines : List (List ℕ)) (number : ℕ) : Type 0 where
   pub before : List (List ℕ)
   pub line : List ℕ
   pub behind : List (List ℕ)
   pub whole : lines ≡ before ++ line ∷ behind
   pub counted : number ≡ length before + 1
   pub choices : List PrefixChoice
-  pub named : NameChoices before choices
+  pub named : NameChoices Spells width before choices
   pub read : is_passed (trimmed line) ≡ false
-  pub none : IsNoChoice (trimmed line)
+  pub none : IsNoChoice Spells width (trimmed line)
 
 -- why a text chooses nothing: memory, or its first line that is none
-abbrev pub IsListError : List ℕ → ListError → Type 0
-IsListError text (Line number) = IsFirstFault (lines_of text) number
-IsListError text Memory = Unit {0}
+abbrev pub IsListError : (List ℕ → ℕ → Type 0) → ℕ → List ℕ → ListError → Type 0
+IsListError Spells width text (Line number) = IsFirstFault Spells width (lines_of text) number
+IsListError Spells width text Memory = Unit {0}

@@ -4,15 +4,27 @@ ghost use Rattle.std.specs.Prelude.{◌≡◌, ℕ, List, IfSome, IfNone};
 ghost use Rattle.command_line.specs.Choices.{IsPlain};
 
 use crate::address::address_in;
+use crate::address_family::AddressFamily;
 use crate::ipv6::ipv6_in;
-use bgp_prefix::{Family, Ipv6};
+use bgp_prefix::Ipv6;
+use bgp_update::Unicast;
 
 /// A family whose addresses are read from text, and what is said of texts that aren't read.
-pub trait AddressText: Family {
+pub trait AddressText: Unicast {
     ghost use Rattle.std.specs.Prelude.{ℕ, List};
+    ghost use Rattle.command_line.specs.Families.{SpellsIn};
+    ghost use Rattle.command_line.specs.declared.address_family.AddressFamily.{AddressFamily};
+
+    ghost FAMILY: { AddressFamily };
 
     /// Which text is that of an address with these bits.
     ghost spells: { List ℕ → ℕ → Type 0 };
+
+    /// Which family it is.
+    const FAMILY: AddressFamily;
+
+    /// A prefix of it, for whoever wrote a text that is none.
+    const EXAMPLE: &'static str;
 
     /// What is said of a text that is no address.
     const NO_ADDRESS: &'static str;
@@ -32,12 +44,22 @@ pub trait AddressText: Family {
     fn texts_spell_one_address()
         ensures one { (text : List ℕ) (a b : ℕ) → spells text a → spells text b → a ≡ b }
         ensures plain { (text : List ℕ) (bits : ℕ) → spells text bits → IsPlain text };
+
+    ghost spells_in_it: { (text : List ℕ) (bits : ℕ) →
+        (SpellsIn FAMILY text bits → spells text bits) × (spells text bits → SpellsIn FAMILY text bits) };
 }
 
 impl AddressText for u32 {
     ghost use Rattle.command_line.specs.Choices.{SpellsBits};
+    ghost use Rattle.command_line.specs.declared.address_family.AddressFamily.TheVariants.{Ipv4};
+
+    ghost FAMILY = { Ipv4 };
 
     ghost spells = { SpellsBits };
+
+    const FAMILY: AddressFamily = AddressFamily::Ipv4;
+
+    const EXAMPLE: &'static str = "192.0.2.0/24";
 
     const NO_ADDRESS: &'static str = "it is no IPv4 address";
 
@@ -52,12 +74,21 @@ impl AddressText for u32 {
     }
 
     fn texts_spell_one_address() {}
+
+    ghost spells_in_it = { λ text bits. (λ s. s, λ s. s) };
 }
 
 impl AddressText for Ipv6 {
     ghost use Rattle.rib_report.specs.Spellings.{IsIpv6Text};
+    ghost use Rattle.command_line.specs.declared.address_family.AddressFamily.TheVariants.{Ipv6};
+
+    ghost FAMILY = { Ipv6 };
 
     ghost spells = { IsIpv6Text };
+
+    const FAMILY: AddressFamily = AddressFamily::Ipv6;
+
+    const EXAMPLE: &'static str = "2001:db8::/32";
 
     const NO_ADDRESS: &'static str = "it is no IPv6 address";
 
@@ -72,4 +103,6 @@ impl AddressText for Ipv6 {
     }
 
     fn texts_spell_one_address() {}
+
+    ghost spells_in_it = { λ text bits. (λ s. s, λ s. s) };
 }

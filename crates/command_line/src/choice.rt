@@ -112,24 +112,24 @@ pub fn read_reach<F: AddressText>(text: &[u8]) -> Option<(Prefix<F>, Reach)>
 }
 
 /// Returns what these bytes choose.
-pub(crate) fn choice_in(text: &[u8]) -> Option<PrefixChoice>
-    ensures some { IfSome result (SpellsChoice text.now) }
-    ensures none { IfNone result (IsNoChoice text.now) }
+pub(crate) fn choice_in<F: AddressText>(text: &[u8]) -> Option<PrefixChoice<Prefix<F>>>
+    ensures some { IfSome result (SpellsChoice F.spells F.WIDTH text.now) }
+    ensures none { IfNone result (IsNoChoice F.spells F.WIDTH text.now) }
 {
-    let (prefix, reach) = read_reach::<u32>(text)?;
+    let (prefix, reach) = read_reach::<F>(text)?;
     Some(PrefixChoice { prefix, reach })
 }
 
 /// Returns what `--prefix` chooses: a prefix alone, with `+` itself and more specifics, with `-` itself and less
 /// specifics. Returns `None` for any other text.
-pub fn read_choice(text: &str) -> Option<PrefixChoice>
-    ensures some { IfSome result (SpellsChoice text.now) }
-    ensures none { IfNone result (IsNoChoice text.now) }
+pub fn read_choice<F: AddressText>(text: &str) -> Option<PrefixChoice<Prefix<F>>>
+    ensures some { IfSome result (SpellsChoice F.spells F.WIDTH text.now) }
+    ensures none { IfNone result (IsNoChoice F.spells F.WIDTH text.now) }
 {
     choice_in(text.as_bytes())
 }
 
-/// Returns why [`read_reach`] refuses a text, in words for whoever wrote it.
+/// Returns why [`read_reach`] and [`read_choice`] refuse a text, in words for whoever wrote it.
 pub fn fault_of_reach<F: AddressText>(text: &[u8]) -> &'static str {
     let (text, _) = split_reach(text);
     let Some(slash) = first_slash(text) else {
@@ -142,9 +142,4 @@ pub fn fault_of_reach<F: AddressText>(text: &[u8]) -> &'static str {
     } else {
         "its address has bits past its length"
     }
-}
-
-/// Returns why a text is no choice, in words for whoever wrote it.
-pub(crate) fn fault_of_choice(text: &[u8]) -> &'static str {
-    fault_of_reach::<u32>(text)
 }

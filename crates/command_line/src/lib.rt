@@ -18,10 +18,12 @@
 //! - `--until` takes seconds, a date, or RFC 3339, which `jiff` parses. A date and time without an offset from UTC is
 //!   bad.
 //! - `--prefix` takes a prefix, alone or with `+` (itself and more specifics) or `-` (itself and what contains it); an
-//!   address alone is the prefix of length 32. Bits past the length are refused: they are mostly a typing error. Each
+//!   address alone is the prefix of full length. Bits past the length are refused: they are mostly a typing error. Each
 //!   `--prefix` adds to the others, while of other options the last one counts.
-//! - A family's addresses are read through `AddressText`, on `u32` and `Ipv6`, and its prefixes by `read_prefix` and
-//!   `read_reach`. No IPv6 address is read with a zone or a dotted tail.
+//! - `--family` says which unicast routes are replayed, so a job is one of two types, `Job<u32>` and `Job<Ipv6>`, and
+//!   what reads it is generic over the address. A family's addresses are read through `AddressText`, on `u32` and
+//!   `Ipv6`, and its prefixes by `read_prefix` and `read_reach`; `AddressFamily` is the value that says which family an
+//!   address is of. No IPv6 address is read with a zone or a dotted tail.
 //! - `--prefixes` takes files with a prefix in each line. `read_list` reads such a text and is exact in both
 //!   directions; a job has the files' names, which the program opens and reads.
 //! - `--files-from` takes files that name dumps. `read_file_list` reads such a text; the program opens and reads it, as
@@ -37,6 +39,7 @@
 #![tactic(auto)]
 
 mod address;
+mod address_family;
 mod address_text;
 mod build;
 mod choice;
@@ -57,6 +60,7 @@ mod words;
 mod wrap;
 
 pub use address::read_address;
+pub use address_family::AddressFamily;
 pub use address_text::AddressText;
 pub use choice::{fault_of_reach, read_choice, read_prefix, read_reach};
 pub use file_list::{FileListError, fault_of_file_list, read_file_list};
@@ -68,5 +72,5 @@ pub use names::FileName;
 pub use peers::{read_peer, read_share};
 pub use prefix_laws::{one_prefix_to_a_text, written_prefixes_spell_themselves};
 pub use records::{Aside, Records};
-pub use words::{Job, Usage, read_words, standard_input_fault};
+pub use words::{Asked, Job, Usage, read_words, standard_input_fault};
 pub use wrap::{read_width, wrapped};

@@ -5,8 +5,10 @@ ghost use Rattle.command_line.specs.Choices.{IsNoChoice};
 ghost use Rattle.command_line.specs.Lists.{IsListError, NameChoices, is_blank, is_passed, lines_of, trimmed};
 ghost use Rattle.command_line.specs.declared.list.ListError.TheVariants.{Memory};
 
-use crate::choice::{choice_in, fault_of_choice};
+use crate::address_text::AddressText;
+use crate::choice::{choice_in, fault_of_reach};
 use crate::names::FileName;
+use bgp_prefix::Prefix;
 use mrt_body::PrefixChoice;
 use std::alloc::{AllocError, Global};
 
@@ -80,18 +82,21 @@ fn first_line(text: &[u8]) -> (&[u8], Option<&[u8]>)
 
 /// Appends what a line chooses. Returns whether it is passed over or in one of the forms.
 #[tactic(auto, using(crate::proofs::Lines::passed_over, crate::proofs::Lines::one_named))]
-fn take_line(line: &[u8], choices: &mut Vec<PrefixChoice>) -> Result<bool, AllocError>
+fn take_line<F: AddressText>(
+    line: &[u8],
+    choices: &mut Vec<PrefixChoice<Prefix<F>>>,
+) -> Result<bool, AllocError>
     ensures taken { IfOk result (λ taken. taken ≡ true → (before : List (List ℕ)) →
-        NameChoices before choices.old.items → NameChoices (before ++ line.now ∷ []) choices.new.items) }
+        NameChoices F.spells F.WIDTH before choices.old.items → NameChoices F.spells F.WIDTH (before ++ line.now ∷ []) choices.new.items) }
     ensures refused { IfOk result (λ taken. taken ≡ false →
-        (is_passed (trimmed line.now) ≡ false) × IsNoChoice (trimmed line.now)) }
+        (is_passed (trimmed line.now) ≡ false) × IsNoChoice F.spells F.WIDTH (trimmed line.now)) }
     ensures kept { IfOk result (λ taken. taken ≡ false → choices.new.items ≡ choices.old.items) }
 {
     let text = trimmed(line);
     if is_passed(text) {
         return Ok(true);
     }
-    match choice_in(text) {
+    match choice_in::<F>(text) {
         Some(choice) => {
             choices.push(choice)?;
             Ok(true)
@@ -102,9 +107,12 @@ fn take_line(line: &[u8], choices: &mut Vec<PrefixChoice>) -> Result<bool, Alloc
 
 /// Returns what the lines of a text choose, in order: each that isn't empty and doesn't begin with `#` is a prefix as
 /// `--prefix` takes it. Blanks, tabs and carriage returns at a line's end are no part of it.
-pub fn read_list(alloc: Global, text: &[u8]) -> Result<Vec<PrefixChoice>, ListError>
-    ensures choices { IfOk result (λ choices. NameChoices (lines_of text.now) choices.items) }
-    ensures error { IfErr result (IsListError text.now) }
+pub fn read_list<F: AddressText>(
+    alloc: Global,
+    text: &[u8],
+) -> Result<Vec<PrefixChoice<Prefix<F>>>, ListError>
+    ensures choices { IfOk result (λ choices. NameChoices F.spells F.WIDTH (lines_of text.now) choices.items) }
+    ensures error { IfErr result (IsListError F.spells F.WIDTH text.now) }
 {
     let mut choices = Vec::new(alloc);
     let mut rest = text;
@@ -133,7 +141,7 @@ fn line_at(text: &[u8], number: usize) -> &[u8] {
 }
 
 /// Returns why the prefixes in a file can't be used, in words for whoever wrote it.
-pub fn fault_of_list(
+pub fn fault_of_list<F: AddressText>(
     alloc: Global,
     name: &str,
     text: &[u8],
@@ -141,9 +149,10 @@ pub fn fault_of_list(
 ) -> Result<String, AllocError> {
     let line = line_at(text, number);
     let shown = line.escape_ascii();
-    let fault = fault_of_choice(line);
+    let fault = fault_of_reach::<F>(line);
+    let example = F::EXAMPLE;
     let file = FileName(name);
     format!(in alloc;
-        "error: invalid line {number} '{shown}' in '--prefixes {file}': {fault}\n  it may be 192.0.2.0/24, 192.0.2.0/24+ (more specifics too), 192.0.2.0/24- (less specifics too) or an address; a line that begins with # is passed over\n"
+        "error: invalid line {number} '{shown}' in '--prefixes {file}': {fault}\n  it may be {example}, {example}+ (more specifics too), {example}- (less specifics too) or an address; a line that begins with # is passed over\n"
     )
 }

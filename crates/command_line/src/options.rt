@@ -50,7 +50,7 @@ pub struct CommandRow {
     pub examples: &'static [&'static str],
 }
 
-pub static OPTIONS: [OptionRow; 18] = [
+pub static OPTIONS: [OptionRow; 19] = [
     OptionRow {
         name: "address",
         value: "A",
@@ -59,7 +59,7 @@ pub static OPTIONS: [OptionRow; 18] = [
         offered: "",
         commands: "match",
         is_required: true,
-        meaning: "Look up this IPv4 address, as 192.0.2.1",
+        meaning: "Look up this address, as 192.0.2.1, or 2001:db8::1 with --family ipv6",
     },
     OptionRow {
         name: "files-from",
@@ -72,6 +72,16 @@ pub static OPTIONS: [OptionRow; 18] = [
         meaning: "Replay the dumps that this file names, too. Each line is a name, or, if the file has a NUL byte, what each NUL byte ends; empty lines are passed over, and '-' is standard input. They come behind those of the arguments, in order",
     },
     OptionRow {
+        name: "family",
+        value: "FAMILY",
+        takes: Takes::Text,
+        default: "ipv4",
+        offered: "ipv4 ipv6",
+        commands: "",
+        is_required: false,
+        meaning: "Say which unicast routes are replayed, those of ipv4 or those of ipv6. A run replays one family: RIB records of the other are set aside, and what a message says of the other's prefixes is passed over",
+    },
+    OptionRow {
         name: "prefix",
         value: "PREFIX",
         takes: Takes::Texts,
@@ -79,7 +89,7 @@ pub static OPTIONS: [OptionRow; 18] = [
         offered: "",
         commands: "",
         is_required: false,
-        meaning: "Report on this prefix alone. 192.0.2.0/24 is that prefix, 192.0.2.0/24+ also its more specifics, and 192.0.2.0/24- also the prefixes that contain it; an address alone has length 32. Given more than once, each prefix adds to the others",
+        meaning: "Report on this prefix alone. 192.0.2.0/24 is that prefix, 192.0.2.0/24+ also its more specifics, and 192.0.2.0/24- also the prefixes that contain it; an address alone has length 32. With --family ipv6 it is one as 2001:db8::/32, and an address alone has length 128. Given more than once, each prefix adds to the others",
     },
     OptionRow {
         name: "prefixes",
@@ -159,7 +169,7 @@ pub static OPTIONS: [OptionRow; 18] = [
         offered: "full short",
         commands: "",
         is_required: false,
-        meaning: "Say how IPv6 addresses are printed, those of peers and of next hops alike. With full each has eight groups of four digits. With short leading zeros are left out, and :: stands for the longest run of zero groups (RFC 5952)",
+        meaning: "Say how IPv6 addresses are printed, those of peers and of next hops alike. With full each has eight groups of four digits. With short leading zeros are left out, and :: stands for the longest run of zero groups (RFC 5952). With --family ipv6 prefixes and next hops are short in either case",
     },
     OptionRow {
         name: "same",

@@ -3,7 +3,9 @@
 
 ghost use Rattle.std.specs.Prelude.{◌<◌, ◌≤◌};
 
+use crate::address_family::AddressFamily;
 use crate::mrt_names::RecordKind;
+use bgp_prefix::Ipv6;
 use mrt_frame::{Header, is_within_limits};
 use std::alloc::Global;
 
@@ -23,6 +25,8 @@ pub struct Aside {
 /// What was counted of a dump.
 #[derive(Drop)]
 pub struct Records {
+    /// The family of the routes that are read.
+    family: AddressFamily,
     /// The first bytes of a header, and how many have arrived.
     header: [u8; HEADER_SIZE],
     filled: usize,
@@ -42,8 +46,10 @@ pub struct Records {
 }
 
 impl Records {
-    pub fn new(alloc: Global) -> Records {
+    /// Returns the counts of a dump of which nothing has been read, where the routes of this family are.
+    pub fn new(alloc: Global, family: AddressFamily) -> Records {
         Records {
+            family,
             header: [0; HEADER_SIZE],
             filled: 0,
             last_header: Header {
@@ -182,9 +188,17 @@ impl Records {
         self.last = header.seconds;
         self.count = self.count.saturating_add(1);
         let kind = RecordKind::of(header);
-        if kind.is_aside() {
+        if self.is_aside(kind) {
             self.aside = self.aside.saturating_add(1);
             self.count_kind(kind);
+        }
+    }
+
+    /// Whether records of a kind aren't interpreted.
+    fn is_aside(&self, kind: RecordKind) -> bool {
+        match self.family {
+            AddressFamily::Ipv4 => kind.is_aside::<u32>(),
+            AddressFamily::Ipv6 => kind.is_aside::<Ipv6>(),
         }
     }
 

@@ -1,33 +1,35 @@
 //! The command-line arguments.
 
 ghost use Rattle.std.specs.Prelude.{◌≡◌, ◌<◌, ◌≤◌, ◌+◌, IfErr, IfOk, vec_len};
-ghost use Rattle.command_line.specs.Addresses.{IsAddress};
 ghost use Rattle.command_line.specs.Words.{IsRefusal};
 ghost use Rattle.command_line.specs.declared.words.Usage.TheVariants.{Memory};
 
-use crate::address::read_address;
+use crate::address_family::AddressFamily;
+use crate::address_text::AddressText;
 use crate::build::version_text;
-use crate::choice::{fault_of_choice, read_choice};
+use crate::choice::{fault_of_reach, read_choice};
 use crate::commands::{closings, command};
 use crate::moment::read_second;
 use crate::peers::{read_peer, read_share};
 use crate::refusal::refusal_of;
+use bgp_prefix::{Ipv6, Prefix};
+use bgp_update::{FamilyMark, Unicast};
 use clap::error::ErrorKind;
 use clap::{ArgMatches, Error};
 use mrt_body::{PeerChoice, PrefixChoice, RibRule, Share, StateRule};
-use rib_report::{AddressForm, AddressForms, Layout, Request};
+use rib_report::{AddressForm, AddressForms, Layout, LayoutOf, Request};
 use std::alloc::{AllocError, AllocFailed, Global};
 
 static WORKERS_DEFAULT: usize = 4;
 
 static RING_DEFAULT: usize = 1024;
 
-/// What the arguments ask for.
+/// What the arguments ask for, of the routes of one family.
 #[derive(Drop)]
-pub struct Job {
-    pub request: Request,
+pub struct Job<F: Unicast = u32> {
+    pub request: Request<F>,
     /// How its lines are written.
-    pub layout: Layout,
+    pub layout: LayoutOf<F>,
     /// 1 to 64; 4 if the arguments don't say.
     pub workers: usize,
     /// Whether the arguments give the number of workers.
@@ -41,7 +43,7 @@ pub struct Job {
     /// What a RIB dump does to the routes before it.
     pub ribs: RibRule,
     /// The prefixes that are chosen, or none for all.
-    pub prefixes: Vec<PrefixChoice>,
+    pub prefixes: Vec<PrefixChoice<Prefix<F>>>,
     /// The files whose lines add to them; `-` is standard input.
     pub lists: Vec<String>,
     /// The peers that are chosen, or none for all.
@@ -65,6 +67,13 @@ pub struct Job {
     ghost some_file: { 0 < vec_len files + vec_len file_lists },
 }
 
+/// A job on the routes of the family that the arguments ask for.
+#[derive(Drop)]
+pub enum Asked {
+    Ipv4(Job<u32>),
+    Ipv6(Job<Ipv6>),
+}
+
 /// Why there is no job.
 #[derive(Drop)]
 pub enum Usage {
@@ -72,8 +81,8 @@ pub enum Usage {
     Help(String),
     /// Bad arguments: why, for standard error.
     Words(String),
-    /// The argument given as an address is not one.
-    Address(String),
+    /// The argument given as an address is none of this family.
+    Address(AddressFamily, String),
     /// An allocation failed.
     Memory,
 }
@@ -94,19 +103,23 @@ impl<T: Drop> From<AllocFailed<T>> for Usage {
     }
 }
 
-/// Returns the value of the address that the arguments name.
-fn address_of(alloc: Global, text: &str) -> Result<u32, Usage>
-    ensures number { IfOk result (IsAddress text.now) }
+/// Returns the address that the arguments name.
+fn address_of<F: AddressText>(alloc: Global, text: &str) -> Result<F, Usage>
+    ensures number { IfOk result (λ address. F.spells text.now (F.bits address)) }
     ensures refusal { IfErr result IsRefusal }
 {
-    match read_address(text) {
+    match F::address_in(text.as_bytes()) {
         Some(address) => Ok(address),
-        None => Err(Usage::Address(String::from_str(alloc, text)?)),
+        None => Err(Usage::Address(F::FAMILY, String::from_str(alloc, text)?)),
     }
 }
 
 /// Returns the report that a command's name asks for.
-fn request_of(alloc: Global, name: &str, matches: &ArgMatches<'_>) -> Result<Request, Usage>
+fn request_of<F: AddressText>(
+    alloc: Global,
+    name: &str,
+    matches: &ArgMatches<'_>,
+) -> Result<Request<F>, Usage>
     ensures { IfErr result IsRefusal }
 {
     match name {
@@ -131,7 +144,7 @@ fn request_of(alloc: Global, name: &str, matches: &ArgMatches<'_>) -> Result<Req
 }
 
 /// Returns the second from which on a report lists or counts, if it has one.
-fn since_of(request: &Request) -> Option<u64> {
+fn since_of<F: Unicast>(request: &Request<F>) -> Option<u64> {
     match request {
         Request::Churn { since } => *since,
         Request::History { since, same: _ } => *since,
@@ -140,7 +153,7 @@ fn since_of(request: &Request) -> Option<u64> {
 }
 
 /// Whether a report lists or counts what was recorded from a second on that is after the last one.
-fn is_never(request: &Request, until: Option<u64>) -> bool {
+fn is_never<F: Unicast>(request: &Request<F>, until: Option<u64>) -> bool {
     match (since_of(request), until) {
         (Some(since), Some(until)) => since > until,
         _ => false,
@@ -148,10 +161,23 @@ fn is_never(request: &Request, until: Option<u64>) -> bool {
 }
 
 /// Refuses arguments that the parser accepts but that no job has.
-fn refused(alloc: Global, text: &str) -> Result<Job, Usage>
+fn refused(alloc: Global, text: &str) -> Result<Usage, AllocError>
+    ensures { IfOk result IsRefusal }
+{
+    Ok(Usage::Words(String::from_str(alloc, text)?))
+}
+
+/// Returns the family whose routes are replayed.
+fn family_of(alloc: Global, matches: &ArgMatches<'_>) -> Result<AddressFamily, Usage>
     ensures { IfErr result IsRefusal }
 {
-    Err(Usage::Words(String::from_str(alloc, text)?))
+    match matches.get_str("family").unwrap_or("ipv4") {
+        "ipv4" => Ok(AddressFamily::Ipv4),
+        "ipv6" => Ok(AddressFamily::Ipv6),
+        text => Err(Usage::Words(format!(in alloc;
+            "error: invalid value '{text}' for '--family <FAMILY>': neither ipv4 nor ipv6\n"
+        )?)),
+    }
 }
 
 /// Returns the second that an option names, `--until` or `--since`, if it is given.
@@ -195,8 +221,8 @@ fn ribs_of(alloc: Global, matches: &ArgMatches<'_>) -> Result<RibRule, Usage>
     }
 }
 
-/// Returns how the lines of a report are written.
-fn layout_of(alloc: Global, matches: &ArgMatches<'_>) -> Result<Layout, Usage>
+/// Returns how the lines of a report are written: the addresses of IPv6 routes are short (RFC 5952).
+fn layout_of<F: AddressText>(alloc: Global, matches: &ArgMatches<'_>) -> Result<LayoutOf<F>, Usage>
     ensures { IfErr result IsRefusal }
 {
     let form = match matches.get_str("addresses").unwrap_or("full") {
@@ -209,30 +235,41 @@ fn layout_of(alloc: Global, matches: &ArgMatches<'_>) -> Result<Layout, Usage>
         }
     };
     Ok(Layout {
-        addresses: AddressForms::all(form),
+        addresses: AddressForms {
+            peers: form,
+            routes: match F::FAMILY {
+                AddressFamily::Ipv4 => form,
+                AddressFamily::Ipv6 => AddressForm::Short,
+            },
+            family: FamilyMark::new(),
+        },
     })
 }
 
 /// Refuses a text that is no prefix.
-fn no_choice(alloc: Global, text: &str) -> Result<Usage, AllocError>
+fn no_choice<F: AddressText>(alloc: Global, text: &str) -> Result<Usage, AllocError>
     ensures { IfOk result IsRefusal }
 {
-    let fault = fault_of_choice(text.as_bytes());
+    let fault = fault_of_reach::<F>(text.as_bytes());
+    let example = F::EXAMPLE;
     Ok(Usage::Words(format!(in alloc;
-        "error: invalid value '{text}' for '--prefix <PREFIX>': {fault}\n  it may be 192.0.2.0/24, 192.0.2.0/24+ (more specifics too), 192.0.2.0/24- (less specifics too) or an address\n"
+        "error: invalid value '{text}' for '--prefix <PREFIX>': {fault}\n  it may be {example}, {example}+ (more specifics too), {example}- (less specifics too) or an address\n"
     )?))
 }
 
 /// Returns the prefixes that are chosen.
-fn prefixes_of(alloc: Global, matches: &ArgMatches<'_>) -> Result<Vec<PrefixChoice>, Usage>
+fn prefixes_of<F: AddressText>(
+    alloc: Global,
+    matches: &ArgMatches<'_>,
+) -> Result<Vec<PrefixChoice<Prefix<F>>>, Usage>
     ensures { IfErr result IsRefusal }
 {
     let mut choices = Vec::new(alloc);
     if let Some(texts) = matches.get_strs("prefix") {
         for text in texts {
-            match read_choice(text) {
+            match read_choice::<F>(text) {
                 Some(choice) => choices.push(choice)?,
-                None => return Err(no_choice(alloc, text)?),
+                None => return Err(no_choice::<F>(alloc, text)?),
             }
         }
     }
@@ -318,18 +355,23 @@ fn share_of(alloc: Global, matches: &ArgMatches<'_>) -> Result<Option<Share>, Us
     }
 }
 
-fn job_of(alloc: Global, name: &str, matches: &ArgMatches<'_>) -> Result<Job, Usage>
+/// Returns the job on the routes of a family.
+fn job_of<F: AddressText>(
+    alloc: Global,
+    name: &str,
+    matches: &ArgMatches<'_>,
+) -> Result<Job<F>, Usage>
     ensures { IfErr result IsRefusal }
 {
-    let request = request_of(alloc, name, matches)?;
-    let layout = layout_of(alloc, matches)?;
+    let request = request_of::<F>(alloc, name, matches)?;
+    let layout = layout_of::<F>(alloc, matches)?;
     let until = second_of(alloc, "until", matches)?;
     if is_never(&request, until) {
-        return refused(alloc, "error: --since is after --until\n");
+        return Err(refused(alloc, "error: --since is after --until\n")?);
     }
     let states = states_of(alloc, matches)?;
     let ribs = ribs_of(alloc, matches)?;
-    let prefixes = prefixes_of(alloc, matches)?;
+    let prefixes = prefixes_of::<F>(alloc, matches)?;
     let lists = texts_of(alloc, "prefixes", matches)?;
     let peers = peers_of(alloc, matches)?;
     let share = share_of(alloc, matches)?;
@@ -339,16 +381,16 @@ fn job_of(alloc: Global, name: &str, matches: &ArgMatches<'_>) -> Result<Job, Us
     let workers = given.unwrap_or(WORKERS_DEFAULT);
     let ring = matches.get_one::<usize>("ring").unwrap_or(RING_DEFAULT);
     if !(1..=64).contains(&workers) {
-        return refused(alloc, "error: --workers is not in 1..=64\n");
+        return Err(refused(alloc, "error: --workers is not in 1..=64\n")?);
     }
     if !(1..=65_536).contains(&ring) {
-        return refused(alloc, "error: --ring is not in 1..=65536\n");
+        return Err(refused(alloc, "error: --ring is not in 1..=65536\n")?);
     }
     if files.is_empty() && file_lists.is_empty() {
-        return refused(alloc, "error: no file\n");
+        return Err(refused(alloc, "error: no file\n")?);
     }
     if let Some(text) = standard_input_fault(&lists, &file_lists, &files) {
-        return refused(alloc, text);
+        return Err(refused(alloc, text)?);
     }
     Ok(Job {
         request,
@@ -409,8 +451,8 @@ fn has_file_list(words: &[String]) -> bool {
 }
 
 /// Returns the job that the arguments after the program's name ask for. A refused parse is reported before
-/// the address is examined.
-pub fn read_words(alloc: Global, words: &[String]) -> Result<Job, Usage>
+/// the family and the address are examined.
+pub fn read_words(alloc: Global, words: &[String]) -> Result<Asked, Usage>
     ensures { IfErr result IsRefusal }
 {
     let closings = closings(alloc)?;
@@ -420,7 +462,10 @@ pub fn read_words(alloc: Global, words: &[String]) -> Result<Job, Usage>
         Err(error) => return Err(usage_of(alloc, &error, words)),
     };
     match matches.subcommand() {
-        Some((name, below)) => job_of(alloc, name, below),
-        None => refused(alloc, "error: no command\n"),
+        Some((name, below)) => match family_of(alloc, below)? {
+            AddressFamily::Ipv4 => Ok(Asked::Ipv4(job_of::<u32>(alloc, name, below)?)),
+            AddressFamily::Ipv6 => Ok(Asked::Ipv6(job_of::<Ipv6>(alloc, name, below)?)),
+        },
+        None => Err(refused(alloc, "error: no command\n")?),
     }
 }

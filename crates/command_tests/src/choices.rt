@@ -1,6 +1,6 @@
 //! Rows on prefixes as text.
 
-use command_line::{ListError, read_choice, read_list, read_words};
+use command_line::{Asked, ListError, read_choice, read_list, read_words};
 use mrt_body::{PrefixChoice, Reach};
 use std::alloc::Global;
 use std::test::Fail;
@@ -26,7 +26,7 @@ fn a_choice_is_a_prefix_and_how_far_it_reaches(rt: HostRuntime) {
         ("128.0.0.0/1-", 2_147_483_648, 1, Reach::Around),
         ("255.255.255.255/32", 4_294_967_295, 32, Reach::Exact),
     ] {
-        match read_choice(text) {
+        match read_choice::<u32>(text) {
             Some(choice) => {
                 assert!(rt; choice.prefix.addr() == addr, "{text}");
                 assert!(rt; choice.prefix.len() == len, "{text}");
@@ -82,7 +82,7 @@ fn another_text_is_no_choice(rt: HostRuntime) {
         " 192.0.2.0/24",
         "192.0.2.0/24 ",
     ] {
-        assert!(rt; read_choice(text).is_none(), "{text}");
+        assert!(rt; read_choice::<u32>(text).is_none(), "{text}");
     }
 }
 
@@ -108,14 +108,16 @@ fn chosen(alloc: Global, text: &str) -> Result<String, Fail> {
         words.push(String::from_str(alloc, word)?)?;
     }
     let mut shown = String::new(alloc);
-    match read_words(alloc, words.as_slice()) {
-        Ok(job) => {
+    let asked = read_words(alloc, words.as_slice());
+    match &asked {
+        Ok(Asked::Ipv4(job)) => {
             show(&mut shown, &job.prefixes)?;
             for name in &job.lists {
                 let name = name.as_str();
                 write!(shown, "{name};")?;
             }
         }
+        Ok(Asked::Ipv6(_)) => shown.push_str("IPv6")?,
         Err(_) => shown.push_str("refused")?,
     }
     Ok(shown)
@@ -171,7 +173,7 @@ fn the_lines_of_a_text_are_choices(rt: HostRuntime) -> Result<(), Fail> {
         ("0.0.0.9\n#\n\n\n-", "line 5"),
     ] {
         let mut shown = String::new(alloc);
-        match read_list(alloc, text.as_bytes()) {
+        match read_list::<u32>(alloc, text.as_bytes()) {
             Ok(choices) => show(&mut shown, &choices)?,
             Err(ListError::Line(number)) => write!(shown, "line {number}")?,
             Err(ListError::Memory) => shown.push_str("memory")?,

@@ -4,6 +4,8 @@
 #[cfg(test)]
 mod choices;
 #[cfg(test)]
+mod families;
+#[cfg(test)]
 mod ipv6;
 #[cfg(test)]
 mod peers;

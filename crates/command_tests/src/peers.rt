@@ -1,6 +1,6 @@
 //! Rows on peers and shares as text.
 
-use command_line::{read_peer, read_share, read_words};
+use command_line::{Asked, read_peer, read_share, read_words};
 use mrt_body::{PeerAddr, PeerChoice, Share};
 use std::test::Fail;
 
@@ -117,8 +117,9 @@ fn peers_add_up_and_the_last_share_counts(rt: HostRuntime) -> Result<(), Fail> {
     ] {
         words.push(String::from_str(alloc, word)?)?;
     }
-    match read_words(alloc, words.as_slice()) {
-        Ok(job) => {
+    let asked = read_words(alloc, words.as_slice());
+    match &asked {
+        Ok(Asked::Ipv4(job)) => {
             let share = Share::new(1, 3);
             assert!(rt; share.is_some() && job.share == share);
             match job.peers.as_slice() {
@@ -129,7 +130,7 @@ fn peers_add_up_and_the_last_share_counts(rt: HostRuntime) -> Result<(), Fail> {
                 _ => assert!(rt; false, "two peers"),
             }
         }
-        Err(_) => assert!(rt; false, "a job"),
+        _ => assert!(rt; false, "a job"),
     }
     Ok(())
 }

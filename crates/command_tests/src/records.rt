@@ -1,6 +1,7 @@
 //! Rows on the records that `--summary` counts.
 
-use command_line::{RecordKind, Records};
+use bgp_prefix::Ipv6;
+use command_line::{AddressFamily, RecordKind, Records};
 use fixtures::bytes_of;
 use std::test::Fail;
 
@@ -24,7 +25,7 @@ fn records_are_counted_whatever_pieces_they_come_in(rt: HostRuntime) -> Result<(
     let dump = bytes_of(alloc, RECORDS)?;
     assert_eq!(rt; dump.len(), 78);
     for piece in [1usize, 2, 5, 11, 12, 13, 64, 1000] {
-        let mut records = Records::new(alloc);
+        let mut records = Records::new(alloc, AddressFamily::Ipv4);
         for bytes in dump.as_slice().chunks(piece.max(1)) {
             records.take(bytes);
         }
@@ -57,23 +58,61 @@ fn kinds_that_are_not_interpreted_are_aside_and_named(rt: HostRuntime) -> Result
         (65_535, 65_535, "65535 65535"),
     ] {
         let kind = RecordKind { kind, subtype };
-        assert!(rt; kind.is_aside(), "{name}");
+        assert!(rt; kind.is_aside::<u32>(), "{name}");
+        assert!(rt; kind.is_aside::<Ipv6>(), "{name}");
         let text = format!(in alloc; "{kind}")?;
         assert!(rt; text.as_str() == name, "{name}");
     }
-    for (kind, subtype) in [
-        (13u16, 1u16),
-        (13, 2),
-        (13, 8),
-        (16, 0),
-        (16, 9),
-        (17, 1),
-        (17, 5),
+    for (kind, subtype) in [(13u16, 1u16), (16, 0), (16, 9), (17, 1), (17, 5)] {
+        let kind = RecordKind { kind, subtype };
+        assert!(rt; !kind.is_aside::<u32>(), "{kind}");
+        assert!(rt; !kind.is_aside::<Ipv6>(), "{kind}");
+    }
+    Ok(())
+}
+
+/// RIB records of a family's unicast routes, with path identifiers or without (RFC 6396, 4.3.2; RFC 8050, 4).
+#[test]
+fn rib_records_of_the_other_family_are_aside(rt: HostRuntime) {
+    for (subtype, is_ipv4, is_ipv6) in [
+        (2u16, true, false),
+        (3, false, false),
+        (4, false, true),
+        (5, false, false),
+        (8, true, false),
+        (9, false, false),
+        (10, false, true),
+        (11, false, false),
+        (12, false, false),
     ] {
-        assert!(rt;
-            !RecordKind { kind, subtype }.is_aside(),
-            "{kind} {subtype}"
-        );
+        let kind = RecordKind { kind: 13, subtype };
+        assert!(rt; kind.is_aside::<u32>() == !is_ipv4, "{kind}");
+        assert!(rt; kind.is_aside::<Ipv6>() == !is_ipv6, "{kind}");
+    }
+}
+
+/// The same records, of which those of IPv6 routes are read.
+#[test]
+fn records_are_counted_by_family(rt: HostRuntime) -> Result<(), Fail> {
+    let alloc = rt.alloc();
+    let rib = RecordKind {
+        kind: 13,
+        subtype: 2,
+    };
+    let ospf = RecordKind {
+        kind: 11,
+        subtype: 0,
+    };
+    let dump = bytes_of(alloc, RECORDS)?;
+    let mut records = Records::new(alloc, AddressFamily::Ipv6);
+    records.take(dump.as_slice());
+    assert!(rt; records.count() == 5 && records.aside() == 2);
+    match records.kinds() {
+        [first, second] => {
+            assert!(rt; first.kind == rib && first.count == 1);
+            assert!(rt; second.kind == ospf && second.count == 1);
+        }
+        _ => assert!(rt; false),
     }
     Ok(())
 }

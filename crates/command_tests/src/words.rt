@@ -1,16 +1,16 @@
 //! Rows on words, addresses and statuses.
 
 use command_line::{
-    FileListError, FileName, FirstBytes, Job, Kind, Usage, fault_of_file_list, read_address,
+    Asked, FileListError, FileName, FirstBytes, Job, Kind, Usage, fault_of_file_list, read_address,
     read_file_list, read_second, read_words,
 };
 use mrt_body::{RibRule, StateRule};
-use rib_report::{AddressForm, AddressForms, Request};
+use rib_report::{AddressForm, Request};
 use std::alloc::Global;
 use std::test::Fail;
 
 /// What the words, split at blanks, ask for.
-fn job_of(alloc: Global, text: &str) -> Result<Result<Job, Usage>, Fail> {
+fn asked_of(alloc: Global, text: &str) -> Result<Result<Asked, Usage>, Fail> {
     let mut words = Vec::new(alloc);
     for word in text.split(' ') {
         words.push(String::from_str(alloc, word)?)?;
@@ -18,13 +18,21 @@ fn job_of(alloc: Global, text: &str) -> Result<Result<Job, Usage>, Fail> {
     Ok(read_words(alloc, words.as_slice()))
 }
 
+/// The job on IPv4 routes that the words, split at blanks, ask for.
+fn job_of(alloc: Global, text: &str) -> Result<Option<Job>, Fail> {
+    match asked_of(alloc, text)? {
+        Ok(Asked::Ipv4(job)) => Ok(Some(job)),
+        _ => Ok(None),
+    }
+}
+
 /// The address that is refused, or which answer it is.
-fn answer_of(answer: &Result<Job, Usage>) -> &str {
+fn answer_of(answer: &Result<Asked, Usage>) -> &str {
     match answer {
         Ok(_) => "a job",
         Err(Usage::Help(_)) => "help",
         Err(Usage::Words(_)) => "words",
-        Err(Usage::Address(address)) => address.as_str(),
+        Err(Usage::Address(_, address)) => address.as_str(),
         Err(Usage::Memory) => "memory",
     }
 }
@@ -70,6 +78,21 @@ fn wrong_words_are_refused(rt: HostRuntime) -> Result<(), Fail> {
         ("tables --addresses long x", "words"),
         ("churn --addresses Short x", "words"),
         ("tables --address 10.0.0.1 x", "words"),
+        ("tables --family x", "words"),
+        ("tables --family ipv5 x", "words"),
+        ("churn --family IPv6 x", "words"),
+        ("faults --family 6 x", "words"),
+        ("peers --family ipv4,ipv6 x", "words"),
+        ("tables --family ipv6 --prefix 192.0.2.0/24 x", "words"),
+        ("tables --family ipv6 --prefix 2001:db8::1/32 x", "words"),
+        ("tables --family ipv6 --prefix 2001:db8::/129 x", "words"),
+        ("tables --family ipv4 --prefix 2001:db8::/32 x", "words"),
+        ("match --family ipv6 x", "words"),
+        ("match --family ipv6 --address 192.0.2.1 x", "192.0.2.1"),
+        ("match --family ipv6 --address fe80::1%1 x", "fe80::1%1"),
+        ("match --family ipv6 --address ::192.0.2.1 x", "::192.0.2.1"),
+        ("match --address 2001:db8::1 x", "2001:db8::1"),
+        ("match --family ipv4 --address 2001:db8::1 x", "2001:db8::1"),
         ("tables --peer AS65001 x", "words"),
         ("tables --peer 65001,192.0.2 x", "words"),
         ("tables --peers 0/4 x", "words"),
@@ -77,7 +100,7 @@ fn wrong_words_are_refused(rt: HostRuntime) -> Result<(), Fail> {
         ("--help", "help"),
         ("churn --version", "help"),
     ] {
-        let answer = job_of(alloc, text)?;
+        let answer = asked_of(alloc, text)?;
         assert!(rt; answer_of(&answer) == expected, "{text}");
     }
     Ok(())
@@ -205,7 +228,7 @@ fn words_ask_for_a_job(rt: HostRuntime) -> Result<(), Fail> {
         ),
     ] {
         match job_of(alloc, text)? {
-            Ok(job) => {
+            Some(job) => {
                 assert!(rt; job.request == request && job.until == until, "{text}");
                 assert!(rt; (job.workers, job.ring) == numbers, "{text}");
                 let mut names = String::new(alloc);
@@ -219,7 +242,7 @@ fn words_ask_for_a_job(rt: HostRuntime) -> Result<(), Fail> {
                 }
                 assert!(rt; names.as_str() == files, "{text}");
             }
-            Err(_) => assert!(rt; false, "{text}"),
+            None => assert!(rt; false, "{text}"),
         }
     }
     Ok(())
@@ -238,8 +261,8 @@ fn the_rule_of_state_changes_is_a_word(rt: HostRuntime) -> Result<(), Fail> {
         ),
     ] {
         match job_of(alloc, text)? {
-            Ok(job) => assert!(rt; job.states == expected, "{text}"),
-            Err(_) => assert!(rt; false, "{text}"),
+            Some(job) => assert!(rt; job.states == expected, "{text}"),
+            None => assert!(rt; false, "{text}"),
         }
     }
     Ok(())
@@ -259,11 +282,14 @@ fn the_form_of_addresses_is_a_word(rt: HostRuntime) -> Result<(), Fail> {
         ),
     ] {
         match job_of(alloc, text)? {
-            Ok(job) => {
-                let addresses = job.layout.addresses;
-                assert!(rt; addresses == AddressForms::all(expected), "{text}");
+            Some(job) => {
+                let forms = &job.layout.addresses;
+                assert!(rt;
+                    forms.peers == expected && forms.routes == expected,
+                    "{text}"
+                );
             }
-            Err(_) => assert!(rt; false, "{text}"),
+            None => assert!(rt; false, "{text}"),
         }
     }
     Ok(())
@@ -279,8 +305,8 @@ fn the_rule_of_further_rib_dumps_is_a_word(rt: HostRuntime) -> Result<(), Fail> 
         ("faults --rib replace x --rib add", RibRule::Add),
     ] {
         match job_of(alloc, text)? {
-            Ok(job) => assert!(rt; job.ribs == expected, "{text}"),
-            Err(_) => assert!(rt; false, "{text}"),
+            Some(job) => assert!(rt; job.ribs == expected, "{text}"),
+            None => assert!(rt; false, "{text}"),
         }
     }
     Ok(())
@@ -296,11 +322,11 @@ fn a_switch_is_on_where_its_word_stands(rt: HostRuntime) -> Result<(), Fail> {
         ("tables x", [false, false, false, false]),
     ] {
         match job_of(alloc, text)? {
-            Ok(job) => {
+            Some(job) => {
                 let found = [job.has_workers, job.header, job.summary, job.progress];
                 assert!(rt; found == expected, "{text}");
             }
-            Err(_) => assert!(rt; false, "{text}"),
+            None => assert!(rt; false, "{text}"),
         }
     }
     Ok(())

@@ -1,6 +1,6 @@
 //! Rows on dealings: whichever lane a peer has, the reports are the same.
 
-use crate::plans::{FULL, PLAN};
+use crate::plans::{PLAN, full};
 use adj_rib::SharedRoute;
 use bgp_prefix::{Flat, PrefixMap, Radix};
 use fixtures::{THREE_PEERS, THREE_ROUTES, bytes_of, message_of};
@@ -36,12 +36,12 @@ fn check_dealing<M: PrefixMap<SharedRoute, Addr = u32> + Send + Sync + Drop, D: 
     assert!(rt; plan.check());
     let mut readers = [Counted::new(file.bytes.as_slice())];
     let mut out = Counted::new(Vec::<u8>::new(alloc));
-    let summary = run::<M, _, _, _, _, _>(
+    let summary = run::<_, M, _, _, _, _, _>(
         rt,
         alloc,
         &mut readers,
         &Request::Tables,
-        FULL,
+        full(),
         Selection::all(alloc),
         plan,
         dealing,

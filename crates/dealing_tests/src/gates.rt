@@ -1,6 +1,6 @@
 //! Gates of the tests: who runs beside whom, and what gates are told.
 
-use crate::plans::{FULL, PLAN};
+use crate::plans::{PLAN, full};
 use adj_rib::SharedRoute;
 use bgp_prefix::Radix;
 use fixtures::{THREE_PEERS, bytes_of};
@@ -32,7 +32,7 @@ fn comes(flag: &AtomicBool) -> bool {
 }
 
 /// What a run over one file by this plan answers, with this gate.
-fn run_with<G: Gate>(
+fn run_with<G: Gate + Sync>(
     rt: &(impl Threads + Abort + Sync),
     alloc: Global,
     words: &str,
@@ -43,12 +43,12 @@ fn run_with<G: Gate>(
     let bytes = bytes_of(alloc, words)?;
     let mut readers = [Counted::new(bytes.as_slice())];
     let mut out = Counted::new(Vec::<u8>::new(alloc));
-    Ok(run::<Radix<u32, SharedRoute>, _, _, _, _, _>(
+    Ok(run::<_, Radix<u32, SharedRoute>, _, _, _, _, _>(
         rt,
         alloc,
         &mut readers,
         &Request::Tables,
-        FULL,
+        full(),
         Selection::all(alloc),
         plan,
         &ByTurns,

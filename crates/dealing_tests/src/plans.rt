@@ -13,9 +13,8 @@ pub const PLAN: Plan = Plan {
 };
 
 /// Addresses in full.
-pub const FULL: Layout = Layout {
-    addresses: AddressForms {
-        peers: AddressForm::Full,
-        routes: AddressForm::Full,
-    },
-};
+pub fn full() -> Layout {
+    Layout {
+        addresses: AddressForms::all(AddressForm::Full),
+    }
+}

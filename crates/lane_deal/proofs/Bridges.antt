@@ -11,10 +11,8 @@ use Rattle.peer_tables.specs.Peers.{peer_eq, peers_of}
 use Rattle.bgp_prefix.specs.declared.family.Family.{Ghosts as AddressGhosts}
 use Rattle.bgp_prefix.specs.declared.map.PrefixMap.{Ghosts}
 use Rattle.adj_rib.specs.declared.shared_route.SharedRoute.{SharedRoute}
-use Rattle.lane_deal.specs.declared.feed.Feed.{Feed}
-use Rattle.lane_deal.specs.declared.numbered.Numbered.{Numbered}
+use Rattle.lane_deal.specs.Plain.{Feed, Numbered, Worker}
 use Rattle.lane_deal.specs.declared.seats.Seats.{Seats}
-use Rattle.lane_deal.specs.declared.worker.Worker.{Worker}
 use Rattle.lane_deal.specs.Feeds.{in_lane}
 use Rattle.lane_deal.specs.LaneRings.{IsReady, LaneStands}
 use Rattle.lane_deal.specs.Lanes.{number_of_peer, lane_units}
@@ -95,7 +93,7 @@ dealt_items-append units more rest keys e =
 
 -- ---- one lane
 
-module _ {M : Type 0} {g : Ghosts M SharedRoute ℕ} {a : AddressGhosts ℕ} (lane_of : ℕ → ℕ) (units more : List ReplayUnit) (lane capacity : ℕ) (f : Feed) (w : Worker (Seats M g a)) where
+module _ {M A : Type 0} {g : Ghosts M SharedRoute A} {a : AddressGhosts A} (lane_of : ℕ → ℕ) (units more : List ReplayUnit) (lane capacity : ℕ) (f : Feed) (w : Worker (Seats M A g a)) where
   abbrev all : List ReplayUnit
   all = units ++ more
 
@@ -167,26 +165,26 @@ module _ {M : Type 0} {g : Ghosts M SharedRoute ℕ} {a : AddressGhosts ℕ} (la
 
 -- ---- all lanes
 
-module _ {M : Type 0} {g : Ghosts M SharedRoute ℕ} {a : AddressGhosts ℕ} where
-  pub length-lane_states : (fs : List Feed) (ws : List (Worker (Seats M g a))) → length ws ≡ length fs → length (lane_states fs ws) ≡ length fs
+module _ {M A : Type 0} {g : Ghosts M SharedRoute A} {a : AddressGhosts A} where
+  pub length-lane_states : (fs : List Feed) (ws : List (Worker (Seats M A g a))) → length ws ≡ length fs → length (lane_states fs ws) ≡ length fs
   length-lane_states [] ws e = refl
   length-lane_states (f ∷ fs) [] e = absurd (omega arith)
   length-lane_states (f ∷ fs) (w ∷ ws) e = (let n = length-lane_states fs ws (omega arith) in omega arith)
 
-  pub lane_states-at : (fs : List Feed) (ws : List (Worker (Seats M g a))) (lane : ℕ) (d : Feed) (e : Worker (Seats M g a)) → length ws ≡ length fs → lane < length fs → slice_get (lane_states fs ws) lane ≡ Some (lane_state (get_or fs lane d) (get_or ws lane e))
+  pub lane_states-at : (fs : List Feed) (ws : List (Worker (Seats M A g a))) (lane : ℕ) (d : Feed) (e : Worker (Seats M A g a)) → length ws ≡ length fs → lane < length fs → slice_get (lane_states fs ws) lane ≡ Some (lane_state (get_or fs lane d) (get_or ws lane e))
   lane_states-at [] ws lane d e same l = absurd (omega arith)
   lane_states-at (f ∷ fs) [] lane d e same l = absurd (omega arith)
   lane_states-at (f ∷ fs) (w ∷ ws) zero d e same l = refl
   lane_states-at (f ∷ fs) (w ∷ ws) (suc lane) d e same l = lane_states-at fs ws lane d e (omega arith) (omega arith)
 
   -- a lane that is shown has a feed and a worker
-  pub record IsLaneAt (fs : List Feed) (ws : List (Worker (Seats M g a))) (lane : ℕ) (state : LaneState) : Type 0 where
+  pub record IsLaneAt (fs : List Feed) (ws : List (Worker (Seats M A g a))) (lane : ℕ) (state : LaneState) : Type 0 where
     pub feed : Feed
-    pub worker : Worker (Seats M g a)
+    pub worker : Worker (Seats M A g a)
     pub within : lane < length fs
     pub state_is : state ≡ lane_state (get_or fs lane feed) (get_or ws lane worker)
 
-  pub lane_at : (fs : List Feed) (ws : List (Worker (Seats M g a))) (lane : ℕ) (state : LaneState) → slice_get (lane_states fs ws) lane ≡ Some state → IsLaneAt fs ws lane state
+  pub lane_at : (fs : List Feed) (ws : List (Worker (Seats M A g a))) (lane : ℕ) (state : LaneState) → slice_get (lane_states fs ws) lane ≡ Some state → IsLaneAt fs ws lane state
   lane_at [] ws lane state e = absurd (cc)
   lane_at (f ∷ fs) [] lane state e = absurd (cc)
   lane_at (f ∷ fs) (w ∷ ws) zero state e = record { feed = f; worker = w; within = omega arith; state_is = sym (some_is (lane_state f w) state e) }

@@ -17,8 +17,8 @@ use Rattle.mrt_body.specs.Plain.{Unit as ReplayUnit}
 use Rattle.mrt_body.specs.Units.{unit_of, damage_of}
 use Rattle.mrt_body.specs.ToCome.{UnitsState, GivesPending, KeepsPlan, TakesFound, as_found, units_left}
 use Rattle.peer_tables.specs.Peers.{peer_eq, peers_of}
-use Rattle.lane_deal.specs.declared.dealer.Dealer.{Dealer}
-use Rattle.lane_deal.specs.declared.feed.Feed.{Feed}
+use Rattle.lane_deal.specs.Dealers.{Dealer}
+use Rattle.lane_deal.specs.Plain.{Feed}
 use Rattle.lane_deal.specs.declared.step.Step.TheVariants.{Blocked, End}
 use Rattle.lane_deal.specs.Asking.{TakesUnits, as_refused, Asked, AskedInVain}
 use Rattle.lane_deal.specs.DealerSteps.{Asks, Next, NextInVain, Handles, Deals}

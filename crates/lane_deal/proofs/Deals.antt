@@ -3,8 +3,7 @@ use Rattle.std.proofs.Common.{◌≡◌, ℕ, ◌<◌, List, [], ◌++◌, lengt
 use Rattle.std.proofs.lemmas.List.{append-nil}
 use Rattle.std.proofs.lemmas.List.Elements.{filter-append}
 use Rattle.lane_deal.specs.UnitRings.{sent}
-use Rattle.lane_deal.specs.declared.numbered.Numbered.{Numbered}
-use Rattle.lane_deal.specs.declared.feed.Feed.{Feed}
+use Rattle.lane_deal.specs.Plain.{Numbered, Feed}
 use Rattle.lane_deal.specs.Feeds.{Pushed, Dealt, in_lane}
 
 pub Pushed-append : (a b c : Feed) (xs ys : List Numbered) → Pushed a b xs → Pushed b c ys → Pushed a c (xs ++ ys)

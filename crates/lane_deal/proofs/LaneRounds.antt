@@ -3,9 +3,7 @@ use Rattle.std.proofs.Common.{◌≡◌, ℕ, ◌<◌, ◌≤◌, List, [], ◌+
 use Rattle.std.specs.List.{AllZip}
 use Rattle.std.proofs.lemmas.List.Elements.{length_all_zip, AllZip-get_or}
 use Rattle.lane_deal.specs.UnitRings.{sent, received, known_items}
-use Rattle.lane_deal.specs.declared.numbered.Numbered.{Numbered}
-use Rattle.lane_deal.specs.declared.feed.Feed.{Feed}
-use Rattle.lane_deal.specs.declared.worker.Worker.{Worker}
+use Rattle.lane_deal.specs.Plain.{Numbered, Feed, Worker}
 use Rattle.lane_deal.specs.Feeds.{in_lane, Pushed, Dealt}
 use Rattle.lane_deal.specs.LaneRounds.{Rounded}
 use Rattle.lane_deal.specs.LaneWorkers.{Worked}

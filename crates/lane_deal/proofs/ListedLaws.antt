@@ -5,10 +5,8 @@ use Rattle.std.specs.Prelude.{Result, Ok, Err, OnErr}
 use Rattle.std.proofs.lemmas.List.{map-append, append-nil, drop-append-le, take-append-le, get_or-map, get_or_append_left, length-map}
 use Rattle.std.proofs.Math.Seq.{drop-append_seam, take-append_seam, get_or-append_seam}
 use Rattle.lane_deal.specs.declared.listed_unit.ListedRecord.{ListedRecord}
-use Rattle.lane_deal.specs.declared.listed_unit.ListedUnit.{ListedUnit}
+use Rattle.lane_deal.specs.Plain.{ListedUnit, UnitList, Numbered}
 use Rattle.lane_deal.specs.declared.listed_unit.NumberedPeer.{NumberedPeer}
-use Rattle.lane_deal.specs.declared.unit_list.UnitList.{UnitList}
-use Rattle.lane_deal.specs.declared.numbered.Numbered.{Numbered}
 use Rattle.lane_deal.specs.ListedUnits.{AreKept, IsListedAt, IsWithin, SOME_RECORD, SOME_PEER, unit_in, unit_with}
 use Rattle.lane_deal.specs.UnitLists.{units_of}
 use Rattle.lane_deal.proofs.DealerLaws.{all_push}

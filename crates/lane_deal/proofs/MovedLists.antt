@@ -2,8 +2,7 @@
 use Rattle.std.proofs.Common.{◌≡◌, ℕ, ◌+◌, take, drop, List, [], ◌∷◌, ◌++◌, length, refl, sym, ap, ◌∙◌, subst, append_assoc, arith, length-append}
 use Rattle.std.proofs.lemmas.List.{append-nil}
 use Rattle.std.proofs.Math.Seq.{take-add}
-use Rattle.lane_deal.specs.declared.unit_list.UnitList.{UnitList}
-use Rattle.lane_deal.specs.declared.unit_producer.UnitProducer.{UnitProducer}
+use Rattle.lane_deal.specs.Plain.{UnitList, UnitProducer}
 use Rattle.lane_deal.specs.UnitLists.{units_of, units_of_lists}
 use Rattle.lane_deal.specs.UnitRings.{sent, known_free, SameProducer}
 use Rattle.lane_deal.proofs.UnitLists.{units_pushed}

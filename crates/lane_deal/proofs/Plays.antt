@@ -16,15 +16,14 @@ use Rattle.peer_tables.specs.Peers.{peers_of}
 use Rattle.bgp_prefix.specs.declared.family.Family.{Ghosts as AddressGhosts}
 use Rattle.bgp_prefix.specs.declared.map.PrefixMap.{Ghosts}
 use Rattle.adj_rib.specs.declared.shared_route.SharedRoute.{SharedRoute}
-use Rattle.lane_deal.specs.declared.dealer.Dealer.{Dealer}
-use Rattle.lane_deal.specs.declared.feed.Feed.{Feed}
+use Rattle.lane_deal.specs.Dealers.{Dealer}
+use Rattle.lane_deal.specs.Plain.{Feed, Worker}
 use Rattle.lane_deal.specs.declared.plan.Plan.{Plan}
 use Rattle.lane_deal.specs.declared.seats.Seats.{Seats}
 use Rattle.lane_deal.specs.declared.state.State.{State}
 use Rattle.lane_deal.specs.declared.state.State.TheVariants.{Spent}
 use Rattle.lane_deal.specs.declared.step.Step.{Step}
 use Rattle.lane_deal.specs.declared.step.Step.TheVariants.{Blocked, FullBatch, End}
-use Rattle.lane_deal.specs.declared.worker.Worker.{Worker}
 use Rattle.lane_deal.specs.Asking.{GivesAll}
 use Rattle.lane_deal.specs.Answers.{IfAnswered, StateAfter, is_spent, state_of_step, state_of_error}
 use Rattle.lane_deal.specs.DealerSteps.{StopsDealing}
@@ -79,11 +78,11 @@ no_more given left e = nil_from_length left (let n = ap length e in omega (arith
 
 -- ---- fresh lanes
 
-module _ {M : Type 0} {g : Ghosts M SharedRoute ℕ} {a : AddressGhosts ℕ} where
-  pub ready_fresh : (capacity workers : ℕ) (fs : List Feed) (ws : List (Worker (Seats M g a))) → AreFresh SeatsHold capacity workers fs ws → AreReady capacity fs ws
+module _ {M A : Type 0} {g : Ghosts M SharedRoute A} {a : AddressGhosts A} where
+  pub ready_fresh : (capacity workers : ℕ) (fs : List Feed) (ws : List (Worker (Seats M A g a))) → AreFresh SeatsHold capacity workers fs ws → AreReady capacity fs ws
   ready_fresh capacity workers fs ws h = (h.workers_count ∙ sym h.feeds_count, λ lane x y l. (h.each lane x y (let c = h.feeds_count in omega arith)).ready)
 
-  pub settled_fresh : (capacity workers : ℕ) (fs : List Feed) (ws : List (Worker (Seats M g a))) → AreFresh SeatsHold capacity workers fs ws → (lane : ℕ) (state : LaneState) → slice_get (lane_states fs ws) lane ≡ Some state → state.ring.sent ≡ []
+  pub settled_fresh : (capacity workers : ℕ) (fs : List Feed) (ws : List (Worker (Seats M A g a))) → AreFresh SeatsHold capacity workers fs ws → (lane : ℕ) (state : LaneState) → slice_get (lane_states fs ws) lane ≡ Some state → state.ring.sent ≡ []
   settled_fresh capacity workers fs ws h lane state e =
       let at = lane_at fs ws lane state e in ap (λ x. x.ring.sent) at.state_is ∙ (h.each lane at.feed at.worker (let l = at.within in let c = h.feeds_count in omega arith)).empty
 
@@ -94,8 +93,8 @@ some_settled dealing capacity old new s some = ∥∥₁_map some (λ h. record 
 
 -- ---- a round
 
-module _ {M D : Type 0} {g : Ghosts M SharedRoute ℕ} {a : AddressGhosts ℕ} where
-  module _ (dealing : ℕ → ℕ → ℕ) (capacity : ℕ) (fs : List Feed) (ws : List (Worker (Seats M g a))) (d : Dealer D) (spent : Bool) (ready : AreReady capacity fs ws) where
+module _ {M A D : Type 0} {g : Ghosts M SharedRoute A} {a : AddressGhosts A} where
+  module _ (dealing : ℕ → ℕ → ℕ) (capacity : ℕ) (fs : List Feed) (ws : List (Worker (Seats M A g a))) (d : Dealer D) (spent : Bool) (ready : AreReady capacity fs ws) where
     abbrev lane_of : ℕ → ℕ
     lane_of n = dealing n (length fs)
 
@@ -124,7 +123,7 @@ module _ {M D : Type 0} {g : Ghosts M SharedRoute ℕ} {a : AddressGhosts ℕ} w
         ∙ length-filter (λ u. eqb (lane_of (number_in d.peers u.peer)) lane) units
         ∙ ap (λ m. count_by (λ u. eqb (dealing (number_in d.peers u.peer) m) lane) units) (sym e)
 
-  module _ (dealing : ℕ → ℕ → ℕ) (plan : Plan) (fs fs' : List Feed) (ws ws' : List (Worker (Seats M g a))) (old new : Dealer D) (spent spent' : Bool) (u u' : UnitsState) (k k' : List (Option (List ℕ))) (result : Result Step ReplayError) (ready : AreReady plan.ring fs ws) (below : (n : ℕ) → dealing n (length fs) < length fs) (unspent : spent' ≡ false) (p : PlaysLanes SeatsHold (λ n. dealing n (length fs)) plan.ring plan.batch fs ws fs' ws' old new u k u' k' result) where
+  module _ (dealing : ℕ → ℕ → ℕ) (plan : Plan) (fs fs' : List Feed) (ws ws' : List (Worker (Seats M A g a))) (old new : Dealer D) (spent spent' : Bool) (u u' : UnitsState) (k k' : List (Option (List ℕ))) (result : Result Step ReplayError) (ready : AreReady plan.ring fs ws) (below : (n : ℕ) → dealing n (length fs) < length fs) (unspent : spent' ≡ false) (p : PlaysLanes SeatsHold (λ n. dealing n (length fs)) plan.ring plan.batch fs ws fs' ws' old new u k u' k' result) where
     abbrev before : ReplayerState
     before = state_at old fs ws spent
 
@@ -213,7 +212,7 @@ module _ {M D : Type 0} {g : Ghosts M SharedRoute ℕ} {a : AddressGhosts ℕ} w
     }
 
   -- the same, where the lists are told by what they equal
-  pub PlaysOn-of : (dealing : ℕ → ℕ → ℕ) (plan : Plan) (batch : ℕ) (fs fs' fs₂ : List Feed) (ws ws' ws₂ : List (Worker (Seats M g a))) (old new : Dealer D) (spent spent' : Bool) (u u' : UnitsState) (k k' : List (Option (List ℕ))) (result : Result Step ReplayError)
+  pub PlaysOn-of : (dealing : ℕ → ℕ → ℕ) (plan : Plan) (batch : ℕ) (fs fs' fs₂ : List Feed) (ws ws' ws₂ : List (Worker (Seats M A g a))) (old new : Dealer D) (spent spent' : Bool) (u u' : UnitsState) (k k' : List (Option (List ℕ))) (result : Result Step ReplayError)
       → AreReady plan.ring fs ws → ((n : ℕ) → dealing n (length fs) < length fs) → fs₂ ≡ fs' → ws₂ ≡ ws' → batch ≡ plan.batch → spent' ≡ false
       → PlaysLanes SeatsHold (λ n. dealing n (length fs)) plan.ring batch fs ws fs' ws' old new u k u' k' result → PlaysOn dealing plan (state_at old fs ws spent) (state_at new fs₂ ws₂ spent') u k u' k' result
   PlaysOn-of dealing plan batch fs fs' fs₂ ws ws' ws₂ old new spent spent' u u' k k' result ready below e f b unspent p =
@@ -223,7 +222,7 @@ module _ {M D : Type 0} {g : Ghosts M SharedRoute ℕ} {a : AddressGhosts ℕ} w
       (subst (λ n. PlaysLanes SeatsHold (λ m. dealing m (length fs)) plan.ring n fs ws fs' ws' old new u k u' k' result) b p)))
 
   -- it still stands for some units and refusals
-  pub some_after : (law : D → ℕ → ℕ → ℕ) (plan : Plan) (batch : ℕ) (fs fs' fs₂ : List Feed) (ws ws' ws₂ : List (Worker (Seats M g a))) (old new : Dealer D) (u u' : UnitsState) (k k' : List (Option (List ℕ))) (result : Result Step ReplayError)
+  pub some_after : (law : D → ℕ → ℕ → ℕ) (plan : Plan) (batch : ℕ) (fs fs' fs₂ : List Feed) (ws ws' ws₂ : List (Worker (Seats M A g a))) (old new : Dealer D) (u u' : UnitsState) (k k' : List (Option (List ℕ))) (result : Result Step ReplayError)
       → AreReady plan.ring fs ws → ((n : ℕ) → law old.dealing n (length fs) < length fs) → fs₂ ≡ fs' → ws₂ ≡ ws' → batch ≡ plan.batch
       → PlaysLanes SeatsHold (λ n. law old.dealing n (length fs)) plan.ring batch fs ws fs' ws' old new u k u' k' result
       → ∥ StandsForSome (law old.dealing) plan.ring (state_at old fs ws false) ∥₁ → ∥ StandsForSome (law new.dealing) plan.ring (state_at new fs₂ ws₂ false) ∥₁
@@ -237,7 +236,7 @@ module _ {M D : Type 0} {g : Ghosts M SharedRoute ℕ} {a : AddressGhosts ℕ} w
 
   -- ---- a settling
 
-  pub Settles-of : (dealing : ℕ → ℕ → ℕ) (capacity : ℕ) (fs fs' fs₂ : List Feed) (ws ws' ws₂ : List (Worker (Seats M g a))) (d : Dealer D) (spent : Bool) → AreReady capacity fs ws → fs₂ ≡ fs' → ws₂ ≡ ws'
+  pub Settles-of : (dealing : ℕ → ℕ → ℕ) (capacity : ℕ) (fs fs' fs₂ : List Feed) (ws ws' ws₂ : List (Worker (Seats M A g a))) (d : Dealer D) (spent : Bool) → AreReady capacity fs ws → fs₂ ≡ fs' → ws₂ ≡ ws'
       → Settled SeatsHold capacity fs ws fs' ws' → Settles dealing capacity (state_at d fs ws spent) (state_at d fs₂ ws₂ spent)
   Settles-of dealing capacity fs fs' fs₂ ws ws' ws₂ d spent ready e f s =
       let settled : Settles dealing capacity (state_at d fs ws spent) (state_at d fs' ws' spent) = record {
@@ -261,7 +260,7 @@ module _ {M D : Type 0} {g : Ghosts M SharedRoute ℕ} {a : AddressGhosts ℕ} w
 
   -- ---- a new replayer
 
-  pub stands_fresh : (dealing : ℕ → ℕ → ℕ) (capacity count : ℕ) → 0 < count → (fs : List Feed) (ws : List (Worker (Seats M g a))) (d : Dealer D) → AreFresh SeatsHold capacity count fs ws → d.peers ≡ [] → d.kept ≡ None → d.refused.items ≡ [] → d.dealt ≡ 0
+  pub stands_fresh : (dealing : ℕ → ℕ → ℕ) (capacity count : ℕ) → 0 < count → (fs : List Feed) (ws : List (Worker (Seats M A g a))) (d : Dealer D) → AreFresh SeatsHold capacity count fs ws → d.peers ≡ [] → d.kept ≡ None → d.refused.items ≡ [] → d.dealt ≡ 0
       → ReplayerStandsFor dealing capacity [] [] (state_at d fs ws false)
   unfolding peers_of
   stands_fresh dealing capacity count some fs ws d h keys kept refused counted =
@@ -277,7 +276,7 @@ module _ {M D : Type 0} {g : Ghosts M SharedRoute ℕ} {a : AddressGhosts ℕ} w
 
 -- ---- what waits
 
-module _ {M : Type 0} {g : Ghosts M SharedRoute ℕ} {a : AddressGhosts ℕ} (capacity : ℕ) (fs : List Feed) (ws : List (Worker (Seats M g a))) (ready : AreReady capacity fs ws) where
+module _ {M A : Type 0} {g : Ghosts M SharedRoute A} {a : AddressGhosts A} (capacity : ℕ) (fs : List Feed) (ws : List (Worker (Seats M A g a))) (ready : AreReady capacity fs ws) where
   -- the dealer knows how many units wait
   pub waits_at : (lane : ℕ) (state : LaneState) → slice_get (lane_states fs ws) lane ≡ Some state → (d : Feed) (n : ℕ) → n + known_free (get_or fs lane d).producer ≡ ring_capacity (get_or fs lane d).producer → n ≡ length state.ring.sent
   waits_at lane state is d n count =
@@ -287,7 +286,7 @@ module _ {M : Type 0} {g : Ghosts M SharedRoute ℕ} {a : AddressGhosts ℕ} (ca
       let r = ready.1 lane at.feed at.worker at.within in
       (let a = r.1 in let b = r.5 in omega arith) ∙ ap length (sym (ap (λ s. s.ring.sent) at.state_is))
 
-  pub took_at : (lane : ℕ) (state : LaneState) → slice_get (lane_states fs ws) lane ≡ Some state → (e : Worker (Seats M g a)) → (get_or ws lane e).taken ≡ state.took
+  pub took_at : (lane : ℕ) (state : LaneState) → slice_get (lane_states fs ws) lane ≡ Some state → (e : Worker (Seats M A g a)) → (get_or ws lane e).taken ≡ state.took
   took_at lane state is e =
       let at = lane_at fs ws lane state is in
       let same : get_or ws lane e ≡ get_or ws lane at.worker = get_or_default ws lane e at.worker (let l = at.within in let c = ready.0 in omega arith) in

@@ -1,9 +1,7 @@
 -- The lanes are renewed one by one.
 use Rattle.std.proofs.Common.{◌≡◌, ◌≢◌, ℕ, ◌+◌, ◌<◌, List, [], ◌∷◌, ◌++◌, length, get_or, set, slice_index_or, refl, ap, ◌∙◌, arith, get_or-set_same, get_or-set_other, below_more}
 use Rattle.std.proofs.lemmas.List.{get_or_default, length-set, length_push, get_or_append_left, get_or_push}
-use Rattle.lane_deal.specs.declared.numbered.Numbered.{Numbered}
-use Rattle.lane_deal.specs.declared.feed.Feed.{Feed}
-use Rattle.lane_deal.specs.declared.worker.Worker.{Worker}
+use Rattle.lane_deal.specs.Plain.{Numbered, Feed, Worker}
 use Rattle.lane_deal.specs.LaneRings.{Renewed, RenewedBelow, IsFresh, AreFresh}
 
 module _ {S : Type 0} (capacity : ℕ) where

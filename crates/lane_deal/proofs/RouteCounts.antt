@@ -1,5 +1,5 @@
 -- The routes of all lanes.
-use Rattle.std.proofs.Common.{ℕ, ◌≡◌, List, [], ◌∷◌, ◌++◌, length, map, refl, ap, arith}
+use Rattle.std.proofs.Common.{◌≡◌, List, [], ◌∷◌, ◌++◌, length, map, refl, ap, arith}
 use Rattle.std.specs.List.{flat_map}
 use Rattle.bgp_prefix.specs.Keys.{RouteKey}
 use Rattle.bgp_prefix.specs.declared.family.Family.{Ghosts as AddressGhosts}
@@ -8,17 +8,16 @@ use Rattle.bgp_update.specs.declared.route.Route.{Route}
 use Rattle.adj_rib.specs.declared.shared_route.SharedRoute.{SharedRoute}
 use Rattle.peer_tables.specs.Seats.{seat_of}
 use Rattle.peer_tables.specs.Tables.{seat_routes}
-use Rattle.lane_deal.specs.declared.feed.Feed.{Feed}
+use Rattle.lane_deal.specs.Plain.{Feed, Worker}
 use Rattle.lane_deal.specs.declared.seats.Seats.{Seats}
-use Rattle.lane_deal.specs.declared.worker.Worker.{Worker}
 use Rattle.lane_deal.specs.Shown.{lane_states}
 
-module _ {M : Type 0} {g : Ghosts M SharedRoute ℕ} {a : AddressGhosts ℕ} where
+module _ {M A : Type 0} {g : Ghosts M SharedRoute A} {a : AddressGhosts A} where
   -- the routes of a worker's sessions
-  abbrev pub worker_routes : Worker (Seats M g a) → List (RouteKey × Route)
+  abbrev pub worker_routes : Worker (Seats M A g a) → List (RouteKey × Route)
   worker_routes worker = seat_routes (map seat_of worker.sessions.seats.items)
 
-  pub routes_of_lanes : (feeds : List Feed) (workers : List (Worker (Seats M g a))) → length workers ≡ length feeds → flat_map (λ lane. seat_routes lane.seats) (lane_states feeds workers) ≡ flat_map worker_routes workers
+  pub routes_of_lanes : (feeds : List Feed) (workers : List (Worker (Seats M A g a))) → length workers ≡ length feeds → flat_map (λ lane. seat_routes lane.seats) (lane_states feeds workers) ≡ flat_map worker_routes workers
   routes_of_lanes [] [] same = refl
   routes_of_lanes [] (w ∷ ws) same = absurd (omega arith)
   routes_of_lanes (f ∷ fs) [] same = absurd (omega arith)

@@ -1,14 +1,15 @@
 -- Lanes on one thread, event by event.
-use Rattle.std.proofs.Common.{◌≡◌, ◌≢◌, ℕ, ◌+◌, ◌<◌, ◌≤◌, true, false, eqb, if◌then◌else◌, List, [], ◌∷◌, ◌++◌, length, take, drop, get_or, set, Result, Ok, Err, OnOk, refl, sym, ap, ◌∙◌, subst, arith, length-set, get_or-set_same, get_or-set_other}
+use Rattle.std.proofs.Common.{◌≡◌, ◌≢◌, ℕ, ◌+◌, ◌-◌, ◌^◌, ◌<◌, ◌≤◌, min, true, false, eqb, if◌then◌else◌, List, [], ◌∷◌, ◌++◌, length, take, drop, get_or, set, Result, Ok, Err, OnOk, refl, sym, ap, ◌∙◌, subst, arith, length-append, length-set, get_or-set_same, get_or-set_other}
 use Rattle.std.proofs.lemmas.List.{append-nil, map-append, get_or_append_left, get_or_push, length_push, take_more}
 use Rattle.std.proofs.lemmas.Bool.{eqb-true, eq-eqb}
 use Rattle.std.specs.List.{list_any, fold}
 use Rattle.mrt_body.specs.declared.unit.PeerKey.{PeerKey}
 use Rattle.mrt_body.specs.Plain.{Unit as ReplayUnit}
 use Rattle.peer_tables.specs.Peers.{peer_eq, peers_of}
+use Rattle.bgp_prefix.specs.declared.family.Family.{Ghosts as AddressGhosts}
 use Rattle.bgp_prefix.specs.declared.map.PrefixMap.{Ghosts}
 use Rattle.adj_rib.specs.declared.shared_route.SharedRoute.{SharedRoute}
-use Rattle.lane_deal.specs.declared.numbered.Numbered.{Numbered}
+use Rattle.lane_deal.specs.Plain.{Numbered}
 use Rattle.lane_deal.specs.declared.schedule.OneLane.{OneLane}
 use Rattle.lane_deal.specs.Lanes.{number_of_peer, lane_of_unit}
 use Rattle.peer_tables.specs.Numbers.{NumbersPeer}
@@ -49,13 +50,13 @@ same_if : (f : ℕ → List ReplayUnit) (lane other : ℕ) → (if eqb lane othe
 same_if f lane other =
     elim (eqb lane other) as (λ b. eqb lane other ≡ b → (if b then f lane else f other) ≡ f other) [ true ↦ λ t. ap f (eqb-true lane other t) | false ↦ λ _. refl ] refl
 
-module _ {M : Type 0} {g : Ghosts M SharedRoute ℕ} where
+module _ {M A : Type 0} {g : Ghosts M SharedRoute A} {a : AddressGhosts A} where
   -- ---- empty lanes
 
-  pub record AreEmpty (lanes : List (OneLane M g)) : Type 0 where
-    pub each : (lane : ℕ) (d : OneLane M g) → lane < length lanes → (all : List ReplayUnit) → LaneShows all (get_or lanes lane d) [] []
+  pub record AreEmpty (lanes : List (OneLane M A g a)) : Type 0 where
+    pub each : (lane : ℕ) (d : OneLane M A g a) → lane < length lanes → (all : List ReplayUnit) → LaneShows all (get_or lanes lane d) [] []
 
-  pub empty_more : (lanes : List (OneLane M g)) (x : OneLane M g) → AreEmpty lanes → ((all : List ReplayUnit) → LaneShows all x [] []) → AreEmpty (lanes ++ x ∷ [])
+  pub empty_more : (lanes : List (OneLane M A g a)) (x : OneLane M A g a) → AreEmpty lanes → ((all : List ReplayUnit) → LaneShows all x [] []) → AreEmpty (lanes ++ x ∷ [])
   empty_more lanes x p q = record {
     each = λ lane d l all.
         elim (eqb lane (length lanes)) as (λ b. eqb lane (length lanes) ≡ b → LaneShows all (get_or (lanes ++ x ∷ []) lane d) [] []) [
@@ -67,13 +68,13 @@ module _ {M : Type 0} {g : Ghosts M SharedRoute ℕ} where
         ] refl;
   }
 
-  pub empty_show : (lanes : List (OneLane M g)) → AreEmpty lanes → (all units : List ReplayUnit) → LanesShow all (numbered (peers_of all) units) lanes (start units)
+  pub empty_show : (lanes : List (OneLane M A g a)) → AreEmpty lanes → (all units : List ReplayUnit) → LanesShow all (numbered (peers_of all) units) lanes (start units)
   empty_show lanes p all units = record { rest = refl; each = λ lane d l. p.each lane d l all; past = λ lane l. (refl, refl) }
 
   -- ---- a unit is dealt
 
-  pub shows_dealt : (lo : ℕ → ℕ) (all : List ReplayUnit) (q q' : List Numbered) (ls : List (OneLane M g)) (item : Numbered) (lane : ℕ) (x : OneLane M g) (s : LanesState) (us : List ReplayUnit) → s.undealt ≡ us → q ≡ item ∷ q' → lo item.number ≡ lane → lane < length ls
-      → ((d : OneLane M g) → x.ring.items ≡ (get_or ls lane d).ring.items ++ item ∷ []) → ((d : OneLane M g) → x.seats ≡ (get_or ls lane d).seats) → ((d : OneLane M g) → x.took ≡ (get_or ls lane d).took)
+  pub shows_dealt : (lo : ℕ → ℕ) (all : List ReplayUnit) (q q' : List Numbered) (ls : List (OneLane M A g a)) (item : Numbered) (lane : ℕ) (x : OneLane M A g a) (s : LanesState) (us : List ReplayUnit) → s.undealt ≡ us → q ≡ item ∷ q' → lo item.number ≡ lane → lane < length ls
+      → ((d : OneLane M A g a) → x.ring.items ≡ (get_or ls lane d).ring.items ++ item ∷ []) → ((d : OneLane M A g a) → x.seats ≡ (get_or ls lane d).seats) → ((d : OneLane M A g a) → x.took ≡ (get_or ls lane d).took)
       → LanesShow all q ls s → LanesShow all q' (set ls lane x) (dealt (lane_of_unit lo all) s us)
   shows_dealt lo all q q' ls item lane x s [] none e at l ring seats count p = absurd (let clash : item ∷ q' ≡ [] = sym e ∙ p.rest ∙ ap (numbered (peers_of all)) none in cc)
   shows_dealt lo all q q' ls item lane x s (u ∷ us) some e at l ring seats count p =
@@ -111,15 +112,29 @@ module _ {M : Type 0} {g : Ghosts M SharedRoute ℕ} where
             ] refl;
       }
 
-  pub shows_none : (lane_of : ReplayUnit → ℕ) (all : List ReplayUnit) (q : List Numbered) (ls : List (OneLane M g)) (s : LanesState) (us : List ReplayUnit) → s.undealt ≡ us → q ≡ [] → LanesShow all q ls s → LanesShow all q ls (dealt lane_of s us)
+  pub shows_none : (lane_of : ReplayUnit → ℕ) (all : List ReplayUnit) (q : List Numbered) (ls : List (OneLane M A g a)) (s : LanesState) (us : List ReplayUnit) → s.undealt ≡ us → q ≡ [] → LanesShow all q ls s → LanesShow all q ls (dealt lane_of s us)
   shows_none lane_of all q ls s [] some e p = p
   shows_none lane_of all q ls s (u ∷ us) some e p = absurd (let clash : [] ≡ numbered (peers_of all) (u ∷ us) = sym e ∙ p.rest ∙ ap (numbered (peers_of all)) some in cc)
 
   -- ---- a unit is taken
 
+  -- the first unit that waits in a lane's ring goes to its session
+  pub shows_one : (all : List ReplayUnit) (lane lane' : OneLane M A g a) (item : Numbered) (rest : List Numbered) (waiting taken : List ReplayUnit) → lane.ring.items ≡ item ∷ rest → lane'.ring.items ≡ rest → lane'.took ≡ min (lane.took + 1) (2 ^ 64 - 1)
+      → ((items : List Numbered) → SeatsHold lane.seats items → SeatsHold lane'.seats (items ++ item ∷ [])) → LaneShows all lane waiting taken → LaneShows all lane' (drop 1 waiting) (taken ++ take 1 waiting)
+  shows_one all lane lane' item rest [] taken at ring count seats p = absurd (let clash : item ∷ rest ≡ [] = sym at ∙ p.ring in cc)
+  shows_one all lane lane' item rest (u ∷ us) taken at ring count seats p =
+      let both : item ∷ rest ≡ with_number (peers_of all) u ∷ numbered (peers_of all) us = sym at ∙ p.ring in
+      let first : item ≡ with_number (peers_of all) u = cc in
+      let others : rest ≡ numbered (peers_of all) us = cc in
+      record {
+        ring = ring ∙ others;
+        seats = subst (SeatsHold lane'.seats) (ap (λ i. numbered (peers_of all) taken ++ i ∷ []) first ∙ sym (map-append (with_number (peers_of all)) taken (u ∷ []))) (seats (numbered (peers_of all) taken) p.seats);
+        took = (let m = p.took in let n = length-append taken (u ∷ []) in omega arith);
+      }
+
   -- a lane changed, and the others did not
-  changed_lane : (all : List ReplayUnit) (q : List Numbered) (ls : List (OneLane M g)) (lane : ℕ) (x : OneLane M g) (s : LanesState) (waiting taken : List ReplayUnit) → lane < length ls → LaneShows all x waiting taken → LanesShow all q ls s
-      → (other : ℕ) (d : OneLane M g) → other < length (set ls lane x) → LaneShows all (get_or (set ls lane x) other d) (if eqb lane other then waiting else s.ring other) (if eqb lane other then taken else s.taken other)
+  changed_lane : (all : List ReplayUnit) (q : List Numbered) (ls : List (OneLane M A g a)) (lane : ℕ) (x : OneLane M A g a) (s : LanesState) (waiting taken : List ReplayUnit) → lane < length ls → LaneShows all x waiting taken → LanesShow all q ls s
+      → (other : ℕ) (d : OneLane M A g a) → other < length (set ls lane x) → LaneShows all (get_or (set ls lane x) other d) (if eqb lane other then waiting else s.ring other) (if eqb lane other then taken else s.taken other)
   changed_lane all q ls lane x s waiting taken l h p other d m =
       elim (eqb lane other) as (λ b. eqb lane other ≡ b → LaneShows all (get_or (set ls lane x) other d) (if b then waiting else s.ring other) (if b then taken else s.taken other)) [
         | true ↦ λ t. subst (λ y. LaneShows all y waiting taken) (sym (ap (λ n. get_or (set ls lane x) n d) (sym (eqb-true lane other t)) ∙ get_or-set_same ls lane x d l)) h
@@ -129,7 +144,7 @@ module _ {M : Type 0} {g : Ghosts M SharedRoute ℕ} where
             subst (λ y. LaneShows all y (s.ring other) (s.taken other)) (sym (get_or-set_other ls lane other x d ne)) (p.each other d inside)
       ] refl
 
-  pub shows_took : (all : List ReplayUnit) (q : List Numbered) (ls : List (OneLane M g)) (lane : ℕ) (x : OneLane M g) (s : LanesState) (us : List ReplayUnit) → s.ring lane ≡ us → lane < length ls
+  pub shows_took : (all : List ReplayUnit) (q : List Numbered) (ls : List (OneLane M A g a)) (lane : ℕ) (x : OneLane M A g a) (s : LanesState) (us : List ReplayUnit) → s.ring lane ≡ us → lane < length ls
       → LaneShows all x (drop 1 us) (s.taken lane ++ take 1 us) → LanesShow all q ls s → LanesShow all q (set ls lane x) (took lane s us)
   shows_took all q ls lane x s [] none l h p = record {
     rest = p.rest;
@@ -151,11 +166,11 @@ module _ {M : Type 0} {g : Ghosts M SharedRoute ℕ} where
         ] refl;
   }
 
-  pub shows_past : (all : List ReplayUnit) (q : List Numbered) (ls : List (OneLane M g)) (lane : ℕ) (s : LanesState) (us : List ReplayUnit) → s.ring lane ≡ us → us ≡ [] → LanesShow all q ls s → LanesShow all q ls (took lane s us)
+  pub shows_past : (all : List ReplayUnit) (q : List Numbered) (ls : List (OneLane M A g a)) (lane : ℕ) (s : LanesState) (us : List ReplayUnit) → s.ring lane ≡ us → us ≡ [] → LanesShow all q ls s → LanesShow all q ls (took lane s us)
   shows_past all q ls lane s [] e none p = p
   shows_past all q ls lane s (u ∷ us) e none p = absurd (cc)
 
-  pub took_from : {T E : Type 0} (r : Result T E) (ls : List (OneLane M g)) (lane : ℕ) (e x : OneLane M g) → lane < length ls
+  pub took_from : {T E : Type 0} (r : Result T E) (ls : List (OneLane M A g a)) (lane : ℕ) (e x : OneLane M A g a) → lane < length ls
       → OnOk r ((all waiting taken : List ReplayUnit) → LaneShows all (get_or ls lane e) waiting taken → LaneShows all x (drop 1 waiting) (taken ++ take 1 waiting))
       → OnOk r ((all : List ReplayUnit) (q : List Numbered) (s : LanesState) → LanesShow all q ls s → LanesShow all q (set ls lane x) (took lane s (s.ring lane)))
   took_from (Ok o) ls lane e x l h = λ all q s p. shows_took all q ls lane x s (s.ring lane) refl l (h all (s.ring lane) (s.taken lane) (p.each lane e l)) p

@@ -16,7 +16,7 @@ use Rattle.peer_tables.specs.Peers.{peer_eq, peers_of, units_of_peer}
 use Rattle.peer_tables.specs.Seats.{seat_of}
 use Rattle.peer_tables.specs.Tables.{Seat}
 use Rattle.peer_tables.specs.declared.tables.Seated.{Seated}
-use Rattle.lane_deal.specs.declared.numbered.Numbered.{Numbered}
+use Rattle.lane_deal.specs.Plain.{Numbered}
 use Rattle.peer_tables.specs.Numbers.{AreApart, number_in}
 use Rattle.lane_deal.specs.Numbers.{units_in}
 use Rattle.lane_deal.specs.Seating.{seat_by, seats_by, AreNumbered, HoldsUnits, new_seat, SeatFor, TakenAt}

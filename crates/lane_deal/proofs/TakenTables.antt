@@ -19,9 +19,10 @@ use Rattle.adj_rib.specs.Sessions.{session_of}
 use Rattle.peer_tables.specs.Peers.{peer_eq, peers_of, units_of_peer}
 use Rattle.peer_tables.specs.Seats.{seat_of}
 use Rattle.peer_tables.specs.Tables.{Seat, TablesState, tables_of}
+use Rattle.bgp_prefix.specs.declared.family.Family.{Ghosts as AddressGhosts}
 use Rattle.bgp_prefix.specs.declared.map.PrefixMap.{Ghosts}
 use Rattle.adj_rib.specs.declared.shared_route.SharedRoute.{SharedRoute}
-use Rattle.lane_deal.specs.declared.numbered.Numbered.{Numbered}
+use Rattle.lane_deal.specs.Plain.{Numbered}
 use Rattle.lane_deal.specs.declared.schedule.OneLane.{OneLane}
 use Rattle.lane_deal.specs.Lanes.{number_of_peer, lane_of_unit, seats_of_lane}
 use Rattle.peer_tables.specs.Numbers.{number_in}
@@ -189,8 +190,8 @@ numbers_are : (keys : List PeerKey) (units : List ReplayUnit) → AllByRecursion
 numbers_are keys [] = tt
 numbers_are keys (u ∷ units) = (refl, numbers_are keys units)
 
-module _ {M : Type 0} {g : Ghosts M SharedRoute ℕ} where
-  lane_seats : (all waiting taken : List ReplayUnit) (x : OneLane M g) → LaneShows all x waiting taken → ((q : PeerKey) → is_seen taken q ≡ true → is_seen all q ≡ true) → map seat_of x.seats.seats.items ≡ seats_of_lane all taken
+module _ {M A : Type 0} {g : Ghosts M SharedRoute A} {a : AddressGhosts A} where
+  lane_seats : (all waiting taken : List ReplayUnit) (x : OneLane M A g a) → LaneShows all x waiting taken → ((q : PeerKey) → is_seen taken q ≡ true → is_seen all q ≡ true) → map seat_of x.seats.seats.items ≡ seats_of_lane all taken
   lane_seats all waiting taken x p seen =
       let keys = peers_of all in
       let same : units_in (numbered keys taken) ≡ taken = units_numbered keys taken in
@@ -199,7 +200,7 @@ module _ {M : Type 0} {g : Ghosts M SharedRoute ℕ} where
       sym (p.seats (number_of_peer all) (record { each = numbers_are keys taken; apart = λ a b seen_a seen_b e. some_is a b (sym (listed a seen_a) ∙ ap (slice_get keys) e ∙ listed b seen_b) }))
       ∙ ap (seats_by (number_of_peer all)) same
 
-  module _ (lane_of : ℕ → ℕ) (all : List ReplayUnit) (s : LanesState) (shared : IsShared lane_of all s) (undealt : List Numbered) (ls : List (OneLane M g)) (p : LanesShow all undealt ls s) where
+  module _ (lane_of : ℕ → ℕ) (all : List ReplayUnit) (s : LanesState) (shared : IsShared lane_of all s) (undealt : List Numbered) (ls : List (OneLane M A g a)) (p : LanesShow all undealt ls s) where
     abbrev count : ℕ
     count = length ls
 
@@ -232,18 +233,18 @@ module _ {M : Type 0} {g : Ghosts M SharedRoute ℕ} where
 
   -- ---- lanes that were given back
 
-  module _ (ls ls' : List (OneLane M g)) (same : map one_lane_state ls' ≡ map one_lane_state ls) where
+  module _ (ls ls' : List (OneLane M A g a)) (same : map one_lane_state ls' ≡ map one_lane_state ls) where
     count_same : length ls' ≡ length ls
     count_same = sym (length-map ls' one_lane_state) ∙ ap length same ∙ length-map ls one_lane_state
 
-    lane_same : (lane : ℕ) (d : OneLane M g) → one_lane_state (get_or ls' lane d) ≡ one_lane_state (get_or ls lane d)
+    lane_same : (lane : ℕ) (d : OneLane M A g a) → one_lane_state (get_or ls' lane d) ≡ one_lane_state (get_or ls lane d)
     lane_same lane d = sym (get_or-map one_lane_state ls' lane d) ∙ ap (λ l. get_or l lane (one_lane_state d)) same ∙ get_or-map one_lane_state ls lane d
 
     pub apart_still : IsDistinct nat_eq (map (λ x. x.number) (seats_of_lanes ls)) → IsDistinct nat_eq (map (λ x. x.number) (seats_of_lanes ls'))
     apart_still h =
         let is : seats_of_lanes ls' ≡ seats_of_lanes ls =
-        sym (flat_map-map (λ (x : OneLaneState M). map seat_of x.seats) one_lane_state ls') ∙ ap (flat_map (λ x. map seat_of x.seats)) same
-        ∙ flat_map-map (λ (x : OneLaneState M). map seat_of x.seats) one_lane_state ls in
+        sym (flat_map-map (λ (x : OneLaneState M A). map seat_of x.seats) one_lane_state ls') ∙ ap (flat_map (λ x. map seat_of x.seats)) same
+        ∙ flat_map-map (λ (x : OneLaneState M A). map seat_of x.seats) one_lane_state ls in
         subst (λ l. IsDistinct nat_eq (map (λ (x : Seat). x.number) l)) (sym is) h
 
     pub shown_still : (all : List ReplayUnit) (undealt : List Numbered) (s : LanesState) → LanesShow all undealt ls s → LanesShow all undealt ls' s

@@ -3,12 +3,10 @@ use Rattle.std.proofs.Common.{◌≡◌, ◌+◌, ◌-◌, ◌^◌, ◌<◌, min
 use Rattle.std.proofs.lemmas.List.{append-nil, nil_from_length}
 use Rattle.rtrb.specs.Ring.{SameConsumer}
 use Rattle.rtrb.specs.Ring.{received as received_lists}
-use Rattle.lane_deal.specs.declared.unit_list.UnitList.{UnitList}
+use Rattle.lane_deal.specs.Plain.{UnitList, Numbered, Worker}
 use Rattle.lane_deal.specs.UnitLists.{IsUnitList, units_of, units_of_lists}
 use Rattle.lane_deal.specs.UnitRings.{received, known_items, known_lists}
 use Rattle.lane_deal.proofs.UnitLists.{units_pushed}
-use Rattle.lane_deal.specs.declared.numbered.Numbered.{Numbered}
-use Rattle.lane_deal.specs.declared.worker.Worker.{Worker}
 use Rattle.lane_deal.specs.LaneWorkers.{Took, TookFront, TookSome, Takes, Worked}
 
 module _ {S : Type 0} (stands_for : S → List Numbered → Type 0) where

@@ -9,7 +9,7 @@ use Rattle.bgp_prefix.specs.declared.map.PrefixMap.{Ghosts}
 use Rattle.adj_rib.specs.declared.shared_route.SharedRoute.{SharedRoute}
 use Rattle.lane_deal.specs.UnitRings.{ListConsumer}
 use Rattle.lane_deal.specs.declared.seats.Seats.{Seats}
-use Rattle.lane_deal.specs.declared.worker.Worker.{Worker}
+use Rattle.lane_deal.specs.Plain.{Worker}
 
 -- ---- lanes of any kind, by what they show and the sessions that they hold
 
@@ -36,16 +36,16 @@ module _ {L S X : Type 0} (state : L → S) (held : S → List X) (with_held : S
 -- ---- workers
 
 -- a worker, but for where it looks for its sessions
-pub record WorkerState (M : Type 0) : Type 0 where
+pub record WorkerState (M A : Type 0) : Type 0 where
   pub lane : ℕ
   pub consumer : ListConsumer
-  pub seats : List (Seated M ℕ)
+  pub seats : List (Seated M A)
   pub taken : ℕ
 
-module _ {M : Type 0} {g : Ghosts M SharedRoute ℕ} {a : AddressGhosts ℕ} where
-  abbrev pub worker_state : Worker (Seats M g a) → WorkerState M
+module _ {M A : Type 0} {g : Ghosts M SharedRoute A} {a : AddressGhosts A} where
+  abbrev pub worker_state : Worker (Seats M A g a) → WorkerState M A
   worker_state w = record { lane = w.lane; consumer = w.consumer; seats = w.sessions.seats.items; taken = w.taken }
 
   -- the sessions of all workers
-  abbrev pub seats_of_workers : List (Worker (Seats M g a)) → List Seat
+  abbrev pub seats_of_workers : List (Worker (Seats M A g a)) → List Seat
   seats_of_workers workers = seats_held (λ w. w.sessions.seats.items) workers

@@ -1,8 +1,7 @@
 -- What the dealer does in a round.
 use Rattle.std.specs.Prelude.{◌≡◌, ℕ, ◌+◌, ◌<◌, ◌≤◌, List, ◌++◌, length, filter, ◌==◌, slice_index_or}
 use Rattle.lane_deal.specs.UnitRings.{sent, known_free, SameProducer}
-use Rattle.lane_deal.specs.declared.numbered.Numbered.{Numbered}
-use Rattle.lane_deal.specs.declared.feed.Feed.{Feed}
+use Rattle.lane_deal.specs.Plain.{Numbered, Feed}
 
 -- the items whose peer has this lane, in order
 abbrev pub in_lane : (ℕ → ℕ) → ℕ → List Numbered → List Numbered

@@ -1,8 +1,6 @@
 -- A lane between two rounds, and its ring made anew.
 use Rattle.std.specs.Prelude.{◌≡◌, ℕ, ◌+◌, ◌-◌, ◌^◌, ◌<◌, ◌≤◌, min, List, [], ◌++◌, length, slice_index_or}
-use Rattle.lane_deal.specs.declared.numbered.Numbered.{Numbered}
-use Rattle.lane_deal.specs.declared.feed.Feed.{Feed}
-use Rattle.lane_deal.specs.declared.worker.Worker.{Worker}
+use Rattle.lane_deal.specs.Plain.{Numbered, Feed, Worker}
 use Rattle.lane_deal.specs.Feeds.{in_lane}
 use Rattle.lane_deal.specs.UnitRings.{sent, known_free, received, known_items, ring_capacity, IsPair}
 

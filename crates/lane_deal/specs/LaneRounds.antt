@@ -5,11 +5,9 @@ use Rattle.lane_deal.specs.UnitRings.{sent}
 use Rattle.mrt_frame.specs.declared.error.ReplayError.{ReplayError}
 use Rattle.mrt_body.specs.Units.{unit_of}
 use Rattle.mrt_body.specs.ToCome.{UnitsState}
-use Rattle.lane_deal.specs.declared.dealer.Dealer.{Dealer}
-use Rattle.lane_deal.specs.declared.feed.Feed.{Feed}
-use Rattle.lane_deal.specs.declared.numbered.Numbered.{Numbered}
+use Rattle.lane_deal.specs.Dealers.{Dealer}
+use Rattle.lane_deal.specs.Plain.{Feed, Numbered, Worker}
 use Rattle.lane_deal.specs.declared.step.Step.{Step}
-use Rattle.lane_deal.specs.declared.worker.Worker.{Worker}
 use Rattle.lane_deal.specs.DealerSteps.{Deals}
 use Rattle.lane_deal.specs.Feeds.{in_lane}
 use Rattle.lane_deal.specs.LaneRings.{AreReady, LanesStand}

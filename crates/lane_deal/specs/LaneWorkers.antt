@@ -5,8 +5,7 @@ use mathlib.Core.List.{IsPrefix}
 use Rattle.rtrb.specs.Ring.{SameConsumer}
 use Rattle.adj_rib.specs.RouteSets.{IsAheadOf}
 use Rattle.adj_rib.specs.Plain.{ReadAhead}
-use Rattle.lane_deal.specs.declared.numbered.Numbered.{Numbered}
-use Rattle.lane_deal.specs.declared.worker.Worker.{Worker}
+use Rattle.lane_deal.specs.Plain.{Numbered, Worker}
 use Rattle.lane_deal.specs.UnitRings.{received, known_items}
 
 -- each of these was read ahead of the unit at its index

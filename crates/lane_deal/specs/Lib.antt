@@ -8,12 +8,14 @@ pub mod Numbers
 pub mod ListedPeers
 pub mod ListedUnits
 pub mod UnitLists
+pub mod Plain
 pub mod UnitRings
 pub mod Feeds
 pub mod LaneRings
 pub mod LaneWorkers
 pub mod Asking
 pub mod Kept
+pub mod Dealers
 pub mod DealerSteps
 pub mod Seating
 pub mod LaneRounds

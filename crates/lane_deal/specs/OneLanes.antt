@@ -2,22 +2,23 @@
 use Rattle.std.specs.Prelude.{ℕ, List}
 use Rattle.peer_tables.specs.declared.tables.Seated.{Seated}
 use Rattle.peer_tables.specs.Tables.{Seat}
+use Rattle.bgp_prefix.specs.declared.family.Family.{Ghosts as AddressGhosts}
 use Rattle.bgp_prefix.specs.declared.map.PrefixMap.{Ghosts}
 use Rattle.adj_rib.specs.declared.shared_route.SharedRoute.{SharedRoute}
-use Rattle.lane_deal.specs.declared.numbered.Numbered.{Numbered}
+use Rattle.lane_deal.specs.Plain.{Numbered}
 use Rattle.lane_deal.specs.declared.schedule.OneLane.{OneLane}
 use Rattle.lane_deal.specs.Collecting.{seats_held}
 
 -- a lane, but for where it looks for its sessions
-pub record OneLaneState (M : Type 0) : Type 0 where
+pub record OneLaneState (M A : Type 0) : Type 0 where
   pub ring : List Numbered
-  pub seats : List (Seated M ℕ)
+  pub seats : List (Seated M A)
   pub took : ℕ
 
-module _ {M : Type 0} {g : Ghosts M SharedRoute ℕ} where
-  abbrev pub one_lane_state : OneLane M g → OneLaneState M
+module _ {M A : Type 0} {g : Ghosts M SharedRoute A} {a : AddressGhosts A} where
+  abbrev pub one_lane_state : OneLane M A g a → OneLaneState M A
   one_lane_state lane = record { ring = lane.ring.items; seats = lane.seats.seats.items; took = lane.took }
 
   -- the sessions of all lanes
-  abbrev pub seats_of_lanes : List (OneLane M g) → List Seat
+  abbrev pub seats_of_lanes : List (OneLane M A g a) → List Seat
   seats_of_lanes lanes = seats_held (λ lane. lane.seats.seats.items) lanes

@@ -15,7 +15,7 @@ use Rattle.lane_deal.specs.Replayers.{ReplayerState}
 use Rattle.lane_deal.specs.Rounds.{PlaysRound, Stops}
 use Rattle.lane_deal.specs.Shown.{state_at}
 
-abbrev pub shown : {M D : Type 0} {g a h : _} → Replayer M D g a h → ReplayerState
+abbrev pub shown : {M D A : Type 0} {g a h u : _} → Replayer M D A g a h u → ReplayerState
 shown r = state_at r.dealer r.feeds.items r.workers.items (is_spent r.state)
 
 -- where the bytes of the current and the later files are known, this is to come of them behind what was given

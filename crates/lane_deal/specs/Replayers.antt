@@ -8,7 +8,7 @@ use Rattle.mrt_body.specs.declared.unit.PeerKey.{PeerKey}
 use Rattle.mrt_body.specs.Plain.{Unit as ReplayUnit}
 use Rattle.peer_tables.specs.Peers.{peers_of}
 use Rattle.peer_tables.specs.Tables.{Seat, seat_routes}
-use Rattle.lane_deal.specs.declared.numbered.Numbered.{Numbered}
+use Rattle.lane_deal.specs.Plain.{Numbered}
 use Rattle.lane_deal.specs.Lanes.{lane_units, seats_of_lane}
 use Rattle.lane_deal.specs.Numbers.{numbered}
 

@@ -6,7 +6,7 @@ use Rattle.mrt_body.specs.Plain.{Unit as ReplayUnit}
 use Rattle.adj_rib.specs.Sessions.{session_of}
 use Rattle.peer_tables.specs.Peers.{peer_eq, peers_of, units_of_peer}
 use Rattle.peer_tables.specs.Tables.{Seat}
-use Rattle.lane_deal.specs.declared.numbered.Numbered.{Numbered}
+use Rattle.lane_deal.specs.Plain.{Numbered}
 use Rattle.lane_deal.specs.Numbers.{units_in}
 
 abbrev pub seat_by : (PeerKey → ℕ) → List ReplayUnit → PeerKey → Seat

@@ -1,32 +1,46 @@
 -- Lists of units, and how many units wait in a ring of lists.
-use Rattle.std.specs.Prelude.{◌≡◌, ℕ, ◌-◌, ◌<◌, List, length, map, drop}
+use Rattle.std.specs.Prelude.{◌≡◌, ℕ, ◌-◌, ◌<◌, ◌≤◌, List, [], length, map, drop}
 use Rattle.std.specs.List.{AllByRecursion, flat_map, sum_by}
-use Rattle.mrt_body.specs.Units.{IsSmallUnit}
+use Rattle.mrt_body.specs.declared.unit.Payload.{Payload}
+use Rattle.mrt_body.specs.declared.unit.Payload.TheVariants.{State, Message, Entry, Clear}
+use Rattle.mrt_body.specs.declared.unit.Unit.{Unit as ReplayUnit}
 use Rattle.lane_deal.specs.declared.numbered.Numbered.{Numbered}
 use Rattle.lane_deal.specs.declared.unit_list.UnitList.{UnitList}
 use Rattle.lane_deal.specs.ListedUnits.{unit_in}
 
-abbrev pub units_of : UnitList → List Numbered
-units_of list = map (unit_in list.records.items list.peers.items list.bytes.items) list.listed.items
+module _ {P K : Type 0} where
+  abbrev pub units_of : UnitList P K → List (Numbered P K)
+  units_of list = map (unit_in list.records.items list.peers.items list.bytes.items) list.listed.items
 
--- the units of these lists, one list after the other
-abbrev pub units_of_lists : List UnitList → List Numbered
-units_of_lists lists = flat_map (λ list. units_of list) lists
+  -- the units of these lists, one list after the other
+  abbrev pub units_of_lists : List (UnitList P K) → List (Numbered P K)
+  units_of_lists lists = flat_map (λ list. units_of list) lists
 
-abbrev pub AreSmall : List Numbered → Type 0
-AreSmall items = AllByRecursion (λ item. IsSmallUnit item.unit) items
+  -- the bytes of a message, or of the attributes of an entry
+  abbrev pub bytes_of : Payload P K → List ℕ
+  bytes_of (State from to rule) = []
+  bytes_of (Message bytes width add_path family) = bytes
+  bytes_of (Entry key attrs family) = attrs
+  bytes_of Clear = []
 
--- a list that may pass through a ring
-abbrev pub IsUnitList : UnitList → Type 0
-IsUnitList list = (0 < length (units_of list)) × AreSmall (units_of list)
+  -- its bytes number at most 16,777,216
+  abbrev pub IsSmallUnit : ReplayUnit P K → Type 0
+  IsSmallUnit unit = length (bytes_of unit.payload) ≤ 16777216
 
-abbrev pub list_length : UnitList → ℕ
-list_length list = length (units_of list)
+  abbrev pub AreSmall : List (Numbered P K) → Type 0
+  AreSmall items = AllByRecursion (λ item. IsSmallUnit item.unit) items
 
--- these are the lengths of the last of these lists
-abbrev pub AreLastLengths : List ℕ → List UnitList → Type 0
-AreLastLengths lengths lists =
-    map (λ list. list_length list) (drop (length lists - length lengths) lists) ≡ lengths
+  -- a list that may pass through a ring
+  abbrev pub IsUnitList : UnitList P K → Type 0
+  IsUnitList list = (0 < length (units_of list)) × AreSmall (units_of list)
+
+  abbrev pub list_length : UnitList P K → ℕ
+  list_length list = length (units_of list)
+
+  -- these are the lengths of the last of these lists
+  abbrev pub AreLastLengths : List ℕ → List (UnitList P K) → Type 0
+  AreLastLengths lengths lists =
+      map (λ list. list_length list) (drop (length lists - length lengths) lists) ≡ lengths
 
 abbrev pub total : List ℕ → ℕ
 total lengths = sum_by (λ n. n) lengths

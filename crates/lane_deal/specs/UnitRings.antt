@@ -4,10 +4,8 @@ use Rattle.std.specs.declared.alloc.Global.{Global}
 use Rattle.rtrb.specs.Ends.{SameRing}
 use Rattle.rtrb.specs.Ring.{sent as sent_lists, received as received_lists, known_items as lists_known}
 use Rattle.rtrb.specs.declared.consumer.Consumer.{Consumer}
-use Rattle.lane_deal.specs.declared.numbered.Numbered.{Numbered}
+use Rattle.lane_deal.specs.Plain.{Numbered, UnitList, UnitProducer}
 use Rattle.lane_deal.specs.declared.numbered.Small.{Small}
-use Rattle.lane_deal.specs.declared.unit_list.UnitList.{UnitList}
-use Rattle.lane_deal.specs.declared.unit_producer.UnitProducer.{UnitProducer}
 use Rattle.lane_deal.specs.UnitLists.{units_of, units_of_lists}
 
 abbrev pub ListConsumer : Type 0

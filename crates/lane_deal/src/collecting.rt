@@ -8,19 +8,21 @@ ghost use Rattle.lane_deal.specs.Collecting.{ExchangedBelow, seats_held};
 
 use crate::holding::{HoldsSeats, exchange_seats};
 use crate::seats::Seats;
-use crate::worker::Worker;
+use crate::worker::WorkerOf;
 use adj_rib::SharedRoute;
 use bgp_prefix::{Memory, PrefixMap, Sequence};
+use bgp_update::Unicast;
 use mrt_body::Damage;
 use peer_tables::{Gathered, Seated, Tables, collect};
 use std::alloc::Global;
 
 /// The worker of a lane.
-impl<M: PrefixMap<SharedRoute, Addr = u32> + Drop> HoldsSeats<M> for Worker<Seats<M>> {
+impl<F: Unicast, M: PrefixMap<SharedRoute, Addr = F> + Drop> HoldsSeats<M>
+    for WorkerOf<Seats<M>, F> {
     ghost use Rattle.std.specs.Prelude.{refl};
     ghost use Rattle.lane_deal.specs.Collecting.{WorkerState, worker_state};
 
-    ghost State = { WorkerState M };
+    ghost State = { WorkerState M F };
 
     ghost state = { worker_state };
 
@@ -36,7 +38,7 @@ impl<M: PrefixMap<SharedRoute, Addr = u32> + Drop> HoldsSeats<M> for Worker<Seat
 }
 
 /// So many empty lists.
-fn empty_lists<M: PrefixMap<SharedRoute, Addr = u32> + Drop>(
+fn empty_lists<F: Unicast, M: PrefixMap<SharedRoute, Addr = F> + Drop>(
     alloc: Global,
     count: usize,
 ) -> Result<Vec<Sequence<Seated<M>>>, Memory>
@@ -50,7 +52,7 @@ fn empty_lists<M: PrefixMap<SharedRoute, Addr = u32> + Drop>(
 }
 
 /// Exchanges the sessions of each lane for those of its list.
-fn exchange_all<M: PrefixMap<SharedRoute, Addr = u32> + Drop, L: HoldsSeats<M>>(
+fn exchange_all<F: Unicast, M: PrefixMap<SharedRoute, Addr = F> + Drop, L: HoldsSeats<M>>(
     alloc: Global,
     lanes: &mut [L],
     lists: &mut [Sequence<Seated<M>>],
@@ -64,7 +66,11 @@ fn exchange_all<M: PrefixMap<SharedRoute, Addr = u32> + Drop, L: HoldsSeats<M>>(
 }
 
 /// The tables of all sessions and the refusals, or both as they were.
-pub fn collect_lanes<M: PrefixMap<SharedRoute, Addr = u32> + Drop, L: HoldsSeats<M> + Drop>(
+pub fn collect_lanes<
+    F: Unicast,
+    M: PrefixMap<SharedRoute, Addr = F> + Drop,
+    L: HoldsSeats<M> + Drop,
+>(
     alloc: Global,
     mut lanes: Vec<L>,
     refused: Vec<Damage>,

@@ -5,18 +5,20 @@ ghost use Rattle.std.specs.Option.{ForSome};
 ghost use Rattle.lane_deal.specs.UnitRings.{known_free};
 ghost use Rattle.std.specs.Prelude.{slice_index_or};
 ghost use Rattle.mrt_body.specs.Lent.{lent_unit};
-ghost use Rattle.mrt_body.specs.Units.{IsSmallUnit};
+ghost use Rattle.lane_deal.specs.UnitLists.{IsSmallUnit};
 ghost use Rattle.mrt_body.specs.declared.standing.Standing.TheVariants as standings;
 ghost use Rattle.mrt_frame.specs.declared.error.ReplayError.TheVariants.{Read};
 ghost use Rattle.lane_deal.specs.Asking.{Asked, AskedInVain, StopsReading, TakesUnits};
 ghost use Rattle.lane_deal.specs.Feeds.{Dealt};
 
 use crate::dealing::Dealing;
-use crate::feed::Feed;
+use crate::feed::FeedOf;
 use crate::gate::Gate;
+use crate::halves::Deals;
 use crate::step::Step;
-use bgp_prefix::Memory;
-use mrt_body::{Damage, LentUnit, PeerKey, Unit, Units};
+use bgp_prefix::{Memory, Prefix};
+use bgp_update::{FamilyMark, Unicast};
+use mrt_body::{Damage, LentUnitOf, PeerKey, Unit, Units};
 use mrt_frame::{ReplayError, Source};
 use peer_tables::Peers;
 use std::alloc::Global;
@@ -24,22 +26,25 @@ use std::sync::atomic::AtomicBool;
 
 /// Deals what the files yield.
 #[derive(Drop)]
-pub struct Dealer<D> {
+pub struct Dealer<D, P = Prefix, K = FamilyMark> {
     pub dealing: D,
     pub peers: Peers,
     /// The unit whose lane's ring was full. It is the next to be dealt.
-    pub kept: Option<Unit>,
+    pub kept: Option<Unit<P, K>>,
     pub refused: Vec<Damage>,
     /// The number of units dealt. Saturates at `u64::MAX`.
     pub dealt: u64,
     ghost small: { ForSome kept IsSmallUnit },
 }
 
+/// Deals what the files yield to lanes of a family.
+pub type DealerOf<D, F> = Dealer<D, Prefix<F>, FamilyMark<F>>;
+
 /// Whether the lane's ring has room for another unit, at once or at one of this many further looks.
 #[inline(always)]
-fn has_room<G: Gate>(
+fn has_room<F: Unicast, G: Gate>(
     gate: &G,
-    feeds: &mut [Feed],
+    feeds: &mut [FeedOf<F>],
     lane: usize,
     looks: u32,
     over: &AtomicBool,
@@ -54,13 +59,13 @@ fn has_room<G: Gate>(
 
 /// Deals a copy of this unit of the peer with this number to its lane's ring, which has room for it.
 #[inline(always)]
-fn deal_one<G: Gate>(
+fn deal_one<F: Unicast, G: Gate>(
     alloc: Global,
     gate: &G,
     lane: usize,
     number: usize,
-    unit: &LentUnit<'_>,
-    feeds: &mut [Feed],
+    unit: &LentUnitOf<'_, F>,
+    feeds: &mut [FeedOf<F>],
 ) -> Result<(), Memory>
     requires lane { lane < length feeds.old }
     requires small { IsSmallUnit (lent_unit unit.now) }
@@ -73,9 +78,9 @@ fn deal_one<G: Gate>(
 }
 
 /// Lists what the files refuse, until a unit of theirs is to be dealt or they end.
-fn list_refusals<R: Source>(
+fn list_refusals<F: Unicast, R: Source>(
     alloc: Global,
-    units: &mut Units,
+    units: &mut Units<F>,
     files: &mut [R],
     refused: &mut Vec<Damage>,
 ) -> Result<(), ReplayError>
@@ -99,12 +104,12 @@ fn list_refusals<R: Source>(
     Ok(())
 }
 
-impl<D: Dealing> Dealer<D> {
+impl<F: Unicast, D: Dealing> Dealer<D, Prefix<F>, FamilyMark<F>> {
     ghost use Rattle.lane_deal.specs.DealerSteps.{Deals};
     ghost use Rattle.lane_deal.specs.Answers.{IfAnswered};
     ghost use Rattle.peer_tables.specs.Numbers.{NumbersPeer};
 
-    pub fn new(alloc: Global, dealing: D) -> Result<Dealer<D>, Memory>
+    pub fn new(alloc: Global, dealing: D) -> Result<DealerOf<D, F>, Memory>
     where
         D: Drop,
         ensures { IfOk result (λ dealer. (dealer.dealing ≡ dealing) × (dealer.peers ≡ []) ×
@@ -129,7 +134,7 @@ impl<D: Dealing> Dealer<D> {
     fn ask<R: Source>(
         &mut self,
         alloc: Global,
-        units: &mut Units,
+        units: &mut Units<F>,
         files: &mut [R],
     ) -> Result<(), ReplayError>
         requires { length files.old ≡ units.old.count }
@@ -160,7 +165,8 @@ impl<D: Dealing> Dealer<D> {
 
     /// Lends the next unit of the record that was cut last, unless a unit is kept, which comes before it.
     #[inline(always)]
-    fn lent<'a>(&self, units: &'a Units) -> Option<LentUnit<'a>>
+    #[tactic(auto, using(crate::proofs::UnitLists::small_lent))]
+    fn lent<'a>(&self, units: &'a Units<F>) -> Option<LentUnitOf<'a, F>>
         ensures kept { IfSome result (λ _. self.now.kept ≡ None) }
         ensures lends { IfSome result (λ unit. units.now.pending ≡ lent_unit unit ∷ drop 1 units.now.pending) }
         ensures none { result ≡ None → self.now.kept ≡ None → units.now.standing ≡ standings.Going →
@@ -200,9 +206,9 @@ impl<D: Dealing> Dealer<D> {
         batch: u64,
         looks: u32,
         over: &AtomicBool,
-        units: &mut Units,
+        units: &mut Units<F>,
         files: &mut [R],
-        feeds: &mut [Feed],
+        feeds: &mut [FeedOf<F>],
     ) -> Result<Step, ReplayError>
         requires lanes { 0 < length feeds.old }
         requires files { length files.old ≡ units.old.count }
@@ -245,5 +251,29 @@ impl<D: Dealing> Dealer<D> {
             self.dealt = self.dealt.saturating_add(1);
         }
         Ok(Step::FullBatch)
+    }
+}
+
+impl<F: Unicast, D: Dealing> Deals for Dealer<D, Prefix<F>, FamilyMark<F>> {
+    type Addr = F;
+
+    ghost Way = { D };
+
+    ghost dealer = { λ d. d };
+
+    ghost lane_of = { D.lane_of };
+
+    fn deal_on<R: Source, G: Gate>(
+        &mut self,
+        alloc: Global,
+        gate: &G,
+        batch: u64,
+        looks: u32,
+        over: &AtomicBool,
+        units: &mut Units<F>,
+        files: &mut [R],
+        feeds: &mut [FeedOf<F>],
+    ) -> Result<Step, ReplayError> {
+        self.deal(alloc, gate, batch, looks, over, units, files, feeds)
     }
 }

@@ -1,12 +1,13 @@
 ghost use Rattle.std.specs.Prelude.{◌≡◌, ◌+◌, ◌-◌, ◌^◌, ◌<◌, min, true, false, [], ◌∷◌, OnOk};
 ghost use Rattle.mrt_body.specs.Lent.{lent_unit};
-ghost use Rattle.mrt_body.specs.Units.{IsSmallUnit};
+ghost use Rattle.lane_deal.specs.UnitLists.{IsSmallUnit};
 
 use crate::gate::Gate;
 use crate::unit_list::UnitList;
 use crate::unit_producer::UnitProducer;
-use bgp_prefix::Memory;
-use mrt_body::LentUnit;
+use bgp_prefix::{Memory, Prefix};
+use bgp_update::{FamilyMark, Unicast};
+use mrt_body::LentUnitOf;
 use rtrb::Consumer;
 use std::alloc::Global;
 use std::sync::atomic::{AtomicBool, Ordering};
@@ -20,15 +21,18 @@ const MOST_ROOM: usize = 64;
 
 /// The dealing half of a lane.
 #[derive(Drop)]
-pub struct Feed {
-    pub producer: UnitProducer,
+pub struct Feed<P = Prefix, K = FamilyMark> {
+    pub producer: UnitProducer<P, K>,
     /// The number of units dealt to the lane, in all rounds. Saturates at `u64::MAX`.
     pub dealt: u64,
     /// The lists that the worker emptied, whose memory is used again.
-    pub emptied: Consumer<UnitList, Global>,
+    pub emptied: Consumer<UnitList<P, K>, Global>,
 }
 
-impl Feed {
+/// The dealing half of a lane of a family.
+pub type FeedOf<F> = Feed<Prefix<F>, FamilyMark<F>>;
+
+impl<F: Unicast> Feed<Prefix<F>, FamilyMark<F>> {
     ghost use Rattle.lane_deal.specs.Feeds.{Pushed};
     ghost use Rattle.lane_deal.specs.UnitRings.{known_free};
 
@@ -77,7 +81,7 @@ impl Feed {
         gate: &G,
         lane: usize,
         number: usize,
-        unit: &LentUnit<'_>,
+        unit: &LentUnitOf<'_, F>,
     ) -> Result<(), Memory>
         requires small { IsSmallUnit (lent_unit unit.now) }
         requires room { 0 < known_free self.old.producer }

@@ -1,11 +1,10 @@
 //! Gates, which are notified of a replay's progress.
 
 use mrt_body::Damage;
-use std::marker::Sync;
 use std::thread::yield_now;
 
 /// Is notified when units are dealt and taken, and returns. Numbers count from 0 in each lane.
-pub trait Gate: Sync {
+pub trait Gate {
     /// Called by a worker just before it takes the unit with this number of its lane.
     fn before(&self, worker: usize, number: u64);
 

@@ -5,13 +5,14 @@ ghost use Rattle.std.specs.Prelude.{◌≡◌};
 use crate::seats::Seats;
 use adj_rib::SharedRoute;
 use bgp_prefix::{PrefixMap, Sequence};
+use bgp_update::Unicast;
 use peer_tables::Seated;
 use std::alloc::Global;
 use std::mem;
 
 /// What holds a lane's sessions, which can be swapped in and out.
-pub trait HoldsSeats<M: PrefixMap<SharedRoute, Addr = u32>> {
-    ghost use Rattle.std.specs.Prelude.{List, ℕ};
+pub trait HoldsSeats<M: PrefixMap<SharedRoute>> {
+    ghost use Rattle.std.specs.Prelude.{List};
     ghost use Rattle.peer_tables.specs.declared.tables.Seated.{Seated};
 
     /// All that it shows.
@@ -20,10 +21,10 @@ pub trait HoldsSeats<M: PrefixMap<SharedRoute, Addr = u32>> {
     ghost state: { Self → State };
 
     /// Its sessions.
-    ghost held: { State → List (Seated M ℕ) };
+    ghost held: { State → List (Seated M M.Addr) };
 
     /// The same with these sessions.
-    ghost with_held: { State → List (Seated M ℕ) → State };
+    ghost with_held: { State → List (Seated M M.Addr) → State };
 
     /// Swaps its sessions for those of the list.
     fn exchange(&mut self, alloc: Global, list: &mut Sequence<Seated<M>>)
@@ -31,11 +32,11 @@ pub trait HoldsSeats<M: PrefixMap<SharedRoute, Addr = u32>> {
         ensures got { state self.new ≡ with_held (state self.old) list.old };
 
     /// With its own sessions again it shows what it did.
-    ghost is_back: { (s : State) (list : List (Seated M ℕ)) → with_held (with_held s list) (held s) ≡ s };
+    ghost is_back: { (s : State) (list : List (Seated M M.Addr)) → with_held (with_held s list) (held s) ≡ s };
 }
 
 /// Swaps the sessions for those of the list.
-pub fn exchange_seats<M: PrefixMap<SharedRoute, Addr = u32> + Drop>(
+pub fn exchange_seats<F: Unicast, M: PrefixMap<SharedRoute, Addr = F> + Drop>(
     alloc: Global,
     seats: &mut Seats<M>,
     list: &mut Sequence<Seated<M>>,

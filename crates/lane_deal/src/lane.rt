@@ -2,20 +2,21 @@ ghost use Rattle.std.specs.Prelude.{◌≡◌, ◌≤◌, OnOk, IfOk, length, []
 ghost use Rattle.lane_deal.specs.UnitRings.{IsPair, ring_capacity};
 ghost use Rattle.lane_deal.specs.LaneRings.{Renewed, RenewedAll, IsLane, AreFresh};
 
-use crate::feed::Feed;
+use crate::feed::{Feed, FeedOf};
 use crate::sessions::Sessions;
 use crate::unit_producer::{UnitProducer, emptied_room};
-use crate::worker::Worker;
+use crate::worker::{Worker, WorkerOf};
 use bgp_prefix::Memory;
+use bgp_update::Unicast;
 use rtrb::RingBuffer;
 use std::alloc::Global;
 
 /// Compares both ends of the lane's ring, and moves the pending items to a new ring.
-pub fn renew<S>(
+pub fn renew<F: Unicast, S>(
     alloc: Global,
     capacity: usize,
-    feed: &mut Feed,
-    worker: &mut Worker<S>,
+    feed: &mut FeedOf<F>,
+    worker: &mut WorkerOf<S, F>,
 ) -> Result<(), Memory>
     requires pair { IsPair feed.old.producer worker.old.consumer }
     requires capacity { ring_capacity feed.old.producer ≡ capacity }
@@ -32,11 +33,11 @@ pub fn renew<S>(
 }
 
 /// Renews each lane.
-pub fn renew_all<S>(
+pub fn renew_all<F: Unicast, S>(
     alloc: Global,
     capacity: usize,
-    feeds: &mut [Feed],
-    workers: &mut [Worker<S>],
+    feeds: &mut [FeedOf<F>],
+    workers: &mut [WorkerOf<S, F>],
 ) -> Result<(), Memory>
     requires lanes { length workers.old ≡ length feeds.old }
     requires pairs { (lane : ℕ) (d : _) (e : _) → lane < length feeds.old →
@@ -50,11 +51,11 @@ pub fn renew_all<S>(
 }
 
 /// Makes lanes to which nothing has been dealt.
-pub fn make_lanes<S: Sessions + Drop>(
+pub fn make_lanes<F: Unicast, S: Sessions<Addr = F> + Drop>(
     alloc: Global,
     capacity: usize,
     count: usize,
-) -> Result<(Vec<Feed>, Vec<Worker<S>>), Memory>
+) -> Result<(Vec<FeedOf<F>>, Vec<WorkerOf<S, F>>), Memory>
     ensures { IfOk result (λ made. AreFresh S.stands_for capacity count made.0.items made.1.items) }
 {
     let mut feeds = Vec::new(alloc);

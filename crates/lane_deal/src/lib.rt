@@ -22,6 +22,10 @@
 //!   units, not lists, and contracts see a ring of units. A listed unit has 40 bytes: the records and peers of a list
 //!   are listed once. Lists go back by a second ring, since a worker that freed them would lock the dealer's heap; the
 //!   dealer writes to all of one before it fills it again, so that the misses overlap.
+//! - **All units of a run are of one family of addresses.** Its mark takes no room in a unit, so plain data is generic
+//!   in the prefix and the mark, and contracts see the prefixes of either family alike.
+//! - **A round's two closures have no type parameter in common** (`Deals`, `Works`), since the borrow checker covers no
+//!   others.
 //! - **Units are lent to the dealer**, which asks whether another one may wait before it deals it. Its loop is one
 //!   function, in which what is seldom needed isn't inlined.
 //! - **Peers are numbered by their first unit.** `Dealing` has a law, that the lane of a number is below the number of
@@ -38,6 +42,7 @@ mod dealer;
 mod dealing;
 mod feed;
 mod gate;
+mod halves;
 mod holding;
 mod lane;
 mod lanes;

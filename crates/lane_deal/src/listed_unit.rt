@@ -5,21 +5,35 @@ ghost use Rattle.std.specs.Prelude.{◌≡◌, true, IfOk};
 ghost use Rattle.lane_deal.specs.ListedUnits.{AreKept, IsListedAt};
 
 use crate::listed_peer::ListedPeer;
-use bgp_prefix::{Memory, RouteKey};
-use bgp_update::Width;
+use bgp_prefix::{Memory, Prefix, RouteKey};
+use bgp_update::{FamilyMark, Width};
 use mrt_body::{Place, StateRule};
 
-/// A payload without its bytes.
+/// A payload without its bytes. A message and an entry have the mark of their family, which takes no room.
 // Variants and fields stand in the order in which an entry takes the fewest instructions: a clear first, and the rule
 // of a state change before the bytes that a key has.
 #[derive(Clone, Copy)]
-pub enum PayloadKind {
+pub enum PayloadKind<P = Prefix, K = FamilyMark> {
     Clear,
     /// Numbers below 65,536. As long as the fields of a key, they are copied together with these.
-    State { rule: StateRule, from: u32, to: u32 },
-    Message { width: Width, add_path: bool },
-    Entry { key: RouteKey },
+    State {
+        rule: StateRule,
+        from: u32,
+        to: u32,
+    },
+    Message {
+        width: Width,
+        add_path: bool,
+        family: K,
+    },
+    Entry {
+        key: RouteKey<P>,
+        family: K,
+    },
 }
+
+/// A payload of a family without its bytes.
+pub type PayloadKindOf<F> = PayloadKind<Prefix<F>, FamilyMark<F>>;
 
 /// Where the record of a unit is, and the unit's time.
 #[derive(Drop)]
@@ -38,8 +52,8 @@ pub struct NumberedPeer {
 
 /// A unit of a list in 40 bytes: where its record, its peer and its bytes are among those of the list.
 #[derive(Drop)]
-pub struct ListedUnit {
-    pub kind: PayloadKind,
+pub struct ListedUnit<P = Prefix, K = FamilyMark> {
+    pub kind: PayloadKind<P, K>,
     pub start: usize,
     pub len: usize,
     pub entry: Option<u16>,

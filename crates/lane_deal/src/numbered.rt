@@ -1,20 +1,25 @@
 ghost use Rattle.lane_deal.specs.UnitLists.{IsUnitList};
 
 use crate::unit_list::UnitList;
+use bgp_prefix::Prefix;
+use bgp_update::FamilyMark;
 use mrt_body::Unit;
 use rtrb::Protocol;
 
 /// A unit, with its peer's number.
 #[derive(Drop)]
-pub struct Numbered {
+pub struct Numbered<P = Prefix, K = FamilyMark> {
     pub number: usize,
-    pub unit: Unit,
+    pub unit: Unit<P, K>,
 }
+
+/// A unit of a family, with its peer's number.
+pub type NumberedOf<F> = Numbered<Prefix<F>, FamilyMark<F>>;
 
 /// A ring takes only lists of units whose bytes number at most 16,777,216, and no empty list.
 #[derive(Clone, Copy)]
 pub struct Small;
 
-impl Protocol<UnitList> for Small {
+impl<P, K> Protocol<UnitList<P, K>> for Small {
     ghost allows = { λ _ list. IsUnitList list };
 }

@@ -8,9 +8,9 @@ ghost use Rattle.lane_deal.specs.Replayers.{StandsForSome};
 ghost use Rattle.lane_deal.specs.Shown.{state_at};
 
 use crate::collecting::collect_lanes;
-use crate::dealer::Dealer;
+use crate::dealer::{Dealer, DealerOf};
 use crate::dealing::Dealing;
-use crate::feed::Feed;
+use crate::feed::FeedOf;
 use crate::gate::Gate;
 use crate::lane::make_lanes;
 use crate::plan::Plan;
@@ -18,9 +18,10 @@ use crate::round::{run_round, settle_lanes};
 use crate::seats::Seats;
 use crate::state::State;
 use crate::step::Step;
-use crate::worker::{Patience, Worker};
+use crate::worker::{Patience, WorkerOf};
 use adj_rib::SharedRoute;
 use bgp_prefix::{Memory, PrefixMap};
+use bgp_update::Unicast;
 use mrt_body::Units;
 use mrt_frame::{ReplayError, Source};
 use peer_tables::{Tables, count_routes};
@@ -29,11 +30,14 @@ use std::thread::Threads;
 
 /// Deals what the files yield to lanes, round by round.
 #[derive(Drop)]
-pub struct Replayer<M: PrefixMap<SharedRoute, Addr = u32>, D: Dealing> {
+pub struct Replayer<M: PrefixMap<SharedRoute>, D: Dealing>
+where
+    M::Addr: Unicast,
+{
     plan: Plan,
-    dealer: Dealer<D>,
-    feeds: Vec<Feed>,
-    workers: Vec<Worker<Seats<M>>>,
+    dealer: DealerOf<D, M::Addr>,
+    feeds: Vec<FeedOf<M::Addr>>,
+    workers: Vec<WorkerOf<Seats<M>, M::Addr>>,
     rounds: u64,
     state: State,
     ghost lanes: { 0 < length feeds.items },
@@ -53,7 +57,11 @@ fn state_after(answer: &Result<Step, ReplayError>) -> State
     }
 }
 
-impl<M: PrefixMap<SharedRoute, Addr = u32> + Send + Drop, D: Dealing + Send> Replayer<M, D> {
+impl<
+    F: Unicast + Send,
+    M: PrefixMap<SharedRoute, Addr = F> + Send + Drop,
+    D: Dealing + Send,
+> Replayer<M, D> {
     ghost use Rattle.std.specs.Prelude.{◌≡◌, ◌≢◌, ◌<◌, ◌+◌, ◌↔◌, ℕ, IfOk, OnOk, OnErr, IfErr, IsErr, IsTrue, None, length, map, min, ◌^◌, ◌-◌, []};
     ghost use Rattle.lane_deal.specs.declared.state.State.TheVariants.{Running, Spent};
     ghost use Rattle.lane_deal.specs.Answers.{IfAnswered, Repeats};
@@ -97,11 +105,11 @@ impl<M: PrefixMap<SharedRoute, Addr = u32> + Send + Drop, D: Dealing + Send> Rep
     }
 
     /// Runs one round: deals while the workers take.
-    pub fn round<T: Threads + Sync, R: Source + Send, G: Gate>(
+    pub fn round<T: Threads + Sync, R: Source + Send, G: Gate + Sync>(
         &mut self,
         rt: &T,
         alloc: Global,
-        units: &mut Units,
+        units: &mut Units<F>,
         files: &mut [R],
         gate: &G,
     ) -> Result<Step, ReplayError>
@@ -147,7 +155,7 @@ impl<M: PrefixMap<SharedRoute, Addr = u32> + Send + Drop, D: Dealing + Send> Rep
     }
 
     /// Runs one round without dealing, after which all rings are empty.
-    pub fn settle<T: Threads + Sync, G: Gate>(
+    pub fn settle<T: Threads + Sync, G: Gate + Sync>(
         &mut self,
         rt: &T,
         alloc: Global,
@@ -184,7 +192,7 @@ impl<M: PrefixMap<SharedRoute, Addr = u32> + Send + Drop, D: Dealing + Send> Rep
     }
 }
 
-impl<M: PrefixMap<SharedRoute, Addr = u32> + Drop, D: Dealing + Drop> Replayer<M, D> {
+impl<F: Unicast, M: PrefixMap<SharedRoute, Addr = F> + Drop, D: Dealing + Drop> Replayer<M, D> {
     ghost use Rattle.std.specs.Prelude.{◌≡◌, ◌≢◌, List, IfOk, IfErr, IsErr};
     ghost use Rattle.mrt_body.specs.declared.unit.Damage.{Damage};
     ghost use Rattle.mrt_body.specs.Plain.{Unit as ReplayUnit};
@@ -250,7 +258,10 @@ impl<M: PrefixMap<SharedRoute, Addr = u32> + Drop, D: Dealing + Drop> Replayer<M
     }
 }
 
-impl<M: PrefixMap<SharedRoute, Addr = u32>, D: Dealing> Replayer<M, D> {
+impl<M: PrefixMap<SharedRoute>, D: Dealing> Replayer<M, D>
+where
+    M::Addr: Unicast,
+{
     ghost use Rattle.std.specs.Prelude.{ℕ, ◌<◌, ◌≤◌, ◌≡◌, ◌≢◌, ◌^◌, ◌-◌, true, length, min, slice_get};
     ghost use Rattle.lane_deal.specs.Replayers.{LaneState, held_routes};
     ghost use Rattle.lane_deal.specs.Playing.{shown};

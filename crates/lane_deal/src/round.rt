@@ -6,19 +6,20 @@ ghost use Rattle.std.specs.Thread.{IsSync, IsSend};
 ghost use Rattle.lane_deal.specs.Answers.{IfAnswered};
 ghost use Rattle.lane_deal.specs.Asking.{ReadsOn};
 ghost use Rattle.lane_deal.specs.DealerSteps.{DealsOn};
-ghost use Rattle.lane_deal.specs.LaneWorkers.{Worked};
 ghost use Rattle.lane_deal.specs.LaneRings.{AreReady, Settled};
 ghost use Rattle.lane_deal.specs.LaneRounds.{PlaysLanes};
 
-use crate::dealer::Dealer;
+use crate::dealer::DealerOf;
 use crate::dealing::Dealing;
-use crate::feed::Feed;
+use crate::feed::FeedOf;
 use crate::gate::Gate;
+use crate::halves::{Deals, Works};
 use crate::lane::renew_all;
 use crate::sessions::Sessions;
 use crate::step::Step;
-use crate::worker::{Patience, Worker, run_all, run_at_most_one};
+use crate::worker::{Patience, WorkerOf, run_all, run_at_most_one};
 use bgp_prefix::Memory;
+use bgp_update::Unicast;
 use mrt_body::Units;
 use mrt_frame::{ReplayError, Source};
 use std::alloc::Global;
@@ -30,52 +31,52 @@ use std::thread::{Threads, join_mut};
 /// the calling thread deals first and takes afterwards.
 fn deal_and_work<
     T: Threads + Sync,
-    D: Dealing + Send,
+    F: Unicast + Send,
+    L: Deals<Addr = F> + Send,
     R: Source + Send,
-    S: Sessions + Send,
-    G: Gate,
+    W: Works + Send,
+    G: Gate + Sync,
 >(
     rt: &T,
     alloc: Global,
     gate: &G,
+    over: &AtomicBool,
     patience: Patience,
-    dealer: &mut Dealer<D>,
-    units: &mut Units,
+    dealer: &mut L,
+    units: &mut Units<F>,
     files: &mut [R],
-    feeds: &mut [Feed],
-    workers: &mut [Worker<S>],
+    feeds: &mut [FeedOf<F>],
+    workers: &mut [W],
 ) -> (Result<Step, ReplayError>, Result<(), Memory>)
     requires lanes { 0 < length feeds.old }
     requires files { length files.old ≡ units.old.count }
-    ensures deals { DealsOn (λ number. D.lane_of dealer.old.dealing number (length feeds.old)) patience.batch feeds.old
-        feeds.new dealer.old dealer.new units.old (map R.remaining files.old) (map R.failure_count files.old) units.new
-        (map R.remaining files.new) (map R.failure_count files.new) result.0 }
-    ensures worked { OnOk result.1 (AllZip (Worked S.stands_for) workers.old workers.new) }
+    ensures deals { DealsOn (λ number. L.lane_of (L.dealer dealer.old).dealing number (length feeds.old)) patience.batch
+        feeds.old feeds.new (L.dealer dealer.old) (L.dealer dealer.new) units.old (map R.remaining files.old)
+        (map R.failure_count files.old) units.new (map R.remaining files.new) (map R.failure_count files.new) result.0 }
+    ensures worked { OnOk result.1 (AllZip W.worked workers.old workers.new) }
 {
-    let flag = AtomicBool::new(false);
-    let over = &flag;
     let (batch, looks) = (patience.batch, patience.looks);
     if workers.len() < 2 && looks < 2 {
         // Nobody empties a full ring meanwhile, so the dealer looks no further.
-        let step = dealer.deal(alloc, gate, batch, 0, over, units, files, feeds);
+        let step = dealer.deal_on(alloc, gate, batch, 0, over, units, files, feeds);
         over.store(true, Ordering::SeqCst);
         let worked = run_at_most_one(alloc, gate, over, patience, workers);
         return (step, worked);
     }
     let mut deal = || -> Result<Step, ReplayError>
         requires { (0 < length feeds.now) × (length files.now ≡ units.now.count) }
-        ensures { DealsOn (λ number. D.lane_of dealer.entry.now.dealing number (length feeds.entry.now)) batch
-            feeds.entry.now feeds.exit.now dealer.entry.now dealer.exit.now units.entry.now
-            (map R.remaining files.entry.now) (map R.failure_count files.entry.now) units.exit.now
+        ensures { DealsOn (λ number. L.lane_of (L.dealer dealer.entry.now).dealing number (length feeds.entry.now))
+            batch feeds.entry.now feeds.exit.now (L.dealer dealer.entry.now) (L.dealer dealer.exit.now)
+            units.entry.now (map R.remaining files.entry.now) (map R.failure_count files.entry.now) units.exit.now
             (map R.remaining files.exit.now) (map R.failure_count files.exit.now) result }
     {
-        let step = dealer.deal(alloc, gate, batch, looks, over, units, files, feeds);
+        let step = dealer.deal_on(alloc, gate, batch, looks, over, units, files, feeds);
         over.store(true, Ordering::SeqCst);
         step
     };
     let mut work = || -> Result<(), Memory>
-        requires { IsSync T.row × IsSync G.row × IsSend S.row }
-        ensures { OnOk result (AllZip (Worked S.stands_for) workers.entry.now workers.exit.now) }
+        requires { IsSync T.row × IsSync G.row × IsSend W.row }
+        ensures { OnOk result (AllZip W.worked workers.entry.now workers.exit.now) }
     { run_all(rt, alloc, gate, over, patience, workers) };
     // If no thread can be started, the workers run last, when the round is over.
     let (worked, step) = join_mut(rt, &mut work, &mut deal);
@@ -85,21 +86,22 @@ fn deal_and_work<
 /// Runs one round over all lanes, whose rings are made anew at its end.
 pub fn run_round<
     T: Threads + Sync,
+    F: Unicast + Send,
     D: Dealing + Send,
     R: Source + Send,
-    S: Sessions + Send,
-    G: Gate,
+    S: Sessions<Addr = F> + Send,
+    G: Gate + Sync,
 >(
     rt: &T,
     alloc: Global,
     capacity: usize,
     gate: &G,
     patience: Patience,
-    dealer: &mut Dealer<D>,
-    units: &mut Units,
+    dealer: &mut DealerOf<D, F>,
+    units: &mut Units<F>,
     files: &mut [R],
-    feeds: &mut [Feed],
-    workers: &mut [Worker<S>],
+    feeds: &mut [FeedOf<F>],
+    workers: &mut [WorkerOf<S, F>],
 ) -> Result<Step, ReplayError>
     requires lanes { 0 < length feeds.old }
     requires files { length files.old ≡ units.old.count }
@@ -112,8 +114,9 @@ pub fn run_round<
         patience.batch feeds.old workers.old feeds.new workers.new dealer.old dealer.new units.old
         (map R.remaining files.old) units.new (map R.remaining files.new) result) }
 {
+    let over = AtomicBool::new(false);
     let (step, worked) = deal_and_work(
-        rt, alloc, gate, patience, dealer, units, files, feeds, workers,
+        rt, alloc, gate, &over, patience, dealer, units, files, feeds, workers,
     );
     let Ok(()) = worked else {
         return Err(ReplayError::Memory);
@@ -134,14 +137,19 @@ pub fn run_round<
 }
 
 /// Runs one round without dealing: pending units are taken.
-pub fn settle_lanes<T: Threads + Sync, S: Sessions + Send, G: Gate>(
+pub fn settle_lanes<
+    T: Threads + Sync,
+    F: Unicast + Send,
+    S: Sessions<Addr = F> + Send,
+    G: Gate + Sync,
+>(
     rt: &T,
     alloc: Global,
     capacity: usize,
     gate: &G,
     patience: Patience,
-    feeds: &mut [Feed],
-    workers: &mut [Worker<S>],
+    feeds: &mut [FeedOf<F>],
+    workers: &mut [WorkerOf<S, F>],
 ) -> Result<(), Memory>
     requires ready { AreReady capacity feeds.old workers.old }
     ensures { OnOk result (Settled S.stands_for capacity feeds.old workers.old feeds.new workers.new) }

@@ -10,7 +10,7 @@ ghost use Rattle.lane_deal.specs.ShownLanes.{LaneShows, LanesShow, Shows};
 
 use crate::dealing::Dealing;
 use crate::holding::{HoldsSeats, exchange_seats};
-use crate::numbered::Numbered;
+use crate::numbered::{Numbered, NumberedOf};
 use crate::scheduled::Lanes;
 use crate::seats::Seats;
 use crate::sessions::Sessions;
@@ -18,25 +18,29 @@ use crate::turn::Turn;
 use crate::unit_list::LentItem;
 use adj_rib::{ReadAhead, SharedRoute};
 use bgp_prefix::{Memory, PrefixMap, Sequence};
-use mrt_body::Unit;
+use bgp_update::Unicast;
+use mrt_body::UnitOf;
 use peer_tables::{Peers, Seated};
 use std::alloc::Global;
 use std::collections::VecDeque;
 
 /// A lane whose ring has no bound.
 #[derive(Drop)]
-pub struct OneLane<M: PrefixMap<SharedRoute, Addr = u32>> {
-    pub ring: VecDeque<Numbered>,
+pub struct OneLane<M: PrefixMap<SharedRoute>>
+where
+    M::Addr: Unicast,
+{
+    pub ring: VecDeque<NumberedOf<M::Addr>>,
     pub seats: Seats<M>,
     pub took: usize,
 }
 
 /// A lane's sessions are those of its peers.
-impl<M: PrefixMap<SharedRoute, Addr = u32> + Drop> HoldsSeats<M> for OneLane<M> {
+impl<F: Unicast, M: PrefixMap<SharedRoute, Addr = F> + Drop> HoldsSeats<M> for OneLane<M> {
     ghost use Rattle.std.specs.Prelude.{refl};
     ghost use Rattle.lane_deal.specs.OneLanes.{OneLaneState, one_lane_state};
 
-    ghost State = { OneLaneState M };
+    ghost State = { OneLaneState M F };
 
     ghost state = { one_lane_state };
 
@@ -52,7 +56,10 @@ impl<M: PrefixMap<SharedRoute, Addr = u32> + Drop> HoldsSeats<M> for OneLane<M> 
 }
 
 /// The units, each with its peer's number.
-fn number_all(alloc: Global, units: Vec<Unit>) -> Result<VecDeque<Numbered>, Memory>
+fn number_all<F: Unicast>(
+    alloc: Global,
+    units: Vec<UnitOf<F>>,
+) -> Result<VecDeque<NumberedOf<F>>, Memory>
     ensures { IfOk result (λ all. all.items ≡ numbered (peers_of units.items) units.items) }
 {
     let mut peers = Peers::new(alloc)?;
@@ -65,7 +72,7 @@ fn number_all(alloc: Global, units: Vec<Unit>) -> Result<VecDeque<Numbered>, Mem
 }
 
 /// Makes lanes to which nothing has been dealt.
-fn empty_lanes<M: PrefixMap<SharedRoute, Addr = u32> + Drop>(
+fn empty_lanes<F: Unicast, M: PrefixMap<SharedRoute, Addr = F> + Drop>(
     alloc: Global,
     count: usize,
 ) -> Result<Vec<OneLane<M>>, Memory>
@@ -84,8 +91,8 @@ fn empty_lanes<M: PrefixMap<SharedRoute, Addr = u32> + Drop>(
 }
 
 /// Moves the first undealt unit to the end of its lane's ring.
-fn deal<M: PrefixMap<SharedRoute, Addr = u32> + Drop, D: Dealing>(
-    undealt: &mut VecDeque<Numbered>,
+fn deal<F: Unicast, M: PrefixMap<SharedRoute, Addr = F> + Drop, D: Dealing>(
+    undealt: &mut VecDeque<NumberedOf<F>>,
     lanes: &mut [OneLane<M>],
     dealing: &D,
 ) -> Result<(), Memory>
@@ -103,7 +110,7 @@ fn deal<M: PrefixMap<SharedRoute, Addr = u32> + Drop, D: Dealing>(
 }
 
 /// Passes the first unit in a ring to its session.
-fn take_one<M: PrefixMap<SharedRoute, Addr = u32> + Drop>(
+fn take_one<F: Unicast, M: PrefixMap<SharedRoute, Addr = F> + Drop>(
     alloc: Global,
     lane: &mut OneLane<M>,
 ) -> Result<(), Memory>
@@ -123,7 +130,7 @@ fn take_one<M: PrefixMap<SharedRoute, Addr = u32> + Drop>(
 }
 
 /// Passes the first unit in a lane's ring to its session.
-fn take_from<M: PrefixMap<SharedRoute, Addr = u32> + Drop>(
+fn take_from<F: Unicast, M: PrefixMap<SharedRoute, Addr = F> + Drop>(
     alloc: Global,
     lanes: &mut [OneLane<M>],
     lane: usize,
@@ -138,9 +145,9 @@ fn take_from<M: PrefixMap<SharedRoute, Addr = u32> + Drop>(
 }
 
 /// Applies one event.
-fn apply<M: PrefixMap<SharedRoute, Addr = u32> + Drop, D: Dealing>(
+fn apply<F: Unicast, M: PrefixMap<SharedRoute, Addr = F> + Drop, D: Dealing>(
     alloc: Global,
-    undealt: &mut VecDeque<Numbered>,
+    undealt: &mut VecDeque<NumberedOf<F>>,
     lanes: &mut [OneLane<M>],
     turn: Turn,
     dealing: &D,
@@ -157,9 +164,9 @@ fn apply<M: PrefixMap<SharedRoute, Addr = u32> + Drop, D: Dealing>(
 }
 
 /// Applies the events in order to lanes to which nothing was dealt.
-fn apply_all<M: PrefixMap<SharedRoute, Addr = u32> + Drop, D: Dealing>(
+fn apply_all<F: Unicast, M: PrefixMap<SharedRoute, Addr = F> + Drop, D: Dealing>(
     alloc: Global,
-    undealt: &mut VecDeque<Numbered>,
+    undealt: &mut VecDeque<NumberedOf<F>>,
     lanes: &mut [OneLane<M>],
     turns: &[Turn],
     dealing: &D,
@@ -176,9 +183,9 @@ fn apply_all<M: PrefixMap<SharedRoute, Addr = u32> + Drop, D: Dealing>(
 }
 
 /// Applies the events in order to the lanes of so many workers, where at first none of the units is dealt.
-pub fn run_schedule<M: PrefixMap<SharedRoute, Addr = u32> + Drop, D: Dealing>(
+pub fn run_schedule<F: Unicast, M: PrefixMap<SharedRoute, Addr = F> + Drop, D: Dealing>(
     alloc: Global,
-    units: Vec<Unit>,
+    units: Vec<UnitOf<F>>,
     turns: &[Turn],
     dealing: &D,
     workers: usize,

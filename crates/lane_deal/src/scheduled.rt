@@ -6,29 +6,35 @@ ghost use Rattle.std.proofs.lemmas.Map.Keys.{IsDistinct-prop};
 ghost use Rattle.lane_deal.specs.OneLanes.{seats_of_lanes};
 
 use crate::collecting::collect_lanes;
-use crate::numbered::Numbered;
+use crate::numbered::NumberedOf;
 use crate::schedule::OneLane;
 use adj_rib::SharedRoute;
 use bgp_prefix::{Memory, PrefixMap};
+use bgp_update::Unicast;
 use peer_tables::Tables;
 use std::alloc::Global;
 use std::collections::VecDeque;
 
 /// Lanes on one thread. No peer's number appears twice among their sessions.
 #[derive(Drop)]
-pub struct Lanes<M: PrefixMap<SharedRoute, Addr = u32>> {
-    pub(crate) undealt: VecDeque<Numbered>,
+pub struct Lanes<M: PrefixMap<SharedRoute>>
+where
+    M::Addr: Unicast,
+{
+    pub(crate) undealt: VecDeque<NumberedOf<M::Addr>>,
     pub(crate) lanes: Vec<OneLane<M>>,
-    ghost apart: { IsDistinct nat_eq (map (λ seat. seat.number) (seats_of_lanes lanes.items)) } by { IsDistinct-prop nat_eq _ },
+    ghost apart: { IsDistinct nat_eq
+        (map (λ seat. seat.number) (seats_of_lanes lanes.items)) } by { IsDistinct-prop nat_eq _ },
 }
 
-impl<M: PrefixMap<SharedRoute, Addr = u32> + Drop> Lanes<M> {
-    ghost use Rattle.std.specs.Prelude.{◌≡◌, ℕ, ◌-◌, ◌^◌, List, [], length, min, IfOk, IfErr};
+impl<M: PrefixMap<SharedRoute>> Lanes<M>
+where
+    M::Addr: Unicast,
+{
+    ghost use Rattle.std.specs.Prelude.{◌≡◌, ℕ, ◌-◌, ◌^◌, List, length, min};
     ghost use Rattle.mrt_body.specs.Plain.{Unit as ReplayUnit};
-    ghost use Rattle.peer_tables.specs.Tables.{tables_of};
     ghost use Rattle.lane_deal.specs.Schedules.{LanesState};
-    ghost use Rattle.lane_deal.specs.ShownLanes.{Shows, ShowsSame};
-    ghost use Rattle.lane_deal.specs.TakenTables.{tables_taken};
+    ghost use Rattle.lane_deal.specs.ShownLanes.{Shows};
 
     /// The number of units not yet dealt.
     pub fn undealt(&self) -> usize
@@ -57,6 +63,15 @@ impl<M: PrefixMap<SharedRoute, Addr = u32> + Drop> Lanes<M> {
             None => 0,
         }
     }
+}
+
+impl<F: Unicast, M: PrefixMap<SharedRoute, Addr = F> + Drop> Lanes<M> {
+    ghost use Rattle.std.specs.Prelude.{◌≡◌, ℕ, List, [], length, IfOk, IfErr};
+    ghost use Rattle.mrt_body.specs.Plain.{Unit as ReplayUnit};
+    ghost use Rattle.peer_tables.specs.Tables.{tables_of};
+    ghost use Rattle.lane_deal.specs.Schedules.{LanesState};
+    ghost use Rattle.lane_deal.specs.ShownLanes.{Shows, ShowsSame};
+    ghost use Rattle.lane_deal.specs.TakenTables.{tables_taken};
 
     /// Returns the tables of what the lanes took. If an allocation fails, the lanes come back as they were.
     pub fn into_tables(self, alloc: Global) -> Result<Tables<M>, (Lanes<M>, Memory)>

@@ -8,10 +8,11 @@ ghost use Rattle.peer_tables.specs.Seats.{seat_of};
 ghost use Rattle.lane_deal.specs.Seating.{AreIndexed, SeatFor, TakenAt};
 
 use crate::sessions::Sessions;
-use crate::unit_list::{LentItem, UnitList};
+use crate::unit_list::{LentItemOf, UnitListOf};
 use adj_rib::{ReadAhead, Session, SharedRoute};
-use bgp_prefix::{Memory, PrefixMap};
-use mrt_body::{LentUnit, PeerKey};
+use bgp_prefix::{Memory, Prefix, PrefixMap};
+use bgp_update::Unicast;
+use mrt_body::{LentUnitOf, PeerKey};
 use peer_tables::Seated;
 use std::alloc::Global;
 use std::mem;
@@ -21,7 +22,7 @@ const MOST_NEAR: usize = 32;
 
 /// The sessions of one lane, in the order in which their peers first appeared.
 #[derive(Drop)]
-pub struct Seats<M: PrefixMap<SharedRoute, Addr = u32>> {
+pub struct Seats<M: PrefixMap<SharedRoute>> {
     pub seats: Vec<Seated<M>>,
     /// The position of each session, by its peer's number.
     positions: Vec<Option<usize>>,
@@ -36,7 +37,7 @@ pub struct Seats<M: PrefixMap<SharedRoute, Addr = u32>> {
 
 /// Returns the position of this number's session, found by a linear scan.
 #[inline(never)]
-fn scan<M: PrefixMap<SharedRoute, Addr = u32>>(seats: &[Seated<M>], number: usize) -> Option<usize>
+fn scan<M: PrefixMap<SharedRoute>>(seats: &[Seated<M>], number: usize) -> Option<usize>
     ensures { MatchOption result
         (list_any (λ s. s.number == number) (map seat_of seats.now) ≡ false) (λ at. (at < length seats.now) ×
         ((d : _) → (slice_index_or (map seat_of seats.now) at d).number ≡ number)) }
@@ -51,11 +52,7 @@ fn scan<M: PrefixMap<SharedRoute, Addr = u32>>(seats: &[Seated<M>], number: usiz
 
 /// Whether this number's session is at that position.
 #[inline(always)]
-fn stands_at<M: PrefixMap<SharedRoute, Addr = u32>>(
-    seats: &[Seated<M>],
-    at: usize,
-    number: usize,
-) -> bool
+fn stands_at<M: PrefixMap<SharedRoute>>(seats: &[Seated<M>], at: usize, number: usize) -> bool
     ensures here { result ≡ true → (at < length seats.now) ×
         ((d : _) → (slice_index_or (map seat_of seats.now) at d).number ≡ number) }
     ensures elsewhere { slice_get (map (λ seat. seat.number) seats.now) at ≡ Some number → result ≡ true }
@@ -82,13 +79,13 @@ fn remember(positions: &mut Vec<Option<usize>>, number: usize, at: usize) -> Res
 
 /// Passes the unit to the session at that position.
 #[inline(always)]
-fn take_at<M: PrefixMap<SharedRoute, Addr = u32>>(
+fn take_at<F: Unicast, M: PrefixMap<SharedRoute, Addr = F>>(
     alloc: Global,
     buffer: &mut Vec<u8>,
     seats: &mut [Seated<M>],
     at: usize,
-    unit: &LentUnit<'_>,
-    ahead: &ReadAhead,
+    unit: &LentUnitOf<'_, F>,
+    ahead: &ReadAhead<Prefix<F>>,
 ) -> Result<(), Memory>
     requires within { at < length seats.old }
     requires ahead { IsAheadOf (lent_payload unit.now.payload) ahead.now }
@@ -98,7 +95,7 @@ fn take_at<M: PrefixMap<SharedRoute, Addr = u32>>(
     seats[at].session.take_ahead(alloc, buffer, unit, ahead)
 }
 
-impl<M: PrefixMap<SharedRoute, Addr = u32> + Drop> Seats<M> {
+impl<M: PrefixMap<SharedRoute>> Seats<M> {
     /// Returns the position recorded for this number.
     #[inline(always)]
     fn position_of(&self, number: usize) -> Option<usize>
@@ -143,6 +140,31 @@ impl<M: PrefixMap<SharedRoute, Addr = u32> + Drop> Seats<M> {
         scan(&self.seats, number)
     }
 
+    /// Exchanges the sessions for these.
+    pub fn exchange(&mut self, given: Vec<Seated<M>>) -> Vec<Seated<M>>
+        ensures given { self.new.seats ≡ given }
+        ensures held { result ≡ self.old.seats }
+    {
+        self.is_indexed = false;
+        mem::replace(&mut self.seats, given)
+    }
+
+    /// Returns the position of the session that probably takes a unit of the peer with this number.
+    #[inline(always)]
+    fn position_near(&self, number: usize) -> usize {
+        match self.positions.get(number) {
+            Some(Some(at)) => *at,
+            _ => 0,
+        }
+    }
+
+    /// Returns the session at this position, if there is one.
+    fn seat_at(&self, at: usize) -> Option<&Seated<M>> {
+        self.seats.get(at)
+    }
+}
+
+impl<F: Unicast, M: PrefixMap<SharedRoute, Addr = F> + Drop> Seats<M> {
     /// Makes a session for this number, after the others. It is seldom needed, and its locals are no part of the
     /// worker's loop.
     #[inline(never)]
@@ -176,39 +198,21 @@ impl<M: PrefixMap<SharedRoute, Addr = u32> + Drop> Seats<M> {
         self.add(alloc, number, *key)
     }
 
-    /// Exchanges the sessions for these.
-    pub fn exchange(&mut self, given: Vec<Seated<M>>) -> Vec<Seated<M>>
-        ensures given { self.new.seats ≡ given }
-        ensures held { result ≡ self.old.seats }
-    {
-        self.is_indexed = false;
-        mem::replace(&mut self.seats, given)
-    }
-
-    /// Returns the position of the session that probably takes a unit of the peer with this number.
-    #[inline(always)]
-    fn position_near(&self, number: usize) -> usize {
-        match self.positions.get(number) {
-            Some(Some(at)) => *at,
-            _ => 0,
-        }
-    }
-
     /// Prefetches the slots where the routes of the first units would be, and then these routes. The returned number
     /// has no meaning.
-    fn touch(&self, items: &UnitList, ahead: &[ReadAhead]) -> usize {
+    fn touch(&self, items: &UnitListOf<F>, ahead: &[ReadAhead<Prefix<F>>]) -> usize {
         let count = items.len().min(ahead.len()).min(MOST_NEAR);
         let mut near = [0usize; MOST_NEAR];
         let mut touched = 0usize;
         for at in 0..count {
             let position = self.position_near(items.number_at(at));
             near[at] = position;
-            if let Some(seat) = self.seats.get(position) {
+            if let Some(seat) = self.seat_at(position) {
                 touched = touched.saturating_add(seat.session.prefetch_slot(&ahead[at]));
             }
         }
         for at in 0..count {
-            if let Some(seat) = self.seats.get(near[at]) {
+            if let Some(seat) = self.seat_at(near[at]) {
                 touched = touched.saturating_add(seat.session.prefetch_route(&ahead[at]));
             }
         }
@@ -216,10 +220,12 @@ impl<M: PrefixMap<SharedRoute, Addr = u32> + Drop> Seats<M> {
     }
 }
 
-impl<M: PrefixMap<SharedRoute, Addr = u32> + Drop> Sessions for Seats<M> {
+impl<F: Unicast, M: PrefixMap<SharedRoute, Addr = F> + Drop> Sessions for Seats<M> {
     ghost use Rattle.std.specs.Prelude.{map};
     ghost use Rattle.peer_tables.specs.Seats.{seat_of};
     ghost use Rattle.lane_deal.specs.Seating.{HoldsUnits};
+
+    type Addr = F;
 
     ghost stands_for = { λ s items. HoldsUnits (map seat_of s.seats.items) items };
 
@@ -233,7 +239,7 @@ impl<M: PrefixMap<SharedRoute, Addr = u32> + Drop> Sessions for Seats<M> {
         }
     }
 
-    fn prefetch(&mut self, items: &UnitList, ahead: &[ReadAhead]) {
+    fn prefetch(&mut self, items: &UnitListOf<F>, ahead: &[ReadAhead<Prefix<F>>]) {
         self.prefetched = self.touch(items, ahead);
     }
 
@@ -241,8 +247,8 @@ impl<M: PrefixMap<SharedRoute, Addr = u32> + Drop> Sessions for Seats<M> {
     fn take(
         &mut self,
         alloc: Global,
-        item: &LentItem<'_>,
-        ahead: &ReadAhead,
+        item: &LentItemOf<'_, F>,
+        ahead: &ReadAhead<Prefix<F>>,
     ) -> Result<(), Memory> {
         let at = self.position_for(alloc, item.number, &item.unit.peer)?;
         let buffer = &mut self.buffer;

@@ -9,35 +9,43 @@ ghost use Rattle.lane_deal.specs.ListedUnits.{IsWithin, payload_with};
 
 use crate::listed_peer::ListedPeer;
 use crate::listed_unit::{
-    ListedRecord, ListedUnit, NumberedPeer, PayloadKind, index_of_peer, index_of_record,
+    ListedRecord, ListedUnit, NumberedPeer, PayloadKind, PayloadKindOf, index_of_peer,
+    index_of_record,
 };
 use adj_rib::ReadAhead;
-use bgp_prefix::Memory;
-use bgp_update::FamilyMark;
-use mrt_body::{LentPayload, LentUnit, Place};
+use bgp_prefix::{Memory, Prefix};
+use bgp_update::{FamilyMark, Unicast};
+use mrt_body::{LentPayload, LentPayloadOf, LentUnit, LentUnitOf, Place};
 use std::alloc::Global;
 
 /// A unit that its list lends, with its peer's number.
 #[derive(Clone, Copy)]
-pub struct LentItem<'a> {
+pub struct LentItem<'a, P = Prefix, K = FamilyMark> {
     pub number: usize,
-    pub unit: LentUnit<'a>,
+    pub unit: LentUnit<'a, P, K>,
 }
+
+/// A unit of a family that its list lends, with its peer's number.
+pub type LentItemOf<'a, F> = LentItem<'a, Prefix<F>, FamilyMark<F>>;
 
 /// Units that were dealt to one lane, in order. Their records, their peers and their bytes are in blocks of memory of
 /// their own, so a list takes four allocations, and one more each time one of these blocks is outgrown.
 #[derive(Drop)]
-pub struct UnitList {
-    listed: Vec<ListedUnit>,
+pub struct UnitList<P = Prefix, K = FamilyMark> {
+    listed: Vec<ListedUnit<P, K>>,
     records: Vec<ListedRecord>,
     /// Those of the units, and others that the list had before.
     peers: Vec<NumberedPeer>,
     bytes: Vec<u8>,
     /// The index of the peer whose unit probably comes next: peers take turns in RIB records.
     probable: u16,
-    ghost within: { AllByRecursion (λ unit. IsWithin (length records.items) (length peers.items) (length bytes.items) unit)
+    ghost within: { AllByRecursion
+        (λ unit. IsWithin (length records.items) (length peers.items) (length bytes.items) unit)
         listed.items } by { Prim.hlevel props },
 }
+
+/// Units of a family that were dealt to one lane.
+pub type UnitListOf<F> = UnitList<Prefix<F>, FamilyMark<F>>;
 
 /// How many bytes there is room for at first for each unit of a list. More are made room for as they come.
 const BYTES_EACH: usize = 64;
@@ -54,7 +62,7 @@ const STATES: u32 = 65_536;
 
 /// Returns a payload's kind and its bytes.
 #[inline(always)]
-fn parts_of<'a>(payload: &LentPayload<'a>) -> (PayloadKind, &'a [u8])
+fn parts_of<'a, F: Unicast>(payload: &LentPayloadOf<'a, F>) -> (PayloadKindOf<F>, &'a [u8])
     ensures { payload_with result.0 result.1.now ≡ lent_payload payload.now }
 {
     match *payload {
@@ -71,21 +79,22 @@ fn parts_of<'a>(payload: &LentPayload<'a>) -> (PayloadKind, &'a [u8])
             width,
             add_path,
             family,
-        } => {
-            family.is_known();
-            (PayloadKind::Message { width, add_path }, bytes)
-        }
-        LentPayload::Entry { key, attrs, family } => {
-            family.is_known();
-            (PayloadKind::Entry { key }, attrs)
-        }
+        } => (
+            PayloadKind::Message {
+                width,
+                add_path,
+                family,
+            },
+            bytes,
+        ),
+        LentPayload::Entry { key, attrs, family } => (PayloadKind::Entry { key, family }, attrs),
         LentPayload::Clear => (PayloadKind::Clear, &[]),
     }
 }
 
 /// Returns the payload of this kind with these bytes.
 #[inline(always)]
-fn with_bytes(kind: PayloadKind, bytes: &[u8]) -> LentPayload<'_>
+fn with_bytes<F: Unicast>(kind: PayloadKindOf<F>, bytes: &[u8]) -> LentPayloadOf<'_, F>
     ensures { lent_payload result ≡ payload_with kind bytes.now }
 {
     match kind {
@@ -94,16 +103,20 @@ fn with_bytes(kind: PayloadKind, bytes: &[u8]) -> LentPayload<'_>
             to: (to % STATES) as u16,
             rule,
         },
-        PayloadKind::Message { width, add_path } => LentPayload::Message {
+        PayloadKind::Message {
+            width,
+            add_path,
+            family,
+        } => LentPayload::Message {
             bytes,
             width,
             add_path,
-            family: FamilyMark::new(),
+            family,
         },
-        PayloadKind::Entry { key } => LentPayload::Entry {
+        PayloadKind::Entry { key, family } => LentPayload::Entry {
             key,
             attrs: bytes,
-            family: FamilyMark::new(),
+            family,
         },
         PayloadKind::Clear => LentPayload::Clear,
     }
@@ -120,22 +133,22 @@ fn bytes_from(bytes: &[u8], start: usize, len: usize) -> &[u8]
 
 /// Writes to all of the units and bytes. The processor of the worker that read them has their cache lines too, so
 /// that a write to each waits for it. One after the other, these waits overlap; while a list is filled they wouldn't.
-fn write_ahead(listed: &mut [ListedUnit], bytes: &mut [u8]) {
+fn write_ahead<P, K>(listed: &mut [ListedUnit<P, K>], bytes: &mut [u8]) {
     for unit in listed.iter_mut() {
         unit.start = 0;
     }
     bytes.fill(0);
 }
 
-impl UnitList {
+impl<F: Unicast> UnitList<Prefix<F>, FamilyMark<F>> {
     ghost use Rattle.std.specs.Prelude.{◌<◌, [], ◌∷◌, ◌++◌, MatchOption, OnOk, OnErr, slice_index_or};
     ghost use Rattle.mrt_body.specs.Lent.{lent_unit};
     ghost use Rattle.lane_deal.specs.ListedUnits.{lent_item};
     ghost use Rattle.lane_deal.specs.UnitLists.{units_of};
-    ghost use Rattle.lane_deal.specs.declared.numbered.Numbered.{Numbered};
+    ghost use Rattle.lane_deal.specs.Plain.{Numbered};
 
     /// Returns a list without units. Allocates nothing.
-    pub fn new(alloc: Global) -> UnitList
+    pub fn new(alloc: Global) -> UnitListOf<F>
         ensures { units_of result ≡ [] }
     {
         UnitList {
@@ -184,7 +197,7 @@ impl UnitList {
 
     /// Adds a copy of this unit of the peer with this number.
     #[inline(always)]
-    pub fn push(&mut self, number: usize, unit: &LentUnit<'_>) -> Result<(), Memory>
+    pub fn push(&mut self, number: usize, unit: &LentUnitOf<'_, F>) -> Result<(), Memory>
         ensures pushed { OnOk result
             (units_of self.new ≡ units_of self.old ++ record { number = number; unit = lent_unit unit.now } ∷ []) }
         ensures failed { OnErr result (units_of self.new ≡ units_of self.old) }
@@ -230,7 +243,7 @@ impl UnitList {
 
     /// Lends the unit at this index.
     #[inline(always)]
-    pub fn at(&self, at: usize) -> LentItem<'_>
+    pub fn at(&self, at: usize) -> LentItemOf<'_, F>
         requires { at < length (units_of self.now) }
         ensures { (d : _) → slice_index_or (units_of self.now) at d ≡ lent_item result }
     {
@@ -255,17 +268,23 @@ impl UnitList {
     }
 
     /// Reads the route of the unit at this index ahead, by way of a buffer, whose contents are replaced.
-    pub fn read_ahead(&self, alloc: Global, buffer: &mut Vec<u8>, at: usize) -> ReadAhead
+    pub fn read_ahead(&self, alloc: Global, buffer: &mut Vec<u8>, at: usize) -> ReadAhead<Prefix<F>>
         requires { at < length (units_of self.now) }
         ensures { (d : Numbered) → IsAheadOf (slice_index_or (units_of self.now) at d).unit.payload result }
     {
         let unit = &self.listed[at];
         match unit.kind {
-            PayloadKind::Entry { .. } => {
+            PayloadKind::Entry { key: _, family } => {
+                family.is_known();
                 let attrs = bytes_from(self.bytes.as_slice(), unit.start, unit.len);
                 ReadAhead::of_entry(alloc, buffer, attrs)
             }
-            PayloadKind::Message { width, add_path } => {
+            PayloadKind::Message {
+                width,
+                add_path,
+                family,
+            } => {
+                family.is_known();
                 let bytes = bytes_from(self.bytes.as_slice(), unit.start, unit.len);
                 ReadAhead::of_message(alloc, buffer, bytes, width, add_path)
             }

@@ -8,9 +8,10 @@ ghost use Rattle.rtrb.specs.Ring.{known_free as free_slots, sent as sent_lists, 
 ghost use Rattle.lane_deal.specs.UnitLists.{units_of, AreSmall, AreLastLengths, total};
 
 use crate::numbered::Small;
-use crate::unit_list::UnitList;
-use bgp_prefix::Memory;
-use mrt_body::LentUnit;
+use crate::unit_list::{UnitList, UnitListOf};
+use bgp_prefix::{Memory, Prefix};
+use bgp_update::{FamilyMark, Unicast};
+use mrt_body::LentUnitOf;
 use rtrb::{Consumer, Producer, RingBuffer};
 use std::alloc::Global;
 use std::collections::VecDeque;
@@ -21,10 +22,10 @@ const MOST_UNITS: usize = 32;
 
 /// The dealer's end of a ring.
 #[derive(Drop)]
-pub struct UnitProducer {
-    lists: Producer<UnitList, Global, Small>,
+pub struct UnitProducer<P = Prefix, K = FamilyMark> {
+    lists: Producer<UnitList<P, K>, Global, Small>,
     /// The list that is being filled.
-    filling: UnitList,
+    filling: UnitList<P, K>,
     /// How many units each list has that isn't known to be popped, the oldest first.
     lengths: VecDeque<usize>,
     /// How many more units may wait.
@@ -39,6 +40,9 @@ pub struct UnitProducer {
     ghost room: { free + total lengths.items + length (units_of filling) ≡ capacity },
     ghost small: { AreSmall (units_of filling) } by { Prim.hlevel props },
 }
+
+/// The dealer's end of a ring of units of a family.
+pub type UnitProducerOf<F> = UnitProducer<Prefix<F>, FamilyMark<F>>;
 
 /// Returns how many units fill a list in a ring of so many units: an eighth of them, within bounds.
 fn list_size(capacity: usize) -> usize
@@ -74,11 +78,11 @@ fn take_sum(lengths: &mut VecDeque<usize>, count: usize) -> usize
     sum
 }
 
-impl UnitProducer {
+impl<F: Unicast> UnitProducer<Prefix<F>, FamilyMark<F>> {
     ghost use Rattle.std.specs.Prelude.{◌≡◌, ◌+◌, ◌<◌, ◌≤◌, [], ◌∷◌, ◌++◌, length, IfOk, OnOk, IsTrue, ◌↔◌, false};
     ghost use Rattle.rtrb.specs.Ring.{ConsumerLooked};
     ghost use Rattle.mrt_body.specs.Lent.{lent_unit};
-    ghost use Rattle.mrt_body.specs.Units.{IsSmallUnit};
+    ghost use Rattle.lane_deal.specs.UnitLists.{IsSmallUnit};
     ghost use Rattle.lane_deal.specs.UnitLists.{IsUnitList};
     ghost use Rattle.lane_deal.specs.UnitRings.{sent, known_free, ring_capacity, received, known_items, IsPair, SameProducer, ProducerLooked};
 
@@ -86,7 +90,7 @@ impl UnitProducer {
     pub fn new(
         alloc: Global,
         capacity: usize,
-    ) -> Result<(UnitProducer, Consumer<UnitList, Global, Small>), Memory>
+    ) -> Result<(UnitProducerOf<F>, Consumer<UnitListOf<F>, Global, Small>), Memory>
         ensures pair { IfOk result (λ r. IsPair r.0 r.1) }
         ensures producer { IfOk result (λ r. (sent r.0 ≡ []) × (known_free r.0 ≡ capacity) ×
             (ring_capacity r.0 ≡ capacity)) }
@@ -148,7 +152,7 @@ impl UnitProducer {
     }
 
     /// Takes out the list that is being filled.
-    fn take_filling(&mut self, alloc: Global) -> UnitList
+    fn take_filling(&mut self, alloc: Global) -> UnitListOf<F>
         ensures ring { SameProducer self.old self.new }
         ensures sent { sent self.old ≡ sent self.new ++ units_of result }
         ensures free { known_free self.new ≡ known_free self.old + length (units_of result) }
@@ -163,7 +167,7 @@ impl UnitProducer {
     /// Begins a list, in the memory of one that the worker emptied if there is one: a thread that frees what another
     /// one allocated, and one that allocates meanwhile, wait for each other.
     #[inline(never)]
-    fn begin_list(&mut self, emptied: &mut Consumer<UnitList, Global>) -> Result<(), Memory>
+    fn begin_list(&mut self, emptied: &mut Consumer<UnitListOf<F>, Global>) -> Result<(), Memory>
         requires { units_of self.old.filling ≡ [] }
         ensures ring { SameProducer self.old self.new }
         ensures sent { sent self.new ≡ sent self.old }
@@ -179,7 +183,7 @@ impl UnitProducer {
     }
 
     /// Pushes a list, after which no list is being filled.
-    fn push_list(&mut self, list: UnitList) -> Result<(), Memory>
+    fn push_list(&mut self, list: UnitListOf<F>) -> Result<(), Memory>
         requires list { IsUnitList list }
         requires room { length (units_of list) ≤ known_free self.old }
         requires filling { units_of self.old.filling ≡ [] }
@@ -213,9 +217,9 @@ impl UnitProducer {
     pub fn push(
         &mut self,
         alloc: Global,
-        emptied: &mut Consumer<UnitList, Global>,
+        emptied: &mut Consumer<UnitListOf<F>, Global>,
         number: usize,
-        unit: &LentUnit<'_>,
+        unit: &LentUnitOf<'_, F>,
     ) -> Result<(), Memory>
         requires small { IsSmallUnit (lent_unit unit.now) }
         requires room { 0 < known_free self.old }
@@ -237,7 +241,7 @@ impl UnitProducer {
 
     /// Compares both ends, which are in one thread: the dealer then knows how many units wait, and the worker all lists
     /// that wait.
-    pub fn compare(&mut self, consumer: &mut Consumer<UnitList, Global, Small>)
+    pub fn compare(&mut self, consumer: &mut Consumer<UnitListOf<F>, Global, Small>)
         requires { IsPair self.old consumer.old }
         ensures producer { ProducerLooked self.old self.new }
         ensures consumer { ConsumerLooked consumer.old consumer.new }
@@ -253,7 +257,10 @@ impl UnitProducer {
     }
 
     /// Moves all lists that the worker knows to wait to this ring.
-    pub fn move_lists(&mut self, from: &mut Consumer<UnitList, Global, Small>) -> Result<(), Memory>
+    pub fn move_lists(
+        &mut self,
+        from: &mut Consumer<UnitListOf<F>, Global, Small>,
+    ) -> Result<(), Memory>
         requires room { length (known_items from.old) ≤ known_free self.old }
         requires filling { units_of self.old.filling ≡ [] }
         ensures ring { SameProducer self.old self.new }
@@ -268,7 +275,11 @@ impl UnitProducer {
     }
 
     /// Moves the units that wait to be pushed to this ring, as a list.
-    pub fn move_filling(&mut self, alloc: Global, from: &mut UnitProducer) -> Result<(), Memory>
+    pub fn move_filling(
+        &mut self,
+        alloc: Global,
+        from: &mut UnitProducerOf<F>,
+    ) -> Result<(), Memory>
         requires room { length (units_of from.old.filling) ≤ known_free self.old }
         requires filling { units_of self.old.filling ≡ [] }
         ensures ring { SameProducer self.old self.new }

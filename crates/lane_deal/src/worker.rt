@@ -1,15 +1,17 @@
 ghost use Rattle.std.specs.Prelude.{◌≡◌, Ok, OnOk, [], length, ◌<◌, true, false};
 ghost use Rattle.std.specs.List.{AllZip};
 ghost use Rattle.std.specs.Thread.{IsSync, IsSend};
-ghost use Rattle.lane_deal.specs.LaneWorkers.{Worked, AreReadAhead};
+ghost use Rattle.lane_deal.specs.LaneWorkers.{AreReadAhead};
 ghost use Rattle.lane_deal.specs.UnitLists.{units_of};
 
 use crate::gate::Gate;
+use crate::halves::Works;
 use crate::numbered::Small;
 use crate::sessions::Sessions;
-use crate::unit_list::UnitList;
+use crate::unit_list::{UnitList, UnitListOf};
 use adj_rib::ReadAhead;
-use bgp_prefix::Memory;
+use bgp_prefix::{Memory, Prefix};
+use bgp_update::{FamilyMark, Unicast};
 use rtrb::{Consumer, Producer};
 use std::alloc::Global;
 use std::sync::atomic::{AtomicBool, Ordering};
@@ -17,14 +19,17 @@ use std::thread::{Threads, join_mut};
 
 /// The taking half of a lane.
 #[derive(Drop)]
-pub struct Worker<S> {
+pub struct Worker<S, P = Prefix, K = FamilyMark> {
     pub lane: usize,
-    pub consumer: Consumer<UnitList, Global, Small>,
+    pub consumer: Consumer<UnitList<P, K>, Global, Small>,
     pub sessions: S,
     pub taken: u64,
     /// Where the lists go whose units were taken: the dealer fills them again.
-    pub emptied: Producer<UnitList, Global>,
+    pub emptied: Producer<UnitList<P, K>, Global>,
 }
+
+/// The taking half of a lane of a family.
+pub type WorkerOf<S, F> = Worker<S, Prefix<F>, FamilyMark<F>>;
 
 /// How long a worker keeps looking in one round.
 #[derive(Clone, Copy)]
@@ -34,11 +39,11 @@ pub struct Patience {
 }
 
 /// Reads ahead of each unit of a list, by way of a buffer, whose contents are replaced.
-fn read_ahead(
+fn read_ahead<F: Unicast>(
     alloc: Global,
     buffer: &mut Vec<u8>,
-    items: &UnitList,
-    ahead: &mut Vec<ReadAhead>,
+    items: &UnitListOf<F>,
+    ahead: &mut Vec<ReadAhead<Prefix<F>>>,
 ) -> Result<(), Memory>
     ensures { OnOk result (AreReadAhead (units_of items.now) ahead.new.items) }
 {
@@ -49,32 +54,16 @@ fn read_ahead(
     Ok(())
 }
 
-impl<S: Sessions> Worker<S> {
-    ghost use Rattle.lane_deal.specs.LaneWorkers.{Took, TookFront, TookSome, Takes, Worked};
+impl<F: Unicast, S: Sessions<Addr = F>> Worker<S, Prefix<F>, FamilyMark<F>> {
+    ghost use Rattle.lane_deal.specs.LaneWorkers.{Took, TookFront, TookSome, Takes};
     ghost use Rattle.lane_deal.specs.UnitRings.{known_items, known_lists, received};
-
-    /// Takes what it knows to be in its ring, and then what it finds by looking again.
-    pub fn run<G: Gate>(
-        &mut self,
-        alloc: Global,
-        gate: &G,
-        over: &AtomicBool,
-        patience: Patience,
-    ) -> Result<(), Memory>
-        ensures { OnOk result (Worked S.stands_for self.old self.new) }
-    {
-        let mut ahead = Vec::new(alloc);
-        let mut buffer = Vec::new(alloc);
-        self.take_all_known(alloc, gate, &mut buffer, &mut ahead)?;
-        self.look_again(alloc, gate, over, patience, &mut buffer, &mut ahead)
-    }
 
     fn take_all_known<G: Gate>(
         &mut self,
         alloc: Global,
         gate: &G,
         buffer: &mut Vec<u8>,
-        ahead: &mut Vec<ReadAhead>,
+        ahead: &mut Vec<ReadAhead<Prefix<F>>>,
     ) -> Result<(), Memory>
         ensures { OnOk result (Took S.stands_for self.old self.new (known_items self.old.consumer)) }
     {
@@ -92,7 +81,7 @@ impl<S: Sessions> Worker<S> {
         over: &AtomicBool,
         patience: Patience,
         buffer: &mut Vec<u8>,
-        ahead: &mut Vec<ReadAhead>,
+        ahead: &mut Vec<ReadAhead<Prefix<F>>>,
     ) -> Result<(), Memory>
         ensures { OnOk result (TookSome S.stands_for self.old self.new) }
     {
@@ -122,7 +111,7 @@ impl<S: Sessions> Worker<S> {
         alloc: Global,
         gate: &G,
         buffer: &mut Vec<u8>,
-        ahead: &mut Vec<ReadAhead>,
+        ahead: &mut Vec<ReadAhead<Prefix<F>>>,
     ) -> Result<bool, Memory>
         ensures took { OnOk result (TookSome S.stands_for self.old self.new) }
         ensures none { result ≡ Ok false → received self.new.consumer ≡ received self.old.consumer }
@@ -142,7 +131,7 @@ impl<S: Sessions> Worker<S> {
         alloc: Global,
         gate: &G,
         buffer: &mut Vec<u8>,
-        ahead: &mut Vec<ReadAhead>,
+        ahead: &mut Vec<ReadAhead<Prefix<F>>>,
     ) -> Result<(), Memory>
         requires { 0 < length (known_lists self.old.consumer) }
         ensures { OnOk result (TookFront S.stands_for self.old self.new) }
@@ -156,7 +145,7 @@ impl<S: Sessions> Worker<S> {
 
     /// Gives a list whose units were taken back to the dealer. It is freed if its memory is large, or if as many wait
     /// there as may.
-    fn give_back(&mut self, list: UnitList)
+    fn give_back(&mut self, list: UnitListOf<F>)
         ensures { self.new ≡ record self.old { emptied = self.new.emptied } }
     {
         if list.is_worth_keeping() {
@@ -169,8 +158,8 @@ impl<S: Sessions> Worker<S> {
         &mut self,
         alloc: Global,
         gate: &G,
-        items: &UnitList,
-        ahead: &[ReadAhead],
+        items: &UnitListOf<F>,
+        ahead: &[ReadAhead<Prefix<F>>],
     ) -> Result<(), Memory>
         requires { AreReadAhead (units_of items.now) ahead.now }
         ensures { OnOk result (Takes S.stands_for self.old self.new (units_of items.now)) }
@@ -185,17 +174,36 @@ impl<S: Sessions> Worker<S> {
     }
 }
 
+impl<F: Unicast, S: Sessions<Addr = F>> Works for Worker<S, Prefix<F>, FamilyMark<F>> {
+    ghost use Rattle.lane_deal.specs.LaneWorkers.{Worked};
+
+    ghost worked = { Worked S.stands_for };
+
+    fn run<G: Gate>(
+        &mut self,
+        alloc: Global,
+        gate: &G,
+        over: &AtomicBool,
+        patience: Patience,
+    ) -> Result<(), Memory> {
+        let mut ahead = Vec::new(alloc);
+        let mut buffer = Vec::new(alloc);
+        self.take_all_known(alloc, gate, &mut buffer, &mut ahead)?;
+        self.look_again(alloc, gate, over, patience, &mut buffer, &mut ahead)
+    }
+}
+
 /// Runs each worker in its own thread if one can be started.
 #[cycle(halves)]
-pub fn run_all<R: Threads + Sync, S: Sessions + Send, G: Gate>(
+pub fn run_all<R: Threads + Sync, W: Works + Send, G: Gate + Sync>(
     rt: &R,
     alloc: Global,
     gate: &G,
     over: &AtomicBool,
     patience: Patience,
-    workers: &mut [Worker<S>],
+    workers: &mut [W],
 ) -> Result<(), Memory>
-    ensures { OnOk result (AllZip (Worked S.stands_for) workers.old workers.new) }
+    ensures { OnOk result (AllZip W.worked workers.old workers.new) }
 {
     if workers.len() < 2 {
         return run_at_most_one(alloc, gate, over, patience, workers);
@@ -206,26 +214,26 @@ pub fn run_all<R: Threads + Sync, S: Sessions + Send, G: Gate>(
 }
 
 #[cycle(halves)]
-fn run_both<R: Threads + Sync, S: Sessions + Send, G: Gate>(
+fn run_both<R: Threads + Sync, W: Works + Send, G: Gate + Sync>(
     rt: &R,
     alloc: Global,
     gate: &G,
     over: &AtomicBool,
     patience: Patience,
-    front: &mut [Worker<S>],
-    back: &mut [Worker<S>],
+    front: &mut [W],
+    back: &mut [W],
 ) -> Result<(), Memory>
     requires { (0 < length front.old) × (0 < length back.old) }
-    ensures front { OnOk result (AllZip (Worked S.stands_for) front.old front.new) }
-    ensures back { OnOk result (AllZip (Worked S.stands_for) back.old back.new) }
+    ensures front { OnOk result (AllZip W.worked front.old front.new) }
+    ensures back { OnOk result (AllZip W.worked back.old back.new) }
 {
     let mut run_front = || -> Result<(), Memory>
-        requires { IsSync R.row × IsSync G.row × IsSend S.row }
-        ensures { OnOk result (AllZip (Worked S.stands_for) front.entry.now front.exit.now) }
+        requires { IsSync R.row × IsSync G.row × IsSend W.row }
+        ensures { OnOk result (AllZip W.worked front.entry.now front.exit.now) }
     { run_all(rt, alloc, gate, over, patience, front) };
     let mut run_back = || -> Result<(), Memory>
-        requires { IsSync R.row × IsSync G.row × IsSend S.row }
-        ensures { OnOk result (AllZip (Worked S.stands_for) back.entry.now back.exit.now) }
+        requires { IsSync R.row × IsSync G.row × IsSend W.row }
+        ensures { OnOk result (AllZip W.worked back.entry.now back.exit.now) }
     { run_all(rt, alloc, gate, over, patience, back) };
     let (first, second) = join_mut(rt, &mut run_front, &mut run_back);
     first?;
@@ -233,15 +241,15 @@ fn run_both<R: Threads + Sync, S: Sessions + Send, G: Gate>(
 }
 
 /// Runs the worker, if there is one, in the calling thread.
-pub fn run_at_most_one<S: Sessions, G: Gate>(
+pub fn run_at_most_one<W: Works, G: Gate>(
     alloc: Global,
     gate: &G,
     over: &AtomicBool,
     patience: Patience,
-    workers: &mut [Worker<S>],
+    workers: &mut [W],
 ) -> Result<(), Memory>
     requires { length workers.old < 2 }
-    ensures { OnOk result (AllZip (Worked S.stands_for) workers.old workers.new) }
+    ensures { OnOk result (AllZip W.worked workers.old workers.new) }
 {
     if workers.is_empty() {
         return Ok(());

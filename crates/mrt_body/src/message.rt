@@ -20,6 +20,7 @@ fn has_marker(bytes: &[u8]) -> bool
 }
 
 /// Returns the type of a message and the bytes after its header.
+#[inline(always)]
 #[tactic(auto, unfolding(crate::specs::Events::message_in))]
 pub(crate) fn message_in(bytes: &[u8]) -> Result<(u8, &[u8]), Fault>
     ensures { Reads (λ m. (m.0, m.1.now)) result (events.message_in bytes.now) }

@@ -76,6 +76,7 @@ impl FrameReader {
     /// Returns what `next` returns. The body of a whole record is read into this block of memory, whose contents are
     /// replaced, and which grows if it is too small. Whoever is done with a record has its body's memory for the next
     /// one.
+    #[inline(always)]
     pub fn next_into<R: Source>(
         &mut self,
         block: Vec<u8>,

@@ -3,11 +3,11 @@ use Rattle.std.proofs.Common.{◌≡◌, ℕ, List, [], ◌∷◌, ◌++◌, Non
 use Rattle.std.specs.Prelude.{codes, Option}
 use Rattle.std.specs.List.{flat_map}
 use Rattle.mrt_frame.proofs.Hexadecimal.{hex}
+use Rattle.bgp_update.specs.Families.{ipv4}
 use Rattle.mrt_body.specs.Choices.{all_units}
 use Rattle.mrt_body.proofs.Dumps.{marker_16, session_four, session_two, plain_attributes, announcement_of, announcement_with}
 use Rattle.rib_report.specs.declared.forms.AddressForm.TheVariants.{Full}
-use Rattle.rib_report.specs.declared.request.Layout.{Layout}
-use Rattle.rib_report.specs.declared.request.Request.{Request}
+use Rattle.rib_report.specs.Plain.{Layout, Request}
 use Rattle.mrt_replay.specs.Reports.{report}
 
 -- the bytes of an UPDATE: the record's header, the session's fields, the message behind its marker
@@ -121,7 +121,7 @@ pub record Row : Type 0 where
 
 -- addresses in full
 abbrev pub in_full : Layout
-in_full = record { addresses = record { peers = Full; routes = Full } }
+in_full = record { addresses = record { peers = Full; routes = Full; family = ipv4 } }
 
 -- these lines are the report on a file
 abbrev pub row : Request → List ℕ → List (List ℕ) → Row

@@ -19,8 +19,7 @@ use Rattle.peer_tables.specs.Peers.{peers_of, units_of_peer}
 use Rattle.peer_tables.specs.Tables.{Seat, tables_of, chosen_seat, chosen_tables, all_faults, all_routes}
 use Rattle.peer_tables.proofs.RowLaws.{flat_map_twice}
 use Rattle.peer_tables.proofs.StandingLaws.{peer_seat, seats_from}
-use Rattle.rib_report.specs.declared.request.Layout.{Layout}
-use Rattle.rib_report.specs.declared.request.Request.{Request}
+use Rattle.rib_report.specs.Plain.{Layout, Request}
 use Rattle.lane_deal.specs.declared.plan.Plan.{Plan}
 use Rattle.mrt_replay.specs.Reports.{listing_of, told_lines, text_by, text, report, listed_faults, AreRounds, RoundsOf}
 use Rattle.mrt_replay.specs.Tellings.{watch_faults, watch_routes}

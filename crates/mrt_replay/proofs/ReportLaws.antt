@@ -22,3 +22,8 @@ wrote_lines result old new same h = subst (λ l. OnOk result (Appends old new l)
 pub wrote_front : (result : Result (Unit {0}) ReplayError) (old new : Option (List ℕ)) {one other : List ℕ} → one ≡ other → OnErr result (WritesFront old new one) → result ≡ Err errors.Write → WritesFront old new other
 wrote_front (Ok x) old new same h e = absurd cc
 wrote_front (Err error) old new same h e = subst (WritesFront old new) same h
+
+-- what holds after each failure holds after this one
+pub after_write : {Q : Type 0} (result : Result (Unit {0}) ReplayError) → OnErr result Q → result ≡ Err errors.Write → Q
+after_write (Ok x) h e = absurd cc
+after_write (Err error) h e = h

@@ -20,8 +20,7 @@ use Rattle.peer_tables.specs.Peers.{peers_of}
 use Rattle.mrt_body.specs.Plain.{PrefixChoice}
 use Rattle.peer_tables.specs.Tables.{Seat, TablesState, tables_of, chosen_seat, chosen_tables, all_faults, all_routes}
 use Rattle.rib_report.specs.Reports.{place_cmp, placed, in_place_order}
-use Rattle.rib_report.specs.declared.request.Layout.{Layout}
-use Rattle.rib_report.specs.declared.request.Request.{Request}
+use Rattle.rib_report.specs.Plain.{Layout, Request}
 use Rattle.mrt_replay.specs.Reports.{lines_of, listing_of, text_by, text, report, listed_faults}
 use Rattle.std.proofs.KnownBytes.{Keeps-refl}
 use Rattle.mrt_replay.specs.Premises.{AreHonest}

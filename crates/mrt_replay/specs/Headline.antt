@@ -7,8 +7,7 @@ use Rattle.mrt_frame.specs.declared.error.ReplayError.{ReplayError}
 use Rattle.mrt_frame.specs.declared.error.ReplayError.TheVariants as errors
 use Rattle.mrt_body.specs.Choices.{UnitSelection}
 use Rattle.lane_deal.specs.declared.plan.Plan.{Plan}
-use Rattle.rib_report.specs.declared.request.Layout.{Layout}
-use Rattle.rib_report.specs.declared.request.Request.{Request}
+use Rattle.rib_report.specs.Plain.{Layout, Request}
 use Rattle.mrt_replay.specs.declared.summary.Summary.{Summary}
 use Rattle.mrt_replay.specs.Reports.{report, IsSummary}
 use Rattle.mrt_replay.specs.Premises.{AreSound, AreWithin, AreHonest}

@@ -77,7 +77,7 @@ pub record HasPlayed (dealing : ℕ → ℕ → ℕ) (plan : Plan) (before after
 
 -- The tables stand for the units and refusals of the files, which are counted; the routes of chosen prefixes alone are
 -- left.
-pub record IsReplayOf {M : Type 0} (selection : UnitSelection) (plan : Plan) (files : List (List ℕ)) (r : Replayed M) : Type 0 where
+pub record IsReplayOf {M A : Type 0} (selection : UnitSelection) (plan : Plan) (files : List (List ℕ)) (r : Replayed M A) : Type 0 where
   pub stands : r.tables
       ≡ chosen_tables selection.prefixes (tables_of (units_of selection files) (refused_of selection files))
   pub records_counted : r.records ≡ records_of files

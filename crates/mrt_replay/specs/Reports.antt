@@ -17,8 +17,7 @@ use Rattle.rib_report.specs.Lines.{route_line, visibility_line, origin_line, see
 use Rattle.rib_report.specs.HistoryLines.{history_line}
 use Rattle.mrt_body.specs.Choices.{UnitSelection, is_open}
 use Rattle.lane_deal.specs.declared.plan.Plan.{Plan}
-use Rattle.rib_report.specs.declared.request.Layout.{Layout}
-use Rattle.rib_report.specs.declared.request.Request.{Request}
+use Rattle.rib_report.specs.Plain.{Layout, Request}
 use Rattle.rib_report.specs.declared.request.Request.TheVariants as request
 use Rattle.mrt_replay.specs.declared.summary.Summary.{Summary}
 
@@ -46,13 +45,13 @@ listing_of (request.History since same) choices = Some (record { since = since; 
 -- the lines of a request's rows on tables; a history is none of tables
 abbrev pub lines_of : Request → Layout → TablesState → List ℕ
 lines_of request.Tables layout tables = flat_map (route_line layout.addresses) (route_rows tables)
-lines_of request.Visibility layout tables = flat_map visibility_line (visibility_rows tables)
-lines_of request.Origins layout tables = flat_map origin_line (origin_rows tables)
-lines_of request.Seen layout tables = flat_map seen_line (seen_rows tables)
+lines_of request.Visibility layout tables = flat_map (visibility_line layout.addresses) (visibility_rows tables)
+lines_of request.Origins layout tables = flat_map (origin_line layout.addresses) (origin_rows tables)
+lines_of request.Seen layout tables = flat_map (seen_line layout.addresses) (seen_rows tables)
 lines_of (request.Churn since) layout tables = flat_map (churn_line layout.addresses) (churn_rows tables)
 lines_of request.Peers layout tables = flat_map (peer_line layout.addresses) (peer_rows tables)
 lines_of (request.Match addr) layout tables =
-    flat_map (route_line layout.addresses) (match_rows tables (addr * 2 ^ 96))
+    flat_map (route_line layout.addresses) (match_rows tables addr)
 lines_of request.Faults layout tables = flat_map fault_line (fault_rows tables)
 lines_of (request.History since same) layout tables = []
 

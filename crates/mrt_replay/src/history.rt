@@ -8,6 +8,7 @@ ghost use Rattle.mrt_replay.specs.Tellings.{IsHistoryOf, watch_faults, watch_rou
 use crate::told::{Told, tell};
 use adj_rib::SharedRoute;
 use bgp_prefix::PrefixMap;
+use bgp_update::Unicast;
 use mrt_body::{Remarks, Selection, Units};
 use mrt_frame::{ReplayError, Source};
 use peer_tables::{Listing, Watched};
@@ -15,7 +16,7 @@ use std::alloc::Global;
 
 /// The result of replaying files into rows of what happened, and what was counted.
 #[derive(Drop)]
-pub struct History<M: PrefixMap<SharedRoute, Addr = u32>> {
+pub struct History<M: PrefixMap<SharedRoute>> {
     pub told: Told<M>,
     pub records: u64,
     pub aside: u64,
@@ -23,15 +24,16 @@ pub struct History<M: PrefixMap<SharedRoute, Addr = u32>> {
 }
 
 /// Replays the files in order into the rows of what happened to chosen prefixes.
-pub fn list_history<M, R>(
+pub fn list_history<F, M, R>(
     alloc: Global,
     files: &mut [R],
     listing: Listing,
-    selection: Selection,
+    selection: Selection<F>,
     max_records: u64,
 ) -> Result<History<M>, ReplayError>
 where
-    M: PrefixMap<SharedRoute, Addr = u32> + Drop,
+    F: Unicast,
+    M: PrefixMap<SharedRoute, Addr = F> + Drop,
     R: Source,
     requires { (0 < max_records) × (max_records ≤ 2 ^ 47) }
     // If the readers state their bytes, the rows and watches are those of the units of these.
@@ -59,7 +61,7 @@ where
 }
 
 /// Returns the number of faults: so many refusals, and the damaged units of all peers. Saturates at `u64::MAX`.
-pub fn count_faults<M: PrefixMap<SharedRoute, Addr = u32>>(
+pub fn count_faults<F: Unicast, M: PrefixMap<SharedRoute, Addr = F>>(
     refusals: u64,
     watches: &[Watched<M>],
 ) -> u64
@@ -73,7 +75,7 @@ pub fn count_faults<M: PrefixMap<SharedRoute, Addr = u32>>(
 }
 
 /// Returns the number of routes of chosen prefixes in the tables of all peers. Saturates at `u64::MAX`.
-pub fn count_routes<M: PrefixMap<SharedRoute, Addr = u32>>(watches: &[Watched<M>]) -> u64
+pub fn count_routes<F: Unicast, M: PrefixMap<SharedRoute, Addr = F>>(watches: &[Watched<M>]) -> u64
     ensures { result ≡ min (length (watch_routes (map watch_in watches.now))) (2 ^ 64 - 1) }
 {
     let mut count = 0u64;

@@ -2,6 +2,7 @@
 
 use adj_rib::SharedRoute;
 use bgp_prefix::PrefixMap;
+use bgp_update::Unicast;
 use mrt_body::PeerKey;
 use peer_tables::Watched;
 use rib_report::Tables;
@@ -55,7 +56,9 @@ impl Idle {
 }
 
 /// Returns the idle units that tables counted.
-pub(crate) fn idle_of_tables<M: PrefixMap<SharedRoute, Addr = u32>>(tables: &Tables<M>) -> Idle {
+pub(crate) fn idle_of_tables<F: Unicast, M: PrefixMap<SharedRoute, Addr = F>>(
+    tables: &Tables<M>,
+) -> Idle {
     let mut idle = Idle::new();
     for seat in tables.seats() {
         idle.add(seat.key, seat.session.churn().idle);
@@ -64,7 +67,7 @@ pub(crate) fn idle_of_tables<M: PrefixMap<SharedRoute, Addr = u32>>(tables: &Tab
 }
 
 /// Returns the idle units that watches counted.
-pub(crate) fn idle_of_watches<M: PrefixMap<SharedRoute, Addr = u32>>(
+pub(crate) fn idle_of_watches<F: Unicast, M: PrefixMap<SharedRoute, Addr = F>>(
     watches: &[Watched<M>],
 ) -> Idle {
     let mut idle = Idle::new();

@@ -8,6 +8,7 @@ ghost use Rattle.mrt_frame.specs.declared.error.ReplayError.TheVariants as error
 ghost use Rattle.lane_deal.specs.Plans.{IsPlan};
 ghost use Rattle.mrt_replay.specs.Headline.{IsPromised};
 ghost use Rattle.mrt_replay.specs.Reports.{counting_of, lines_of, listed_by, listing_of, told_lines};
+ghost use Rattle.rib_report.specs.Requests.{request_of};
 
 use crate::history::{count_faults, count_routes, list_history};
 use crate::idle::{idle_of_tables, idle_of_watches};
@@ -15,15 +16,17 @@ use crate::replayed::replay;
 use crate::summary::Summary;
 use crate::told::Told;
 use adj_rib::SharedRoute;
-use bgp_prefix::PrefixMap;
+use bgp_prefix::{Family, PrefixMap};
+use bgp_update::Unicast;
 use lane_deal::{Dealing, Gate, Plan};
 use mrt_body::{ChosenPrefixes, Damage, Selection};
 use mrt_frame::{ReplayError, Sink, Source};
 use peer_tables::{Listed, Listing, Watched};
 use rib_report::{
-    Layout, Request, Tables, churn, faults, list_tables, matches, origins_with_threads, peers,
-    seen_with_threads, visibility_with_threads, watched_churn, write_churn, write_faults,
-    write_history, write_origins, write_peers, write_rows, write_seen, write_visibility,
+    LayoutOf, Request, Tables, WrittenAddress, churn, faults, list_tables, matches,
+    origins_with_threads, peers, seen_with_threads, visibility_with_threads, watched_churn,
+    write_churn, write_faults, write_history, write_origins, write_peers, write_rows, write_seen,
+    write_visibility,
 };
 use std::alloc::Global;
 use std::marker::Sync;
@@ -35,32 +38,33 @@ use std::thread::Threads;
 /// Nothing is written before the last record has been read and the report's rows have been made, so `Read`,
 /// `Memory` and `Records` leave nothing written; `Write` leaves a leading part of the report. Workers, ring,
 /// batch and dealing don't affect what is written.
-pub fn run<M, T, R, W, D, G>(
+pub fn run<F, M, T, R, W, D, G>(
     rt: &T,
     alloc: Global,
     files: &mut [R],
-    request: &Request,
-    layout: Layout,
-    selection: Selection,
+    request: &Request<F>,
+    layout: LayoutOf<F>,
+    selection: Selection<F>,
     plan: &Plan,
     dealing: &D,
     gate: &G,
     out: &mut W,
 ) -> Result<Summary, ReplayError>
 where
-    M: PrefixMap<SharedRoute, Addr = u32> + Send + Sync + Drop,
+    F: WrittenAddress + Send + Sync,
+    M: PrefixMap<SharedRoute, Addr = F> + Send + Sync + Drop,
     T: Threads + Sync,
     R: Source + Send,
     W: Sink,
     D: Dealing + Sync,
-    G: Gate,
+    G: Gate + Sync,
     requires { IsPlan plan.now }
     // A run that completes wrote the report on the selected units of the files' bytes, byte for byte, counted them,
     // flushed the writer after that, and met no failure. An error has its cause, and leaves nothing written, or a
     // leading part of the report. With sound devices and records within the limit it completes, unless it runs out of
     // memory.
     ensures promised { IsPromised (record {
-      request = request.now;
+      request = request_of F.bits request.now;
       layout = layout;
       selection = selection;
       plan = plan.now;
@@ -78,17 +82,17 @@ where
     ensures untouched { IfErr result (λ e. (e ≡ errors.Write → ⊥) → out.new ≡ out.old) }
 {
     match listing_of(request, selection.prefixes()) {
-        Some(listing) => run_history::<M, R, W, G>(
+        Some(listing) => run_history::<F, M, R, W, G>(
             alloc, files, request, layout, listing, selection, plan, gate, out,
         ),
-        None => run_on_tables::<M, T, R, W, D, G>(
+        None => run_on_tables::<F, M, T, R, W, D, G>(
             rt, alloc, files, request, layout, selection, plan, dealing, gate, out,
         ),
     }
 }
 
 /// Returns from when on what happened is counted, if a second or prefixes are named.
-fn counting_of(since: Option<u64>, chosen: &ChosenPrefixes) -> Option<Listing>
+fn counting_of<F: Family>(since: Option<u64>, chosen: &ChosenPrefixes<F>) -> Option<Listing>
     ensures { result ≡ counting_of since chosen.now }
 {
     if since.is_some() || !chosen.is_open() {
@@ -108,8 +112,8 @@ fn listed_by(same: bool) -> Listed
 }
 
 /// Returns which of the things that happened are asked for, if a history is, or counts of a part of them.
-fn listing_of(request: &Request, chosen: &ChosenPrefixes) -> Option<Listing>
-    ensures { result ≡ listing_of request.now chosen.now }
+fn listing_of<F: Family>(request: &Request<F>, chosen: &ChosenPrefixes<F>) -> Option<Listing>
+    ensures { result ≡ listing_of (request_of F.bits request.now) chosen.now }
 {
     match request {
         Request::Churn { since } => counting_of(*since, chosen),
@@ -128,29 +132,30 @@ fn listing_of(request: &Request, chosen: &ChosenPrefixes) -> Option<Listing>
 }
 
 /// Replays the files into tables, by workers in lanes, and writes the report on them.
-fn run_on_tables<M, T, R, W, D, G>(
+fn run_on_tables<F, M, T, R, W, D, G>(
     rt: &T,
     alloc: Global,
     files: &mut [R],
-    request: &Request,
-    layout: Layout,
-    selection: Selection,
+    request: &Request<F>,
+    layout: LayoutOf<F>,
+    selection: Selection<F>,
     plan: &Plan,
     dealing: &D,
     gate: &G,
     out: &mut W,
 ) -> Result<Summary, ReplayError>
 where
-    M: PrefixMap<SharedRoute, Addr = u32> + Send + Sync + Drop,
+    F: WrittenAddress + Send + Sync,
+    M: PrefixMap<SharedRoute, Addr = F> + Send + Sync + Drop,
     T: Threads + Sync,
     R: Source + Send,
     W: Sink,
     D: Dealing + Sync,
-    G: Gate,
+    G: Gate + Sync,
     requires plan { IsPlan plan.now }
-    requires tables { listing_of request.now selection.prefixes ≡ None }
+    requires tables { listing_of (request_of F.bits request.now) selection.prefixes ≡ None }
     ensures promised { IsPromised (record {
-      request = request.now;
+      request = request_of F.bits request.now;
       layout = layout;
       selection = selection;
       plan = plan.now;
@@ -166,7 +171,9 @@ where
     }) }
     ensures untouched { IfErr result (λ e. (e ≡ errors.Write → ⊥) → out.new ≡ out.old) }
 {
-    let replayed = match replay::<M, T, R, D, G>(rt, alloc, files, selection, plan, dealing, gate) {
+    let replayed = match replay::<F, M, T, R, D, G>(
+        rt, alloc, files, selection, plan, dealing, gate,
+    ) {
         Ok(replayed) => replayed,
         Err(error) => return Err(error),
     };
@@ -195,26 +202,27 @@ where
 }
 
 /// Replays the files into rows of what happened and its counts, in one thread, and writes what is asked for of these.
-fn run_history<M, R, W, G>(
+fn run_history<F, M, R, W, G>(
     alloc: Global,
     files: &mut [R],
-    request: &Request,
-    layout: Layout,
+    request: &Request<F>,
+    layout: LayoutOf<F>,
     listing: Listing,
-    selection: Selection,
+    selection: Selection<F>,
     plan: &Plan,
     gate: &G,
     writer: &mut W,
 ) -> Result<Summary, ReplayError>
 where
-    M: PrefixMap<SharedRoute, Addr = u32> + Drop,
+    F: WrittenAddress,
+    M: PrefixMap<SharedRoute, Addr = F> + Drop,
     R: Source,
     W: Sink,
-    G: Gate,
+    G: Gate + Sync,
     requires plan { IsPlan plan.now }
-    requires history { listing_of request.now selection.prefixes ≡ Some listing }
+    requires history { listing_of (request_of F.bits request.now) selection.prefixes ≡ Some listing }
     ensures promised { IsPromised (record {
-      request = request.now;
+      request = request_of F.bits request.now;
       layout = layout;
       selection = selection;
       plan = plan.now;
@@ -230,7 +238,13 @@ where
     }) }
     ensures untouched { IfErr result (λ e. (e ≡ errors.Write → ⊥) → writer.new ≡ writer.old) }
 {
-    let history = match list_history::<M, R>(alloc, files, listing, selection, plan.max_records) {
+    let history = match list_history::<F, M, R>(
+        alloc,
+        files,
+        listing,
+        selection,
+        plan.max_records,
+    ) {
         Ok(history) => history,
         Err(cause) => return Err(cause),
     };
@@ -259,9 +273,9 @@ where
 }
 
 /// Writes the rows of what happened, or where none is listed the counts of the watches.
-fn write_told<M: PrefixMap<SharedRoute, Addr = u32> + Drop, W: Sink>(
+fn write_told<F: WrittenAddress, M: PrefixMap<SharedRoute, Addr = F> + Drop, W: Sink>(
     alloc: Global,
-    layout: Layout,
+    layout: LayoutOf<F>,
     listed: Listed,
     told: &Told<M>,
     out: &mut W,
@@ -287,7 +301,7 @@ fn write_told<M: PrefixMap<SharedRoute, Addr = u32> + Drop, W: Sink>(
 }
 
 /// Reports each listed fault to the gate.
-fn tell_history_faults<M: PrefixMap<SharedRoute, Addr = u32>, G: Gate>(
+fn tell_history_faults<F: Unicast, M: PrefixMap<SharedRoute, Addr = F>, G: Gate>(
     gate: &G,
     refused: &[Damage],
     watches: &[Watched<M>],
@@ -303,7 +317,10 @@ fn tell_history_faults<M: PrefixMap<SharedRoute, Addr = u32>, G: Gate>(
 }
 
 /// Reports each listed fault to the gate.
-fn tell_faults<M: PrefixMap<SharedRoute, Addr = u32>, G: Gate>(gate: &G, tables: &Tables<M>) {
+fn tell_faults<F: Unicast, M: PrefixMap<SharedRoute, Addr = F>, G: Gate>(
+    gate: &G,
+    tables: &Tables<M>,
+) {
     for damage in tables.refused() {
         gate.listed(damage, true);
     }
@@ -316,21 +333,27 @@ fn tell_faults<M: PrefixMap<SharedRoute, Addr = u32>, G: Gate>(gate: &G, tables:
 
 /// Writes the report that is asked for. As many threads as there are workers make the lines of large tables, and two,
 /// if there are so many workers, the rows of `visibility`, `origins` and `seen`.
-fn write_report<M: PrefixMap<SharedRoute, Addr = u32> + Sync + Drop, T: Threads + Sync, W: Sink>(
+fn write_report<
+    F: WrittenAddress + Send + Sync,
+    M: PrefixMap<SharedRoute, Addr = F> + Sync + Drop,
+    T: Threads + Sync,
+    W: Sink,
+>(
     rt: &T,
     alloc: Global,
     workers: usize,
-    request: &Request,
-    layout: Layout,
+    request: &Request<F>,
+    layout: LayoutOf<F>,
     tables: &Tables<M>,
     out: &mut W,
 ) -> Result<(), ReplayError>
-    ensures ok { OnOk result (Appends (W.contents out.old) (W.contents out.new) (lines_of request.now layout tables.now)) }
+    ensures ok { OnOk result (Appends (W.contents out.old) (W.contents out.new)
+        (lines_of (request_of F.bits request.now) layout tables.now)) }
     ensures sound { OnOk result (W.failure_count out.new ≡ W.failure_count out.old) }
     ensures errors { IfErr result (λ e. (e ≡ errors.Memory) ⊎ (e ≡ errors.Write)) }
     ensures untouched { result ≡ Err errors.Memory → out.new ≡ out.old }
     ensures front { result ≡ Err errors.Write → WritesFront (W.contents out.old) (W.contents out.new)
-        (lines_of request.now layout tables.now) }
+        (lines_of (request_of F.bits request.now) layout tables.now) }
     ensures risen { result ≡ Err errors.Write → HasFailed (W.failure_count out.old) (W.failure_count out.new) }
 {
     let forms = layout.addresses;
@@ -338,15 +361,15 @@ fn write_report<M: PrefixMap<SharedRoute, Addr = u32> + Sync + Drop, T: Threads 
         Request::Tables => list_tables(rt, alloc, workers, out, forms, tables),
         Request::Visibility => {
             let rows = visibility_with_threads(rt, alloc, workers, tables)?;
-            write_visibility(out, rows.as_slice())
+            write_visibility(out, forms, rows.as_slice())
         }
         Request::Origins => {
             let rows = origins_with_threads(rt, alloc, workers, tables)?;
-            write_origins(out, rows.as_slice())
+            write_origins(out, forms, rows.as_slice())
         }
         Request::Seen => {
             let rows = seen_with_threads(rt, alloc, workers, tables)?;
-            write_seen(out, rows.as_slice())
+            write_seen(out, forms, rows.as_slice())
         }
         Request::Churn { since: _ } => write_churn(out, forms, churn(alloc, tables)?.as_slice()),
         Request::Peers => write_peers(out, forms, peers(alloc, tables)?.as_slice()),

@@ -10,6 +10,7 @@ ghost use Rattle.mrt_replay.specs.Replays.{HasPlayed, IsReplayOf, StopsFiles, St
 
 use adj_rib::SharedRoute;
 use bgp_prefix::PrefixMap;
+use bgp_update::Unicast;
 use lane_deal::{Dealing, Gate, Plan, Replayer, Step};
 use mrt_body::{Remarks, Selection, Units};
 use mrt_frame::{ReplayError, Source};
@@ -20,7 +21,7 @@ use std::thread::Threads;
 
 /// The result of replaying files: the tables of all peers, and what was counted.
 #[derive(Drop)]
-pub struct Replayed<M: PrefixMap<SharedRoute, Addr = u32>> {
+pub struct Replayed<M: PrefixMap<SharedRoute>> {
     pub tables: Tables<M>,
     pub records: u64,
     pub units: u64,
@@ -40,20 +41,21 @@ fn is_end(step: Step) -> bool
 }
 
 /// Runs rounds until the files end.
-fn play<M, T, R, D, G>(
+fn play<F, M, T, R, D, G>(
     rt: &T,
     alloc: Global,
-    units: &mut Units,
+    units: &mut Units<F>,
     files: &mut [R],
     replayer: &mut Replayer<M, D>,
     gate: &G,
 ) -> Result<(), ReplayError>
 where
-    M: PrefixMap<SharedRoute, Addr = u32> + Send + Drop,
+    F: Unicast + Send,
+    M: PrefixMap<SharedRoute, Addr = F> + Send + Drop,
     T: Threads + Sync,
     R: Source + Send,
     D: Dealing + Send,
-    G: Gate,
+    G: Gate + Sync,
     requires files { length files.old ≡ units.old.count }
     requires going { units.old.standing ≡ Going }
     requires running { replayer.old.state ≡ Running }
@@ -84,21 +86,22 @@ where
 }
 
 /// Replays the files in order into one table per peer, of which the routes of chosen prefixes are left.
-pub fn replay<M, T, R, D, G>(
+pub fn replay<F, M, T, R, D, G>(
     rt: &T,
     alloc: Global,
     files: &mut [R],
-    selection: Selection,
+    selection: Selection<F>,
     plan: &Plan,
     dealing: &D,
     gate: &G,
 ) -> Result<Replayed<M>, ReplayError>
 where
-    M: PrefixMap<SharedRoute, Addr = u32> + Send + Drop,
+    F: Unicast + Send,
+    M: PrefixMap<SharedRoute, Addr = F> + Send + Drop,
     T: Threads + Sync,
     R: Source + Send,
     D: Dealing + Sync,
-    G: Gate,
+    G: Gate + Sync,
     requires { IsPlan plan.now }
     // If the readers state their bytes, the tables stand for the units and refusals of these.
     ensures replayed { (contents : List (List ℕ)) → map R.remaining files.old ≡ map (λ bytes. Some bytes) contents →

@@ -14,7 +14,8 @@ ghost use Rattle.mrt_replay.specs.Tellings.{Tells};
 
 use adj_rib::SharedRoute;
 use bgp_prefix::{Memory, PrefixMap};
-use mrt_body::{ChosenPrefixes, Damage, Found, LentUnit, Units};
+use bgp_update::Unicast;
+use mrt_body::{ChosenPrefixes, Damage, Found, FoundOf, LentUnitOf, Units};
 use mrt_frame::{ReplayError, Source};
 use peer_tables::{HistoryRow, Listing, Watches};
 use std::alloc::Global;
@@ -22,14 +23,14 @@ use std::alloc::Global;
 /// What a replay of files into rows leaves: the watches on all peers, the rows, the refusals, and how many units there
 /// were, which stops at `u64::MAX`.
 #[derive(Drop)]
-pub struct Told<M: PrefixMap<SharedRoute, Addr = u32>> {
+pub struct Told<M: PrefixMap<SharedRoute>> {
     pub watches: Watches<M>,
-    pub rows: Vec<HistoryRow>,
+    pub rows: Vec<HistoryRow<M::Addr>>,
     pub refused: Vec<Damage>,
     pub units: u64,
 }
 
-impl<M: PrefixMap<SharedRoute, Addr = u32> + Drop> Told<M> {
+impl<F: Unicast, M: PrefixMap<SharedRoute, Addr = F> + Drop> Told<M> {
     ghost use Rattle.std.specs.Prelude.{◌≡◌, [], IfOk};
 
     /// Before the first unit.
@@ -48,9 +49,9 @@ impl<M: PrefixMap<SharedRoute, Addr = u32> + Drop> Told<M> {
     fn take_unit(
         &mut self,
         alloc: Global,
-        chosen: &ChosenPrefixes,
+        chosen: &ChosenPrefixes<F>,
         listing: Listing,
-        unit: &LentUnit<'_>,
+        unit: &LentUnitOf<'_, F>,
     ) -> Result<(), Memory>
         ensures { (units : List ReplayUnit) (refused : List AnyDamage) → Tells chosen.now listing self.old units refused →
             OnOk result (Tells chosen.now listing self.new (units ++ lent_unit unit.now ∷ []) refused) }
@@ -75,9 +76,9 @@ impl<M: PrefixMap<SharedRoute, Addr = u32> + Drop> Told<M> {
     fn take(
         &mut self,
         alloc: Global,
-        chosen: &ChosenPrefixes,
+        chosen: &ChosenPrefixes<F>,
         listing: Listing,
-        found: Found,
+        found: FoundOf<F>,
     ) -> Result<(), Memory>
         ensures { (units : List ReplayUnit) (refused : List AnyDamage) → Tells chosen.now listing self.old units refused →
             OnOk result (Tells chosen.now listing self.new (units ++ filter_map unit_of (found ∷ []))
@@ -97,16 +98,17 @@ impl<M: PrefixMap<SharedRoute, Addr = u32> + Drop> Told<M> {
 }
 
 /// Takes all that the files still hold.
-pub fn tell<M, R>(
+pub fn tell<F, M, R>(
     alloc: Global,
-    units: &mut Units,
+    units: &mut Units<F>,
     files: &mut [R],
-    chosen: &ChosenPrefixes,
+    chosen: &ChosenPrefixes<F>,
     listing: Listing,
     told: &mut Told<M>,
 ) -> Result<(), ReplayError>
 where
-    M: PrefixMap<SharedRoute, Addr = u32> + Drop,
+    F: Unicast,
+    M: PrefixMap<SharedRoute, Addr = F> + Drop,
     R: Source,
     requires files { length files.old ≡ units.old.count }
     requires going { units.old.standing ≡ Going }

@@ -1,6 +1,6 @@
 //! Rows on devices that fail: at each read, at each write, and past the limit on records.
 
-use crate::harness::{FULL, PLAN, replay, replay_readers};
+use crate::harness::{PLAN, full, replay, replay_readers};
 use adj_rib::SharedRoute;
 use bgp_prefix::Radix;
 use fixtures::{Dripping, THREE_PEERS, THREE_ROUTES, bytes_of};
@@ -121,12 +121,12 @@ fn run_into(
 ) -> Result<(Result<Summary, ReplayError>, Vec<u8>), Fail> {
     let mut readers = [Counted::new(bytes)];
     let mut out = Counted::new(writer);
-    let result = run::<Radix<u32, SharedRoute>, _, _, _, _, _>(
+    let result = run::<_, Radix<u32, SharedRoute>, _, _, _, _, _>(
         rt,
         alloc,
         &mut readers,
         &Request::Tables,
-        FULL,
+        full(),
         Selection::all(alloc),
         &PLAN,
         &ByTurns,

@@ -2,10 +2,10 @@
 //! leaves what it says. The gate runs them with ample memory; `make growths` refuses the Nth growth of each
 //! test, for N = 1, 2 and so on. A growth that is refused to a test itself ends it with an error.
 
-use crate::harness::{FULL, PLAN};
+use crate::harness::{PLAN, full};
 use adj_rib::SharedRoute;
 use bgp_prefix::{Flat, PrefixMap, Radix};
-use command_line::{Usage, read_words};
+use command_line::{Asked, Usage, read_words};
 use fixtures::{THREE_PEERS, THREE_ROUTES, bytes_of};
 use lane_deal::{ByBlocks, ByList, ByTurns, Dealing, NoGate, Plan};
 use mrt_body::Selection;
@@ -31,12 +31,12 @@ fn expect_report<M: PrefixMap<SharedRoute, Addr = u32> + Send + Sync + Drop, D: 
     let bytes = bytes_of(alloc, words)?;
     let mut readers = [Counted::new(bytes.as_slice())];
     let mut out = Counted::new(Vec::<u8>::with_capacity(alloc, 1000)?);
-    let result = run::<M, _, _, _, _, _>(
+    let result = run::<_, M, _, _, _, _, _>(
         rt,
         alloc,
         &mut readers,
         request,
-        FULL,
+        full(),
         Selection::all(alloc),
         &PLAN,
         dealing,
@@ -118,12 +118,12 @@ fn words_give_their_job_or_want_memory(rt: HostRuntime) -> Result<(), Fail> {
     }
     let answer = read_words(alloc, words.as_slice());
     match &answer {
-        Ok(job) => {
+        Ok(Asked::Ipv4(job)) => {
             assert!(rt; job.request == Request::Tables && job.workers == 4 && job.ring == 1024);
             assert!(rt; job.files.len() == 1);
         }
         Err(Usage::Memory) => {}
-        Err(_) => assert!(rt; false, "tables x"),
+        Ok(Asked::Ipv6(_)) | Err(_) => assert!(rt; false, "tables x"),
     }
     Ok(())
 }

@@ -2,7 +2,7 @@
 
 use adj_rib::SharedRoute;
 use bgp_prefix::{Flat, PrefixMap, Radix};
-use command_line::{read_address, read_words};
+use command_line::{Asked, read_address, read_words};
 use fixtures::{Dripping, bytes_of};
 use lane_deal::{ByTurns, NoGate, Plan};
 use mrt_body::{ChosenPrefixes, PeerChoice, PrefixChoice, RibRule, Selection, Share, StateRule};
@@ -26,12 +26,11 @@ pub const PLAN: Plan = Plan {
 };
 
 /// Addresses in full.
-pub const FULL: Layout = Layout {
-    addresses: AddressForms {
-        peers: AddressForm::Full,
-        routes: AddressForm::Full,
-    },
-};
+pub fn full() -> Layout {
+    Layout {
+        addresses: AddressForms::all(AddressForm::Full),
+    }
+}
 
 /// What a run answered, and what it wrote.
 #[derive(Drop)]
@@ -62,8 +61,17 @@ fn replay_selected<M: PrefixMap<SharedRoute, Addr = u32> + Send + Sync + Drop, R
 ) -> Result<Outcome, Fail> {
     assert!(rt; plan.check());
     let mut out = Counted::new(Vec::<u8>::new(alloc));
-    let result = run::<M, _, _, _, _, _>(
-        rt, alloc, readers, request, FULL, selection, plan, &ByTurns, &NoGate, &mut out,
+    let result = run::<_, M, _, _, _, _, _>(
+        rt,
+        alloc,
+        readers,
+        request,
+        full(),
+        selection,
+        plan,
+        &ByTurns,
+        &NoGate,
+        &mut out,
     );
     let text = Vec::from_slice(alloc, out.device().as_slice())?;
     Ok(Outcome { result, text })
@@ -175,8 +183,9 @@ impl<'a> Row<'a> {
             words.push(String::from_str(alloc, word)?)?;
         }
         words.push(String::from_str(alloc, "x")?)?;
-        match read_words(alloc, words.as_slice()) {
-            Ok(job) => {
+        let asked = read_words(alloc, words.as_slice());
+        match &asked {
+            Ok(Asked::Ipv4(job)) => {
                 self.until = job.until;
                 self.prefixes = Vec::from_slice(alloc, job.prefixes.as_slice())?;
                 self.peers = Vec::from_slice(alloc, job.peers.as_slice())?;
@@ -184,7 +193,7 @@ impl<'a> Row<'a> {
                 self.states = job.states;
                 self.ribs = job.ribs;
             }
-            Err(_) => assert!(rt; false, "options {options}"),
+            Ok(Asked::Ipv6(_)) | Err(_) => assert!(rt; false, "options {options}"),
         }
         Ok(())
     }

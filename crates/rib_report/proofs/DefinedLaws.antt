@@ -17,7 +17,7 @@ use Rattle.bgp_prefix.proofs.OrderedLaws.{is_sorted-tabulated, find-tabulated}
 use Rattle.mrt_body.specs.declared.unit.Damage.{Damage}
 use Rattle.peer_tables.specs.Tables.{TablesState}
 use Rattle.rib_report.specs.Rows.{visibility_pair, origins_pair, seen_pair}
-use Rattle.rib_report.specs.declared.reports.origins.OriginRow.{OriginRow}
+use Rattle.rib_report.specs.Plain.{OriginRow}
 use Rattle.rib_report.specs.Reports.{seat_prefixes, table_prefixes, visibility_of, visible_among, visibility_rows, seat_prefix_origins, prefix_origin_cmp, prefix_origin_eq, seen_of, seen_among, seen_rows, table_origins, origins_among, origins_of, has_several, grouped_origins, origin_rows, place_cmp, in_place_order}
 use Rattle.rib_report.proofs.ListedLaws.{place_cmp_total, insertion_is}
 use Rattle.peer_tables.proofs.RowLaws.{map_twice}

@@ -10,6 +10,7 @@ use Rattle.bgp_update.specs.declared.next_hop.NextHop.TheVariants as next_hop
 use Rattle.bgp_update.specs.declared.path.SegmentKind.TheVariants.{AsSet, AsSequence, ConfedSequence, ConfedSet}
 use Rattle.bgp_update.specs.declared.route.Origin.TheVariants.{Igp, Incomplete}
 use Rattle.bgp_update.specs.declared.route.Route.{Route}
+use Rattle.bgp_update.specs.Families.{ipv4, ipv6}
 use Rattle.bgp_update.specs.Paths.{PathSegment}
 use Rattle.mrt_body.specs.declared.unit.PeerAddr.TheVariants.{V4, V6}
 use Rattle.mrt_body.specs.declared.unit.PeerKey.{PeerKey}
@@ -17,7 +18,8 @@ use Rattle.mrt_body.specs.declared.unit.Damage.{Damage}
 use Rattle.adj_rib.specs.declared.churn.Churn.{Churn}
 use Rattle.peer_tables.specs.Tables.{Seat, TablesState}
 use Rattle.rib_report.specs.declared.forms.AddressForm.TheVariants.{Full, Short}
-use Rattle.rib_report.specs.declared.forms.AddressForms.{AddressForms}
+use Rattle.rib_report.specs.AddressTexts.{address_text}
+use Rattle.rib_report.specs.Plain.{AddressForms}
 use Rattle.rib_report.specs.Reports.{route_rows, match_rows, visibility_rows, origin_rows, seen_rows, churn_rows, peer_rows, fault_rows, in_place_order}
 use Rattle.rib_report.specs.Lines.{route_line, visibility_line, origin_line, seen_line, churn_line, peer_line, fault_line}
 
@@ -25,7 +27,7 @@ abbrev end : List ℕ
 end = 10 ∷ []
 
 abbrev full : AddressForms
-full = record { peers = Full; routes = Full }
+full = record { peers = Full; routes = Full; family = ipv4 }
 
 -- a route of 192.0.2.1 whose path is 65000 and another segment
 abbrev route_to : PathSegment → Route
@@ -60,24 +62,24 @@ tables = record {
   refused = [];
 }
 
-visible : flat_map visibility_line (visibility_rows tables) ≡ codes "0.0.0.0/0|1" ++ end ++ codes "10.0.0.0/8|2" ++ end ++ codes "10.1.0.0/16|1" ++ end
-unfolding digits
+visible : flat_map (visibility_line full) (visibility_rows tables) ≡ codes "0.0.0.0/0|1" ++ end ++ codes "10.0.0.0/8|2" ++ end ++ codes "10.1.0.0/16|1" ++ end
+unfolding digits address_text
 visible = refl
 
-several : flat_map origin_line (origin_rows tables) ≡ codes "10.0.0.0/8|65001 65002" ++ end
-unfolding digits
+several : flat_map (origin_line full) (origin_rows tables) ≡ codes "10.0.0.0/8|65001 65002" ++ end
+unfolding digits address_text
 several = refl
 
 -- a peer counts once for two identifiers, and a path that ends in a set has no origin AS
-seen : flat_map seen_line (seen_rows tables) ≡ codes "0.0.0.0/0|65001|1" ++ end ++ codes "10.0.0.0/8|65001|2" ++ end ++ codes "10.0.0.0/8|65002|1" ++ end ++ codes "10.1.0.0/16|-|1" ++ end
-unfolding digits
+seen : flat_map (seen_line full) (seen_rows tables) ≡ codes "0.0.0.0/0|65001|1" ++ end ++ codes "10.0.0.0/8|65001|2" ++ end ++ codes "10.0.0.0/8|65002|1" ++ end ++ codes "10.1.0.0/16|-|1" ++ end
+unfolding digits address_text
 seen = refl
 
 matched : flat_map (route_line full) (match_rows tables (0x0a01ffff * 2 ^ 96))
     ≡ codes "65000 192.0.2.1|10.0.0.0/8|65000 65001|192.0.2.1|IGP|-|-|-|-" ++ end
     ++ codes "65000 192.0.2.1|10.0.0.0/8#7|65000 65002|192.0.2.1|IGP|-|-|-|-" ++ end
     ++ codes "65000 192.0.2.2|10.1.0.0/16|65000 {65003,65001}|192.0.2.1|IGP|-|-|-|-" ++ end
-unfolding digits
+unfolding digits address_text
 matched = refl
 
 listed : flat_map fault_line (fault_rows tables) ≡ codes "1|56|2|14|BadAttribute(1)" ++ end ++ codes "1|56|2|14|BadAttribute(1)" ++ end
@@ -106,7 +108,7 @@ whole_route = record {
 
 whole : flat_map (route_line full) (route_rows (record { seats = seat_at 0 0xc0000201 ((key_of 0x0a000000 8 4294967295, whole_route) ∷ []) ∷ []; refused = [] }))
     ≡ codes "65000 192.0.2.1|10.0.0.0/8#4294967295||2001:0db8:0000:0000:0000:0000:0000:0001 fe80:0000:0000:0000:0000:0000:0000:0002|INCOMPLETE|0|100|atomic|65000 192.0.2.1" ++ end
-unfolding digits
+unfolding digits address_text
 whole = refl
 
 -- ---- lines of rows with each field at its greatest, or absent
@@ -122,12 +124,12 @@ bare_route = record { origin = None; path = None; next_hop = None; med = None; l
 
 -- an absent path is not an empty one
 absent_path : route_line full (record { peer = peer; key = key_of 0 0 0; route = bare_route }) ≡ codes "65000 192.0.2.1|0.0.0.0/0|-|-|-|-|-|-|-" ++ end
-unfolding digits
+unfolding digits address_text
 absent_path = refl
 
 empty_path : route_line full (record { peer = peer; key = key_of 0x0a000000 8 1; route = record bare_route { path = Some []; next_hop = Some (next_hop.V6 0x20010db8000000000000000000000001) } })
     ≡ codes "65000 192.0.2.1|10.0.0.0/8#1||2001:0db8:0000:0000:0000:0000:0000:0001|-|-|-|-|-" ++ end
-unfolding digits
+unfolding digits address_text
 empty_path = refl
 
 -- a path with a segment of each kind
@@ -146,16 +148,16 @@ greatest_route = record {
 greatest_entry : route_line full (record { peer = last_peer; key = key_of 0xffffffff 32 0xffffffff; route = greatest_route })
     ≡ codes "4294967295 ffff:ffff:ffff:ffff:ffff:ffff:ffff:ffff|255.255.255.255/32#4294967295|(64512 1) [3,2] 4294967295 0 10 {70001,70000}"
     ++ codes "|ffff:ffff:ffff:ffff:ffff:ffff:ffff:ffff fe80:0000:0000:0000:0000:0000:0000:0000|INCOMPLETE|4294967295|4294967295|atomic|4294967295 255.255.255.255" ++ end
-unfolding digits
+unfolding digits address_text
 greatest_entry = refl
 
 -- ---- short addresses, of peers and of next hops alike, and of one of them
 
 abbrev short : AddressForms
-short = record { peers = Short; routes = Short }
+short = record { peers = Short; routes = Short; family = ipv4 }
 
 abbrev routes_short : AddressForms
-routes_short = record { peers = Full; routes = Short }
+routes_short = record { peers = Full; routes = Short; family = ipv4 }
 
 abbrev short_peer : PeerKey
 short_peer = record { asn = 65000; addr = V6 0x20010db8000000000001000000000001 }
@@ -163,28 +165,61 @@ short_peer = record { asn = 65000; addr = V6 0x20010db8000000000001000000000001 
 -- an IPv4 address is dotted in either form
 short_pair : route_line short (record { peer = short_peer; key = key_of 0x0a000000 8 0; route = whole_route })
     ≡ codes "65000 2001:db8::1:0:0:1|10.0.0.0/8||2001:db8::1 fe80::2|INCOMPLETE|0|100|atomic|65000 192.0.2.1" ++ end
-unfolding digits
+unfolding digits address_text
 short_pair = refl
 
 short_hop : route_line routes_short (record { peer = short_peer; key = key_of 0x0a000000 8 0; route = record bare_route { next_hop = Some (next_hop.V6 0x00000000000000000000ffffc0000201) } })
     ≡ codes "65000 2001:0db8:0000:0000:0001:0000:0000:0001|10.0.0.0/8|-|::ffff:c000:201|-|-|-|-|-" ++ end
-unfolding digits
+unfolding digits address_text
 short_hop = refl
 
 short_peer_line : peer_line short (record { peer = short_peer; is_established = true; routes = 0; units = 0; first = None; last = None; place = None }) ≡ codes "65000 2001:db8::1:0:0:1|up|0|0|-|-|-|-|-" ++ end
 unfolding digits
 short_peer_line = refl
 
-greatest_visibility : visibility_line (record { prefix = record { addr = 0xffffffff * 2 ^ 96; len = 32 }; peers = 0xffffffffffffffff }) ≡ codes "255.255.255.255/32|18446744073709551615" ++ end
-unfolding digits
+-- ---- prefixes of IPv6, in full and short
+
+abbrev full_routes : AddressForms
+full_routes = record { peers = Short; routes = Full; family = ipv6 }
+
+abbrev short_routes : AddressForms
+short_routes = record { peers = Full; routes = Short; family = ipv6 }
+
+abbrev wide_key : ℕ → ℕ → ℕ → RouteKey
+wide_key addr len id = record { prefix = record { addr = addr; len = len }; id = id }
+
+full_prefix : route_line full_routes (record { peer = short_peer; key = wide_key 0x20010db8000000000000000000000000 32 7; route = record bare_route { next_hop = Some (next_hop.V6 0xfe800000000000000000000000000002) } })
+    ≡ codes "65000 2001:db8::1:0:0:1|2001:0db8:0000:0000:0000:0000:0000:0000/32#7|-|fe80:0000:0000:0000:0000:0000:0000:0002|-|-|-|-|-" ++ end
+unfolding digits address_text
+full_prefix = refl
+
+short_prefix : route_line short_routes (record { peer = peer; key = wide_key 0x20010db8000000000000000000000000 32 0; route = bare_route }) ≡ codes "65000 192.0.2.1|2001:db8::/32|-|-|-|-|-|-|-" ++ end
+unfolding digits address_text
+short_prefix = refl
+
+default_prefix : visibility_line short_routes (record { prefix = record { addr = 0; len = 0 }; peers = 1 }) ≡ codes "::/0|1" ++ end
+unfolding digits address_text
+default_prefix = refl
+
+greatest_prefix : seen_line full_routes (record { prefix = record { addr = 0xffffffffffffffffffffffffffffffff; len = 128 }; origin = None; peers = 1 }) ≡ codes "ffff:ffff:ffff:ffff:ffff:ffff:ffff:ffff/128|-|1" ++ end
+unfolding digits address_text
+greatest_prefix = refl
+
+-- an address of IPv6 whose last 96 bits are 0 isn't dotted
+wide_prefix : origin_line short_routes (record { prefix = record { addr = 0x0a000000 * 2 ^ 96; len = 8 }; origins = 1 ∷ 2 ∷ [] }) ≡ codes "a00::/8|1 2" ++ end
+unfolding digits address_text
+wide_prefix = refl
+
+greatest_visibility : visibility_line full (record { prefix = record { addr = 0xffffffff * 2 ^ 96; len = 32 }; peers = 0xffffffffffffffff }) ≡ codes "255.255.255.255/32|18446744073709551615" ++ end
+unfolding digits address_text
 greatest_visibility = refl
 
-greatest_origins : origin_line (record { prefix = record { addr = 0xfffffffe * 2 ^ 96; len = 31 }; origins = 0 ∷ 65000 ∷ 0xffffffff ∷ [] }) ≡ codes "255.255.255.254/31|0 65000 4294967295" ++ end
-unfolding digits
+greatest_origins : origin_line full (record { prefix = record { addr = 0xfffffffe * 2 ^ 96; len = 31 }; origins = 0 ∷ 65000 ∷ 0xffffffff ∷ [] }) ≡ codes "255.255.255.254/31|0 65000 4294967295" ++ end
+unfolding digits address_text
 greatest_origins = refl
 
-greatest_seen : seen_line (record { prefix = record { addr = 0xffffffff * 2 ^ 96; len = 32 }; origin = Some 0xffffffff; peers = 0xffffffffffffffff }) ≡ codes "255.255.255.255/32|4294967295|18446744073709551615" ++ end
-unfolding digits
+greatest_seen : seen_line full (record { prefix = record { addr = 0xffffffff * 2 ^ 96; len = 32 }; origin = Some 0xffffffff; peers = 0xffffffffffffffff }) ≡ codes "255.255.255.255/32|4294967295|18446744073709551615" ++ end
+unfolding digits address_text
 greatest_seen = refl
 
 abbrev churn_between : Option ℕ → Option ℕ → Churn

@@ -26,7 +26,8 @@ use Rattle.adj_rib.specs.Sessions.{session_of}
 use Rattle.peer_tables.specs.Peers.{peers_of}
 use Rattle.peer_tables.specs.Tables.{tables_of}
 use Rattle.rib_report.specs.declared.forms.AddressForm.TheVariants.{Full}
-use Rattle.rib_report.specs.declared.forms.AddressForms.{AddressForms}
+use Rattle.rib_report.specs.AddressTexts.{address_text}
+use Rattle.rib_report.specs.Plain.{AddressForms}
 use Rattle.rib_report.specs.Reports.{route_rows, match_rows, visibility_rows, origin_rows, seen_rows, churn_rows, fault_rows}
 use Rattle.rib_report.specs.Lines.{route_line, visibility_line, origin_line, seen_line, churn_line, fault_line}
 
@@ -34,7 +35,7 @@ abbrev end : List ℕ
 end = 10 ∷ []
 
 abbrev full : AddressForms
-full = record { peers = Full; routes = Full }
+full = record { peers = Full; routes = Full; family = ipv4 }
 
 -- a message of a second, at an offset, of 65000 and this address
 abbrev message : ℕ → ℕ → ℕ → Bool → List ℕ → ReplayUnit
@@ -75,26 +76,26 @@ tables : flat_map (route_line full) (route_rows (tables_of units refused))
     ≡ codes "65000 192.0.2.1|0.0.0.0/0|65000|192.0.2.1|IGP|-|-|-|-" ++ end
     ++ codes "65000 192.0.2.1|10.0.0.0/8|65000|192.0.2.1|IGP|-|-|-|-" ++ end
     ++ codes "65000 192.0.2.2|10.0.0.0/8#7|65001|192.0.2.1|IGP|-|-|-|-" ++ end
-unfolding digits items_after attribute_at attributes_in value_fault route_from entry_route route_in path_in segment_at segment_field_at written_key_at keys_in route_keys_in key_at reach_in reach_at hop_at unreach_in next_hop_of reached_keys unreached_keys fields_in said_update update_in message_in message_event_in event_in unit_steps steps_of route_eq outcomes_of churn_of damaged_of table_of session_of peers_of tables_of
+unfolding digits address_text items_after attribute_at attributes_in value_fault route_from entry_route route_in path_in segment_at segment_field_at written_key_at keys_in route_keys_in key_at reach_in reach_at hop_at unreach_in next_hop_of reached_keys unreached_keys fields_in said_update update_in message_in message_event_in event_in unit_steps steps_of route_eq outcomes_of churn_of damaged_of table_of session_of peers_of tables_of
 tables = refl
 
 -- the longest match of 10.1.0.1 at each peer
 matched : flat_map (route_line full) (match_rows (tables_of units refused) (0x0A010001 * 2 ^ 96))
     ≡ codes "65000 192.0.2.1|10.0.0.0/8|65000|192.0.2.1|IGP|-|-|-|-" ++ end
     ++ codes "65000 192.0.2.2|10.0.0.0/8#7|65001|192.0.2.1|IGP|-|-|-|-" ++ end
-unfolding digits items_after attribute_at attributes_in value_fault route_from entry_route route_in path_in segment_at segment_field_at written_key_at keys_in route_keys_in key_at reach_in reach_at hop_at unreach_in next_hop_of reached_keys unreached_keys fields_in said_update update_in message_in message_event_in event_in unit_steps steps_of route_eq outcomes_of churn_of damaged_of table_of session_of peers_of tables_of
+unfolding digits address_text items_after attribute_at attributes_in value_fault route_from entry_route route_in path_in segment_at segment_field_at written_key_at keys_in route_keys_in key_at reach_in reach_at hop_at unreach_in next_hop_of reached_keys unreached_keys fields_in said_update update_in message_in message_event_in event_in unit_steps steps_of route_eq outcomes_of churn_of damaged_of table_of session_of peers_of tables_of
 matched = refl
 
-visible : flat_map visibility_line (visibility_rows (tables_of units refused)) ≡ codes "0.0.0.0/0|1" ++ end ++ codes "10.0.0.0/8|2" ++ end
-unfolding digits items_after attribute_at attributes_in value_fault route_from entry_route route_in path_in segment_at segment_field_at written_key_at keys_in route_keys_in key_at reach_in reach_at hop_at unreach_in next_hop_of reached_keys unreached_keys fields_in said_update update_in message_in message_event_in event_in unit_steps steps_of route_eq outcomes_of churn_of damaged_of table_of session_of peers_of tables_of
+visible : flat_map (visibility_line full) (visibility_rows (tables_of units refused)) ≡ codes "0.0.0.0/0|1" ++ end ++ codes "10.0.0.0/8|2" ++ end
+unfolding digits address_text items_after attribute_at attributes_in value_fault route_from entry_route route_in path_in segment_at segment_field_at written_key_at keys_in route_keys_in key_at reach_in reach_at hop_at unreach_in next_hop_of reached_keys unreached_keys fields_in said_update update_in message_in message_event_in event_in unit_steps steps_of route_eq outcomes_of churn_of damaged_of table_of session_of peers_of tables_of
 visible = refl
 
-several : flat_map origin_line (origin_rows (tables_of units refused)) ≡ codes "10.0.0.0/8|65000 65001" ++ end
-unfolding digits items_after attribute_at attributes_in value_fault route_from entry_route route_in path_in segment_at segment_field_at written_key_at keys_in route_keys_in key_at reach_in reach_at hop_at unreach_in next_hop_of reached_keys unreached_keys fields_in said_update update_in message_in message_event_in event_in unit_steps steps_of route_eq outcomes_of churn_of damaged_of table_of session_of peers_of tables_of
+several : flat_map (origin_line full) (origin_rows (tables_of units refused)) ≡ codes "10.0.0.0/8|65000 65001" ++ end
+unfolding digits address_text items_after attribute_at attributes_in value_fault route_from entry_route route_in path_in segment_at segment_field_at written_key_at keys_in route_keys_in key_at reach_in reach_at hop_at unreach_in next_hop_of reached_keys unreached_keys fields_in said_update update_in message_in message_event_in event_in unit_steps steps_of route_eq outcomes_of churn_of damaged_of table_of session_of peers_of tables_of
 several = refl
 
-seen : flat_map seen_line (seen_rows (tables_of units refused)) ≡ codes "0.0.0.0/0|65000|1" ++ end ++ codes "10.0.0.0/8|65000|1" ++ end ++ codes "10.0.0.0/8|65001|1" ++ end
-unfolding digits items_after attribute_at attributes_in value_fault route_from entry_route route_in path_in segment_at segment_field_at written_key_at keys_in route_keys_in key_at reach_in reach_at hop_at unreach_in next_hop_of reached_keys unreached_keys fields_in said_update update_in message_in message_event_in event_in unit_steps steps_of route_eq outcomes_of churn_of damaged_of table_of session_of peers_of tables_of
+seen : flat_map (seen_line full) (seen_rows (tables_of units refused)) ≡ codes "0.0.0.0/0|65000|1" ++ end ++ codes "10.0.0.0/8|65000|1" ++ end ++ codes "10.0.0.0/8|65001|1" ++ end
+unfolding digits address_text items_after attribute_at attributes_in value_fault route_from entry_route route_in path_in segment_at segment_field_at written_key_at keys_in route_keys_in key_at reach_in reach_at hop_at unreach_in next_hop_of reached_keys unreached_keys fields_in said_update update_in message_in message_event_in event_in unit_steps steps_of route_eq outcomes_of churn_of damaged_of table_of session_of peers_of tables_of
 seen = refl
 
 counted : flat_map (churn_line full) (churn_rows (tables_of units refused))

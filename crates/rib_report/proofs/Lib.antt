@@ -1,4 +1,5 @@
 pub mod TextLaws
+pub mod AddressLaws
 pub mod JoinLaws
 pub mod RowLines
 pub mod PieceLaws

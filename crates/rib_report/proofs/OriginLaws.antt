@@ -16,7 +16,7 @@ use Rattle.bgp_prefix.specs.Prefixes.{IpPrefix, prefix_cmp, prefix_eq}
 use Rattle.bgp_prefix.specs.Ordered.{in_order}
 use Rattle.peer_tables.specs.Tables.{Seat, TablesState}
 use Rattle.bgp_prefix.proofs.KeyLaws.{prefix_cmp_total, prefix_cmp_exact, prefix_tied}
-use Rattle.rib_report.specs.declared.reports.origins.OriginRow.{OriginRow}
+use Rattle.rib_report.specs.Plain.{OriginRow}
 use Rattle.rib_report.specs.Merges.{merged}
 use Rattle.rib_report.specs.Runs.{pair_cmp, pair_eq}
 use Rattle.rib_report.specs.Reports.{seat_origins, origins_in_order, table_origins, has_several, origins_among, grouped_origins, origin_rows}

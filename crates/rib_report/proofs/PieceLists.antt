@@ -10,13 +10,13 @@ use Rattle.std.specs.Borrow.{Bor}
 use Rattle.std.specs.Io.KnownBytes.{Appends}
 use Rattle.bgp_prefix.specs.Keys.{RouteKey}
 use Rattle.bgp_update.specs.declared.route.Route.{Route}
-use Rattle.rib_report.specs.declared.forms.ShownPeer.{ShownPeer}
+use Rattle.rib_report.specs.Plain.{ShownPeer}
 use Rattle.rib_report.specs.declared.reports.tables.piece.Piece.{Piece}
 use Rattle.rib_report.specs.Lines.{route_line}
 use Rattle.rib_report.specs.Texts.{TextState, Adds, empty_buffer}
 use Rattle.rib_report.specs.Listings.{reached_row, reached_lines}
 use Rattle.rib_report.specs.Pieces.{AreSuccessive, lines_between, range_of}
-use Rattle.rib_report.proofs.TextLaws.{Adds_trans, Adds_as, text_begun}
+use Rattle.rib_report.proofs.TextLaws.{Adds_trans, Adds_as, Adds_grown, text_begun}
 use Rattle.rib_report.proofs.JoinLaws.{between_join}
 
 -- the lines of a range behind those of the one before
@@ -25,6 +25,12 @@ pub Adds_next : {s t u : TextState} (peer : ShownPeer) (entries : List (RouteKey
 Adds_next peer entries i j k ij jk f g =
     let line : RouteKey × Bor Route → List ℕ = λ e. route_line peer.forms (reached_row peer.key e) in
     Adds_as (sym (flat_map-append line (between i j entries) (between j k entries)) ∙ ap (flat_map line) (between_join entries i j k ij jk)) (Adds_trans f g)
+
+-- no entry has no line
+pub no_lines : {s : TextState} (peer : ShownPeer) (entries : List (RouteKey × Bor Route)) (i : ℕ) → Adds s s (lines_between peer i i entries)
+no_lines {s = s} peer entries i =
+    let none : 0 ≡ i - i = omega arith in
+    Adds_as (ap (λ n. reached_lines peer (take n (drop i entries))) none) (Adds_grown refl refl (sym (append-nil s.buffer.waiting)) refl)
 
 -- what was added to an empty buffer, where nothing can be written, waits in it
 pub all_waits : {s t : TextState} {p : List ℕ} → s.buffer ≡ empty_buffer → s.contents ≡ Some [] → t.contents ≡ Some [] → t.buffer.failed ≡ false → Adds s t p

@@ -18,7 +18,7 @@ use Rattle.bgp_prefix.proofs.KeyLaws.{prefix_cmp_total, prefix_cmp_exact, prefix
 use Rattle.bgp_update.specs.declared.route.Route.{Route}
 use Rattle.peer_tables.specs.Tables.{Seat, TablesState}
 use Rattle.peer_tables.proofs.RowLaws.{map_twice}
-use Rattle.rib_report.specs.declared.reports.seen.SeenRow.{SeenRow}
+use Rattle.rib_report.specs.Plain.{SeenRow}
 use Rattle.rib_report.specs.Merges.{by_key, counted_both, merged}
 use Rattle.rib_report.specs.Reports.{route_origin, origin_pair, seat_origins, origins_of, origin_cmp, prefix_origin_cmp, prefix_origin_eq, prefix_origin, seat_prefix_origins, seen_of, seen_among, seen_rows, origins_seen}
 use Rattle.rib_report.proofs.OrderLaws.{any_in_order, in_order_rises, in_order_same, rising, deduped_in_order}

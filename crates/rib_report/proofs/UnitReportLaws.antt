@@ -78,7 +78,7 @@ pub HasReportsOf-standing : (tables : TablesState) (units : List ReplayUnit) (re
 HasReportsOf-standing tables units refused h = subst (HasReportsOf units refused) (sym (StandFor-only tables units refused h)) (HasReportsOf-tables_of units refused)
 
 same_texts : (one : TablesState) → HaveSameTexts one one
-same_texts one = record { routes = λ forms. refl; matches = λ forms addr. refl; visibility = refl; origins = refl; seen = refl; churn = λ forms. refl; peers = λ forms. refl; faults = refl }
+same_texts one = record { routes = λ forms. refl; matches = λ forms addr. refl; visibility = λ forms. refl; origins = λ forms. refl; seen = λ forms. refl; churn = λ forms. refl; peers = λ forms. refl; faults = refl }
 
 pub HaveSameTexts-standing : (one other : TablesState) (units : List ReplayUnit) (refused : List Damage) → StandFor one units refused → StandFor other units refused → HaveSameTexts one other
 HaveSameTexts-standing one other units refused a b = subst (HaveSameTexts one) (StandFor-only one units refused a ∙ sym (StandFor-only other units refused b)) (same_texts one)

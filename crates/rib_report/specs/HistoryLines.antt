@@ -6,7 +6,7 @@ use Rattle.adj_rib.specs.declared.note.What.TheVariants.{New, Changed, Same, Gon
 use Rattle.peer_tables.specs.declared.history.By.{By}
 use Rattle.peer_tables.specs.declared.history.By.TheVariants.{Rib, Update, State}
 use Rattle.peer_tables.specs.Histories.{RowState}
-use Rattle.rib_report.specs.declared.forms.AddressForms.{AddressForms}
+use Rattle.rib_report.specs.Plain.{AddressForms}
 use Rattle.rib_report.specs.Digits.{line, field, time_text}
 use Rattle.rib_report.specs.Lines.{peer_text, key_text, path_text, next_hop_text, origin_text, atomic_text, aggregator_text}
 
@@ -33,4 +33,4 @@ route_fields forms (Some route) = field path_text route.path ∷ field (next_hop
 -- time, peer, what happened, what brought it about, key, and the fields of its route
 abbrev pub history_line : AddressForms → RowState → List ℕ
 history_line forms row = line (time_text row.time ∷ peer_text forms row.peer ∷ what_text row.note.what ∷ by_text row.by
-    ∷ key_text row.note.key ∷ route_fields forms row.note.route)
+    ∷ key_text forms row.note.key ∷ route_fields forms row.note.route)

@@ -1,6 +1,9 @@
 pub mod Texts
 pub mod Digits
 pub mod Ipv6Texts
+pub mod AddressTexts
+pub mod Plain
+pub mod Requests
 pub mod ZeroRuns
 pub mod HexTexts
 pub mod Spellings

@@ -3,13 +3,12 @@ use Rattle.std.specs.Prelude.{ℕ, List, [], ◌∷◌, ◌++◌, decimal}
 use Rattle.rib_report.specs.Digits.{line, field}
 use Rattle.bgp_prefix.specs.Keys.{RouteKey}
 use Rattle.bgp_update.specs.declared.route.Route.{Route}
-use Rattle.rib_report.specs.declared.forms.AddressForms.{AddressForms}
-use Rattle.rib_report.specs.declared.forms.ShownPeer.{ShownPeer}
+use Rattle.rib_report.specs.Plain.{AddressForms, ShownPeer}
 use Rattle.rib_report.specs.Lines.{peer_text, key_text, next_hop_text, origin_text, atomic_text, aggregator_text}
 
 -- a peer, a bar and a key
 abbrev pub line_beginning : ShownPeer → RouteKey → List ℕ
-line_beginning peer key = (peer_text peer.forms peer.key ++ 124 ∷ []) ++ key_text key
+line_beginning peer key = (peer_text peer.forms peer.key ++ 124 ∷ []) ++ key_text peer.forms key
 
 -- what stands behind the path
 abbrev pub line_end : AddressForms → Route → List ℕ

@@ -1,8 +1,9 @@
 -- The lines of the reports.
-use Rattle.std.specs.Prelude.{ℕ, zero, suc, ◌+◌, ◌/◌, ◌^◌, Bool, List, [], ◌∷◌, ◌++◌, map, Option, option_and_then, option_map, codes, decimal, if◌then◌else◌}
+use Rattle.std.specs.Prelude.{ℕ, zero, suc, ◌+◌, Bool, List, [], ◌∷◌, ◌++◌, map, Option, option_and_then, option_map, codes, decimal, if◌then◌else◌}
 use Rattle.std.specs.List.{join_with_byte}
 use Rattle.rib_report.specs.Digits.{line, field, time_text, ipv4_text, numbers_text}
 use Rattle.rib_report.specs.Ipv6Texts.{ipv6_text}
+use Rattle.rib_report.specs.AddressTexts.{address_text}
 use Rattle.bgp_prefix.specs.Prefixes.{IpPrefix}
 use Rattle.bgp_prefix.specs.Keys.{RouteKey}
 use Rattle.mrt_frame.specs.Faults.{fault_number, fault_name}
@@ -20,11 +21,8 @@ use Rattle.mrt_body.specs.declared.unit.PeerKey.{PeerKey}
 use Rattle.mrt_body.specs.declared.unit.Place.{Place}
 use Rattle.mrt_body.specs.declared.unit.Damage.{Damage}
 use Rattle.rib_report.specs.declared.forms.AddressForm.{AddressForm}
-use Rattle.rib_report.specs.declared.forms.AddressForms.{AddressForms}
+use Rattle.rib_report.specs.Plain.{AddressForms, VisibilityRow, OriginRow, SeenRow}
 use Rattle.rib_report.specs.Rows.{TableRow}
-use Rattle.rib_report.specs.declared.reports.visibility.VisibilityRow.{VisibilityRow}
-use Rattle.rib_report.specs.declared.reports.origins.OriginRow.{OriginRow}
-use Rattle.rib_report.specs.declared.reports.seen.SeenRow.{SeenRow}
 use Rattle.rib_report.specs.declared.reports.churn.ChurnRow.{ChurnRow}
 use Rattle.rib_report.specs.declared.reports.peers.PeerRow.{PeerRow}
 
@@ -38,17 +36,17 @@ addr_text form (V6 addr) = ipv6_text form addr
 abbrev pub peer_text : AddressForms → PeerKey → List ℕ
 peer_text forms peer = decimal peer.asn ++ 32 ∷ addr_text forms.peers peer.addr
 
--- the first 32 of the 128 bits
-abbrev pub prefix_text : IpPrefix → List ℕ
-prefix_text p = ipv4_text (p.addr / 2 ^ 96) ++ 47 ∷ decimal p.len
+-- an address of the family of the routes, and a length
+abbrev pub prefix_text : AddressForms → IpPrefix → List ℕ
+prefix_text forms p = address_text forms.family forms.routes p.addr ++ 47 ∷ decimal p.len
 
 -- nothing for identifier 0, which stands for none (RFC 7911, 3)
 abbrev pub identifier_text : ℕ → List ℕ
 identifier_text zero = []
 identifier_text (suc id) = 35 ∷ decimal (suc id)
 
-abbrev pub key_text : RouteKey → List ℕ
-key_text key = prefix_text key.prefix ++ identifier_text key.id
+abbrev pub key_text : AddressForms → RouteKey → List ℕ
+key_text forms key = prefix_text forms key.prefix ++ identifier_text key.id
 
 -- a sequence plain, a set in braces, of a confederation in parentheses and brackets
 abbrev pub kind_text : SegmentKind → List ℕ → List ℕ
@@ -80,19 +78,19 @@ atomic_text atomic = if atomic then codes "atomic" else codes "-"
 
 -- peer, key, path, next hop, origin, MED, LOCAL_PREF, atomic, aggregator
 abbrev pub route_line : AddressForms → TableRow → List ℕ
-route_line forms row = line (peer_text forms row.peer ∷ key_text row.key
+route_line forms row = line (peer_text forms row.peer ∷ key_text forms row.key
     ∷ field path_text row.route.path ∷ field (next_hop_text forms) row.route.next_hop ∷ field origin_text row.route.origin
     ∷ field decimal row.route.med ∷ field decimal row.route.local_pref
     ∷ atomic_text row.route.atomic ∷ field aggregator_text row.route.aggregator ∷ [])
 
-abbrev pub visibility_line : VisibilityRow → List ℕ
-visibility_line row = line (prefix_text row.prefix ∷ decimal row.peers ∷ [])
+abbrev pub visibility_line : AddressForms → VisibilityRow → List ℕ
+visibility_line forms row = line (prefix_text forms row.prefix ∷ decimal row.peers ∷ [])
 
-abbrev pub origin_line : OriginRow → List ℕ
-origin_line row = line (prefix_text row.prefix ∷ numbers_text 32 row.origins ∷ [])
+abbrev pub origin_line : AddressForms → OriginRow → List ℕ
+origin_line forms row = line (prefix_text forms row.prefix ∷ numbers_text 32 row.origins ∷ [])
 
-abbrev pub seen_line : SeenRow → List ℕ
-seen_line row = line (prefix_text row.prefix ∷ field decimal row.origin ∷ decimal row.peers ∷ [])
+abbrev pub seen_line : AddressForms → SeenRow → List ℕ
+seen_line forms row = line (prefix_text forms row.prefix ∷ field decimal row.origin ∷ decimal row.peers ∷ [])
 
 -- peer, new, changed, same, gone, void, resets, idle, refused, first and last time
 abbrev pub churn_line : AddressForms → ChurnRow → List ℕ

@@ -4,7 +4,7 @@ use Rattle.std.specs.List.{All, between}
 use Rattle.std.specs.Borrow.{Bor}
 use Rattle.bgp_prefix.specs.Keys.{RouteKey}
 use Rattle.bgp_update.specs.declared.route.Route.{Route}
-use Rattle.rib_report.specs.declared.forms.ShownPeer.{ShownPeer}
+use Rattle.rib_report.specs.Plain.{ShownPeer}
 use Rattle.rib_report.specs.Listings.{reached_lines}
 use Rattle.rib_report.specs.declared.reports.tables.piece.Piece.{Piece}
 

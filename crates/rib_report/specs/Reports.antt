@@ -19,9 +19,7 @@ use Rattle.peer_tables.specs.Histories.{PeerWatch}
 use Rattle.peer_tables.specs.Tables.{Seat, TablesState, all_faults}
 use Rattle.rib_report.specs.Rows.{TableRow}
 use Rattle.rib_report.specs.Runs.{pair_cmp}
-use Rattle.rib_report.specs.declared.reports.visibility.VisibilityRow.{VisibilityRow}
-use Rattle.rib_report.specs.declared.reports.origins.OriginRow.{OriginRow}
-use Rattle.rib_report.specs.declared.reports.seen.SeenRow.{SeenRow}
+use Rattle.rib_report.specs.Plain.{VisibilityRow, OriginRow, SeenRow}
 use Rattle.rib_report.specs.declared.reports.churn.ChurnRow.{ChurnRow}
 use Rattle.rib_report.specs.declared.reports.peers.PeerRow.{PeerRow}
 

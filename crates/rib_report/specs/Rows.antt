@@ -4,10 +4,7 @@ use Rattle.bgp_prefix.specs.Prefixes.{IpPrefix}
 use Rattle.bgp_prefix.specs.Keys.{RouteKey}
 use Rattle.bgp_update.specs.declared.route.Route.{Route}
 use Rattle.mrt_body.specs.declared.unit.PeerKey.{PeerKey}
-use Rattle.rib_report.specs.declared.reports.tables.TableRow.{TableRow as BorrowingRow}
-use Rattle.rib_report.specs.declared.reports.visibility.VisibilityRow.{VisibilityRow}
-use Rattle.rib_report.specs.declared.reports.origins.OriginRow.{OriginRow}
-use Rattle.rib_report.specs.declared.reports.seen.SeenRow.{SeenRow}
+use Rattle.rib_report.specs.Plain.{BorrowingRow, VisibilityRow, OriginRow, SeenRow}
 
 -- an entry of a peer's table
 pub record TableRow : Type 0 where

@@ -14,11 +14,8 @@ use Rattle.adj_rib.specs.Arrived.{recorded_places}
 use Rattle.adj_rib.specs.Churns.{churn_of, damaged_of, stopped, first_of}
 use Rattle.peer_tables.specs.Peers.{peers_of, units_of_peer}
 use Rattle.peer_tables.specs.Tables.{TablesState}
-use Rattle.rib_report.specs.declared.forms.AddressForms.{AddressForms}
+use Rattle.rib_report.specs.Plain.{AddressForms, VisibilityRow, OriginRow, SeenRow}
 use Rattle.rib_report.specs.Rows.{TableRow}
-use Rattle.rib_report.specs.declared.reports.visibility.VisibilityRow.{VisibilityRow}
-use Rattle.rib_report.specs.declared.reports.origins.OriginRow.{OriginRow}
-use Rattle.rib_report.specs.declared.reports.seen.SeenRow.{SeenRow}
 use Rattle.rib_report.specs.declared.reports.churn.ChurnRow.{ChurnRow}
 use Rattle.rib_report.specs.declared.reports.peers.PeerRow.{PeerRow}
 use Rattle.rib_report.specs.Reports.{entry_row, is_longest, origin_pair, grouped_origins, has_several, prefix_origin, prefix_origin_cmp, prefix_origin_eq, in_place_order, route_rows, match_rows, visibility_rows, origin_rows, seen_rows, churn_rows, peer_rows, fault_rows}
@@ -112,9 +109,12 @@ pub record HaveSameTexts (one other : TablesState) : Type 0 where
       flat_map (route_line forms) (route_rows one) ≡ flat_map (route_line forms) (route_rows other)
   pub matches : (forms : AddressForms) (addr : ℕ) →
       flat_map (route_line forms) (match_rows one addr) ≡ flat_map (route_line forms) (match_rows other addr)
-  pub visibility : flat_map visibility_line (visibility_rows one) ≡ flat_map visibility_line (visibility_rows other)
-  pub origins : flat_map origin_line (origin_rows one) ≡ flat_map origin_line (origin_rows other)
-  pub seen : flat_map seen_line (seen_rows one) ≡ flat_map seen_line (seen_rows other)
+  pub visibility : (forms : AddressForms) →
+      flat_map (visibility_line forms) (visibility_rows one) ≡ flat_map (visibility_line forms) (visibility_rows other)
+  pub origins : (forms : AddressForms) →
+      flat_map (origin_line forms) (origin_rows one) ≡ flat_map (origin_line forms) (origin_rows other)
+  pub seen : (forms : AddressForms) →
+      flat_map (seen_line forms) (seen_rows one) ≡ flat_map (seen_line forms) (seen_rows other)
   pub churn : (forms : AddressForms) →
       flat_map (churn_line forms) (churn_rows one) ≡ flat_map (churn_line forms) (churn_rows other)
   pub peers : (forms : AddressForms) →

@@ -7,12 +7,13 @@ ghost use Rattle.rib_report.specs.LineParts.{line_beginning, line_end};
 ghost use Rattle.rib_report.specs.Texts.{BufferState, empty_buffer, text_state, IsText, IsWritten, IsCutOff, Writes};
 
 use crate::field::{Byte, Field, PeerText};
-use crate::forms::{AddressForms, ShownPeer};
+use crate::forms::{AddressFormsOf, ShownPeerOf};
 use crate::numbers::format_numbers;
-use crate::route_line::{BEGINNING_BYTES, END_BYTES, format_beginning, format_end};
+use crate::route_line::{END_BYTES, beginning_bytes, format_beginning, format_end};
 use crate::short::ShortTexts;
-use bgp_prefix::RouteKey;
-use bgp_update::{PackedRoute, PackedSegment};
+use crate::written_address::WrittenAddress;
+use bgp_prefix::{Prefix, RouteKey};
+use bgp_update::{PackedRoute, PackedSegment, Unicast};
 use mrt_frame::{Failed, Sink, write_full};
 use std::marker::Model;
 
@@ -127,33 +128,44 @@ impl TextBuffer {
     }
 
     /// Adds the text of a field.
-    pub(crate) fn put<W: Sink, F: Field>(&mut self, out: &mut W, field: F)
-        requires { F.longest < 65536 }
-        ensures { Writes W.contents W.failure_count out.old self.old out.new self.new (F.text_of field) }
+    pub(crate) fn put<W: Sink, T: Field>(&mut self, out: &mut W, field: T)
+        requires { T.longest < 65536 }
+        ensures { Writes W.contents W.failure_count out.old self.old out.new self.new (T.text_of field) }
     {
-        self.make_room(out, F::longest() + 1);
+        self.make_room(out, T::longest() + 1);
         self.len = field.format(&mut self.bytes, self.len, &self.shorts);
     }
 
     /// Makes a peer's text, which `put_beginning` then adds to many lines.
-    pub(crate) fn peer_text(&self, peer: ShownPeer) -> PeerText
-        ensures { result ≡ peer }
+    pub(crate) fn peer_text<F: Unicast>(&self, peer: &ShownPeerOf<F>) -> PeerText<F>
+        ensures { result ≡ peer.now }
     {
         PeerText::new(peer, &self.shorts)
     }
 
     /// Adds what a line begins with: a peer, a bar and a key.
     #[inline(always)]
-    pub(crate) fn put_beginning<W: Sink>(&mut self, out: &mut W, peer: &PeerText, key: RouteKey)
-        ensures { Writes W.contents W.failure_count out.old self.old out.new self.new (line_beginning peer.now key) }
+    pub(crate) fn put_beginning<W: Sink, F: WrittenAddress>(
+        &mut self,
+        out: &mut W,
+        peer: &PeerText<F>,
+        key: &RouteKey<Prefix<F>>,
+    )
+        ensures { Writes W.contents W.failure_count out.old self.old out.new self.new
+            (line_beginning peer.now key.now) }
     {
-        self.make_room(out, BEGINNING_BYTES);
+        self.make_room(out, beginning_bytes::<F>());
         self.len = format_beginning(&mut self.bytes, self.len, &self.shorts, peer, key);
     }
 
     /// Adds what a line has after the path of its route.
     #[inline(always)]
-    pub(crate) fn put_end<W: Sink>(&mut self, out: &mut W, forms: AddressForms, route: &PackedRoute)
+    pub(crate) fn put_end<W: Sink, F: Unicast>(
+        &mut self,
+        out: &mut W,
+        forms: AddressFormsOf<F>,
+        route: &PackedRoute,
+    )
         ensures { Writes W.contents W.failure_count out.old self.old out.new self.new (line_end forms route.now) }
     {
         self.make_room(out, END_BYTES);

@@ -4,17 +4,19 @@ ghost use Rattle.std.specs.Prelude.{◌≡◌, ℕ, ◌+◌, ◌-◌, ◌^◌, �
 ghost use Rattle.rib_report.specs.Texts.{Formats};
 ghost use Rattle.rib_report.specs.Digits.{field, time_text};
 ghost use Rattle.rib_report.specs.Ipv6Texts.{ipv6_text};
+ghost use Rattle.rib_report.specs.AddressTexts.{address_text};
 ghost use Rattle.rib_report.specs.Lines.{addr_text, peer_text, prefix_text, identifier_text, key_text, next_hop_text, origin_text, aggregator_text, atomic_text, state_text};
 
 use crate::format::{
     format_byte, format_front, format_ipv4, format_number, format_short, format_six, format_text,
     format_three,
 };
-use crate::forms::{AddressForm, AddressForms, ShownPeer};
+use crate::forms::{AddressForm, AddressForms, AddressFormsOf, ShownPeer, ShownPeerOf};
 use crate::ipv6::format_ipv6;
 use crate::short::ShortTexts;
+use crate::written_address::WrittenAddress;
 use bgp_prefix::{Prefix, RouteKey};
-use bgp_update::{Aggregator, NextHop, Origin};
+use bgp_update::{Aggregator, FamilyMark, NextHop, Origin, Unicast};
 use itoa::Buffer;
 use mrt_body::PeerAddr;
 use std::marker::Model;
@@ -237,7 +239,7 @@ fn format_addr(
     }
 }
 
-impl Field for ShownPeer {
+impl<F: Unicast> Field for ShownPeer<FamilyMark<F>> {
     ghost text_of = { λ p. peer_text p.forms p.key };
 
     ghost longest = { 52 };
@@ -283,15 +285,15 @@ pub(crate) const PEER_BYTES: usize = 54;
 /// A peer's text with a bar behind it, made once for the lines of many of its routes. Contracts see it as the peer with
 /// the forms of addresses.
 #[derive(Drop)]
-pub(crate) struct PeerText {
-    peer: ShownPeer,
+pub(crate) struct PeerText<F: Unicast = u32> {
+    peer: ShownPeerOf<F>,
     bytes: [u8; PEER_BYTES],
     len: usize,
 }
 
-impl Model for PeerText {
-    ghost use Rattle.std.specs.Prelude.{◌≡◌, ◌≤◌, ◌++◌, ◌∷◌, [], take};
-    ghost use Rattle.rib_report.specs.declared.forms.ShownPeer.{ShownPeer as Peer};
+impl<F: Unicast> Model for PeerText<F> {
+    ghost use Rattle.std.specs.Prelude.{◌≡◌, ◌≤◌, ◌++◌, ◌∷◌, [], length, take};
+    ghost use Rattle.rib_report.specs.Plain.{ShownPeer as Peer};
     ghost use Rattle.rib_report.specs.Lines.{peer_text};
 
     ghost Value = { Peer };
@@ -300,24 +302,29 @@ impl Model for PeerText {
 
     ghost invariant = { λ p. record {
       len : p.len ≤ 54;
+      whole : length p.bytes ≡ 54;
       text : take p.len p.bytes ≡ peer_text p.peer.forms p.peer.key ++ 124 ∷ [];
     } };
 }
 
-impl PeerText {
+impl<F: Unicast> PeerText<F> {
     #[tactic(auto, using(crate::proofs::TextLaws::Formats_trans))]
-    pub(crate) fn new(peer: ShownPeer, shorts: &ShortTexts) -> PeerText
-        ensures { result ≡ peer }
+    pub(crate) fn new(peer: &ShownPeerOf<F>, shorts: &ShortTexts) -> PeerText<F>
+        ensures { result ≡ peer.now }
     {
         let mut bytes = [0; PEER_BYTES];
         let at = peer.format(&mut bytes, 0, shorts);
         let len = format_byte(&mut bytes, at, b'|');
-        PeerText { peer, bytes, len }
+        PeerText {
+            peer: *peer,
+            bytes,
+            len,
+        }
     }
 
     /// The forms of addresses in its lines.
     #[inline(always)]
-    pub(crate) fn forms(&self) -> AddressForms
+    pub(crate) fn forms(&self) -> AddressFormsOf<F>
         ensures { result ≡ self.now.forms }
     {
         self.peer.forms
@@ -335,21 +342,30 @@ impl PeerText {
     }
 }
 
-impl Field for Prefix {
-    ghost text_of = { prefix_text };
+/// A prefix, and the forms of the addresses in its line.
+#[derive(Clone, Copy)]
+pub(crate) struct ShownPrefix<P = Prefix, K = FamilyMark> {
+    pub(crate) prefix: P,
+    pub(crate) forms: AddressForms<K>,
+}
 
-    ghost longest = { 19 };
+impl<F: WrittenAddress> Field for ShownPrefix<Prefix<F>, FamilyMark<F>> {
+    ghost text_of = { λ p. prefix_text p.forms p.prefix };
+
+    ghost longest = { F.MOST_BYTES + 4 };
 
     fn longest() -> usize {
-        19
+        F::MOST_BYTES.saturating_add(4)
     }
 
     #[inline(always)]
     #[tactic(auto, using(crate::proofs::TextLaws::Formats_trans))]
     fn format(self, bytes: &mut [u8], at: usize, shorts: &ShortTexts) -> usize {
-        let at = format_ipv4(bytes, at, shorts, self.addr());
+        self.forms.family.is_known();
+        let addr = self.prefix.addr();
+        let at = addr.format(bytes, at, shorts, self.forms.routes);
         let at = format_byte(bytes, at, b'/');
-        format_short(bytes, at, shorts, self.len() as u32)
+        format_short(bytes, at, shorts, self.prefix.len() as u32)
     }
 }
 
@@ -366,20 +382,29 @@ fn format_identifier(bytes: &mut [u8], at: usize, shorts: &ShortTexts, id: u32) 
     }
 }
 
-impl Field for RouteKey {
-    ghost text_of = { key_text };
+/// A key, and the forms of the addresses in its line.
+#[derive(Clone, Copy)]
+pub(crate) struct ShownKey<P = Prefix, K = FamilyMark> {
+    pub(crate) key: RouteKey<P>,
+    pub(crate) forms: AddressForms<K>,
+}
 
-    ghost longest = { 32 };
+impl<F: WrittenAddress> Field for ShownKey<Prefix<F>, FamilyMark<F>> {
+    ghost text_of = { λ k. key_text k.forms k.key };
+
+    ghost longest = { F.MOST_BYTES + 4 + 13 };
 
     fn longest() -> usize {
-        32
+        F::MOST_BYTES.saturating_add(4).saturating_add(13)
     }
 
     #[inline(always)]
     #[tactic(auto, using(crate::proofs::TextLaws::Formats_trans))]
     fn format(self, bytes: &mut [u8], at: usize, shorts: &ShortTexts) -> usize {
-        let at = self.prefix.format(bytes, at, shorts);
-        format_identifier(bytes, at, shorts, self.id)
+        let ShownKey { key, forms } = self;
+        let RouteKey { prefix, id } = key;
+        let at = ShownPrefix { prefix, forms }.format(bytes, at, shorts);
+        format_identifier(bytes, at, shorts, id)
     }
 }
 
@@ -406,11 +431,11 @@ fn format_ipv6_pair(
 
 /// Writes a next hop, or `-`.
 #[inline(always)]
-pub(crate) fn format_next_hop(
+pub(crate) fn format_next_hop<F: Unicast>(
     bytes: &mut [u8],
     at: usize,
     shorts: &ShortTexts,
-    forms: AddressForms,
+    forms: AddressFormsOf<F>,
     hop: Option<NextHop>,
 ) -> usize
     requires { at + 80 < length bytes.old }

@@ -1,7 +1,8 @@
-//! The forms of IPv6 addresses in lines.
+//! The forms of addresses in lines.
 
 ghost use Rattle.std.specs.Prelude.{◌≡◌};
 
+use bgp_update::{FamilyMark, Unicast};
 use mrt_body::PeerKey;
 
 /// A form of IPv6 addresses in text.
@@ -13,30 +14,41 @@ pub enum AddressForm {
     Short,
 }
 
-/// The forms of the IPv6 addresses of a report.
-#[derive(Clone, Copy, Debug, PartialEq, Eq)]
-pub struct AddressForms {
+/// The forms of the IPv6 addresses of a report, and the family of its routes.
+#[derive(Clone, Copy)]
+#[derive_where(Debug, PartialEq, Eq)]
+pub struct AddressForms<K = FamilyMark> {
     /// That of the addresses of peers.
     pub peers: AddressForm,
-    /// That of the addresses of routes: their next hops.
+    /// That of the addresses of routes: their prefixes and next hops.
     pub routes: AddressForm,
+    /// The family of the routes, by which their prefixes are written.
+    #[derive_where(skip)]
+    pub family: K,
 }
 
-impl AddressForms {
+/// The forms of addresses in a report on routes of a family.
+pub type AddressFormsOf<F> = AddressForms<FamilyMark<F>>;
+
+impl<F: Unicast> AddressForms<FamilyMark<F>> {
     /// Returns one form for all addresses.
-    pub fn all(form: AddressForm) -> AddressForms
-        ensures { result ≡ record { peers = form; routes = form } }
+    pub fn all(form: AddressForm) -> AddressFormsOf<F>
+        ensures { result ≡ record { peers = form; routes = form; family = F.family } }
     {
         AddressForms {
             peers: form,
             routes: form,
+            family: FamilyMark::new(),
         }
     }
 }
 
 /// A peer, and the forms of the addresses in its lines.
 #[derive(Clone, Copy)]
-pub(crate) struct ShownPeer {
+pub(crate) struct ShownPeer<K = FamilyMark> {
     pub(crate) key: PeerKey,
-    pub(crate) forms: AddressForms,
+    pub(crate) forms: AddressForms<K>,
 }
+
+/// A peer in a report on routes of a family.
+pub(crate) type ShownPeerOf<F> = ShownPeer<FamilyMark<F>>;

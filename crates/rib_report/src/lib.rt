@@ -25,6 +25,9 @@
 //!   one for peers and one for routes. A peer goes on its way with them (`ShownPeer`). The text of each byte in
 //!   hexadecimal and the run of zeros of each pattern of zero groups are made with a buffer, so that a short address
 //!   takes no longer than a full one.
+//! - Reports are generic in the family of the addresses of the map. With the forms goes a mark of the family of no size
+//!   (`FamilyMark`), by which definitions write prefixes (`address_text`); the code writes them by the type
+//!   (`WrittenAddress`), so a line of IPv4 has no test of the family, and no more room than its texts may take.
 //! - A peer's text is made once for its lines. Numbers of up to three digits are copied from a table, four bytes at
 //!   once, since how many digits a number has is hard to predict.
 //! - Entries are prefetched up to 64 at a time before their lines are written, so that the cache misses of their routes
@@ -50,6 +53,7 @@ mod short;
 mod spelled;
 mod standing;
 mod write;
+mod written_address;
 mod zero_run;
 
 pub use defined::{
@@ -57,7 +61,7 @@ pub use defined::{
     origins_are_of_all_routes, origins_are_of_seen_rows, rows_of_shares, seen_counts_peers,
     visibility_counts_peers,
 };
-pub use forms::{AddressForm, AddressForms};
+pub use forms::{AddressForm, AddressForms, AddressFormsOf};
 pub use peer_tables::{
     By, Gathered, HistoryRow, Listed, Listing, Seated, Tables, collect, collected_stand_for_units,
     lanes_make_no_difference, tables_are_of_units,
@@ -73,8 +77,9 @@ pub use reports::tables::{TableRow, list_tables, table_rows, write_rows};
 pub use reports::visibility::{
     VisibilityRow, visibility, visibility_with_threads, write_visibility,
 };
-pub use request::{Layout, Request};
+pub use request::{Layout, LayoutOf, Request};
 pub use spelled::{
     one_address_to_a_text, runs_are_first_and_longest, written_texts_spell_their_addresses,
 };
 pub use standing::{recorded_peers_are_shown_as_they_are, reports_are_of_units};
+pub use written_address::WrittenAddress;

@@ -2,14 +2,15 @@
 
 ghost use Rattle.std.specs.Prelude.{ℕ, List};
 ghost use Rattle.rib_report.specs.Texts.{Writes};
-ghost use Rattle.rib_report.specs.declared.forms.AddressForms.{AddressForms as Forms};
+ghost use Rattle.rib_report.specs.Plain.{AddressForms as Forms};
 
 use crate::buffer::TextBuffer;
-use crate::forms::AddressForms;
+use crate::forms::AddressFormsOf;
+use bgp_update::Unicast;
 use mrt_frame::Sink;
 
-/// The content of one report line.
-pub(crate) trait Line {
+/// The content of one line of a report on routes of a family.
+pub(crate) trait Line<F: Unicast> {
     /// The line, including its end, by the forms of addresses.
     ghost line: { Forms → Self → List ℕ };
 
@@ -18,6 +19,6 @@ pub(crate) trait Line {
     fn prefetch(&self) -> usize;
 
     /// Adds the line.
-    fn put<W: Sink>(&self, text: &mut TextBuffer, out: &mut W, forms: AddressForms)
-        ensures { Writes W.contents W.failure_count out.old text.old out.new text.new (line forms self.now) };
+    fn put<W: Sink>(&self, text: &mut TextBuffer, out: &mut W, forms: &AddressFormsOf<F>)
+        ensures { Writes W.contents W.failure_count out.old text.old out.new text.new (line forms.now self.now) };
 }

@@ -1,8 +1,9 @@
 use crate::forms::AddressForms;
+use bgp_update::FamilyMark;
 
 /// Which report is asked for.
 #[derive(Clone, Copy, Debug, PartialEq, Eq)]
-pub enum Request {
+pub enum Request<A = u32> {
     /// Every route of every peer's table.
     Tables,
     /// For each prefix, the number of peers whose table has it.
@@ -16,7 +17,7 @@ pub enum Request {
     /// The peers, whether each is up, its numbers of routes and units, and when and where these begin.
     Peers,
     /// For each peer, the routes of the longest prefix that contains this address.
-    Match(u32),
+    Match(A),
     /// The records and units that are damaged.
     Faults,
     /// What happened to each key, from this second on, since 1970 UTC; with `None` all of it. Announcements of the
@@ -25,8 +26,12 @@ pub enum Request {
 }
 
 /// How the lines of a report are written.
-#[derive(Clone, Copy, Debug, PartialEq, Eq)]
-pub struct Layout {
-    /// The forms of IPv6 addresses.
-    pub addresses: AddressForms,
+#[derive(Clone, Copy)]
+#[derive_where(Debug, PartialEq, Eq)]
+pub struct Layout<K = FamilyMark> {
+    /// The forms of addresses, and the family of the routes.
+    pub addresses: AddressForms<K>,
 }
+
+/// How the lines of a report on routes of a family are written.
+pub type LayoutOf<F> = Layout<FamilyMark<F>>;

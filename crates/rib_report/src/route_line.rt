@@ -1,38 +1,49 @@
 //! The line of a route.
 
-ghost use Rattle.std.specs.Prelude.{◌+◌, ◌<◌, [], ◌∷◌, ◌++◌, length};
+ghost use Rattle.std.specs.Prelude.{◌≡◌, ◌≤◌, ◌+◌, ◌<◌, [], ◌∷◌, ◌++◌, length};
 ghost use Rattle.rib_report.specs.Texts.{Writes, Formats};
 ghost use Rattle.rib_report.specs.Digits.{field, numbers_text};
 ghost use Rattle.rib_report.specs.Lines.{kind_text, path_text, route_line};
 ghost use Rattle.rib_report.specs.LineParts.{line_beginning, line_end};
 
 use crate::buffer::TextBuffer;
-use crate::field::{Atomic, Field, PeerText, format_next_hop};
+use crate::field::{Atomic, Field, PeerText, ShownKey, format_next_hop};
 use crate::format::format_byte;
-use crate::forms::AddressForms;
+use crate::forms::AddressFormsOf;
 use crate::short::ShortTexts;
-use bgp_prefix::RouteKey;
-use bgp_update::{PackedRoute, PackedSegment, PackedSegments, SegmentKind};
+use crate::written_address::WrittenAddress;
+use bgp_prefix::{Prefix, RouteKey};
+use bgp_update::{PackedRoute, PackedSegment, PackedSegments, SegmentKind, Unicast};
 use mrt_frame::Sink;
 
-/// The most bytes of what a line begins with, and one more.
-pub(crate) const BEGINNING_BYTES: usize = 87;
+/// Returns the most bytes of what a line begins with, and one more.
+#[inline(always)]
+pub(crate) fn beginning_bytes<F: WrittenAddress>() -> usize
+    ensures bytes { result ≡ F.MOST_BYTES + 72 }
+    ensures few { result ≤ 111 }
+{
+    F::MOST_BYTES + 72
+}
 
 /// Writes what a line begins with: a peer, a bar and a key.
 #[inline(always)]
 #[tactic(auto, using(crate::proofs::TextLaws::Formats_trans))]
-pub(crate) fn format_beginning(
+pub(crate) fn format_beginning<F: WrittenAddress>(
     bytes: &mut [u8],
     at: usize,
     shorts: &ShortTexts,
-    peer: &PeerText,
-    key: RouteKey,
+    peer: &PeerText<F>,
+    key: &RouteKey<Prefix<F>>,
 ) -> usize
-    requires { at + 86 < length bytes.old }
-    ensures { Formats bytes.old at bytes.new result 86 (line_beginning peer.now key) }
+    requires { at + (54 + (F.MOST_BYTES + 4 + 13)) < length bytes.old }
+    ensures { Formats bytes.old at bytes.new result (54 + (F.MOST_BYTES + 4 + 13)) (line_beginning peer.now key.now) }
 {
     let at = peer.format(bytes, at);
-    key.format(bytes, at, shorts)
+    let shown = ShownKey {
+        key: *key,
+        forms: peer.forms(),
+    };
+    shown.format(bytes, at, shorts)
 }
 
 /// The most bytes of what a line has after the path, and one more.
@@ -41,11 +52,11 @@ pub(crate) const END_BYTES: usize = 160;
 /// Writes what a line has after the path of its route: a bar before each field, and the end of the line. Each field is
 /// written as soon as it is read, so that none of them is stored in between.
 #[inline(always)]
-pub(crate) fn format_end(
+pub(crate) fn format_end<F: Unicast>(
     bytes: &mut [u8],
     at: usize,
     shorts: &ShortTexts,
-    forms: AddressForms,
+    forms: AddressFormsOf<F>,
     route: &PackedRoute,
 ) -> usize
     requires { at + 159 < length bytes.old }
@@ -136,10 +147,10 @@ fn put_path<W: Sink>(text: &mut TextBuffer, out: &mut W, path: Option<PackedSegm
 }
 
 /// Adds what a line has after the key: the fields of a route, each behind a bar, and the end of the line.
-pub(crate) fn put_route<W: Sink>(
+pub(crate) fn put_route<W: Sink, F: Unicast>(
     text: &mut TextBuffer,
     out: &mut W,
-    forms: AddressForms,
+    forms: AddressFormsOf<F>,
     route: &PackedRoute,
 )
     ensures { Writes W.contents W.failure_count out.old text.old out.new text.new
@@ -150,17 +161,17 @@ pub(crate) fn put_route<W: Sink>(
 }
 
 /// Adds the line of a route.
-pub(crate) fn put_row<W: Sink>(
+pub(crate) fn put_row<W: Sink, F: WrittenAddress>(
     text: &mut TextBuffer,
     out: &mut W,
-    peer: &PeerText,
-    key: &RouteKey,
+    peer: &PeerText<F>,
+    key: &RouteKey<Prefix<F>>,
     route: &PackedRoute,
 )
     ensures { Writes W.contents W.failure_count out.old text.old out.new text.new
         (route_line peer.now.forms (record { peer = peer.now.key; key = key.now; route = route.now })) }
 {
-    text.put_beginning(out, peer, *key);
+    text.put_beginning(out, peer, key);
     put_path(text, out, route.path());
     text.put_end(out, peer.forms(), route);
 }

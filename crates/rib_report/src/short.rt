@@ -17,7 +17,7 @@ pub(crate) struct ShortText {
 
 /// The decimal text of each number of at most three digits, and the hexadecimal one of each byte.
 #[derive(Drop)]
-pub(crate) struct ShortTexts {
+pub struct ShortTexts {
     texts: [ShortText; 1000],
     pub(crate) hexadecimal: HexTexts,
     ghost texts_of_numbers: { (k : ℕ) → k < 1000 → (d : ShortText) → IsShortText k (slice_index_or texts k d) },

@@ -5,8 +5,9 @@ ghost use Rattle.std.specs.List.{flat_map};
 ghost use Rattle.rib_report.specs.Texts.{IsOutput};
 
 use crate::buffer::TextBuffer;
-use crate::forms::AddressForms;
+use crate::forms::AddressFormsOf;
 use crate::line::Line;
+use bgp_update::Unicast;
 use mrt_frame::{Failed, ReplayError, Sink};
 
 /// How many rows are prefetched together before their lines are written. Routes lie far apart in memory. Reads
@@ -28,7 +29,7 @@ pub(crate) fn next_rows(bytes: usize) -> usize
 }
 
 /// Prefetches a little of what each row refers to, and returns how many rows to prefetch next.
-fn prefetch_rows<R: Line>(rows: &[R]) -> usize {
+fn prefetch_rows<F: Unicast, R: Line<F>>(rows: &[R]) -> usize {
     let mut bytes = 0usize;
     for row in rows {
         bytes = bytes.saturating_add(row.prefetch());
@@ -37,13 +38,13 @@ fn prefetch_rows<R: Line>(rows: &[R]) -> usize {
 }
 
 /// Writes a line for each row.
-pub(crate) fn write_lines<W: Sink, R: Line>(
+pub(crate) fn write_lines<F: Unicast, W: Sink, R: Line<F>>(
     out: &mut W,
-    forms: AddressForms,
+    forms: &AddressFormsOf<F>,
     rows: &[R],
 ) -> Result<(), ReplayError>
     ensures { IsOutput (W.contents out.old) (W.failure_count out.old) (W.contents out.new) (W.failure_count out.new)
-        (flat_map (R.line forms) rows.now) result }
+        (flat_map (R.line forms.now) rows.now) result }
 {
     let mut text = TextBuffer::new();
     let mut ahead = rows;
@@ -53,7 +54,7 @@ pub(crate) fn write_lines<W: Sink, R: Line>(
         if near == 0 {
             let (block, later) = ahead.split_at(next.min(ahead.len()));
             near = block.len();
-            next = prefetch_rows(block);
+            next = prefetch_rows::<F, R>(block);
             ahead = later;
         }
         near = near.saturating_sub(1);

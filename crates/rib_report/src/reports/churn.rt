@@ -11,11 +11,12 @@ ghost use Rattle.rib_report.specs.Texts.{IsOutput, Writes};
 
 use crate::buffer::TextBuffer;
 use crate::field::{Ended, time_field};
-use crate::forms::{AddressForms, ShownPeer};
+use crate::forms::{AddressFormsOf, ShownPeer};
 use crate::line::Line;
 use crate::write::write_lines;
 use adj_rib::{Churn, SharedRoute};
 use bgp_prefix::{Memory, PrefixMap};
+use bgp_update::Unicast;
 use mrt_body::PeerKey;
 use mrt_frame::{ReplayError, Sink};
 use peer_tables::{Tables, Watched};
@@ -29,7 +30,7 @@ pub struct ChurnRow {
 }
 
 /// Returns the churn of each peer, by number.
-pub fn churn<M: PrefixMap<SharedRoute, Addr = u32>>(
+pub fn churn<F: Unicast, M: PrefixMap<SharedRoute, Addr = F>>(
     alloc: Global,
     tables: &Tables<M>,
 ) -> Result<Vec<ChurnRow>, Memory>
@@ -46,7 +47,7 @@ pub fn churn<M: PrefixMap<SharedRoute, Addr = u32>>(
 }
 
 /// Returns the churn that each watch counted, in the order of the watches.
-pub fn watched_churn<M: PrefixMap<SharedRoute, Addr = u32>>(
+pub fn watched_churn<F: Unicast, M: PrefixMap<SharedRoute, Addr = F>>(
     alloc: Global,
     watches: &[Watched<M>],
 ) -> Result<Vec<ChurnRow>, Memory>
@@ -62,14 +63,16 @@ pub fn watched_churn<M: PrefixMap<SharedRoute, Addr = u32>>(
     Ok(rows)
 }
 
-impl Line for ChurnRow {
+impl<F: Unicast> Line<F> for ChurnRow {
     ghost line = { churn_line };
 
     fn prefetch(&self) -> usize {
         0
     }
 
-    fn put<W: Sink>(&self, text: &mut TextBuffer, out: &mut W, forms: AddressForms) {
+    fn put<W: Sink>(&self, text: &mut TextBuffer, out: &mut W, forms: &AddressFormsOf<F>)
+        ensures { Writes W.contents W.failure_count out.old text.old out.new text.new (churn_line forms.now self.now) }
+    {
         let churn = self.churn;
         let times = (time_field(churn.first), time_field(churn.last));
         let refused = (churn.refused as u128, times);
@@ -86,20 +89,20 @@ impl Line for ChurnRow {
         );
         let peer = ShownPeer {
             key: self.peer,
-            forms,
+            forms: *forms,
         };
         text.put(out, Ended((peer, counts)));
     }
 }
 
 /// Writes the rows of `churn`. If it returns `Write`, a leading part of the text has been written.
-pub fn write_churn<W: Sink>(
+pub fn write_churn<F: Unicast, W: Sink>(
     out: &mut W,
-    forms: AddressForms,
+    forms: AddressFormsOf<F>,
     rows: &[ChurnRow],
 ) -> Result<(), ReplayError>
     ensures { IsOutput (W.contents out.old) (W.failure_count out.old) (W.contents out.new) (W.failure_count out.new)
         (flat_map (churn_line forms) rows.now) result }
 {
-    write_lines(out, forms, rows)
+    write_lines(out, &forms, rows)
 }

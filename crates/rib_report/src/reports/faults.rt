@@ -12,18 +12,19 @@ ghost use Rattle.rib_report.specs.Texts.{IsOutput, Writes};
 
 use crate::buffer::TextBuffer;
 use crate::field::entry_field;
-use crate::forms::{AddressForm, AddressForms};
+use crate::forms::{AddressForm, AddressForms, AddressFormsOf};
 use crate::line::Line;
 use crate::write::write_lines;
 use adj_rib::SharedRoute;
 use bgp_prefix::{Memory, PrefixMap};
+use bgp_update::Unicast;
 use mrt_body::Damage;
 use mrt_frame::{Fault, ReplayError, Sink};
 use peer_tables::Tables;
 use std::alloc::Global;
 
 /// The refusals, and then each peer's faults.
-fn gather_faults<M: PrefixMap<SharedRoute, Addr = u32>>(
+fn gather_faults<F: Unicast, M: PrefixMap<SharedRoute, Addr = F>>(
     alloc: Global,
     tables: &Tables<M>,
 ) -> Result<Vec<Damage>, Memory>
@@ -37,7 +38,7 @@ fn gather_faults<M: PrefixMap<SharedRoute, Addr = u32>>(
 }
 
 /// Returns all faults in place order; where places are equal, the refusals come first, then the peers' by number.
-pub fn faults<M: PrefixMap<SharedRoute, Addr = u32>>(
+pub fn faults<F: Unicast, M: PrefixMap<SharedRoute, Addr = F>>(
     alloc: Global,
     tables: &Tables<M>,
 ) -> Result<Vec<Damage>, Memory>
@@ -68,14 +69,16 @@ fn put_fault<W: Sink>(text: &mut TextBuffer, out: &mut W, fault: Fault)
     }
 }
 
-impl Line for Damage {
+impl<F: Unicast> Line<F> for Damage {
     ghost line = { λ _. fault_line };
 
     fn prefetch(&self) -> usize {
         0
     }
 
-    fn put<W: Sink>(&self, text: &mut TextBuffer, out: &mut W, _forms: AddressForms) {
+    fn put<W: Sink>(&self, text: &mut TextBuffer, out: &mut W, _forms: &AddressFormsOf<F>)
+        ensures { Writes W.contents W.failure_count out.old text.old out.new text.new (fault_line self.now) }
+    {
         let file = self.place.file as u128 + 1;
         let offset = self.place.offset as u128;
         let number = self.fault.number() as u32;
@@ -94,5 +97,6 @@ pub fn write_faults<W: Sink>(out: &mut W, rows: &[Damage]) -> Result<(), ReplayE
     ensures { IsOutput (W.contents out.old) (W.failure_count out.old) (W.contents out.new) (W.failure_count out.new)
         (flat_map fault_line rows.now) result }
 {
-    write_lines(out, AddressForms::all(AddressForm::Full), rows)
+    let forms: AddressForms = AddressForms::all(AddressForm::Full);
+    write_lines(out, &forms, rows)
 }

@@ -7,13 +7,14 @@ ghost use Rattle.rib_report.specs.HistoryLines.{by_text, history_line, what_text
 ghost use Rattle.rib_report.specs.Texts.{IsOutput, Writes};
 
 use crate::buffer::TextBuffer;
-use crate::field::{Field, Microseconds};
+use crate::field::{Field, Microseconds, ShownKey};
 use crate::format::format_text;
-use crate::forms::{AddressForms, ShownPeer};
+use crate::forms::{AddressFormsOf, ShownPeer};
 use crate::line::Line;
 use crate::route_line::put_route;
 use crate::short::ShortTexts;
 use crate::write::write_lines;
+use crate::written_address::WrittenAddress;
 use adj_rib::What;
 use mrt_frame::{ReplayError, Sink};
 use peer_tables::{By, HistoryRow};
@@ -57,7 +58,7 @@ impl Field for By {
     }
 }
 
-impl Line for HistoryRow {
+impl<F: WrittenAddress> Line<F> for HistoryRow<F> {
     ghost line = { history_line };
 
     fn prefetch(&self) -> usize {
@@ -67,28 +68,35 @@ impl Line for HistoryRow {
         }
     }
 
-    fn put<W: Sink>(&self, text: &mut TextBuffer, out: &mut W, forms: AddressForms) {
-        let event = (self.what(), (self.by(), self.key()));
+    fn put<W: Sink>(&self, text: &mut TextBuffer, out: &mut W, forms: &AddressFormsOf<F>)
+        ensures { Writes W.contents W.failure_count out.old text.old out.new text.new
+            (history_line forms.now self.now) }
+    {
+        let key = ShownKey {
+            key: self.key(),
+            forms: *forms,
+        };
+        let event = (self.what(), (self.by(), key));
         let peer = ShownPeer {
             key: self.peer(),
-            forms,
+            forms: *forms,
         };
         text.put(out, (Microseconds(self.time()), (peer, event)));
         match self.route() {
-            Some(route) => put_route(text, out, forms, route.route()),
+            Some(route) => put_route(text, out, *forms, route.route()),
             None => text.put_text(out, b"|-|-|-|-|-|-|-\n"),
         }
     }
 }
 
 /// Writes the rows of `history`. If it returns `Write`, a leading part of the text has been written.
-pub fn write_history<W: Sink>(
+pub fn write_history<F: WrittenAddress, W: Sink>(
     out: &mut W,
-    forms: AddressForms,
-    rows: &[HistoryRow],
+    forms: AddressFormsOf<F>,
+    rows: &[HistoryRow<F>],
 ) -> Result<(), ReplayError>
     ensures { IsOutput (W.contents out.old) (W.failure_count out.old) (W.contents out.new) (W.failure_count out.new)
         (flat_map (history_line forms) rows.now) result }
 {
-    write_lines(out, forms, rows)
+    write_lines(out, &forms, rows)
 }

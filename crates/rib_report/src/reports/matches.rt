@@ -1,7 +1,7 @@
 //! The report `match`: for each peer, the entries of the longest prefix in its table that contains an address. A line
 //! is one of `tables`.
 
-ghost use Rattle.std.specs.Prelude.{◌≡◌, ◌*◌, ◌^◌, ◌++◌, IfOk, OnOk, map};
+ghost use Rattle.std.specs.Prelude.{◌≡◌, ◌++◌, IfOk, OnOk, map};
 ghost use Rattle.bgp_prefix.specs.Maps.{paths_of};
 ghost use Rattle.rib_report.specs.Rows.{table_row};
 ghost use Rattle.rib_report.specs.Reports.{path_row, matches_of_seat, match_rows};
@@ -10,15 +10,16 @@ ghost use Rattle.peer_tables.specs.Seats.{seat_of};
 use crate::reports::tables::TableRow;
 use adj_rib::SharedRoute;
 use bgp_prefix::{Memory, Prefix, PrefixMap, RouteKey};
+use bgp_update::Unicast;
 use peer_tables::{Seated, Tables};
 use std::alloc::Global;
 
 /// Adds the entries of a prefix in one peer's table.
-fn add_paths<'a, M: PrefixMap<SharedRoute, Addr = u32>>(
+fn add_paths<'a, F: Unicast, M: PrefixMap<SharedRoute, Addr = F>>(
     alloc: Global,
-    rows: &mut Vec<TableRow<'a>>,
+    rows: &mut Vec<TableRow<'a, Prefix<F>>>,
     seat: &'a Seated<M>,
-    prefix: Prefix,
+    prefix: Prefix<F>,
 ) -> Result<(), Memory>
     ensures { OnOk result (map table_row rows.new.items ≡ map table_row rows.old.items
         ++ map (path_row seat.now.key prefix) (paths_of prefix (seat_of seat.now).session.table)) }
@@ -37,14 +38,14 @@ fn add_paths<'a, M: PrefixMap<SharedRoute, Addr = u32>>(
 }
 
 /// Adds the entries of the longest-prefix match in one peer's table, if there is one.
-fn add_matches<'a, M: PrefixMap<SharedRoute, Addr = u32>>(
+fn add_matches<'a, F: Unicast, M: PrefixMap<SharedRoute, Addr = F>>(
     alloc: Global,
-    rows: &mut Vec<TableRow<'a>>,
+    rows: &mut Vec<TableRow<'a, Prefix<F>>>,
     seat: &'a Seated<M>,
-    addr: u32,
+    addr: F,
 ) -> Result<(), Memory>
     ensures { OnOk result (map table_row rows.new.items ≡ map table_row rows.old.items
-        ++ matches_of_seat (addr * 2 ^ 96) (seat_of seat.now)) }
+        ++ matches_of_seat (F.bits addr) (seat_of seat.now)) }
 {
     match seat.session.table().longest(addr) {
         Some(prefix) => add_paths(alloc, rows, seat, prefix),
@@ -54,12 +55,12 @@ fn add_matches<'a, M: PrefixMap<SharedRoute, Addr = u32>>(
 
 /// Returns, for each peer by number, all entries of the longest prefix that contains the address, by identifier
 /// (RFC 1812, 5.2.4.3). A peer with no such prefix has none.
-pub fn matches<M: PrefixMap<SharedRoute, Addr = u32>>(
+pub fn matches<F: Unicast, M: PrefixMap<SharedRoute, Addr = F>>(
     alloc: Global,
     tables: &Tables<M>,
-    addr: u32,
-) -> Result<Vec<TableRow<'_>>, Memory>
-    ensures { IfOk result (λ rows. map table_row rows.items ≡ match_rows tables.now (addr * 2 ^ 96)) }
+    addr: F,
+) -> Result<Vec<TableRow<'_, Prefix<F>>>, Memory>
+    ensures { IfOk result (λ rows. map table_row rows.items ≡ match_rows tables.now (F.bits addr)) }
 {
     let mut rows = Vec::new(alloc);
     for seat in tables.seats() {

@@ -10,40 +10,42 @@ ghost use Rattle.rib_report.specs.Texts.{IsOutput, Writes};
 ghost use Rattle.peer_tables.specs.Seats.{seat_of};
 
 use crate::buffer::TextBuffer;
-use crate::forms::{AddressForm, AddressForms};
+use crate::field::ShownPrefix;
+use crate::forms::AddressFormsOf;
 use crate::line::Line;
 use crate::merge::{Listed, Mergeable, list_peers, list_peers_by_few};
 use crate::write::write_lines;
+use crate::written_address::WrittenAddress;
 use adj_rib::SharedRoute;
-use bgp_prefix::{Memory, Prefix, PrefixMap, RouteKey, Sequence};
-use bgp_update::PackedRoute;
+use bgp_prefix::{Family, Memory, Prefix, PrefixMap, RouteKey, Sequence};
+use bgp_update::{PackedRoute, Unicast};
 use mrt_frame::{ReplayError, Sink};
 use peer_tables::{Seated, Tables};
 use std::alloc::Global;
 use std::cmp::Ordering;
-use std::marker::Sync;
+use std::marker::{Send, Sync};
 use std::thread::Threads;
 
 /// The origin ASes of a prefix, ascending (RFC 6811, 2).
 #[derive(Drop)]
-pub struct OriginRow {
-    pub prefix: Prefix,
+pub struct OriginRow<P = Prefix> {
+    pub prefix: P,
     pub origins: Sequence<u32>,
 }
 
 /// Pairs are merged by prefix and number. A pair of both lists is once.
-impl Mergeable for (Prefix, u32) {
+impl<F: Family> Mergeable for (Prefix<F>, u32) {
     ghost order = { pair_cmp };
 
     ghost both = { λ x _. x };
 
     #[inline(always)]
-    fn compare(self, other: (Prefix, u32)) -> Ordering {
+    fn compare(self, other: (Prefix<F>, u32)) -> Ordering {
         self.cmp(&other)
     }
 
     #[inline(always)]
-    fn unite(self, _other: (Prefix, u32)) -> (Prefix, u32) {
+    fn unite(self, _other: (Prefix<F>, u32)) -> (Prefix<F>, u32) {
         self
     }
 }
@@ -56,12 +58,12 @@ fn origin_of(route: &PackedRoute) -> Option<u32>
 }
 
 /// Adds the prefix and the origin AS of a route, if it has one.
-fn add_origin(
-    pairs: &mut Vec<(Prefix, u32)>,
-    key: RouteKey,
+fn add_origin<F: Family>(
+    pairs: &mut Vec<(Prefix<F>, u32)>,
+    key: &RouteKey<Prefix<F>>,
     route: &PackedRoute,
 ) -> Result<(), Memory>
-    ensures { OnOk result (pairs.new.items ≡ pairs.old.items ++ filter_map origin_pair ((key, route.now) ∷ [])) }
+    ensures { OnOk result (pairs.new.items ≡ pairs.old.items ++ filter_map origin_pair ((key.now, route.now) ∷ [])) }
 {
     if let Some(origin) = origin_of(route) {
         pairs.push((key.prefix, origin))?;
@@ -70,29 +72,27 @@ fn add_origin(
 }
 
 /// Adds the prefix and the origin AS of each route of one peer that has an origin AS.
-fn add_origins<M: PrefixMap<SharedRoute, Addr = u32>>(
+fn add_origins<F: Unicast, M: PrefixMap<SharedRoute, Addr = F>>(
     alloc: Global,
-    pairs: &mut Vec<(Prefix, u32)>,
+    pairs: &mut Vec<(Prefix<F>, u32)>,
     seat: &Seated<M>,
 ) -> Result<(), Memory>
     ensures { OnOk result (pairs.new.items ≡ pairs.old.items ++ seat_origins (seat_of seat.now)) }
 {
     let entries = seat.session.table().entries(alloc)?;
     for entry in entries.as_slice() {
-        let (key, shared) = *entry;
-        add_origin(pairs, key, shared.route())?;
+        add_origin(pairs, &entry.0, entry.1.route())?;
     }
     Ok(())
 }
 
 /// What is listed of peers: the prefixes and origin ASes of their routes in order, each pair once.
-impl Listed for (Prefix, u32) {
+impl<F: Unicast, M: PrefixMap<SharedRoute, Addr = F>> Listed<Seated<M>> for (Prefix<F>, u32) {
+    ghost seen = { seat_of };
+
     ghost list_of = { origins_in_order };
 
-    fn list_of_seat<M: PrefixMap<SharedRoute, Addr = u32>>(
-        alloc: Global,
-        seat: &Seated<M>,
-    ) -> Result<Vec<(Prefix, u32)>, Memory> {
+    fn list_of_seat(alloc: Global, seat: &Seated<M>) -> Result<Vec<(Prefix<F>, u32)>, Memory> {
         let mut pairs = Vec::with_capacity(alloc, seat.session.table().len())?;
         add_origins(alloc, &mut pairs, seat)?;
         pairs.sort()?;
@@ -104,13 +104,13 @@ impl Listed for (Prefix, u32) {
 }
 
 /// Returns how many pairs at the front have this prefix.
-fn run_length(pairs: &[(Prefix, u32)], first: Prefix) -> usize
+fn run_length<F: Family>(pairs: &[(Prefix<F>, u32)], first: &Prefix<F>) -> usize
     ensures within { result ≤ length pairs.now }
-    ensures same { AllWithin (λ e. e.0 ≡ first) pairs.now 0 result }
-    ensures other { result < length pairs.now → HoldsAt (λ e. e.0 ≢ first) pairs.now result }
+    ensures same { AllWithin (λ e. e.0 ≡ first.now) pairs.now 0 result }
+    ensures other { result < length pairs.now → HoldsAt (λ e. e.0 ≢ first.now) pairs.now result }
 {
     for i in 0..pairs.len() {
-        if pairs[i].0 != first {
+        if pairs[i].0 != *first {
             return i;
         }
     }
@@ -118,7 +118,11 @@ fn run_length(pairs: &[(Prefix, u32)], first: Prefix) -> usize
 }
 
 /// Makes the row of a prefix from its pairs of prefix and origin AS.
-fn row_of_run(alloc: Global, prefix: Prefix, run: &[(Prefix, u32)]) -> Result<OriginRow, Memory>
+fn row_of_run<F: Family>(
+    alloc: Global,
+    prefix: Prefix<F>,
+    run: &[(Prefix<F>, u32)],
+) -> Result<OriginRow<Prefix<F>>, Memory>
     ensures { IfOk result (λ row. row ≡ record { prefix = prefix; origins = map (λ e. e.1) run.now }) }
 {
     let mut origins = Vec::with_capacity(alloc, run.len())?;
@@ -132,14 +136,17 @@ fn row_of_run(alloc: Global, prefix: Prefix, run: &[(Prefix, u32)]) -> Result<Or
 }
 
 /// Makes a row for each run of at least two pairs with the same prefix.
-fn group_runs(alloc: Global, pairs: &[(Prefix, u32)]) -> Result<Vec<OriginRow>, Memory>
+fn group_runs<F: Family>(
+    alloc: Global,
+    pairs: &[(Prefix<F>, u32)],
+) -> Result<Vec<OriginRow<Prefix<F>>>, Memory>
     requires { IsStrictlySortedBy pair_cmp pairs.now }
     ensures { IfOk result (λ rows. rows.items ≡ filter has_several (grouped_origins pairs.now)) }
 {
     let mut rows = Vec::new(alloc);
     let mut rest = pairs;
     while let [first, ..] = rest {
-        let (run, later) = rest.split_at(run_length(rest, first.0));
+        let (run, later) = rest.split_at(run_length(rest, &first.0));
         if run.len() >= 2 {
             rows.push(row_of_run(alloc, first.0, run)?)?;
         }
@@ -150,42 +157,56 @@ fn group_runs(alloc: Global, pairs: &[(Prefix, u32)]) -> Result<Vec<OriginRow>, 
 
 /// Returns the prefixes whose routes have at least two different origin ASes, by prefix, each with its origin
 /// ASes in ascending order.
-pub fn origins<M: PrefixMap<SharedRoute, Addr = u32>>(
+pub fn origins<M: PrefixMap<SharedRoute>>(
     alloc: Global,
     tables: &Tables<M>,
-) -> Result<Vec<OriginRow>, Memory>
+) -> Result<Vec<OriginRow<Prefix<M::Addr>>>, Memory>
+where
+    M::Addr: Unicast,
     ensures { IfOk result (λ rows. rows.items ≡ origin_rows tables.now) }
 {
-    let pairs = list_peers::<(Prefix, u32), M>(alloc, tables.seats())?;
+    let pairs = list_peers::<(Prefix<M::Addr>, u32), Seated<M>>(alloc, tables.seats())?;
     group_runs(alloc, pairs.as_slice())
 }
 
 /// Returns what `origins` returns. With two threads or more, two of them share the work; if no thread can be
 /// started, the calling thread does all of it.
-pub fn origins_with_threads<M: PrefixMap<SharedRoute, Addr = u32> + Sync, T: Threads>(
+pub fn origins_with_threads<M: PrefixMap<SharedRoute> + Sync, T: Threads>(
     rt: &T,
     alloc: Global,
     threads: usize,
     tables: &Tables<M>,
-) -> Result<Vec<OriginRow>, Memory>
+) -> Result<Vec<OriginRow<Prefix<M::Addr>>>, Memory>
+where
+    M::Addr: Unicast + Send,
     ensures { IfOk result (λ rows. rows.items ≡ origin_rows tables.now) }
 {
     if threads < 2 {
         return origins(alloc, tables);
     }
-    let pairs = list_peers_by_few::<(Prefix, u32), M, T>(rt, alloc, tables.seats())?;
+    let pairs = list_peers_by_few::<(Prefix<M::Addr>, u32), Seated<M>, T>(
+        rt,
+        alloc,
+        tables.seats(),
+    )?;
     group_runs(alloc, pairs.as_slice())
 }
 
-impl Line for OriginRow {
-    ghost line = { λ _. origin_line };
+impl<F: WrittenAddress> Line<F> for OriginRow<Prefix<F>> {
+    ghost line = { origin_line };
 
     fn prefetch(&self) -> usize {
         0
     }
 
-    fn put<W: Sink>(&self, text: &mut TextBuffer, out: &mut W, _forms: AddressForms) {
-        text.put(out, self.prefix);
+    fn put<W: Sink>(&self, text: &mut TextBuffer, out: &mut W, forms: &AddressFormsOf<F>)
+        ensures { Writes W.contents W.failure_count out.old text.old out.new text.new (origin_line forms.now self.now) }
+    {
+        let prefix = ShownPrefix {
+            prefix: self.prefix,
+            forms: *forms,
+        };
+        text.put(out, prefix);
         text.put_byte(out, b'|');
         text.put_numbers(out, b' ', self.origins.as_slice());
         text.put_byte(out, b'\n');
@@ -193,9 +214,13 @@ impl Line for OriginRow {
 }
 
 /// Writes the rows of `origins`. If it returns `Write`, a leading part of the text has been written.
-pub fn write_origins<W: Sink>(out: &mut W, rows: &[OriginRow]) -> Result<(), ReplayError>
+pub fn write_origins<F: WrittenAddress, W: Sink>(
+    out: &mut W,
+    forms: AddressFormsOf<F>,
+    rows: &[OriginRow<Prefix<F>>],
+) -> Result<(), ReplayError>
     ensures { IsOutput (W.contents out.old) (W.failure_count out.old) (W.contents out.new) (W.failure_count out.new)
-        (flat_map origin_line rows.now) result }
+        (flat_map (origin_line forms) rows.now) result }
 {
-    write_lines(out, AddressForms::all(AddressForm::Full), rows)
+    write_lines(out, &forms, rows)
 }

@@ -12,11 +12,12 @@ ghost use Rattle.rib_report.specs.Texts.{IsOutput, Writes};
 
 use crate::buffer::TextBuffer;
 use crate::field::{Ended, SessionUp, entry_field, time_field};
-use crate::forms::{AddressForms, ShownPeer};
+use crate::forms::{AddressFormsOf, ShownPeer};
 use crate::line::Line;
 use crate::write::write_lines;
 use adj_rib::SharedRoute;
 use bgp_prefix::{Memory, PrefixMap};
+use bgp_update::Unicast;
 use mrt_body::{PeerKey, Place};
 use mrt_frame::{ReplayError, Sink};
 use peer_tables::{Seated, Tables};
@@ -41,7 +42,7 @@ pub struct PeerRow {
 }
 
 /// Returns the row of a peer.
-fn row_of<M: PrefixMap<SharedRoute, Addr = u32>>(seat: &Seated<M>) -> PeerRow
+fn row_of<F: Unicast, M: PrefixMap<SharedRoute, Addr = F>>(seat: &Seated<M>) -> PeerRow
     ensures { result ≡ peer_row (seat_of seat.now) }
 {
     let churn = seat.session.churn();
@@ -58,7 +59,7 @@ fn row_of<M: PrefixMap<SharedRoute, Addr = u32>>(seat: &Seated<M>) -> PeerRow
 }
 
 /// Returns the peers, by number.
-pub fn peers<M: PrefixMap<SharedRoute, Addr = u32>>(
+pub fn peers<F: Unicast, M: PrefixMap<SharedRoute, Addr = F>>(
     alloc: Global,
     tables: &Tables<M>,
 ) -> Result<Vec<PeerRow>, Memory>
@@ -101,14 +102,16 @@ fn place_entry_field(place: Option<Place>) -> Option<u32>
     }
 }
 
-impl Line for PeerRow {
+impl<F: Unicast> Line<F> for PeerRow {
     ghost line = { peer_line };
 
     fn prefetch(&self) -> usize {
         0
     }
 
-    fn put<W: Sink>(&self, text: &mut TextBuffer, out: &mut W, forms: AddressForms) {
+    fn put<W: Sink>(&self, text: &mut TextBuffer, out: &mut W, forms: &AddressFormsOf<F>)
+        ensures { Writes W.contents W.failure_count out.old text.old out.new text.new (peer_line forms.now self.now) }
+    {
         let place = (
             file_field(self.place),
             (offset_field(self.place), place_entry_field(self.place)),
@@ -117,20 +120,20 @@ impl Line for PeerRow {
         let counts = (self.routes as u128, (self.units as u128, times));
         let peer = ShownPeer {
             key: self.peer,
-            forms,
+            forms: *forms,
         };
         text.put(out, Ended((peer, (SessionUp(self.is_established), counts))));
     }
 }
 
 /// Writes the rows of `peers`. If it returns `Write`, a leading part of the text has been written.
-pub fn write_peers<W: Sink>(
+pub fn write_peers<F: Unicast, W: Sink>(
     out: &mut W,
-    forms: AddressForms,
+    forms: AddressFormsOf<F>,
     rows: &[PeerRow],
 ) -> Result<(), ReplayError>
     ensures { IsOutput (W.contents out.old) (W.failure_count out.old) (W.contents out.new) (W.failure_count out.new)
         (flat_map (peer_line forms) rows.now) result }
 {
-    write_lines(out, forms, rows)
+    write_lines(out, &forms, rows)
 }

@@ -12,30 +12,32 @@ ghost use Rattle.rib_report.specs.Texts.{IsOutput, Writes};
 ghost use Rattle.peer_tables.specs.Seats.{seat_of};
 
 use crate::buffer::TextBuffer;
-use crate::field::Ended;
-use crate::forms::{AddressForm, AddressForms};
+use crate::field::{Ended, ShownPrefix};
+use crate::forms::AddressFormsOf;
 use crate::line::Line;
 use crate::merge::{Listed, Mergeable, list_peers, list_peers_by_few};
 use crate::write::write_lines;
+use crate::written_address::WrittenAddress;
 use adj_rib::SharedRoute;
-use bgp_prefix::{Memory, Prefix, PrefixMap};
+use bgp_prefix::{Family, Memory, Prefix, PrefixMap};
+use bgp_update::Unicast;
 use mrt_frame::{ReplayError, Sink};
 use peer_tables::{Seated, Tables};
 use std::alloc::Global;
 use std::cmp::Ordering;
-use std::marker::Sync;
+use std::marker::{Send, Sync};
 use std::thread::Threads;
 
 /// A prefix, an origin AS of its routes, or none, and the number of peers that have such a route.
 #[derive(Drop)]
-pub struct SeenRow {
-    pub prefix: Prefix,
+pub struct SeenRow<P = Prefix> {
+    pub prefix: P,
     pub origin: Option<u32>,
     pub peers: usize,
 }
 
 /// The prefix and the origin AS of a route, which may have none (RFC 6811, 2).
-type PrefixOrigin = (Prefix, Option<u32>);
+type PrefixOrigin<F> = (Prefix<F>, Option<u32>);
 
 /// Compares two origin ASes by number. A route without one comes last.
 fn compare_origins(one: Option<u32>, other: Option<u32>) -> Ordering
@@ -54,34 +56,34 @@ fn compare_origins(one: Option<u32>, other: Option<u32>) -> Ordering
 }
 
 /// Compares by prefix, and then by origin AS.
-fn compare_pairs(one: &PrefixOrigin, other: &PrefixOrigin) -> Ordering
+fn compare_pairs<F: Family>(one: &PrefixOrigin<F>, other: &PrefixOrigin<F>) -> Ordering
     ensures { result ≡ prefix_origin_cmp one.now other.now }
 {
     one.0.cmp(&other.0).then(compare_origins(one.1, other.1))
 }
 
 /// Prefixes and origin ASes with counts are merged by both. Counts are added, and saturate.
-impl Mergeable for (PrefixOrigin, usize) {
+impl<F: Family> Mergeable for (PrefixOrigin<F>, usize) {
     ghost order = { by_key prefix_origin_cmp };
 
     ghost both = { counted_both };
 
     #[inline(always)]
-    fn compare(self, other: (PrefixOrigin, usize)) -> Ordering {
+    fn compare(self, other: (PrefixOrigin<F>, usize)) -> Ordering {
         compare_pairs(&self.0, &other.0)
     }
 
     #[inline(always)]
-    fn unite(self, other: (PrefixOrigin, usize)) -> (PrefixOrigin, usize) {
+    fn unite(self, other: (PrefixOrigin<F>, usize)) -> (PrefixOrigin<F>, usize) {
         (self.0, self.1.saturating_add(other.1))
     }
 }
 
 /// Returns the prefix and the origin AS of each route of one peer, keys in order.
-fn pairs_of_routes<M: PrefixMap<SharedRoute, Addr = u32>>(
+fn pairs_of_routes<F: Unicast, M: PrefixMap<SharedRoute, Addr = F>>(
     alloc: Global,
     seat: &Seated<M>,
-) -> Result<Vec<PrefixOrigin>, Memory>
+) -> Result<Vec<PrefixOrigin<F>>, Memory>
     ensures { IfOk result (λ pairs. pairs.items ≡ seat_prefix_origins (seat_of seat.now)) }
 {
     let entries = seat.session.table().entries(alloc)?;
@@ -94,10 +96,10 @@ fn pairs_of_routes<M: PrefixMap<SharedRoute, Addr = u32>>(
 }
 
 /// Returns the prefixes and origin ASes of one peer's routes in order, each pair once, whatever the path identifiers.
-fn pairs_of_seat<M: PrefixMap<SharedRoute, Addr = u32>>(
+fn pairs_of_seat<F: Unicast, M: PrefixMap<SharedRoute, Addr = F>>(
     alloc: Global,
     seat: &Seated<M>,
-) -> Result<Vec<PrefixOrigin>, Memory>
+) -> Result<Vec<PrefixOrigin<F>>, Memory>
     ensures { IfOk result (λ pairs. pairs.items ≡ in_order prefix_origin_cmp (seat_prefix_origins (seat_of seat.now))) }
 {
     let mut pairs = pairs_of_routes(alloc, seat)?;
@@ -107,7 +109,10 @@ fn pairs_of_seat<M: PrefixMap<SharedRoute, Addr = u32>>(
 }
 
 /// Gives each a count of 1.
-fn count_once(alloc: Global, pairs: &[PrefixOrigin]) -> Result<Vec<(PrefixOrigin, usize)>, Memory>
+fn count_once<F: Family>(
+    alloc: Global,
+    pairs: &[PrefixOrigin<F>],
+) -> Result<Vec<(PrefixOrigin<F>, usize)>, Memory>
     ensures { IfOk result (λ counts. counts.items ≡ map (λ e. (e, 1)) pairs.now) }
 {
     let mut counts = Vec::with_capacity(alloc, pairs.len())?;
@@ -119,13 +124,16 @@ fn count_once(alloc: Global, pairs: &[PrefixOrigin]) -> Result<Vec<(PrefixOrigin
 
 /// What is listed of peers: the prefixes and origin ASes of their routes in order, each pair with the number of peers
 /// that have such a route.
-impl Listed for (PrefixOrigin, usize) {
+impl<F: Unicast, M: PrefixMap<SharedRoute, Addr = F>> Listed<Seated<M>>
+    for (PrefixOrigin<F>, usize) {
+    ghost seen = { seat_of };
+
     ghost list_of = { seen_among };
 
-    fn list_of_seat<M: PrefixMap<SharedRoute, Addr = u32>>(
+    fn list_of_seat(
         alloc: Global,
         seat: &Seated<M>,
-    ) -> Result<Vec<(PrefixOrigin, usize)>, Memory> {
+    ) -> Result<Vec<(PrefixOrigin<F>, usize)>, Memory> {
         let pairs = pairs_of_seat(alloc, seat)?;
         count_once(alloc, pairs.as_slice())
     }
@@ -134,7 +142,10 @@ impl Listed for (PrefixOrigin, usize) {
 }
 
 /// Makes the rows of counted prefixes and origin ASes.
-fn rows_of(alloc: Global, counts: &[(PrefixOrigin, usize)]) -> Result<Vec<SeenRow>, Memory>
+fn rows_of<F: Family>(
+    alloc: Global,
+    counts: &[(PrefixOrigin<F>, usize)],
+) -> Result<Vec<SeenRow<Prefix<F>>>, Memory>
     ensures { IfOk result (λ rows. rows.items ≡
         map (λ e. record { prefix = e.0.0; origin = e.0.1; peers = e.1 }) counts.now) }
 {
@@ -153,49 +164,67 @@ fn rows_of(alloc: Global, counts: &[(PrefixOrigin, usize)]) -> Result<Vec<SeenRo
 /// Returns, for each prefix and each origin AS of its routes at any peer, the number of peers that have a route of
 /// this prefix with this origin AS: by prefix, then by origin AS, and the routes without one last. A peer counts once
 /// per row, whatever the identifiers of its routes.
-pub fn seen<M: PrefixMap<SharedRoute, Addr = u32>>(
+pub fn seen<M: PrefixMap<SharedRoute>>(
     alloc: Global,
     tables: &Tables<M>,
-) -> Result<Vec<SeenRow>, Memory>
+) -> Result<Vec<SeenRow<Prefix<M::Addr>>>, Memory>
+where
+    M::Addr: Unicast,
     ensures { IfOk result (λ rows. rows.items ≡ seen_rows tables.now) }
 {
-    let counts = list_peers::<(PrefixOrigin, usize), M>(alloc, tables.seats())?;
+    let counts = list_peers::<(PrefixOrigin<M::Addr>, usize), Seated<M>>(alloc, tables.seats())?;
     rows_of(alloc, counts.as_slice())
 }
 
 /// Returns what `seen` returns. With two threads or more, two of them share the work; if no thread can be started, the
 /// calling thread does all of it.
-pub fn seen_with_threads<M: PrefixMap<SharedRoute, Addr = u32> + Sync, T: Threads>(
+pub fn seen_with_threads<M: PrefixMap<SharedRoute> + Sync, T: Threads>(
     rt: &T,
     alloc: Global,
     threads: usize,
     tables: &Tables<M>,
-) -> Result<Vec<SeenRow>, Memory>
+) -> Result<Vec<SeenRow<Prefix<M::Addr>>>, Memory>
+where
+    M::Addr: Unicast + Send,
     ensures { IfOk result (λ rows. rows.items ≡ seen_rows tables.now) }
 {
     if threads < 2 {
         return seen(alloc, tables);
     }
-    let counts = list_peers_by_few::<(PrefixOrigin, usize), M, T>(rt, alloc, tables.seats())?;
+    let counts = list_peers_by_few::<(PrefixOrigin<M::Addr>, usize), Seated<M>, T>(
+        rt,
+        alloc,
+        tables.seats(),
+    )?;
     rows_of(alloc, counts.as_slice())
 }
 
-impl Line for SeenRow {
-    ghost line = { λ _. seen_line };
+impl<F: WrittenAddress> Line<F> for SeenRow<Prefix<F>> {
+    ghost line = { seen_line };
 
     fn prefetch(&self) -> usize {
         0
     }
 
-    fn put<W: Sink>(&self, text: &mut TextBuffer, out: &mut W, _forms: AddressForms) {
-        text.put(out, Ended((self.prefix, (self.origin, self.peers as u128))));
+    fn put<W: Sink>(&self, text: &mut TextBuffer, out: &mut W, forms: &AddressFormsOf<F>)
+        ensures { Writes W.contents W.failure_count out.old text.old out.new text.new (seen_line forms.now self.now) }
+    {
+        let prefix = ShownPrefix {
+            prefix: self.prefix,
+            forms: *forms,
+        };
+        text.put(out, Ended((prefix, (self.origin, self.peers as u128))));
     }
 }
 
 /// Writes the rows of `seen`. If it returns `Write`, a leading part of the text has been written.
-pub fn write_seen<W: Sink>(out: &mut W, rows: &[SeenRow]) -> Result<(), ReplayError>
+pub fn write_seen<F: WrittenAddress, W: Sink>(
+    out: &mut W,
+    forms: AddressFormsOf<F>,
+    rows: &[SeenRow<Prefix<F>>],
+) -> Result<(), ReplayError>
     ensures { IsOutput (W.contents out.old) (W.failure_count out.old) (W.contents out.new) (W.failure_count out.new)
-        (flat_map seen_line rows.now) result }
+        (flat_map (seen_line forms) rows.now) result }
 {
-    write_lines(out, AddressForms::all(AddressForm::Full), rows)
+    write_lines(out, &forms, rows)
 }

@@ -19,32 +19,34 @@ ghost use Rattle.rib_report.specs.Texts.{IsOutput, Writes};
 
 use crate::buffer::TextBuffer;
 use crate::field::PeerText;
-use crate::forms::{AddressForms, ShownPeer};
+use crate::forms::{AddressFormsOf, ShownPeer, ShownPeerOf};
 use crate::line::Line;
 use crate::route_line::put_row;
 use crate::write::{NEAR_ROWS, next_rows, write_lines};
+use crate::written_address::WrittenAddress;
 use adj_rib::SharedRoute;
-use bgp_prefix::{Memory, PrefixMap, RouteKey};
-use bgp_update::PackedRoute;
+use bgp_prefix::{Family, Memory, Prefix, PrefixMap, RouteKey};
+use bgp_update::{PackedRoute, Unicast};
 use mrt_body::PeerKey;
 use mrt_frame::{Failed, ReplayError, Sink};
 use peer_tables::{Seated, Tables};
 use side_by_side::{Pieces, put_all_entries};
 use std::alloc::Global;
+use std::marker::Sync;
 use std::thread::Threads;
 
 /// An entry of a peer's table.
 #[derive(Drop)]
-pub struct TableRow<'a> {
+pub struct TableRow<'a, P = Prefix> {
     pub peer: PeerKey,
-    pub key: RouteKey,
+    pub key: RouteKey<P>,
     pub route: &'a PackedRoute,
 }
 
 /// Adds the entries of one peer's table.
-fn add_entries<'a, M: PrefixMap<SharedRoute, Addr = u32>>(
+fn add_entries<'a, F: Unicast, M: PrefixMap<SharedRoute, Addr = F>>(
     alloc: Global,
-    rows: &mut Vec<TableRow<'a>>,
+    rows: &mut Vec<TableRow<'a, Prefix<F>>>,
     seat: &'a Seated<M>,
 ) -> Result<(), Memory>
     ensures { OnOk result (map table_row rows.new.items ≡ map table_row rows.old.items
@@ -64,10 +66,10 @@ fn add_entries<'a, M: PrefixMap<SharedRoute, Addr = u32>>(
 }
 
 /// Returns every entry of every table: peers by number, keys in order.
-pub fn table_rows<M: PrefixMap<SharedRoute, Addr = u32>>(
+pub fn table_rows<F: Unicast, M: PrefixMap<SharedRoute, Addr = F>>(
     alloc: Global,
     tables: &Tables<M>,
-) -> Result<Vec<TableRow<'_>>, Memory>
+) -> Result<Vec<TableRow<'_, Prefix<F>>>, Memory>
     ensures { IfOk result (λ rows. map table_row rows.items ≡ route_rows tables.now) }
 {
     let mut rows = Vec::new(alloc);
@@ -78,7 +80,7 @@ pub fn table_rows<M: PrefixMap<SharedRoute, Addr = u32>>(
 }
 
 /// Returns the greatest number of entries in the table of any of these peers.
-fn max_entries<M: PrefixMap<SharedRoute, Addr = u32>>(seats: &[Seated<M>]) -> usize
+fn max_entries<F: Unicast, M: PrefixMap<SharedRoute, Addr = F>>(seats: &[Seated<M>]) -> usize
     ensures { result ≡ most_entries (map seat_of seats.now) }
 {
     let mut most = 0usize;
@@ -89,7 +91,7 @@ fn max_entries<M: PrefixMap<SharedRoute, Addr = u32>>(seats: &[Seated<M>]) -> us
 }
 
 /// Prefetches a little of what each entry refers to, and returns how many entries to prefetch next.
-pub(crate) fn prefetch_entries(entries: &[(RouteKey, &SharedRoute)]) -> usize
+pub(crate) fn prefetch_entries<F: Family>(entries: &[(RouteKey<Prefix<F>>, &SharedRoute)]) -> usize
     ensures { 0 < result }
 {
     let mut bytes = 0usize;
@@ -100,11 +102,11 @@ pub(crate) fn prefetch_entries(entries: &[(RouteKey, &SharedRoute)]) -> usize
 }
 
 /// Adds the lines of some entries of one peer.
-fn put_block<W: Sink>(
+fn put_block<W: Sink, F: WrittenAddress>(
     text: &mut TextBuffer,
     out: &mut W,
-    peer: &PeerText,
-    block: &[(RouteKey, &SharedRoute)],
+    peer: &PeerText<F>,
+    block: &[(RouteKey<Prefix<F>>, &SharedRoute)],
 )
     ensures { Writes W.contents W.failure_count out.old text.old out.new text.new
         (reached_lines peer.now block.now) }
@@ -115,13 +117,13 @@ fn put_block<W: Sink>(
 }
 
 /// Adds the lines of the entries of one peer. After a failed write, no more lines are made.
-pub(crate) fn put_entries<W: Sink>(
+pub(crate) fn put_entries<W: Sink, F: WrittenAddress>(
     text: &mut TextBuffer,
     out: &mut W,
-    peer: ShownPeer,
-    entries: &[(RouteKey, &SharedRoute)],
+    peer: &ShownPeerOf<F>,
+    entries: &[(RouteKey<Prefix<F>>, &SharedRoute)],
 )
-    ensures { Writes W.contents W.failure_count out.old text.old out.new text.new (reached_lines peer entries.now) }
+    ensures { Writes W.contents W.failure_count out.old text.old out.new text.new (reached_lines peer.now entries.now) }
 {
     let peer_text = text.peer_text(peer);
     let mut done = 0;
@@ -139,42 +141,54 @@ pub(crate) fn put_entries<W: Sink>(
 }
 
 /// Adds the lines of one peer's table. Its entries replace the contents of a list that has room for them.
-fn put_table<'a, M: PrefixMap<SharedRoute, Addr = u32>, T: Threads + Sync, W: Sink>(
+fn put_table<
+    'a,
+    F: WrittenAddress + Sync,
+    M: PrefixMap<SharedRoute, Addr = F>,
+    T: Threads + Sync,
+    W: Sink,
+>(
     rt: &T,
     pieces: &mut Pieces,
     text: &mut TextBuffer,
     out: &mut W,
-    forms: AddressForms,
-    all: &mut Vec<(RouteKey, &'a SharedRoute)>,
+    forms: &AddressFormsOf<F>,
+    all: &mut Vec<(RouteKey<Prefix<F>>, &'a SharedRoute)>,
     seat: &'a Seated<M>,
 )
     requires { length (seat_of seat.now).session.table ≤ vec_capacity all.old }
     ensures lines { Writes W.contents W.failure_count out.old text.old out.new text.new
-        (seat_lines forms (seat_of seat.now)) }
+        (seat_lines forms.now (seat_of seat.now)) }
     ensures capacity { vec_capacity all.new ≡ vec_capacity all.old }
 {
     all.clear();
     seat.session.table().list(all);
     let peer = ShownPeer {
         key: seat.key,
-        forms,
+        forms: *forms,
     };
-    put_all_entries(rt, pieces, text, out, peer, all.as_slice());
+    put_all_entries(rt, pieces, text, out, &peer, all.as_slice());
 }
 
 /// Adds the lines of every table, in order, by way of one list that has room for the entries of any of them.
-fn put_tables<'a, M: PrefixMap<SharedRoute, Addr = u32>, T: Threads + Sync, W: Sink>(
+fn put_tables<
+    'a,
+    F: WrittenAddress + Sync,
+    M: PrefixMap<SharedRoute, Addr = F>,
+    T: Threads + Sync,
+    W: Sink,
+>(
     rt: &T,
     pieces: &mut Pieces,
     text: &mut TextBuffer,
     out: &mut W,
-    forms: AddressForms,
-    mut all: Vec<(RouteKey, &'a SharedRoute)>,
+    forms: &AddressFormsOf<F>,
+    mut all: Vec<(RouteKey<Prefix<F>>, &'a SharedRoute)>,
     seats: &'a [Seated<M>],
 )
     requires { most_entries (map seat_of seats.now) ≤ vec_capacity all }
     ensures { Writes W.contents W.failure_count out.old text.old out.new text.new
-        (flat_map (seat_lines forms) (map seat_of seats.now)) }
+        (flat_map (seat_lines forms.now) (map seat_of seats.now)) }
 {
     for seat in seats {
         put_table(rt, pieces, text, out, forms, &mut all, seat);
@@ -185,12 +199,17 @@ fn put_tables<'a, M: PrefixMap<SharedRoute, Addr = u32>, T: Threads + Sync, W: S
 /// up to as many threads as are asked for, while the calling thread writes those before. All memory is allocated
 /// before anything is written: if it returns `Memory`, nothing has been written. If it returns `Write`, a leading
 /// part of the text has been written.
-pub fn list_tables<M: PrefixMap<SharedRoute, Addr = u32>, T: Threads + Sync, W: Sink>(
+pub fn list_tables<
+    F: WrittenAddress + Sync,
+    M: PrefixMap<SharedRoute, Addr = F>,
+    T: Threads + Sync,
+    W: Sink,
+>(
     rt: &T,
     alloc: Global,
     threads: usize,
     out: &mut W,
-    forms: AddressForms,
+    forms: AddressFormsOf<F>,
     tables: &Tables<M>,
 ) -> Result<(), ReplayError>
     ensures ok { OnOk result (Appends (W.contents out.old) (W.contents out.new)
@@ -207,7 +226,7 @@ pub fn list_tables<M: PrefixMap<SharedRoute, Addr = u32>, T: Threads + Sync, W: 
     let all = Vec::with_capacity(alloc, most)?;
     let mut pieces = Pieces::new(alloc, threads, most)?;
     let mut text = TextBuffer::new();
-    put_tables(rt, &mut pieces, &mut text, out, forms, all, seats);
+    put_tables(rt, &mut pieces, &mut text, out, &forms, all, seats);
     match text.finish(out) {
         Ok(()) => Ok(()),
         Err(Failed) => Err(ReplayError::Write),
@@ -226,31 +245,35 @@ fn prefetch_route(route: &PackedRoute) -> usize {
         .saturating_add((route.atomic() != last) as usize)
 }
 
-impl Line for TableRow<'_> {
+impl<F: WrittenAddress> Line<F> for TableRow<'_, Prefix<F>> {
     ghost line = { λ forms row. route_line forms (table_row row) };
 
     fn prefetch(&self) -> usize {
         prefetch_route(self.route)
     }
 
-    fn put<W: Sink>(&self, text: &mut TextBuffer, out: &mut W, forms: AddressForms) {
-        let peer_text = text.peer_text(ShownPeer {
+    fn put<W: Sink>(&self, text: &mut TextBuffer, out: &mut W, forms: &AddressFormsOf<F>)
+        ensures { Writes W.contents W.failure_count out.old text.old out.new text.new
+            (route_line forms.now (table_row self.now)) }
+    {
+        let peer = ShownPeer {
             key: self.peer,
-            forms,
-        });
+            forms: *forms,
+        };
+        let peer_text = text.peer_text(&peer);
         put_row(text, out, &peer_text, &self.key, self.route);
     }
 }
 
 /// Writes the rows of `table_rows` or `matches`. If it returns `Write`, a leading part of the text has been
 /// written.
-pub fn write_rows<W: Sink>(
+pub fn write_rows<F: WrittenAddress, W: Sink>(
     out: &mut W,
-    forms: AddressForms,
-    rows: &[TableRow<'_>],
+    forms: AddressFormsOf<F>,
+    rows: &[TableRow<'_, Prefix<F>>],
 ) -> Result<(), ReplayError>
     ensures { IsOutput (W.contents out.old) (W.failure_count out.old) (W.contents out.new) (W.failure_count out.new)
         (flat_map (λ row. route_line forms (table_row row)) rows.now) result }
 {
-    write_lines(out, forms, rows)
+    write_lines(out, &forms, rows)
 }

@@ -4,6 +4,7 @@
 ghost use Rattle.std.specs.Prelude.{◌≡◌, IfOk, map};
 ghost use Rattle.std.specs.List.{flat_map};
 ghost use Rattle.bgp_prefix.specs.Prefixes.{prefix_cmp};
+ghost use Rattle.peer_tables.specs.Seats.{seat_of};
 ghost use Rattle.rib_report.specs.Merges.{by_key, counted_both};
 ghost use Rattle.rib_report.specs.Runs.{is_last};
 ghost use Rattle.rib_report.specs.Reports.{visible_among, visibility_rows};
@@ -11,70 +12,71 @@ ghost use Rattle.rib_report.specs.Lines.{visibility_line};
 ghost use Rattle.rib_report.specs.Texts.{IsOutput, Writes};
 
 use crate::buffer::TextBuffer;
-use crate::field::Ended;
-use crate::forms::{AddressForm, AddressForms};
+use crate::field::{Ended, ShownPrefix};
+use crate::forms::AddressFormsOf;
 use crate::line::Line;
 use crate::merge::{Listed, Mergeable, list_peers, list_peers_by_few};
 use crate::write::write_lines;
+use crate::written_address::WrittenAddress;
 use adj_rib::SharedRoute;
-use bgp_prefix::{Memory, Prefix, PrefixMap};
+use bgp_prefix::{Family, Memory, Prefix, PrefixMap};
+use bgp_update::Unicast;
 use mrt_frame::{ReplayError, Sink};
 use peer_tables::{Seated, Tables};
 use std::alloc::Global;
 use std::cmp::Ordering;
-use std::marker::Sync;
+use std::marker::{Send, Sync};
 use std::thread::Threads;
 
 /// In how many tables a prefix is.
 #[derive(Drop)]
-pub struct VisibilityRow {
-    pub prefix: Prefix,
+pub struct VisibilityRow<P = Prefix> {
+    pub prefix: P,
     pub peers: usize,
 }
 
 /// Prefixes with counts are merged by prefix. Counts are added, and saturate.
-impl Mergeable for (Prefix, usize) {
+impl<F: Family> Mergeable for (Prefix<F>, usize) {
     ghost order = { by_key prefix_cmp };
 
     ghost both = { counted_both };
 
     #[inline(always)]
-    fn compare(self, other: (Prefix, usize)) -> Ordering {
+    fn compare(self, other: (Prefix<F>, usize)) -> Ordering {
         self.0.cmp(&other.0)
     }
 
     #[inline(always)]
-    fn unite(self, other: (Prefix, usize)) -> (Prefix, usize) {
+    fn unite(self, other: (Prefix<F>, usize)) -> (Prefix<F>, usize) {
         (self.0, self.1.saturating_add(other.1))
     }
 }
 
 /// Whether the prefix is the last one.
-fn is_repeat(last: Option<Prefix>, prefix: Prefix) -> bool
-    ensures { result ≡ is_last last prefix }
+fn is_repeat<F: Family>(last: Option<Prefix<F>>, prefix: &Prefix<F>) -> bool
+    ensures { result ≡ is_last last prefix.now }
 {
     match last {
-        Some(last) => last == prefix,
+        Some(last) => last == *prefix,
         None => false,
     }
 }
 
 /// What is listed of peers: the prefixes of their tables in order, each with the number of peers at which it is
 /// visible.
-impl Listed for (Prefix, usize) {
+impl<F: Unicast, M: PrefixMap<SharedRoute, Addr = F>> Listed<Seated<M>> for (Prefix<F>, usize) {
+    ghost seen = { seat_of };
+
     ghost list_of = { visible_among };
 
     /// Each prefix once and with a count of 1, whatever its path identifiers.
-    fn list_of_seat<M: PrefixMap<SharedRoute, Addr = u32>>(
-        alloc: Global,
-        seat: &Seated<M>,
-    ) -> Result<Vec<(Prefix, usize)>, Memory> {
+    fn list_of_seat(alloc: Global, seat: &Seated<M>) -> Result<Vec<(Prefix<F>, usize)>, Memory> {
         let entries = seat.session.table().entries(alloc)?;
         let mut counts = Vec::with_capacity(alloc, entries.len())?;
         let mut last = None;
         for entry in entries.as_slice() {
             let prefix = entry.0.prefix;
-            if !is_repeat(last, prefix) {
+            if !is_repeat(last, &prefix) {
                 counts.push((prefix, 1))?;
             }
             last = Some(prefix);
@@ -86,7 +88,10 @@ impl Listed for (Prefix, usize) {
 }
 
 /// Makes the rows of counted prefixes.
-fn rows_of(alloc: Global, counts: &[(Prefix, usize)]) -> Result<Vec<VisibilityRow>, Memory>
+fn rows_of<F: Family>(
+    alloc: Global,
+    counts: &[(Prefix<F>, usize)],
+) -> Result<Vec<VisibilityRow<Prefix<F>>>, Memory>
     ensures { IfOk result (λ rows. rows.items ≡ map (λ e. record { prefix = e.0; peers = e.1 }) counts.now) }
 {
     let mut rows = Vec::with_capacity(alloc, counts.len())?;
@@ -99,49 +104,68 @@ fn rows_of(alloc: Global, counts: &[(Prefix, usize)]) -> Result<Vec<VisibilityRo
 
 /// Returns, for each prefix visible at any peer, the number of peers at which it is visible, by prefix. A peer
 /// counts once per prefix, whatever the identifiers of its routes.
-pub fn visibility<M: PrefixMap<SharedRoute, Addr = u32>>(
+pub fn visibility<M: PrefixMap<SharedRoute>>(
     alloc: Global,
     tables: &Tables<M>,
-) -> Result<Vec<VisibilityRow>, Memory>
+) -> Result<Vec<VisibilityRow<Prefix<M::Addr>>>, Memory>
+where
+    M::Addr: Unicast,
     ensures { IfOk result (λ rows. rows.items ≡ visibility_rows tables.now) }
 {
-    let counts = list_peers::<(Prefix, usize), M>(alloc, tables.seats())?;
+    let counts = list_peers::<(Prefix<M::Addr>, usize), Seated<M>>(alloc, tables.seats())?;
     rows_of(alloc, counts.as_slice())
 }
 
 /// Returns what `visibility` returns. With two threads or more, two of them share the work; if no thread can be
 /// started, the calling thread does all of it.
-pub fn visibility_with_threads<M: PrefixMap<SharedRoute, Addr = u32> + Sync, T: Threads>(
+pub fn visibility_with_threads<M: PrefixMap<SharedRoute> + Sync, T: Threads>(
     rt: &T,
     alloc: Global,
     threads: usize,
     tables: &Tables<M>,
-) -> Result<Vec<VisibilityRow>, Memory>
+) -> Result<Vec<VisibilityRow<Prefix<M::Addr>>>, Memory>
+where
+    M::Addr: Unicast + Send,
     ensures { IfOk result (λ rows. rows.items ≡ visibility_rows tables.now) }
 {
     if threads < 2 {
         return visibility(alloc, tables);
     }
-    let counts = list_peers_by_few::<(Prefix, usize), M, T>(rt, alloc, tables.seats())?;
+    let counts = list_peers_by_few::<(Prefix<M::Addr>, usize), Seated<M>, T>(
+        rt,
+        alloc,
+        tables.seats(),
+    )?;
     rows_of(alloc, counts.as_slice())
 }
 
-impl Line for VisibilityRow {
-    ghost line = { λ _. visibility_line };
+impl<F: WrittenAddress> Line<F> for VisibilityRow<Prefix<F>> {
+    ghost line = { visibility_line };
 
     fn prefetch(&self) -> usize {
         0
     }
 
-    fn put<W: Sink>(&self, text: &mut TextBuffer, out: &mut W, _forms: AddressForms) {
-        text.put(out, Ended((self.prefix, self.peers as u128)));
+    fn put<W: Sink>(&self, text: &mut TextBuffer, out: &mut W, forms: &AddressFormsOf<F>)
+        ensures { Writes W.contents W.failure_count out.old text.old out.new text.new
+            (visibility_line forms.now self.now) }
+    {
+        let prefix = ShownPrefix {
+            prefix: self.prefix,
+            forms: *forms,
+        };
+        text.put(out, Ended((prefix, self.peers as u128)));
     }
 }
 
 /// Writes the rows of `visibility`. If it returns `Write`, a leading part of the text has been written.
-pub fn write_visibility<W: Sink>(out: &mut W, rows: &[VisibilityRow]) -> Result<(), ReplayError>
+pub fn write_visibility<F: WrittenAddress, W: Sink>(
+    out: &mut W,
+    forms: AddressFormsOf<F>,
+    rows: &[VisibilityRow<Prefix<F>>],
+) -> Result<(), ReplayError>
     ensures { IsOutput (W.contents out.old) (W.failure_count out.old) (W.contents out.new) (W.failure_count out.new)
-        (flat_map visibility_line rows.now) result }
+        (flat_map (visibility_line forms) rows.now) result }
 {
-    write_lines(out, AddressForms::all(AddressForm::Full), rows)
+    write_lines(out, &forms, rows)
 }

@@ -15,10 +15,9 @@ use std::process::Abort;
 use std::test::Fail;
 
 /// Addresses in full.
-const FULL: AddressForms = AddressForms {
-    peers: AddressForm::Full,
-    routes: AddressForm::Full,
-};
+fn full() -> AddressForms {
+    AddressForms::all(AddressForm::Full)
+}
 
 /// 65000 192.0.2.1.
 const PEER: PeerKey = PeerKey {
@@ -115,7 +114,7 @@ fn each_field_of_a_route_has_its_text(rt: HostRuntime) {
 4294967295 ffff:ffff:ffff:ffff:ffff:ffff:ffff:ffff|255.255.255.255/32#4294967295|(64512 1) [3,2] 4294967295 0 10 {70001,70000}|ffff:ffff:ffff:ffff:ffff:ffff:ffff:ffff fe80:0000:0000:0000:0000:0000:0000:0000|INCOMPLETE|4294967295|4294967295|atomic|4294967295 255.255.255.255
 ";
     let mut out = Counted::new(Vec::<u8>::new(alloc));
-    assert!(rt; write_rows(&mut out, FULL, &rows).is_ok());
+    assert!(rt; write_rows(&mut out, full(), &rows).is_ok());
     assert!(rt; out.device().as_slice() == lines.as_bytes());
 }
 
@@ -189,8 +188,8 @@ fn peers_and_routes_have_their_own_forms(rt: HostRuntime) {
         route: &route,
     }];
     let forms = AddressForms {
-        peers: AddressForm::Full,
         routes: AddressForm::Short,
+        ..full()
     };
     let line =
         "65000 0000:0000:0000:0000:0000:0000:0000:0001|0.0.0.0/0|-|2001:db8::1 fe80::2|-|-|-|-|-\n";
@@ -232,8 +231,8 @@ fn visibility_and_origins_have_a_line_for_each_prefix(rt: HostRuntime) {
 255.255.255.254/31|23456 23457
 ";
     let mut out = Counted::new(Vec::<u8>::new(alloc));
-    assert!(rt; write_visibility(&mut out, &visible).is_ok());
-    assert!(rt; write_origins(&mut out, &origins).is_ok());
+    assert!(rt; write_visibility(&mut out, full(), &visible).is_ok());
+    assert!(rt; write_origins(&mut out, full(), &origins).is_ok());
     assert!(rt; out.device().as_slice() == lines.as_bytes());
 }
 
@@ -261,7 +260,7 @@ fn seen_has_a_line_for_each_prefix_and_origin(rt: HostRuntime) {
 255.255.255.255/32|4294967295|18446744073709551615
 ";
     let mut out = Counted::new(Vec::<u8>::new(rt.alloc()));
-    assert!(rt; write_seen(&mut out, &rows).is_ok());
+    assert!(rt; write_seen(&mut out, full(), &rows).is_ok());
     assert!(rt; out.device().as_slice() == lines.as_bytes());
 }
 
@@ -323,7 +322,7 @@ fn churn_has_its_counts_and_times(rt: HostRuntime) {
 4294967295 ffff:ffff:ffff:ffff:ffff:ffff:ffff:ffff|18446744073709551615|18446744073709551615|18446744073709551615|18446744073709551615|18446744073709551615|18446744073709551615|18446744073709551615|18446744073709551615|4294971589.967295|18446744073709.551615
 ";
     let mut out = Counted::new(Vec::<u8>::new(alloc));
-    assert!(rt; write_churn(&mut out, FULL, &rows).is_ok());
+    assert!(rt; write_churn(&mut out, full(), &rows).is_ok());
     assert!(rt; out.device().as_slice() == lines.as_bytes());
 }
 

@@ -15,10 +15,9 @@ use std::process::Abort;
 use std::thread::Threads;
 
 /// Addresses in full.
-pub const FULL: AddressForms = AddressForms {
-    peers: AddressForm::Full,
-    routes: AddressForm::Full,
-};
+pub fn full() -> AddressForms {
+    AddressForms::all(AddressForm::Full)
+}
 
 #[derive(Clone, Copy)]
 pub enum Report {
@@ -287,22 +286,22 @@ pub fn write_report<M: PrefixMap<SharedRoute, Addr = u32> + Sync, T: Threads + S
     report: Report,
 ) -> Result<(), ReplayError> {
     match report {
-        Report::Tables => list_tables(rt, alloc, threads, out, FULL, tables),
+        Report::Tables => list_tables(rt, alloc, threads, out, full(), tables),
         Report::Visibility => {
             let rows = visibility_with_threads(rt, alloc, threads, tables)?;
-            write_visibility(out, rows.as_slice())
+            write_visibility(out, full(), rows.as_slice())
         }
         Report::Origins => {
             let rows = origins_with_threads(rt, alloc, threads, tables)?;
-            write_origins(out, rows.as_slice())
+            write_origins(out, full(), rows.as_slice())
         }
         Report::Seen => {
             let rows = seen_with_threads(rt, alloc, threads, tables)?;
-            write_seen(out, rows.as_slice())
+            write_seen(out, full(), rows.as_slice())
         }
-        Report::Churn => write_churn(out, FULL, churn(alloc, tables)?.as_slice()),
-        Report::Peers => write_peers(out, FULL, peers(alloc, tables)?.as_slice()),
-        Report::Match(addr) => write_rows(out, FULL, matches(alloc, tables, addr)?.as_slice()),
+        Report::Churn => write_churn(out, full(), churn(alloc, tables)?.as_slice()),
+        Report::Peers => write_peers(out, full(), peers(alloc, tables)?.as_slice()),
+        Report::Match(addr) => write_rows(out, full(), matches(alloc, tables, addr)?.as_slice()),
         Report::Faults => write_faults(out, faults(alloc, tables)?.as_slice()),
     }
 }
@@ -316,7 +315,7 @@ fn expect_rows<M: PrefixMap<SharedRoute, Addr = u32>>(
 ) {
     let rows = table_rows(alloc, tables).expect(rt, "rows");
     let mut all = Counted::new(Vec::<u8>::new(alloc));
-    assert!(rt; write_rows(&mut all, FULL, rows.as_slice()).is_ok());
+    assert!(rt; write_rows(&mut all, full(), rows.as_slice()).is_ok());
     assert!(rt; all.device().as_slice() == text.as_bytes());
 }
 

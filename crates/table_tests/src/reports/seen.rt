@@ -1,6 +1,7 @@
 //! The report `seen` on routes of several prefixes, origin ASes and path identifiers.
 
 use super::peers::{peer_of, tables_of_sessions};
+use super::reports::full;
 use adj_rib::{Session, SharedRoute};
 use bgp_prefix::{Flat, Memory, Prefix, PrefixMap, Radix, RouteKey};
 use bgp_update::FamilyMark;
@@ -117,12 +118,12 @@ fn expect_lines<M: PrefixMap<SharedRoute, Addr = u32> + Sync + Drop, T: Abort + 
     let tables = tables::<M>(rt, alloc);
     let rows = seen(alloc, &tables).expect(rt, "rows");
     let mut out = Counted::new(Vec::<u8>::new(alloc));
-    assert!(rt; write_seen(&mut out, rows.as_slice()).is_ok());
+    assert!(rt; write_seen(&mut out, full(), rows.as_slice()).is_ok());
     assert!(rt; out.device().as_slice() == LINES.as_bytes());
     for threads in [1, 2, 4] {
         let rows = seen_with_threads(rt, alloc, threads, &tables).expect(rt, "rows");
         let mut out = Counted::new(Vec::<u8>::new(alloc));
-        assert!(rt; write_seen(&mut out, rows.as_slice()).is_ok());
+        assert!(rt; write_seen(&mut out, full(), rows.as_slice()).is_ok());
         assert!(rt;
             out.device().as_slice() == LINES.as_bytes(),
             "{threads} threads"

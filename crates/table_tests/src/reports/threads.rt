@@ -1,7 +1,7 @@
 //! Tables that are large enough for several threads to make their lines.
 
 use super::peers::{peer_of, tables_of_sessions};
-use super::reports::FULL;
+use super::reports::full;
 use super::writers::Narrow;
 use adj_rib::{Session, SharedRoute};
 use bgp_prefix::{Memory, Prefix, PrefixMap, Radix, RouteKey};
@@ -141,7 +141,7 @@ fn expect_lines<T: Abort + Threads + Sync>(
 ) {
     let mut out = Counted::new(Vec::<u8>::new(alloc));
     assert!(rt;
-        list_tables(rt, alloc, threads, &mut out, FULL, tables).is_ok(),
+        list_tables(rt, alloc, threads, &mut out, full(), tables).is_ok(),
         "{threads} threads"
     );
     assert!(rt; out.device().as_slice() == text, "{threads} threads");
@@ -157,7 +157,7 @@ fn expect_front<T: Abort + Threads + Sync>(
 ) {
     let room = front.len();
     let mut out = Narrow::new(alloc, usize::MAX, room, false);
-    let answer = list_tables(rt, alloc, threads, &mut out, FULL, tables);
+    let answer = list_tables(rt, alloc, threads, &mut out, full(), tables);
     assert!(rt;
         answer == Err(ReplayError::Write) && out.failures() == 1,
         "room for {room}"

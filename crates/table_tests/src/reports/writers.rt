@@ -1,7 +1,7 @@
 //! Reports to writers that take little, fail, or take nothing more.
 
 use super::peers::{Peers, tables_of};
-use super::reports::{REFUSED, Report, write_report};
+use super::reports::{REFUSED, Report, full, write_report};
 use adj_rib::SharedRoute;
 use bgp_prefix::{Memory, Prefix, Radix};
 use mrt_frame::{Counted, Failures, ReplayError};
@@ -176,7 +176,7 @@ fn many_lines(alloc: Global) -> Result<Vec<u8>, Memory> {
 /// A writer with room for a front of the text holds that front, and takes nothing more.
 fn expect_front(rt: &impl Abort, alloc: Global, rows: &[VisibilityRow], front: &[u8]) {
     let mut out = Narrow::new(alloc, usize::MAX, front.len(), false);
-    let answer = write_visibility(&mut out, rows);
+    let answer = write_visibility(&mut out, full(), rows);
     let room = front.len();
     assert!(rt;
         answer == Err(ReplayError::Write) && out.failures() == 1,
@@ -194,7 +194,7 @@ fn a_report_is_written_8_kib_at_a_time(rt: HostRuntime) {
     let text = many_lines(alloc).expect(&rt, "lines");
     assert!(rt; text.len() > 65_537 && text.len() < 131_072);
     let mut out = Narrow::new(alloc, usize::MAX, usize::MAX, true);
-    assert!(rt; write_visibility(&mut out, rows.as_slice()).is_ok());
+    assert!(rt; write_visibility(&mut out, full(), rows.as_slice()).is_ok());
     assert!(rt; out.device().written.as_slice() == text.as_slice());
     let parts = text.len() / 8_192;
     let writes = out.device().writes as usize;

@@ -3,4 +3,4 @@ use Rattle.command_line.specs.Choices.{IsNoChoice}
 use Rattle.command_line.proofs.choice.read_choice.Goals as goal
 
 pub returns-clause-none : goal.returns-clause-none
-returns-clause-none c = subst (λ (l : List ℕ). IfNone c.choice_in.result (IsNoChoice l)) c.as_bytes.ensures.value c.choice_in.ensures.none
+returns-clause-none g c = subst (λ (l : List ℕ). IfNone c.choice_in.result (IsNoChoice g.F.AddressText.spells g.F.Family.WIDTH l)) c.as_bytes.ensures.value c.choice_in.ensures.none

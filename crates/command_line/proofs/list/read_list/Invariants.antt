@@ -3,7 +3,7 @@ use Rattle.command_line.proofs.Lines.{IsRead}
 use Rattle.command_line.proofs.list.read_list.Given as goal
 
 abbrev pub invariant-lines : goal.invariant-lines
-invariant-lines l = IsRead l.text l.rest l.number l.choices.items
+invariant-lines g l = IsRead g.F.AddressText.spells g.F.Family.WIDTH l.text l.rest l.number l.choices.items
 
 abbrev pub decreases-lines : goal.decreases-lines
-decreases-lines l = length l.rest
+decreases-lines g l = length l.rest

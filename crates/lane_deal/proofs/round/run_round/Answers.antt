@@ -7,8 +7,8 @@ renew_all-requires-clause-pairs g c =
     let deals = rw c.in-Ok-step.is at c.deal_and_work-step.ensures.deals.deals in
     lanes_stay g.S.Sessions.stands_for c.args.capacity _ _ _ _ _ _ c.requires.ready deals.handles.pushed worked
 
-pub returns-in_ok-renew_all-in-Ok-step-clause-plays : goal.returns-in_ok-renew_all-in-Ok-step-clause-plays
-returns-in_ok-renew_all-in-Ok-step-clause-plays g c =
+pub returns-in-Ok-step-clause-plays : goal.returns-in-Ok-step-clause-plays
+returns-in-Ok-step-clause-plays g c =
     let worked = rw c.in-Ok.is at c.deal_and_work-step.ensures.worked in
     let deals = rw c.in-Ok-step.is at c.deal_and_work-step.ensures.deals.deals in
     record {
@@ -23,8 +23,8 @@ renew_all-requires-in-Err-clause-pairs g c =
     let deals = rw c.in-Err.is at c.deal_and_work-step.ensures.deals.deals in
     lanes_stay g.S.Sessions.stands_for c.args.capacity _ _ _ _ _ _ c.requires.ready (deals c.in-Read.file c.in-Read.is).handles.pushed worked
 
-pub returns-in_ok-renew_all-in-Err-clause-plays : goal.returns-in_ok-renew_all-in-Err-clause-plays
-returns-in_ok-renew_all-in-Err-clause-plays g c = λ file e.
+pub returns-clause-plays : goal.returns-clause-plays
+returns-clause-plays g c = λ file e.
     let worked = rw c.in-Ok.is at c.deal_and_work-step.ensures.worked in
     let deals = rw c.in-Err.is at c.deal_and_work-step.ensures.deals.deals in
     rw (← c.in-Read.is) record {

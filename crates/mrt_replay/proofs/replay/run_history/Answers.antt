@@ -9,6 +9,7 @@ use Rattle.peer_tables.specs.Histories.{watches_of}
 use Rattle.peer_tables.specs.Watching.{watch_in}
 use Rattle.mrt_replay.specs.Headline.{RunState}
 use Rattle.mrt_replay.specs.Reports.{told_lines}
+use Rattle.rib_report.specs.Requests.{request_of}
 use Rattle.mrt_replay.proofs.HeadlineLaws.{stopped}
 use Rattle.mrt_replay.proofs.HistoryLaws.{history_is_report, no_rounds, damaged_told, routes_told, peers_told}
 use Rattle.mrt_replay.proofs.RunLaws.{flush_failed, flush_succeeded, flush_unfailed, front_whole, stops_writing}
@@ -20,7 +21,7 @@ returns-in-Err-write_told-clause-promised g c =
     let told = c.in-Ok.history.told in
     let h = c.in-Err-write_told.ensures in
     let run : RunState = record {
-      request = c.args.request.now;
+      request = request_of g.F.Family.bits c.args.request.now;
       layout = c.args.layout;
       selection = c.args.selection;
       plan = c.args.plan.now;
@@ -40,14 +41,14 @@ returns-in-Err-write_told-clause-promised g c =
     (λ files honest s.
     let p = c.in-Ok.ensures.listed files honest.readers_tell in
     subst (WritesFront (g.W.Sink.contents c.args.writer.now) (g.W.Sink.contents c.write_told.new.out))
-    (history_is_report c.args.request.now c.args.layout c.args.listing c.args.selection files told.rows.items told.watches c.requires.history p.rows p.watches) (h.front (ap (λ x. Err x) s))))
+    (history_is_report (request_of g.F.Family.bits c.args.request.now) c.args.layout c.args.listing c.args.selection files told.rows.items told.watches c.requires.history p.rows p.watches) (h.front (ap (λ x. Err x) s))))
 
 pub returns-then-is_err-clause-promised : goal.returns-then-is_err-clause-promised
 returns-then-is_err-clause-promised g c =
     let told = c.in-Ok.history.told in
     let wrote = Appends-kept (g.W.Sink.contents c.args.writer.now) (g.W.Sink.contents c.write_told.new.out) (g.W.Sink.contents c.flush_all.new.self) (told_lines c.args.layout c.args.listing.listed told.rows.items told.watches) c.in_default.ensures.ok c.flush_all.ensures.bytes in
     let run : RunState = record {
-      request = c.args.request.now;
+      request = request_of g.F.Family.bits c.args.request.now;
       layout = c.args.layout;
       selection = c.args.selection;
       plan = c.args.plan.now;
@@ -66,7 +67,7 @@ returns-then-is_err-clause-promised g c =
       λ files honest.
           let p = c.in-Ok.ensures.listed files honest.readers_tell in
           front_whole _ _ _ (subst (Appends (g.W.Sink.contents c.args.writer.now) (g.W.Sink.contents c.flush_all.new.self))
-          (history_is_report c.args.request.now c.args.layout c.args.listing c.args.selection files told.rows.items told.watches c.requires.history p.rows p.watches) wrote),
+          (history_is_report (request_of g.F.Family.bits c.args.request.now) c.args.layout c.args.listing c.args.selection files told.rows.items told.watches c.requires.history p.rows p.watches) wrote),
     )
 
 pub returns-clause-promised : goal.returns-clause-promised
@@ -81,7 +82,7 @@ returns-clause-promised g c = record {
       let wrote = Appends-kept (g.W.Sink.contents c.args.writer.now) (g.W.Sink.contents c.write_told.new.out) (g.W.Sink.contents c.flush_all.new.self) (told_lines c.args.layout c.args.listing.listed told.rows.items told.watches) c.in_default.ensures.ok c.flush_all.ensures.bytes in
       record {
         written = subst (Appends (g.W.Sink.contents c.args.writer.now) (g.W.Sink.contents c.flush_all.new.self))
-            (history_is_report c.args.request.now c.args.layout c.args.listing until files told.rows.items told.watches c.requires.history p.rows p.watches) wrote;
+            (history_is_report (request_of g.F.Family.bits c.args.request.now) c.args.layout c.args.listing until files told.rows.items told.watches c.requires.history p.rows p.watches) wrote;
         counted = record {
           records = p.records_counted;
           units = p.units_counted;
@@ -89,7 +90,7 @@ returns-clause-promised g c = record {
           damaged = damaged_told since until files c.as_slice-refused.result.now watches _ c.count_faults.result (c.as_slice-refused.ensures.value ∙ p.refused_kept) refl stands c.count_faults.ensures;
           routes = routes_told since until files watches c.count_routes.result stands c.count_routes.ensures;
           peers = peers_told since until.prefixes (units_of until files) watches _ stands (sym (length-map c.watched-watches.result.now watch_in));
-          rounds = no_rounds c.args.request.now until.prefixes c.args.listing c.args.plan.now _ c.requires.history refl;
+          rounds = no_rounds (request_of g.F.Family.bits c.args.request.now) until.prefixes c.args.listing c.args.plan.now _ c.requires.history refl;
         };
       };
   flushed = flush_succeeded c.flush_all.result (sym c.is_err.ensures.value ∙ c.if-is_err.false) c.flush_all.ensures.flushed;

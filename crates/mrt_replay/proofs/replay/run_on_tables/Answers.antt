@@ -8,13 +8,14 @@ use Rattle.mrt_replay.specs.Headline.{RunState}
 use Rattle.mrt_replay.proofs.HeadlineLaws.{stopped}
 use Rattle.mrt_replay.proofs.HistoryLaws.{rounds_of_tables}
 use Rattle.mrt_replay.specs.Reports.{lines_of}
+use Rattle.rib_report.specs.Requests.{request_of}
 use Rattle.mrt_replay.proofs.RunLaws.{lines_are_report, damaged_counted, peers_counted, routes_counted, flush_failed, flush_succeeded, flush_unfailed, front_whole, stops_writing, stops_reading}
 use Rattle.mrt_replay.proofs.replay.run_on_tables.Goals as goal
 
 pub returns-in-Err-clause-promised : goal.returns-in-Err-clause-promised
 returns-in-Err-clause-promised g c =
     let run : RunState = record {
-      request = c.args.request.now;
+      request = request_of g.F.Family.bits c.args.request.now;
       layout = c.args.layout;
       selection = c.args.selection;
       plan = c.args.plan.now;
@@ -32,7 +33,7 @@ returns-in-Err-clause-promised g c =
 
 pub returns-in-Err-write_report-clause-promised : goal.returns-in-Err-write_report-clause-promised
 returns-in-Err-write_report-clause-promised g c =
-    let request = c.args.request.now in
+    let request = request_of g.F.Family.bits c.args.request.now in
     let tables = c.in-Ok.replayed.tables in
     let error = c.in-Err-write_report.error in
     let h = c.in-Err-write_report.ensures in
@@ -58,9 +59,9 @@ returns-in-Err-write_report-clause-promised g c =
 
 pub returns-then-is_err-clause-promised : goal.returns-then-is_err-clause-promised
 returns-then-is_err-clause-promised g c =
-    let wrote = Appends-kept (g.W.Sink.contents c.args.out.now) (g.W.Sink.contents c.write_report.new.out) (g.W.Sink.contents c.flush_all.new.self) (lines_of c.args.request.now c.args.layout c.in-Ok.replayed.tables) c.in_default.ensures.ok c.flush_all.ensures.bytes in
+    let wrote = Appends-kept (g.W.Sink.contents c.args.out.now) (g.W.Sink.contents c.write_report.new.out) (g.W.Sink.contents c.flush_all.new.self) (lines_of (request_of g.F.Family.bits c.args.request.now) c.args.layout c.in-Ok.replayed.tables) c.in_default.ensures.ok c.flush_all.ensures.bytes in
     let run : RunState = record {
-      request = c.args.request.now;
+      request = request_of g.F.Family.bits c.args.request.now;
       layout = c.args.layout;
       selection = c.args.selection;
       plan = c.args.plan.now;
@@ -76,7 +77,7 @@ returns-then-is_err-clause-promised g c =
     } in
     stopped run errors.Write refl (
       flush_failed c.flush_all.result _ _ _ c.in_default.ensures.sound (sym c.is_err.ensures.value ∙ c.if-is_err.true) c.flush_all.ensures.counted,
-      λ files honest. front_whole _ _ _ (subst (Appends (g.W.Sink.contents c.args.out.now) (g.W.Sink.contents c.flush_all.new.self)) (lines_are_report c.args.request.now c.args.layout c.args.selection files c.in-Ok.replayed.tables c.requires.tables (c.in-Ok.ensures.replayed files honest.readers_tell).stands) wrote),
+      λ files honest. front_whole _ _ _ (subst (Appends (g.W.Sink.contents c.args.out.now) (g.W.Sink.contents c.flush_all.new.self)) (lines_are_report (request_of g.F.Family.bits c.args.request.now) c.args.layout c.args.selection files c.in-Ok.replayed.tables c.requires.tables (c.in-Ok.ensures.replayed files honest.readers_tell).stands) wrote),
     )
 
 pub returns-clause-promised : goal.returns-clause-promised
@@ -85,9 +86,9 @@ returns-clause-promised g c = record {
       let p = c.in-Ok.ensures.replayed files honest.readers_tell in
       let until = c.args.selection in
       let tables = c.in-Ok.replayed.tables in
-      let wrote = Appends-kept (g.W.Sink.contents c.args.out.now) (g.W.Sink.contents c.write_report.new.out) (g.W.Sink.contents c.flush_all.new.self) (lines_of c.args.request.now c.args.layout tables) c.in_default.ensures.ok c.flush_all.ensures.bytes in
+      let wrote = Appends-kept (g.W.Sink.contents c.args.out.now) (g.W.Sink.contents c.write_report.new.out) (g.W.Sink.contents c.flush_all.new.self) (lines_of (request_of g.F.Family.bits c.args.request.now) c.args.layout tables) c.in_default.ensures.ok c.flush_all.ensures.bytes in
       record {
-        written = subst (Appends (g.W.Sink.contents c.args.out.now) (g.W.Sink.contents c.flush_all.new.self)) (lines_are_report c.args.request.now c.args.layout until files tables c.requires.tables p.stands) wrote;
+        written = subst (Appends (g.W.Sink.contents c.args.out.now) (g.W.Sink.contents c.flush_all.new.self)) (lines_are_report (request_of g.F.Family.bits c.args.request.now) c.args.layout until files tables c.requires.tables p.stands) wrote;
         counted = record {
           records = p.records_counted;
           units = p.units_counted;
@@ -95,7 +96,7 @@ returns-clause-promised g c = record {
           damaged = damaged_counted until files tables c.damaged.result p.stands c.damaged.ensures;
           routes = routes_counted until files tables c.routes.result p.stands c.routes.ensures;
           peers = peers_counted until.prefixes (units_of until files) (refused_of until files) tables c.peers.result p.stands c.peers.ensures;
-          rounds = rounds_of_tables c.args.request.now until.prefixes c.args.plan.now _ c.requires.tables (record { few = p.few_rounds; two = p.two_rounds; enough = p.enough_rounds });
+          rounds = rounds_of_tables (request_of g.F.Family.bits c.args.request.now) until.prefixes c.args.plan.now _ c.requires.tables (record { few = p.few_rounds; two = p.two_rounds; enough = p.enough_rounds });
         };
       };
   flushed = flush_succeeded c.flush_all.result (sym c.is_err.ensures.value ∙ c.if-is_err.false) c.flush_all.ensures.flushed;

@@ -2,6 +2,7 @@ use Rattle.std.proofs.Common.{◌≡◌, ◌≤◌, ◌+◌, ◌-◌, ◌^◌, m
 use Rattle.std.specs.Prelude.{option_to_list}
 use Rattle.std.specs.List.{filter_map}
 use Rattle.std.proofs.lemmas.List.{length-map}
+use Rattle.std.proofs.lemmas.Result.{err_from_is_err_and}
 use Rattle.mrt_body.specs.Plain.{Unit as ReplayUnit}
 use Rattle.mrt_body.specs.Units.{units_of, refused_of, unit_of}
 use Rattle.peer_tables.specs.Tables.{chosen_tables}
@@ -12,6 +13,11 @@ use Rattle.mrt_replay.proofs.FilesTaken.{stops_replay, took_files, few_units_of,
 use Rattle.mrt_replay.proofs.LanesTaken.{all_dealt}
 use Rattle.mrt_replay.proofs.RoundsTaken.{few_in_all, two_in_all, enough_in_all}
 use Rattle.mrt_replay.proofs.replayed.replay.Goals as goal
+
+pub returns-in_err-replayer-clause-cause : goal.returns-in_err-replayer-clause-cause
+returns-in_err-replayer-clause-cause g c =
+    let p = err_from_is_err_and c.from_residual-in_err-replayer.result c.from_residual-in_err-replayer.ensures.1 in
+    rw (p.1, p.2) tt
 
 pub returns-in-Err-clause-cause : goal.returns-in-Err-clause-cause
 returns-in-Err-clause-cause g c =

@@ -2,7 +2,7 @@ use Rattle.rib_report.proofs.TextLaws.{Formats_trans}
 use Rattle.rib_report.proofs.route_line.format_end.Goals as goal
 
 pub returns : goal.returns
-returns c =
+returns g c =
     rw (← c.next_hop.ensures, ← c.origin.ensures, ← c.med.ensures, ← c.local_pref.ensures, ← c.atomic.ensures, ← c.aggregator.ensures)
     (Formats_trans c.format_byte-at.ensures (Formats_trans
     (Formats_trans c.format_next_hop-at.ensures (Formats_trans c.format_byte-at-2.ensures (Formats_trans c.format-at.ensures (Formats_trans c.format_byte-at-3.ensures

@@ -9,12 +9,13 @@ ghost use Rattle.rib_report.specs.Pieces.{IsFilled, lines_between, range_of};
 use super::{prefetch_entries, put_entries};
 use crate::buffer::TextBuffer;
 use crate::field::PeerText;
-use crate::forms::ShownPeer;
+use crate::forms::ShownPeerOf;
 use crate::nowhere::Nowhere;
 use crate::route_line::put_row;
 use crate::write::NEAR_ROWS;
+use crate::written_address::WrittenAddress;
 use adj_rib::SharedRoute;
-use bgp_prefix::RouteKey;
+use bgp_prefix::{Prefix, RouteKey};
 use bgp_update::PackedRoute;
 use mrt_frame::Sink;
 
@@ -43,11 +44,11 @@ fn most_bytes(route: &PackedRoute) -> usize {
 }
 
 /// Adds the lines of these entries, in order, while there should be room for one more. Returns how many.
-fn put_fitting(
+fn put_fitting<F: WrittenAddress>(
     text: &mut TextBuffer,
     nowhere: &mut Nowhere,
-    peer: &PeerText,
-    entries: &[(RouteKey, &SharedRoute)],
+    peer: &PeerText<F>,
+    entries: &[(RouteKey<Prefix<F>>, &SharedRoute)],
 ) -> usize
     ensures few { result ≤ length entries.now }
     ensures lines { Writes nowhere_contents nowhere_failures nowhere.old text.old nowhere.new text.new
@@ -66,18 +67,18 @@ fn put_fitting(
 
 /// Adds the lines of entries from one to before another, while there should be room for one more. Returns the first
 /// entry whose line wasn't added.
-fn put_while_fitting(
+fn put_while_fitting<F: WrittenAddress>(
     text: &mut TextBuffer,
     nowhere: &mut Nowhere,
-    peer: ShownPeer,
-    entries: &[(RouteKey, &SharedRoute)],
+    peer: &ShownPeerOf<F>,
+    entries: &[(RouteKey<Prefix<F>>, &SharedRoute)],
     start: usize,
     end: usize,
 ) -> usize
     requires { (start ≤ end) × (end ≤ length entries.now) }
     ensures within { (start ≤ result) × (result ≤ end) }
     ensures lines { Writes nowhere_contents nowhere_failures nowhere.old text.old nowhere.new text.new
-        (lines_between peer start result entries.now) }
+        (lines_between peer.now start result entries.now) }
 {
     let peer_text = text.peer_text(peer);
     let mut done = start;
@@ -106,10 +107,14 @@ impl Piece {
     }
 
     /// Makes the lines of its entries: of all, or of the first ones, as many as there is room for.
-    pub(crate) fn fill(&mut self, peer: ShownPeer, entries: &[(RouteKey, &SharedRoute)])
+    pub(crate) fn fill<F: WrittenAddress>(
+        &mut self,
+        peer: &ShownPeerOf<F>,
+        entries: &[(RouteKey<Prefix<F>>, &SharedRoute)],
+    )
         requires { (self.old.start ≤ self.old.end) × (self.old.end ≤ length entries.now) }
         ensures range { range_of self.new ≡ range_of self.old }
-        ensures filled { IsFilled peer entries.now self.new }
+        ensures filled { IsFilled peer.now entries.now self.new }
     {
         let mut nowhere = Nowhere::new();
         self.text.clear();
@@ -134,16 +139,16 @@ impl Piece {
 }
 
 /// Adds the lines of a piece: its text, and then those that it had no room for.
-pub(crate) fn put_piece<W: Sink>(
+pub(crate) fn put_piece<W: Sink, F: WrittenAddress>(
     text: &mut TextBuffer,
     out: &mut W,
-    peer: ShownPeer,
-    entries: &[(RouteKey, &SharedRoute)],
+    peer: &ShownPeerOf<F>,
+    entries: &[(RouteKey<Prefix<F>>, &SharedRoute)],
     piece: &Piece,
 )
-    requires { IsFilled peer entries.now piece.now }
+    requires { IsFilled peer.now entries.now piece.now }
     ensures { Writes W.contents W.failure_count out.old text.old out.new text.new
-        (lines_between peer piece.now.start piece.now.end entries.now) }
+        (lines_between peer.now piece.now.start piece.now.end entries.now) }
 {
     text.pass_on(out, piece.text.as_slice());
     put_entries(text, out, peer, &entries[piece.done..piece.end]);

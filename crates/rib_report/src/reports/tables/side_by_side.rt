@@ -10,11 +10,13 @@ ghost use Rattle.rib_report.specs.Pieces.{AreRanges, IsFilled, AreSuccessive, li
 use super::piece::{Piece, put_piece};
 use super::put_entries;
 use crate::buffer::TextBuffer;
-use crate::forms::ShownPeer;
+use crate::forms::ShownPeerOf;
+use crate::written_address::WrittenAddress;
 use adj_rib::SharedRoute;
-use bgp_prefix::{Memory, RouteKey};
+use bgp_prefix::{Memory, Prefix, RouteKey};
 use mrt_frame::Sink;
 use std::alloc::Global;
+use std::marker::Sync;
 use std::mem;
 use std::thread::{Threads, join_mut};
 
@@ -112,10 +114,14 @@ fn next_size(size: usize, pieces: &[Piece]) -> usize
 }
 
 /// Fills pieces in the calling thread.
-fn fill_each(peer: ShownPeer, entries: &[(RouteKey, &SharedRoute)], pieces: &mut [Piece])
+fn fill_each<F: WrittenAddress>(
+    peer: &ShownPeerOf<F>,
+    entries: &[(RouteKey<Prefix<F>>, &SharedRoute)],
+    pieces: &mut [Piece],
+)
     requires { AreRanges (length entries.now) pieces.old }
     ensures ranges { map range_of pieces.new ≡ map range_of pieces.old }
-    ensures filled { All (IsFilled peer entries.now) pieces.new }
+    ensures filled { All (IsFilled peer.now entries.now) pieces.new }
 {
     for at in 0..pieces.len() {
         pieces[at].fill(peer, entries);
@@ -123,19 +129,19 @@ fn fill_each(peer: ShownPeer, entries: &[(RouteKey, &SharedRoute)], pieces: &mut
 }
 
 /// Adds the lines of pieces, in order.
-fn put_pieces<W: Sink>(
+fn put_pieces<W: Sink, F: WrittenAddress>(
     text: &mut TextBuffer,
     out: &mut W,
-    peer: ShownPeer,
-    entries: &[(RouteKey, &SharedRoute)],
+    peer: &ShownPeerOf<F>,
+    entries: &[(RouteKey<Prefix<F>>, &SharedRoute)],
     pieces: &[Piece],
     start: usize,
     end: usize,
 )
-    requires filled { All (IsFilled peer entries.now) pieces.now }
+    requires filled { All (IsFilled peer.now entries.now) pieces.now }
     requires successive { AreSuccessive start (map range_of pieces.now) end }
     ensures { Writes W.contents W.failure_count out.old text.old out.new text.new
-        (lines_between peer start end entries.now) }
+        (lines_between peer.now start end entries.now) }
 {
     for piece in pieces {
         put_piece(text, out, peer, entries, piece);
@@ -145,24 +151,24 @@ fn put_pieces<W: Sink>(
 /// Fills the one half of the pieces, a few in each thread if these can be started, and meanwhile adds the lines of the
 /// other one, in the calling thread. It starts every thread itself: a thread that waits for another one ends later.
 #[cycle(threads)]
-fn fill_and_put<T: Threads + Sync, W: Sink>(
+fn fill_and_put<T: Threads + Sync, W: Sink, F: WrittenAddress + Sync>(
     rt: &T,
     text: &mut TextBuffer,
     out: &mut W,
-    peer: ShownPeer,
-    entries: &[(RouteKey, &SharedRoute)],
+    peer: &ShownPeerOf<F>,
+    entries: &[(RouteKey<Prefix<F>>, &SharedRoute)],
     near: &[Piece],
     far: &mut [Piece],
     start: usize,
     end: usize,
 )
-    requires filled { All (IsFilled peer entries.now) near.now }
+    requires filled { All (IsFilled peer.now entries.now) near.now }
     requires successive { AreSuccessive start (map range_of near.now) end }
     requires next { AreRanges (length entries.now) far.old }
     ensures put { Writes W.contents W.failure_count out.old text.old out.new text.new
-        (lines_between peer start end entries.now) }
+        (lines_between peer.now start end entries.now) }
     ensures ranges { map range_of far.new ≡ map range_of far.old }
-    ensures filled { All (IsFilled peer entries.now) far.new }
+    ensures filled { All (IsFilled peer.now entries.now) far.new }
 {
     if far.is_empty() {
         return put_pieces(text, out, peer, entries, near, start, end);
@@ -173,57 +179,57 @@ fn fill_and_put<T: Threads + Sync, W: Sink>(
 
 /// Fills some pieces in a thread of their own, and meanwhile does what `fill_and_put` does with the others.
 #[cycle(threads)]
-fn fill_some_and_put<T: Threads + Sync, W: Sink>(
+fn fill_some_and_put<T: Threads + Sync, W: Sink, F: WrittenAddress + Sync>(
     rt: &T,
     text: &mut TextBuffer,
     out: &mut W,
-    peer: ShownPeer,
-    entries: &[(RouteKey, &SharedRoute)],
+    peer: &ShownPeerOf<F>,
+    entries: &[(RouteKey<Prefix<F>>, &SharedRoute)],
     near: &[Piece],
     some: &mut [Piece],
     others: &mut [Piece],
     start: usize,
     end: usize,
 )
-    requires filled { All (IsFilled peer entries.now) near.now }
+    requires filled { All (IsFilled peer.now entries.now) near.now }
     requires successive { AreSuccessive start (map range_of near.now) end }
     requires some { 0 < length some.old }
     requires next { AreRanges (length entries.now) some.old × AreRanges (length entries.now) others.old }
     ensures put { Writes W.contents W.failure_count out.old text.old out.new text.new
-        (lines_between peer start end entries.now) }
-    ensures some { (map range_of some.new ≡ map range_of some.old) × All (IsFilled peer entries.now) some.new }
+        (lines_between peer.now start end entries.now) }
+    ensures some { (map range_of some.new ≡ map range_of some.old) × All (IsFilled peer.now entries.now) some.new }
     ensures others { (map range_of others.new ≡ map range_of others.old) ×
-        All (IsFilled peer entries.now) others.new }
+        All (IsFilled peer.now entries.now) others.new }
 {
     let mut fill = || -> ()
         requires { AreRanges (length entries.now) some.now }
         ensures { (map range_of some.exit.now ≡ map range_of some.entry.now) ×
-            All (IsFilled peer entries.entry.now) some.exit.now }
+            All (IsFilled peer.entry.now entries.entry.now) some.exit.now }
     { fill_each(peer, entries, some) };
     let mut put = || -> ()
-        requires { IsSync T.row × All (IsFilled peer entries.now) near.now ×
+        requires { IsSync T.row × IsSync F.row × All (IsFilled peer.now entries.now) near.now ×
             AreSuccessive start (map range_of near.now) end × AreRanges (length entries.now) others.now }
         ensures { Writes W.contents W.failure_count out.entry.now text.entry.now out.exit.now text.exit.now
-            (lines_between peer start end entries.entry.now) ×
+            (lines_between peer.entry.now start end entries.entry.now) ×
             (map range_of others.exit.now ≡ map range_of others.entry.now) ×
-            All (IsFilled peer entries.entry.now) others.exit.now }
+            All (IsFilled peer.entry.now entries.entry.now) others.exit.now }
     { fill_and_put(rt, text, out, peer, entries, near, others, start, end) };
     join_mut(rt, &mut fill, &mut put);
 }
 
 /// Adds the lines of the entries of one peer. After a failed write, no more lines are made.
-fn put_by_pieces<T: Threads + Sync, W: Sink>(
+fn put_by_pieces<T: Threads + Sync, W: Sink, F: WrittenAddress + Sync>(
     rt: &T,
     near: &mut Vec<Piece>,
     far: &mut Vec<Piece>,
     text: &mut TextBuffer,
     out: &mut W,
-    peer: ShownPeer,
-    entries: &[(RouteKey, &SharedRoute)],
+    peer: &ShownPeerOf<F>,
+    entries: &[(RouteKey<Prefix<F>>, &SharedRoute)],
 )
     requires { (0 < length near.old.items) × (0 < length far.old.items) }
     ensures { Writes W.contents W.failure_count out.old text.old out.new text.new
-        (reached_lines peer entries.now) }
+        (reached_lines peer.now entries.now) }
 {
     let mut size = MOST_ENTRIES;
     let mut start = 0;
@@ -254,16 +260,16 @@ fn put_by_pieces<T: Threads + Sync, W: Sink>(
 }
 
 /// Adds the lines of the entries of one peer, by several threads where there are pieces and it pays.
-pub(crate) fn put_all_entries<T: Threads + Sync, W: Sink>(
+pub(crate) fn put_all_entries<T: Threads + Sync, W: Sink, F: WrittenAddress + Sync>(
     rt: &T,
     pieces: &mut Pieces,
     text: &mut TextBuffer,
     out: &mut W,
-    peer: ShownPeer,
-    entries: &[(RouteKey, &SharedRoute)],
+    peer: &ShownPeerOf<F>,
+    entries: &[(RouteKey<Prefix<F>>, &SharedRoute)],
 )
     ensures { Writes W.contents W.failure_count out.old text.old out.new text.new
-        (reached_lines peer entries.now) }
+        (reached_lines peer.now entries.now) }
 {
     if pieces.near.is_empty() || pieces.far.is_empty() || entries.len() < LARGE {
         put_entries(text, out, peer, entries);

@@ -1,5 +1,5 @@
 use Rattle.std.proofs.Common.{◌≡◌, ℕ, ◌<◌, get_or}
-use Rattle.lane_deal.specs.declared.feed.Feed.{Feed}
+use Rattle.lane_deal.specs.Plain.{Feed}
 use Rattle.lane_deal.specs.UnitRings.{known_free, ring_capacity}
 use Rattle.lane_deal.proofs.replayer.Replayer.is_settled.Given as goal
 

@@ -1,7 +1,7 @@
 use Rattle.std.proofs.Common.{◌≡◌, ℕ, List, [], ◌∷◌, ◌++◌, ◌∙◌, ap, sym, drop, map, subst}
 use Rattle.std.specs.List.Sorted.{IsStrictlySortedBy}
 use Rattle.bgp_prefix.specs.Prefixes.{IpPrefix}
-use Rattle.rib_report.specs.declared.reports.origins.OriginRow.{OriginRow}
+use Rattle.rib_report.specs.Plain.{OriginRow}
 use Rattle.rib_report.specs.Runs.{pair_cmp}
 use Rattle.rib_report.specs.Reports.{grouped_origins}
 use Rattle.rib_report.proofs.OriginLaws.{first_group, several_run, single_run}
@@ -11,7 +11,7 @@ abbrev row_of : IpPrefix → List (IpPrefix × ℕ) → OriginRow
 row_of p run = record { prefix = p; origins = map (λ e. e.1) run }
 
 pub loop-rest-preserved-in_ok-push : goal.loop-rest-preserved-in_ok-push
-loop-rest-preserved-in_ok-push c =
+loop-rest-preserved-in_ok-push g c =
     let rest = c.loop-rest.rest.now in
     let first = c.first-item.result in
     let n = c.run_length.result in
@@ -29,7 +29,7 @@ loop-rest-preserved-in_ok-push c =
     }
 
 pub loop-rest-preserved : goal.loop-rest-preserved
-loop-rest-preserved c =
+loop-rest-preserved g c =
     let rest = c.loop-rest.rest.now in
     let first = c.first-item.result in
     let n = c.run_length.result in

@@ -8,7 +8,7 @@ abbrev pub invariant-loop-done : goal.invariant-loop-done
 invariant-loop-done g l = record {
   within : l.done ≤ length l.entries;
   goes_on : 0 < l.near;
-  written : Writes g.W.Sink.contents g.W.Failures.failure_count l.initial.out l.initial.text l.out l.text (reached_lines l.fn.peer (take l.done l.entries));
+  written : Writes g.W.Sink.contents g.W.Failures.failure_count l.initial.out l.initial.text l.out l.text (reached_lines l.peer (take l.done l.entries));
 }
 
 abbrev pub decreases-loop-done : goal.decreases-loop-done

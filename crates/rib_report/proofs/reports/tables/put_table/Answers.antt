@@ -16,4 +16,4 @@ pub returns-clause-lines : goal.returns-clause-lines
 returns-clause-lines g c =
     let seat = seat_of c.args.seat.now in
     let whole = c.list.ensures.entries ∙ ap (λ l. entries_now l ++ finite.entries (g.M.PrefixMap.contents c.table.result.now)) c.clear.ensures.items ∙ c.table.ensures in
-    Adds_as (ap (reached_lines (record { key = seat.key; forms = c.args.forms })) c.as_slice.ensures.value ∙ lines_of_seat c.args.forms seat c.list.new.all.items whole) c.put_all_entries.ensures
+    Adds_as (ap (reached_lines (record { key = seat.key; forms = c.args.forms.now })) c.as_slice.ensures.value ∙ lines_of_seat c.args.forms.now seat c.list.new.all.items whole) c.put_all_entries.ensures

@@ -1,8 +1,8 @@
-use Rattle.std.proofs.Common.{◌≡◌, ◌∷◌, ◌++◌, List, ℕ, Option, Some, None, refl, sym, ap, ◌∙◌}
+use Rattle.std.proofs.Common.{◌≡◌, ◌∷◌, ◌++◌, List, ℕ, Option, Some, None, refl, sym, ap, ◌∙◌, arith}
 use Rattle.bgp_prefix.specs.Keys.{RouteKey}
 use Rattle.bgp_update.specs.declared.route.Route.{Route}
 use Rattle.mrt_body.specs.declared.unit.PeerKey.{PeerKey}
-use Rattle.rib_report.specs.declared.forms.AddressForms.{AddressForms}
+use Rattle.rib_report.specs.Plain.{AddressForms}
 use Rattle.adj_rib.specs.declared.note.What.{What}
 use Rattle.peer_tables.specs.declared.history.By.{By}
 use Rattle.rib_report.specs.Digits.{time_text}
@@ -14,25 +14,28 @@ use Rattle.rib_report.proofs.reports.history.HistoryRowLine.put.Goals as goal
 
 -- what the line begins with
 abbrev front : AddressForms → ℕ → PeerKey → What → By → RouteKey → List ℕ
-front forms time peer what by key = time_text time ++ 124 ∷ (peer_text forms peer ++ 124 ∷ (what_text what ++ 124 ∷ (by_text by ++ 124 ∷ key_text key)))
+front forms time peer what by key = time_text time ++ 124 ∷ (peer_text forms peer ++ 124 ∷ (what_text what ++ 124 ∷ (by_text by ++ 124 ∷ key_text forms key)))
+
+pub put-requires : goal.put-requires
+put-requires g c = let few = g.met.F.WrittenAddress.few in omega (arith, few)
 
 pub returns-in-None : goal.returns-in-None
 returns-in-None g c =
     let row = c.args.self.now in
-    let begun : front c.args.forms c.time.result c.peer.result c.what.result c.by.result c.key.result ≡ front c.args.forms row.time row.peer row.note.what row.by row.note.key =
-    λ i. front c.args.forms (c.time.ensures i) (c.peer.ensures i) (c.what.ensures i) (c.by.ensures i) (c.key.ensures i) in
-    let parts = history_in_parts c.args.forms (time_text row.time) (peer_text c.args.forms row.peer) (what_text row.note.what) (by_text row.by) (key_text row.note.key) row.note.route in
+    let begun : front c.args.forms.now c.time.result c.peer.result c.what.result c.by.result c.key.result ≡ front c.args.forms.now row.time row.peer row.note.what row.by row.note.key =
+    λ i. front c.args.forms.now (c.time.ensures i) (c.peer.ensures i) (c.what.ensures i) (c.by.ensures i) (c.key.ensures i) in
+    let parts = history_in_parts c.args.forms.now (time_text row.time) (peer_text c.args.forms.now row.peer) (what_text row.note.what) (by_text row.by) (key_text c.args.forms.now row.note.key) row.note.route in
     Adds_as
-    ((λ i. begun i ++ behind_key c.args.forms None) ∙ ap (λ (o : Option Route). front c.args.forms row.time row.peer row.note.what row.by row.note.key ++ behind_key c.args.forms o) (sym (c.in-None.ensures.none refl)) ∙ parts)
+    ((λ i. begun i ++ behind_key c.args.forms.now None) ∙ ap (λ (o : Option Route). front c.args.forms.now row.time row.peer row.note.what row.by row.note.key ++ behind_key c.args.forms.now o) (sym (c.in-None.ensures.none refl)) ∙ parts)
     (Adds_trans c.put.ensures c.put_text.ensures)
 
 pub returns-in-Some : goal.returns-in-Some
 returns-in-Some g c =
     let row = c.args.self.now in
-    let begun : front c.args.forms c.time.result c.peer.result c.what.result c.by.result c.key.result ≡ front c.args.forms row.time row.peer row.note.what row.by row.note.key =
-    λ i. front c.args.forms (c.time.ensures i) (c.peer.ensures i) (c.what.ensures i) (c.by.ensures i) (c.key.ensures i) in
-    let parts = history_in_parts c.args.forms (time_text row.time) (peer_text c.args.forms row.peer) (what_text row.note.what) (by_text row.by) (key_text row.note.key) row.note.route in
+    let begun : front c.args.forms.now c.time.result c.peer.result c.what.result c.by.result c.key.result ≡ front c.args.forms.now row.time row.peer row.note.what row.by row.note.key =
+    λ i. front c.args.forms.now (c.time.ensures i) (c.peer.ensures i) (c.what.ensures i) (c.by.ensures i) (c.key.ensures i) in
+    let parts = history_in_parts c.args.forms.now (time_text row.time) (peer_text c.args.forms.now row.peer) (what_text row.note.what) (by_text row.by) (key_text c.args.forms.now row.note.key) row.note.route in
     let route = ap (λ (r : Route). Some r) c.route-in-Some.ensures ∙ sym c.in-Some.ensures.some in
     Adds_as
-    ((λ i. begun i ++ behind_key c.args.forms (Some c.route-in-Some.result.now)) ∙ ap (λ (o : Option Route). front c.args.forms row.time row.peer row.note.what row.by row.note.key ++ behind_key c.args.forms o) route ∙ parts)
+    ((λ i. begun i ++ behind_key c.args.forms.now (Some c.route-in-Some.result.now)) ∙ ap (λ (o : Option Route). front c.args.forms.now row.time row.peer row.note.what row.by row.note.key ++ behind_key c.args.forms.now o) route ∙ parts)
     (Adds_trans c.put.ensures c.put_route.ensures)

@@ -6,7 +6,7 @@ use Rattle.rib_report.proofs.JoinLaws.{Adds_item}
 use Rattle.rib_report.proofs.reports.tables.piece.put_fitting.Goals as goal
 
 pub loop-at-preserved : goal.loop-at-preserved
-loop-at-preserved c =
+loop-at-preserved g c =
     let e = c.index-entries-at.result in
     Adds_item (λ e. route_line c.args.peer.now.forms (reached_row c.args.peer.now.key e)) c.args.entries.now c.loop-at.at e c.loop-at-test.true c.index-entries-at.is c.loop-at.invariant
     (Adds_as (ap (λ r. route_line c.args.peer.now.forms (record { peer = c.args.peer.now.key; key = e.0; route = r })) c.route-route.ensures) c.put_row.ensures)

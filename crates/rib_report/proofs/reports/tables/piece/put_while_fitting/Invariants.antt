@@ -6,12 +6,12 @@ use Rattle.rib_report.specs.Pieces.{lines_between}
 use Rattle.rib_report.proofs.reports.tables.piece.put_while_fitting.Given as goal
 
 abbrev pub invariant-loop-done : goal.invariant-loop-done
-invariant-loop-done l = record {
+invariant-loop-done g l = record {
   from : l.start ≤ l.done;
   to : l.done ≤ l.end;
   goes_on : 0 < l.near;
-  written : Writes nowhere_contents nowhere_failures l.initial.nowhere l.initial.text l.nowhere l.text (lines_between l.fn.peer l.start l.done l.entries);
+  written : Writes nowhere_contents nowhere_failures l.initial.nowhere l.initial.text l.nowhere l.text (lines_between l.peer l.start l.done l.entries);
 }
 
 abbrev pub decreases-loop-done : goal.decreases-loop-done
-decreases-loop-done l = l.end - l.done
+decreases-loop-done g l = l.end - l.done

@@ -8,16 +8,16 @@ use Rattle.rib_report.proofs.PieceLists.{all_set}
 use Rattle.rib_report.proofs.reports.tables.side_by_side.fill_each.Goals as goal
 
 pub fill-requires : goal.fill-requires
-fill-requires c = All-get_or (λ (p : Piece). (p.start ≤ p.end) × (p.end ≤ length c.args.entries.now)) c.loop-at.pieces c.loop-at.at c.index-pieces-at.result (omega arith) c.loop-at.invariant.within
+fill-requires g c = All-get_or (λ (p : Piece). (p.start ≤ p.end) × (p.end ≤ length c.args.entries.now)) c.loop-at.pieces c.loop-at.at c.index-pieces-at.result (omega arith) c.loop-at.invariant.within
 
 pub loop-at-preserved : goal.loop-at-preserved
-loop-at-preserved c =
+loop-at-preserved g c =
     let filled = c.fill.ensures.filled in
     record {
       within = All-set (λ (p : Piece). (p.start ≤ p.end) × (p.end ≤ length c.args.entries.now)) c.loop-at.pieces c.loop-at.at c.fill.new.self (omega (arith, filled.from, filled.to), filled.within) c.loop-at.invariant.within;
       ranges = map-set_same range_of c.loop-at.pieces c.loop-at.at c.fill.new.self c.index-pieces-at.result c.fill.ensures.range ∙ c.loop-at.invariant.ranges;
-      filled = all_set (IsFilled c.args.peer c.args.entries.now) c.loop-at.pieces c.loop-at.at c.fill.new.self (omega arith) c.loop-at.invariant.filled filled;
+      filled = all_set (IsFilled c.args.peer.now c.args.entries.now) c.loop-at.pieces c.loop-at.at c.fill.new.self (omega arith) c.loop-at.invariant.filled filled;
     }
 
 pub returns-clause-filled : goal.returns-clause-filled
-returns-clause-filled c = subst (All (IsFilled c.args.peer c.args.entries.now)) (take_all c.loop-at.at c.loop-at.pieces (omega arith)) c.loop-at.invariant.filled
+returns-clause-filled g c = subst (All (IsFilled c.args.peer.now c.args.entries.now)) (take_all c.loop-at.at c.loop-at.pieces (omega arith)) c.loop-at.invariant.filled

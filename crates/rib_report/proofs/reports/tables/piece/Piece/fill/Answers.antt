@@ -3,7 +3,7 @@ use Rattle.rib_report.proofs.PieceLists.{all_waits}
 use Rattle.rib_report.proofs.reports.tables.piece.Piece.fill.Goals as goal
 
 pub returns-else-has_failed-clause-filled : goal.returns-else-has_failed-clause-filled
-returns-else-has_failed-clause-filled c = record {
+returns-else-has_failed-clause-filled g c = record {
   from = c.put_while_fitting-self.ensures.within.0;
   to = c.put_while_fitting-self.ensures.within.1;
   within = c.requires.1;

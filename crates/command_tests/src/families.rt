@@ -1,0 +1,281 @@
+//! Rows on the family whose routes are replayed.
+
+use bgp_prefix::{Ipv6, Prefix};
+use command_line::{
+    AddressFamily, Asked, Job, ListError, Usage, fault_of_list, read_choice, read_list, read_words,
+};
+use mrt_body::{PrefixChoice, Reach};
+use rib_report::{AddressForm, Request};
+use std::alloc::Global;
+use std::test::Fail;
+
+/// The address of 2001:db8::.
+const NET: u128 = 0x2001_0DB8_0000_0000_0000_0000_0000_0000;
+
+/// What the words, split at blanks, ask for.
+fn asked_of(alloc: Global, text: &str) -> Result<Result<Asked, Usage>, Fail> {
+    let mut words = Vec::new(alloc);
+    for word in text.split(' ') {
+        words.push(String::from_str(alloc, word)?)?;
+    }
+    Ok(read_words(alloc, words.as_slice()))
+}
+
+/// The job on IPv6 routes that the words ask for.
+fn job_of(alloc: Global, text: &str) -> Result<Option<Job<Ipv6>>, Fail> {
+    match asked_of(alloc, text)? {
+        Ok(Asked::Ipv6(job)) => Ok(Some(job)),
+        _ => Ok(None),
+    }
+}
+
+/// Every command has the option; the last one counts, and without it the routes are those of IPv4.
+#[test]
+fn the_family_is_a_word(rt: HostRuntime) -> Result<(), Fail> {
+    let alloc = rt.alloc();
+    for (text, is_ipv6) in [
+        ("tables x", false),
+        ("match --address 10.0.0.1 x", false),
+        ("tables --family ipv4 x", false),
+        ("tables x --family=ipv6", true),
+        ("visibility --family ipv6 x", true),
+        ("origins --family ipv6 x", true),
+        ("seen --family ipv6 x", true),
+        ("churn --family ipv6 x", true),
+        ("peers --family ipv6 x", true),
+        ("match --family ipv6 --address ::1 x", true),
+        ("match --address ::1 x --family ipv6", true),
+        ("history --family ipv6 x", true),
+        ("faults --family ipv6 x", true),
+        ("faults --family ipv6 x --family ipv4", false),
+        ("faults --family ipv4 x --family ipv6", true),
+    ] {
+        match asked_of(alloc, text)? {
+            Ok(Asked::Ipv4(_)) => assert!(rt; !is_ipv6, "{text}"),
+            Ok(Asked::Ipv6(_)) => assert!(rt; is_ipv6, "{text}"),
+            Err(_) => assert!(rt; false, "{text}"),
+        }
+    }
+    Ok(())
+}
+
+/// The rest of a job is as that on IPv4 routes.
+#[test]
+fn other_words_are_read_beside_it(rt: HostRuntime) -> Result<(), Fail> {
+    let alloc = rt.alloc();
+    let text = "churn --since 5 --family ipv6 --until 6 --workers 3 --ring 8 --header x";
+    match job_of(alloc, text)? {
+        Some(job) => {
+            let is_churn = matches!(&job.request, Request::Churn { since: Some(5) });
+            assert!(rt; is_churn && job.until == Some(6) && job.workers == 3);
+            assert!(rt; job.ring == 8 && job.header && !job.summary);
+            assert!(rt; job.prefixes.is_empty() && job.files.len() == 1);
+        }
+        None => assert!(rt; false),
+    }
+    Ok(())
+}
+
+#[test]
+fn an_address_is_one_of_the_family(rt: HostRuntime) -> Result<(), Fail> {
+    let alloc = rt.alloc();
+    for (text, number) in [
+        (
+            "match --family ipv6 --address 2001:DB8::8:800:200C:417A x",
+            0x2001_0DB8_0000_0000_0008_0800_200C_417A,
+        ),
+        ("match --address :: --family ipv6 x", 0),
+    ] {
+        match job_of(alloc, text)? {
+            Some(job) => match job.request {
+                Request::Match(address) => assert!(rt; address.number() == number, "{text}"),
+                _ => assert!(rt; false, "{text}"),
+            },
+            None => assert!(rt; false, "{text}"),
+        }
+    }
+    for (text, expected) in [
+        ("match --address 192.0.2.256 x", AddressFamily::Ipv4),
+        ("match --address ::1 x", AddressFamily::Ipv4),
+        (
+            "match --family ipv6 --address 192.0.2.1 x",
+            AddressFamily::Ipv6,
+        ),
+        (
+            "match --family ipv6 --address 1::2::3 x",
+            AddressFamily::Ipv6,
+        ),
+    ] {
+        match asked_of(alloc, text)? {
+            Err(Usage::Address(family, _)) => assert!(rt; family == expected, "{text}"),
+            _ => assert!(rt; false, "{text}"),
+        }
+    }
+    Ok(())
+}
+
+/// Peers have the form of `--addresses`; so have next hops of IPv4 routes, while addresses of IPv6 routes are short.
+#[test]
+fn addresses_of_ipv6_routes_are_short(rt: HostRuntime) -> Result<(), Fail> {
+    let alloc = rt.alloc();
+    for (text, peers, routes) in [
+        ("tables x", AddressForm::Full, AddressForm::Full),
+        (
+            "tables --addresses short x",
+            AddressForm::Short,
+            AddressForm::Short,
+        ),
+        (
+            "tables --family ipv6 x",
+            AddressForm::Full,
+            AddressForm::Short,
+        ),
+        (
+            "tables --family ipv6 --addresses full x",
+            AddressForm::Full,
+            AddressForm::Short,
+        ),
+        (
+            "tables --family ipv6 --addresses short x",
+            AddressForm::Short,
+            AddressForm::Short,
+        ),
+    ] {
+        let asked = asked_of(alloc, text)?;
+        match &asked {
+            Ok(Asked::Ipv4(job)) => {
+                let forms = &job.layout.addresses;
+                assert!(rt; forms.peers == peers && forms.routes == routes, "{text}");
+            }
+            Ok(Asked::Ipv6(job)) => {
+                let forms = &job.layout.addresses;
+                assert!(rt; forms.peers == peers && forms.routes == routes, "{text}");
+            }
+            Err(_) => assert!(rt; false, "{text}"),
+        }
+    }
+    Ok(())
+}
+
+/// Writes each choice as the last group of its address, its length and its reach.
+fn show(shown: &mut String, choices: &[PrefixChoice<Prefix<Ipv6>>]) -> Result<(), Fail> {
+    for choice in choices {
+        let reach = match choice.reach {
+            Reach::Exact => "",
+            Reach::Inside => "+",
+            Reach::Around => "-",
+        };
+        let group = choice.prefix.addr().number() % 65_536;
+        let len = choice.prefix.len();
+        write!(shown, "{group}/{len}{reach};")?;
+    }
+    Ok(())
+}
+
+/// The prefixes of a job on IPv6 routes.
+#[test]
+fn prefixes_are_those_of_the_family(rt: HostRuntime) -> Result<(), Fail> {
+    let alloc = rt.alloc();
+    for (text, expected) in [
+        ("tables --family ipv6 x", ""),
+        ("tables --family ipv6 --prefix 2001:db8::/32+ x", "0/32+;"),
+        (
+            "tables --prefix ::9 --family ipv6 --prefix 2001:db8::8/125- x --prefix=::/0",
+            "9/128;8/125-;0/0;",
+        ),
+        (
+            "seen --family ipv6 --prefix ::9 --prefix ::9 x",
+            "9/128;9/128;",
+        ),
+    ] {
+        let mut shown = String::new(alloc);
+        match job_of(alloc, text)? {
+            Some(job) => show(&mut shown, &job.prefixes)?,
+            None => shown.push_str("refused")?,
+        }
+        assert!(rt; shown.as_str() == expected, "{text}: {shown}");
+    }
+    match read_choice::<Ipv6>("2001:db8::/32-") {
+        Some(choice) => {
+            assert!(rt; choice.prefix.addr().number() == NET);
+            assert!(rt; choice.prefix.len() == 32 && choice.reach == Reach::Around);
+        }
+        None => assert!(rt; false),
+    }
+    assert!(rt; read_choice::<Ipv6>("192.0.2.0/24").is_none());
+    assert!(rt; read_choice::<u32>("2001:db8::/32").is_none());
+    Ok(())
+}
+
+/// Each line is a choice or passed over; an error names the first one that is neither.
+#[test]
+fn the_lines_of_a_text_are_of_the_family(rt: HostRuntime) -> Result<(), Fail> {
+    let alloc = rt.alloc();
+    for (text, expected) in [
+        ("", ""),
+        ("# ::9\n\n::9\n", "9/128;"),
+        ("::9\r\n2001:db8::8/125+ \t\n", "9/128;8/125+;"),
+        ("::9\n\n192.0.2.0/24\n::9/127\n", "line 3"),
+        ("::9/127\n", "line 1"),
+        ("::9\n::9/129\n", "line 2"),
+    ] {
+        let mut shown = String::new(alloc);
+        match read_list::<Ipv6>(alloc, text.as_bytes()) {
+            Ok(choices) => show(&mut shown, &choices)?,
+            Err(ListError::Line(number)) => write!(shown, "line {number}")?,
+            Err(ListError::Memory) => shown.push_str("memory")?,
+        }
+        assert!(rt; shown.as_str() == expected, "{text:?}: {shown}");
+    }
+    Ok(())
+}
+
+/// What is said of refused words, or nothing.
+fn said_of(alloc: Global, text: &str) -> Result<String, Fail> {
+    match asked_of(alloc, text)? {
+        Err(Usage::Words(text)) => Ok(text),
+        _ => Ok(String::new(alloc)),
+    }
+}
+
+#[test]
+fn what_is_wrong_is_said_by_family(rt: HostRuntime) -> Result<(), Fail> {
+    let alloc = rt.alloc();
+    for (text, expected) in [
+        (
+            "tables --family ipv5 x",
+            "error: invalid value 'ipv5' for '--family <FAMILY>': neither ipv4 nor ipv6\n",
+        ),
+        (
+            "tables --prefix 2001:db8::/32 x",
+            "error: invalid value '2001:db8::/32' for '--prefix <PREFIX>': no IPv4 address stands before its '/'\n  it may be 192.0.2.0/24, 192.0.2.0/24+ (more specifics too), 192.0.2.0/24- (less specifics too) or an address\n",
+        ),
+        (
+            "tables --family ipv6 --prefix 192.0.2.0/24 x",
+            "error: invalid value '192.0.2.0/24' for '--prefix <PREFIX>': no IPv6 address stands before its '/'\n  it may be 2001:db8::/32, 2001:db8::/32+ (more specifics too), 2001:db8::/32- (less specifics too) or an address\n",
+        ),
+        (
+            "tables --family ipv6 --prefix 192.0.2.7 x",
+            "error: invalid value '192.0.2.7' for '--prefix <PREFIX>': it is no IPv6 address\n  it may be 2001:db8::/32, 2001:db8::/32+ (more specifics too), 2001:db8::/32- (less specifics too) or an address\n",
+        ),
+        (
+            "tables --family ipv6 --prefix ::/129 x",
+            "error: invalid value '::/129' for '--prefix <PREFIX>': its length is not a number of 0 to 128\n  it may be 2001:db8::/32, 2001:db8::/32+ (more specifics too), 2001:db8::/32- (less specifics too) or an address\n",
+        ),
+    ] {
+        let said = said_of(alloc, text)?;
+        assert!(rt; said.as_str() == expected, "{text}: {said}");
+    }
+    let text: &[u8] = b"::1\n10.0.0.0/8\n";
+    let said = fault_of_list::<Ipv6>(alloc, "list", text, 2)?;
+    assert!(rt;
+        said.as_str()
+            == "error: invalid line 2 '10.0.0.0/8' in '--prefixes list': no IPv6 address stands before its '/'\n  it may be 2001:db8::/32, 2001:db8::/32+ (more specifics too), 2001:db8::/32- (less specifics too) or an address; a line that begins with # is passed over\n"
+    );
+    let said = fault_of_list::<u32>(alloc, "list", text, 1)?;
+    assert!(rt;
+        said.as_str()
+            == "error: invalid line 1 '::1' in '--prefixes list': it is no IPv4 address\n  it may be 192.0.2.0/24, 192.0.2.0/24+ (more specifics too), 192.0.2.0/24- (less specifics too) or an address; a line that begins with # is passed over\n"
+    );
+    Ok(())
+}

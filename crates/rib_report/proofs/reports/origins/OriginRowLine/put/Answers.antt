@@ -1,5 +1,0 @@
-use Rattle.rib_report.proofs.TextLaws.{Adds_trans}
-use Rattle.rib_report.proofs.reports.origins.OriginRowLine.put.Goals as goal
-
-pub returns : goal.returns
-returns g c = rw (← c.as_slice.ensures) (Adds_trans (Adds_trans c.put.ensures (Adds_trans c.put_byte.ensures c.put_numbers.ensures)) c.put_byte-2.ensures)

@@ -1,6 +1,0 @@
-use Rattle.std.proofs.Common.{refl}
-use Rattle.rib_report.proofs.VisibilityLaws.{merged_visible}
-use Rattle.rib_report.proofs.reports.visibility.Tuple2PrefixUsizeListed.lists_merge.Goals as goal
-
-pub returns : goal.returns
-returns c = record { none = refl; both = merged_visible }

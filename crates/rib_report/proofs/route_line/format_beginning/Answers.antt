@@ -1,0 +1,11 @@
+use Rattle.std.proofs.Common.{[], ◌∷◌, ◌++◌, ap}
+use Rattle.rib_report.specs.Plain.{AddressForms}
+use Rattle.rib_report.specs.Lines.{peer_text, key_text}
+use Rattle.rib_report.proofs.TextLaws.{Formats_trans, Formats_as}
+use Rattle.rib_report.proofs.route_line.format_beginning.Goals as goal
+
+pub returns : goal.returns
+returns g c =
+    let peer = c.args.peer.now in
+    Formats_as (ap (λ (forms : AddressForms). (peer_text peer.forms peer.key ++ 124 ∷ []) ++ key_text forms c.args.key.now) c.forms.ensures)
+    (Formats_trans c.format-at.ensures c.format.ensures)
