@@ -5,7 +5,7 @@ use Rattle.bgp_prefix.specs.Keys.{RouteKey}
 use Rattle.mrt_frame.proofs.Hexadecimal.{hex}
 use Rattle.mrt_frame.specs.declared.fault.Fault.TheVariants.{BadAttribute}
 use Rattle.mrt_frame.specs.Fields.{items_after}
-use Rattle.bgp_update.specs.Families.{ipv4}
+use Rattle.bgp_update.specs.Families.{FamilyOf, ipv4, ipv6}
 use Rattle.bgp_update.specs.declared.width.Width.TheVariants.{Four}
 use Rattle.bgp_update.specs.declared.path.SegmentKind.TheVariants.{AsSequence}
 use Rattle.bgp_update.specs.declared.next_hop.NextHop.TheVariants as hop
@@ -39,8 +39,11 @@ somewhere = record { file = 0; offset = 0; entry = None }
 abbrev unit_of : ℕ → Payload → ReplayUnit
 unit_of seconds payload = record { place = somewhere; time = seconds * 1000000; peer = record { asn = 65000; addr = addr.V4 0xC0000201 }; payload = payload }
 
+abbrev message_of : FamilyOf → ℕ → Bool → List ℕ → ReplayUnit
+message_of family seconds add_path bytes = unit_of seconds (Message (hex (codes "FFFFFFFF FFFFFFFF FFFFFFFF FFFFFFFF") ++ bytes) Four add_path family)
+
 abbrev message : ℕ → Bool → List ℕ → ReplayUnit
-message seconds add_path bytes = unit_of seconds (Message (hex (codes "FFFFFFFF FFFFFFFF FFFFFFFF FFFFFFFF") ++ bytes) Four add_path ipv4)
+message = message_of ipv4
 
 -- origin IGP, path 65000, next hop 192.0.2.1
 abbrev plain_attributes : List ℕ
@@ -147,3 +150,24 @@ damaged_unit = refl
 entry_of_key : session_of (unit_of 3 (Entry (key 0x0A000000 5) plain_attributes ipv4) ∷ announcement ∷ []) ≡ record { up = true; established = true; table = (ten, plain_route) ∷ (key 0x0A000000 5, plain_route) ∷ []; churn = churn_with (2 ∷ 0 ∷ 0 ∷ 0 ∷ 0 ∷ 0 ∷ 0 ∷ 0 ∷ []) 3 1; arrivals = so_many 2; faults = []; spent = false }
 unfolding items_after attribute_at attributes_in value_fault route_from entry_route route_in path_in segment_at segment_field_at written_key_at keys_in route_keys_in key_at reach_in reach_at hop_at unreach_in next_hop_of reached_keys unreached_keys fields_in said_update update_in message_in message_event_in event_in unit_steps steps_of route_eq outcomes_of churn_of arrivals_of damaged_of table_of session_of
 entry_of_key = refl
+
+-- ---- IPv6
+
+-- an UPDATE of second 1 that announces 2001:db8::/32 by the next hop 2001:db8::2
+abbrev wide_announcement : ReplayUnit
+wide_announcement = message_of ipv6 1 false (hex (codes "0041 02 0000 002A 40010100 4002060201 0000FDE8 800E1A 0002 01 10 20010DB8000000000000000000000002 00 20 20010DB8"))
+
+-- one of second 2 that withdraws it
+abbrev wide_withdrawal : ReplayUnit
+wide_withdrawal = message_of ipv6 2 false (hex (codes "0022 02 0000 000B 800F08 0002 01 20 20010DB8"))
+
+abbrev documentation : RouteKey
+documentation = record { prefix = record { addr = 0x20010DB8 * 2 ^ 96; len = 32 }; id = 0 }
+
+wide_announced_twice : session_of (wide_announcement ∷ wide_announcement ∷ []) ≡ record { up = true; established = true; table = (documentation, record plain_route { next_hop = Some (hop.V6 0x20010DB8000000000000000000000002) }) ∷ []; churn = churn_with (1 ∷ 0 ∷ 1 ∷ 0 ∷ 0 ∷ 0 ∷ 0 ∷ 0 ∷ []) 1 1; arrivals = so_many 2; faults = []; spent = false }
+unfolding items_after attribute_at attributes_in value_fault route_from entry_route route_in path_in segment_at segment_field_at written_key_at keys_in route_keys_in key_at reach_in reach_at hop_at unreach_in next_hop_of reached_keys unreached_keys fields_in said_update update_in message_in message_event_in event_in unit_steps steps_of route_eq outcomes_of churn_of arrivals_of damaged_of table_of session_of
+wide_announced_twice = refl
+
+wide_withdrawn_twice : session_of (wide_announcement ∷ wide_withdrawal ∷ wide_withdrawal ∷ []) ≡ record { up = true; established = true; table = []; churn = churn_with (1 ∷ 0 ∷ 0 ∷ 1 ∷ 1 ∷ 0 ∷ 0 ∷ 0 ∷ []) 1 2; arrivals = so_many 3; faults = []; spent = false }
+unfolding items_after attribute_at attributes_in value_fault route_from entry_route route_in path_in segment_at segment_field_at written_key_at keys_in route_keys_in key_at reach_in reach_at hop_at unreach_in next_hop_of reached_keys unreached_keys fields_in said_update update_in message_in message_event_in event_in unit_steps steps_of route_eq outcomes_of churn_of arrivals_of damaged_of table_of session_of
+wide_withdrawn_twice = refl

@@ -37,7 +37,7 @@ test_ok false fault r y e = absurd cc
 -- ---- next hops
 
 -- the bytes of a next hop are those it was read from
-abbrev HopIs : List ℕ → NextHop → Type 0
+abbrev pub HopIs : List ℕ → NextHop → Type 0
 HopIs octets hop = (octets ≡ hop_bytes hop) × FitsHop hop
 
 read_back : (n : ℕ) (octets : List ℕ) → length octets ≡ n → IsBytes octets → octets ≡ big_bytes n (big_number n octets)
@@ -56,7 +56,7 @@ pair_is octets e fine =
     let back : drop 16 octets ≡ big_bytes 16 (big_number 16 (drop 16 octets)) = read_back 16 (drop 16 octets) (omega (arith, e, length-drop 16 octets)) second in
     (sym (take-append-drop 16 octets) ∙ ap (λ (t : List ℕ). t ++ drop 16 octets) (sym front) ∙ ap (λ (t : List ℕ). big_bytes 16 (big_number 16 octets) ++ t) back, (big_from-lt 0 16 octets fine, big_from-lt 0 16 (drop 16 octets) second))
 
-hop_is : (octets : List ℕ) → is_hop_len (length octets) ≡ true → IsBytes octets → HopIs octets (next_hop_of octets)
+pub hop_is : (octets : List ℕ) → is_hop_len (length octets) ≡ true → IsBytes octets → HopIs octets (next_hop_of octets)
 unfolding next_hop_of
 hop_is octets known fine = by_len (eqb (length octets) 4) (eqb (length octets) 16) refl refl known
   where

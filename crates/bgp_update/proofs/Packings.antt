@@ -12,6 +12,7 @@ use Rattle.bgp_update.specs.declared.route.Origin.TheVariants.{Igp, Egp, Incompl
 use Rattle.bgp_update.specs.declared.route.Aggregator.{Aggregator}
 use Rattle.bgp_update.specs.declared.route.Route.{Route}
 use Rattle.bgp_update.specs.Paths.{PathSegment}
+use Rattle.bgp_update.specs.Multiprotocol as multiprotocol
 use Rattle.bgp_update.specs.Segments.{path_bytes, IsPath}
 use Rattle.bgp_update.proofs.SegmentLaws.{path_in-bytes}
 use Rattle.bgp_update.specs.Packing.{FitsHop, FitsAggregator, CanPack, flag, origin_code, hop_code, field_flags, hop_bytes, number_bytes, aggregator_bytes, path_part, route_bytes, origin_bits, hop_bits, flag_bit, hop_len, med_at, local_pref_at, aggregator_at, path_at, origin_by, hop_by, number_by, aggregator_by, segments_of, spelled_path, path_by, unpacked, IsPacked, IsSpelled, fields_bytes}
@@ -262,3 +263,14 @@ path_slice bytes inside at same e = take_rest bytes at ∙ ap (λ (n : ℕ). dro
 pub path_there : (bytes : List ℕ) → get_or bytes 1 0 ≡ 1 → Some (spelled_path (drop (path_at bytes) bytes)) ≡ (unpacked bytes).path
 unfolding unpacked
 path_there bytes e = ap (λ (k : ℕ). path_by k (drop (path_at bytes) bytes)) (sym e)
+
+-- the same bytes as those of a next hop in an attribute
+pub written_hop : (hop : NextHop) → multiprotocol.hop_bytes hop ≡ hop_bytes (Some hop)
+written_hop (V4 a) = refl
+written_hop (V6 a) = refl
+written_hop (V6Pair a link) = refl
+
+pub hop_fits : (hop : NextHop) → multiprotocol.FitsHop hop → FitsHop hop
+hop_fits (V4 a) h = h
+hop_fits (V6 a) h = h
+hop_fits (V6Pair a link) h = h

@@ -1,6 +1,6 @@
 -- A route as one list of bytes: a byte of flags, a byte that says whether there is a path, and then the fields that are
 -- there, in a fixed order; the path as segments with numbers of four bytes (RFC 6793, section 3).
-use Rattle.std.specs.Prelude.{◌≡◌, ℕ, ◌+◌, ◌*◌, ◌/◌, ◌%◌, ◌^◌, ◌<◌, Bool, true, false, List, [], ◌∷◌, ◌++◌, drop, slice_index, Option, Some, None, Result, Ok, Err, IfSome, is_some, option_map, ◌==◌, if◌then◌else◌}
+use Rattle.std.specs.Prelude.{◌≡◌, ℕ, ◌+◌, ◌*◌, ◌/◌, ◌%◌, ◌^◌, ◌<◌, Bool, true, false, List, [], ◌∷◌, ◌++◌, drop, length, slice_index, Option, Some, None, Result, Ok, Err, IfSome, IsTrue, is_some, ◌==◌, if◌then◌else◌}
 use Rattle.byteorder.specs.Endian.{big_number, big_bytes}
 use Rattle.mrt_frame.specs.declared.fault.Fault.{Fault}
 use Rattle.bgp_update.specs.declared.next_hop.NextHop.{NextHop}
@@ -11,6 +11,7 @@ use Rattle.bgp_update.specs.declared.route.Aggregator.{Aggregator}
 use Rattle.bgp_update.specs.declared.route.Route.{Route}
 use Rattle.bgp_update.specs.declared.packed_fields.PlainFields.{PlainFields}
 use Rattle.bgp_update.specs.Paths.{PathSegment}
+use Rattle.bgp_update.specs.Multiprotocol.{is_hop_len, next_hop_of}
 use Rattle.bgp_update.specs.Segments.{path_bytes, IsPath, path_in}
 use Rattle.bgp_update.specs.Equality.{origin_number}
 
@@ -158,6 +159,12 @@ pub record IsPacked (bytes : List ℕ) : Type 0 where
   pub fits : CanPack (unpacked bytes)
   pub written : bytes ≡ route_bytes (unpacked bytes)
 
+-- the bytes of the next hop that they spell
+pub record IsWrittenHop (bytes : List ℕ) : Type 0 where
+  pub len : IsTrue (is_hop_len (length bytes))
+  pub fits : FitsHop (next_hop_of bytes)
+  pub written : bytes ≡ hop_bytes (Some (next_hop_of bytes))
+
 -- the bytes of the path that they spell
 pub record IsSpelled (bytes : List ℕ) : Type 0 where
   pub fits : IsPath 4 (spelled_path bytes)
@@ -169,12 +176,12 @@ fields_bytes r has_path =
     (((((field_flags r ∷ flag has_path ∷ []) ++ hop_bytes r.next_hop) ++ number_bytes r.med)
     ++ number_bytes r.local_pref) ++ aggregator_bytes r.aggregator)
 
--- the route of these fields, with no path
-abbrev pub route_by : PlainFields → Route
-route_by fields = record {
+-- the route of these fields and a next hop, with no path
+abbrev pub route_by : PlainFields → Option NextHop → Route
+route_by fields hop = record {
   origin = fields.origin;
   path = None;
-  next_hop = option_map V4 fields.next_hop;
+  next_hop = hop;
   med = fields.med;
   local_pref = fields.local_pref;
   atomic = fields.atomic;

@@ -21,9 +21,8 @@
 //! - Up to 46 bytes are stored inline: with their length and a count of owners they take an allocation of 64 bytes. In
 //!   generated dumps nine in ten routes are that short. A `Route` takes 200 bytes in two allocations.
 //! - Attributes are packed as they are read (`PackedRoute::read`, `read_packed_update`), without a `Route` in between,
-//!   except for a path of two-octet numbers, which may have to be merged, and for the keys of MP_REACH_NLRI and the RIB
-//!   entries of IPv6, whose next hop is another one. `read_update` still returns a `Route`: it is what definitions
-//!   speak of.
+//!   except for a path of two-octet numbers, which may have to be merged. A next hop is packed as it is written
+//!   (`WrittenHop`). `read_update` still returns a `Route`: it is what definitions speak of.
 //! - Every route that is read can be packed, since each segment has 1 to 255 numbers (`IsWritable`); one made by hand
 //!   need not be, so `PackedRoute::pack` requires it.
 //! - `Route`'s fields are declared in order of size, since the compiler keeps the order: 128 bytes instead of 144.
@@ -58,6 +57,7 @@ mod unicast;
 mod update;
 mod values;
 mod width;
+mod written_hop;
 
 pub use agreement::{merging_is_unique, updates_agree_with_their_forms};
 pub use attr_error::AttrError;

@@ -4,15 +4,16 @@ ghost use Rattle.std.specs.Prelude.{◌≡◌, ℕ, ◌≤◌, ◌++◌, List, O
 ghost use Rattle.bgp_prefix.specs.Prefixes.{IpPrefix};
 ghost use Rattle.mrt_frame.specs.Fields.{Reads};
 ghost use Rattle.bgp_update.specs.Answers.{Gives};
+ghost use Rattle.bgp_update.specs.declared.next_hop.NextHop.{NextHop};
 ghost use Rattle.bgp_update.specs.Keys as keys_spec;
 ghost use Rattle.bgp_update.specs.Multiprotocol as multiprotocol;
-ghost use Rattle.bgp_update.specs.Multiprotocol.{is_hop_len, entry_hop_in, SaysReach, SaysUnreach, reached_keys, unreached_keys};
+ghost use Rattle.bgp_update.specs.Multiprotocol.{entry_hop_in, SaysReach, SaysUnreach, reached_keys, unreached_keys};
 
 use crate::attr_error::AttrError;
 use crate::attribute_type::AttributeType;
 use crate::key::{read_keys, with_keys};
-use crate::next_hop::NextHop;
 use crate::unicast::Unicast;
+use crate::written_hop::WrittenHop;
 use bgp_prefix::{Prefix, RouteKey};
 use byteorder::{BigEndian, ByteOrder};
 use mrt_frame::{Fault, byte_at, bytes_at};
@@ -26,24 +27,9 @@ fn is_unicast<F: Unicast>(value: &[u8]) -> bool
     BigEndian::read_u16(value) == F::AFI && value[2] == 1
 }
 
-/// Returns the next hop that these bytes encode.
-#[tactic(auto, unfolding(crate::specs::Multiprotocol::next_hop_of))]
-fn next_hop_of(hop: &[u8]) -> NextHop
-    requires { IsTrue (is_hop_len (length hop.now)) }
-    ensures { result ≡ multiprotocol.next_hop_of hop.now }
-{
-    if hop.len() == 4 {
-        NextHop::V4(BigEndian::read_u32(hop))
-    } else if hop.len() == 16 {
-        NextHop::V6(BigEndian::read_u128(hop))
-    } else {
-        NextHop::V6Pair(BigEndian::read_u128(hop), BigEndian::read_u128(&hop[16..]))
-    }
-}
-
 /// Reads a next hop after its length, and returns it with the bytes after it.
 #[tactic(auto, unfolding(crate::specs::Multiprotocol::hop_at))]
-fn hop_at(bytes: &[u8]) -> Result<(NextHop, &[u8]), Fault>
+fn hop_at(bytes: &[u8]) -> Result<(WrittenHop<'_>, &[u8]), Fault>
     ensures { Reads (λ x. (x.0, x.1.now)) result (multiprotocol.hop_at bytes.now) }
 {
     let bad = AttributeType::MpReachNlri.fault();
@@ -52,12 +38,12 @@ fn hop_at(bytes: &[u8]) -> Result<(NextHop, &[u8]), Fault>
         return Err(bad);
     }
     let (hop, rest) = bytes_at(rest, len as usize, bad)?;
-    Ok((next_hop_of(hop), rest))
+    Ok((WrittenHop::of_bytes(hop), rest))
 }
 
 /// Reads a next hop after its length and, after a reserved byte, the field of the keys.
 #[tactic(auto, unfolding(crate::specs::Multiprotocol::reach_at))]
-fn reach_at(bytes: &[u8]) -> Result<(NextHop, &[u8]), Fault>
+fn reach_at(bytes: &[u8]) -> Result<(WrittenHop<'_>, &[u8]), Fault>
     ensures { Reads (λ x. (x.0, x.1.now)) result (multiprotocol.reach_at bytes.now) }
 {
     let (hop, rest) = hop_at(bytes)?;
@@ -68,7 +54,7 @@ fn reach_at(bytes: &[u8]) -> Result<(NextHop, &[u8]), Fault>
 /// Returns the next hop of a RIB entry's MP_REACH_NLRI: alone after its length (RFC 6396, 4.3.4), or within the whole
 /// attribute, which begins with a byte 0 and whose rest isn't read. None for another family.
 #[tactic(auto, unfolding(crate::specs::Multiprotocol::entry_hop_in))]
-pub fn entry_hop<F: Unicast>(value: &[u8]) -> Result<Option<NextHop>, Fault>
+pub fn entry_hop<F: Unicast>(value: &[u8]) -> Result<Option<WrittenHop<'_>>, Fault>
     ensures { Reads (λ hop. hop) result (entry_hop_in F.family value.now) }
 {
     let bad = AttributeType::MpReachNlri.fault();
@@ -91,7 +77,7 @@ pub fn entry_hop<F: Unicast>(value: &[u8]) -> Result<Option<NextHop>, Fault>
 }
 
 /// Returns the next hop of a RIB entry's MP_REACH_NLRI, if it is present.
-pub fn entry_hop_value<F: Unicast>(value: Option<&[u8]>) -> Option<NextHop>
+pub fn entry_hop_value<F: Unicast>(value: Option<&[u8]>) -> Option<WrittenHop<'_>>
     ensures { result ≡ multiprotocol.entry_hop F.family (option_map (λ v. v.now) value.entry) }
 {
     match value {
@@ -105,7 +91,7 @@ pub fn entry_hop_value<F: Unicast>(value: Option<&[u8]>) -> Option<NextHop>
 
 /// Returns the next hop and the field of keys of an MP_REACH_NLRI; none for another family.
 #[tactic(auto, unfolding(crate::specs::Multiprotocol::reach_in))]
-pub fn reach_in<F: Unicast>(value: &[u8]) -> Result<Option<(NextHop, &[u8])>, Fault>
+pub fn reach_in<F: Unicast>(value: &[u8]) -> Result<Option<(WrittenHop<'_>, &[u8])>, Fault>
     ensures { Reads (λ o. option_map (λ r. (r.0, r.1.now)) o) result (multiprotocol.reach_in F.family value.now) }
 {
     if value.len() < 3 {
@@ -137,7 +123,7 @@ fn whole_reach<F: Unicast>(
     alloc: Global,
     value: &[u8],
     add_path: bool,
-) -> Result<(Option<NextHop>, Vec<RouteKey<Prefix<F>>>), AttrError>
+) -> Result<(Option<WrittenHop<'_>>, Vec<RouteKey<Prefix<F>>>), AttrError>
     ensures { Gives (λ x. (x.0, x.1.items)) result (reached_keys F.family add_path (Some value.now)) }
 {
     match reach_in::<F>(value) {
@@ -152,7 +138,7 @@ fn read_reach<F: Unicast>(
     alloc: Global,
     value: &[u8],
     add_path: bool,
-) -> Result<(Option<NextHop>, Vec<RouteKey<Prefix<F>>>), AttrError>
+) -> Result<(Option<WrittenHop<'_>>, Vec<RouteKey<Prefix<F>>>), AttrError>
     ensures found { IfOk result (λ x. SaysReach F.family add_path value.now x.0 x.1.items) }
     ensures only { (hop : Option NextHop) (keys : List (RouteKey IpPrefix)) →
         SaysReach F.family add_path value.now hop keys →
@@ -168,7 +154,7 @@ pub fn reached<F: Unicast>(
     alloc: Global,
     value: Option<&[u8]>,
     add_path: bool,
-) -> Result<(Option<NextHop>, Vec<RouteKey<Prefix<F>>>), AttrError>
+) -> Result<(Option<WrittenHop<'_>>, Vec<RouteKey<Prefix<F>>>), AttrError>
     ensures { Gives (λ x. (x.0, x.1.items)) result
         (reached_keys F.family add_path (option_map (λ v. v.now) value.entry)) }
 {

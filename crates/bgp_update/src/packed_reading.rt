@@ -15,11 +15,12 @@ use crate::attribute_type::AttributeType;
 use crate::multiprotocol::{reached, with_unreached};
 use crate::packed_route::PackedRoute;
 use crate::packed_update::PackedUpdate;
-use crate::packing::{pack_by_hop, pack_values};
+use crate::packing::{pack_reached, pack_values};
 use crate::unicast::Unicast;
 use crate::update::read_fields;
 use crate::values::FirstValues;
 use crate::width::Width;
+use crate::written_hop::next_hop_of;
 use bgp_prefix::{Prefix, RouteKey, Sequence};
 use std::alloc::Global;
 
@@ -46,14 +47,14 @@ fn packed_from<F: Unicast>(
     let reached_route = if reached.is_empty() {
         None
     } else {
-        Some(pack_by_hop(alloc, buffer, first, width, reached_hop)?)
+        Some(pack_reached(alloc, buffer, first, width, &reached_hop)?)
     };
     Ok(PackedUpdate {
         withdrawn: Sequence::from_vec(withdrawn),
         announced: Sequence::from_vec(announced),
         reached: Sequence::from_vec(reached),
         route,
-        reached_hop,
+        reached_hop: next_hop_of(&reached_hop),
         reached_route,
     })
 }

@@ -24,6 +24,7 @@ use crate::route_fields::route_from;
 use crate::unicast::Unicast;
 use crate::values::{FirstValues, keep_values};
 use crate::width::Width;
+use crate::written_hop::next_hop_of;
 use bgp_prefix::{Memory, Prefix, RouteKey, Sequence};
 use mrt_frame::{Fault, bytes_at, u16_at};
 use std::alloc::Global;
@@ -79,7 +80,7 @@ fn update_from<F: Unicast>(
         announced: Sequence::from_vec(announced),
         reached: Sequence::from_vec(reached),
         route,
-        reached_hop,
+        reached_hop: next_hop_of(&reached_hop),
     })
 }
 
@@ -158,7 +159,7 @@ pub(crate) fn entry_route<F: Unicast>(
         return Ok(plain);
     }
     let hop = entry_hop_value::<F>(first.value(AttributeType::MpReachNlri));
-    Ok(plain.with_next_hop(hop))
+    Ok(plain.with_next_hop(next_hop_of(&hop)))
 }
 
 #[tactic(auto, unfolding(crate::specs::Attributes::route_in))]

@@ -1,34 +1,14 @@
 -- Lists of units, and how many units wait in a ring of lists.
-use Rattle.std.proofs.Common.{◌≡◌, ℕ, ◌+◌, ◌-◌, ◌<◌, ◌≤◌, List, [], ◌∷◌, ◌++◌, length, map, take, drop, refl, sym, ap, ◌∙◌, subst, arith, length-append, length-drop, take-append-drop, Option, IfSome}
+use Rattle.std.proofs.Common.{◌≡◌, ℕ, ◌+◌, ◌-◌, ◌<◌, ◌≤◌, List, [], ◌∷◌, ◌++◌, length, map, take, drop, refl, sym, ap, ◌∙◌, subst, arith, length-append, length-drop, take-append-drop}
 use Rattle.std.specs.List.{AllByRecursion}
 use Rattle.std.proofs.lemmas.List.{append-nil, length-map, map-append, drop-map, drop-drop, drop-append-le}
 use Rattle.std.proofs.lemmas.List.Sums.{sum_by-append}
-use Rattle.std.proofs.lemmas.Option.{IfSome_then}
 use Rattle.std.proofs.lemmas.Grind.{flat_map-append}
 use Rattle.std.proofs.Math.Seq.{drop-append_seam}
-use Rattle.mrt_body.specs.Lent.{lent_unit}
-use Rattle.mrt_body.specs.Plain.{LentUnit, Payload, Unit as ReplayUnit}
-use Rattle.mrt_body.specs.Units.{payload_bytes, IsSmallUnit as IsSmallReplayUnit}
-use Rattle.mrt_body.specs.declared.unit.Payload.TheVariants.{State, Message, Entry, Clear}
 use Rattle.lane_deal.specs.Plain.{UnitList}
-use Rattle.lane_deal.specs.UnitLists.{units_of, units_of_lists, bytes_of, list_length, AreLastLengths, IsSmallUnit, total}
+use Rattle.lane_deal.specs.UnitLists.{units_of, units_of_lists, list_length, AreLastLengths, total}
 use Rattle.lane_deal.proofs.DealerLaws.{all_push}
 use Rattle.lane_deal.proofs.SeatLists.{back_of}
-
--- ---- small units
-
-same_bytes : (payload : Payload) → bytes_of payload ≡ payload_bytes payload
-same_bytes (State from to rule) = refl
-same_bytes (Message bytes width add_path family) = refl
-same_bytes (Entry key attrs family) = refl
-same_bytes Clear = refl
-
--- a unit that is small as units of files are
-small_unit : (unit : ReplayUnit) → IsSmallReplayUnit unit → IsSmallUnit unit
-small_unit unit small = let same = ap length (same_bytes unit.payload) in omega arith
-
-pub small_lent : (lent : Option LentUnit) → IfSome lent (λ unit. IsSmallReplayUnit (lent_unit unit)) → IfSome lent (λ unit. IsSmallUnit (lent_unit unit))
-small_lent lent small = IfSome_then lent small (λ unit is. small_unit (lent_unit unit) is)
 
 -- ---- lengths
 

@@ -1,9 +1,7 @@
 -- Lists of units, and how many units wait in a ring of lists.
-use Rattle.std.specs.Prelude.{◌≡◌, ℕ, ◌-◌, ◌<◌, ◌≤◌, List, [], length, map, drop}
+use Rattle.std.specs.Prelude.{◌≡◌, ℕ, ◌-◌, ◌<◌, List, length, map, drop}
 use Rattle.std.specs.List.{AllByRecursion, flat_map, sum_by}
-use Rattle.mrt_body.specs.declared.unit.Payload.{Payload}
-use Rattle.mrt_body.specs.declared.unit.Payload.TheVariants.{State, Message, Entry, Clear}
-use Rattle.mrt_body.specs.declared.unit.Unit.{Unit as ReplayUnit}
+use Rattle.mrt_body.specs.Units.{IsSmallUnit}
 use Rattle.lane_deal.specs.declared.numbered.Numbered.{Numbered}
 use Rattle.lane_deal.specs.declared.unit_list.UnitList.{UnitList}
 use Rattle.lane_deal.specs.ListedUnits.{unit_in}
@@ -15,17 +13,6 @@ module _ {P K : Type 0} where
   -- the units of these lists, one list after the other
   abbrev pub units_of_lists : List (UnitList P K) → List (Numbered P K)
   units_of_lists lists = flat_map (λ list. units_of list) lists
-
-  -- the bytes of a message, or of the attributes of an entry
-  abbrev pub bytes_of : Payload P K → List ℕ
-  bytes_of (State from to rule) = []
-  bytes_of (Message bytes width add_path family) = bytes
-  bytes_of (Entry key attrs family) = attrs
-  bytes_of Clear = []
-
-  -- its bytes number at most 16,777,216
-  abbrev pub IsSmallUnit : ReplayUnit P K → Type 0
-  IsSmallUnit unit = length (bytes_of unit.payload) ≤ 16777216
 
   abbrev pub AreSmall : List (Numbered P K) → Type 0
   AreSmall items = AllByRecursion (λ item. IsSmallUnit item.unit) items

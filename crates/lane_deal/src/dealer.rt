@@ -5,7 +5,7 @@ ghost use Rattle.std.specs.Option.{ForSome};
 ghost use Rattle.lane_deal.specs.UnitRings.{known_free};
 ghost use Rattle.std.specs.Prelude.{slice_index_or};
 ghost use Rattle.mrt_body.specs.Lent.{lent_unit};
-ghost use Rattle.lane_deal.specs.UnitLists.{IsSmallUnit};
+ghost use Rattle.mrt_body.specs.Units.{IsSmallUnit};
 ghost use Rattle.mrt_body.specs.declared.standing.Standing.TheVariants as standings;
 ghost use Rattle.mrt_frame.specs.declared.error.ReplayError.TheVariants.{Read};
 ghost use Rattle.lane_deal.specs.Asking.{Asked, AskedInVain, StopsReading, TakesUnits};
@@ -165,7 +165,6 @@ impl<F: Unicast, D: Dealing> Dealer<D, Prefix<F>, FamilyMark<F>> {
 
     /// Lends the next unit of the record that was cut last, unless a unit is kept, which comes before it.
     #[inline(always)]
-    #[tactic(auto, using(crate::proofs::UnitLists::small_lent))]
     fn lent<'a>(&self, units: &'a Units<F>) -> Option<LentUnitOf<'a, F>>
         ensures kept { IfSome result (λ _. self.now.kept ≡ None) }
         ensures lends { IfSome result (λ unit. units.now.pending ≡ lent_unit unit ∷ drop 1 units.now.pending) }

@@ -1,6 +1,6 @@
 ghost use Rattle.std.specs.Prelude.{◌≡◌, ◌+◌, ◌-◌, ◌^◌, ◌<◌, min, true, false, [], ◌∷◌, OnOk};
 ghost use Rattle.mrt_body.specs.Lent.{lent_unit};
-ghost use Rattle.lane_deal.specs.UnitLists.{IsSmallUnit};
+ghost use Rattle.mrt_body.specs.Units.{IsSmallUnit};
 
 use crate::gate::Gate;
 use crate::unit_list::UnitList;

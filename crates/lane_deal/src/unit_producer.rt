@@ -82,7 +82,7 @@ impl<F: Unicast> UnitProducer<Prefix<F>, FamilyMark<F>> {
     ghost use Rattle.std.specs.Prelude.{◌≡◌, ◌+◌, ◌<◌, ◌≤◌, [], ◌∷◌, ◌++◌, length, IfOk, OnOk, IsTrue, ◌↔◌, false};
     ghost use Rattle.rtrb.specs.Ring.{ConsumerLooked};
     ghost use Rattle.mrt_body.specs.Lent.{lent_unit};
-    ghost use Rattle.lane_deal.specs.UnitLists.{IsSmallUnit};
+    ghost use Rattle.mrt_body.specs.Units.{IsSmallUnit};
     ghost use Rattle.lane_deal.specs.UnitLists.{IsUnitList};
     ghost use Rattle.lane_deal.specs.UnitRings.{sent, known_free, ring_capacity, received, known_items, IsPair, SameProducer, ProducerLooked};
 

@@ -22,7 +22,9 @@ use Rattle.mrt_body.specs.declared.unit.PeerKey.{PeerKey}
 use Rattle.mrt_body.specs.declared.unit.Place.{Place}
 use Rattle.mrt_body.specs.declared.unit.Damage.{Damage}
 use Rattle.mrt_body.specs.Plain.{Payload}
+use Rattle.mrt_body.specs.declared.unit.Payload.{Payload as PayloadOf}
 use Rattle.mrt_body.specs.declared.unit.Payload.TheVariants.{State, Message, Entry, Clear}
+use Rattle.mrt_body.specs.declared.unit.Unit.{Unit as UnitOf}
 use Rattle.mrt_body.specs.Plain.{Unit as ReplayUnit}
 use Rattle.mrt_body.specs.Plain.{Found}
 use Rattle.mrt_body.specs.declared.unit.Found.TheVariants as found
@@ -305,16 +307,17 @@ is_recorded Clear = false
 
 -- ---- how many bytes a unit carries
 
--- those of a message, or of an entry's attributes
-abbrev pub payload_bytes : Payload → List ℕ
-payload_bytes (State from to rule) = []
-payload_bytes (Message bytes width add_path family) = bytes
-payload_bytes (Entry key attrs family) = attrs
-payload_bytes Clear = []
+module _ {P K : Type 0} where
+  -- those of a message, or of an entry's attributes
+  abbrev pub payload_bytes : PayloadOf P K → List ℕ
+  payload_bytes (State from to rule) = []
+  payload_bytes (Message bytes width add_path family) = bytes
+  payload_bytes (Entry key attrs family) = attrs
+  payload_bytes Clear = []
 
--- no more than the greatest body of a record
-abbrev pub IsSmallUnit : ReplayUnit → Type 0
-IsSmallUnit unit = length (payload_bytes unit.payload) ≤ 16777216
+  -- no more than the greatest body of a record
+  abbrev pub IsSmallUnit : UnitOf P K → Type 0
+  IsSmallUnit unit = length (payload_bytes unit.payload) ≤ 16777216
 
 abbrev pub IsSmall : Found → Type 0
 IsSmall (found.Unit unit) = IsSmallUnit unit

@@ -1,22 +1,24 @@
-use Rattle.std.proofs.Common.{◌≡◌, ◌∙◌, ◌++◌, ap, subst, List, ℕ}
-use Rattle.std.specs.Prelude.{IfOk}
+use Rattle.std.proofs.Common.{◌≡◌, sym, ap, subst, ◌∙◌}
 use Rattle.bgp_update.specs.declared.route.Route.{Route}
+use Rattle.bgp_update.specs.declared.width.Width.{Width}
+use Rattle.bgp_update.specs.declared.width.Width.TheVariants.{Four}
 use Rattle.bgp_update.specs.Values.{kept_value}
 use Rattle.bgp_update.specs.Attributes.{route_from}
 use Rattle.bgp_update.specs.Hops.{by_hop}
-use Rattle.bgp_update.specs.Packing.{route_bytes}
+use Rattle.bgp_update.specs.Packing.{IsWritable, unpacked}
 use Rattle.bgp_update.proofs.Packings.{packs_again}
 use Rattle.bgp_update.proofs.packing.pack_by_hop.Goals as goal
 
-pub of_bytes-requires : goal.of_bytes-requires
-of_bytes-requires c =
-    let r : Route = by_hop (route_from c.args.width (kept_value c.args.first.now)) c.args.hop in
-    let bytes : c.as_slice.result.now ≡ route_bytes r = c.as_slice.ensures.value ∙ c.in_ok-push_by_hop.ensures.bytes ∙ ap (λ (xs : List ℕ). xs ++ route_bytes r) c.clear.ensures.items in
-    (packs_again r c.as_slice.result.now (record { fields = c.in_ok-push_by_hop.ensures.widths; path = c.requires.writable }) bytes).0
+pub of_few-requires : goal.of_few-requires
+of_few-requires c =
+    let r : Route = by_hop (route_from Four (kept_value c.args.first.now)) c.args.hop.now in
+    let writable : IsWritable r.path = subst (λ (w : Width). IsWritable (route_from w (kept_value c.args.first.now)).path) c.in-Four.is c.requires.writable in
+    (packs_again r c.push_few.new.out (record { fields = c.push_few.ensures.widths; path = writable }) (c.push_few.ensures.bytes c.if-push_few.true)).0
 
-pub returns : goal.returns
-returns c =
-    let r : Route = by_hop (route_from c.args.width (kept_value c.args.first.now)) c.args.hop in
-    let bytes : c.as_slice.result.now ≡ route_bytes r = c.as_slice.ensures.value ∙ c.in_ok-push_by_hop.ensures.bytes ∙ ap (λ (xs : List ℕ). xs ++ route_bytes r) c.clear.ensures.items in
-    let same = (packs_again r c.as_slice.result.now (record { fields = c.in_ok-push_by_hop.ensures.widths; path = c.requires.writable }) bytes).1 in
-    subst (λ (v : Route). IfOk c.of_bytes.result (λ p. p ≡ v)) same c.of_bytes.ensures
+pub returns-then-push_few-clause-ok : goal.returns-then-push_few-clause-ok
+returns-then-push_few-clause-ok c =
+    let r : Route = by_hop (route_from Four (kept_value c.args.first.now)) c.args.hop.now in
+    let writable : IsWritable r.path = subst (λ (w : Width). IsWritable (route_from w (kept_value c.args.first.now)).path) c.in-Four.is c.requires.writable in
+    let four : unpacked c.push_few.new.out ≡ r =
+    (packs_again r c.push_few.new.out (record { fields = c.push_few.ensures.widths; path = writable }) (c.push_few.ensures.bytes c.if-push_few.true)).1 in
+    c.of_few.ensures ∙ four ∙ ap (λ (w : Width). by_hop (route_from w (kept_value c.args.first.now)) c.args.hop.now) (sym c.in-Four.is)
