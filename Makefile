@@ -54,9 +54,13 @@ help:
 run: $(PROGRAM)
 	$(PROGRAM) tables examples/sample.mrt
 
+# How many checks of the gate run at once: one a processor, where there are 4 GB of memory for each. By itself `rt ci`
+# counts with two to three times what they take, and leaves a processor idle.
+CHECKS ?= $(shell awk -v processors=$$(nproc) '/^MemAvailable/ { n = int($$2 / 4e6); print n < 1 ? 1 : n < processors ? n : processors }' /proc/meminfo)
+
 # The gate, and then what is quick, side by side, on the program that the gate built.
 check:
-	rt ci
+	RT_JOBS=$(CHECKS) rt ci
 	$(MAKE) --no-print-directory -j3 --output-sync=target scripts quick-check python-check BINARY='$(BUILT)'
 
 verdict:
