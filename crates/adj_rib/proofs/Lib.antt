@@ -7,6 +7,11 @@ pub mod StateLaws
 pub mod SourceLaws
 pub mod Reached
 pub mod Announcements
+pub mod RouteBlocks
+pub mod MappedValues
+pub mod NamedRoutes
+pub mod Listings
+pub mod Refolded
 mod Examples
 pub mod Selected
 pub mod RetainLaws

@@ -4,15 +4,16 @@
 //! definitions on this list, and no ghost list is kept. The rules of the replay are in `specs/Steps.antt`, a relation
 //! from units to steps, and a table is what steps leave.
 //!
-//! - A table keeps a `SharedRoute`, an `Arc<PackedRoute>` that contracts see as the `Route` itself. So sessions require
-//!   `M: PrefixMap<SharedRoute>`, while definitions speak of maps from keys to routes and know nothing of
-//!   sharing. `share` allocates nothing, unless no further owner can be counted: then it makes an equal route.
-//! - A peer has one set of routes (`route_set.rt`), so that a route is stored once however many keys have it: a hash
-//!   table with open addressing, in which a look-up probes at most 8 slots. If all 8 are taken, a later route evicts
-//!   the first, which may then be stored once more. What no table holds any more is dropped when the buckets are full;
-//!   a sample of the slots tells whether that is worth a look, so that a RIB dump, which replaces nothing, pays for
-//!   none. A hit compares all bytes: no claim rests on the hash or the sample, and the set isn't part of what a session
-//!   stands for.
+//! - A peer's routes stand one after the other in one block of bytes (`routes.rt`), each once however many keys have
+//!   it, and are named by numbers of four bytes, where they begin (`RouteId`). A table is a map from keys to numbers
+//!   beside that block (`RouteTable`), and contracts see it as the map from keys to routes. So sessions require
+//!   `M: PrefixMap<RouteId>`, while definitions know nothing of numbers. A reader borrows routes from the block.
+//! - A route is found by a hash table with open addressing, in which a look-up probes at most 8 slots. If all 8 are
+//!   taken, a later route evicts the first, which may then be stored once more. A hit compares all bytes: no claim
+//!   rests on the hash.
+//! - Routes that no key names any more are given back once as many bytes were added as the routes and 16 bytes for each
+//!   key took: the routes that are named are then copied into a new block, and the keys into a new table. So an added
+//!   route pays for the copy of as much, and a RIB dump, which replaces nothing, pays for few copies.
 //! - Routes are read ahead (`ReadAhead`): a worker packs the route of each RIB entry, and of each UPDATE that does
 //!   nothing but announce, for all units of a list, then prefetches the slots and then the routes in them, and then
 //!   takes the units in order. Each of these is a cache miss, since the peers of a RIB record take turns; in loops of
@@ -23,12 +24,15 @@
 //! - `retain` takes the routes of other prefixes out of a table before a report. It is the last step, since the session
 //!   then no longer stands for its units.
 //! - A `Watch` takes units as a session does, and notes what each does to the keys of chosen prefixes, in the order of
-//!   its steps. It keeps their routes alone, shared as those of a session are: a note and the table own the same one.
-//!   It counts these notes, and what each unit is beside them (`UnitKind`), from a second on (`churn_within`).
+//!   its steps. It keeps their routes alone. Since a note outlives the table's entry, both own the same `SharedRoute`,
+//!   an `Arc<PackedRoute>` that contracts see as the `Route` itself, and a set finds it again (`route_set.rt`). `share`
+//!   allocates nothing, unless no further owner can be counted: then it makes an equal route. It counts these notes,
+//!   and what each unit is beside them (`UnitKind`), from a second on (`churn_within`).
 #![tactic(auto)]
 
 mod arrivals;
 mod churn;
+mod hashed_route;
 mod holding;
 mod note;
 mod noting;
@@ -37,6 +41,8 @@ mod read_ahead;
 mod retaining;
 mod rib_in;
 mod route_set;
+mod route_table;
+mod routes;
 mod selecting;
 mod session;
 mod shared_route;
@@ -51,6 +57,8 @@ pub use churn::{Churn, is_before};
 pub use holding::table_has_what_holds;
 pub use note::{Note, What};
 pub use read_ahead::ReadAhead;
+pub use route_table::RouteTable;
+pub use routes::RouteId;
 pub use selecting::{
     counts_are_of_all_units, early_is_late, notes_are_of_concerned, selections_commute,
 };

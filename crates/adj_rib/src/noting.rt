@@ -11,8 +11,9 @@ ghost use Rattle.adj_rib.specs.Selecting.{chooses, selected_steps};
 ghost use Rattle.adj_rib.specs.Histories.{lost_note, what_over, what_without};
 ghost use Rattle.adj_rib.specs.Watching.{watched};
 
+use crate::hashed_route::HashedRoute;
 use crate::note::{Note, What};
-use crate::route_set::{HashedRoute, RouteSet};
+use crate::route_set::RouteSet;
 use crate::shared_route::SharedRoute;
 use bgp_prefix::{KeySet, Memory, Prefix, PrefixMap, RouteKey};
 use bgp_update::{PackedRoute, PackedUpdate, Unicast};

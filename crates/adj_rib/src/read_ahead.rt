@@ -10,7 +10,7 @@ ghost use Rattle.mrt_body.specs.declared.unit.Payload.TheVariants as payloads;
 ghost use Rattle.adj_rib.specs.RouteSets.{IsAheadOf};
 ghost use Rattle.adj_rib.specs.declared.read_ahead.Reading.TheVariants as readings;
 
-use crate::route_set::HashedRoute;
+use crate::hashed_route::HashedRoute;
 use bgp_prefix::{Prefix, RouteKey, Sequence};
 use bgp_update::{FamilyMark, PackedUpdate, Unicast, Width};
 use mrt_body::{LentPayload, PackedEvent, packed_event};

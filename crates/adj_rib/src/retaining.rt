@@ -7,9 +7,10 @@ ghost use Rattle.bgp_prefix.specs.Keys.{RouteKey as Key};
 ghost use Rattle.bgp_update.specs.declared.route.Route.{Route};
 ghost use Rattle.adj_rib.specs.Selecting.{chooses, selected_entries};
 
-use crate::shared_route::SharedRoute;
+use crate::route_table::RouteTable;
+use crate::routes::RouteId;
 use bgp_prefix::{Memory, Prefix, PrefixMap, RouteKey};
-use bgp_update::Unicast;
+use bgp_update::{RouteRef, Unicast};
 use mrt_body::ChosenPrefixes;
 use std::alloc::Global;
 
@@ -17,10 +18,10 @@ use std::alloc::Global;
 fn unchosen_keys<F: Unicast>(
     alloc: Global,
     chosen: &ChosenPrefixes<F>,
-    entries: &[(RouteKey<Prefix<F>>, &SharedRoute)],
+    entries: &[(RouteKey<Prefix<F>>, RouteRef<'_>)],
 ) -> Result<Vec<RouteKey<Prefix<F>>>, Memory>
     ensures { IfOk result (λ v. v.items ≡ filter (λ k. not (chooses chosen.now k))
-        (map (λ (e : Key × Route). e.0) (map (λ e. (e.0, e.1.now)) entries.now))) }
+        (map (λ (e : Key × Route). e.0) entries.now)) }
 {
     let mut keys = Vec::new(alloc);
     for (key, _) in entries {
@@ -32,24 +33,24 @@ fn unchosen_keys<F: Unicast>(
 }
 
 /// Returns the keys of a table that aren't chosen.
-fn other_keys<F: Unicast, M: PrefixMap<SharedRoute, Addr = F>>(
+fn other_keys<F: Unicast, M: PrefixMap<RouteId, Addr = F>>(
     alloc: Global,
     chosen: &ChosenPrefixes<F>,
-    table: &M,
+    table: &RouteTable<M>,
 ) -> Result<Vec<RouteKey<Prefix<F>>>, Memory>
     ensures { IfOk result (λ v. v.items ≡ filter (λ k. not (chooses chosen.now k))
-        (map (λ e. e.0) (finite.entries (M.contents table.now)))) }
+        (map (λ e. e.0) (finite.entries (table.now)))) }
 {
     let entries = table.entries(alloc)?;
     unchosen_keys(alloc, chosen, entries.as_slice())
 }
 
 /// Removes each of these keys.
-fn remove_all<F: Unicast, M: PrefixMap<SharedRoute, Addr = F>>(
-    table: &mut M,
+fn remove_all<F: Unicast, M: PrefixMap<RouteId, Addr = F>>(
+    table: &mut RouteTable<M>,
     keys: &[RouteKey<Prefix<F>>],
 )
-    ensures { M.contents table.new ≡ fold finite.remove (M.contents table.old) keys.now }
+    ensures { table.new ≡ fold finite.remove (table.old) keys.now }
 {
     for key in keys {
         table.remove(key);
@@ -57,13 +58,13 @@ fn remove_all<F: Unicast, M: PrefixMap<SharedRoute, Addr = F>>(
 }
 
 /// Removes the routes of prefixes that aren't chosen.
-pub(crate) fn retain_chosen<F: Unicast, M: PrefixMap<SharedRoute, Addr = F>>(
+pub(crate) fn retain_chosen<F: Unicast, M: PrefixMap<RouteId, Addr = F>>(
     alloc: Global,
     chosen: &ChosenPrefixes<F>,
-    table: &mut M,
+    table: &mut RouteTable<M>,
 ) -> Result<(), Memory>
-    ensures { OnOk result (finite.entries (M.contents table.new)
-        ≡ selected_entries (chooses chosen.now) (finite.entries (M.contents table.old))) }
+    ensures { OnOk result (finite.entries (table.new)
+        ≡ selected_entries (chooses chosen.now) (finite.entries (table.old))) }
 {
     let keys = other_keys(alloc, chosen, table)?;
     remove_all(table, keys.as_slice());

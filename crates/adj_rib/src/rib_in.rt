@@ -4,11 +4,11 @@ ghost use Rattle.std.specs.Prelude.{◌≡◌};
 ghost use Rattle.mrt_body.specs.Lent.{lent_payload};
 
 use crate::churn::Churn;
+use crate::hashed_route::HashedRoute;
 use crate::outcome::Outcome;
 use crate::read_ahead::{ReadAhead, Reading};
-use crate::route_set::{HashedRoute, RouteSet};
-use crate::shared_route::SharedRoute;
-use crate::table::announce_route;
+use crate::route_table::RouteTable;
+use crate::routes::RouteId;
 use crate::update::{apply_announcement, apply_update};
 use bgp_prefix::{Memory, Prefix, PrefixMap, RouteKey};
 use bgp_update::{AttrError, PackedUpdate, Unicast};
@@ -19,17 +19,16 @@ use std::alloc::Global;
 
 /// A peer's Adj-RIB-In, along with what is counted and listed for the peer.
 #[derive(Drop)]
-pub(crate) struct RibIn<M: PrefixMap<SharedRoute>> {
+pub(crate) struct RibIn<M: PrefixMap<RouteId>> {
     pub(crate) up: bool,
     /// Whether the session is established, as far as state changes tell.
     pub(crate) established: bool,
-    pub(crate) table: M,
+    pub(crate) table: RouteTable<M>,
     pub(crate) churn: Churn,
     pub(crate) faults: Vec<Damage>,
-    routes: RouteSet,
 }
 
-impl<F: Unicast, M: PrefixMap<SharedRoute, Addr = F>> RibIn<M> {
+impl<F: Unicast, M: PrefixMap<RouteId, Addr = F> + Drop> RibIn<M> {
     ghost use Rattle.std.specs.Prelude.{◌≡◌, true, Ok, OnOk};
     ghost use Rattle.mrt_body.specs.Events.{event_in};
     ghost use Rattle.mrt_body.specs.Lent.{lent_payload, lent_unit};
@@ -42,22 +41,21 @@ impl<F: Unicast, M: PrefixMap<SharedRoute, Addr = F>> RibIn<M> {
 
     /// Returns that of a peer without units, which is up.
     pub(crate) fn new(alloc: Global) -> RibIn<M>
-        ensures { kept_in M.contents result ≡ START }
+        ensures { kept_in result ≡ START }
     {
         RibIn {
             up: true,
             established: true,
-            table: M::new(alloc),
+            table: RouteTable::new(alloc),
             churn: Churn::new(),
             faults: Vec::new(alloc),
-            routes: RouteSet::new(alloc),
         }
     }
 
     /// Takes the steps of a state change.
     #[tactic(auto, unfolding(crate::specs::Applied::followed, crate::specs::Applied::noted))]
     fn change_state(&mut self, old: u16, new: u16, rule: StateRule)
-        ensures { kept_in M.contents self.new ≡ followed (kept_in M.contents self.old) (Ok (events.State old new rule)) }
+        ensures { kept_in self.new ≡ followed (kept_in self.old) (Ok (events.State old new rule)) }
     {
         if rule.breaks(old, new) {
             self.table.clear();
@@ -72,7 +70,7 @@ impl<F: Unicast, M: PrefixMap<SharedRoute, Addr = F>> RibIn<M> {
     /// Takes the step of a clear.
     #[tactic(auto, unfolding(crate::specs::Applied::followed, crate::specs::Applied::noted, crate::specs::Applied::counted))]
     fn clear(&mut self)
-        ensures { kept_in M.contents self.new ≡ followed (kept_in M.contents self.old) (Ok events.Clear) }
+        ensures { kept_in self.new ≡ followed (kept_in self.old) (Ok events.Clear) }
     {
         self.table.clear();
     }
@@ -88,20 +86,14 @@ impl<F: Unicast, M: PrefixMap<SharedRoute, Addr = F>> RibIn<M> {
     /// Takes the steps of an UPDATE.
     #[tactic(auto, unfolding(crate::specs::Applied::followed, crate::specs::Applied::noted))]
     fn take_update(&mut self, alloc: Global, update: PackedUpdate<Prefix<F>>) -> Result<(), Memory>
-        ensures { OnOk result (kept_in M.contents self.new
-            ≡ followed (kept_in M.contents self.old) (Ok (events.Change (plain_update update)))) }
+        ensures { OnOk result (kept_in self.new
+            ≡ followed (kept_in self.old) (Ok (events.Change (plain_update update)))) }
     {
         if !self.up {
             self.count_idle();
             return Ok(());
         }
-        apply_update(
-            alloc,
-            &mut self.routes,
-            &mut self.table,
-            &mut self.churn,
-            update,
-        )
+        apply_update(alloc, &mut self.table, &mut self.churn, update)
     }
 
     /// Takes the steps of an UPDATE that announces these keys with this route, and does nothing else.
@@ -113,26 +105,19 @@ impl<F: Unicast, M: PrefixMap<SharedRoute, Addr = F>> RibIn<M> {
         route: &HashedRoute,
     ) -> Result<(), Memory>
         ensures { OnOk result ((update : Update) → IsAnnouncement keys.now route.now.route update →
-            kept_in M.contents self.new ≡ followed (kept_in M.contents self.old) (Ok (events.Change update))) }
+            kept_in self.new ≡ followed (kept_in self.old) (Ok (events.Change update))) }
     {
         if !self.up {
             self.count_idle();
             return Ok(());
         }
-        apply_announcement(
-            alloc,
-            &mut self.routes,
-            &mut self.table,
-            &mut self.churn,
-            keys,
-            route,
-        )
+        apply_announcement(alloc, &mut self.table, &mut self.churn, keys, route)
     }
 
     /// Lists a damaged unit.
     #[tactic(auto, unfolding(crate::specs::Applied::refused, crate::specs::Applied::followed, crate::specs::Applied::noted))]
     fn list_damage(&mut self, damage: Damage) -> Result<(), Memory>
-        ensures { OnOk result (kept_in M.contents self.new ≡ refused (kept_in M.contents self.old) damage) }
+        ensures { OnOk result (kept_in self.new ≡ refused (kept_in self.old) damage) }
     {
         self.churn.refused = self.churn.refused.saturating_add(1);
         self.faults.push(damage)?;
@@ -147,13 +132,11 @@ impl<F: Unicast, M: PrefixMap<SharedRoute, Addr = F>> RibIn<M> {
         key: RouteKey<Prefix<F>>,
         hashed: &HashedRoute,
     ) -> Result<(), Memory>
-        ensures { OnOk result (kept_in M.contents self.new
-            ≡ followed (kept_in M.contents self.old) (Ok (events.Rib key hashed.now.route))) }
+        ensures { OnOk result (kept_in self.new
+            ≡ followed (kept_in self.old) (Ok (events.Rib key hashed.now.route))) }
     {
         if self.up {
-            let slot = self.routes.slot_of(alloc, hashed)?;
-            let route = self.routes.route_at(slot);
-            return announce_route(alloc, &mut self.table, &mut self.churn, key, route);
+            return self.table.announce(alloc, &mut self.churn, key, hashed);
         }
         self.count_idle();
         Ok(())
@@ -169,8 +152,8 @@ impl<F: Unicast, M: PrefixMap<SharedRoute, Addr = F>> RibIn<M> {
         place: Place,
         payload: &LentPayloadOf<'_, F>,
     ) -> Result<(), Memory>
-        ensures { OnOk result (kept_in M.contents self.new
-            ≡ read_as (kept_in M.contents self.old) place (event_in (lent_payload payload.now))) }
+        ensures { OnOk result (kept_in self.new
+            ≡ read_as (kept_in self.old) place (event_in (lent_payload payload.now))) }
     {
         match packed_event(alloc, buffer, payload) {
             Ok(PackedEvent::State(old, new, rule)) => {
@@ -203,8 +186,8 @@ impl<F: Unicast, M: PrefixMap<SharedRoute, Addr = F>> RibIn<M> {
         ahead: &ReadAhead<Prefix<F>>,
     ) -> Result<(), Memory>
         requires { IsAheadOf (lent_payload payload.now) ahead.now }
-        ensures { OnOk result (kept_in M.contents self.new
-            ≡ read_as (kept_in M.contents self.old) place (event_in (lent_payload payload.now))) }
+        ensures { OnOk result (kept_in self.new
+            ≡ read_as (kept_in self.old) place (event_in (lent_payload payload.now))) }
     {
         if let Reading::Announcement(keys, route) = &ahead.read {
             return self.take_announcement(alloc, keys.as_slice(), route);
@@ -222,7 +205,7 @@ impl<F: Unicast, M: PrefixMap<SharedRoute, Addr = F>> RibIn<M> {
     /// Prefetches the slot where `take` will look.
     pub(crate) fn prefetch_slot(&self, ahead: &ReadAhead<Prefix<F>>) -> usize {
         match ahead.route() {
-            Some(hashed) => self.routes.prefetch_slot(hashed),
+            Some(hashed) => self.table.prefetch_slot(hashed),
             None => 0,
         }
     }
@@ -230,7 +213,7 @@ impl<F: Unicast, M: PrefixMap<SharedRoute, Addr = F>> RibIn<M> {
     /// Prefetches the route that `take` will find.
     pub(crate) fn prefetch_route(&self, ahead: &ReadAhead<Prefix<F>>) -> usize {
         match ahead.route() {
-            Some(hashed) => self.routes.prefetch_route(hashed),
+            Some(hashed) => self.table.prefetch_route(hashed),
             None => 0,
         }
     }
@@ -246,8 +229,9 @@ impl<F: Unicast, M: PrefixMap<SharedRoute, Addr = F>> RibIn<M> {
     ) -> Result<(), Memory>
         requires { IsAheadOf (lent_payload unit.now.payload) ahead.now }
         ensures { OnOk result
-            (kept_in M.contents self.new ≡ taken (kept_in M.contents self.old) (lent_unit unit.now)) }
+            (kept_in self.new ≡ taken (kept_in self.old) (lent_unit unit.now)) }
     {
+        self.table.give_back(alloc)?;
         self.churn.note_unit(unit);
         self.take_payload(alloc, buffer, unit.place, &unit.payload, ahead)
     }

@@ -12,7 +12,8 @@ use crate::churn::Churn;
 use crate::read_ahead::ReadAhead;
 use crate::retaining::retain_chosen;
 use crate::rib_in::RibIn;
-use crate::shared_route::SharedRoute;
+use crate::route_table::RouteTable;
+use crate::routes::RouteId;
 use bgp_prefix::{Memory, Prefix, PrefixMap};
 use bgp_update::Unicast;
 use mrt_body::{ChosenPrefixes, Damage, LentUnitOf, UnitOf};
@@ -21,13 +22,13 @@ use std::marker::Model;
 
 /// A peer's session with the collector, as far as its units have been taken.
 #[derive(Drop)]
-pub struct Session<M: PrefixMap<SharedRoute>> {
+pub struct Session<M: PrefixMap<RouteId>> {
     rib: RibIn<M>,
     arrivals: Arrivals,
     spent: bool,
 }
 
-impl<M: PrefixMap<SharedRoute>> Model for Session<M> {
+impl<M: PrefixMap<RouteId>> Model for Session<M> {
     ghost use Rattle.std.specs.FinMap as finite;
     ghost use Rattle.adj_rib.specs.Sessions.{SessionState};
 
@@ -36,7 +37,7 @@ impl<M: PrefixMap<SharedRoute>> Model for Session<M> {
     ghost view = { λ s. record {
       up = s.rib.up;
       established = s.rib.established;
-      table = finite.entries (M.contents s.rib.table);
+      table = finite.entries s.rib.table;
       churn = s.rib.churn;
       arrivals = s.arrivals;
       faults = s.rib.faults.items;
@@ -44,7 +45,7 @@ impl<M: PrefixMap<SharedRoute>> Model for Session<M> {
     } };
 }
 
-impl<F: Unicast, M: PrefixMap<SharedRoute, Addr = F>> Session<M> {
+impl<F: Unicast, M: PrefixMap<RouteId, Addr = F> + Drop> Session<M> {
     /// Returns the session of a peer without units, which is up and has no routes. Allocates nothing.
     pub fn new(alloc: Global) -> Session<M>
         ensures { StandsFor result [] }
@@ -113,7 +114,9 @@ impl<F: Unicast, M: PrefixMap<SharedRoute, Addr = F>> Session<M> {
     pub fn prefetch_route(&self, ahead: &ReadAhead<Prefix<F>>) -> usize {
         self.rib.prefetch_route(ahead)
     }
+}
 
+impl<F: Unicast, M: PrefixMap<RouteId, Addr = F>> Session<M> {
     /// Whether the peer is up after the last state change, by its rule, or there was none: then its units are taken.
     pub fn is_up(&self) -> bool
         ensures { result ≡ self.now.up }
@@ -130,8 +133,8 @@ impl<F: Unicast, M: PrefixMap<SharedRoute, Addr = F>> Session<M> {
     }
 
     /// The routes that the peer announced and neither withdrew nor lost with its session.
-    pub fn table(&self) -> &M
-        ensures { finite.entries (M.contents result.now) ≡ self.now.table }
+    pub fn table(&self) -> &RouteTable<M>
+        ensures { finite.entries result.now ≡ self.now.table }
     {
         &self.rib.table
     }

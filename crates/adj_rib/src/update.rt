@@ -11,23 +11,24 @@ ghost use Rattle.adj_rib.specs.Applied.{applied};
 ghost use Rattle.adj_rib.specs.RouteSets.{IsAnnouncement};
 
 use crate::churn::Churn;
-use crate::route_set::{HashedRoute, RouteSet};
-use crate::shared_route::SharedRoute;
-use crate::table::{announce_route, withdraw_key};
+use crate::hashed_route::HashedRoute;
+use crate::route_table::RouteTable;
+use crate::routes::RouteId;
+use crate::table::withdraw_key;
 use bgp_prefix::{KeySet, Memory, Prefix, PrefixMap, RouteKey};
 use bgp_update::{PackedRoute, PackedUpdate, Unicast};
 use std::alloc::Global;
 
 /// Withdraws the keys that are neither announced nor reached.
-fn withdraw_others<F: Unicast, M: PrefixMap<SharedRoute, Addr = F>>(
-    table: &mut M,
+fn withdraw_others<F: Unicast, M: PrefixMap<RouteId, Addr = F>>(
+    table: &mut RouteTable<M>,
     churn: &mut Churn,
     withdrawn: &[RouteKey<Prefix<F>>],
     announced: &KeySet<F>,
     reached: &KeySet<F>,
 )
-    ensures { (M.contents table.new, churn.new)
-        ≡ fold applied (M.contents table.old, churn.old)
+    ensures { (table.new, churn.new)
+        ≡ fold applied (table.old, churn.old)
         (map withdraw (filter (λ key. not (among announced.now key || among reached.now key)) withdrawn.now)) }
 {
     for key in withdrawn {
@@ -37,75 +38,54 @@ fn withdraw_others<F: Unicast, M: PrefixMap<SharedRoute, Addr = F>>(
     }
 }
 
-/// Announces each key with the route.
-fn announce_all<F: Unicast, M: PrefixMap<SharedRoute, Addr = F>>(
-    alloc: Global,
-    table: &mut M,
-    churn: &mut Churn,
-    keys: &[RouteKey<Prefix<F>>],
-    route: &SharedRoute,
-) -> Result<(), Memory>
-    ensures { OnOk result ((M.contents table.new, churn.new)
-        ≡ fold applied (M.contents table.old, churn.old) (map (λ key. announce key route.now) keys.now)) }
-{
-    for key in keys {
-        announce_route(alloc, table, churn, *key, route)?;
-    }
-    Ok(())
-}
-
 /// Announces each key, if any, with the one route that they share.
-fn announce_hashed<F: Unicast, M: PrefixMap<SharedRoute, Addr = F>>(
+fn announce_hashed<F: Unicast, M: PrefixMap<RouteId, Addr = F>>(
     alloc: Global,
-    routes: &mut RouteSet,
-    table: &mut M,
+    table: &mut RouteTable<M>,
     churn: &mut Churn,
     keys: &[RouteKey<Prefix<F>>],
     route: &HashedRoute,
 ) -> Result<(), Memory>
-    ensures { OnOk result ((M.contents table.new, churn.new)
-        ≡ fold applied (M.contents table.old, churn.old) (map (λ key. announce key route.now.route) keys.now)) }
+    ensures { OnOk result ((table.new, churn.new)
+        ≡ fold applied (table.old, churn.old) (map (λ key. announce key route.now.route) keys.now)) }
 {
     if keys.is_empty() {
         return Ok(());
     }
-    let slot = routes.slot_of(alloc, route)?;
-    announce_all(alloc, table, churn, keys, routes.route_at(slot))
+    table.announce_all(alloc, churn, keys, route)
 }
 
 /// Announces each key, if any, with this route.
-fn announce_keys<F: Unicast, M: PrefixMap<SharedRoute, Addr = F>>(
+fn announce_keys<F: Unicast, M: PrefixMap<RouteId, Addr = F>>(
     alloc: Global,
-    routes: &mut RouteSet,
-    table: &mut M,
+    table: &mut RouteTable<M>,
     churn: &mut Churn,
     keys: &[RouteKey<Prefix<F>>],
     route: PackedRoute,
 ) -> Result<(), Memory>
-    ensures { OnOk result ((M.contents table.new, churn.new)
-        ≡ fold applied (M.contents table.old, churn.old) (map (λ key. announce key route) keys.now)) }
+    ensures { OnOk result ((table.new, churn.new)
+        ≡ fold applied (table.old, churn.old) (map (λ key. announce key route) keys.now)) }
 {
     let hashed = HashedRoute::new(route);
-    announce_hashed(alloc, routes, table, churn, keys, &hashed)?;
+    announce_hashed(alloc, table, churn, keys, &hashed)?;
     Ok(())
 }
 
 /// Announces each key that MP_REACH_NLRI has with their route, which is there if there are keys.
 #[tactic(auto, using(crate::proofs::Reached::reached_by))]
-fn announce_reached<F: Unicast, M: PrefixMap<SharedRoute, Addr = F>>(
+fn announce_reached<F: Unicast, M: PrefixMap<RouteId, Addr = F>>(
     alloc: Global,
-    routes: &mut RouteSet,
-    table: &mut M,
+    table: &mut RouteTable<M>,
     churn: &mut Churn,
     keys: &[RouteKey<Prefix<F>>],
     route: Option<PackedRoute>,
 ) -> Result<(), Memory>
-    ensures { OnOk result ((by : Route) → (keys.now ≢ [] → route ≡ Some by) → (M.contents table.new, churn.new)
-        ≡ fold applied (M.contents table.old, churn.old) (map (λ key. announce key by) keys.now)) }
+    ensures { OnOk result ((by : Route) → (keys.now ≢ [] → route ≡ Some by) → (table.new, churn.new)
+        ≡ fold applied (table.old, churn.old) (map (λ key. announce key by) keys.now)) }
 {
     match route {
         Some(route) => {
-            announce_keys(alloc, routes, table, churn, keys, route)?;
+            announce_keys(alloc, table, churn, keys, route)?;
             Ok(())
         }
         None => Ok(()),
@@ -113,16 +93,16 @@ fn announce_reached<F: Unicast, M: PrefixMap<SharedRoute, Addr = F>>(
 }
 
 /// Withdraws what an UPDATE withdraws but neither announces nor reaches.
-fn withdraw_update<F: Unicast, M: PrefixMap<SharedRoute, Addr = F>>(
+fn withdraw_update<F: Unicast, M: PrefixMap<RouteId, Addr = F>>(
     alloc: Global,
-    table: &mut M,
+    table: &mut RouteTable<M>,
     churn: &mut Churn,
     withdrawn: &[RouteKey<Prefix<F>>],
     announced: &[RouteKey<Prefix<F>>],
     reached: &[RouteKey<Prefix<F>>],
 ) -> Result<(), Memory>
-    ensures { OnOk result ((M.contents table.new, churn.new)
-        ≡ fold applied (M.contents table.old, churn.old)
+    ensures { OnOk result ((table.new, churn.new)
+        ≡ fold applied (table.old, churn.old)
         (map withdraw (filter (λ key. not (among announced.now key || among reached.now key)) withdrawn.now))) }
 {
     if !withdrawn.is_empty() {
@@ -134,15 +114,14 @@ fn withdraw_update<F: Unicast, M: PrefixMap<SharedRoute, Addr = F>>(
 }
 
 /// Announces what an UPDATE announces, and then what it reaches by MP_REACH_NLRI.
-fn announce_update<F: Unicast, M: PrefixMap<SharedRoute, Addr = F>>(
+fn announce_update<F: Unicast, M: PrefixMap<RouteId, Addr = F>>(
     alloc: Global,
-    routes: &mut RouteSet,
-    table: &mut M,
+    table: &mut RouteTable<M>,
     churn: &mut Churn,
     update: PackedUpdate<Prefix<F>>,
 ) -> Result<(), Memory>
-    ensures { OnOk result ((M.contents table.new, churn.new)
-        ≡ fold applied (M.contents table.old, churn.old)
+    ensures { OnOk result ((table.new, churn.new)
+        ≡ fold applied (table.old, churn.old)
         (announcements (plain_update update) ++ reachings (plain_update update))) }
 {
     let PackedUpdate {
@@ -154,21 +133,20 @@ fn announce_update<F: Unicast, M: PrefixMap<SharedRoute, Addr = F>>(
         reached_route,
     } = update;
     let (announced, reached) = (announced.as_slice(), reached.as_slice());
-    announce_keys(alloc, routes, table, churn, announced, route)?;
-    announce_reached(alloc, routes, table, churn, reached, reached_route)?;
+    announce_keys(alloc, table, churn, announced, route)?;
+    announce_reached(alloc, table, churn, reached, reached_route)?;
     Ok(())
 }
 
 /// Takes the steps of an UPDATE.
-pub(crate) fn apply_update<F: Unicast, M: PrefixMap<SharedRoute, Addr = F>>(
+pub(crate) fn apply_update<F: Unicast, M: PrefixMap<RouteId, Addr = F>>(
     alloc: Global,
-    routes: &mut RouteSet,
-    table: &mut M,
+    table: &mut RouteTable<M>,
     churn: &mut Churn,
     update: PackedUpdate<Prefix<F>>,
 ) -> Result<(), Memory>
-    ensures { OnOk result ((M.contents table.new, churn.new)
-        ≡ fold applied (M.contents table.old, churn.old) (update_steps (plain_update update))) }
+    ensures { OnOk result ((table.new, churn.new)
+        ≡ fold applied (table.old, churn.old) (update_steps (plain_update update))) }
 {
     withdraw_update(
         alloc,
@@ -178,23 +156,22 @@ pub(crate) fn apply_update<F: Unicast, M: PrefixMap<SharedRoute, Addr = F>>(
         update.announced.as_slice(),
         update.reached.as_slice(),
     )?;
-    announce_update(alloc, routes, table, churn, update)?;
+    announce_update(alloc, table, churn, update)?;
     Ok(())
 }
 
 /// Takes the steps of an UPDATE that announces these keys with this route, and does nothing else.
-pub(crate) fn apply_announcement<F: Unicast, M: PrefixMap<SharedRoute, Addr = F>>(
+pub(crate) fn apply_announcement<F: Unicast, M: PrefixMap<RouteId, Addr = F>>(
     alloc: Global,
-    routes: &mut RouteSet,
-    table: &mut M,
+    table: &mut RouteTable<M>,
     churn: &mut Churn,
     keys: &[RouteKey<Prefix<F>>],
     route: &HashedRoute,
 ) -> Result<(), Memory>
     ensures { OnOk result ((update : Update) → IsAnnouncement keys.now route.now.route update →
-        (M.contents table.new, churn.new)
-        ≡ fold applied (M.contents table.old, churn.old) (update_steps update)) }
+        (table.new, churn.new)
+        ≡ fold applied (table.old, churn.old) (update_steps update)) }
 {
-    announce_hashed(alloc, routes, table, churn, keys, route)?;
+    announce_hashed(alloc, table, churn, keys, route)?;
     Ok(())
 }

@@ -9,10 +9,11 @@ ghost use Rattle.adj_rib.specs.Counting.{change_kind, kind_of, routing_kind};
 ghost use Rattle.adj_rib.specs.Histories.{WatchesFor, chosen_notes, unit_notes};
 
 use crate::churn::Churn;
+use crate::hashed_route::HashedRoute;
 use crate::note::Note;
 use crate::noting::{is_chosen_key, lose_all, note_announcement, note_update};
 use crate::outcome::UnitKind;
-use crate::route_set::{HashedRoute, RouteSet};
+use crate::route_set::RouteSet;
 use crate::shared_route::SharedRoute;
 use bgp_prefix::{Memory, Prefix, PrefixMap, RouteKey};
 use bgp_update::{AttrError, PackedRoute, PackedUpdate, Unicast};

@@ -46,7 +46,7 @@ mod output;
 mod progress;
 mod telling;
 
-use adj_rib::SharedRoute;
+use adj_rib::{RouteId, SharedRoute};
 use bgp_prefix::{Ipv6, Memory, Prefix};
 use bgp_update::Unicast;
 use command_line::{
@@ -401,7 +401,7 @@ fn replay<F: Replayed, R: Threads + Sync>(
     inputs: &mut [Input<'_, '_>],
     out: &mut Output<'_>,
 ) -> Result<Summary, ReplayError> {
-    run::<F, Shelf<F, SharedRoute>, _, _, _, _, _>(
+    run::<F, Shelf<F, RouteId>, Shelf<F, SharedRoute>, _, _, _, _, _>(
         threads,
         rt.alloc(),
         inputs,

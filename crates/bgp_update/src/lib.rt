@@ -21,8 +21,9 @@
 //! - Up to 46 bytes are stored inline: with their length and a count of owners they take an allocation of 64 bytes. In
 //!   generated dumps nine in ten routes are that short. A `Route` takes 200 bytes in two allocations.
 //! - Attributes are packed as they are read (`PackedRoute::read`, `read_packed_update`), without a `Route` in between,
-//!   except for a path of two-octet numbers, which may have to be merged. A next hop is packed as it is written
-//!   (`WrittenHop`). `read_update` still returns a `Route`: it is what definitions speak of.
+//!   except for a path of two-octet numbers, which may have to be merged, and for what doesn't fit inline. Where it
+//!   fits, a next hop is packed as it is written (`WrittenHop`). `read_update` still returns a `Route`: it is what
+//!   definitions speak of.
 //! - Every route that is read can be packed, since each segment has 1 to 255 numbers (`IsWritable`); one made by hand
 //!   need not be, so `PackedRoute::pack` requires it.
 //! - `Route`'s fields are declared in order of size, since the compiler keeps the order: 128 bytes instead of 144.
@@ -50,6 +51,7 @@ mod path;
 mod path_equality;
 mod route;
 mod route_fields;
+mod route_ref;
 mod route_writing;
 mod segment;
 mod short_bytes;
@@ -70,6 +72,7 @@ pub use packed_route::PackedRoute;
 pub use packed_update::PackedUpdate;
 pub use path::{AsPath, Segment, SegmentKind};
 pub use route::{Aggregator, Origin, Route, Update};
+pub use route_ref::RouteRef;
 pub use unicast::Unicast;
 pub use update::{read_attrs, read_update};
 pub use width::Width;

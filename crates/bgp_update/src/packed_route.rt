@@ -1,112 +1,16 @@
-//! A route as one block of bytes, as `route_writing` writes it, and its fields.
+//! A route as one block of bytes, as `route_writing` writes it.
 
-ghost use Rattle.std.specs.Prelude.{◌≡◌, ◌↔◌, ◌+◌, ◌≤◌, length, drop, IfOk, IsTrue};
-ghost use Rattle.std.specs.Option.{option_and_then};
-ghost use Rattle.bgp_update.specs.Packing as packing;
-ghost use Rattle.bgp_update.specs.Packing.{IsPacked, IsWritable, unpacked, hop_by, hop_bits, aggregator_by, flag_bit};
-ghost use Rattle.bgp_update.specs.Paths.{origin_as_of};
+ghost use Rattle.std.specs.Prelude.{◌≡◌, ◌↔◌, IfOk, IsTrue};
+ghost use Rattle.bgp_update.specs.Packing.{IsPacked, IsWritable, unpacked};
 ghost use Rattle.bgp_update.specs.Equality.{route_eq};
 
-use crate::next_hop::NextHop;
-use crate::packed_path::PackedSegments;
-use crate::route::{Aggregator, Origin, Route};
+use crate::route::Route;
+use crate::route_ref::RouteRef;
 use crate::route_writing::push_route;
 use crate::short_bytes::{FewBytes, ShortBytes};
 use bgp_prefix::Memory;
-use byteorder::{BigEndian, ByteOrder};
 use std::alloc::Global;
 use std::marker::Model;
-
-/// Reads the number at a position, if its flag is set.
-fn number_by(bytes: &[u8], bit: u8, at: usize) -> Option<u32>
-    requires { bit ≡ 1 → at + 4 ≤ length bytes.now }
-    ensures { result ≡ packing.number_by bit (drop at bytes.now) }
-{
-    if bit == 1 {
-        Some(BigEndian::read_u32(&bytes[at..]))
-    } else {
-        None
-    }
-}
-
-/// How many bytes a next hop takes.
-fn hop_len(code: u8) -> usize
-    ensures { result ≡ packing.hop_len code }
-{
-    match code {
-        0 => 0,
-        1 => 4,
-        2 => 16,
-        _ => 32,
-    }
-}
-
-/// The position of MULTI_EXIT_DISC, after the next hop.
-#[tactic(auto, unfolding(crate::specs::Packing::med_at))]
-fn med_at(bytes: &[u8]) -> usize
-    requires { 2 ≤ length bytes.now }
-    ensures { result ≡ packing.med_at bytes.now }
-{
-    2 + hop_len(bytes[0] / 8 % 4)
-}
-
-/// The position of LOCAL_PREF.
-#[tactic(auto, unfolding(crate::specs::Packing::med_at, crate::specs::Packing::local_pref_at))]
-fn local_pref_at(bytes: &[u8]) -> usize
-    requires { 2 ≤ length bytes.now }
-    ensures { result ≡ packing.local_pref_at bytes.now }
-{
-    med_at(bytes) + 4 * (bytes[0] / 32 % 2) as usize
-}
-
-/// The position of AGGREGATOR.
-#[tactic(auto, unfolding(crate::specs::Packing::med_at, crate::specs::Packing::local_pref_at, crate::specs::Packing::aggregator_at))]
-fn aggregator_at(bytes: &[u8]) -> usize
-    requires { 2 ≤ length bytes.now }
-    ensures { result ≡ packing.aggregator_at bytes.now }
-{
-    local_pref_at(bytes) + 4 * (bytes[0] / 64 % 2) as usize
-}
-
-/// The position of the path.
-#[tactic(auto, unfolding(crate::specs::Packing::med_at, crate::specs::Packing::local_pref_at, crate::specs::Packing::aggregator_at, crate::specs::Packing::path_at))]
-fn path_at(bytes: &[u8]) -> usize
-    requires { 2 ≤ length bytes.now }
-    ensures { result ≡ packing.path_at bytes.now }
-{
-    aggregator_at(bytes) + 8 * (bytes[0] / 128) as usize
-}
-
-#[tactic(auto, unfolding(crate::specs::Packing::med_at, crate::specs::Packing::local_pref_at, crate::specs::Packing::aggregator_at, crate::specs::Packing::path_at))]
-fn next_hop_in(bytes: &[u8]) -> Option<NextHop>
-    requires { packing.path_at bytes.now ≤ length bytes.now }
-    ensures { result ≡ hop_by (hop_bits bytes.now) (drop 2 bytes.now) }
-{
-    match bytes[0] / 8 % 4 {
-        0 => None,
-        1 => Some(NextHop::V4(BigEndian::read_u32(&bytes[2..]))),
-        2 => Some(NextHop::V6(BigEndian::read_u128(&bytes[2..]))),
-        _ => Some(NextHop::V6Pair(
-            BigEndian::read_u128(&bytes[2..]),
-            BigEndian::read_u128(&bytes[18..]),
-        )),
-    }
-}
-
-#[tactic(auto, unfolding(crate::specs::Packing::med_at, crate::specs::Packing::local_pref_at, crate::specs::Packing::aggregator_at, crate::specs::Packing::path_at))]
-fn aggregator_in(bytes: &[u8]) -> Option<Aggregator>
-    requires { packing.path_at bytes.now ≤ length bytes.now }
-    ensures { result ≡ aggregator_by (flag_bit 128 bytes.now) (drop (packing.aggregator_at bytes.now) bytes.now) }
-{
-    if bytes[0] / 128 == 1 {
-        let at = aggregator_at(bytes);
-        let asn = BigEndian::read_u32(&bytes[at..]);
-        let addr = BigEndian::read_u32(&bytes[at + 4..]);
-        Some(Aggregator { asn, addr })
-    } else {
-        None
-    }
-}
 
 /// A route as one block of bytes, which contracts see as the `Route`. Equal routes have equal bytes. Up to 46 bytes are
 /// stored inline: those of an IPv4 next hop, MULTI_EXIT_DISC and a path of eight numbers in one segment, for example.
@@ -160,17 +64,18 @@ impl PackedRoute {
 
     /// The bytes.
     pub fn as_bytes(&self) -> &[u8]
-        ensures { self.now ≡ unpacked result.now }
+        ensures route { self.now ≡ unpacked result.now }
+        ensures packed { IsPacked result.now }
     {
         self.bytes.as_slice()
     }
 
-    /// Whether the bytes are equal, as those of equal routes are, and only they.
-    #[tactic(auto, using(crate::proofs::Packings::same_packed))]
-    fn has_same_bytes(&self, other: &PackedRoute) -> bool
-        ensures { IsTrue result ↔ (self.now ≡ other.now) }
+    /// The same route, whose bytes are borrowed.
+    #[inline(always)]
+    pub fn route_ref(&self) -> RouteRef<'_>
+        ensures { result ≡ self.now }
     {
-        self.bytes.as_slice() == other.bytes.as_slice()
+        RouteRef::of_bytes(self.bytes.as_slice())
     }
 
     /// Whether the routes are equal.
@@ -178,7 +83,7 @@ impl PackedRoute {
         ensures test { result ≡ route_eq self.now other.now }
         ensures same { IsTrue result ↔ (self.now ≡ other.now) }
     {
-        self.has_same_bytes(other)
+        self.route_ref().is_same(&other.route_ref())
     }
 
     /// Returns an equal route.
@@ -186,83 +91,5 @@ impl PackedRoute {
         ensures { IfOk result (λ copy. copy ≡ self.now) }
     {
         PackedRoute::of_bytes(alloc, self.bytes.as_slice())
-    }
-
-    /// The next hop: NEXT_HOP, or that of MP_REACH_NLRI (RFC 4271, 5.1.3; RFC 4760, 3).
-    #[tactic(auto, using(crate::proofs::Packings::packed_room), unfolding(crate::specs::Packing::unpacked, crate::specs::Packing::med_at, crate::specs::Packing::local_pref_at, crate::specs::Packing::aggregator_at, crate::specs::Packing::path_at))]
-    pub fn next_hop(&self) -> Option<NextHop>
-        ensures { result ≡ self.now.next_hop }
-    {
-        next_hop_in(self.bytes.as_slice())
-    }
-
-    /// MULTI_EXIT_DISC (RFC 4271, 5.1.4).
-    #[tactic(auto, using(crate::proofs::Packings::packed_room), unfolding(crate::specs::Packing::unpacked, crate::specs::Packing::med_at, crate::specs::Packing::local_pref_at, crate::specs::Packing::aggregator_at, crate::specs::Packing::path_at))]
-    pub fn med(&self) -> Option<u32>
-        ensures { result ≡ self.now.med }
-    {
-        let bytes = self.bytes.as_slice();
-        number_by(bytes, bytes[0] / 32 % 2, med_at(bytes))
-    }
-
-    /// LOCAL_PREF (RFC 4271, 5.1.5).
-    #[tactic(auto, using(crate::proofs::Packings::packed_room), unfolding(crate::specs::Packing::unpacked, crate::specs::Packing::med_at, crate::specs::Packing::local_pref_at, crate::specs::Packing::aggregator_at, crate::specs::Packing::path_at))]
-    pub fn local_pref(&self) -> Option<u32>
-        ensures { result ≡ self.now.local_pref }
-    {
-        let bytes = self.bytes.as_slice();
-        number_by(bytes, bytes[0] / 64 % 2, local_pref_at(bytes))
-    }
-
-    /// AGGREGATOR (RFC 4271, 5.1.7).
-    #[tactic(auto, using(crate::proofs::Packings::packed_room), unfolding(crate::specs::Packing::unpacked, crate::specs::Packing::med_at, crate::specs::Packing::local_pref_at, crate::specs::Packing::aggregator_at, crate::specs::Packing::path_at))]
-    pub fn aggregator(&self) -> Option<Aggregator>
-        ensures { result ≡ self.now.aggregator }
-    {
-        aggregator_in(self.bytes.as_slice())
-    }
-
-    /// ORIGIN (RFC 4271, 5.1.1).
-    #[tactic(auto, using(crate::proofs::Packings::packed_room), unfolding(crate::specs::Packing::unpacked, crate::specs::Packing::med_at, crate::specs::Packing::local_pref_at, crate::specs::Packing::aggregator_at, crate::specs::Packing::path_at))]
-    pub fn origin(&self) -> Option<Origin>
-        ensures { result ≡ self.now.origin }
-    {
-        match self.bytes.as_slice()[0] % 4 {
-            0 => Some(Origin::Igp),
-            1 => Some(Origin::Egp),
-            2 => Some(Origin::Incomplete),
-            _ => None,
-        }
-    }
-
-    /// Whether ATOMIC_AGGREGATE is present (RFC 4271, 5.1.6).
-    #[tactic(auto, using(crate::proofs::Packings::packed_room), unfolding(crate::specs::Packing::unpacked, crate::specs::Packing::med_at, crate::specs::Packing::local_pref_at, crate::specs::Packing::aggregator_at, crate::specs::Packing::path_at))]
-    pub fn atomic(&self) -> bool
-        ensures { result ≡ self.now.atomic }
-    {
-        self.bytes.as_slice()[0] / 4 % 2 == 1
-    }
-
-    /// The segments of AS_PATH (RFC 4271, 5.1.2).
-    #[tactic(auto, using(crate::proofs::Packings::packed_room, crate::proofs::Packings::packed_path), unfolding(crate::specs::Packing::unpacked, crate::specs::Packing::med_at, crate::specs::Packing::local_pref_at, crate::specs::Packing::aggregator_at, crate::specs::Packing::path_at))]
-    pub fn path(&self) -> Option<PackedSegments<'_>>
-        ensures { result ≡ self.now.path }
-    {
-        let bytes = self.bytes.as_slice();
-        if bytes[1] == 1 {
-            Some(PackedSegments::of_bytes(&bytes[path_at(bytes)..]))
-        } else {
-            None
-        }
-    }
-
-    /// The origin AS (RFC 6811, 2).
-    pub fn origin_as(&self) -> Option<u32>
-        ensures { result ≡ option_and_then origin_as_of self.now.path }
-    {
-        match self.path() {
-            Some(segments) => segments.origin_as(),
-            None => None,
-        }
     }
 }

@@ -3,8 +3,8 @@ use Rattle.std.proofs.Common.{◌≡◌, ℕ, ◌*◌, ◌^◌, ◌≤◌, ◌<�
 use Rattle.std.specs.Prelude.{◌≢◌}
 use Rattle.std.specs.List.{AllByRecursion}
 use Rattle.std.specs.Fmt.{decimal}
-use Rattle.rib_report.specs.Spellings.{IsIpv6Text}
-use Rattle.rib_report.proofs.SpellingLaws.{HasNo, spelled_have_no}
+use Rattle.ip_text.specs.Spellings.{IsIpv6Text}
+use Rattle.ip_text.proofs.SpellingLaws.{HasNo, spelled_have_no}
 use Rattle.command_line.specs.Addresses.{IsAddress, IsNoAddress}
 use Rattle.command_line.specs.Choices.{SpellsBits, IsPlain}
 use Rattle.command_line.proofs.Points.{digits_above, octet_itself}

@@ -5,9 +5,9 @@ use Rattle.std.specs.Fmt.{decimal}
 use Rattle.std.proofs.lemmas.Fmt.{decimal_injective}
 use Rattle.bgp_prefix.specs.Prefixes.{IpPrefix, IsIpPrefix, network_of}
 use Rattle.mrt_body.specs.declared.choice.Reach.{Reach}
-use Rattle.rib_report.proofs.WrittenLaws.{IsIpv6Text-short_ipv6_text}
-use Rattle.rib_report.specs.Ipv6Texts.{short_ipv6_text}
-use Rattle.rib_report.specs.Spellings.{IsIpv6Text}
+use Rattle.ip_text.proofs.WrittenLaws.{IsIpv6Text-short_ipv6_text}
+use Rattle.ip_text.specs.Ipv6Texts.{short_ipv6_text}
+use Rattle.ip_text.specs.Spellings.{IsIpv6Text}
 use Rattle.command_line.specs.Choices.{IsPlain, IsPrefixWithin, SpellsPrefix, with_length, alone, SpellsReach, short_prefix_text}
 use Rattle.command_line.proofs.Slashes.{is_slash, no_slash, slash_behind, front_of_slash, rest_of_slash}
 use Rattle.command_line.proofs.Marks.{prefix_ends, one_reach}

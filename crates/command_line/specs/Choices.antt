@@ -7,7 +7,7 @@ use Rattle.bgp_prefix.specs.Prefixes.{IpPrefix, IsIpPrefix}
 use Rattle.mrt_body.specs.declared.choice.Reach.{Reach}
 use Rattle.mrt_body.specs.declared.choice.Reach.TheVariants.{Exact, Inside, Around}
 use Rattle.mrt_body.specs.Plain.{PrefixChoice}
-use Rattle.rib_report.specs.Ipv6Texts.{short_ipv6_text}
+use Rattle.ip_text.specs.Ipv6Texts.{short_ipv6_text}
 use Rattle.command_line.specs.Addresses.{IsAddress}
 
 -- the text is an IPv4 address, and these are its bits, as the first of 128

@@ -1,6 +1,6 @@
 -- Texts of addresses by family.
 use Rattle.std.specs.Prelude.{ℕ, List}
-use Rattle.rib_report.specs.Spellings.{IsIpv6Text, IsNoIpv6Text}
+use Rattle.ip_text.specs.Spellings.{IsIpv6Text, IsNoIpv6Text}
 use Rattle.command_line.specs.declared.address_family.AddressFamily.{AddressFamily}
 use Rattle.command_line.specs.declared.address_family.AddressFamily.TheVariants.{Ipv4, Ipv6}
 use Rattle.command_line.specs.Addresses.{IsNoAddress}

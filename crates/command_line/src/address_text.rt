@@ -79,7 +79,7 @@ impl AddressText for u32 {
 }
 
 impl AddressText for Ipv6 {
-    ghost use Rattle.rib_report.specs.Spellings.{IsIpv6Text};
+    ghost use Rattle.ip_text.specs.Spellings.{IsIpv6Text};
     ghost use Rattle.command_line.specs.declared.address_family.AddressFamily.TheVariants.{Ipv6};
 
     ghost FAMILY = { Ipv6 };

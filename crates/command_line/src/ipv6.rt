@@ -1,7 +1,7 @@
 //! IPv6 addresses as text.
 
 ghost use Rattle.std.specs.Prelude.{◌≡◌, ◌+◌, ◌*◌, [], ◌∷◌, IfSome, IfNone};
-ghost use Rattle.rib_report.specs.Spellings.{number_of_groups, IsIpv6Text, IsNoIpv6Text};
+ghost use Rattle.ip_text.specs.Spellings.{number_of_groups, IsIpv6Text, IsNoIpv6Text};
 
 use bgp_prefix::Ipv6;
 use std::net::Ipv6Addr;

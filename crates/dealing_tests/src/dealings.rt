@@ -1,7 +1,7 @@
 //! Rows on dealings: whichever lane a peer has, the reports are the same.
 
 use crate::plans::{PLAN, full};
-use adj_rib::SharedRoute;
+use adj_rib::{RouteId, SharedRoute};
 use bgp_prefix::{Flat, PrefixMap, Radix};
 use fixtures::{THREE_PEERS, THREE_ROUTES, bytes_of, message_of};
 use lane_deal::{ByBlocks, ByList, ByTurns, Dealing, NoGate, Plan};
@@ -25,7 +25,7 @@ struct Dumped {
 }
 
 /// Replays the file by this dealing, which takes at most so many rounds.
-fn check_dealing<M: PrefixMap<SharedRoute, Addr = u32> + Send + Sync + Drop, D: Dealing + Sync>(
+fn check_dealing<M: PrefixMap<RouteId, Addr = u32> + Send + Sync + Drop, D: Dealing + Sync>(
     rt: &(impl Threads + Abort + Sync),
     alloc: Global,
     file: &Dumped,
@@ -36,7 +36,7 @@ fn check_dealing<M: PrefixMap<SharedRoute, Addr = u32> + Send + Sync + Drop, D: 
     assert!(rt; plan.check());
     let mut readers = [Counted::new(file.bytes.as_slice())];
     let mut out = Counted::new(Vec::<u8>::new(alloc));
-    let summary = run::<_, M, _, _, _, _, _>(
+    let summary = run::<_, M, Shelf<u32, SharedRoute>, _, _, _, _, _>(
         rt,
         alloc,
         &mut readers,
@@ -66,7 +66,7 @@ fn check_dealing<M: PrefixMap<SharedRoute, Addr = u32> + Send + Sync + Drop, D: 
 }
 
 /// Replays the file by turns, by blocks and by this list.
-fn check_dealings<M: PrefixMap<SharedRoute, Addr = u32> + Send + Sync + Drop>(
+fn check_dealings<M: PrefixMap<RouteId, Addr = u32> + Send + Sync + Drop>(
     rt: &(impl Threads + Abort + Sync),
     alloc: Global,
     file: &Dumped,
@@ -80,7 +80,7 @@ fn check_dealings<M: PrefixMap<SharedRoute, Addr = u32> + Send + Sync + Drop>(
 }
 
 /// Replays the file by each number of workers, and each ring, batch and greatest number of rounds.
-fn check_plans<M: PrefixMap<SharedRoute, Addr = u32> + Send + Sync + Drop>(
+fn check_plans<M: PrefixMap<RouteId, Addr = u32> + Send + Sync + Drop>(
     rt: &(impl Threads + Abort + Sync),
     alloc: Global,
     file: &Dumped,
@@ -112,9 +112,9 @@ fn three_peers_have_the_same_tables_by_every_dealing(rt: HostRuntime) -> Result<
     };
     let rings = [(1, 1, 17), (1, 8, 12), (4, 8, 4), (65_536, 1_048_576, 2)];
     let list = ByList::new(vec![in alloc; 1, 1, 0]?);
-    check_plans::<Radix<u32, SharedRoute>>(&rt, alloc, &file, &[1, 2, 3, 64], &rings, &list)?;
-    check_plans::<Flat<u32, SharedRoute>>(&rt, alloc, &file, &[1, 2, 3, 64], &rings, &list)?;
-    check_plans::<Shelf<u32, SharedRoute>>(&rt, alloc, &file, &[1, 2, 3, 64], &rings, &list)
+    check_plans::<Radix<u32, RouteId>>(&rt, alloc, &file, &[1, 2, 3, 64], &rings, &list)?;
+    check_plans::<Flat<u32, RouteId>>(&rt, alloc, &file, &[1, 2, 3, 64], &rings, &list)?;
+    check_plans::<Shelf<u32, RouteId>>(&rt, alloc, &file, &[1, 2, 3, 64], &rings, &list)
 }
 
 /// 300 announcements, each by a peer of another address, 198.18.0.0 to 198.18.1.43.
@@ -152,7 +152,7 @@ fn long_list(alloc: Global) -> Result<ByList, Fail> {
 }
 
 /// Replays 300 peers with this map.
-fn check_three_hundred<M: PrefixMap<SharedRoute, Addr = u32> + Send + Sync + Drop>(
+fn check_three_hundred<M: PrefixMap<RouteId, Addr = u32> + Send + Sync + Drop>(
     rt: &(impl Threads + Abort + Sync),
     alloc: Global,
 ) -> Result<(), Fail> {
@@ -169,15 +169,15 @@ fn check_three_hundred<M: PrefixMap<SharedRoute, Addr = u32> + Send + Sync + Dro
 
 #[test]
 fn three_hundred_peers_have_the_same_tables_in_tries(rt: HostRuntime) -> Result<(), Fail> {
-    check_three_hundred::<Radix<u32, SharedRoute>>(&rt, rt.alloc())
+    check_three_hundred::<Radix<u32, RouteId>>(&rt, rt.alloc())
 }
 
 #[test]
 fn three_hundred_peers_have_the_same_tables_in_shelves(rt: HostRuntime) -> Result<(), Fail> {
-    check_three_hundred::<Shelf<u32, SharedRoute>>(&rt, rt.alloc())
+    check_three_hundred::<Shelf<u32, RouteId>>(&rt, rt.alloc())
 }
 
 #[test]
 fn three_hundred_peers_have_the_same_tables_in_lists(rt: HostRuntime) -> Result<(), Fail> {
-    check_three_hundred::<Flat<u32, SharedRoute>>(&rt, rt.alloc())
+    check_three_hundred::<Flat<u32, RouteId>>(&rt, rt.alloc())
 }

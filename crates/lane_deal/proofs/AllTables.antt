@@ -17,7 +17,7 @@ use Rattle.peer_tables.specs.Seats.{seat_of}
 use Rattle.peer_tables.specs.Tables.{Seat, TablesState, tables_of}
 use Rattle.bgp_prefix.specs.declared.family.Family.{Ghosts as AddressGhosts}
 use Rattle.bgp_prefix.specs.declared.map.PrefixMap.{Ghosts}
-use Rattle.adj_rib.specs.declared.shared_route.SharedRoute.{SharedRoute}
+use Rattle.adj_rib.specs.declared.routes.RouteId.{RouteId}
 use Rattle.lane_deal.specs.Dealers.{Dealer}
 use Rattle.lane_deal.specs.Plain.{Feed, Worker}
 use Rattle.lane_deal.specs.declared.seats.Seats.{Seats}
@@ -67,7 +67,7 @@ shown_by f w = record {
   took = w.taken;
 }
 
-module _ {M A : Type 0} {g : Ghosts M SharedRoute A} {a : AddressGhosts A} where
+module _ {M A : Type 0} {g : Ghosts M RouteId A} {a : AddressGhosts A} where
   pub seats_shown : (fs : List Feed) (ws : List (Worker (Seats M A g a))) → length ws ≡ length fs → flat_map (λ lane. lane.seats) (lane_states fs ws) ≡ seats_of_workers ws
   seats_shown [] [] e = refl
   seats_shown [] (w ∷ ws) e = absurd (omega arith)

@@ -10,7 +10,7 @@ use Rattle.mrt_body.specs.Plain.{Unit as ReplayUnit}
 use Rattle.peer_tables.specs.Peers.{peer_eq, peers_of}
 use Rattle.bgp_prefix.specs.declared.family.Family.{Ghosts as AddressGhosts}
 use Rattle.bgp_prefix.specs.declared.map.PrefixMap.{Ghosts}
-use Rattle.adj_rib.specs.declared.shared_route.SharedRoute.{SharedRoute}
+use Rattle.adj_rib.specs.declared.routes.RouteId.{RouteId}
 use Rattle.lane_deal.specs.Plain.{Feed, Numbered, Worker}
 use Rattle.lane_deal.specs.declared.seats.Seats.{Seats}
 use Rattle.lane_deal.specs.Feeds.{in_lane}
@@ -93,7 +93,7 @@ dealt_items-append units more rest keys e =
 
 -- ---- one lane
 
-module _ {M A : Type 0} {g : Ghosts M SharedRoute A} {a : AddressGhosts A} (lane_of : ℕ → ℕ) (units more : List ReplayUnit) (lane capacity : ℕ) (f : Feed) (w : Worker (Seats M A g a)) where
+module _ {M A : Type 0} {g : Ghosts M RouteId A} {a : AddressGhosts A} (lane_of : ℕ → ℕ) (units more : List ReplayUnit) (lane capacity : ℕ) (f : Feed) (w : Worker (Seats M A g a)) where
   abbrev all : List ReplayUnit
   all = units ++ more
 
@@ -165,7 +165,7 @@ module _ {M A : Type 0} {g : Ghosts M SharedRoute A} {a : AddressGhosts A} (lane
 
 -- ---- all lanes
 
-module _ {M A : Type 0} {g : Ghosts M SharedRoute A} {a : AddressGhosts A} where
+module _ {M A : Type 0} {g : Ghosts M RouteId A} {a : AddressGhosts A} where
   pub length-lane_states : (fs : List Feed) (ws : List (Worker (Seats M A g a))) → length ws ≡ length fs → length (lane_states fs ws) ≡ length fs
   length-lane_states [] ws e = refl
   length-lane_states (f ∷ fs) [] e = absurd (omega arith)

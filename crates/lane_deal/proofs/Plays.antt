@@ -15,7 +15,7 @@ use Rattle.mrt_body.specs.ToCome.{UnitsState}
 use Rattle.peer_tables.specs.Peers.{peers_of}
 use Rattle.bgp_prefix.specs.declared.family.Family.{Ghosts as AddressGhosts}
 use Rattle.bgp_prefix.specs.declared.map.PrefixMap.{Ghosts}
-use Rattle.adj_rib.specs.declared.shared_route.SharedRoute.{SharedRoute}
+use Rattle.adj_rib.specs.declared.routes.RouteId.{RouteId}
 use Rattle.lane_deal.specs.Dealers.{Dealer}
 use Rattle.lane_deal.specs.Plain.{Feed, Worker}
 use Rattle.lane_deal.specs.declared.plan.Plan.{Plan}
@@ -78,7 +78,7 @@ no_more given left e = nil_from_length left (let n = ap length e in omega (arith
 
 -- ---- fresh lanes
 
-module _ {M A : Type 0} {g : Ghosts M SharedRoute A} {a : AddressGhosts A} where
+module _ {M A : Type 0} {g : Ghosts M RouteId A} {a : AddressGhosts A} where
   pub ready_fresh : (capacity workers : ℕ) (fs : List Feed) (ws : List (Worker (Seats M A g a))) → AreFresh SeatsHold capacity workers fs ws → AreReady capacity fs ws
   ready_fresh capacity workers fs ws h = (h.workers_count ∙ sym h.feeds_count, λ lane x y l. (h.each lane x y (let c = h.feeds_count in omega arith)).ready)
 
@@ -93,7 +93,7 @@ some_settled dealing capacity old new s some = ∥∥₁_map some (λ h. record 
 
 -- ---- a round
 
-module _ {M A D : Type 0} {g : Ghosts M SharedRoute A} {a : AddressGhosts A} where
+module _ {M A D : Type 0} {g : Ghosts M RouteId A} {a : AddressGhosts A} where
   module _ (dealing : ℕ → ℕ → ℕ) (capacity : ℕ) (fs : List Feed) (ws : List (Worker (Seats M A g a))) (d : Dealer D) (spent : Bool) (ready : AreReady capacity fs ws) where
     abbrev lane_of : ℕ → ℕ
     lane_of n = dealing n (length fs)
@@ -276,7 +276,7 @@ module _ {M A D : Type 0} {g : Ghosts M SharedRoute A} {a : AddressGhosts A} whe
 
 -- ---- what waits
 
-module _ {M A : Type 0} {g : Ghosts M SharedRoute A} {a : AddressGhosts A} (capacity : ℕ) (fs : List Feed) (ws : List (Worker (Seats M A g a))) (ready : AreReady capacity fs ws) where
+module _ {M A : Type 0} {g : Ghosts M RouteId A} {a : AddressGhosts A} (capacity : ℕ) (fs : List Feed) (ws : List (Worker (Seats M A g a))) (ready : AreReady capacity fs ws) where
   -- the dealer knows how many units wait
   pub waits_at : (lane : ℕ) (state : LaneState) → slice_get (lane_states fs ws) lane ≡ Some state → (d : Feed) (n : ℕ) → n + known_free (get_or fs lane d).producer ≡ ring_capacity (get_or fs lane d).producer → n ≡ length state.ring.sent
   waits_at lane state is d n count =

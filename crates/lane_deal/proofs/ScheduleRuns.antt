@@ -8,7 +8,7 @@ use Rattle.mrt_body.specs.Plain.{Unit as ReplayUnit}
 use Rattle.peer_tables.specs.Peers.{peer_eq, peers_of}
 use Rattle.bgp_prefix.specs.declared.family.Family.{Ghosts as AddressGhosts}
 use Rattle.bgp_prefix.specs.declared.map.PrefixMap.{Ghosts}
-use Rattle.adj_rib.specs.declared.shared_route.SharedRoute.{SharedRoute}
+use Rattle.adj_rib.specs.declared.routes.RouteId.{RouteId}
 use Rattle.lane_deal.specs.Plain.{Numbered}
 use Rattle.lane_deal.specs.declared.schedule.OneLane.{OneLane}
 use Rattle.lane_deal.specs.Lanes.{number_of_peer, lane_of_unit}
@@ -50,7 +50,7 @@ same_if : (f : ℕ → List ReplayUnit) (lane other : ℕ) → (if eqb lane othe
 same_if f lane other =
     elim (eqb lane other) as (λ b. eqb lane other ≡ b → (if b then f lane else f other) ≡ f other) [ true ↦ λ t. ap f (eqb-true lane other t) | false ↦ λ _. refl ] refl
 
-module _ {M A : Type 0} {g : Ghosts M SharedRoute A} {a : AddressGhosts A} where
+module _ {M A : Type 0} {g : Ghosts M RouteId A} {a : AddressGhosts A} where
   -- ---- empty lanes
 
   pub record AreEmpty (lanes : List (OneLane M A g a)) : Type 0 where

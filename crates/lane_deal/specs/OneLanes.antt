@@ -4,7 +4,7 @@ use Rattle.peer_tables.specs.declared.tables.Seated.{Seated}
 use Rattle.peer_tables.specs.Tables.{Seat}
 use Rattle.bgp_prefix.specs.declared.family.Family.{Ghosts as AddressGhosts}
 use Rattle.bgp_prefix.specs.declared.map.PrefixMap.{Ghosts}
-use Rattle.adj_rib.specs.declared.shared_route.SharedRoute.{SharedRoute}
+use Rattle.adj_rib.specs.declared.routes.RouteId.{RouteId}
 use Rattle.lane_deal.specs.Plain.{Numbered}
 use Rattle.lane_deal.specs.declared.schedule.OneLane.{OneLane}
 use Rattle.lane_deal.specs.Collecting.{seats_held}
@@ -15,7 +15,7 @@ pub record OneLaneState (M A : Type 0) : Type 0 where
   pub seats : List (Seated M A)
   pub took : ℕ
 
-module _ {M A : Type 0} {g : Ghosts M SharedRoute A} {a : AddressGhosts A} where
+module _ {M A : Type 0} {g : Ghosts M RouteId A} {a : AddressGhosts A} where
   abbrev pub one_lane_state : OneLane M A g a → OneLaneState M A
   one_lane_state lane = record { ring = lane.ring.items; seats = lane.seats.seats.items; took = lane.took }
 

@@ -4,14 +4,14 @@ use Rattle.lane_deal.specs.UnitRings.{sent, known_free, received, known_items}
 use Rattle.peer_tables.specs.Seats.{seat_of}
 use Rattle.bgp_prefix.specs.declared.family.Family.{Ghosts as AddressGhosts}
 use Rattle.bgp_prefix.specs.declared.map.PrefixMap.{Ghosts}
-use Rattle.adj_rib.specs.declared.shared_route.SharedRoute.{SharedRoute}
+use Rattle.adj_rib.specs.declared.routes.RouteId.{RouteId}
 use Rattle.lane_deal.specs.Dealers.{Dealer}
 use Rattle.lane_deal.specs.Plain.{Feed, Numbered, Worker}
 use Rattle.lane_deal.specs.declared.seats.Seats.{Seats}
 use Rattle.lane_deal.specs.Replayers.{LaneState, ReplayerState}
 use Rattle.lane_deal.specs.Seating.{HoldsUnits}
 
-module _ {M A : Type 0} {g : Ghosts M SharedRoute A} {a : AddressGhosts A} where
+module _ {M A : Type 0} {g : Ghosts M RouteId A} {a : AddressGhosts A} where
   abbrev pub lane_state : Feed → Worker (Seats M A g a) → LaneState
   lane_state feed worker = record {
     ring = record {

@@ -5,7 +5,7 @@ use Rattle.peer_tables.specs.Peers.{peers_of}
 use Rattle.bgp_prefix.specs.declared.family.Family.{Ghosts as AddressGhosts}
 use Rattle.bgp_prefix.specs.declared.map.PrefixMap.{Ghosts}
 use Rattle.bgp_update.specs.declared.unicast.Unicast.{Ghosts as UnicastGhosts}
-use Rattle.adj_rib.specs.declared.shared_route.SharedRoute.{SharedRoute}
+use Rattle.adj_rib.specs.declared.routes.RouteId.{RouteId}
 use Rattle.lane_deal.specs.Plain.{Numbered}
 use Rattle.lane_deal.specs.declared.schedule.OneLane.{OneLane}
 use Rattle.lane_deal.specs.declared.scheduled.Lanes.{Lanes}
@@ -14,7 +14,7 @@ use Rattle.lane_deal.specs.OneLanes.{one_lane_state}
 use Rattle.lane_deal.specs.Schedules.{LanesState, IsShared}
 use Rattle.lane_deal.specs.Shown.{SeatsHold}
 
-module _ {M A : Type 0} {g : Ghosts M SharedRoute A} {a : AddressGhosts A} where
+module _ {M A : Type 0} {g : Ghosts M RouteId A} {a : AddressGhosts A} where
   -- the units that wait in the lane and those that it took, of these
   pub record LaneShows (all : List ReplayUnit) (lane : OneLane M A g a) (waiting taken : List ReplayUnit)
       : Type 0 where
@@ -29,7 +29,7 @@ module _ {M A : Type 0} {g : Ghosts M SharedRoute A} {a : AddressGhosts A} where
         LaneShows all (slice_index_or lanes lane d) (s.ring lane) (s.taken lane)
     pub past : (lane : ℕ) → length lanes ≤ lane → (s.ring lane ≡ []) × (s.taken lane ≡ [])
 
-module _ {M A : Type 0} {g : Ghosts M SharedRoute A} {a : AddressGhosts A} {u : UnicastGhosts A} where
+module _ {M A : Type 0} {g : Ghosts M RouteId A} {a : AddressGhosts A} {u : UnicastGhosts A} where
   -- Lanes that deal these units are in this state: what each took and what waits in its ring are, in order, its own of
   -- those dealt.
   pub record Shows (all : List ReplayUnit) (lanes : Lanes M A g a u) (s : LanesState) : Type 0 where

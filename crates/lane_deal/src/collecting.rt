@@ -9,7 +9,7 @@ ghost use Rattle.lane_deal.specs.Collecting.{ExchangedBelow, seats_held};
 use crate::holding::{HoldsSeats, exchange_seats};
 use crate::seats::Seats;
 use crate::worker::WorkerOf;
-use adj_rib::SharedRoute;
+use adj_rib::RouteId;
 use bgp_prefix::{Memory, PrefixMap, Sequence};
 use bgp_update::Unicast;
 use mrt_body::Damage;
@@ -17,8 +17,7 @@ use peer_tables::{Gathered, Seated, Tables, collect};
 use std::alloc::Global;
 
 /// The worker of a lane.
-impl<F: Unicast, M: PrefixMap<SharedRoute, Addr = F> + Drop> HoldsSeats<M>
-    for WorkerOf<Seats<M>, F> {
+impl<F: Unicast, M: PrefixMap<RouteId, Addr = F> + Drop> HoldsSeats<M> for WorkerOf<Seats<M>, F> {
     ghost use Rattle.std.specs.Prelude.{refl};
     ghost use Rattle.lane_deal.specs.Collecting.{WorkerState, worker_state};
 
@@ -38,7 +37,7 @@ impl<F: Unicast, M: PrefixMap<SharedRoute, Addr = F> + Drop> HoldsSeats<M>
 }
 
 /// So many empty lists.
-fn empty_lists<F: Unicast, M: PrefixMap<SharedRoute, Addr = F> + Drop>(
+fn empty_lists<F: Unicast, M: PrefixMap<RouteId, Addr = F> + Drop>(
     alloc: Global,
     count: usize,
 ) -> Result<Vec<Sequence<Seated<M>>>, Memory>
@@ -52,7 +51,7 @@ fn empty_lists<F: Unicast, M: PrefixMap<SharedRoute, Addr = F> + Drop>(
 }
 
 /// Exchanges the sessions of each lane for those of its list.
-fn exchange_all<F: Unicast, M: PrefixMap<SharedRoute, Addr = F> + Drop, L: HoldsSeats<M>>(
+fn exchange_all<F: Unicast, M: PrefixMap<RouteId, Addr = F> + Drop, L: HoldsSeats<M>>(
     alloc: Global,
     lanes: &mut [L],
     lists: &mut [Sequence<Seated<M>>],
@@ -66,11 +65,7 @@ fn exchange_all<F: Unicast, M: PrefixMap<SharedRoute, Addr = F> + Drop, L: Holds
 }
 
 /// The tables of all sessions and the refusals, or both as they were.
-pub fn collect_lanes<
-    F: Unicast,
-    M: PrefixMap<SharedRoute, Addr = F> + Drop,
-    L: HoldsSeats<M> + Drop,
->(
+pub fn collect_lanes<F: Unicast, M: PrefixMap<RouteId, Addr = F> + Drop, L: HoldsSeats<M> + Drop>(
     alloc: Global,
     mut lanes: Vec<L>,
     refused: Vec<Damage>,

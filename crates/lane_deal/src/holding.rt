@@ -3,7 +3,7 @@
 ghost use Rattle.std.specs.Prelude.{◌≡◌};
 
 use crate::seats::Seats;
-use adj_rib::SharedRoute;
+use adj_rib::RouteId;
 use bgp_prefix::{PrefixMap, Sequence};
 use bgp_update::Unicast;
 use peer_tables::Seated;
@@ -11,7 +11,7 @@ use std::alloc::Global;
 use std::mem;
 
 /// What holds a lane's sessions, which can be swapped in and out.
-pub trait HoldsSeats<M: PrefixMap<SharedRoute>> {
+pub trait HoldsSeats<M: PrefixMap<RouteId>> {
     ghost use Rattle.std.specs.Prelude.{List};
     ghost use Rattle.peer_tables.specs.declared.tables.Seated.{Seated};
 
@@ -36,7 +36,7 @@ pub trait HoldsSeats<M: PrefixMap<SharedRoute>> {
 }
 
 /// Swaps the sessions for those of the list.
-pub fn exchange_seats<F: Unicast, M: PrefixMap<SharedRoute, Addr = F> + Drop>(
+pub fn exchange_seats<F: Unicast, M: PrefixMap<RouteId, Addr = F> + Drop>(
     alloc: Global,
     seats: &mut Seats<M>,
     list: &mut Sequence<Seated<M>>,

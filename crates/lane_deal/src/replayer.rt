@@ -19,7 +19,7 @@ use crate::seats::Seats;
 use crate::state::State;
 use crate::step::Step;
 use crate::worker::{Patience, WorkerOf};
-use adj_rib::SharedRoute;
+use adj_rib::RouteId;
 use bgp_prefix::{Memory, PrefixMap};
 use bgp_update::Unicast;
 use mrt_body::Units;
@@ -30,7 +30,7 @@ use std::thread::Threads;
 
 /// Deals what the files yield to lanes, round by round.
 #[derive(Drop)]
-pub struct Replayer<M: PrefixMap<SharedRoute>, D: Dealing>
+pub struct Replayer<M: PrefixMap<RouteId>, D: Dealing>
 where
     M::Addr: Unicast,
 {
@@ -57,11 +57,10 @@ fn state_after(answer: &Result<Step, ReplayError>) -> State
     }
 }
 
-impl<
-    F: Unicast + Send,
-    M: PrefixMap<SharedRoute, Addr = F> + Send + Drop,
-    D: Dealing + Send,
-> Replayer<M, D> {
+impl<F: Unicast + Send, M: PrefixMap<RouteId, Addr = F> + Send + Drop, D: Dealing + Send> Replayer<
+    M,
+    D,
+> {
     ghost use Rattle.std.specs.Prelude.{◌≡◌, ◌≢◌, ◌<◌, ◌+◌, ◌↔◌, ℕ, IfOk, OnOk, OnErr, IfErr, IsErr, IsTrue, None, length, map, min, ◌^◌, ◌-◌, []};
     ghost use Rattle.lane_deal.specs.declared.state.State.TheVariants.{Running, Spent};
     ghost use Rattle.lane_deal.specs.Answers.{IfAnswered, Repeats};
@@ -192,7 +191,7 @@ impl<
     }
 }
 
-impl<F: Unicast, M: PrefixMap<SharedRoute, Addr = F> + Drop, D: Dealing + Drop> Replayer<M, D> {
+impl<F: Unicast, M: PrefixMap<RouteId, Addr = F> + Drop, D: Dealing + Drop> Replayer<M, D> {
     ghost use Rattle.std.specs.Prelude.{◌≡◌, ◌≢◌, List, IfOk, IfErr, IsErr};
     ghost use Rattle.mrt_body.specs.declared.unit.Damage.{Damage};
     ghost use Rattle.mrt_body.specs.Plain.{Unit as ReplayUnit};
@@ -258,7 +257,7 @@ impl<F: Unicast, M: PrefixMap<SharedRoute, Addr = F> + Drop, D: Dealing + Drop> 
     }
 }
 
-impl<M: PrefixMap<SharedRoute>, D: Dealing> Replayer<M, D>
+impl<M: PrefixMap<RouteId>, D: Dealing> Replayer<M, D>
 where
     M::Addr: Unicast,
 {

@@ -16,7 +16,7 @@ use crate::seats::Seats;
 use crate::sessions::Sessions;
 use crate::turn::Turn;
 use crate::unit_list::LentItem;
-use adj_rib::{ReadAhead, SharedRoute};
+use adj_rib::{ReadAhead, RouteId};
 use bgp_prefix::{Memory, PrefixMap, Sequence};
 use bgp_update::Unicast;
 use mrt_body::UnitOf;
@@ -26,7 +26,7 @@ use std::collections::VecDeque;
 
 /// A lane whose ring has no bound.
 #[derive(Drop)]
-pub struct OneLane<M: PrefixMap<SharedRoute>>
+pub struct OneLane<M: PrefixMap<RouteId>>
 where
     M::Addr: Unicast,
 {
@@ -36,7 +36,7 @@ where
 }
 
 /// A lane's sessions are those of its peers.
-impl<F: Unicast, M: PrefixMap<SharedRoute, Addr = F> + Drop> HoldsSeats<M> for OneLane<M> {
+impl<F: Unicast, M: PrefixMap<RouteId, Addr = F> + Drop> HoldsSeats<M> for OneLane<M> {
     ghost use Rattle.std.specs.Prelude.{refl};
     ghost use Rattle.lane_deal.specs.OneLanes.{OneLaneState, one_lane_state};
 
@@ -72,7 +72,7 @@ fn number_all<F: Unicast>(
 }
 
 /// Makes lanes to which nothing has been dealt.
-fn empty_lanes<F: Unicast, M: PrefixMap<SharedRoute, Addr = F> + Drop>(
+fn empty_lanes<F: Unicast, M: PrefixMap<RouteId, Addr = F> + Drop>(
     alloc: Global,
     count: usize,
 ) -> Result<Vec<OneLane<M>>, Memory>
@@ -91,7 +91,7 @@ fn empty_lanes<F: Unicast, M: PrefixMap<SharedRoute, Addr = F> + Drop>(
 }
 
 /// Moves the first undealt unit to the end of its lane's ring.
-fn deal<F: Unicast, M: PrefixMap<SharedRoute, Addr = F> + Drop, D: Dealing>(
+fn deal<F: Unicast, M: PrefixMap<RouteId, Addr = F> + Drop, D: Dealing>(
     undealt: &mut VecDeque<NumberedOf<F>>,
     lanes: &mut [OneLane<M>],
     dealing: &D,
@@ -110,7 +110,7 @@ fn deal<F: Unicast, M: PrefixMap<SharedRoute, Addr = F> + Drop, D: Dealing>(
 }
 
 /// Passes the first unit in a ring to its session.
-fn take_one<F: Unicast, M: PrefixMap<SharedRoute, Addr = F> + Drop>(
+fn take_one<F: Unicast, M: PrefixMap<RouteId, Addr = F> + Drop>(
     alloc: Global,
     lane: &mut OneLane<M>,
 ) -> Result<(), Memory>
@@ -130,7 +130,7 @@ fn take_one<F: Unicast, M: PrefixMap<SharedRoute, Addr = F> + Drop>(
 }
 
 /// Passes the first unit in a lane's ring to its session.
-fn take_from<F: Unicast, M: PrefixMap<SharedRoute, Addr = F> + Drop>(
+fn take_from<F: Unicast, M: PrefixMap<RouteId, Addr = F> + Drop>(
     alloc: Global,
     lanes: &mut [OneLane<M>],
     lane: usize,
@@ -145,7 +145,7 @@ fn take_from<F: Unicast, M: PrefixMap<SharedRoute, Addr = F> + Drop>(
 }
 
 /// Applies one event.
-fn apply<F: Unicast, M: PrefixMap<SharedRoute, Addr = F> + Drop, D: Dealing>(
+fn apply<F: Unicast, M: PrefixMap<RouteId, Addr = F> + Drop, D: Dealing>(
     alloc: Global,
     undealt: &mut VecDeque<NumberedOf<F>>,
     lanes: &mut [OneLane<M>],
@@ -164,7 +164,7 @@ fn apply<F: Unicast, M: PrefixMap<SharedRoute, Addr = F> + Drop, D: Dealing>(
 }
 
 /// Applies the events in order to lanes to which nothing was dealt.
-fn apply_all<F: Unicast, M: PrefixMap<SharedRoute, Addr = F> + Drop, D: Dealing>(
+fn apply_all<F: Unicast, M: PrefixMap<RouteId, Addr = F> + Drop, D: Dealing>(
     alloc: Global,
     undealt: &mut VecDeque<NumberedOf<F>>,
     lanes: &mut [OneLane<M>],
@@ -183,7 +183,7 @@ fn apply_all<F: Unicast, M: PrefixMap<SharedRoute, Addr = F> + Drop, D: Dealing>
 }
 
 /// Applies the events in order to the lanes of so many workers, where at first none of the units is dealt.
-pub fn run_schedule<F: Unicast, M: PrefixMap<SharedRoute, Addr = F> + Drop, D: Dealing>(
+pub fn run_schedule<F: Unicast, M: PrefixMap<RouteId, Addr = F> + Drop, D: Dealing>(
     alloc: Global,
     units: Vec<UnitOf<F>>,
     turns: &[Turn],

@@ -8,7 +8,7 @@ ghost use Rattle.lane_deal.specs.OneLanes.{seats_of_lanes};
 use crate::collecting::collect_lanes;
 use crate::numbered::NumberedOf;
 use crate::schedule::OneLane;
-use adj_rib::SharedRoute;
+use adj_rib::RouteId;
 use bgp_prefix::{Memory, PrefixMap};
 use bgp_update::Unicast;
 use peer_tables::Tables;
@@ -17,7 +17,7 @@ use std::collections::VecDeque;
 
 /// Lanes on one thread. No peer's number appears twice among their sessions.
 #[derive(Drop)]
-pub struct Lanes<M: PrefixMap<SharedRoute>>
+pub struct Lanes<M: PrefixMap<RouteId>>
 where
     M::Addr: Unicast,
 {
@@ -27,7 +27,7 @@ where
         (map (λ seat. seat.number) (seats_of_lanes lanes.items)) } by { IsDistinct-prop nat_eq _ },
 }
 
-impl<M: PrefixMap<SharedRoute>> Lanes<M>
+impl<M: PrefixMap<RouteId>> Lanes<M>
 where
     M::Addr: Unicast,
 {
@@ -65,7 +65,7 @@ where
     }
 }
 
-impl<F: Unicast, M: PrefixMap<SharedRoute, Addr = F> + Drop> Lanes<M> {
+impl<F: Unicast, M: PrefixMap<RouteId, Addr = F> + Drop> Lanes<M> {
     ghost use Rattle.std.specs.Prelude.{◌≡◌, ℕ, List, [], length, IfOk, IfErr};
     ghost use Rattle.mrt_body.specs.Plain.{Unit as ReplayUnit};
     ghost use Rattle.peer_tables.specs.Tables.{tables_of};

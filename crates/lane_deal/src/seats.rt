@@ -9,7 +9,7 @@ ghost use Rattle.lane_deal.specs.Seating.{AreIndexed, SeatFor, TakenAt};
 
 use crate::sessions::Sessions;
 use crate::unit_list::{LentItemOf, UnitListOf};
-use adj_rib::{ReadAhead, Session, SharedRoute};
+use adj_rib::{ReadAhead, RouteId, Session};
 use bgp_prefix::{Memory, Prefix, PrefixMap};
 use bgp_update::Unicast;
 use mrt_body::{LentUnitOf, PeerKey};
@@ -22,7 +22,7 @@ const MOST_NEAR: usize = 32;
 
 /// The sessions of one lane, in the order in which their peers first appeared.
 #[derive(Drop)]
-pub struct Seats<M: PrefixMap<SharedRoute>> {
+pub struct Seats<M: PrefixMap<RouteId>> {
     pub seats: Vec<Seated<M>>,
     /// The position of each session, by its peer's number.
     positions: Vec<Option<usize>>,
@@ -37,7 +37,7 @@ pub struct Seats<M: PrefixMap<SharedRoute>> {
 
 /// Returns the position of this number's session, found by a linear scan.
 #[inline(never)]
-fn scan<M: PrefixMap<SharedRoute>>(seats: &[Seated<M>], number: usize) -> Option<usize>
+fn scan<M: PrefixMap<RouteId>>(seats: &[Seated<M>], number: usize) -> Option<usize>
     ensures { MatchOption result
         (list_any (λ s. s.number == number) (map seat_of seats.now) ≡ false) (λ at. (at < length seats.now) ×
         ((d : _) → (slice_index_or (map seat_of seats.now) at d).number ≡ number)) }
@@ -52,7 +52,7 @@ fn scan<M: PrefixMap<SharedRoute>>(seats: &[Seated<M>], number: usize) -> Option
 
 /// Whether this number's session is at that position.
 #[inline(always)]
-fn stands_at<M: PrefixMap<SharedRoute>>(seats: &[Seated<M>], at: usize, number: usize) -> bool
+fn stands_at<M: PrefixMap<RouteId>>(seats: &[Seated<M>], at: usize, number: usize) -> bool
     ensures here { result ≡ true → (at < length seats.now) ×
         ((d : _) → (slice_index_or (map seat_of seats.now) at d).number ≡ number) }
     ensures elsewhere { slice_get (map (λ seat. seat.number) seats.now) at ≡ Some number → result ≡ true }
@@ -79,7 +79,7 @@ fn remember(positions: &mut Vec<Option<usize>>, number: usize, at: usize) -> Res
 
 /// Passes the unit to the session at that position.
 #[inline(always)]
-fn take_at<F: Unicast, M: PrefixMap<SharedRoute, Addr = F>>(
+fn take_at<F: Unicast, M: PrefixMap<RouteId, Addr = F> + Drop>(
     alloc: Global,
     buffer: &mut Vec<u8>,
     seats: &mut [Seated<M>],
@@ -95,7 +95,7 @@ fn take_at<F: Unicast, M: PrefixMap<SharedRoute, Addr = F>>(
     seats[at].session.take_ahead(alloc, buffer, unit, ahead)
 }
 
-impl<M: PrefixMap<SharedRoute>> Seats<M> {
+impl<M: PrefixMap<RouteId>> Seats<M> {
     /// Returns the position recorded for this number.
     #[inline(always)]
     fn position_of(&self, number: usize) -> Option<usize>
@@ -164,7 +164,7 @@ impl<M: PrefixMap<SharedRoute>> Seats<M> {
     }
 }
 
-impl<F: Unicast, M: PrefixMap<SharedRoute, Addr = F> + Drop> Seats<M> {
+impl<F: Unicast, M: PrefixMap<RouteId, Addr = F> + Drop> Seats<M> {
     /// Makes a session for this number, after the others. It is seldom needed, and its locals are no part of the
     /// worker's loop.
     #[inline(never)]
@@ -220,7 +220,7 @@ impl<F: Unicast, M: PrefixMap<SharedRoute, Addr = F> + Drop> Seats<M> {
     }
 }
 
-impl<F: Unicast, M: PrefixMap<SharedRoute, Addr = F> + Drop> Sessions for Seats<M> {
+impl<F: Unicast, M: PrefixMap<RouteId, Addr = F> + Drop> Sessions for Seats<M> {
     ghost use Rattle.std.specs.Prelude.{map};
     ghost use Rattle.peer_tables.specs.Seats.{seat_of};
     ghost use Rattle.lane_deal.specs.Seating.{HoldsUnits};

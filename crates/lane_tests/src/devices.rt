@@ -1,7 +1,7 @@
 //! What is left at a read that fails: the units and the refusals before it.
 
 use crate::playing::{PLAN, Play};
-use adj_rib::SharedRoute;
+use adj_rib::RouteId;
 use bgp_prefix::Radix;
 use fixtures::{Dripping, THREE_PEERS, bytes_of};
 use lane_deal::Plan;
@@ -50,7 +50,7 @@ fn play_of<'a>(
     alloc: Global,
     rest: &'a [u8],
     workers: usize,
-) -> Play<Radix<u32, SharedRoute>, Counted<Dripping<'a>>> {
+) -> Play<Radix<u32, RouteId>, Counted<Dripping<'a>>> {
     let plan = Plan {
         workers,
         batch: 1_048_576,

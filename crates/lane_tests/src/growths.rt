@@ -3,7 +3,7 @@
 //! test, for N = 1, 2 and so on. A growth that is refused to a test itself ends it with an error.
 
 use crate::playing::{PLAN, Play};
-use adj_rib::SharedRoute;
+use adj_rib::RouteId;
 use bgp_prefix::{Memory, PrefixMap, Radix};
 use fixtures::{THREE_PEERS, bytes_of};
 use lane_deal::Plan;
@@ -24,7 +24,7 @@ const THREE_TABLES: &str = "65000 192.0.2.1|10.0.0.0/8|65000|192.0.2.1|IGP|-|-|-
 ";
 
 /// A replay of these bytes.
-fn play_of<'a, M: PrefixMap<SharedRoute, Addr = u32> + Send + Drop>(
+fn play_of<'a, M: PrefixMap<RouteId, Addr = u32> + Send + Drop>(
     rt: &impl Abort,
     alloc: Global,
     bytes: &'a [u8],
@@ -36,7 +36,7 @@ fn play_of<'a, M: PrefixMap<SharedRoute, Addr = u32> + Send + Drop>(
 }
 
 /// Plays rounds to the end. Answers whether there was memory for them.
-fn plays_rounds<M: PrefixMap<SharedRoute, Addr = u32> + Send + Drop>(
+fn plays_rounds<M: PrefixMap<RouteId, Addr = u32> + Send + Drop>(
     rt: &(impl Threads + Abort + Sync),
     alloc: Global,
     play: &mut Play<M, Counted<&[u8]>>,
@@ -52,7 +52,7 @@ fn plays_rounds<M: PrefixMap<SharedRoute, Addr = u32> + Send + Drop>(
 }
 
 /// Expects the tables of a replay that is settled.
-fn expect_tables<M: PrefixMap<SharedRoute, Addr = u32> + Send + Drop>(
+fn expect_tables<M: PrefixMap<RouteId, Addr = u32> + Send + Drop>(
     rt: &impl Abort,
     alloc: Global,
     play: Play<M, Counted<&[u8]>>,
@@ -63,7 +63,7 @@ fn expect_tables<M: PrefixMap<SharedRoute, Addr = u32> + Send + Drop>(
 }
 
 /// Rounds, a settling and the tables, or a replayer that is spent.
-fn play_to_the_end<M: PrefixMap<SharedRoute, Addr = u32> + Send + Drop>(
+fn play_to_the_end<M: PrefixMap<RouteId, Addr = u32> + Send + Drop>(
     rt: &(impl Threads + Abort + Sync),
     alloc: Global,
     plan: Plan,
@@ -86,6 +86,6 @@ fn rounds_give_the_tables_or_spend_the_replayer(rt: HostRuntime) -> Result<(), F
         batch: 2,
         ..PLAN
     };
-    play_to_the_end::<Shelf<u32, SharedRoute>>(&rt, alloc, small)?;
-    play_to_the_end::<Radix<u32, SharedRoute>>(&rt, alloc, PLAN)
+    play_to_the_end::<Shelf<u32, RouteId>>(&rt, alloc, small)?;
+    play_to_the_end::<Radix<u32, RouteId>>(&rt, alloc, PLAN)
 }

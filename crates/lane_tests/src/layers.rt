@@ -2,7 +2,7 @@
 
 ghost use Rattle.std.specs.Prelude.{◌≡◌, [], ◌∷◌, IfOk, map};
 
-use adj_rib::{Session, SharedRoute};
+use adj_rib::{RouteId, Session};
 use bgp_prefix::{Radix, Sequence};
 use fixtures::bytes_of;
 use mrt_body::{Found, PeerAddr, PeerKey, Selection, Unit, Units};
@@ -50,7 +50,7 @@ pub fn unit_in(rt: &impl Abort, alloc: Global, words: &str) -> Result<Unit, Fail
 #[test]
 fn a_session_is_up_in_the_state_established_alone(rt: HostRuntime) -> Result<(), Fail> {
     let alloc = rt.alloc();
-    let mut session = Session::<Radix<u32, SharedRoute>>::new(alloc);
+    let mut session = Session::<Radix<u32, RouteId>>::new(alloc);
     assert!(rt; session.is_up() && !session.is_spent());
     assert!(rt; session.churn().first.is_none() && session.faults().is_empty());
     for (record, is_up, resets) in [
@@ -70,7 +70,7 @@ fn a_session_is_up_in_the_state_established_alone(rt: HostRuntime) -> Result<(),
 fn take(
     rt: &impl Abort,
     alloc: Global,
-    session: &mut Session<Radix<u32, SharedRoute>>,
+    session: &mut Session<Radix<u32, RouteId>>,
     record: &str,
 ) -> Result<(), Fail> {
     let unit = unit_in(rt, alloc, record)?;
@@ -78,7 +78,7 @@ fn take(
 }
 
 /// A session that took the announcement of 10.0.0.0/8.
-fn session_of(rt: &impl Abort, alloc: Global) -> Result<Session<Radix<u32, SharedRoute>>, Fail> {
+fn session_of(rt: &impl Abort, alloc: Global) -> Result<Session<Radix<u32, RouteId>>, Fail> {
     let mut session = Session::new(alloc);
     take(rt, alloc, &mut session, "announcement")?;
     Ok(session)
@@ -90,7 +90,7 @@ fn lane_of(
     alloc: Global,
     number: usize,
     addr: u32,
-) -> Result<Sequence<Seated<Radix<u32, SharedRoute>>>, Fail>
+) -> Result<Sequence<Seated<Radix<u32, RouteId>>>, Fail>
     ensures { IfOk result (λ lane. map (λ seat. seat.number) lane ≡ number ∷ []) }
 {
     let session = session_of(rt, alloc)?;
@@ -110,9 +110,9 @@ fn lane_of(
 /// What two lanes hand in, without refusals.
 fn two_lanes(
     alloc: Global,
-    first: Sequence<Seated<Radix<u32, SharedRoute>>>,
-    second: Sequence<Seated<Radix<u32, SharedRoute>>>,
-) -> Result<Gathered<Radix<u32, SharedRoute>>, Fail>
+    first: Sequence<Seated<Radix<u32, RouteId>>>,
+    second: Sequence<Seated<Radix<u32, RouteId>>>,
+) -> Result<Gathered<Radix<u32, RouteId>>, Fail>
     ensures { IfOk result (λ gathered. gathered.lanes ≡ first ∷ second ∷ []) }
 {
     let mut lanes = Vec::new(alloc);
@@ -128,7 +128,7 @@ fn two_lanes(
 fn expect_two_peers(
     rt: &impl Abort,
     alloc: Global,
-    tables: &Tables<Radix<u32, SharedRoute>>,
+    tables: &Tables<Radix<u32, RouteId>>,
 ) -> Result<(), Fail> {
     assert_eq!(rt; tables.peers(), 2);
     match table_rows(alloc, tables)?.as_slice() {

@@ -7,7 +7,7 @@ ghost use Rattle.lane_deal.specs.Playing.{shown};
 ghost use Rattle.lane_deal.specs.Rounds.{IsSettled};
 ghost use Rattle.lane_deal.specs.declared.state.State.TheVariants.{Spent};
 
-use adj_rib::SharedRoute;
+use adj_rib::RouteId;
 use bgp_prefix::{Memory, PrefixMap};
 use lane_deal::{ByTurns, Dealing, NoGate, Plan, Replayer, Step};
 use mrt_body::{Selection, Units};
@@ -50,14 +50,14 @@ fn answer_name(answer: &Result<Step, ReplayError>) -> &'static str {
 
 /// A replay under way.
 #[derive(Drop)]
-pub struct Play<M: PrefixMap<SharedRoute, Addr = u32>, R> {
+pub struct Play<M: PrefixMap<RouteId, Addr = u32>, R> {
     lanes: usize,
     readers: Vec<R>,
     units: Units,
     replayer: Replayer<M, ByTurns>,
 }
 
-impl<M: PrefixMap<SharedRoute, Addr = u32> + Send + Drop, R: Source + Send + Drop> Play<M, R> {
+impl<M: PrefixMap<RouteId, Addr = u32> + Send + Drop, R: Source + Send + Drop> Play<M, R> {
     pub fn new(
         rt: &impl Abort,
         alloc: Global,
@@ -250,7 +250,7 @@ impl<M: PrefixMap<SharedRoute, Addr = u32> + Send + Drop, R: Source + Send + Dro
 }
 
 /// The routes and the churn of these tables.
-fn text_of<M: PrefixMap<SharedRoute, Addr = u32>>(
+fn text_of<M: PrefixMap<RouteId, Addr = u32>>(
     alloc: Global,
     tables: &Tables<M>,
 ) -> Result<Vec<u8>, ReplayError> {
@@ -259,7 +259,7 @@ fn text_of<M: PrefixMap<SharedRoute, Addr = u32>>(
     Ok(Vec::from_slice(alloc, out.device().as_slice())?)
 }
 
-fn write_text<M: PrefixMap<SharedRoute, Addr = u32>>(
+fn write_text<M: PrefixMap<RouteId, Addr = u32>>(
     alloc: Global,
     tables: &Tables<M>,
     out: &mut Counted<Vec<u8>>,
@@ -270,7 +270,7 @@ fn write_text<M: PrefixMap<SharedRoute, Addr = u32>>(
 }
 
 /// The tables of a replayer. Where a growth is refused it comes back, and the call is made again.
-fn tables_of<M: PrefixMap<SharedRoute, Addr = u32> + Drop>(
+fn tables_of<M: PrefixMap<RouteId, Addr = u32> + Drop>(
     rt: &impl Abort,
     alloc: Global,
     replayer: Replayer<M, ByTurns>,
@@ -292,7 +292,7 @@ fn tables_of<M: PrefixMap<SharedRoute, Addr = u32> + Drop>(
 }
 
 /// Whether its tables can be had: all rings are empty, or it is spent.
-fn may_end<M: PrefixMap<SharedRoute, Addr = u32>, D: Dealing>(replayer: &Replayer<M, D>) -> bool
+fn may_end<M: PrefixMap<RouteId, Addr = u32>, D: Dealing>(replayer: &Replayer<M, D>) -> bool
     ensures { result ≡ true → replayer.now.state ≢ Spent → IsSettled (shown replayer.now) }
 {
     if replayer.is_spent() {

@@ -2,7 +2,7 @@
 //! a failure.
 
 use crate::playing::rows::play_rows;
-use adj_rib::SharedRoute;
+use adj_rib::RouteId;
 use bgp_prefix::{Flat, Radix};
 use prefix_shelf::Shelf;
 use std::alloc::Global;
@@ -113,9 +113,9 @@ into_tables Ok
 
 /// Plays so many rows on replayers with each map.
 fn play_each(rt: &(impl Threads + Abort + Sync), alloc: Global, table: &str, rows: usize) {
-    assert!(rt; play_rows::<Radix<u32, SharedRoute>>(rt, alloc, table) == rows);
-    assert!(rt; play_rows::<Flat<u32, SharedRoute>>(rt, alloc, table) == rows);
-    assert!(rt; play_rows::<Shelf<u32, SharedRoute>>(rt, alloc, table) == rows);
+    assert!(rt; play_rows::<Radix<u32, RouteId>>(rt, alloc, table) == rows);
+    assert!(rt; play_rows::<Flat<u32, RouteId>>(rt, alloc, table) == rows);
+    assert!(rt; play_rows::<Shelf<u32, RouteId>>(rt, alloc, table) == rows);
 }
 
 #[test]

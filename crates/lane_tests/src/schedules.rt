@@ -1,7 +1,7 @@
 //! Lanes on one thread, by a list of events.
 
 use crate::layers::found_in;
-use adj_rib::SharedRoute;
+use adj_rib::RouteId;
 use bgp_prefix::{Flat, Memory, PrefixMap, Radix};
 use fixtures::THREE_PEERS;
 use lane_deal::{ByTurns, Lanes, Turn, run_schedule};
@@ -31,7 +31,7 @@ fn units_in(rt: &impl Abort, alloc: Global, words: &str) -> Result<Vec<Unit>, Fa
 }
 
 /// The lanes of two workers on one thread, after a list of events: some find nothing.
-pub fn scheduled<M: PrefixMap<SharedRoute, Addr = u32> + Drop>(
+pub fn scheduled<M: PrefixMap<RouteId, Addr = u32> + Drop>(
     rt: &impl Abort,
     alloc: Global,
 ) -> Result<Result<Lanes<M>, Memory>, Fail> {
@@ -50,7 +50,7 @@ pub fn scheduled<M: PrefixMap<SharedRoute, Addr = u32> + Drop>(
 }
 
 /// The tables of what lanes took. Where a growth is refused they come back, and the call is made again.
-fn tables_of_lanes<M: PrefixMap<SharedRoute, Addr = u32> + Drop>(
+fn tables_of_lanes<M: PrefixMap<RouteId, Addr = u32> + Drop>(
     rt: &impl Abort,
     alloc: Global,
     lanes: Lanes<M>,
@@ -72,7 +72,7 @@ fn tables_of_lanes<M: PrefixMap<SharedRoute, Addr = u32> + Drop>(
 }
 
 /// Expects what waits and was taken where events that find nothing change nothing.
-fn expect_counts<M: PrefixMap<SharedRoute, Addr = u32> + Drop>(rt: &impl Abort, lanes: &Lanes<M>) {
+fn expect_counts<M: PrefixMap<RouteId, Addr = u32> + Drop>(rt: &impl Abort, lanes: &Lanes<M>) {
     assert!(rt; lanes.undealt() == 2);
     for (lane, waiting, took) in [(0, 1, 1), (1, 0, 1), (2, 0, 0), (7, 0, 0)] {
         assert!(rt; lanes.waiting(lane) == waiting, "waiting for {lane}");
@@ -81,7 +81,7 @@ fn expect_counts<M: PrefixMap<SharedRoute, Addr = u32> + Drop>(rt: &impl Abort, 
 }
 
 /// Expects a route of each of the two peers.
-fn expect_routes<M: PrefixMap<SharedRoute, Addr = u32>>(
+fn expect_routes<M: PrefixMap<RouteId, Addr = u32>>(
     rt: &impl Abort,
     alloc: Global,
     tables: &Tables<M>,
@@ -103,7 +103,7 @@ fn expect_routes<M: PrefixMap<SharedRoute, Addr = u32>>(
     Ok(())
 }
 
-fn check_turns<M: PrefixMap<SharedRoute, Addr = u32> + Drop>(
+fn check_turns<M: PrefixMap<RouteId, Addr = u32> + Drop>(
     rt: &impl Abort,
     alloc: Global,
 ) -> Result<(), Fail> {
@@ -115,7 +115,7 @@ fn check_turns<M: PrefixMap<SharedRoute, Addr = u32> + Drop>(
 
 #[test]
 fn turns_that_find_nothing_change_nothing(rt: HostRuntime) -> Result<(), Fail> {
-    check_turns::<Radix<u32, SharedRoute>>(&rt, rt.alloc())?;
-    check_turns::<Shelf<u32, SharedRoute>>(&rt, rt.alloc())?;
-    check_turns::<Flat<u32, SharedRoute>>(&rt, rt.alloc())
+    check_turns::<Radix<u32, RouteId>>(&rt, rt.alloc())?;
+    check_turns::<Shelf<u32, RouteId>>(&rt, rt.alloc())?;
+    check_turns::<Flat<u32, RouteId>>(&rt, rt.alloc())
 }

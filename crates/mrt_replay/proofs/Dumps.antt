@@ -6,7 +6,7 @@ use Rattle.mrt_frame.proofs.Hexadecimal.{hex}
 use Rattle.bgp_update.specs.Families.{ipv4}
 use Rattle.mrt_body.specs.Choices.{all_units}
 use Rattle.mrt_body.proofs.Dumps.{marker_16, session_four, session_two, plain_attributes, announcement_of, announcement_with}
-use Rattle.rib_report.specs.declared.forms.AddressForm.TheVariants.{Full}
+use Rattle.ip_text.specs.declared.address_form.AddressForm.TheVariants.{Full}
 use Rattle.rib_report.specs.Plain.{Layout, Request}
 use Rattle.mrt_replay.specs.Reports.{report}
 

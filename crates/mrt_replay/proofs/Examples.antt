@@ -25,7 +25,7 @@ use Rattle.adj_rib.specs.Sessions.{session_of}
 use Rattle.peer_tables.specs.Histories.{history_of, history_rows, watches_of}
 use Rattle.peer_tables.specs.Peers.{peers_of}
 use Rattle.peer_tables.specs.Tables.{tables_of}
-use Rattle.rib_report.specs.AddressTexts.{address_text}
+use Rattle.ip_text.specs.AddressTexts.{address_text}
 use Rattle.rib_report.specs.declared.request.Request.TheVariants.{Tables, Visibility, Origins, Churn, Match, Faults}
 use Rattle.mrt_replay.specs.Reports.{text, report}
 use Rattle.mrt_replay.proofs.Dumps.{update, head_four, by_second, by_third, by_other_hop, by_path_of, of_host_bits, of_three, withdrawn_and_announced, two_octet_path, longer_as4_path, with_aggregators, of_seven, withdrawal_of_seven, cut_identifier, rib_of_seven, reached_with, reached, reached_by_ipv6, reached_twice, unreached, row, AreReports}

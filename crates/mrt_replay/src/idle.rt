@@ -1,6 +1,6 @@
 //! The units that changed nothing, since their peers weren't up.
 
-use adj_rib::SharedRoute;
+use adj_rib::{RouteId, SharedRoute};
 use bgp_prefix::PrefixMap;
 use bgp_update::Unicast;
 use mrt_body::PeerKey;
@@ -56,7 +56,7 @@ impl Idle {
 }
 
 /// Returns the idle units that tables counted.
-pub(crate) fn idle_of_tables<F: Unicast, M: PrefixMap<SharedRoute, Addr = F>>(
+pub(crate) fn idle_of_tables<F: Unicast, M: PrefixMap<RouteId, Addr = F>>(
     tables: &Tables<M>,
 ) -> Idle {
     let mut idle = Idle::new();

@@ -15,7 +15,7 @@ use crate::idle::{idle_of_tables, idle_of_watches};
 use crate::replayed::replay;
 use crate::summary::Summary;
 use crate::told::Told;
-use adj_rib::SharedRoute;
+use adj_rib::{RouteId, SharedRoute};
 use bgp_prefix::{Family, PrefixMap};
 use bgp_update::Unicast;
 use lane_deal::{Dealing, Gate, Plan};
@@ -38,7 +38,7 @@ use std::thread::Threads;
 /// Nothing is written before the last record has been read and the report's rows have been made, so `Read`,
 /// `Memory` and `Records` leave nothing written; `Write` leaves a leading part of the report. Workers, ring,
 /// batch and dealing don't affect what is written.
-pub fn run<F, M, T, R, W, D, G>(
+pub fn run<F, M, N, T, R, W, D, G>(
     rt: &T,
     alloc: Global,
     files: &mut [R],
@@ -52,7 +52,8 @@ pub fn run<F, M, T, R, W, D, G>(
 ) -> Result<Summary, ReplayError>
 where
     F: WrittenAddress + Send + Sync,
-    M: PrefixMap<SharedRoute, Addr = F> + Send + Sync + Drop,
+    M: PrefixMap<RouteId, Addr = F> + Send + Sync + Drop,
+    N: PrefixMap<SharedRoute, Addr = F> + Drop,
     T: Threads + Sync,
     R: Source + Send,
     W: Sink,
@@ -82,7 +83,7 @@ where
     ensures untouched { IfErr result (λ e. (e ≡ errors.Write → ⊥) → out.new ≡ out.old) }
 {
     match listing_of(request, selection.prefixes()) {
-        Some(listing) => run_history::<F, M, R, W, G>(
+        Some(listing) => run_history::<F, N, R, W, G>(
             alloc, files, request, layout, listing, selection, plan, gate, out,
         ),
         None => run_on_tables::<F, M, T, R, W, D, G>(
@@ -146,7 +147,7 @@ fn run_on_tables<F, M, T, R, W, D, G>(
 ) -> Result<Summary, ReplayError>
 where
     F: WrittenAddress + Send + Sync,
-    M: PrefixMap<SharedRoute, Addr = F> + Send + Sync + Drop,
+    M: PrefixMap<RouteId, Addr = F> + Send + Sync + Drop,
     T: Threads + Sync,
     R: Source + Send,
     W: Sink,
@@ -317,10 +318,7 @@ fn tell_history_faults<F: Unicast, M: PrefixMap<SharedRoute, Addr = F>, G: Gate>
 }
 
 /// Reports each listed fault to the gate.
-fn tell_faults<F: Unicast, M: PrefixMap<SharedRoute, Addr = F>, G: Gate>(
-    gate: &G,
-    tables: &Tables<M>,
-) {
+fn tell_faults<F: Unicast, M: PrefixMap<RouteId, Addr = F>, G: Gate>(gate: &G, tables: &Tables<M>) {
     for damage in tables.refused() {
         gate.listed(damage, true);
     }
@@ -335,7 +333,7 @@ fn tell_faults<F: Unicast, M: PrefixMap<SharedRoute, Addr = F>, G: Gate>(
 /// if there are so many workers, the rows of `visibility`, `origins` and `seen`.
 fn write_report<
     F: WrittenAddress + Send + Sync,
-    M: PrefixMap<SharedRoute, Addr = F> + Sync + Drop,
+    M: PrefixMap<RouteId, Addr = F> + Sync + Drop,
     T: Threads + Sync,
     W: Sink,
 >(

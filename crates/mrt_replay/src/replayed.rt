@@ -8,7 +8,7 @@ ghost use Rattle.lane_deal.specs.Plans.{IsPlan};
 ghost use Rattle.lane_deal.specs.Playing.{shown};
 ghost use Rattle.mrt_replay.specs.Replays.{HasPlayed, IsReplayOf, StopsFiles, StopsReplay};
 
-use adj_rib::SharedRoute;
+use adj_rib::RouteId;
 use bgp_prefix::PrefixMap;
 use bgp_update::Unicast;
 use lane_deal::{Dealing, Gate, Plan, Replayer, Step};
@@ -21,7 +21,7 @@ use std::thread::Threads;
 
 /// The result of replaying files: the tables of all peers, and what was counted.
 #[derive(Drop)]
-pub struct Replayed<M: PrefixMap<SharedRoute>> {
+pub struct Replayed<M: PrefixMap<RouteId>> {
     pub tables: Tables<M>,
     pub records: u64,
     pub units: u64,
@@ -51,7 +51,7 @@ fn play<F, M, T, R, D, G>(
 ) -> Result<(), ReplayError>
 where
     F: Unicast + Send,
-    M: PrefixMap<SharedRoute, Addr = F> + Send + Drop,
+    M: PrefixMap<RouteId, Addr = F> + Send + Drop,
     T: Threads + Sync,
     R: Source + Send,
     D: Dealing + Send,
@@ -97,7 +97,7 @@ pub fn replay<F, M, T, R, D, G>(
 ) -> Result<Replayed<M>, ReplayError>
 where
     F: Unicast + Send,
-    M: PrefixMap<SharedRoute, Addr = F> + Send + Drop,
+    M: PrefixMap<RouteId, Addr = F> + Send + Drop,
     T: Threads + Sync,
     R: Source + Send,
     D: Dealing + Sync,

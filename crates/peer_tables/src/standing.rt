@@ -8,7 +8,7 @@ ghost use Rattle.peer_tables.specs.Tables.{Seat, TablesState, IsCollected, table
 ghost use Rattle.peer_tables.specs.Gathers.{gathered_seats};
 ghost use Rattle.peer_tables.specs.Standing.{AreSeatsOf, StandFor};
 
-use adj_rib::SharedRoute;
+use adj_rib::RouteId;
 use bgp_prefix::PrefixMap;
 
 /// Units and refusals have exactly one value of the tables that stand for them.
@@ -28,7 +28,7 @@ pub fn collected_stand_for_units()
 
 /// What `collect` returns doesn't depend on how the sessions were spread over the lanes, nor on their order
 /// there: if the lanes hold the same sessions and the refusals are the same, the tables are the same.
-pub fn lanes_make_no_difference<M: PrefixMap<SharedRoute>>()
+pub fn lanes_make_no_difference<M: PrefixMap<RouteId>>()
     ensures { (gathered others : LanesIn M M.Addr) (tables other : TablesState) →
         IsPermutation (gathered_seats gathered) (gathered_seats others) → gathered.refused ≡ others.refused →
         IsCollected (gathered_seats gathered) gathered.refused tables →

@@ -8,7 +8,7 @@ ghost use Rattle.peer_tables.specs.Tables.{Seat, TablesState, IsCollected, all_f
 ghost use Rattle.peer_tables.specs.Gathers.{gathered_seats};
 ghost use Rattle.peer_tables.specs.Seats.{seat_of};
 
-use adj_rib::{Session, SharedRoute};
+use adj_rib::{RouteId, Session};
 use bgp_prefix::{Memory, PrefixMap, Sequence};
 use bgp_update::Unicast;
 use mrt_body::{ChosenPrefixes, Damage, PeerKey};
@@ -17,7 +17,7 @@ use std::marker::Model;
 
 /// A session under its peer's number.
 #[derive(Drop)]
-pub struct Seated<M: PrefixMap<SharedRoute>> {
+pub struct Seated<M: PrefixMap<RouteId>> {
     pub number: usize,
     pub key: PeerKey,
     pub session: Session<M>,
@@ -25,19 +25,19 @@ pub struct Seated<M: PrefixMap<SharedRoute>> {
 
 /// What the lanes pass to `collect`.
 #[derive(Drop)]
-pub struct Gathered<M: PrefixMap<SharedRoute>> {
+pub struct Gathered<M: PrefixMap<RouteId>> {
     pub lanes: Sequence<Sequence<Seated<M>>>,
     pub refused: Sequence<Damage>,
 }
 
 /// One session for each peer, by number, and the refusals.
 #[derive(Drop)]
-pub struct Tables<M: PrefixMap<SharedRoute>> {
+pub struct Tables<M: PrefixMap<RouteId>> {
     seats: Vec<Seated<M>>,
     refused: Vec<Damage>,
 }
 
-impl<M: PrefixMap<SharedRoute>> Model for Tables<M> {
+impl<M: PrefixMap<RouteId>> Model for Tables<M> {
     ghost use Rattle.std.specs.Prelude.{map};
     ghost use Rattle.peer_tables.specs.Tables.{TablesState};
     ghost use Rattle.peer_tables.specs.Seats.{seat_of};
@@ -47,7 +47,7 @@ impl<M: PrefixMap<SharedRoute>> Model for Tables<M> {
     ghost view = { λ t. record { seats = map seat_of t.seats.items; refused = t.refused.items } };
 }
 
-impl<M: PrefixMap<SharedRoute>> Tables<M> {
+impl<M: PrefixMap<RouteId>> Tables<M> {
     /// The sessions, by number.
     pub fn seats(&self) -> &[Seated<M>]
         ensures { map seat_of result.now ≡ self.now.seats }
@@ -70,7 +70,7 @@ impl<M: PrefixMap<SharedRoute>> Tables<M> {
     }
 }
 
-impl<F: Unicast, M: PrefixMap<SharedRoute, Addr = F>> Tables<M> {
+impl<F: Unicast, M: PrefixMap<RouteId, Addr = F>> Tables<M> {
     /// The number of listed faults: the refusals and all damaged units. Saturates at `u64::MAX`.
     pub fn damaged(&self) -> u64
         ensures { result ≡ min (length (all_faults self.now)) (2 ^ 64 - 1) }
@@ -103,7 +103,7 @@ impl<F: Unicast, M: PrefixMap<SharedRoute, Addr = F>> Tables<M> {
 
 /// Removes the routes of prefixes that aren't chosen from each session.
 #[tactic(auto, using(crate::proofs::ChosenLaws::chosen_none, crate::proofs::ChosenLaws::chosen_all))]
-fn retain_seats<F: Unicast, M: PrefixMap<SharedRoute, Addr = F>>(
+fn retain_seats<F: Unicast, M: PrefixMap<RouteId, Addr = F>>(
     alloc: Global,
     chosen: &ChosenPrefixes<F>,
     seats: &mut [Seated<M>],
@@ -117,7 +117,7 @@ fn retain_seats<F: Unicast, M: PrefixMap<SharedRoute, Addr = F>>(
 }
 
 /// Returns the number of routes in the tables of these sessions. Saturates at `u64::MAX`.
-pub fn count_routes<F: Unicast, M: PrefixMap<SharedRoute, Addr = F>>(seats: &[Seated<M>]) -> u64
+pub fn count_routes<F: Unicast, M: PrefixMap<RouteId, Addr = F>>(seats: &[Seated<M>]) -> u64
     ensures { result ≡ min (length (seat_routes (map seat_of seats.now))) (2 ^ 64 - 1) }
 {
     let mut count = 0u64;
@@ -153,7 +153,7 @@ fn move_all<T: Drop>(mut lanes: Vec<Sequence<T>>, all: &mut Vec<T>)
 
 /// Collects each session passed in, once, by its peer's number, and the refusals. An `Err` returns what was
 /// passed in, unchanged.
-pub fn collect<F: Unicast, M: PrefixMap<SharedRoute, Addr = F> + Drop>(
+pub fn collect<F: Unicast, M: PrefixMap<RouteId, Addr = F> + Drop>(
     alloc: Global,
     gathered: Gathered<M>,
 ) -> Result<Tables<M>, (Gathered<M>, Memory)>

@@ -3,7 +3,7 @@
 //! test, for N = 1, 2 and so on. A growth that is refused to a test itself ends it with an error.
 
 use crate::harness::{PLAN, full};
-use adj_rib::SharedRoute;
+use adj_rib::{RouteId, SharedRoute};
 use bgp_prefix::{Flat, PrefixMap, Radix};
 use command_line::{Asked, Usage, read_words};
 use fixtures::{THREE_PEERS, THREE_ROUTES, bytes_of};
@@ -20,7 +20,7 @@ use std::test::Fail;
 use std::thread::Threads;
 
 /// A run that is Ok wrote the report, and one that wants memory nothing. The writer has room for it.
-fn expect_report<M: PrefixMap<SharedRoute, Addr = u32> + Send + Sync + Drop, D: Dealing + Sync>(
+fn expect_report<M: PrefixMap<RouteId, Addr = u32> + Send + Sync + Drop, D: Dealing + Sync>(
     rt: &(impl Threads + Abort + Sync),
     alloc: Global,
     words: &str,
@@ -31,7 +31,7 @@ fn expect_report<M: PrefixMap<SharedRoute, Addr = u32> + Send + Sync + Drop, D: 
     let bytes = bytes_of(alloc, words)?;
     let mut readers = [Counted::new(bytes.as_slice())];
     let mut out = Counted::new(Vec::<u8>::with_capacity(alloc, 1000)?);
-    let result = run::<_, M, _, _, _, _, _>(
+    let result = run::<_, M, Shelf<u32, SharedRoute>, _, _, _, _, _>(
         rt,
         alloc,
         &mut readers,

@@ -1,7 +1,7 @@
 //! More peers than two threads count at a time.
 
 use crate::harness::{PLAN, replay};
-use adj_rib::SharedRoute;
+use adj_rib::{RouteId, SharedRoute};
 use bgp_prefix::Memory;
 use lane_deal::Plan;
 use prefix_shelf::Shelf;
@@ -191,7 +191,9 @@ fn each_of_many_peers_counts_once(rt: HostRuntime) -> Result<(), Fail> {
             (Request::Origins, ORIGINS),
             (Request::Seen, SEEN),
         ] {
-            let outcome = replay::<Shelf<u32, SharedRoute>>(&rt, alloc, &files, &request, &plan)?;
+            let outcome = replay::<Shelf<u32, RouteId>, Shelf<u32, SharedRoute>>(
+                &rt, alloc, &files, &request, &plan,
+            )?;
             assert!(rt;
                 outcome.text.as_slice() == text.as_bytes(),
                 "{workers} workers"

@@ -17,8 +17,8 @@ use Rattle.mrt_body.specs.declared.unit.PeerKey.{PeerKey}
 use Rattle.mrt_body.specs.declared.unit.Damage.{Damage}
 use Rattle.adj_rib.specs.declared.churn.Churn.{Churn}
 use Rattle.peer_tables.specs.Tables.{Seat, TablesState}
-use Rattle.rib_report.specs.declared.forms.AddressForm.TheVariants.{Full, Short}
-use Rattle.rib_report.specs.AddressTexts.{address_text}
+use Rattle.ip_text.specs.declared.address_form.AddressForm.TheVariants.{Full, Short}
+use Rattle.ip_text.specs.AddressTexts.{address_text}
 use Rattle.rib_report.specs.Plain.{AddressForms}
 use Rattle.rib_report.specs.Reports.{route_rows, match_rows, visibility_rows, origin_rows, seen_rows, churn_rows, peer_rows, fault_rows, in_place_order}
 use Rattle.rib_report.specs.Lines.{route_line, visibility_line, origin_line, seen_line, churn_line, peer_line, fault_line}

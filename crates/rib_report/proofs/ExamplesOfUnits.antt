@@ -25,8 +25,8 @@ use Rattle.adj_rib.specs.Churns.{outcomes_of, churn_of, damaged_of}
 use Rattle.adj_rib.specs.Sessions.{session_of}
 use Rattle.peer_tables.specs.Peers.{peers_of}
 use Rattle.peer_tables.specs.Tables.{tables_of}
-use Rattle.rib_report.specs.declared.forms.AddressForm.TheVariants.{Full}
-use Rattle.rib_report.specs.AddressTexts.{address_text}
+use Rattle.ip_text.specs.declared.address_form.AddressForm.TheVariants.{Full}
+use Rattle.ip_text.specs.AddressTexts.{address_text}
 use Rattle.rib_report.specs.Plain.{AddressForms}
 use Rattle.rib_report.specs.Reports.{route_rows, match_rows, visibility_rows, origin_rows, seen_rows, churn_rows, fault_rows}
 use Rattle.rib_report.specs.Lines.{route_line, visibility_line, origin_line, seen_line, churn_line, fault_line}

@@ -5,8 +5,10 @@ use Rattle.std.proofs.lemmas.Slice.{first_rest, between_to_end}
 use Rattle.std.proofs.lemmas.List.{take_more, flat_map_more, drop-drop}
 use Rattle.std.proofs.lemmas.List.Edits.{between_more, between_none, length-between}
 use Rattle.std.proofs.lemmas.List.Concat.{flat_map-append}
-use Rattle.rib_report.specs.Texts.{TextState, Adds, Formats}
-use Rattle.rib_report.proofs.TextLaws.{Adds_trans, Adds_as, Adds_dropped, Formats_trans, Formats_as}
+use Rattle.rib_report.specs.Texts.{TextState, Adds}
+use Rattle.ip_text.specs.Formats.{Formats}
+use Rattle.rib_report.proofs.TextLaws.{Adds_trans, Adds_as, Adds_dropped}
+use Rattle.ip_text.proofs.FormatLaws.{Formats_trans, Formats_as}
 
 pub join-cons : {X : Type 0} (sep : ℕ) (f : X → List ℕ) (x : X) (xs : List X) → join_with_byte sep (map f (x ∷ xs)) ≡ f x ++ flat_map (λ y. sep ∷ f y) xs
 join-cons sep f x [] = sym (append-nil (f x))

@@ -1,5 +1,4 @@
 pub mod TextLaws
-pub mod AddressLaws
 pub mod JoinLaws
 pub mod RowLines
 pub mod PieceLaws
@@ -16,13 +15,7 @@ pub mod VisibilityLaws
 pub mod OriginLaws
 pub mod SeenLaws
 pub mod MatchLaws
-pub mod ShortNumbers
-pub mod HexLaws
-pub mod MaskLaws
-pub mod SpellingLaws
-pub mod WrittenLaws
 pub mod UnitReportLaws
 pub mod DefinedLaws
 pub mod Examples
-pub mod ExamplesOfAddresses
 pub mod ExamplesOfUnits

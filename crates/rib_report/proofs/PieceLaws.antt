@@ -16,13 +16,12 @@ use Rattle.peer_tables.proofs.RowLaws.{map_twice, flat_map_twice}
 use Rattle.rib_report.specs.Plain.{AddressForms}
 use Rattle.rib_report.specs.Reports.{entry_row, rows_of_seat}
 use Rattle.rib_report.specs.Lines.{route_line}
-use Rattle.rib_report.specs.Listings.{reached_row, reached_lines, seat_lines, most_entries}
+use Rattle.rib_report.specs.Listings.{reached_lines, seat_lines, most_entries}
 
 -- a list of all entries of a peer's table
-pub lines_of_seat : (forms : AddressForms) (seat : Seat) (entries : List (RouteKey × Bor Route)) → entries_now entries ≡ seat.session.table → reached_lines (record { key = seat.key; forms = forms }) entries ≡ seat_lines forms seat
+pub lines_of_seat : (forms : AddressForms) (seat : Seat) (entries : List (RouteKey × Route)) → entries ≡ seat.session.table → reached_lines (record { key = seat.key; forms = forms }) entries ≡ seat_lines forms seat
 lines_of_seat forms seat entries whole =
-    let listed = map_twice (λ e. (e.0, e.1.now)) (entry_row seat.key) entries ∙ ap (map (entry_row seat.key)) (sym (entries_now-map entries) ∙ whole) in
-    flat_map_twice (reached_row seat.key) (route_line forms) entries ∙ ap (flat_map (route_line forms)) listed
+    flat_map_twice (entry_row seat.key) (route_line forms) entries ∙ ap (λ (es : List (RouteKey × Route)). flat_map (route_line forms) (map (entry_row seat.key) es)) whole
 
 -- the rows of every table
 pub lines_of_seats : (forms : AddressForms) (seats : List Seat) → flat_map (seat_lines forms) seats ≡ flat_map (route_line forms) (flat_map rows_of_seat seats)

@@ -14,20 +14,21 @@ use Rattle.rib_report.specs.Plain.{ShownPeer}
 use Rattle.rib_report.specs.declared.reports.tables.piece.Piece.{Piece}
 use Rattle.rib_report.specs.Lines.{route_line}
 use Rattle.rib_report.specs.Texts.{TextState, Adds, empty_buffer}
-use Rattle.rib_report.specs.Listings.{reached_row, reached_lines}
+use Rattle.rib_report.specs.Reports.{entry_row}
+use Rattle.rib_report.specs.Listings.{reached_lines}
 use Rattle.rib_report.specs.Pieces.{AreSuccessive, lines_between, range_of}
 use Rattle.rib_report.proofs.TextLaws.{Adds_trans, Adds_as, Adds_grown, text_begun}
 use Rattle.rib_report.proofs.JoinLaws.{between_join}
 
 -- the lines of a range behind those of the one before
-pub Adds_next : {s t u : TextState} (peer : ShownPeer) (entries : List (RouteKey × Bor Route)) (i j k : ℕ) → i ≤ j → j ≤ k
+pub Adds_next : {s t u : TextState} (peer : ShownPeer) (entries : List (RouteKey × Route)) (i j k : ℕ) → i ≤ j → j ≤ k
     → Adds s t (lines_between peer i j entries) → Adds t u (lines_between peer j k entries) → Adds s u (lines_between peer i k entries)
 Adds_next peer entries i j k ij jk f g =
-    let line : RouteKey × Bor Route → List ℕ = λ e. route_line peer.forms (reached_row peer.key e) in
+    let line : RouteKey × Route → List ℕ = λ e. route_line peer.forms (entry_row peer.key e) in
     Adds_as (sym (flat_map-append line (between i j entries) (between j k entries)) ∙ ap (flat_map line) (between_join entries i j k ij jk)) (Adds_trans f g)
 
 -- no entry has no line
-pub no_lines : {s : TextState} (peer : ShownPeer) (entries : List (RouteKey × Bor Route)) (i : ℕ) → Adds s s (lines_between peer i i entries)
+pub no_lines : {s : TextState} (peer : ShownPeer) (entries : List (RouteKey × Route)) (i : ℕ) → Adds s s (lines_between peer i i entries)
 no_lines {s = s} peer entries i =
     let none : 0 ≡ i - i = omega arith in
     Adds_as (ap (λ n. reached_lines peer (take n (drop i entries))) none) (Adds_grown refl refl (sym (append-nil s.buffer.waiting)) refl)
@@ -48,7 +49,7 @@ take_between xs i j k le =
     take-take k (j - i) (drop i xs) (omega arith) ∙ ap (λ m. take m (drop i xs)) same
 
 -- the lines of the first so many entries of a block behind those before it
-pub Adds_some : {s t u : TextState} (peer : ShownPeer) (entries : List (RouteKey × Bor Route)) (i j end k : ℕ) → i ≤ j → j + k ≤ end
+pub Adds_some : {s t u : TextState} (peer : ShownPeer) (entries : List (RouteKey × Route)) (i j end k : ℕ) → i ≤ j → j + k ≤ end
     → Adds s t (lines_between peer i j entries) → Adds t u (reached_lines peer (take k (between j end entries))) → Adds s u (lines_between peer i (j + k) entries)
 Adds_some peer entries i j end k ij within f g = Adds_next peer entries i j (j + k) ij (omega arith) f (Adds_as (ap (reached_lines peer) (take_between entries j end k within)) g)
 

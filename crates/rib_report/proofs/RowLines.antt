@@ -3,7 +3,7 @@ use Rattle.std.proofs.Common.{◌≡◌, List, ℕ, ◌∷◌, ◌++◌, Option,
 use Rattle.std.specs.Prelude.{codes, decimal}
 use Rattle.bgp_update.specs.declared.route.Route.{Route}
 use Rattle.rib_report.specs.Plain.{AddressForms}
-use Rattle.rib_report.specs.Digits.{line, field}
+use Rattle.rib_report.specs.Fields.{line, field}
 use Rattle.rib_report.specs.Lines.{path_text, next_hop_text, origin_text, atomic_text, aggregator_text}
 use Rattle.rib_report.specs.LineParts.{line_end}
 use Rattle.rib_report.specs.HistoryLines.{route_fields}

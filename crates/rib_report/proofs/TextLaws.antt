@@ -9,7 +9,8 @@ use Rattle.std.specs.Io.KnownBytes.{Appends}
 use Rattle.std.proofs.KnownBytes.{Appends-trans, Appends-nil}
 use Rattle.mrt_frame.specs.Devices.{HasFailed, one_more, greatest_count}
 use Rattle.mrt_frame.specs.Writes.{WritesFront}
-use Rattle.rib_report.specs.Texts.{TextState, empty_buffer, IsText, IsWritten, IsCutOff, Adds, Formats}
+use Rattle.rib_report.specs.Texts.{TextState, empty_buffer, IsText, IsWritten, IsCutOff, Adds}
+use Rattle.ip_text.specs.Formats.{Formats}
 
 pub Adds_trans : {s t u : TextState} {p q : List ℕ} → Adds s t p → Adds t u q → Adds s u (p ++ q)
 Adds_trans {p = p} {q = q} f g = record { adds = λ contents failures text h. subst (IsText contents failures _) (append_assoc text p q) (g.adds contents failures (text ++ p) (f.adds contents failures text h)) }
@@ -117,35 +118,6 @@ text_begun {s = s} fresh f = f.adds s.contents s.failures [] (record {
   sound = λ _. refl;
   risen = λ e. absurd (false≢true (sym (ap (λ b. b.failed) fresh) ∙ e));
 })
-
--- ---- pieces in a block
-
-pub Formats_trans : {a b c : List ℕ} {i j k m n : ℕ} {p q : List ℕ} → Formats a i b j m p → Formats b j c k n q → Formats a i c k (m + n) (p ++ q)
-Formats_trans {a = a} {i = i} {p = p} {q = q} f g = record {
-  text = g.text ∙ ap (λ l. l ++ q) f.text ∙ append_assoc (take i a) p q;
-  room = omega (arith, f.room, g.room);
-  within = g.within;
-  same = g.same ∙ f.same;
-}
-
--- the same piece, written another way
-pub Formats_as : {a b : List ℕ} {i j m : ℕ} {p q : List ℕ} → p ≡ q → Formats a i b j m p → Formats a i b j m q
-Formats_as {a = a} {b = b} {i = i} {j = j} {m = m} e f = subst (Formats a i b j m) e f
-
--- a higher bound
-pub Formats_within : {a b : List ℕ} {i j m n : ℕ} {p : List ℕ} → m ≤ n → Formats a i b j m p → Formats a i b j n p
-Formats_within le f = record {
-  text = f.text;
-  room = omega (arith, le, f.room);
-  within = f.within;
-  same = f.same;
-}
-
--- the front of a block that was copied whole
-pub take-front_put : (a k n : ℕ) (xs ys : List ℕ) → a ≤ length xs → n ≤ length ys → take (a + n) (put_mid a k xs ys) ≡ take a xs ++ take n ys
-take-front_put a k n xs ys within fits =
-    sym (take-take (a + n) (a + length ys) (put_mid a k xs ys) (omega arith)) ∙ ap (take (a + n)) (take-put_mid a k xs ys (a + length ys) refl within)
-    ∙ ap (λ m. take (m + n) (take a xs ++ ys)) (sym (length-take-le a xs within)) ∙ take-append-add (take a xs) ys n
 
 -- a field behind the bytes that wait, in the same block
 pub Adds_formatted : {s t u : TextState} {old new : List ℕ} {at end most : ℕ} {p : List ℕ} → Adds s t [] → Formats old at new end most p → t.buffer.waiting ≡ take at old

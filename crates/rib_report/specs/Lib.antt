@@ -1,12 +1,7 @@
 pub mod Texts
-pub mod Digits
-pub mod Ipv6Texts
-pub mod AddressTexts
+pub mod Fields
 pub mod Plain
 pub mod Requests
-pub mod ZeroRuns
-pub mod HexTexts
-pub mod Spellings
 pub mod Runs
 pub mod Merges
 pub mod Rows
@@ -17,5 +12,4 @@ pub mod Nowhere
 pub mod Lines
 pub mod LineParts
 pub mod UnitReports
-pub mod ShortTexts
 pub mod HistoryLines

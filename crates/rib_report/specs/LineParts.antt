@@ -1,6 +1,6 @@
 -- The parts of a route's line beside its path.
 use Rattle.std.specs.Prelude.{ℕ, List, [], ◌∷◌, ◌++◌, decimal}
-use Rattle.rib_report.specs.Digits.{line, field}
+use Rattle.rib_report.specs.Fields.{line, field}
 use Rattle.bgp_prefix.specs.Keys.{RouteKey}
 use Rattle.bgp_update.specs.declared.route.Route.{Route}
 use Rattle.rib_report.specs.Plain.{AddressForms, ShownPeer}

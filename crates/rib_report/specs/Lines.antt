@@ -1,9 +1,10 @@
 -- The lines of the reports.
 use Rattle.std.specs.Prelude.{ℕ, zero, suc, ◌+◌, Bool, List, [], ◌∷◌, ◌++◌, map, Option, option_and_then, option_map, codes, decimal, if◌then◌else◌}
 use Rattle.std.specs.List.{join_with_byte}
-use Rattle.rib_report.specs.Digits.{line, field, time_text, ipv4_text, numbers_text}
-use Rattle.rib_report.specs.Ipv6Texts.{ipv6_text}
-use Rattle.rib_report.specs.AddressTexts.{address_text}
+use Rattle.ip_text.specs.Digits.{ipv4_text}
+use Rattle.rib_report.specs.Fields.{line, field, time_text, numbers_text}
+use Rattle.ip_text.specs.Ipv6Texts.{ipv6_text}
+use Rattle.ip_text.specs.AddressTexts.{address_text}
 use Rattle.bgp_prefix.specs.Prefixes.{IpPrefix}
 use Rattle.bgp_prefix.specs.Keys.{RouteKey}
 use Rattle.mrt_frame.specs.Faults.{fault_number, fault_name}
@@ -20,7 +21,7 @@ use Rattle.mrt_body.specs.declared.unit.PeerAddr.TheVariants.{V4, V6}
 use Rattle.mrt_body.specs.declared.unit.PeerKey.{PeerKey}
 use Rattle.mrt_body.specs.declared.unit.Place.{Place}
 use Rattle.mrt_body.specs.declared.unit.Damage.{Damage}
-use Rattle.rib_report.specs.declared.forms.AddressForm.{AddressForm}
+use Rattle.ip_text.specs.declared.address_form.AddressForm.{AddressForm}
 use Rattle.rib_report.specs.Plain.{AddressForms, VisibilityRow, OriginRow, SeenRow}
 use Rattle.rib_report.specs.Rows.{TableRow}
 use Rattle.rib_report.specs.declared.reports.churn.ChurnRow.{ChurnRow}

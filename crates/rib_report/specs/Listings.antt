@@ -1,7 +1,6 @@
 -- Entries that are reached through a table, as rows and lines.
 use Rattle.std.specs.Prelude.{ℕ, List, [], ◌∷◌, length, max}
 use Rattle.std.specs.List.{flat_map}
-use Rattle.std.specs.Borrow.{Bor}
 use Rattle.bgp_prefix.specs.Keys.{RouteKey}
 use Rattle.bgp_update.specs.declared.route.Route.{Route}
 use Rattle.mrt_body.specs.declared.unit.PeerKey.{PeerKey}
@@ -11,13 +10,9 @@ use Rattle.rib_report.specs.Rows.{TableRow}
 use Rattle.rib_report.specs.Reports.{entry_row, rows_of_seat}
 use Rattle.rib_report.specs.Lines.{route_line}
 
--- the row of an entry
-abbrev pub reached_row : PeerKey → RouteKey × Bor Route → TableRow
-reached_row peer e = entry_row peer (e.0, e.1.now)
-
 -- the lines of entries of one peer
-abbrev pub reached_lines : ShownPeer → List (RouteKey × Bor Route) → List ℕ
-reached_lines peer entries = flat_map (λ e. route_line peer.forms (reached_row peer.key e)) entries
+abbrev pub reached_lines : ShownPeer → List (RouteKey × Route) → List ℕ
+reached_lines peer entries = flat_map (λ e. route_line peer.forms (entry_row peer.key e)) entries
 
 -- the lines of a peer's table
 abbrev pub seat_lines : AddressForms → Seat → List ℕ

@@ -1,7 +1,6 @@
 -- Pieces: lines of successive entries that a thread makes while another one writes.
 use Rattle.std.specs.Prelude.{◌≡◌, ℕ, ◌≤◌, List, [], ◌∷◌, false, length}
 use Rattle.std.specs.List.{All, between}
-use Rattle.std.specs.Borrow.{Bor}
 use Rattle.bgp_prefix.specs.Keys.{RouteKey}
 use Rattle.bgp_update.specs.declared.route.Route.{Route}
 use Rattle.rib_report.specs.Plain.{ShownPeer}
@@ -9,7 +8,7 @@ use Rattle.rib_report.specs.Listings.{reached_lines}
 use Rattle.rib_report.specs.declared.reports.tables.piece.Piece.{Piece}
 
 -- the lines of the entries from one to before another
-abbrev pub lines_between : ShownPeer → ℕ → ℕ → List (RouteKey × Bor Route) → List ℕ
+abbrev pub lines_between : ShownPeer → ℕ → ℕ → List (RouteKey × Route) → List ℕ
 lines_between peer from to entries = reached_lines peer (between from to entries)
 
 -- the first of its entries, and the first one after them
@@ -26,7 +25,7 @@ AreSuccessive at [] end = at ≡ end
 AreSuccessive at (r ∷ rs) end = (r.0 ≡ at) × AreSuccessive r.1 rs end
 
 -- the text holds the lines of the first of its entries
-pub record IsFilled (peer : ShownPeer) (entries : List (RouteKey × Bor Route)) (p : Piece) : Type 0 where
+pub record IsFilled (peer : ShownPeer) (entries : List (RouteKey × Route)) (p : Piece) : Type 0 where
   pub from : p.start ≤ p.done
   pub to : p.done ≤ p.end
   pub within : p.end ≤ length entries

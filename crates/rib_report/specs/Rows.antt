@@ -14,7 +14,7 @@ pub record TableRow : Type 0 where
 
 -- the row with the route that it borrows
 abbrev pub table_row : BorrowingRow → TableRow
-table_row row = record { peer = row.peer; key = row.key; route = row.route.now }
+table_row row = record { peer = row.peer; key = row.key; route = row.route }
 
 abbrev pub visibility_pair : VisibilityRow → IpPrefix × ℕ
 visibility_pair row = (row.prefix, row.peers)

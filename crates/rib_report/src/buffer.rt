@@ -2,7 +2,7 @@
 
 ghost use Rattle.std.specs.Prelude.{◌≡◌, ℕ, ◌+◌, ◌-◌, ◌*◌, ◌<◌, ◌≤◌, [], ◌∷◌, ◌++◌, List, Option, OnOk, OnErr, length};
 ghost use Rattle.std.specs.List.{between};
-ghost use Rattle.rib_report.specs.Digits.{numbers_text};
+ghost use Rattle.rib_report.specs.Fields.{numbers_text};
 ghost use Rattle.rib_report.specs.LineParts.{line_beginning, line_end};
 ghost use Rattle.rib_report.specs.Texts.{BufferState, empty_buffer, text_state, IsText, IsWritten, IsCutOff, Writes};
 
@@ -10,10 +10,9 @@ use crate::field::{Byte, Field, PeerText};
 use crate::forms::{AddressFormsOf, ShownPeerOf};
 use crate::numbers::format_numbers;
 use crate::route_line::{END_BYTES, beginning_bytes, format_beginning, format_end};
-use crate::short::ShortTexts;
-use crate::written_address::WrittenAddress;
 use bgp_prefix::{Prefix, RouteKey};
-use bgp_update::{PackedRoute, PackedSegment, Unicast};
+use bgp_update::{PackedSegment, RouteRef, Unicast};
+use ip_text::{ShortTexts, WrittenAddress};
 use mrt_frame::{Failed, Sink, write_full};
 use std::marker::Model;
 
@@ -164,7 +163,7 @@ impl TextBuffer {
         &mut self,
         out: &mut W,
         forms: AddressFormsOf<F>,
-        route: &PackedRoute,
+        route: &RouteRef<'_>,
     )
         ensures { Writes W.contents W.failure_count out.old self.old out.new self.new (line_end forms route.now) }
     {

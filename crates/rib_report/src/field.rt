@@ -1,22 +1,19 @@
 //! What lines are made of: values with a text of limited length.
 
 ghost use Rattle.std.specs.Prelude.{◌≡◌, ℕ, ◌+◌, ◌-◌, ◌^◌, ◌<◌, ◌≤◌, ◌++◌, [], ◌∷◌, List, decimal, length, min};
-ghost use Rattle.rib_report.specs.Texts.{Formats};
-ghost use Rattle.rib_report.specs.Digits.{field, time_text};
-ghost use Rattle.rib_report.specs.Ipv6Texts.{ipv6_text};
-ghost use Rattle.rib_report.specs.AddressTexts.{address_text};
+ghost use Rattle.ip_text.specs.Formats.{Formats};
+ghost use Rattle.rib_report.specs.Fields.{field, time_text};
+ghost use Rattle.ip_text.specs.Ipv6Texts.{ipv6_text};
+ghost use Rattle.ip_text.specs.AddressTexts.{address_text};
 ghost use Rattle.rib_report.specs.Lines.{addr_text, peer_text, prefix_text, identifier_text, key_text, next_hop_text, origin_text, aggregator_text, atomic_text, state_text};
 
-use crate::format::{
-    format_byte, format_front, format_ipv4, format_number, format_short, format_six, format_text,
-    format_three,
-};
-use crate::forms::{AddressForm, AddressForms, AddressFormsOf, ShownPeer, ShownPeerOf};
-use crate::ipv6::format_ipv6;
-use crate::short::ShortTexts;
-use crate::written_address::WrittenAddress;
+use crate::forms::{AddressForms, AddressFormsOf, ShownPeer, ShownPeerOf};
 use bgp_prefix::{Prefix, RouteKey};
 use bgp_update::{Aggregator, FamilyMark, NextHop, Origin, Unicast};
+use ip_text::{
+    AddressForm, ShortTexts, WrittenAddress, format_byte, format_front, format_ipv4, format_ipv6,
+    format_number, format_short, format_six, format_text, format_three,
+};
 use itoa::Buffer;
 use mrt_body::PeerAddr;
 use std::marker::Model;
@@ -72,7 +69,7 @@ impl<A: Field, B: Field> Field for (A, B) {
     }
 
     #[inline(always)]
-    #[tactic(auto, using(crate::proofs::TextLaws::Formats_trans))]
+    #[tactic(auto, using(ip_text::proofs::FormatLaws::Formats_trans))]
     fn format(self, bytes: &mut [u8], at: usize, shorts: &ShortTexts) -> usize {
         let at = self.0.format(bytes, at, shorts);
         let at = format_byte(bytes, at, b'|');
@@ -94,7 +91,7 @@ impl<F: Field> Field for Ended<F> {
     }
 
     #[inline(always)]
-    #[tactic(auto, using(crate::proofs::TextLaws::Formats_trans))]
+    #[tactic(auto, using(ip_text::proofs::FormatLaws::Formats_trans))]
     fn format(self, bytes: &mut [u8], at: usize, shorts: &ShortTexts) -> usize {
         let at = self.0.format(bytes, at, shorts);
         format_byte(bytes, at, b'\n')
@@ -169,7 +166,7 @@ impl Field for Behind {
     }
 
     #[inline(always)]
-    #[tactic(auto, using(crate::proofs::TextLaws::Formats_trans))]
+    #[tactic(auto, using(ip_text::proofs::FormatLaws::Formats_trans))]
     fn format(self, bytes: &mut [u8], at: usize, shorts: &ShortTexts) -> usize {
         let at = format_byte(bytes, at, self.0);
         format_number(bytes, at, shorts, self.1)
@@ -249,7 +246,7 @@ impl<F: Unicast> Field for ShownPeer<FamilyMark<F>> {
     }
 
     #[inline(never)]
-    #[tactic(auto, using(crate::proofs::TextLaws::Formats_trans))]
+    #[tactic(auto, using(ip_text::proofs::FormatLaws::Formats_trans))]
     fn format(self, bytes: &mut [u8], at: usize, shorts: &ShortTexts) -> usize {
         let at = format_number(bytes, at, shorts, self.key.asn);
         let at = format_byte(bytes, at, b' ');
@@ -308,7 +305,7 @@ impl<F: Unicast> Model for PeerText<F> {
 }
 
 impl<F: Unicast> PeerText<F> {
-    #[tactic(auto, using(crate::proofs::TextLaws::Formats_trans))]
+    #[tactic(auto, using(ip_text::proofs::FormatLaws::Formats_trans))]
     pub(crate) fn new(peer: &ShownPeerOf<F>, shorts: &ShortTexts) -> PeerText<F>
         ensures { result ≡ peer.now }
     {
@@ -359,7 +356,7 @@ impl<F: WrittenAddress> Field for ShownPrefix<Prefix<F>, FamilyMark<F>> {
     }
 
     #[inline(always)]
-    #[tactic(auto, using(crate::proofs::TextLaws::Formats_trans))]
+    #[tactic(auto, using(ip_text::proofs::FormatLaws::Formats_trans))]
     fn format(self, bytes: &mut [u8], at: usize, shorts: &ShortTexts) -> usize {
         self.forms.family.is_known();
         let addr = self.prefix.addr();
@@ -399,7 +396,7 @@ impl<F: WrittenAddress> Field for ShownKey<Prefix<F>, FamilyMark<F>> {
     }
 
     #[inline(always)]
-    #[tactic(auto, using(crate::proofs::TextLaws::Formats_trans))]
+    #[tactic(auto, using(ip_text::proofs::FormatLaws::Formats_trans))]
     fn format(self, bytes: &mut [u8], at: usize, shorts: &ShortTexts) -> usize {
         let ShownKey { key, forms } = self;
         let RouteKey { prefix, id } = key;
@@ -412,7 +409,7 @@ impl<F: WrittenAddress> Field for ShownKey<Prefix<F>, FamilyMark<F>> {
 
 /// Writes two addresses, separated by a space.
 #[inline(never)]
-#[tactic(auto, using(crate::proofs::TextLaws::Formats_trans))]
+#[tactic(auto, using(ip_text::proofs::FormatLaws::Formats_trans))]
 fn format_ipv6_pair(
     bytes: &mut [u8],
     at: usize,
@@ -481,7 +478,7 @@ impl Field for Aggregator {
     }
 
     #[inline(never)]
-    #[tactic(auto, using(crate::proofs::TextLaws::Formats_trans))]
+    #[tactic(auto, using(ip_text::proofs::FormatLaws::Formats_trans))]
     fn format(self, bytes: &mut [u8], at: usize, shorts: &ShortTexts) -> usize {
         let at = format_number(bytes, at, shorts, self.asn);
         let at = format_byte(bytes, at, b' ');

@@ -3,16 +3,8 @@
 ghost use Rattle.std.specs.Prelude.{◌≡◌};
 
 use bgp_update::{FamilyMark, Unicast};
+use ip_text::AddressForm;
 use mrt_body::PeerKey;
-
-/// A form of IPv6 addresses in text.
-#[derive(Clone, Copy, Debug, PartialEq, Eq)]
-pub enum AddressForm {
-    /// Eight groups of four digits.
-    Full,
-    /// No leading zeros, and `::` for the longest run of two or more zero groups (RFC 5952, 4).
-    Short,
-}
 
 /// The forms of the IPv6 addresses of a report, and the family of its routes.
 #[derive(Clone, Copy)]

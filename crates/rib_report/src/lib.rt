@@ -22,14 +22,12 @@
 //!   position of its first byte and returns the one after its last: as a field of the buffer it would be read again
 //!   after each byte.
 //! - The forms of IPv6 addresses are an argument of what writes lines, and of the definitions of lines that have some:
-//!   one for peers and one for routes. A peer goes on its way with them (`ShownPeer`). The text of each byte in
-//!   hexadecimal and the run of zeros of each pattern of zero groups are made with a buffer, so that a short address
-//!   takes no longer than a full one.
+//!   one for peers and one for routes. A peer goes on its way with them (`ShownPeer`). The texts of addresses and of
+//!   the numbers in them are those of `ip_text`.
 //! - Reports are generic in the family of the addresses of the map. With the forms goes a mark of the family of no size
 //!   (`FamilyMark`), by which definitions write prefixes (`address_text`); the code writes them by the type
 //!   (`WrittenAddress`), so a line of IPv4 has no test of the family, and no more room than its texts may take.
-//! - A peer's text is made once for its lines. Numbers of up to three digits are copied from a table, four bytes at
-//!   once, since how many digits a number has is hard to predict.
+//! - A peer's text is made once for its lines.
 //! - Entries are prefetched up to 64 at a time before their lines are written, so that the cache misses of their routes
 //!   overlap.
 //! - Text goes through a buffer of 64 KiB on the stack.
@@ -38,10 +36,7 @@
 mod buffer;
 mod defined;
 mod field;
-mod format;
 mod forms;
-mod hexadecimal;
-mod ipv6;
 mod line;
 mod merge;
 mod nowhere;
@@ -49,19 +44,19 @@ mod numbers;
 mod reports;
 mod request;
 mod route_line;
-mod short;
-mod spelled;
 mod standing;
 mod write;
-mod written_address;
-mod zero_run;
 
 pub use defined::{
     counts_are_sums_over_shares, faults_of_shares, faults_stand_by_place,
     origins_are_of_all_routes, origins_are_of_seen_rows, rows_of_shares, seen_counts_peers,
     visibility_counts_peers,
 };
-pub use forms::{AddressForm, AddressForms, AddressFormsOf};
+pub use forms::{AddressForms, AddressFormsOf};
+pub use ip_text::{
+    AddressForm, WrittenAddress, one_address_to_a_text, runs_are_first_and_longest,
+    written_texts_spell_their_addresses,
+};
 pub use peer_tables::{
     By, Gathered, HistoryRow, Listed, Listing, Seated, Tables, collect, collected_stand_for_units,
     lanes_make_no_difference, tables_are_of_units,
@@ -78,8 +73,4 @@ pub use reports::visibility::{
     VisibilityRow, visibility, visibility_with_threads, write_visibility,
 };
 pub use request::{Layout, LayoutOf, Request};
-pub use spelled::{
-    one_address_to_a_text, runs_are_first_and_longest, written_texts_spell_their_addresses,
-};
 pub use standing::{recorded_peers_are_shown_as_they_are, reports_are_of_units};
-pub use written_address::WrittenAddress;

@@ -2,13 +2,14 @@
 
 ghost use Rattle.std.specs.Prelude.{◌+◌, ◌-◌, ◌*◌, ◌<◌, ◌≤◌, ◌∷◌, decimal, length};
 ghost use Rattle.std.specs.List.{between};
-ghost use Rattle.rib_report.specs.Texts.{Formats, Writes};
-ghost use Rattle.rib_report.specs.Digits.{numbers_text};
+ghost use Rattle.rib_report.specs.Texts.{Writes};
+ghost use Rattle.ip_text.specs.Formats.{Formats};
+ghost use Rattle.rib_report.specs.Fields.{numbers_text};
 
 use crate::buffer::TextBuffer;
 use crate::field::{Behind, Field};
-use crate::short::ShortTexts;
 use bgp_update::PackedSegment;
+use ip_text::ShortTexts;
 use mrt_frame::Sink;
 
 /// How many numbers get room at once. A segment of a packed route has no more.

@@ -1,19 +1,18 @@
 //! The line of a route.
 
 ghost use Rattle.std.specs.Prelude.{◌≡◌, ◌≤◌, ◌+◌, ◌<◌, [], ◌∷◌, ◌++◌, length};
-ghost use Rattle.rib_report.specs.Texts.{Writes, Formats};
-ghost use Rattle.rib_report.specs.Digits.{field, numbers_text};
+ghost use Rattle.rib_report.specs.Texts.{Writes};
+ghost use Rattle.ip_text.specs.Formats.{Formats};
+ghost use Rattle.rib_report.specs.Fields.{field, numbers_text};
 ghost use Rattle.rib_report.specs.Lines.{kind_text, path_text, route_line};
 ghost use Rattle.rib_report.specs.LineParts.{line_beginning, line_end};
 
 use crate::buffer::TextBuffer;
 use crate::field::{Atomic, Field, PeerText, ShownKey, format_next_hop};
-use crate::format::format_byte;
 use crate::forms::AddressFormsOf;
-use crate::short::ShortTexts;
-use crate::written_address::WrittenAddress;
 use bgp_prefix::{Prefix, RouteKey};
-use bgp_update::{PackedRoute, PackedSegment, PackedSegments, SegmentKind, Unicast};
+use bgp_update::{PackedSegment, PackedSegments, RouteRef, SegmentKind, Unicast};
+use ip_text::{ShortTexts, WrittenAddress, format_byte};
 use mrt_frame::Sink;
 
 /// Returns the most bytes of what a line begins with, and one more.
@@ -27,7 +26,7 @@ pub(crate) fn beginning_bytes<F: WrittenAddress>() -> usize
 
 /// Writes what a line begins with: a peer, a bar and a key.
 #[inline(always)]
-#[tactic(auto, using(crate::proofs::TextLaws::Formats_trans))]
+#[tactic(auto, using(ip_text::proofs::FormatLaws::Formats_trans))]
 pub(crate) fn format_beginning<F: WrittenAddress>(
     bytes: &mut [u8],
     at: usize,
@@ -57,7 +56,7 @@ pub(crate) fn format_end<F: Unicast>(
     at: usize,
     shorts: &ShortTexts,
     forms: AddressFormsOf<F>,
-    route: &PackedRoute,
+    route: &RouteRef<'_>,
 ) -> usize
     requires { at + 159 < length bytes.old }
     ensures { Formats bytes.old at bytes.new result 159 (line_end forms route.now) }
@@ -151,7 +150,7 @@ pub(crate) fn put_route<W: Sink, F: Unicast>(
     text: &mut TextBuffer,
     out: &mut W,
     forms: AddressFormsOf<F>,
-    route: &PackedRoute,
+    route: &RouteRef<'_>,
 )
     ensures { Writes W.contents W.failure_count out.old text.old out.new text.new
         ((124 ∷ field path_text route.now.path) ++ line_end forms route.now) }
@@ -166,7 +165,7 @@ pub(crate) fn put_row<W: Sink, F: WrittenAddress>(
     out: &mut W,
     peer: &PeerText<F>,
     key: &RouteKey<Prefix<F>>,
-    route: &PackedRoute,
+    route: &RouteRef<'_>,
 )
     ensures { Writes W.contents W.failure_count out.old text.old out.new text.new
         (route_line peer.now.forms (record { peer = peer.now.key; key = key.now; route = route.now })) }

@@ -1,7 +1,7 @@
 //! Rows that stand as text: files, a plan, and what is done and seen, a line each.
 
 use super::{PLAN, Play};
-use adj_rib::SharedRoute;
+use adj_rib::RouteId;
 use bgp_prefix::PrefixMap;
 use fixtures::{Dripping, bytes_of};
 use lane_deal::Plan;
@@ -133,7 +133,7 @@ impl<'a> Row<'a> {
         assert!(rt; text == expected.as_slice(), "the tables in {name}");
     }
 
-    fn play<M: PrefixMap<SharedRoute, Addr = u32> + Send + Drop>(
+    fn play<M: PrefixMap<RouteId, Addr = u32> + Send + Drop>(
         &self,
         rt: &(impl Threads + Abort + Sync),
         alloc: Global,
@@ -159,7 +159,7 @@ impl<'a> Row<'a> {
 /// row, `file RECORDS` adds a file, `broken RECORDS` one that fails in place of its end, `plan ..`
 /// changes numbers of the rows' plan; the other lines are done and seen in turn. `into_tables ANSWER`
 /// comes last, and `> LINE` is a line of the routes and then the churn.
-pub fn play_rows<M: PrefixMap<SharedRoute, Addr = u32> + Send + Drop>(
+pub fn play_rows<M: PrefixMap<RouteId, Addr = u32> + Send + Drop>(
     rt: &(impl Threads + Abort + Sync),
     alloc: Global,
     table: &str,

@@ -5,7 +5,7 @@ ghost use Rattle.std.specs.Prelude.{◌≡◌, IfOk, map};
 ghost use Rattle.std.specs.List.{flat_map};
 ghost use Rattle.peer_tables.specs.Watching.{watch_in};
 ghost use Rattle.rib_report.specs.Reports.{churn_rows, watch_churns};
-ghost use Rattle.rib_report.specs.Digits.{field, time_text};
+ghost use Rattle.rib_report.specs.Fields.{field, time_text};
 ghost use Rattle.rib_report.specs.Lines.{churn_line};
 ghost use Rattle.rib_report.specs.Texts.{IsOutput, Writes};
 
@@ -14,7 +14,7 @@ use crate::field::{Ended, time_field};
 use crate::forms::{AddressFormsOf, ShownPeer};
 use crate::line::Line;
 use crate::write::write_lines;
-use adj_rib::{Churn, SharedRoute};
+use adj_rib::{Churn, RouteId, SharedRoute};
 use bgp_prefix::{Memory, PrefixMap};
 use bgp_update::Unicast;
 use mrt_body::PeerKey;
@@ -30,7 +30,7 @@ pub struct ChurnRow {
 }
 
 /// Returns the churn of each peer, by number.
-pub fn churn<F: Unicast, M: PrefixMap<SharedRoute, Addr = F>>(
+pub fn churn<F: Unicast, M: PrefixMap<RouteId, Addr = F>>(
     alloc: Global,
     tables: &Tables<M>,
 ) -> Result<Vec<ChurnRow>, Memory>

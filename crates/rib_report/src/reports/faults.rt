@@ -6,25 +6,26 @@ ghost use Rattle.std.specs.List.{flat_map};
 ghost use Rattle.mrt_frame.specs.Faults.{fault_number, fault_name};
 ghost use Rattle.peer_tables.specs.Tables.{all_faults};
 ghost use Rattle.rib_report.specs.Reports.{fault_rows};
-ghost use Rattle.rib_report.specs.Digits.{field};
+ghost use Rattle.rib_report.specs.Fields.{field};
 ghost use Rattle.rib_report.specs.Lines.{fault_line};
 ghost use Rattle.rib_report.specs.Texts.{IsOutput, Writes};
 
 use crate::buffer::TextBuffer;
 use crate::field::entry_field;
-use crate::forms::{AddressForm, AddressForms, AddressFormsOf};
+use crate::forms::{AddressForms, AddressFormsOf};
 use crate::line::Line;
 use crate::write::write_lines;
-use adj_rib::SharedRoute;
+use adj_rib::RouteId;
 use bgp_prefix::{Memory, PrefixMap};
 use bgp_update::Unicast;
+use ip_text::AddressForm;
 use mrt_body::Damage;
 use mrt_frame::{Fault, ReplayError, Sink};
 use peer_tables::Tables;
 use std::alloc::Global;
 
 /// The refusals, and then each peer's faults.
-fn gather_faults<F: Unicast, M: PrefixMap<SharedRoute, Addr = F>>(
+fn gather_faults<F: Unicast, M: PrefixMap<RouteId, Addr = F>>(
     alloc: Global,
     tables: &Tables<M>,
 ) -> Result<Vec<Damage>, Memory>
@@ -38,7 +39,7 @@ fn gather_faults<F: Unicast, M: PrefixMap<SharedRoute, Addr = F>>(
 }
 
 /// Returns all faults in place order; where places are equal, the refusals come first, then the peers' by number.
-pub fn faults<F: Unicast, M: PrefixMap<SharedRoute, Addr = F>>(
+pub fn faults<F: Unicast, M: PrefixMap<RouteId, Addr = F>>(
     alloc: Global,
     tables: &Tables<M>,
 ) -> Result<Vec<Damage>, Memory>

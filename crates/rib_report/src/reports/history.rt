@@ -8,14 +8,12 @@ ghost use Rattle.rib_report.specs.Texts.{IsOutput, Writes};
 
 use crate::buffer::TextBuffer;
 use crate::field::{Field, Microseconds, ShownKey};
-use crate::format::format_text;
 use crate::forms::{AddressFormsOf, ShownPeer};
 use crate::line::Line;
 use crate::route_line::put_route;
-use crate::short::ShortTexts;
 use crate::write::write_lines;
-use crate::written_address::WrittenAddress;
 use adj_rib::What;
+use ip_text::{ShortTexts, WrittenAddress, format_text};
 use mrt_frame::{ReplayError, Sink};
 use peer_tables::{By, HistoryRow};
 
@@ -83,7 +81,7 @@ impl<F: WrittenAddress> Line<F> for HistoryRow<F> {
         };
         text.put(out, (Microseconds(self.time()), (peer, event)));
         match self.route() {
-            Some(route) => put_route(text, out, *forms, route.route()),
+            Some(route) => put_route(text, out, *forms, &route.route().route_ref()),
             None => text.put_text(out, b"|-|-|-|-|-|-|-\n"),
         }
     }

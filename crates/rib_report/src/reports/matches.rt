@@ -8,14 +8,14 @@ ghost use Rattle.rib_report.specs.Reports.{path_row, matches_of_seat, match_rows
 ghost use Rattle.peer_tables.specs.Seats.{seat_of};
 
 use crate::reports::tables::TableRow;
-use adj_rib::SharedRoute;
+use adj_rib::RouteId;
 use bgp_prefix::{Memory, Prefix, PrefixMap, RouteKey};
 use bgp_update::Unicast;
 use peer_tables::{Seated, Tables};
 use std::alloc::Global;
 
 /// Adds the entries of a prefix in one peer's table.
-fn add_paths<'a, F: Unicast, M: PrefixMap<SharedRoute, Addr = F>>(
+fn add_paths<'a, F: Unicast, M: PrefixMap<RouteId, Addr = F>>(
     alloc: Global,
     rows: &mut Vec<TableRow<'a, Prefix<F>>>,
     seat: &'a Seated<M>,
@@ -27,9 +27,8 @@ fn add_paths<'a, F: Unicast, M: PrefixMap<SharedRoute, Addr = F>>(
     let peer = seat.key;
     let paths = seat.session.table().paths(alloc, &prefix)?;
     for path in paths.as_slice() {
-        let (id, shared) = *path;
-        let key = RouteKey { prefix, id };
-        let route = shared.route();
+        let key = RouteKey { prefix, id: path.0 };
+        let route = path.1.same();
         let Ok(()) = rows.push(TableRow { peer, key, route }) else {
             return Err(Memory);
         };
@@ -38,7 +37,7 @@ fn add_paths<'a, F: Unicast, M: PrefixMap<SharedRoute, Addr = F>>(
 }
 
 /// Adds the entries of the longest-prefix match in one peer's table, if there is one.
-fn add_matches<'a, F: Unicast, M: PrefixMap<SharedRoute, Addr = F>>(
+fn add_matches<'a, F: Unicast, M: PrefixMap<RouteId, Addr = F>>(
     alloc: Global,
     rows: &mut Vec<TableRow<'a, Prefix<F>>>,
     seat: &'a Seated<M>,
@@ -55,7 +54,7 @@ fn add_matches<'a, F: Unicast, M: PrefixMap<SharedRoute, Addr = F>>(
 
 /// Returns, for each peer by number, all entries of the longest prefix that contains the address, by identifier
 /// (RFC 1812, 5.2.4.3). A peer with no such prefix has none.
-pub fn matches<F: Unicast, M: PrefixMap<SharedRoute, Addr = F>>(
+pub fn matches<F: Unicast, M: PrefixMap<RouteId, Addr = F>>(
     alloc: Global,
     tables: &Tables<M>,
     addr: F,

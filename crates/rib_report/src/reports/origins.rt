@@ -15,10 +15,10 @@ use crate::forms::AddressFormsOf;
 use crate::line::Line;
 use crate::merge::{Listed, Mergeable, list_peers, list_peers_by_few};
 use crate::write::write_lines;
-use crate::written_address::WrittenAddress;
-use adj_rib::SharedRoute;
+use adj_rib::RouteId;
 use bgp_prefix::{Family, Memory, Prefix, PrefixMap, RouteKey, Sequence};
-use bgp_update::{PackedRoute, Unicast};
+use bgp_update::{RouteRef, Unicast};
+use ip_text::WrittenAddress;
 use mrt_frame::{ReplayError, Sink};
 use peer_tables::{Seated, Tables};
 use std::alloc::Global;
@@ -51,7 +51,7 @@ impl<F: Family> Mergeable for (Prefix<F>, u32) {
 }
 
 /// Returns the origin AS of a route (RFC 6811, 2).
-fn origin_of(route: &PackedRoute) -> Option<u32>
+fn origin_of(route: &RouteRef<'_>) -> Option<u32>
     ensures { result ≡ route_origin route.now }
 {
     route.origin_as()
@@ -61,7 +61,7 @@ fn origin_of(route: &PackedRoute) -> Option<u32>
 fn add_origin<F: Family>(
     pairs: &mut Vec<(Prefix<F>, u32)>,
     key: &RouteKey<Prefix<F>>,
-    route: &PackedRoute,
+    route: &RouteRef<'_>,
 ) -> Result<(), Memory>
     ensures { OnOk result (pairs.new.items ≡ pairs.old.items ++ filter_map origin_pair ((key.now, route.now) ∷ [])) }
 {
@@ -72,7 +72,7 @@ fn add_origin<F: Family>(
 }
 
 /// Adds the prefix and the origin AS of each route of one peer that has an origin AS.
-fn add_origins<F: Unicast, M: PrefixMap<SharedRoute, Addr = F>>(
+fn add_origins<F: Unicast, M: PrefixMap<RouteId, Addr = F>>(
     alloc: Global,
     pairs: &mut Vec<(Prefix<F>, u32)>,
     seat: &Seated<M>,
@@ -81,13 +81,13 @@ fn add_origins<F: Unicast, M: PrefixMap<SharedRoute, Addr = F>>(
 {
     let entries = seat.session.table().entries(alloc)?;
     for entry in entries.as_slice() {
-        add_origin(pairs, &entry.0, entry.1.route())?;
+        add_origin(pairs, &entry.0, &entry.1)?;
     }
     Ok(())
 }
 
 /// What is listed of peers: the prefixes and origin ASes of their routes in order, each pair once.
-impl<F: Unicast, M: PrefixMap<SharedRoute, Addr = F>> Listed<Seated<M>> for (Prefix<F>, u32) {
+impl<F: Unicast, M: PrefixMap<RouteId, Addr = F>> Listed<Seated<M>> for (Prefix<F>, u32) {
     ghost seen = { seat_of };
 
     ghost list_of = { origins_in_order };
@@ -157,7 +157,7 @@ fn group_runs<F: Family>(
 
 /// Returns the prefixes whose routes have at least two different origin ASes, by prefix, each with its origin
 /// ASes in ascending order.
-pub fn origins<M: PrefixMap<SharedRoute>>(
+pub fn origins<M: PrefixMap<RouteId>>(
     alloc: Global,
     tables: &Tables<M>,
 ) -> Result<Vec<OriginRow<Prefix<M::Addr>>>, Memory>
@@ -171,7 +171,7 @@ where
 
 /// Returns what `origins` returns. With two threads or more, two of them share the work; if no thread can be
 /// started, the calling thread does all of it.
-pub fn origins_with_threads<M: PrefixMap<SharedRoute> + Sync, T: Threads>(
+pub fn origins_with_threads<M: PrefixMap<RouteId> + Sync, T: Threads>(
     rt: &T,
     alloc: Global,
     threads: usize,

@@ -6,7 +6,7 @@ ghost use Rattle.std.specs.Prelude.{◌≡◌, IfOk};
 ghost use Rattle.std.specs.List.{flat_map};
 ghost use Rattle.peer_tables.specs.Seats.{seat_of};
 ghost use Rattle.rib_report.specs.Reports.{peer_row, peer_rows};
-ghost use Rattle.rib_report.specs.Digits.{field, time_text};
+ghost use Rattle.rib_report.specs.Fields.{field, time_text};
 ghost use Rattle.rib_report.specs.Lines.{entry_of, file_of, offset_of, peer_line, state_text};
 ghost use Rattle.rib_report.specs.Texts.{IsOutput, Writes};
 
@@ -15,7 +15,7 @@ use crate::field::{Ended, SessionUp, entry_field, time_field};
 use crate::forms::{AddressFormsOf, ShownPeer};
 use crate::line::Line;
 use crate::write::write_lines;
-use adj_rib::SharedRoute;
+use adj_rib::RouteId;
 use bgp_prefix::{Memory, PrefixMap};
 use bgp_update::Unicast;
 use mrt_body::{PeerKey, Place};
@@ -42,7 +42,7 @@ pub struct PeerRow {
 }
 
 /// Returns the row of a peer.
-fn row_of<F: Unicast, M: PrefixMap<SharedRoute, Addr = F>>(seat: &Seated<M>) -> PeerRow
+fn row_of<F: Unicast, M: PrefixMap<RouteId, Addr = F>>(seat: &Seated<M>) -> PeerRow
     ensures { result ≡ peer_row (seat_of seat.now) }
 {
     let churn = seat.session.churn();
@@ -59,7 +59,7 @@ fn row_of<F: Unicast, M: PrefixMap<SharedRoute, Addr = F>>(seat: &Seated<M>) -> 
 }
 
 /// Returns the peers, by number.
-pub fn peers<F: Unicast, M: PrefixMap<SharedRoute, Addr = F>>(
+pub fn peers<F: Unicast, M: PrefixMap<RouteId, Addr = F>>(
     alloc: Global,
     tables: &Tables<M>,
 ) -> Result<Vec<PeerRow>, Memory>

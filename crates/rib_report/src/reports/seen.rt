@@ -6,7 +6,7 @@ ghost use Rattle.std.specs.List.{flat_map};
 ghost use Rattle.bgp_prefix.specs.Ordered.{in_order};
 ghost use Rattle.rib_report.specs.Merges.{by_key, counted_both};
 ghost use Rattle.rib_report.specs.Reports.{origin_cmp, prefix_origin_cmp, prefix_origin, seat_prefix_origins, seen_among, seen_rows};
-ghost use Rattle.rib_report.specs.Digits.{field};
+ghost use Rattle.rib_report.specs.Fields.{field};
 ghost use Rattle.rib_report.specs.Lines.{seen_line};
 ghost use Rattle.rib_report.specs.Texts.{IsOutput, Writes};
 ghost use Rattle.peer_tables.specs.Seats.{seat_of};
@@ -17,10 +17,10 @@ use crate::forms::AddressFormsOf;
 use crate::line::Line;
 use crate::merge::{Listed, Mergeable, list_peers, list_peers_by_few};
 use crate::write::write_lines;
-use crate::written_address::WrittenAddress;
-use adj_rib::SharedRoute;
+use adj_rib::RouteId;
 use bgp_prefix::{Family, Memory, Prefix, PrefixMap};
 use bgp_update::Unicast;
+use ip_text::WrittenAddress;
 use mrt_frame::{ReplayError, Sink};
 use peer_tables::{Seated, Tables};
 use std::alloc::Global;
@@ -80,7 +80,7 @@ impl<F: Family> Mergeable for (PrefixOrigin<F>, usize) {
 }
 
 /// Returns the prefix and the origin AS of each route of one peer, keys in order.
-fn pairs_of_routes<F: Unicast, M: PrefixMap<SharedRoute, Addr = F>>(
+fn pairs_of_routes<F: Unicast, M: PrefixMap<RouteId, Addr = F>>(
     alloc: Global,
     seat: &Seated<M>,
 ) -> Result<Vec<PrefixOrigin<F>>, Memory>
@@ -89,14 +89,13 @@ fn pairs_of_routes<F: Unicast, M: PrefixMap<SharedRoute, Addr = F>>(
     let entries = seat.session.table().entries(alloc)?;
     let mut pairs = Vec::with_capacity(alloc, entries.len())?;
     for entry in entries.as_slice() {
-        let (key, shared) = *entry;
-        pairs.push((key.prefix, shared.route().origin_as()))?;
+        pairs.push((entry.0.prefix, entry.1.origin_as()))?;
     }
     Ok(pairs)
 }
 
 /// Returns the prefixes and origin ASes of one peer's routes in order, each pair once, whatever the path identifiers.
-fn pairs_of_seat<F: Unicast, M: PrefixMap<SharedRoute, Addr = F>>(
+fn pairs_of_seat<F: Unicast, M: PrefixMap<RouteId, Addr = F>>(
     alloc: Global,
     seat: &Seated<M>,
 ) -> Result<Vec<PrefixOrigin<F>>, Memory>
@@ -124,8 +123,7 @@ fn count_once<F: Family>(
 
 /// What is listed of peers: the prefixes and origin ASes of their routes in order, each pair with the number of peers
 /// that have such a route.
-impl<F: Unicast, M: PrefixMap<SharedRoute, Addr = F>> Listed<Seated<M>>
-    for (PrefixOrigin<F>, usize) {
+impl<F: Unicast, M: PrefixMap<RouteId, Addr = F>> Listed<Seated<M>> for (PrefixOrigin<F>, usize) {
     ghost seen = { seat_of };
 
     ghost list_of = { seen_among };
@@ -164,7 +162,7 @@ fn rows_of<F: Family>(
 /// Returns, for each prefix and each origin AS of its routes at any peer, the number of peers that have a route of
 /// this prefix with this origin AS: by prefix, then by origin AS, and the routes without one last. A peer counts once
 /// per row, whatever the identifiers of its routes.
-pub fn seen<M: PrefixMap<SharedRoute>>(
+pub fn seen<M: PrefixMap<RouteId>>(
     alloc: Global,
     tables: &Tables<M>,
 ) -> Result<Vec<SeenRow<Prefix<M::Addr>>>, Memory>
@@ -178,7 +176,7 @@ where
 
 /// Returns what `seen` returns. With two threads or more, two of them share the work; if no thread can be started, the
 /// calling thread does all of it.
-pub fn seen_with_threads<M: PrefixMap<SharedRoute> + Sync, T: Threads>(
+pub fn seen_with_threads<M: PrefixMap<RouteId> + Sync, T: Threads>(
     rt: &T,
     alloc: Global,
     threads: usize,

@@ -23,10 +23,10 @@ use crate::forms::{AddressFormsOf, ShownPeer, ShownPeerOf};
 use crate::line::Line;
 use crate::route_line::put_row;
 use crate::write::{NEAR_ROWS, next_rows, write_lines};
-use crate::written_address::WrittenAddress;
-use adj_rib::SharedRoute;
+use adj_rib::RouteId;
 use bgp_prefix::{Family, Memory, Prefix, PrefixMap, RouteKey};
-use bgp_update::{PackedRoute, Unicast};
+use bgp_update::{RouteRef, Unicast};
+use ip_text::WrittenAddress;
 use mrt_body::PeerKey;
 use mrt_frame::{Failed, ReplayError, Sink};
 use peer_tables::{Seated, Tables};
@@ -40,11 +40,11 @@ use std::thread::Threads;
 pub struct TableRow<'a, P = Prefix> {
     pub peer: PeerKey,
     pub key: RouteKey<P>,
-    pub route: &'a PackedRoute,
+    pub route: RouteRef<'a>,
 }
 
 /// Adds the entries of one peer's table.
-fn add_entries<'a, F: Unicast, M: PrefixMap<SharedRoute, Addr = F>>(
+fn add_entries<'a, F: Unicast, M: PrefixMap<RouteId, Addr = F>>(
     alloc: Global,
     rows: &mut Vec<TableRow<'a, Prefix<F>>>,
     seat: &'a Seated<M>,
@@ -56,8 +56,7 @@ fn add_entries<'a, F: Unicast, M: PrefixMap<SharedRoute, Addr = F>>(
     let entries = seat.session.table().entries(alloc)?;
     rows.reserve(entries.len())?;
     for entry in entries.as_slice() {
-        let (key, shared) = *entry;
-        let route = shared.route();
+        let (key, route) = (entry.0, entry.1.same());
         let Ok(()) = rows.push(TableRow { peer, key, route }) else {
             return Err(Memory);
         };
@@ -66,7 +65,7 @@ fn add_entries<'a, F: Unicast, M: PrefixMap<SharedRoute, Addr = F>>(
 }
 
 /// Returns every entry of every table: peers by number, keys in order.
-pub fn table_rows<F: Unicast, M: PrefixMap<SharedRoute, Addr = F>>(
+pub fn table_rows<F: Unicast, M: PrefixMap<RouteId, Addr = F>>(
     alloc: Global,
     tables: &Tables<M>,
 ) -> Result<Vec<TableRow<'_, Prefix<F>>>, Memory>
@@ -80,7 +79,7 @@ pub fn table_rows<F: Unicast, M: PrefixMap<SharedRoute, Addr = F>>(
 }
 
 /// Returns the greatest number of entries in the table of any of these peers.
-fn max_entries<F: Unicast, M: PrefixMap<SharedRoute, Addr = F>>(seats: &[Seated<M>]) -> usize
+fn max_entries<F: Unicast, M: PrefixMap<RouteId, Addr = F>>(seats: &[Seated<M>]) -> usize
     ensures { result ≡ most_entries (map seat_of seats.now) }
 {
     let mut most = 0usize;
@@ -91,12 +90,12 @@ fn max_entries<F: Unicast, M: PrefixMap<SharedRoute, Addr = F>>(seats: &[Seated<
 }
 
 /// Prefetches a little of what each entry refers to, and returns how many entries to prefetch next.
-pub(crate) fn prefetch_entries<F: Family>(entries: &[(RouteKey<Prefix<F>>, &SharedRoute)]) -> usize
+pub(crate) fn prefetch_entries<F: Family>(entries: &[(RouteKey<Prefix<F>>, RouteRef<'_>)]) -> usize
     ensures { 0 < result }
 {
     let mut bytes = 0usize;
     for entry in entries {
-        bytes = bytes.saturating_add(prefetch_route(entry.1.route()));
+        bytes = bytes.saturating_add(prefetch_route(&entry.1));
     }
     next_rows(bytes)
 }
@@ -106,13 +105,13 @@ fn put_block<W: Sink, F: WrittenAddress>(
     text: &mut TextBuffer,
     out: &mut W,
     peer: &PeerText<F>,
-    block: &[(RouteKey<Prefix<F>>, &SharedRoute)],
+    block: &[(RouteKey<Prefix<F>>, RouteRef<'_>)],
 )
     ensures { Writes W.contents W.failure_count out.old text.old out.new text.new
         (reached_lines peer.now block.now) }
 {
     for entry in block {
-        put_row(text, out, peer, &entry.0, entry.1.route());
+        put_row(text, out, peer, &entry.0, &entry.1);
     }
 }
 
@@ -121,7 +120,7 @@ pub(crate) fn put_entries<W: Sink, F: WrittenAddress>(
     text: &mut TextBuffer,
     out: &mut W,
     peer: &ShownPeerOf<F>,
-    entries: &[(RouteKey<Prefix<F>>, &SharedRoute)],
+    entries: &[(RouteKey<Prefix<F>>, RouteRef<'_>)],
 )
     ensures { Writes W.contents W.failure_count out.old text.old out.new text.new (reached_lines peer.now entries.now) }
 {
@@ -140,11 +139,12 @@ pub(crate) fn put_entries<W: Sink, F: WrittenAddress>(
     }
 }
 
-/// Adds the lines of one peer's table. Its entries replace the contents of a list that has room for them.
+/// Adds the lines of one peer's table. Its entries replace the contents of a list that has room for them, by way of a
+/// list of their numbers.
 fn put_table<
     'a,
     F: WrittenAddress + Sync,
-    M: PrefixMap<SharedRoute, Addr = F>,
+    M: PrefixMap<RouteId, Addr = F>,
     T: Threads + Sync,
     W: Sink,
 >(
@@ -153,16 +153,18 @@ fn put_table<
     text: &mut TextBuffer,
     out: &mut W,
     forms: &AddressFormsOf<F>,
-    all: &mut Vec<(RouteKey<Prefix<F>>, &'a SharedRoute)>,
+    ids: &mut Vec<(RouteKey<Prefix<F>>, &'a RouteId)>,
+    all: &mut Vec<(RouteKey<Prefix<F>>, RouteRef<'a>)>,
     seat: &'a Seated<M>,
 )
-    requires { length (seat_of seat.now).session.table ≤ vec_capacity all.old }
+    requires ids { length (seat_of seat.now).session.table ≤ vec_capacity ids.old }
+    requires all { length (seat_of seat.now).session.table ≤ vec_capacity all.old }
     ensures lines { Writes W.contents W.failure_count out.old text.old out.new text.new
         (seat_lines forms.now (seat_of seat.now)) }
-    ensures capacity { vec_capacity all.new ≡ vec_capacity all.old }
+    ensures ids { vec_capacity ids.new ≡ vec_capacity ids.old }
+    ensures all { vec_capacity all.new ≡ vec_capacity all.old }
 {
-    all.clear();
-    seat.session.table().list(all);
+    seat.session.table().list(ids, all);
     let peer = ShownPeer {
         key: seat.key,
         forms: *forms,
@@ -170,11 +172,11 @@ fn put_table<
     put_all_entries(rt, pieces, text, out, &peer, all.as_slice());
 }
 
-/// Adds the lines of every table, in order, by way of one list that has room for the entries of any of them.
+/// Adds the lines of every table, in order, by way of two lists that have room for the entries of any of them.
 fn put_tables<
     'a,
     F: WrittenAddress + Sync,
-    M: PrefixMap<SharedRoute, Addr = F>,
+    M: PrefixMap<RouteId, Addr = F>,
     T: Threads + Sync,
     W: Sink,
 >(
@@ -183,15 +185,17 @@ fn put_tables<
     text: &mut TextBuffer,
     out: &mut W,
     forms: &AddressFormsOf<F>,
-    mut all: Vec<(RouteKey<Prefix<F>>, &'a SharedRoute)>,
+    mut ids: Vec<(RouteKey<Prefix<F>>, &'a RouteId)>,
+    mut all: Vec<(RouteKey<Prefix<F>>, RouteRef<'a>)>,
     seats: &'a [Seated<M>],
 )
-    requires { most_entries (map seat_of seats.now) ≤ vec_capacity all }
+    requires ids { most_entries (map seat_of seats.now) ≤ vec_capacity ids }
+    requires all { most_entries (map seat_of seats.now) ≤ vec_capacity all }
     ensures { Writes W.contents W.failure_count out.old text.old out.new text.new
         (flat_map (seat_lines forms.now) (map seat_of seats.now)) }
 {
     for seat in seats {
-        put_table(rt, pieces, text, out, forms, &mut all, seat);
+        put_table(rt, pieces, text, out, forms, &mut ids, &mut all, seat);
     }
 }
 
@@ -201,7 +205,7 @@ fn put_tables<
 /// part of the text has been written.
 pub fn list_tables<
     F: WrittenAddress + Sync,
-    M: PrefixMap<SharedRoute, Addr = F>,
+    M: PrefixMap<RouteId, Addr = F>,
     T: Threads + Sync,
     W: Sink,
 >(
@@ -223,10 +227,11 @@ pub fn list_tables<
 {
     let seats = tables.seats();
     let most = max_entries(seats);
+    let ids = Vec::with_capacity(alloc, most)?;
     let all = Vec::with_capacity(alloc, most)?;
     let mut pieces = Pieces::new(alloc, threads, most)?;
     let mut text = TextBuffer::new();
-    put_tables(rt, &mut pieces, &mut text, out, &forms, all, seats);
+    put_tables(rt, &mut pieces, &mut text, out, &forms, ids, all, seats);
     match text.finish(out) {
         Ok(()) => Ok(()),
         Err(Failed) => Err(ReplayError::Write),
@@ -234,7 +239,7 @@ pub fn list_tables<
 }
 
 /// Prefetches a route by reading its first and its last byte, and returns about how many bytes it has.
-fn prefetch_route(route: &PackedRoute) -> usize {
+fn prefetch_route(route: &RouteRef<'_>) -> usize {
     let bytes = route.as_bytes();
     let last = match bytes.last() {
         Some(byte) => *byte >= 128,
@@ -249,7 +254,7 @@ impl<F: WrittenAddress> Line<F> for TableRow<'_, Prefix<F>> {
     ghost line = { λ forms row. route_line forms (table_row row) };
 
     fn prefetch(&self) -> usize {
-        prefetch_route(self.route)
+        prefetch_route(&self.route)
     }
 
     fn put<W: Sink>(&self, text: &mut TextBuffer, out: &mut W, forms: &AddressFormsOf<F>)
@@ -261,7 +266,7 @@ impl<F: WrittenAddress> Line<F> for TableRow<'_, Prefix<F>> {
             forms: *forms,
         };
         let peer_text = text.peer_text(&peer);
-        put_row(text, out, &peer_text, &self.key, self.route);
+        put_row(text, out, &peer_text, &self.key, &self.route);
     }
 }
 

@@ -17,10 +17,10 @@ use crate::forms::AddressFormsOf;
 use crate::line::Line;
 use crate::merge::{Listed, Mergeable, list_peers, list_peers_by_few};
 use crate::write::write_lines;
-use crate::written_address::WrittenAddress;
-use adj_rib::SharedRoute;
+use adj_rib::RouteId;
 use bgp_prefix::{Family, Memory, Prefix, PrefixMap};
 use bgp_update::Unicast;
+use ip_text::WrittenAddress;
 use mrt_frame::{ReplayError, Sink};
 use peer_tables::{Seated, Tables};
 use std::alloc::Global;
@@ -64,7 +64,7 @@ fn is_repeat<F: Family>(last: Option<Prefix<F>>, prefix: &Prefix<F>) -> bool
 
 /// What is listed of peers: the prefixes of their tables in order, each with the number of peers at which it is
 /// visible.
-impl<F: Unicast, M: PrefixMap<SharedRoute, Addr = F>> Listed<Seated<M>> for (Prefix<F>, usize) {
+impl<F: Unicast, M: PrefixMap<RouteId, Addr = F>> Listed<Seated<M>> for (Prefix<F>, usize) {
     ghost seen = { seat_of };
 
     ghost list_of = { visible_among };
@@ -104,7 +104,7 @@ fn rows_of<F: Family>(
 
 /// Returns, for each prefix visible at any peer, the number of peers at which it is visible, by prefix. A peer
 /// counts once per prefix, whatever the identifiers of its routes.
-pub fn visibility<M: PrefixMap<SharedRoute>>(
+pub fn visibility<M: PrefixMap<RouteId>>(
     alloc: Global,
     tables: &Tables<M>,
 ) -> Result<Vec<VisibilityRow<Prefix<M::Addr>>>, Memory>
@@ -118,7 +118,7 @@ where
 
 /// Returns what `visibility` returns. With two threads or more, two of them share the work; if no thread can be
 /// started, the calling thread does all of it.
-pub fn visibility_with_threads<M: PrefixMap<SharedRoute> + Sync, T: Threads>(
+pub fn visibility_with_threads<M: PrefixMap<RouteId> + Sync, T: Threads>(
     rt: &T,
     alloc: Global,
     threads: usize,

@@ -78,7 +78,7 @@ fn expect_row(rt: &impl Abort, row: &HistoryRow, told: &Told) {
     match row.route() {
         Some(route) => {
             assert!(rt;
-                has_route && route.route().origin_as() == Some(65_000),
+                has_route && route.route().route_ref().origin_as() == Some(65_000),
                 "of second {seconds}"
             );
         }

@@ -90,22 +90,22 @@ fn each_field_of_a_route_has_its_text(rt: HostRuntime) {
         TableRow {
             peer: PEER,
             key: key(0, 0, 0),
-            route: &bare,
+            route: bare.route_ref(),
         },
         TableRow {
             peer: PEER,
             key: key(0x0A00_0000, 8, 1),
-            route: &empty_path,
+            route: empty_path.route_ref(),
         },
         TableRow {
             peer: PEER,
             key: key(0x0A0F_FFFF, 12, 10),
-            route: &short,
+            route: short.route_ref(),
         },
         TableRow {
             peer: LAST_PEER,
             key: key(u32::MAX, 32, u32::MAX),
-            route: &greatest,
+            route: greatest.route_ref(),
         },
     ];
     let lines = "65000 192.0.2.1|0.0.0.0/0|-|-|-|-|-|-|-
@@ -164,7 +164,7 @@ fn each_address_has_its_short_text(rt: HostRuntime) -> Result<(), Fail> {
                 addr: PeerAddr::V6(addr),
             },
             key: key(0, 0, 0),
-            route: &route,
+            route: route.route_ref(),
         }];
         let mut out = Counted::new(Vec::<u8>::new(alloc));
         assert!(rt; write_rows(&mut out, AddressForms::all(AddressForm::Short), &rows).is_ok());
@@ -185,7 +185,7 @@ fn peers_and_routes_have_their_own_forms(rt: HostRuntime) {
             addr: PeerAddr::V6(1),
         },
         key: key(0, 0, 0),
-        route: &route,
+        route: route.route_ref(),
     }];
     let forms = AddressForms {
         routes: AddressForm::Short,

@@ -5,7 +5,7 @@ ghost use Rattle.std.specs.List.{IsDistinct};
 ghost use Rattle.peer_tables.specs.Gathers.{gathered_seats};
 
 use crate::payloads::message_in;
-use adj_rib::{Session, SharedRoute};
+use adj_rib::{RouteId, Session};
 use bgp_prefix::{PrefixMap, Sequence};
 use mrt_body::{Damage, PeerAddr, PeerKey, Place, Unit};
 use rib_report::{Gathered, Seated, Tables, collect};
@@ -24,7 +24,7 @@ pub fn peer_of(number: u32) -> PeerKey {
 }
 
 /// The session of a peer after its messages. They stand at offsets 0, 100 and so on, in second 1.
-fn session_of<M: PrefixMap<SharedRoute, Addr = u32> + Drop>(
+fn session_of<M: PrefixMap<RouteId, Addr = u32> + Drop>(
     rt: &impl Abort,
     alloc: Global,
     peer: PeerKey,
@@ -49,7 +49,7 @@ fn session_of<M: PrefixMap<SharedRoute, Addr = u32> + Drop>(
     session
 }
 
-fn seat_of<M: PrefixMap<SharedRoute, Addr = u32> + Drop>(
+fn seat_of<M: PrefixMap<RouteId, Addr = u32> + Drop>(
     rt: &impl Abort,
     alloc: Global,
     number: usize,
@@ -67,7 +67,7 @@ fn seat_of<M: PrefixMap<SharedRoute, Addr = u32> + Drop>(
 }
 
 /// What two lanes hand in: the first has one seat, the second two.
-fn two_lanes<M: PrefixMap<SharedRoute, Addr = u32> + Drop>(
+fn two_lanes<M: PrefixMap<RouteId, Addr = u32> + Drop>(
     rt: &impl Abort,
     alloc: Global,
     first: Seated<M>,
@@ -93,7 +93,7 @@ fn two_lanes<M: PrefixMap<SharedRoute, Addr = u32> + Drop>(
 }
 
 /// The tables of three peers, whose seats are handed in in this order of their numbers.
-pub fn tables_of<M: PrefixMap<SharedRoute, Addr = u32> + Drop>(
+pub fn tables_of<M: PrefixMap<RouteId, Addr = u32> + Drop>(
     rt: &impl Abort,
     alloc: Global,
     order: [usize; 3],
@@ -115,7 +115,7 @@ pub fn tables_of<M: PrefixMap<SharedRoute, Addr = u32> + Drop>(
 }
 
 /// The tables of three peers with these sessions.
-pub fn tables_of_sessions<M: PrefixMap<SharedRoute, Addr = u32> + Drop>(
+pub fn tables_of_sessions<M: PrefixMap<RouteId, Addr = u32> + Drop>(
     rt: &impl Abort,
     alloc: Global,
     first: Session<M>,

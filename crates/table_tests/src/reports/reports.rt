@@ -1,7 +1,7 @@
 //! Reports on three peers, however their seats are spread over lanes, with each map.
 
 use super::peers::{Peers, tables_of};
-use adj_rib::SharedRoute;
+use adj_rib::RouteId;
 use bgp_prefix::{Flat, PrefixMap, Radix};
 use mrt_body::{Damage, Place};
 use mrt_frame::{Counted, Fault, ReplayError, Sink};
@@ -277,7 +277,7 @@ const DAMAGED: Case<'static> = Case {
 };
 
 /// Writes a report on tables, in so many threads.
-pub fn write_report<M: PrefixMap<SharedRoute, Addr = u32> + Sync, T: Threads + Sync, W: Sink>(
+pub fn write_report<M: PrefixMap<RouteId, Addr = u32> + Sync, T: Threads + Sync, W: Sink>(
     rt: &T,
     alloc: Global,
     threads: usize,
@@ -307,7 +307,7 @@ pub fn write_report<M: PrefixMap<SharedRoute, Addr = u32> + Sync, T: Threads + S
 }
 
 /// The entries of all peers, as rows.
-fn expect_rows<M: PrefixMap<SharedRoute, Addr = u32>>(
+fn expect_rows<M: PrefixMap<RouteId, Addr = u32>>(
     rt: &impl Abort,
     alloc: Global,
     tables: &Tables<M>,
@@ -319,7 +319,7 @@ fn expect_rows<M: PrefixMap<SharedRoute, Addr = u32>>(
     assert!(rt; all.device().as_slice() == text.as_bytes());
 }
 
-fn expect_report<M: PrefixMap<SharedRoute, Addr = u32> + Sync, T: Abort + Threads + Sync>(
+fn expect_report<M: PrefixMap<RouteId, Addr = u32> + Sync, T: Abort + Threads + Sync>(
     rt: &T,
     alloc: Global,
     tables: &Tables<M>,
@@ -341,7 +341,7 @@ fn expect_report<M: PrefixMap<SharedRoute, Addr = u32> + Sync, T: Abort + Thread
 }
 
 /// Runs a case by one map, with the seats in this order.
-fn expect_order<M: PrefixMap<SharedRoute, Addr = u32> + Sync + Drop, T: Abort + Threads + Sync>(
+fn expect_order<M: PrefixMap<RouteId, Addr = u32> + Sync + Drop, T: Abort + Threads + Sync>(
     rt: &T,
     alloc: Global,
     order: [usize; 3],
@@ -373,8 +373,8 @@ fn expect_case<T: Abort + Threads + Sync>(rt: &T, alloc: Global, case: &Case<'_>
         [2, 1, 0],
     ];
     for order in orders {
-        expect_order::<Radix<u32, SharedRoute>, T>(rt, alloc, order, case);
-        expect_order::<Flat<u32, SharedRoute>, T>(rt, alloc, order, case);
+        expect_order::<Radix<u32, RouteId>, T>(rt, alloc, order, case);
+        expect_order::<Flat<u32, RouteId>, T>(rt, alloc, order, case);
     }
 }
 

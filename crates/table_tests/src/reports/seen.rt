@@ -2,7 +2,7 @@
 
 use super::peers::{peer_of, tables_of_sessions};
 use super::reports::full;
-use adj_rib::{Session, SharedRoute};
+use adj_rib::{RouteId, Session};
 use bgp_prefix::{Flat, Memory, Prefix, PrefixMap, Radix, RouteKey};
 use bgp_update::FamilyMark;
 use fixtures::bytes_of;
@@ -87,7 +87,7 @@ fn unit(alloc: Global, number: u32, entry: Entry) -> Result<Unit, Memory> {
 }
 
 /// The session of a peer with these routes.
-fn session<M: PrefixMap<SharedRoute, Addr = u32> + Drop>(
+fn session<M: PrefixMap<RouteId, Addr = u32> + Drop>(
     rt: &impl Abort,
     alloc: Global,
     number: u32,
@@ -101,17 +101,14 @@ fn session<M: PrefixMap<SharedRoute, Addr = u32> + Drop>(
     session
 }
 
-fn tables<M: PrefixMap<SharedRoute, Addr = u32> + Drop>(
-    rt: &impl Abort,
-    alloc: Global,
-) -> Tables<M> {
+fn tables<M: PrefixMap<RouteId, Addr = u32> + Drop>(rt: &impl Abort, alloc: Global) -> Tables<M> {
     let first = session(rt, alloc, 0, &FIRST);
     let second = session(rt, alloc, 1, &SECOND);
     let third = session(rt, alloc, 2, &THIRD);
     tables_of_sessions(rt, alloc, first, second, third)
 }
 
-fn expect_lines<M: PrefixMap<SharedRoute, Addr = u32> + Sync + Drop, T: Abort + Threads>(
+fn expect_lines<M: PrefixMap<RouteId, Addr = u32> + Sync + Drop, T: Abort + Threads>(
     rt: &T,
     alloc: Global,
 ) {
@@ -134,6 +131,6 @@ fn expect_lines<M: PrefixMap<SharedRoute, Addr = u32> + Sync + Drop, T: Abort + 
 #[test]
 fn a_peer_counts_once_for_a_prefix_and_an_origin(rt: HostRuntime) {
     let alloc = rt.alloc();
-    expect_lines::<Radix<u32, SharedRoute>, _>(&rt, alloc);
-    expect_lines::<Flat<u32, SharedRoute>, _>(&rt, alloc);
+    expect_lines::<Radix<u32, RouteId>, _>(&rt, alloc);
+    expect_lines::<Flat<u32, RouteId>, _>(&rt, alloc);
 }

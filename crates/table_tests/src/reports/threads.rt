@@ -3,7 +3,7 @@
 use super::peers::{peer_of, tables_of_sessions};
 use super::reports::full;
 use super::writers::Narrow;
-use adj_rib::{Session, SharedRoute};
+use adj_rib::{RouteId, Session};
 use bgp_prefix::{Memory, Prefix, PrefixMap, Radix, RouteKey};
 use bgp_update::FamilyMark;
 use mrt_body::{Payload, PayloadBytes, Place, Unit};
@@ -89,7 +89,7 @@ fn entry(alloc: Global, number: u32, i: u32) -> Result<Unit, Memory> {
 }
 
 /// The session of a peer with so many routes.
-fn session<M: PrefixMap<SharedRoute, Addr = u32> + Drop>(
+fn session<M: PrefixMap<RouteId, Addr = u32> + Drop>(
     rt: &impl Abort,
     alloc: Global,
     number: u32,
@@ -135,7 +135,7 @@ fn lines(alloc: Global) -> Result<Vec<u8>, Memory> {
 fn expect_lines<T: Abort + Threads + Sync>(
     rt: &T,
     alloc: Global,
-    tables: &Tables<Radix<u32, SharedRoute>>,
+    tables: &Tables<Radix<u32, RouteId>>,
     threads: usize,
     text: &[u8],
 ) {
@@ -151,7 +151,7 @@ fn expect_lines<T: Abort + Threads + Sync>(
 fn expect_front<T: Abort + Threads + Sync>(
     rt: &T,
     alloc: Global,
-    tables: &Tables<Radix<u32, SharedRoute>>,
+    tables: &Tables<Radix<u32, RouteId>>,
     threads: usize,
     front: &[u8],
 ) {

@@ -2,7 +2,7 @@
 
 use super::peers::{Peers, tables_of};
 use super::reports::{REFUSED, Report, full, write_report};
-use adj_rib::SharedRoute;
+use adj_rib::RouteId;
 use bgp_prefix::{Memory, Prefix, Radix};
 use mrt_frame::{Counted, Failures, ReplayError};
 use rib_report::{Tables, VisibilityRow, write_visibility};
@@ -76,7 +76,7 @@ const REPORTS: [Report; 8] = [
 fn expect_stop<T: Abort + Threads + Sync>(
     rt: &T,
     alloc: Global,
-    tables: &Tables<Radix<u32, SharedRoute>>,
+    tables: &Tables<Radix<u32, RouteId>>,
     report: Report,
     mut out: Counted<Narrow>,
     front: &[u8],
@@ -94,7 +94,7 @@ fn expect_stop<T: Abort + Threads + Sync>(
 fn stop_everywhere<T: Abort + Threads + Sync>(
     rt: &T,
     alloc: Global,
-    tables: &Tables<Radix<u32, SharedRoute>>,
+    tables: &Tables<Radix<u32, RouteId>>,
     report: Report,
     whole: &[u8],
 ) {
@@ -110,7 +110,7 @@ fn stop_everywhere<T: Abort + Threads + Sync>(
 fn expect_by_bytes<T: Abort + Threads + Sync>(
     rt: &T,
     alloc: Global,
-    tables: &Tables<Radix<u32, SharedRoute>>,
+    tables: &Tables<Radix<u32, RouteId>>,
     report: Report,
     whole: &[u8],
 ) {
@@ -122,7 +122,7 @@ fn expect_by_bytes<T: Abort + Threads + Sync>(
 #[test]
 fn each_report_stops_at_the_write_that_fails(rt: HostRuntime) {
     let alloc = rt.alloc();
-    let tables = tables_of::<Radix<u32, SharedRoute>>(&rt, alloc, [2, 0, 1], &PEERS, &REFUSED);
+    let tables = tables_of::<Radix<u32, RouteId>>(&rt, alloc, [2, 0, 1], &PEERS, &REFUSED);
     for report in REPORTS {
         let mut whole = Counted::new(Vec::<u8>::new(alloc));
         assert!(rt; write_report(&rt, alloc, 1, &mut whole, &tables, report).is_ok());

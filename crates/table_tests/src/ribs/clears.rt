@@ -1,14 +1,14 @@
 //! Clears by RIB dumps that replace what came before them: they end each route, and nothing else is changed or counted.
 
 use super::units::{take_named, unit_of};
-use adj_rib::{Churn, Note, Session, SharedRoute, Watch, What};
+use adj_rib::{Churn, Note, RouteId, Session, SharedRoute, Watch, What};
 use bgp_prefix::{Flat, PrefixMap, Radix};
 use mrt_body::ChosenPrefixes;
 use std::alloc::Global;
 use std::process::Abort;
 
 /// The routes of a peer, what is counted of it, how many units came, and whether it is up and established.
-fn expect_session<M: PrefixMap<SharedRoute, Addr = u32>>(
+fn expect_session<M: PrefixMap<RouteId, Addr = u32>>(
     rt: &impl Abort,
     session: &Session<M>,
     routes: usize,
@@ -84,7 +84,7 @@ const DOWN: Churn = Churn {
     last: Some(1_000_000),
 };
 
-fn expect_cleared<M: PrefixMap<SharedRoute, Addr = u32> + Drop>(rt: &impl Abort, alloc: Global) {
+fn expect_cleared<M: PrefixMap<RouteId, Addr = u32> + Drop>(rt: &impl Abort, alloc: Global) {
     let mut session = Session::<M>::new(alloc);
     take_named(rt, alloc, &mut session, "clear");
     expect_session(rt, &session, 0, &NOTHING, 0, true);
@@ -106,8 +106,8 @@ fn expect_cleared<M: PrefixMap<SharedRoute, Addr = u32> + Drop>(rt: &impl Abort,
 
 #[test]
 fn a_clear_ends_the_routes_of_a_session_and_no_more(rt: HostRuntime) {
-    expect_cleared::<Flat<u32, SharedRoute>>(&rt, rt.alloc());
-    expect_cleared::<Radix<u32, SharedRoute>>(&rt, rt.alloc());
+    expect_cleared::<Flat<u32, RouteId>>(&rt, rt.alloc());
+    expect_cleared::<Radix<u32, RouteId>>(&rt, rt.alloc());
 }
 
 /// Takes the unit of a name, of any prefix and counted from the beginning on. Returns the notes.

@@ -1,14 +1,14 @@
 //! Rows on sessions: the units, and the counts and the table after them, with both maps.
 
 use super::units::take_named;
-use adj_rib::{Churn, Session, SharedRoute};
+use adj_rib::{Churn, RouteId, Session};
 use bgp_prefix::{Flat, PrefixMap, Radix};
 use bgp_update::NextHop;
 use std::alloc::Global;
 use std::process::Abort;
 
 /// The session of a peer after these units.
-fn session_after<M: PrefixMap<SharedRoute, Addr = u32> + Drop>(
+fn session_after<M: PrefixMap<RouteId, Addr = u32> + Drop>(
     rt: &impl Abort,
     alloc: Global,
     names: &str,
@@ -37,7 +37,7 @@ fn counts(churn: &Churn) -> [u64; 8] {
 /// Path identifiers of 10.0.0.0/8 in a table, each with its next hop.
 type Paths = &'static [(u32, u32)];
 
-fn expect_table<M: PrefixMap<SharedRoute, Addr = u32>>(
+fn expect_table<M: PrefixMap<RouteId, Addr = u32>>(
     rt: &impl Abort,
     alloc: Global,
     session: &Session<M>,
@@ -47,15 +47,12 @@ fn expect_table<M: PrefixMap<SharedRoute, Addr = u32>>(
     let entries = session.table().entries(alloc).expect(rt, names);
     assert!(rt; entries.len() == paths.len(), "{names}");
     for (entry, path) in entries.iter().zip(paths.iter()) {
-        let (key, shared) = *entry;
+        let (key, route) = entry;
         assert!(rt;
             key.prefix.addr() == 0x0A00_0000 && key.prefix.len() == 8 && key.id == path.0,
             "{names}"
         );
-        assert!(rt;
-            shared.route().next_hop() == Some(NextHop::V4(path.1)),
-            "{names}"
-        );
+        assert!(rt; route.next_hop() == Some(NextHop::V4(path.1)), "{names}");
     }
 }
 
@@ -208,7 +205,7 @@ const ROWS: [(&str, [u64; 8], u64, u64, Paths); 22] = [
 ];
 
 /// The counts are these, the first and the last unit were of these seconds, and the damaged units are listed.
-fn expect_churn<M: PrefixMap<SharedRoute, Addr = u32>>(
+fn expect_churn<M: PrefixMap<RouteId, Addr = u32>>(
     rt: &impl Abort,
     session: &Session<M>,
     expected: [u64; 8],
@@ -225,7 +222,7 @@ fn expect_churn<M: PrefixMap<SharedRoute, Addr = u32>>(
     assert!(rt; session.faults().len() as u64 == churn.refused, "{names}");
 }
 
-fn run_rows<M: PrefixMap<SharedRoute, Addr = u32> + Drop>(rt: &impl Abort, alloc: Global) {
+fn run_rows<M: PrefixMap<RouteId, Addr = u32> + Drop>(rt: &impl Abort, alloc: Global) {
     for (names, expected, first, last, paths) in ROWS {
         let session = session_after::<M>(rt, alloc, names);
         expect_churn(rt, &session, expected, (first, last), names);
@@ -235,6 +232,6 @@ fn run_rows<M: PrefixMap<SharedRoute, Addr = u32> + Drop>(rt: &impl Abort, alloc
 
 #[test]
 fn units_change_the_table_and_its_counts(rt: HostRuntime) {
-    run_rows::<Flat<u32, SharedRoute>>(&rt, rt.alloc());
-    run_rows::<Radix<u32, SharedRoute>>(&rt, rt.alloc());
+    run_rows::<Flat<u32, RouteId>>(&rt, rt.alloc());
+    run_rows::<Radix<u32, RouteId>>(&rt, rt.alloc());
 }

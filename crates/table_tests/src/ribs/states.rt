@@ -1,7 +1,7 @@
 //! State changes by both rules: which of them are breaks, and whether units after them are taken.
 
 use super::units::{state_change, take_named};
-use adj_rib::{Session, SharedRoute};
+use adj_rib::{RouteId, Session};
 use bgp_prefix::{Flat, PrefixMap};
 use mrt_body::StateRule;
 use std::alloc::Global;
@@ -49,7 +49,7 @@ fn change_with(states: (u16, u16), facts: [bool; 3]) -> Change {
 /// A peer announces a prefix, its state changes, and it announces the prefix again.
 fn expect_change(rt: &impl Abort, alloc: Global, rule: StateRule, change: &Change) {
     let (from, to) = change.states;
-    let mut session = Session::<Flat<u32, SharedRoute>>::new(alloc);
+    let mut session = Session::<Flat<u32, RouteId>>::new(alloc);
     take_named(rt, alloc, &mut session, "announcement");
     session
         .take(alloc, &state_change(from, to, rule))

@@ -1,7 +1,7 @@
 //! Units by their names.
 
 use crate::payloads::message_in;
-use adj_rib::{Session, SharedRoute};
+use adj_rib::{RouteId, Session};
 use bgp_prefix::{Memory, Prefix, PrefixMap, RouteKey};
 use bgp_update::FamilyMark;
 use fixtures::bytes_of;
@@ -81,7 +81,7 @@ pub fn unit_of(alloc: Global, name: &str) -> Result<Unit, Memory> {
 }
 
 /// Takes the unit of a name.
-pub fn take_named<M: PrefixMap<SharedRoute, Addr = u32>>(
+pub fn take_named<M: PrefixMap<RouteId, Addr = u32> + Drop>(
     rt: &impl Abort,
     alloc: Global,
     session: &mut Session<M>,

@@ -56,7 +56,7 @@ fn expect_packed(
     expect_keys_of_ipv6(rt, update.reached.as_slice(), reached, text);
     assert!(rt; update.reached_hop == hop, "at {text}");
     match &update.reached_route {
-        Some(route) => assert!(rt; route.next_hop() == hop, "at {text}"),
+        Some(route) => assert!(rt; route.route_ref().next_hop() == hop, "at {text}"),
         None => assert!(rt; reached.is_empty(), "at {text}"),
     }
 }
@@ -257,6 +257,7 @@ fn hop_of_entry(rt: &impl Abort, alloc: Global, text: &str) -> Result<Option<Nex
     match read_attrs::<Ipv6>(alloc, bytes.as_slice(), Width::Four) {
         Ok(route) => {
             let packed = packed.expect(rt, "a packed route");
+            let packed = packed.route_ref();
             assert!(rt; packed.next_hop() == route.next_hop, "at {text}");
             assert!(rt; packed.origin() == route.origin, "at {text}");
             Ok(route.next_hop)

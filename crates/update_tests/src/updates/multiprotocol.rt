@@ -17,9 +17,9 @@ fn expect_reached(rt: &impl Abort, update: &Update, hop: NextHop) {
 /// With packed routes, 10.0.0.0/8 has one with this hop, and the UPDATE's own route has no hop.
 fn expect_reached_packed(rt: &impl Abort, update: PackedUpdate, hop: NextHop) {
     expect_keys(rt, update.reached.as_slice(), &[(0x0A000000, 8, 0)]);
-    assert!(rt; update.reached_hop == Some(hop) && update.route.next_hop().is_none());
+    assert!(rt; update.reached_hop == Some(hop) && update.route.route_ref().next_hop().is_none());
     let route = update.reached_route.expect(rt, "a route");
-    assert!(rt; route.next_hop() == Some(hop));
+    assert!(rt; route.route_ref().next_hop() == Some(hop));
 }
 
 #[test]

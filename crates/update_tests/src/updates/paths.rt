@@ -68,8 +68,8 @@ fn as4_path_is_merged_unless_it_is_longer_or_the_aggregator_is_of_another_as(rt:
         expect_keys(&rt, update.announced.as_slice(), &[(0x0A000000, 8, 0)]);
         let packed = packed_reading_of(&rt, rt.alloc(), text, Width::Two);
         expect_keys(&rt, packed.announced.as_slice(), &[(0x0A000000, 8, 0)]);
-        assert!(rt; packed.route.origin_as() == Some(origin));
-        assert!(rt; packed.route.aggregator() == aggregator);
+        assert!(rt; packed.route.route_ref().origin_as() == Some(origin));
+        assert!(rt; packed.route.route_ref().aggregator() == aggregator);
     }
 }
 

@@ -4,4 +4,4 @@ use Rattle.std.specs.FinMap as finite
 use Rattle.adj_rib.proofs.retaining.remove_all.Given as goal
 
 abbrev pub invariant-loop-key : goal.invariant-loop-key
-invariant-loop-key g l = g.M.PrefixMap.contents l.table ≡ fold finite.remove (g.M.PrefixMap.contents l.initial.table) (take l.key-index l.keys)
+invariant-loop-key g l = l.table ≡ fold finite.remove l.initial.table (take l.key-index l.keys)

@@ -9,5 +9,5 @@ use Rattle.adj_rib.proofs.retaining.retain_chosen.Goals as goal
 pub returns : goal.returns
 returns g c =
     ap finite.entries c.remove_all.ensures
-    ∙ ap (λ (ks : List RouteKey). finite.entries (fold finite.remove (g.M.PrefixMap.contents c.args.table.now) ks)) (c.as_slice.ensures.value ∙ c.in_ok-keys.ensures)
-    ∙ entries-retained (chooses c.args.chosen.now) (g.M.PrefixMap.contents c.args.table.now)
+    ∙ ap (λ (ks : List RouteKey). finite.entries (fold finite.remove c.args.table.now ks)) (c.as_slice.ensures.value ∙ c.in_ok-keys.ensures)
+    ∙ entries-retained (chooses c.args.chosen.now) c.args.table.now

@@ -6,4 +6,4 @@ use Rattle.adj_rib.specs.Selecting.{chooses}
 use Rattle.adj_rib.proofs.retaining.unchosen_keys.Given as goal
 
 abbrev pub invariant-loop-key : goal.invariant-loop-key
-invariant-loop-key g l = l.keys.items ≡ filter (λ k. not (chooses l.chosen k)) (map (λ (e : RouteKey × Route). e.0) (map (λ e. (e.0, e.1.now)) (take l.key-index l.entries)))
+invariant-loop-key g l = l.keys.items ≡ filter (λ k. not (chooses l.chosen k)) (map (λ (e : RouteKey × Route). e.0) (take l.key-index l.entries))

@@ -11,7 +11,7 @@ use Rattle.adj_rib.proofs.update.announce_update.Goals as goal
 pub returns : goal.returns
 returns g c =
     let update = plain_update c.args.update in
-    let before : RouteMap × Churn = (g.M.PrefixMap.contents c.args.table.now, c.args.churn.now) in
+    let before : RouteMap × Churn = (c.args.table.now, c.args.churn.now) in
     let first = rw c.as_slice-announced.ensures at c.in_ok-announce_keys.ensures in
     let second = (rw c.as_slice-reached.ensures at c.in_ok-announce_reached.ensures) (by_hop c.args.update.route c.args.update.reached_hop) c.args.update.by_hop in
     second ∙ ap (λ s. fold applied s (reachings update)) first ∙ sym (fold-append applied before (announcements update) (reachings update))

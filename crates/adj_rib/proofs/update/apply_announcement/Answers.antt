@@ -7,5 +7,5 @@ use Rattle.adj_rib.proofs.update.apply_announcement.Goals as goal
 
 pub returns : goal.returns
 returns g c update h =
-    let before : RouteMap × Churn = (g.M.PrefixMap.contents c.args.table.now, c.args.churn.now) in
+    let before : RouteMap × Churn = (c.args.table.now, c.args.churn.now) in
     c.in_ok-announce_hashed.ensures ∙ ap (fold applied before) (announcement_steps c.args.keys.now c.args.route.now.route update h)

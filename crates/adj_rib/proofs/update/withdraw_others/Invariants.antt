@@ -6,4 +6,4 @@ use Rattle.adj_rib.specs.Applied.{applied}
 use Rattle.adj_rib.proofs.update.withdraw_others.Given as goal
 
 abbrev pub invariant-loop-key : goal.invariant-loop-key
-invariant-loop-key g l = (g.M.PrefixMap.contents l.table, l.churn) ≡ fold applied (g.M.PrefixMap.contents l.initial.table, l.initial.churn) (map withdraw (filter (λ key. not (among l.announced key || among l.reached key)) (take l.key-index l.withdrawn)))
+invariant-loop-key g l = (l.table, l.churn) ≡ fold applied (l.initial.table, l.initial.churn) (map withdraw (filter (λ key. not (among l.announced key || among l.reached key)) (take l.key-index l.withdrawn)))

@@ -1,8 +1,8 @@
 use Rattle.std.proofs.Common.{◌≡◌, true, false, eqb, ap, sym, ◌∙◌}
 use Rattle.std.specs.List.{list_any}
 use Rattle.std.specs.Net.Addr.{ipv6_segments}
-use Rattle.rib_report.specs.Spellings.{number_of_groups}
-use Rattle.rib_report.proofs.SpellingLaws.{spelled_have_none, none_from_test, test_from_none, colon_hex, spelled_from}
+use Rattle.ip_text.specs.Spellings.{number_of_groups}
+use Rattle.ip_text.proofs.SpellingLaws.{spelled_have_none, none_from_test, test_from_none, colon_hex, spelled_from}
 use Rattle.command_line.proofs.ipv6.ipv6_in.Goals as goal
 
 -- a point stands in no text of the two forms

@@ -12,7 +12,7 @@ loop-seat-preserved g c =
     let seat = c.seat-item.result in
     let before = flat_map (λ s. s.session.table) (take c.loop-seat.seat-index c.args.seats.now) in
     let own = seat.session.table in
-    let size : length own ≡ c.len.result = ap length (sym c.table.ensures) ∙ sym (len-entries (g.M.PrefixMap.contents c.table.result.now)) ∙ sym c.len.ensures in
+    let size : length own ≡ c.len.result = ap length (sym c.table.ensures) ∙ sym (len-entries c.table.result.now) ∙ sym c.len.ensures in
     let more = pieces_more (λ s. s.session.table) c.args.seats.now c.loop-seat.seat-index seat before (before ++ own) c.loop-seat-test.true c.seat-item.is refl refl in
     let counted : min (c.loop-seat.count + c.len.result) (2 ^ 64 - 1) ≡ min (length (before ++ own)) (2 ^ 64 - 1) = omega (arith, c.loop-seat.invariant, length-append before own, size) in
     c.saturating_add-count.ensures ∙ counted ∙ ap (λ routes. min (length routes) (2 ^ 64 - 1)) more

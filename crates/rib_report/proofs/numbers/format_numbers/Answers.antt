@@ -1,6 +1,6 @@
 use Rattle.std.proofs.Common.{◌≡◌, ◌∷◌, ◌++◌, ◌+◌, ap, ◌∙◌, get_or, decimal, arith}
 use Rattle.std.specs.List.{flat_map, between}
-use Rattle.rib_report.proofs.TextLaws.{Formats_trans, Formats_as, Formats_within}
+use Rattle.ip_text.proofs.FormatLaws.{Formats_trans, Formats_as, Formats_within}
 use Rattle.rib_report.proofs.JoinLaws.{Formats_later_item, join_first}
 use Rattle.rib_report.proofs.numbers.format_numbers.Goals as goal
 

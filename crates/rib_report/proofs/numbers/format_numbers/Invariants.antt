@@ -1,7 +1,7 @@
 -- the numbers so far, each behind a separator
 use Rattle.std.proofs.Common.{◌+◌, ◌-◌, ◌*◌, ◌∷◌, decimal}
 use Rattle.std.specs.List.{flat_map, between}
-use Rattle.rib_report.specs.Texts.{Formats}
+use Rattle.ip_text.specs.Formats.{Formats}
 use Rattle.rib_report.proofs.numbers.format_numbers.Given as goal
 
 abbrev pub invariant-loop-i : goal.invariant-loop-i

@@ -1,4 +1,4 @@
-use Rattle.rib_report.proofs.TextLaws.{Formats_trans}
+use Rattle.ip_text.proofs.FormatLaws.{Formats_trans}
 use Rattle.rib_report.proofs.route_line.format_end.Goals as goal
 
 pub returns : goal.returns

@@ -13,10 +13,9 @@ use crate::forms::ShownPeerOf;
 use crate::nowhere::Nowhere;
 use crate::route_line::put_row;
 use crate::write::NEAR_ROWS;
-use crate::written_address::WrittenAddress;
-use adj_rib::SharedRoute;
 use bgp_prefix::{Prefix, RouteKey};
-use bgp_update::PackedRoute;
+use bgp_update::RouteRef;
+use ip_text::WrittenAddress;
 use mrt_frame::Sink;
 
 /// The most bytes of a line without the numbers of its path, and some more.
@@ -35,7 +34,7 @@ pub(crate) struct Piece {
 }
 
 /// Returns about how many bytes the line of a route takes at most. A line that takes more costs time, and nothing else.
-fn most_bytes(route: &PackedRoute) -> usize {
+fn most_bytes(route: &RouteRef<'_>) -> usize {
     route
         .as_bytes()
         .len()
@@ -48,7 +47,7 @@ fn put_fitting<F: WrittenAddress>(
     text: &mut TextBuffer,
     nowhere: &mut Nowhere,
     peer: &PeerText<F>,
-    entries: &[(RouteKey<Prefix<F>>, &SharedRoute)],
+    entries: &[(RouteKey<Prefix<F>>, RouteRef<'_>)],
 ) -> usize
     ensures few { result ≤ length entries.now }
     ensures lines { Writes nowhere_contents nowhere_failures nowhere.old text.old nowhere.new text.new
@@ -56,7 +55,7 @@ fn put_fitting<F: WrittenAddress>(
 {
     for at in 0..entries.len() {
         let entry = &entries[at];
-        let route = entry.1.route();
+        let route = &entry.1;
         if text.room() < most_bytes(route) {
             return at;
         }
@@ -71,7 +70,7 @@ fn put_while_fitting<F: WrittenAddress>(
     text: &mut TextBuffer,
     nowhere: &mut Nowhere,
     peer: &ShownPeerOf<F>,
-    entries: &[(RouteKey<Prefix<F>>, &SharedRoute)],
+    entries: &[(RouteKey<Prefix<F>>, RouteRef<'_>)],
     start: usize,
     end: usize,
 ) -> usize
@@ -110,7 +109,7 @@ impl Piece {
     pub(crate) fn fill<F: WrittenAddress>(
         &mut self,
         peer: &ShownPeerOf<F>,
-        entries: &[(RouteKey<Prefix<F>>, &SharedRoute)],
+        entries: &[(RouteKey<Prefix<F>>, RouteRef<'_>)],
     )
         requires { (self.old.start ≤ self.old.end) × (self.old.end ≤ length entries.now) }
         ensures range { range_of self.new ≡ range_of self.old }
@@ -143,7 +142,7 @@ pub(crate) fn put_piece<W: Sink, F: WrittenAddress>(
     text: &mut TextBuffer,
     out: &mut W,
     peer: &ShownPeerOf<F>,
-    entries: &[(RouteKey<Prefix<F>>, &SharedRoute)],
+    entries: &[(RouteKey<Prefix<F>>, RouteRef<'_>)],
     piece: &Piece,
 )
     requires { IsFilled peer.now entries.now piece.now }

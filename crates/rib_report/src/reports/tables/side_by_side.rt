@@ -11,9 +11,9 @@ use super::piece::{Piece, put_piece};
 use super::put_entries;
 use crate::buffer::TextBuffer;
 use crate::forms::ShownPeerOf;
-use crate::written_address::WrittenAddress;
-use adj_rib::SharedRoute;
 use bgp_prefix::{Memory, Prefix, RouteKey};
+use bgp_update::RouteRef;
+use ip_text::WrittenAddress;
 use mrt_frame::Sink;
 use std::alloc::Global;
 use std::marker::Sync;
@@ -116,7 +116,7 @@ fn next_size(size: usize, pieces: &[Piece]) -> usize
 /// Fills pieces in the calling thread.
 fn fill_each<F: WrittenAddress>(
     peer: &ShownPeerOf<F>,
-    entries: &[(RouteKey<Prefix<F>>, &SharedRoute)],
+    entries: &[(RouteKey<Prefix<F>>, RouteRef<'_>)],
     pieces: &mut [Piece],
 )
     requires { AreRanges (length entries.now) pieces.old }
@@ -133,7 +133,7 @@ fn put_pieces<W: Sink, F: WrittenAddress>(
     text: &mut TextBuffer,
     out: &mut W,
     peer: &ShownPeerOf<F>,
-    entries: &[(RouteKey<Prefix<F>>, &SharedRoute)],
+    entries: &[(RouteKey<Prefix<F>>, RouteRef<'_>)],
     pieces: &[Piece],
     start: usize,
     end: usize,
@@ -156,7 +156,7 @@ fn fill_and_put<T: Threads + Sync, W: Sink, F: WrittenAddress + Sync>(
     text: &mut TextBuffer,
     out: &mut W,
     peer: &ShownPeerOf<F>,
-    entries: &[(RouteKey<Prefix<F>>, &SharedRoute)],
+    entries: &[(RouteKey<Prefix<F>>, RouteRef<'_>)],
     near: &[Piece],
     far: &mut [Piece],
     start: usize,
@@ -184,7 +184,7 @@ fn fill_some_and_put<T: Threads + Sync, W: Sink, F: WrittenAddress + Sync>(
     text: &mut TextBuffer,
     out: &mut W,
     peer: &ShownPeerOf<F>,
-    entries: &[(RouteKey<Prefix<F>>, &SharedRoute)],
+    entries: &[(RouteKey<Prefix<F>>, RouteRef<'_>)],
     near: &[Piece],
     some: &mut [Piece],
     others: &mut [Piece],
@@ -225,7 +225,7 @@ fn put_by_pieces<T: Threads + Sync, W: Sink, F: WrittenAddress + Sync>(
     text: &mut TextBuffer,
     out: &mut W,
     peer: &ShownPeerOf<F>,
-    entries: &[(RouteKey<Prefix<F>>, &SharedRoute)],
+    entries: &[(RouteKey<Prefix<F>>, RouteRef<'_>)],
 )
     requires { (0 < length near.old.items) × (0 < length far.old.items) }
     ensures { Writes W.contents W.failure_count out.old text.old out.new text.new
@@ -266,7 +266,7 @@ pub(crate) fn put_all_entries<T: Threads + Sync, W: Sink, F: WrittenAddress + Sy
     text: &mut TextBuffer,
     out: &mut W,
     peer: &ShownPeerOf<F>,
-    entries: &[(RouteKey<Prefix<F>>, &SharedRoute)],
+    entries: &[(RouteKey<Prefix<F>>, RouteRef<'_>)],
 )
     ensures { Writes W.contents W.failure_count out.old text.old out.new text.new
         (reached_lines peer.now entries.now) }

@@ -1,4 +1,4 @@
-use Rattle.rib_report.proofs.SpellingLaws.{one_number}
+use Rattle.ip_text.proofs.SpellingLaws.{one_number}
 use Rattle.command_line.proofs.Plain.{plain_ipv6}
 use Rattle.command_line.proofs.address_text.Ipv6AddressText.texts_spell_one_address.Goals as goal
 

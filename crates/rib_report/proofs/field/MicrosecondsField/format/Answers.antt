@@ -1,6 +1,6 @@
 use Rattle.std.proofs.Common.{◌/◌, ◌%◌, ◌++◌, ◌∷◌, ap, sym, decimal}
-use Rattle.rib_report.proofs.TextLaws.{Formats_trans, Formats_as}
-use Rattle.rib_report.proofs.ShortNumbers.{digits_six}
+use Rattle.ip_text.proofs.FormatLaws.{Formats_trans, Formats_as}
+use Rattle.ip_text.proofs.ShortNumbers.{digits_six}
 use Rattle.rib_report.proofs.field.MicrosecondsField.format.Goals as goal
 
 pub returns : goal.returns

@@ -1,6 +1,6 @@
 use Rattle.std.proofs.Common.{◌≡◌, ◌++◌, ◌∷◌, sym, decimal}
-use Rattle.rib_report.specs.AddressTexts.{address_text}
-use Rattle.rib_report.proofs.TextLaws.{Formats_trans, Formats_as}
+use Rattle.ip_text.specs.AddressTexts.{address_text}
+use Rattle.ip_text.proofs.FormatLaws.{Formats_trans, Formats_as}
 use Rattle.rib_report.proofs.field.ShownPrefixPrefixFamilyMarkField.format.Goals as goal
 
 pub returns : goal.returns

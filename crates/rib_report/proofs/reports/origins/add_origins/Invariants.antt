@@ -5,4 +5,4 @@ use Rattle.rib_report.specs.Reports.{origin_pair}
 use Rattle.rib_report.proofs.reports.origins.add_origins.Given as goal
 
 abbrev pub invariant-loop-entry : goal.invariant-loop-entry
-invariant-loop-entry g l = l.pairs.items ≡ l.initial.pairs.items ++ filter_map (λ e. origin_pair (e.0, e.1.now)) (take l.entry-index l.entry-items)
+invariant-loop-entry g l = l.pairs.items ≡ l.initial.pairs.items ++ filter_map origin_pair (take l.entry-index l.entry-items)

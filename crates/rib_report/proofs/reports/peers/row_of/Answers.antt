@@ -5,7 +5,7 @@ use Rattle.rib_report.proofs.reports.peers.row_of.Goals as goal
 pub returns : goal.returns
 returns g c =
     let session = c.args.seat.now.session in
-    let size : c.len.result ≡ length session.table = c.len.ensures ∙ len-entries (g.M.PrefixMap.contents c.table.result.now) ∙ ap length c.table.ensures in
+    let size : c.len.result ≡ length session.table = c.len.ensures ∙ len-entries c.table.result.now ∙ ap length c.table.ensures in
     λ i. record {
       peer = c.args.seat.now.key;
       is_established = c.is_established.ensures i;

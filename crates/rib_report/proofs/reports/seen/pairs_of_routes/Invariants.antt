@@ -4,4 +4,4 @@ use Rattle.rib_report.specs.Reports.{prefix_origin}
 use Rattle.rib_report.proofs.reports.seen.pairs_of_routes.Given as goal
 
 abbrev pub invariant-loop-entry : goal.invariant-loop-entry
-invariant-loop-entry g l = l.pairs.items ≡ map (λ e. prefix_origin (e.0, e.1.now)) (take l.entry-index l.entry-items)
+invariant-loop-entry g l = l.pairs.items ≡ map prefix_origin (take l.entry-index l.entry-items)

@@ -10,7 +10,7 @@ loop-seat-preserved g c =
     let seats = c.args.seats.now in
     let seat = c.seat-item.result in
     let most = most_entries (map seat_of (take c.loop-seat.seat-index seats)) in
-    c.max-most.ensures ∙ ap (λ n. max n c.len.result) c.loop-seat.invariant ∙ ap (max most) (c.len.ensures ∙ finite.len-entries (g.M.PrefixMap.contents c.table.result.now) ∙ ap length c.table.ensures)
+    c.max-most.ensures ∙ ap (λ n. max n c.len.result) c.loop-seat.invariant ∙ ap (max most) (c.len.ensures ∙ finite.len-entries c.table.result.now ∙ ap length c.table.ensures)
     ∙ sym (most_more seats c.loop-seat.seat-index seat c.loop-seat-test.true c.seat-item.is)
 
 pub returns : goal.returns

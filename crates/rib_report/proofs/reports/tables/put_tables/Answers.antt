@@ -10,11 +10,12 @@ use Rattle.rib_report.proofs.reports.tables.put_tables.Goals as goal
 pub put_table-requires : goal.put_table-requires
 put_table-requires g c =
     let most = most_at c.args.seats.now c.loop-seat.seat-index c.seat-item.result c.loop-seat-test.true c.seat-item.is in
-    (c.type_bounds.sync-F, (c.type_bounds.sync-T, omega (arith, most, c.loop-seat.invariant.room)))
+    (c.type_bounds.sync-F, (c.type_bounds.sync-T, (omega (arith, most, c.loop-seat.invariant.ids), omega (arith, most, c.loop-seat.invariant.all))))
 
 pub loop-seat-preserved : goal.loop-seat-preserved
 loop-seat-preserved g c = record {
-  room = omega (arith, c.loop-seat.invariant.room, c.put_table.ensures.capacity);
+  ids = omega (arith, c.loop-seat.invariant.ids, c.put_table.ensures.ids);
+  all = omega (arith, c.loop-seat.invariant.all, c.put_table.ensures.all);
   written = Adds_item (λ s. seat_lines c.args.forms.now (seat_of s)) c.args.seats.now c.loop-seat.seat-index c.seat-item.result c.loop-seat-test.true c.seat-item.is c.loop-seat.invariant.written c.put_table.ensures.lines;
 }
 

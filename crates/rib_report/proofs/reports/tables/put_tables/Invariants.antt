@@ -1,4 +1,4 @@
--- the tables so far, and the room of the list
+-- the tables so far, and the room of the lists
 use Rattle.std.proofs.Common.{◌≤◌, map, take}
 use Rattle.std.specs.Prelude.{vec_capacity}
 use Rattle.std.specs.List.{flat_map}
@@ -9,6 +9,7 @@ use Rattle.rib_report.proofs.reports.tables.put_tables.Given as goal
 
 abbrev pub invariant-loop-seat : goal.invariant-loop-seat
 invariant-loop-seat g l = record {
-  room : most_entries (map seat_of l.seats) ≤ vec_capacity l.all;
+  ids : most_entries (map seat_of l.seats) ≤ vec_capacity l.ids;
+  all : most_entries (map seat_of l.seats) ≤ vec_capacity l.all;
   written : Writes g.W.Sink.contents g.W.Failures.failure_count l.initial.out l.initial.text l.out l.text (flat_map (λ s. seat_lines l.forms (seat_of s)) (take l.seat-index l.seats));
 }

@@ -5,7 +5,7 @@ use Rattle.mrt_body.specs.declared.unit.PeerKey.{PeerKey}
 use Rattle.rib_report.specs.Plain.{AddressForms}
 use Rattle.adj_rib.specs.declared.note.What.{What}
 use Rattle.peer_tables.specs.declared.history.By.{By}
-use Rattle.rib_report.specs.Digits.{time_text}
+use Rattle.rib_report.specs.Fields.{time_text}
 use Rattle.rib_report.specs.Lines.{peer_text, key_text}
 use Rattle.rib_report.specs.HistoryLines.{by_text, what_text}
 use Rattle.rib_report.proofs.TextLaws.{Adds_trans, Adds_as}
@@ -35,7 +35,7 @@ returns-in-Some g c =
     let begun : front c.args.forms.now c.time.result c.peer.result c.what.result c.by.result c.key.result ≡ front c.args.forms.now row.time row.peer row.note.what row.by row.note.key =
     λ i. front c.args.forms.now (c.time.ensures i) (c.peer.ensures i) (c.what.ensures i) (c.by.ensures i) (c.key.ensures i) in
     let parts = history_in_parts c.args.forms.now (time_text row.time) (peer_text c.args.forms.now row.peer) (what_text row.note.what) (by_text row.by) (key_text c.args.forms.now row.note.key) row.note.route in
-    let route = ap (λ (r : Route). Some r) c.route-in-Some.ensures ∙ sym c.in-Some.ensures.some in
+    let route = ap (λ (r : Route). Some r) (c.route_ref.ensures ∙ c.route-in-Some.ensures) ∙ sym c.in-Some.ensures.some in
     Adds_as
-    ((λ i. begun i ++ behind_key c.args.forms.now (Some c.route-in-Some.result.now)) ∙ ap (λ (o : Option Route). front c.args.forms.now row.time row.peer row.note.what row.by row.note.key ++ behind_key c.args.forms.now o) route ∙ parts)
+    ((λ i. begun i ++ behind_key c.args.forms.now (Some c.route_ref.result)) ∙ ap (λ (o : Option Route). front c.args.forms.now row.time row.peer row.note.what row.by row.note.key ++ behind_key c.args.forms.now o) route ∙ parts)
     (Adds_trans c.put.ensures c.put_route.ensures)

@@ -1,6 +1,6 @@
 use Rattle.std.proofs.Common.{ap}
 use Rattle.rib_report.specs.Lines.{route_line}
-use Rattle.rib_report.specs.Listings.{reached_row}
+use Rattle.rib_report.specs.Reports.{entry_row}
 use Rattle.rib_report.proofs.TextLaws.{Adds_as}
 use Rattle.rib_report.proofs.JoinLaws.{Adds_item}
 use Rattle.rib_report.proofs.reports.tables.piece.put_fitting.Goals as goal
@@ -8,5 +8,5 @@ use Rattle.rib_report.proofs.reports.tables.piece.put_fitting.Goals as goal
 pub loop-at-preserved : goal.loop-at-preserved
 loop-at-preserved g c =
     let e = c.index-entries-at.result in
-    Adds_item (λ e. route_line c.args.peer.now.forms (reached_row c.args.peer.now.key e)) c.args.entries.now c.loop-at.at e c.loop-at-test.true c.index-entries-at.is c.loop-at.invariant
-    (Adds_as (ap (λ r. route_line c.args.peer.now.forms (record { peer = c.args.peer.now.key; key = e.0; route = r })) c.route-route.ensures) c.put_row.ensures)
+    Adds_item (λ e. route_line c.args.peer.now.forms (entry_row c.args.peer.now.key e)) c.args.entries.now c.loop-at.at e c.loop-at-test.true c.index-entries-at.is c.loop-at.invariant
+    c.put_row.ensures

@@ -2,7 +2,8 @@ use Rattle.std.proofs.Common.{◌∙◌, sym, arith, rules, ap, subst, map, leng
 use Rattle.std.proofs.lemmas.Slice.{between_from_start}
 use Rattle.std.specs.List.{All}
 use Rattle.rib_report.specs.Lines.{route_line}
-use Rattle.rib_report.specs.Listings.{reached_row, reached_lines}
+use Rattle.rib_report.specs.Reports.{entry_row}
+use Rattle.rib_report.specs.Listings.{reached_lines}
 use Rattle.rib_report.proofs.TextLaws.{Adds_as}
 use Rattle.rib_report.proofs.JoinLaws.{Adds_failed}
 use Rattle.rib_report.specs.Pieces.{AreRanges, AreSuccessive, IsFilled, range_of}
@@ -14,7 +15,7 @@ returns-then-has_failed g c =
     let entries = c.args.entries.now in
     let start = c.loop-end.start in
     let so_far = Adds_next c.args.peer.now entries 0 0 start (omega arith) (omega arith) c.fill_and_put.ensures.put c.loop-end.invariant.written in
-    Adds_failed (λ e. route_line c.args.peer.now.forms (reached_row c.args.peer.now.key e)) entries start
+    Adds_failed (λ e. route_line c.args.peer.now.forms (entry_row c.args.peer.now.key e)) entries start
     (Adds_as (ap (reached_lines c.args.peer.now) (between_from_start entries start)) so_far) (sym c.has_failed.ensures ∙ c.if-has_failed.true)
 
 pub loop-end-init : goal.loop-end-init

@@ -51,7 +51,7 @@ pub returns : goal.returns
 returns g c =
     let entries = c.as_slice-entry-items.result.now in
     let end = at_drop_all (λ es. c.loop-entry.counts.items ++ map (λ p. (p, 1)) (new_after c.loop-entry.last (map (λ e. e.0.prefix) es))) entries c.loop-entry.entry-index c.loop-entry-test.false in
-    let seen = ap (map (λ e. (e.0, e.1.now))) c.as_slice-entry-items.ensures.value ∙ c.in_ok-entries.ensures ∙ c.table.ensures in
-    let prefixes = map_twice (λ e. (e.0, e.1.now)) (λ (e : RouteKey × Route). e.0.prefix) entries ∙ ap (map (λ (e : RouteKey × Route). e.0.prefix)) seen in
-    let ordered : HasOrder (seat_of {M = g.row.M.Denot} c.args.seat.now) = ap (is_sorted key_cmp) (sym c.table.ensures) ∙ true_of _ (entries_sorted (g.M.PrefixMap.contents c.table.result.now)) in
+    let seen = c.as_slice-entry-items.ensures.value ∙ c.in_ok-entries.ensures ∙ c.table.ensures in
+    let prefixes = ap (map (λ (e : RouteKey × Route). e.0.prefix)) seen in
+    let ordered : HasOrder (seat_of {M = g.row.M.Denot} c.args.seat.now) = ap (is_sorted key_cmp) (sym c.table.ensures) ∙ true_of _ (entries_sorted c.table.result.now) in
     sym (append-nil c.loop-entry.counts.items) ∙ sym end ∙ c.loop-entry.invariant ∙ ap (λ ps. map (λ p. (p, 1)) (without_repeats ps)) prefixes ∙ visible_at_one (seat_of {M = g.row.M.Denot} c.args.seat.now) ordered

@@ -1,0 +1,12 @@
+use Rattle.std.proofs.Common.{◌≡◌, map, take}
+use Rattle.std.specs.List.{fold}
+use Rattle.adj_rib.specs.Steps.{announce}
+use Rattle.adj_rib.specs.Applied.{applied}
+use Rattle.adj_rib.specs.Routes.{AreNamed, named_routes, route_at}
+use Rattle.adj_rib.proofs.route_table.put_all.Given as goal
+
+abbrev pub invariant-loop-key : goal.invariant-loop-key
+invariant-loop-key g l = record {
+  ok : (named_routes l.routes (g.M.PrefixMap.contents l.table), l.churn) ≡ fold applied (named_routes l.routes (g.M.PrefixMap.contents l.initial.table), l.initial.churn) (map (λ key. announce key (route_at l.routes l.id.at)) (take l.key-index l.keys));
+  all : AreNamed l.routes (g.M.PrefixMap.contents l.table);
+}

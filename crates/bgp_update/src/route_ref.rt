@@ -1,0 +1,254 @@
+//! A packed route whose bytes are borrowed, and its fields.
+
+ghost use Rattle.std.specs.Prelude.{◌≡◌, ◌↔◌, ◌+◌, ◌≤◌, length, drop, IfOk, IsTrue};
+ghost use Rattle.std.specs.Option.{option_and_then};
+ghost use Rattle.bgp_update.specs.Packing as packing;
+ghost use Rattle.bgp_update.specs.Packing.{IsPacked, unpacked, hop_by, hop_bits, aggregator_by, flag_bit};
+ghost use Rattle.bgp_update.specs.Paths.{origin_as_of};
+ghost use Rattle.bgp_update.specs.Equality.{route_eq};
+
+use crate::next_hop::NextHop;
+use crate::packed_path::PackedSegments;
+use crate::packed_route::PackedRoute;
+use crate::route::{Aggregator, Origin};
+use bgp_prefix::Memory;
+use byteorder::{BigEndian, ByteOrder};
+use std::alloc::Global;
+use std::marker::Model;
+
+/// Reads the number at a position, if its flag is set.
+fn number_by(bytes: &[u8], bit: u8, at: usize) -> Option<u32>
+    requires { bit ≡ 1 → at + 4 ≤ length bytes.now }
+    ensures { result ≡ packing.number_by bit (drop at bytes.now) }
+{
+    if bit == 1 {
+        Some(BigEndian::read_u32(&bytes[at..]))
+    } else {
+        None
+    }
+}
+
+/// How many bytes a next hop takes.
+fn hop_len(code: u8) -> usize
+    ensures { result ≡ packing.hop_len code }
+{
+    match code {
+        0 => 0,
+        1 => 4,
+        2 => 16,
+        _ => 32,
+    }
+}
+
+/// The position of MULTI_EXIT_DISC, after the next hop.
+#[tactic(auto, unfolding(crate::specs::Packing::med_at))]
+fn med_at(bytes: &[u8]) -> usize
+    requires { 2 ≤ length bytes.now }
+    ensures { result ≡ packing.med_at bytes.now }
+{
+    2 + hop_len(bytes[0] / 8 % 4)
+}
+
+/// The position of LOCAL_PREF.
+#[tactic(auto, unfolding(crate::specs::Packing::med_at, crate::specs::Packing::local_pref_at))]
+fn local_pref_at(bytes: &[u8]) -> usize
+    requires { 2 ≤ length bytes.now }
+    ensures { result ≡ packing.local_pref_at bytes.now }
+{
+    med_at(bytes) + 4 * (bytes[0] / 32 % 2) as usize
+}
+
+/// The position of AGGREGATOR.
+#[tactic(auto, unfolding(crate::specs::Packing::med_at, crate::specs::Packing::local_pref_at, crate::specs::Packing::aggregator_at))]
+fn aggregator_at(bytes: &[u8]) -> usize
+    requires { 2 ≤ length bytes.now }
+    ensures { result ≡ packing.aggregator_at bytes.now }
+{
+    local_pref_at(bytes) + 4 * (bytes[0] / 64 % 2) as usize
+}
+
+/// The position of the path.
+#[tactic(auto, unfolding(crate::specs::Packing::med_at, crate::specs::Packing::local_pref_at, crate::specs::Packing::aggregator_at, crate::specs::Packing::path_at))]
+fn path_at(bytes: &[u8]) -> usize
+    requires { 2 ≤ length bytes.now }
+    ensures { result ≡ packing.path_at bytes.now }
+{
+    aggregator_at(bytes) + 8 * (bytes[0] / 128) as usize
+}
+
+#[tactic(auto, unfolding(crate::specs::Packing::med_at, crate::specs::Packing::local_pref_at, crate::specs::Packing::aggregator_at, crate::specs::Packing::path_at))]
+fn next_hop_in(bytes: &[u8]) -> Option<NextHop>
+    requires { packing.path_at bytes.now ≤ length bytes.now }
+    ensures { result ≡ hop_by (hop_bits bytes.now) (drop 2 bytes.now) }
+{
+    match bytes[0] / 8 % 4 {
+        0 => None,
+        1 => Some(NextHop::V4(BigEndian::read_u32(&bytes[2..]))),
+        2 => Some(NextHop::V6(BigEndian::read_u128(&bytes[2..]))),
+        _ => Some(NextHop::V6Pair(
+            BigEndian::read_u128(&bytes[2..]),
+            BigEndian::read_u128(&bytes[18..]),
+        )),
+    }
+}
+
+#[tactic(auto, unfolding(crate::specs::Packing::med_at, crate::specs::Packing::local_pref_at, crate::specs::Packing::aggregator_at, crate::specs::Packing::path_at))]
+fn aggregator_in(bytes: &[u8]) -> Option<Aggregator>
+    requires { packing.path_at bytes.now ≤ length bytes.now }
+    ensures { result ≡ aggregator_by (flag_bit 128 bytes.now) (drop (packing.aggregator_at bytes.now) bytes.now) }
+{
+    if bytes[0] / 128 == 1 {
+        let at = aggregator_at(bytes);
+        let asn = BigEndian::read_u32(&bytes[at..]);
+        let addr = BigEndian::read_u32(&bytes[at + 4..]);
+        Some(Aggregator { asn, addr })
+    } else {
+        None
+    }
+}
+
+/// A route whose packed bytes are borrowed, which contracts see as the `Route`.
+#[derive(Drop)]
+pub struct RouteRef<'a> {
+    bytes: &'a [u8],
+}
+
+impl<'a> Model for RouteRef<'a> {
+    ghost use Rattle.bgp_update.specs.declared.route.Route.{Route};
+    ghost use Rattle.bgp_update.specs.Packing.{unpacked, IsPacked};
+
+    ghost Value = { Route };
+
+    ghost view = { λ r. unpacked r.bytes.now };
+
+    ghost invariant = { λ r. IsPacked r.bytes.now };
+}
+
+impl<'a> RouteRef<'a> {
+    /// Returns the route of these bytes, which are those of a packed route.
+    #[inline(always)]
+    pub fn of_bytes(bytes: &'a [u8]) -> RouteRef<'a>
+        requires { IsPacked bytes.now }
+        ensures { result ≡ unpacked bytes.now }
+    {
+        RouteRef { bytes }
+    }
+
+    /// The bytes.
+    #[inline(always)]
+    pub fn as_bytes(&self) -> &'a [u8]
+        ensures route { self.now ≡ unpacked result.now }
+        ensures packed { IsPacked result.now }
+    {
+        self.bytes
+    }
+
+    /// The same route.
+    #[inline(always)]
+    pub fn same(&self) -> RouteRef<'a>
+        ensures { result ≡ self.now }
+    {
+        RouteRef { bytes: self.bytes }
+    }
+
+    /// Whether the bytes are equal, as those of equal routes are, and only they.
+    #[tactic(auto, using(crate::proofs::Packings::same_packed))]
+    fn has_same_bytes(&self, other: &RouteRef<'_>) -> bool
+        ensures { IsTrue result ↔ (self.now ≡ other.now) }
+    {
+        self.bytes == other.bytes
+    }
+
+    /// Whether the routes are equal.
+    pub fn is_same(&self, other: &RouteRef<'_>) -> bool
+        ensures test { result ≡ route_eq self.now other.now }
+        ensures same { IsTrue result ↔ (self.now ≡ other.now) }
+    {
+        self.has_same_bytes(other)
+    }
+
+    /// Returns an equal route with bytes of its own.
+    pub fn to_packed(&self, alloc: Global) -> Result<PackedRoute, Memory>
+        ensures { IfOk result (λ copy. copy ≡ self.now) }
+    {
+        PackedRoute::of_bytes(alloc, self.bytes)
+    }
+
+    /// The next hop: NEXT_HOP, or that of MP_REACH_NLRI (RFC 4271, 5.1.3; RFC 4760, 3).
+    #[tactic(auto, using(crate::proofs::Packings::packed_room), unfolding(crate::specs::Packing::unpacked, crate::specs::Packing::med_at, crate::specs::Packing::local_pref_at, crate::specs::Packing::aggregator_at, crate::specs::Packing::path_at))]
+    pub fn next_hop(&self) -> Option<NextHop>
+        ensures { result ≡ self.now.next_hop }
+    {
+        next_hop_in(self.bytes)
+    }
+
+    /// MULTI_EXIT_DISC (RFC 4271, 5.1.4).
+    #[tactic(auto, using(crate::proofs::Packings::packed_room), unfolding(crate::specs::Packing::unpacked, crate::specs::Packing::med_at, crate::specs::Packing::local_pref_at, crate::specs::Packing::aggregator_at, crate::specs::Packing::path_at))]
+    pub fn med(&self) -> Option<u32>
+        ensures { result ≡ self.now.med }
+    {
+        let bytes = self.bytes;
+        number_by(bytes, bytes[0] / 32 % 2, med_at(bytes))
+    }
+
+    /// LOCAL_PREF (RFC 4271, 5.1.5).
+    #[tactic(auto, using(crate::proofs::Packings::packed_room), unfolding(crate::specs::Packing::unpacked, crate::specs::Packing::med_at, crate::specs::Packing::local_pref_at, crate::specs::Packing::aggregator_at, crate::specs::Packing::path_at))]
+    pub fn local_pref(&self) -> Option<u32>
+        ensures { result ≡ self.now.local_pref }
+    {
+        let bytes = self.bytes;
+        number_by(bytes, bytes[0] / 64 % 2, local_pref_at(bytes))
+    }
+
+    /// AGGREGATOR (RFC 4271, 5.1.7).
+    #[tactic(auto, using(crate::proofs::Packings::packed_room), unfolding(crate::specs::Packing::unpacked, crate::specs::Packing::med_at, crate::specs::Packing::local_pref_at, crate::specs::Packing::aggregator_at, crate::specs::Packing::path_at))]
+    pub fn aggregator(&self) -> Option<Aggregator>
+        ensures { result ≡ self.now.aggregator }
+    {
+        aggregator_in(self.bytes)
+    }
+
+    /// ORIGIN (RFC 4271, 5.1.1).
+    #[tactic(auto, using(crate::proofs::Packings::packed_room), unfolding(crate::specs::Packing::unpacked, crate::specs::Packing::med_at, crate::specs::Packing::local_pref_at, crate::specs::Packing::aggregator_at, crate::specs::Packing::path_at))]
+    pub fn origin(&self) -> Option<Origin>
+        ensures { result ≡ self.now.origin }
+    {
+        match self.bytes[0] % 4 {
+            0 => Some(Origin::Igp),
+            1 => Some(Origin::Egp),
+            2 => Some(Origin::Incomplete),
+            _ => None,
+        }
+    }
+
+    /// Whether ATOMIC_AGGREGATE is present (RFC 4271, 5.1.6).
+    #[tactic(auto, using(crate::proofs::Packings::packed_room), unfolding(crate::specs::Packing::unpacked, crate::specs::Packing::med_at, crate::specs::Packing::local_pref_at, crate::specs::Packing::aggregator_at, crate::specs::Packing::path_at))]
+    pub fn atomic(&self) -> bool
+        ensures { result ≡ self.now.atomic }
+    {
+        self.bytes[0] / 4 % 2 == 1
+    }
+
+    /// The segments of AS_PATH (RFC 4271, 5.1.2).
+    #[tactic(auto, using(crate::proofs::Packings::packed_room, crate::proofs::Packings::packed_path), unfolding(crate::specs::Packing::unpacked, crate::specs::Packing::med_at, crate::specs::Packing::local_pref_at, crate::specs::Packing::aggregator_at, crate::specs::Packing::path_at))]
+    pub fn path(&self) -> Option<PackedSegments<'a>>
+        ensures { result ≡ self.now.path }
+    {
+        let bytes = self.bytes;
+        if bytes[1] == 1 {
+            Some(PackedSegments::of_bytes(&bytes[path_at(bytes)..]))
+        } else {
+            None
+        }
+    }
+
+    /// The origin AS (RFC 6811, 2).
+    pub fn origin_as(&self) -> Option<u32>
+        ensures { result ≡ option_and_then origin_as_of self.now.path }
+    {
+        match self.path() {
+            Some(segments) => segments.origin_as(),
+            None => None,
+        }
+    }
+}

@@ -1,0 +1,8 @@
+pub mod Formats
+pub mod Digits
+pub mod Ipv6Texts
+pub mod AddressTexts
+pub mod ZeroRuns
+pub mod HexTexts
+pub mod ShortTexts
+pub mod Spellings

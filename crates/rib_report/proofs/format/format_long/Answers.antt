@@ -1,7 +1,0 @@
-use Rattle.std.proofs.Common.{sym, arith}
-use Rattle.rib_report.proofs.TextLaws.{Formats_trans, Formats_as}
-use Rattle.rib_report.proofs.ShortNumbers.{decimal_millions}
-use Rattle.rib_report.proofs.format.format_long.Goals as goal
-
-pub returns : goal.returns
-returns c = Formats_as (sym (decimal_millions c.args.number c.requires.0 (omega arith))) (Formats_trans c.format_six-high.ensures (Formats_trans c.format_three-middle.ensures c.format_three.ensures))
