@@ -5,8 +5,7 @@ pub mod Stepping
 pub mod Taking
 pub mod StateLaws
 pub mod SourceLaws
-pub mod Reached
-pub mod Announcements
+pub mod UpdateSteps
 pub mod RouteBlocks
 pub mod MappedValues
 pub mod NamedRoutes

@@ -12,7 +12,8 @@ use Rattle.adj_rib.specs.declared.churn.Churn.{Churn}
 use Rattle.adj_rib.specs.declared.outcome.Outcome.{Outcome}
 use Rattle.adj_rib.specs.declared.routes.RouteId.{RouteId}
 use Rattle.adj_rib.specs.MappedValues.{map_values}
-use Rattle.adj_rib.specs.Routes.{IsNamed, IsGrown, route_at, named_routes, AreNamed}
+use Rattle.bgp_update.specs.Decoded.{IsGrown}
+use Rattle.adj_rib.specs.Routes.{IsNamed, route_at, named_routes, AreNamed}
 use Rattle.adj_rib.specs.Steps.{announce}
 use Rattle.adj_rib.specs.Churns.{announced_over}
 use Rattle.adj_rib.specs.Applied.{RouteMap, applied, counted}

@@ -11,7 +11,8 @@ use Rattle.bgp_update.specs.Packing.{IsPacked, unpacked}
 use Rattle.bgp_update.specs.declared.route.Route.{Route}
 use Rattle.adj_rib.specs.declared.routes.RouteId.{RouteId}
 use Rattle.adj_rib.specs.declared.routes.IndexSlot.{IndexSlot}
-use Rattle.adj_rib.specs.Routes.{is_long, head_len, body_len, front_of, head_of, IsFront, IsNamed, route_at, Names, IsGrown, IsSlot, AreSlots}
+use Rattle.bgp_update.specs.Decoded.{IsGrown}
+use Rattle.adj_rib.specs.Routes.{is_long, head_len, body_len, front_of, head_of, IsFront, IsNamed, route_at, Names, IsSlot, AreSlots}
 
 -- the front, by whether its length is long
 pub front_by : (rest : List ℕ) (b : Bool) → is_long rest ≡ b → front_of rest ≡ take (body_len b rest) (drop (head_len b) rest)

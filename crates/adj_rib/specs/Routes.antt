@@ -49,11 +49,6 @@ pub record Names (bytes : List ℕ) (id : RouteId) (route : Route) : Type 0 wher
   pub named : IsNamed bytes id.at
   pub is : route_at bytes id.at ≡ route
 
--- Bytes were added at the end, or none.
-pub record IsGrown (before after : List ℕ) : Type 0 where
-  pub more : List ℕ
-  pub parts : after ≡ before ++ more
-
 -- A slot names a route, or none by 0.
 abbrev pub IsSlot : List ℕ → IndexSlot → Type 0
 IsSlot bytes slot = slot.at ≢ 0 → IsNamed bytes slot.at

@@ -14,11 +14,10 @@
 //! - Routes that no key names any more are given back once as many bytes were added as the routes and 16 bytes for each
 //!   key took: the routes that are named are then copied into a new block, and the keys into a new table. So an added
 //!   route pays for the copy of as much, and a RIB dump, which replaces nothing, pays for few copies.
-//! - Routes are read ahead (`ReadAhead`): a worker packs the route of each RIB entry, and of each UPDATE that does
-//!   nothing but announce, for all units of a list, then prefetches the slots and then the routes in them, and then
-//!   takes the units in order. Each of these is a cache miss, since the peers of a RIB record take turns; in loops of
-//!   their own the misses overlap. What can't be read ahead is read when it is taken, so reading ahead has no error of
-//!   its own, and prefetching has no contract and needs none.
+//! - A unit is decoded once, whatever it is, and then taken (`Session::take_event`). A worker decodes all units of a
+//!   list (`DecodedEvents`), then prefetches the slots where their routes will be looked for, then the routes in these
+//!   slots, and then takes the units in order. Each of these is a cache miss, since the peers of a RIB record take
+//!   turns; in loops of their own the misses overlap. Prefetching has no contract and needs none.
 //! - An announcement descends the map once: what `insert` returns shows whether the key was new, changed or the same.
 //! - An entry of a peer that isn't up is read too, since a damaged one is listed.
 //! - `retain` takes the routes of other prefixes out of a table before a report. It is the last step, since the session
@@ -32,12 +31,10 @@
 
 mod arrivals;
 mod churn;
-mod hashed_route;
 mod holding;
 mod note;
 mod noting;
 mod outcome;
-mod read_ahead;
 mod retaining;
 mod rib_in;
 mod route_set;
@@ -56,7 +53,6 @@ pub use arrivals::Arrivals;
 pub use churn::{Churn, is_before};
 pub use holding::table_has_what_holds;
 pub use note::{Note, What};
-pub use read_ahead::ReadAhead;
 pub use route_table::RouteTable;
 pub use routes::RouteId;
 pub use selecting::{

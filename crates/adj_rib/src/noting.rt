@@ -1,22 +1,20 @@
 //! Changes of a table of chosen prefixes, each with a note of what it did to its key.
 
-ghost use Rattle.std.specs.Prelude.{◌≡◌, ◌≢◌, ◌||◌, ◌++◌, [], Some, map, not, OnOk};
+ghost use Rattle.std.specs.Prelude.{◌≡◌, ◌||◌, ◌++◌, map, not, OnOk};
 ghost use Rattle.std.specs.List.{fold, filter};
 ghost use Rattle.std.specs.FinMap as finite;
 ghost use Rattle.bgp_prefix.specs.Keys.{among};
-ghost use Rattle.bgp_update.specs.PackedUpdates.{plain_update};
-ghost use Rattle.bgp_update.specs.declared.route.Route.{Route};
-ghost use Rattle.adj_rib.specs.Steps.{announce, announcements, break, reachings, withdraw, update_steps};
+ghost use Rattle.bgp_update.specs.Decoded.{plain_update};
+ghost use Rattle.adj_rib.specs.Steps.{announce, break, reachings, update_steps, withdraw, withdrawals};
 ghost use Rattle.adj_rib.specs.Selecting.{chooses, selected_steps};
 ghost use Rattle.adj_rib.specs.Histories.{lost_note, what_over, what_without};
 ghost use Rattle.adj_rib.specs.Watching.{watched};
 
-use crate::hashed_route::HashedRoute;
 use crate::note::{Note, What};
 use crate::route_set::RouteSet;
 use crate::shared_route::SharedRoute;
 use bgp_prefix::{KeySet, Memory, Prefix, PrefixMap, RouteKey};
-use bgp_update::{PackedRoute, PackedUpdate, Unicast};
+use bgp_update::{HashedRoute, Unicast, UpdateRef};
 use mrt_body::ChosenPrefixes;
 use std::alloc::Global;
 
@@ -186,20 +184,19 @@ fn withdraw_update<F: Unicast, M: PrefixMap<SharedRoute, Addr = F>>(
     chosen: &ChosenPrefixes<F>,
     table: &mut M,
     notes: &mut Vec<Note<Prefix<F>>>,
-    withdrawn: &[RouteKey<Prefix<F>>],
-    announced: &[RouteKey<Prefix<F>>],
-    reached: &[RouteKey<Prefix<F>>],
+    update: &UpdateRef<'_, Prefix<F>>,
 ) -> Result<(), Memory>
     ensures { OnOk result ((M.contents table.new, notes.new.items)
         ≡ fold watched (M.contents table.old, notes.old.items)
-        (selected_steps (chooses chosen.now)
-        (map withdraw (filter (λ key. not (among announced.now key || among reached.now key)) withdrawn.now)))) }
+        (selected_steps (chooses chosen.now) (withdrawals (plain_update update.now)))) }
 {
-    if !withdrawn.is_empty() {
-        let announced = KeySet::from_slice(alloc, announced)?;
-        let reached = KeySet::from_slice(alloc, reached)?;
-        withdraw_chosen(chosen, table, notes, withdrawn, &announced, &reached)?;
+    if update.withdrawn.is_empty() && update.unreached.is_empty() {
+        return Ok(());
     }
+    let announced = KeySet::from_slice(alloc, update.announced)?;
+    let reached = KeySet::from_slice(alloc, update.reached)?;
+    withdraw_chosen(chosen, table, notes, update.withdrawn, &announced, &reached)?;
+    withdraw_chosen(chosen, table, notes, update.unreached, &announced, &reached)?;
     Ok(())
 }
 
@@ -211,71 +208,37 @@ fn announce_keys<F: Unicast, M: PrefixMap<SharedRoute, Addr = F>>(
     table: &mut M,
     notes: &mut Vec<Note<Prefix<F>>>,
     keys: &[RouteKey<Prefix<F>>],
-    route: PackedRoute,
+    hashed: &HashedRoute<'_>,
 ) -> Result<(), Memory>
     ensures { OnOk result ((M.contents table.new, notes.new.items)
         ≡ fold watched (M.contents table.old, notes.old.items)
-        (selected_steps (chooses chosen.now) (map (λ key. announce key route) keys.now))) }
+        (selected_steps (chooses chosen.now) (map (λ key. announce key hashed.now.route) keys.now))) }
 {
     if keys.is_empty() {
         return Ok(());
     }
-    let hashed = HashedRoute::new(route);
-    let slot = routes.slot_of(alloc, &hashed)?;
+    let slot = routes.slot_of(alloc, hashed)?;
     announce_chosen(alloc, chosen, table, notes, keys, routes.route_at(slot))?;
     Ok(())
 }
 
-/// Announces the chosen keys that MP_REACH_NLRI has with their route, which is there if there are keys.
-#[tactic(auto, using(crate::proofs::Reached::reached_by))]
+/// Announces the chosen keys of MP_REACH_NLRI, by its own next hop.
 fn announce_reached<F: Unicast, M: PrefixMap<SharedRoute, Addr = F>>(
     alloc: Global,
     chosen: &ChosenPrefixes<F>,
     routes: &mut RouteSet,
     table: &mut M,
     notes: &mut Vec<Note<Prefix<F>>>,
-    keys: &[RouteKey<Prefix<F>>],
-    route: Option<PackedRoute>,
-) -> Result<(), Memory>
-    ensures { OnOk result ((by : Route) → (keys.now ≢ [] → route ≡ Some by) → (M.contents table.new, notes.new.items)
-        ≡ fold watched (M.contents table.old, notes.old.items)
-        (selected_steps (chooses chosen.now) (map (λ key. announce key by) keys.now))) }
-{
-    match route {
-        Some(route) => {
-            announce_keys(alloc, chosen, routes, table, notes, keys, route)?;
-            Ok(())
-        }
-        None => Ok(()),
-    }
-}
-
-/// Announces what an UPDATE announces of the chosen keys, and then what it reaches by MP_REACH_NLRI.
-fn announce_update<F: Unicast, M: PrefixMap<SharedRoute, Addr = F>>(
-    alloc: Global,
-    chosen: &ChosenPrefixes<F>,
-    routes: &mut RouteSet,
-    table: &mut M,
-    notes: &mut Vec<Note<Prefix<F>>>,
-    update: PackedUpdate<Prefix<F>>,
+    update: &UpdateRef<'_, Prefix<F>>,
 ) -> Result<(), Memory>
     ensures { OnOk result ((M.contents table.new, notes.new.items)
         ≡ fold watched (M.contents table.old, notes.old.items)
-        (selected_steps (chooses chosen.now) (announcements (plain_update update))
-        ++ selected_steps (chooses chosen.now) (reachings (plain_update update)))) }
+        (selected_steps (chooses chosen.now) (reachings (plain_update update.now)))) }
 {
-    let PackedUpdate {
-        withdrawn: _,
-        announced,
-        reached,
-        route,
-        reached_hop: _,
-        reached_route,
-    } = update;
-    let (announced, reached) = (announced.as_slice(), reached.as_slice());
-    announce_keys(alloc, chosen, routes, table, notes, announced, route)?;
-    announce_reached(alloc, chosen, routes, table, notes, reached, reached_route)?;
-    Ok(())
+    match &update.reached_route {
+        Some(route) => announce_keys(alloc, chosen, routes, table, notes, update.reached, route),
+        None => Ok(()),
+    }
 }
 
 /// Takes the steps of an UPDATE on chosen keys.
@@ -285,21 +248,22 @@ pub(crate) fn note_update<F: Unicast, M: PrefixMap<SharedRoute, Addr = F>>(
     routes: &mut RouteSet,
     table: &mut M,
     notes: &mut Vec<Note<Prefix<F>>>,
-    update: PackedUpdate<Prefix<F>>,
+    update: &UpdateRef<'_, Prefix<F>>,
 ) -> Result<(), Memory>
     ensures { OnOk result ((M.contents table.new, notes.new.items)
         ≡ fold watched (M.contents table.old, notes.old.items)
-        (selected_steps (chooses chosen.now) (update_steps (plain_update update)))) }
+        (selected_steps (chooses chosen.now) (update_steps (plain_update update.now)))) }
 {
-    withdraw_update(
+    withdraw_update(alloc, chosen, table, notes, update)?;
+    announce_keys(
         alloc,
         chosen,
+        routes,
         table,
         notes,
-        update.withdrawn.as_slice(),
-        update.announced.as_slice(),
-        update.reached.as_slice(),
+        update.announced,
+        &update.route,
     )?;
-    announce_update(alloc, chosen, routes, table, notes, update)?;
+    announce_reached(alloc, chosen, routes, table, notes, update)?;
     Ok(())
 }

@@ -4,17 +4,13 @@ ghost use Rattle.std.specs.Prelude.{◌≡◌};
 ghost use Rattle.mrt_body.specs.Lent.{lent_payload};
 
 use crate::churn::Churn;
-use crate::hashed_route::HashedRoute;
 use crate::outcome::Outcome;
-use crate::read_ahead::{ReadAhead, Reading};
 use crate::route_table::RouteTable;
 use crate::routes::RouteId;
-use crate::update::{apply_announcement, apply_update};
+use crate::update::apply_update;
 use bgp_prefix::{Memory, Prefix, PrefixMap, RouteKey};
-use bgp_update::{AttrError, PackedUpdate, Unicast};
-use mrt_body::{
-    Damage, LentPayload, LentPayloadOf, LentUnitOf, PackedEvent, Place, StateRule, packed_event,
-};
+use bgp_update::{HashedRoute, RouteSpan, Unicast, UpdateRef};
+use mrt_body::{Damage, EventRef, LentUnitOf, Place, StateRule};
 use std::alloc::Global;
 
 /// A peer's Adj-RIB-In, along with what is counted and listed for the peer.
@@ -30,14 +26,13 @@ pub(crate) struct RibIn<M: PrefixMap<RouteId>> {
 
 impl<F: Unicast, M: PrefixMap<RouteId, Addr = F> + Drop> RibIn<M> {
     ghost use Rattle.std.specs.Prelude.{◌≡◌, true, Ok, OnOk};
+    ghost use Rattle.mrt_body.specs.DecodedEvents.{event_of};
     ghost use Rattle.mrt_body.specs.Events.{event_in};
     ghost use Rattle.mrt_body.specs.Lent.{lent_payload, lent_unit};
     ghost use Rattle.mrt_body.specs.declared.meaning.Event.TheVariants as events;
     ghost use Rattle.adj_rib.specs.Applied.{START, counted_if, followed, refused, read_as, taken};
     ghost use Rattle.adj_rib.specs.Keeping.{kept_in};
-    ghost use Rattle.adj_rib.specs.RouteSets.{IsAheadOf, IsAnnouncement};
-    ghost use Rattle.bgp_update.specs.Updates.{Update};
-    ghost use Rattle.bgp_update.specs.PackedUpdates.{plain_update};
+    ghost use Rattle.bgp_update.specs.Decoded.{plain_update};
 
     /// Returns that of a peer without units, which is up.
     pub(crate) fn new(alloc: Global) -> RibIn<M>
@@ -85,33 +80,19 @@ impl<F: Unicast, M: PrefixMap<RouteId, Addr = F> + Drop> RibIn<M> {
 
     /// Takes the steps of an UPDATE.
     #[tactic(auto, unfolding(crate::specs::Applied::followed, crate::specs::Applied::noted))]
-    fn take_update(&mut self, alloc: Global, update: PackedUpdate<Prefix<F>>) -> Result<(), Memory>
+    fn take_update(
+        &mut self,
+        alloc: Global,
+        update: &UpdateRef<'_, Prefix<F>>,
+    ) -> Result<(), Memory>
         ensures { OnOk result (kept_in self.new
-            ≡ followed (kept_in self.old) (Ok (events.Change (plain_update update)))) }
+            ≡ followed (kept_in self.old) (Ok (events.Change (plain_update update.now)))) }
     {
         if !self.up {
             self.count_idle();
             return Ok(());
         }
         apply_update(alloc, &mut self.table, &mut self.churn, update)
-    }
-
-    /// Takes the steps of an UPDATE that announces these keys with this route, and does nothing else.
-    #[tactic(auto, unfolding(crate::specs::Applied::followed, crate::specs::Applied::noted))]
-    fn take_announcement(
-        &mut self,
-        alloc: Global,
-        keys: &[RouteKey<Prefix<F>>],
-        route: &HashedRoute,
-    ) -> Result<(), Memory>
-        ensures { OnOk result ((update : Update) → IsAnnouncement keys.now route.now.route update →
-            kept_in self.new ≡ followed (kept_in self.old) (Ok (events.Change update))) }
-    {
-        if !self.up {
-            self.count_idle();
-            return Ok(());
-        }
-        apply_announcement(alloc, &mut self.table, &mut self.churn, keys, route)
     }
 
     /// Lists a damaged unit.
@@ -124,13 +105,14 @@ impl<F: Unicast, M: PrefixMap<RouteId, Addr = F> + Drop> RibIn<M> {
         Ok(())
     }
 
-    /// Takes the steps of a RIB entry, whose route was read.
+    /// Takes the step of a RIB entry.
+    #[inline(always)]
     #[tactic(auto, unfolding(crate::specs::Applied::followed, crate::specs::Applied::noted))]
     fn announce_entry(
         &mut self,
         alloc: Global,
         key: RouteKey<Prefix<F>>,
-        hashed: &HashedRoute,
+        hashed: &HashedRoute<'_>,
     ) -> Result<(), Memory>
         ensures { OnOk result (kept_in self.new
             ≡ followed (kept_in self.old) (Ok (events.Rib key hashed.now.route))) }
@@ -142,97 +124,57 @@ impl<F: Unicast, M: PrefixMap<RouteId, Addr = F> + Drop> RibIn<M> {
         Ok(())
     }
 
-    /// Takes a unit that wasn't read ahead.
-    #[inline(never)]
+    /// Follows what the unit at a place means.
+    #[inline(always)]
     #[tactic(auto, unfolding(crate::specs::Applied::followed, crate::specs::Applied::noted))]
-    fn read_and_take(
+    fn follow(
         &mut self,
         alloc: Global,
-        buffer: &mut Vec<u8>,
         place: Place,
-        payload: &LentPayloadOf<'_, F>,
+        event: EventRef<'_, Prefix<F>>,
     ) -> Result<(), Memory>
-        ensures { OnOk result (kept_in self.new
-            ≡ read_as (kept_in self.old) place (event_in (lent_payload payload.now))) }
+        ensures { OnOk result (kept_in self.new ≡ read_as (kept_in self.old) place (event_of event.entry)) }
     {
-        match packed_event(alloc, buffer, payload) {
-            Ok(PackedEvent::State(old, new, rule)) => {
+        match event {
+            EventRef::Rib(key, route) => self.announce_entry(alloc, key, &route),
+            EventRef::Change(update) => self.take_update(alloc, &update),
+            EventRef::State(old, new, rule) => {
                 self.change_state(old, new, rule);
                 Ok(())
             }
-            Ok(PackedEvent::Change(update)) => self.take_update(alloc, update),
-            Ok(PackedEvent::Rib(key, route)) => {
-                self.announce_entry(alloc, key, &HashedRoute::new(route))
-            }
-            Ok(PackedEvent::Other) => Ok(()),
-            Ok(PackedEvent::Clear) => {
+            EventRef::Other => Ok(()),
+            EventRef::Clear => {
                 self.clear();
                 Ok(())
             }
-            Err(AttrError::Bad(fault)) => self.list_damage(Damage { place, fault }),
-            Err(AttrError::Memory) => Err(Memory),
+            EventRef::Damaged(fault) => self.list_damage(Damage { place, fault }),
         }
     }
 
-    /// Takes a unit, with what was read ahead of it.
-    #[inline(always)]
-    #[tactic(auto, unfolding(mrt_body::specs::Events::event_in))]
-    fn take_payload(
-        &mut self,
-        alloc: Global,
-        buffer: &mut Vec<u8>,
-        place: Place,
-        payload: &LentPayloadOf<'_, F>,
-        ahead: &ReadAhead<Prefix<F>>,
-    ) -> Result<(), Memory>
-        requires { IsAheadOf (lent_payload payload.now) ahead.now }
-        ensures { OnOk result (kept_in self.new
-            ≡ read_as (kept_in self.old) place (event_in (lent_payload payload.now))) }
-    {
-        if let Reading::Announcement(keys, route) = &ahead.read {
-            return self.take_announcement(alloc, keys.as_slice(), route);
-        }
-        if let LentPayload::Entry { key, .. } = payload {
-            if let Reading::Entry(hashed) = &ahead.read {
-                return self.announce_entry(alloc, *key, hashed);
-            }
-        }
-        // A copy is read, so that the unit itself needs no place in memory.
-        let unread = payload.same();
-        self.read_and_take(alloc, buffer, place, &unread)
-    }
-
-    /// Prefetches the slot where `take` will look.
-    pub(crate) fn prefetch_slot(&self, ahead: &ReadAhead<Prefix<F>>) -> usize {
-        match ahead.route() {
-            Some(hashed) => self.table.prefetch_slot(hashed),
-            None => 0,
-        }
+    /// Prefetches the slot where `take` will look for a route.
+    pub(crate) fn prefetch_slot(&self, route: RouteSpan) -> usize {
+        self.table.prefetch_slot(route)
     }
 
     /// Prefetches the route that `take` will find.
-    pub(crate) fn prefetch_route(&self, ahead: &ReadAhead<Prefix<F>>) -> usize {
-        match ahead.route() {
-            Some(hashed) => self.table.prefetch_route(hashed),
-            None => 0,
-        }
+    pub(crate) fn prefetch_route(&self, route: RouteSpan) -> usize {
+        self.table.prefetch_route(route)
     }
 
-    /// Takes the next unit. What isn't read ahead is read by way of the buffer, whose contents are replaced.
+    /// Takes the next unit, which means this.
     #[inline(always)]
     pub(crate) fn take(
         &mut self,
         alloc: Global,
-        buffer: &mut Vec<u8>,
         unit: &LentUnitOf<'_, F>,
-        ahead: &ReadAhead<Prefix<F>>,
+        event: EventRef<'_, Prefix<F>>,
     ) -> Result<(), Memory>
-        requires { IsAheadOf (lent_payload unit.now.payload) ahead.now }
+        requires { event_of event ≡ event_in (lent_payload unit.now.payload) }
         ensures { OnOk result
             (kept_in self.new ≡ taken (kept_in self.old) (lent_unit unit.now)) }
     {
         self.table.give_back(alloc)?;
         self.churn.note_unit(unit);
-        self.take_payload(alloc, buffer, unit.place, &unit.payload, ahead)
+        self.follow(alloc, unit.place, event)
     }
 }

@@ -2,9 +2,9 @@
 
 ghost use Rattle.std.specs.Prelude.{◌≡◌, ◌<◌, Some, IfOk, IfSome, IsTrue, OnOk, is_some, slice_get, true, vec_len};
 
-use crate::hashed_route::HashedRoute;
 use crate::shared_route::SharedRoute;
 use bgp_prefix::Memory;
+use bgp_update::HashedRoute;
 use std::alloc::Global;
 use std::mem;
 
@@ -77,14 +77,14 @@ impl RouteSet {
     }
 
     /// Returns the slot that holds this route, if any does.
-    fn find_slot(&self, hashed: &HashedRoute) -> Option<usize>
+    fn find_slot(&self, hashed: &HashedRoute<'_>) -> Option<usize>
         ensures { IfSome result (λ at. kept_route (slice_get self.now.slots.items at) ≡ Some hashed.now.route) }
     {
         let bucket = self.bucket_of(hashed.hash);
         for at in bucket..bucket.saturating_add(PROBED_SLOTS) {
             match self.slots.as_slice().get(at) {
                 Some(Slot::Kept { hash, route }) => {
-                    if *hash == hashed.hash && route.route().is_same(&hashed.route) {
+                    if *hash == hashed.hash && route.route().route_ref().is_same(&hashed.route) {
                         return Some(at);
                     }
                 }
@@ -123,16 +123,20 @@ impl RouteSet {
     }
 
     /// Adds a route that the set doesn't have, and returns its slot.
-    fn add(&mut self, alloc: Global, hashed: &HashedRoute) -> Result<usize, Memory>
+    fn add(&mut self, alloc: Global, hashed: &HashedRoute<'_>) -> Result<usize, Memory>
         ensures { IfOk result (λ at. kept_route (slice_get self.new.slots.items at) ≡ Some hashed.now.route) }
     {
-        let route = SharedRoute::new(alloc, hashed.route.try_copy(alloc)?)?;
+        let route = SharedRoute::new(alloc, hashed.route.to_packed(alloc)?)?;
         self.make_buckets(alloc)?;
         Ok(self.keep(hashed.hash, route))
     }
 
     /// Returns the slot that holds this route, which is added if the set doesn't have it.
-    pub(crate) fn slot_of(&mut self, alloc: Global, hashed: &HashedRoute) -> Result<usize, Memory>
+    pub(crate) fn slot_of(
+        &mut self,
+        alloc: Global,
+        hashed: &HashedRoute<'_>,
+    ) -> Result<usize, Memory>
         ensures { IfOk result (λ at. kept_route (slice_get self.new.slots.items at) ≡ Some hashed.now.route) }
     {
         match self.find_slot(hashed) {
@@ -150,31 +154,6 @@ impl RouteSet {
             Some(Slot::Kept { route, .. }) => route,
             _ => unreachable!(),
         }
-    }
-
-    /// Prefetches the slot where this route would be. The number means nothing.
-    pub(crate) fn prefetch_slot(&self, hashed: &HashedRoute) -> usize {
-        match self.slots.as_slice().get(self.bucket_of(hashed.hash)) {
-            Some(slot) => slot.is_kept() as usize,
-            None => 0,
-        }
-    }
-
-    /// Prefetches the route with this hash, if the set has one. The number means nothing.
-    #[inline(always)]
-    pub(crate) fn prefetch_route(&self, hashed: &HashedRoute) -> usize {
-        let bucket = self.bucket_of(hashed.hash);
-        for at in bucket..bucket.saturating_add(PROBED_SLOTS) {
-            match self.slots.as_slice().get(at) {
-                Some(Slot::Kept { hash, route }) => {
-                    if *hash == hashed.hash {
-                        return route.prefetch();
-                    }
-                }
-                _ => return 0,
-            }
-        }
-        0
     }
 
     /// Estimates from the first slots how many eighths of the routes have an owner besides the set.

@@ -14,11 +14,10 @@ ghost use Rattle.adj_rib.specs.Churns.{announced_over};
 ghost use Rattle.adj_rib.specs.Applied.{applied};
 
 use crate::churn::Churn;
-use crate::hashed_route::HashedRoute;
 use crate::outcome::Outcome;
 use crate::routes::{RouteId, Routes};
 use bgp_prefix::{Memory, Prefix, PrefixMap, RouteKey};
-use bgp_update::{RouteRef, Unicast};
+use bgp_update::{HashedRoute, RouteRef, RouteSpan, Unicast};
 use std::alloc::Global;
 use std::marker::Model;
 
@@ -143,7 +142,7 @@ fn move_listed<F: Unicast, M: PrefixMap<RouteId, Addr = F> + Drop>(
     let mut moved = M::new(alloc);
     for entry in listed {
         let (key, id) = *entry;
-        let new_id = kept.intern_ref(alloc, &routes.route(*id))?;
+        let new_id = kept.intern(alloc, &HashedRoute::new(routes.route(*id)))?;
         moved.insert(alloc, &key, new_id)?;
     }
     Ok((kept, moved))
@@ -193,7 +192,7 @@ impl<F: Unicast, M: PrefixMap<RouteId, Addr = F>> RouteTable<M> {
         alloc: Global,
         churn: &mut Churn,
         key: RouteKey<Prefix<F>>,
-        hashed: &HashedRoute,
+        hashed: &HashedRoute<'_>,
     ) -> Result<(), Memory>
         ensures { OnOk result ((self.new, churn.new) ≡ applied (self.old, churn.old) (announce key hashed.now.route)) }
     {
@@ -208,7 +207,7 @@ impl<F: Unicast, M: PrefixMap<RouteId, Addr = F>> RouteTable<M> {
         alloc: Global,
         churn: &mut Churn,
         keys: &[RouteKey<Prefix<F>>],
-        hashed: &HashedRoute,
+        hashed: &HashedRoute<'_>,
     ) -> Result<(), Memory>
         ensures { OnOk result ((self.new, churn.new)
             ≡ fold applied (self.old, churn.old) (map (λ key. announce key hashed.now.route) keys.now)) }
@@ -290,16 +289,16 @@ impl<F: Unicast, M: PrefixMap<RouteId, Addr = F>> RouteTable<M> {
         with_routes(alloc, &self.routes, listed.as_slice())
     }
 
-    /// Prefetches the slot where a route would be. The number means nothing.
+    /// Prefetches the slot where a route with this hash would be. The number means nothing.
     #[inline(always)]
-    pub(crate) fn prefetch_slot(&self, hashed: &HashedRoute) -> usize {
-        self.routes.prefetch_slot(hashed)
+    pub(crate) fn prefetch_slot(&self, route: RouteSpan) -> usize {
+        self.routes.prefetch_slot(route)
     }
 
     /// Prefetches the route with this hash. The number means nothing.
     #[inline(always)]
-    pub(crate) fn prefetch_route(&self, hashed: &HashedRoute) -> usize {
-        self.routes.prefetch_route(hashed)
+    pub(crate) fn prefetch_route(&self, route: RouteSpan) -> usize {
+        self.routes.prefetch_route(route)
     }
 }
 

@@ -5,12 +5,12 @@ ghost use Rattle.std.specs.Prelude.{◌≡◌, ◌↔◌, ◌<◌, ◌++◌, Lis
 ghost use Rattle.std.specs.List.{All};
 ghost use Rattle.bgp_update.specs.Packing.{IsPacked, unpacked};
 ghost use Rattle.bgp_update.specs.Equality.{route_eq};
-ghost use Rattle.adj_rib.specs.Routes.{AreSlots, IsFront, IsGrown, IsNamed, Names};
+ghost use Rattle.bgp_update.specs.Decoded.{IsGrown};
+ghost use Rattle.adj_rib.specs.Routes.{AreSlots, IsFront, IsNamed, Names};
 ghost use Rattle.adj_rib.specs.Routes as routes;
 
-use crate::hashed_route::{HashedRoute, hash_of};
 use bgp_prefix::Memory;
-use bgp_update::RouteRef;
+use bgp_update::{HashedRoute, RouteRef, RouteSpan};
 use byteorder::{BigEndian, ByteOrder};
 use std::alloc::Global;
 use std::marker::Model;
@@ -297,24 +297,15 @@ impl Routes {
 
     /// Returns the number of a route, which is added if no slot has it. What numbers name stays.
     #[inline(always)]
-    pub(crate) fn intern(&mut self, alloc: Global, hashed: &HashedRoute) -> Result<RouteId, Memory>
+    pub(crate) fn intern(
+        &mut self,
+        alloc: Global,
+        hashed: &HashedRoute<'_>,
+    ) -> Result<RouteId, Memory>
         ensures names { IfOk result (λ id. Names self.new id hashed.now.route) }
         ensures grows { IsGrown self.old self.new }
     {
         self.intern_bytes(alloc, hashed.hash, hashed.route.as_bytes())
-    }
-
-    /// Returns the number of a borrowed route, likewise.
-    pub(crate) fn intern_ref(
-        &mut self,
-        alloc: Global,
-        route: &RouteRef<'_>,
-    ) -> Result<RouteId, Memory>
-        ensures names { IfOk result (λ id. Names self.new id route.now) }
-        ensures grows { IsGrown self.old self.new }
-    {
-        let bytes = route.as_bytes();
-        self.intern_bytes(alloc, hash_of(bytes), bytes)
     }
 
     /// The route of a number.
@@ -338,9 +329,9 @@ impl Routes {
 
     /// Prefetches the slot where this route would be. The number means nothing.
     #[inline(always)]
-    pub(crate) fn prefetch_slot(&self, hashed: &HashedRoute) -> usize {
+    pub(crate) fn prefetch_slot(&self, route: RouteSpan) -> usize {
         let slots = self.slots.as_slice();
-        match slots.get(bucket_of(slots, hashed.hash)) {
+        match slots.get(bucket_of(slots, route.hash())) {
             Some(slot) => slot.at as usize,
             None => 0,
         }
@@ -349,19 +340,19 @@ impl Routes {
     /// Prefetches the route with this hash, if a slot has one: its first and its last byte may be in different cache
     /// lines. The number means nothing.
     #[inline(always)]
-    pub(crate) fn prefetch_route(&self, hashed: &HashedRoute) -> usize {
+    pub(crate) fn prefetch_route(&self, route: RouteSpan) -> usize {
         let slots = self.slots.as_slice();
         let bytes = self.bytes.as_slice();
-        let bucket = bucket_of(slots, hashed.hash);
+        let bucket = bucket_of(slots, route.hash());
         for at in bucket..bucket.saturating_add(PROBED_SLOTS) {
             match slots.get(at) {
                 Some(slot) => {
                     if slot.at == 0 {
                         return 0;
                     }
-                    if slot.hash == hashed.hash {
+                    if slot.hash == route.hash() {
                         let first = slot.at as usize;
-                        let last = first.saturating_add(hashed.route.as_bytes().len());
+                        let last = first.saturating_add(route.len());
                         return byte_at(bytes, first).saturating_add(byte_at(bytes, last));
                     }
                 }

@@ -2,21 +2,21 @@
 
 ghost use Rattle.std.specs.Prelude.{◌≡◌, [], ◌∷◌, ◌++◌, List, OnOk, is_err, IsErr, IsTrue};
 ghost use Rattle.std.specs.FinMap as finite;
-ghost use Rattle.adj_rib.specs.RouteSets.{IsAheadOf};
 ghost use Rattle.adj_rib.specs.Sessions.{StandsFor, chosen_session};
+ghost use Rattle.mrt_body.specs.DecodedEvents.{event_of};
+ghost use Rattle.mrt_body.specs.Events.{event_in};
 ghost use Rattle.mrt_body.specs.Lent.{lent_payload, lent_unit};
 ghost use Rattle.mrt_body.specs.Plain.{Unit as ReplayUnit};
 
 use crate::arrivals::Arrivals;
 use crate::churn::Churn;
-use crate::read_ahead::ReadAhead;
 use crate::retaining::retain_chosen;
 use crate::rib_in::RibIn;
 use crate::route_table::RouteTable;
 use crate::routes::RouteId;
 use bgp_prefix::{Memory, Prefix, PrefixMap};
-use bgp_update::Unicast;
-use mrt_body::{ChosenPrefixes, Damage, LentUnitOf, UnitOf};
+use bgp_update::{RouteSpan, Unicast};
+use mrt_body::{ChosenPrefixes, Damage, DecodedEvents, EventRef, LentUnitOf, UnitOf};
 use std::alloc::Global;
 use std::marker::Model;
 
@@ -66,25 +66,24 @@ impl<F: Unicast, M: PrefixMap<RouteId, Addr = F> + Drop> Session<M> {
         ensures spent { self.new.spent ≡ is_err result }
         ensures stays_spent { IsTrue self.old.spent → IsErr result }
     {
-        self.take_ahead(
-            alloc,
-            &mut Vec::new(alloc),
-            &unit.lend(),
-            &ReadAhead::nothing(),
-        )
+        let unit = unit.lend();
+        let mut events = DecodedEvents::new(alloc);
+        if events.push(alloc, &unit.payload).is_err() {
+            self.spent = true;
+            return Err(Memory);
+        }
+        self.take_event(alloc, &unit, events.at(0))
     }
 
-    /// Takes the next unit, whose bytes are lent, as `take` does, with what was read ahead of it. What isn't read ahead
-    /// is read by way of a buffer, whose contents are replaced.
+    /// Takes the next unit, whose bytes are lent and which means this, as `take` does.
     #[inline(always)]
-    pub fn take_ahead(
+    pub fn take_event(
         &mut self,
         alloc: Global,
-        buffer: &mut Vec<u8>,
         unit: &LentUnitOf<'_, F>,
-        ahead: &ReadAhead<Prefix<F>>,
+        event: EventRef<'_, Prefix<F>>,
     ) -> Result<(), Memory>
-        requires { IsAheadOf (lent_payload unit.now.payload) ahead.now }
+        requires { event_of event ≡ event_in (lent_payload unit.now.payload) }
         ensures stands { (before : List ReplayUnit) → StandsFor self.old before →
             OnOk result (StandsFor self.new (before ++ lent_unit unit.now ∷ [])) }
         ensures spent { self.new.spent ≡ is_err result }
@@ -94,7 +93,7 @@ impl<F: Unicast, M: PrefixMap<RouteId, Addr = F> + Drop> Session<M> {
             return Err(Memory);
         }
         self.arrivals.note(unit);
-        match self.rib.take(alloc, buffer, unit, ahead) {
+        match self.rib.take(alloc, unit, event) {
             Ok(()) => Ok(()),
             Err(memory) => {
                 self.spent = true;
@@ -103,16 +102,16 @@ impl<F: Unicast, M: PrefixMap<RouteId, Addr = F> + Drop> Session<M> {
         }
     }
 
-    /// Prefetches the slot of the peer's routes where `take_ahead` will look. Slots and routes are far apart in memory:
-    /// a caller that does this for several units first, and then `prefetch_route` for all of them, lets these cache
-    /// misses overlap. The number means nothing.
-    pub fn prefetch_slot(&self, ahead: &ReadAhead<Prefix<F>>) -> usize {
-        self.rib.prefetch_slot(ahead)
+    /// Prefetches the slot of the peer's routes where `take_event` will look for this route. Slots and routes are far
+    /// apart in memory: a caller that does this for several units first, and then `prefetch_route` for all of them,
+    /// lets these cache misses overlap. The number means nothing.
+    pub fn prefetch_slot(&self, route: RouteSpan) -> usize {
+        self.rib.prefetch_slot(route)
     }
 
-    /// Prefetches the route that `take_ahead` will find. The number means nothing.
-    pub fn prefetch_route(&self, ahead: &ReadAhead<Prefix<F>>) -> usize {
-        self.rib.prefetch_route(ahead)
+    /// Prefetches the route that `take_event` will find. The number means nothing.
+    pub fn prefetch_route(&self, route: RouteSpan) -> usize {
+        self.rib.prefetch_route(route)
     }
 }
 

@@ -51,16 +51,6 @@ impl SharedRoute {
         SharedRoute::new(alloc, self.route().try_copy(alloc)?)
     }
 
-    /// Prefetches the count of owners, where a further one will be counted, and the route's last byte: they may be in
-    /// different cache lines. The number means nothing.
-    pub(crate) fn prefetch(&self) -> usize {
-        let last = match self.route.as_bytes().last() {
-            Some(byte) => *byte as usize,
-            None => 0,
-        };
-        Arc::strong_count(&self.route).saturating_add(last)
-    }
-
     /// Whether it has another owner.
     pub(crate) fn is_shared(&self) -> bool {
         Arc::strong_count(&self.route) > 1

@@ -2,25 +2,23 @@
 
 ghost use Rattle.std.specs.Prelude.{◌≡◌, [], ◌∷◌, ◌++◌, List, OnOk, Option, ℕ};
 ghost use Rattle.std.specs.FinMap as finite;
-ghost use Rattle.mrt_body.specs.Lent.{lent_unit};
+ghost use Rattle.mrt_body.specs.DecodedEvents.{event_of};
+ghost use Rattle.mrt_body.specs.Events.{event_in};
+ghost use Rattle.mrt_body.specs.Lent.{lent_payload, lent_unit};
 ghost use Rattle.mrt_body.specs.Plain.{PrefixChoice as Choice};
 ghost use Rattle.mrt_body.specs.Plain.{Unit as ReplayUnit};
 ghost use Rattle.adj_rib.specs.Counting.{change_kind, kind_of, routing_kind};
 ghost use Rattle.adj_rib.specs.Histories.{WatchesFor, chosen_notes, unit_notes};
 
 use crate::churn::Churn;
-use crate::hashed_route::HashedRoute;
 use crate::note::Note;
 use crate::noting::{is_chosen_key, lose_all, note_announcement, note_update};
 use crate::outcome::UnitKind;
 use crate::route_set::RouteSet;
 use crate::shared_route::SharedRoute;
 use bgp_prefix::{Memory, Prefix, PrefixMap, RouteKey};
-use bgp_update::{AttrError, PackedRoute, PackedUpdate, Unicast};
-use mrt_body::{
-    ChosenPrefixes, Damage, LentPayload, LentPayloadOf, LentUnitOf, PackedEvent, Place, StateRule,
-    packed_event,
-};
+use bgp_update::{HashedRoute, Unicast, UpdateRef};
+use mrt_body::{ChosenPrefixes, Damage, EventRef, LentUnitOf, Place, StateRule};
 use std::alloc::Global;
 use std::marker::Model;
 
@@ -54,9 +52,8 @@ struct WatchedRib<M: PrefixMap<SharedRoute>> {
 impl<F: Unicast, M: PrefixMap<SharedRoute, Addr = F>> WatchedRib<M> {
     ghost use Rattle.std.specs.Prelude.{◌≡◌, [], IfOk, Ok, OnOk, true};
     ghost use Rattle.std.specs.FinMap as finite;
-    ghost use Rattle.bgp_update.specs.PackedUpdates.{plain_update};
-    ghost use Rattle.mrt_body.specs.Events.{event_in};
-    ghost use Rattle.mrt_body.specs.Lent.{lent_payload};
+    ghost use Rattle.bgp_update.specs.Decoded.{plain_update};
+    ghost use Rattle.mrt_body.specs.DecodedEvents.{event_of};
     ghost use Rattle.mrt_body.specs.declared.meaning.Event.TheVariants as events;
     ghost use Rattle.adj_rib.specs.Watching.{watch_after, watch_read, watching_in, with_fault};
 
@@ -108,11 +105,11 @@ impl<F: Unicast, M: PrefixMap<SharedRoute, Addr = F>> WatchedRib<M> {
         alloc: Global,
         chosen: &ChosenPrefixes<F>,
         notes: &mut Vec<Note<Prefix<F>>>,
-        update: PackedUpdate<Prefix<F>>,
+        update: &UpdateRef<'_, Prefix<F>>,
     ) -> Result<(), Memory>
         ensures { OnOk result ((watching_in M.contents self.new, notes.new.items)
             ≡ watch_after chosen.now (watching_in M.contents self.old, notes.old.items)
-            (Ok (events.Change (plain_update update)))) }
+            (Ok (events.Change (plain_update update.now)))) }
     {
         if !self.up {
             return Ok(());
@@ -135,13 +132,14 @@ impl<F: Unicast, M: PrefixMap<SharedRoute, Addr = F>> WatchedRib<M> {
         chosen: &ChosenPrefixes<F>,
         notes: &mut Vec<Note<Prefix<F>>>,
         key: RouteKey<Prefix<F>>,
-        route: PackedRoute,
+        hashed: &HashedRoute<'_>,
     ) -> Result<(), Memory>
         ensures { OnOk result ((watching_in M.contents self.new, notes.new.items)
-            ≡ watch_after chosen.now (watching_in M.contents self.old, notes.old.items) (Ok (events.Rib key route))) }
+            ≡ watch_after chosen.now (watching_in M.contents self.old, notes.old.items)
+            (Ok (events.Rib key hashed.now.route))) }
     {
         if self.up && is_chosen_key(chosen, &key) {
-            let slot = self.routes.slot_of(alloc, &HashedRoute::new(route))?;
+            let slot = self.routes.slot_of(alloc, hashed)?;
             let route = self.routes.route_at(slot);
             return note_announcement(alloc, &mut self.table, notes, key, route);
         }
@@ -156,46 +154,46 @@ impl<F: Unicast, M: PrefixMap<SharedRoute, Addr = F>> WatchedRib<M> {
         Ok(())
     }
 
-    /// Takes the unit at a place, whose payload is read by way of a buffer, and returns what the unit is counted as.
+    /// Follows what the unit at a place means, and returns what the unit is counted as.
     #[tactic(auto, unfolding(crate::specs::Watching::watch_after))]
-    fn take_payload(
+    fn follow(
         &mut self,
         alloc: Global,
-        buffer: &mut Vec<u8>,
         chosen: &ChosenPrefixes<F>,
         place: Place,
-        payload: &LentPayloadOf<'_, F>,
+        event: &EventRef<'_, Prefix<F>>,
         notes: &mut Vec<Note<Prefix<F>>>,
     ) -> Result<UnitKind, Memory>
         ensures watched { OnOk result ((watching_in M.contents self.new, notes.new.items)
-            ≡ watch_read chosen.now (watching_in M.contents self.old, notes.old.items) place
-            (event_in (lent_payload payload.now))) }
-        ensures kind { IfOk result (λ kind. kind ≡ kind_of self.old.up (event_in (lent_payload payload.now))) }
+            ≡ watch_read chosen.now (watching_in M.contents self.old, notes.old.items) place (event_of event.now)) }
+        ensures kind { IfOk result (λ kind. kind ≡ kind_of self.old.up (event_of event.now)) }
     {
         let up = self.up;
-        match packed_event(alloc, buffer, payload) {
-            Ok(PackedEvent::State(old, new, rule)) => {
-                self.change_state(alloc, notes, old, new, rule)?;
-                Ok(kind_of_change(old, new, rule))
+        match event {
+            EventRef::State(old, new, rule) => {
+                self.change_state(alloc, notes, *old, *new, *rule)?;
+                Ok(kind_of_change(*old, *new, *rule))
             }
-            Ok(PackedEvent::Change(update)) => {
+            EventRef::Change(update) => {
                 self.take_update(alloc, chosen, notes, update)?;
                 Ok(kind_of_routing(up))
             }
-            Ok(PackedEvent::Rib(key, route)) => {
-                self.take_entry(alloc, chosen, notes, key, route)?;
+            EventRef::Rib(key, route) => {
+                self.take_entry(alloc, chosen, notes, *key, route)?;
                 Ok(kind_of_routing(up))
             }
-            Ok(PackedEvent::Other) => Ok(UnitKind::Other),
-            Ok(PackedEvent::Clear) => {
+            EventRef::Other => Ok(UnitKind::Other),
+            EventRef::Clear => {
                 self.clear(alloc, notes)?;
                 Ok(UnitKind::Other)
             }
-            Err(AttrError::Bad(fault)) => {
-                self.list_damage(Damage { place, fault })?;
+            EventRef::Damaged(fault) => {
+                self.list_damage(Damage {
+                    place,
+                    fault: *fault,
+                })?;
                 Ok(UnitKind::Damaged)
             }
-            Err(AttrError::Memory) => Err(Memory),
         }
     }
 }
@@ -234,27 +232,26 @@ impl<F: Unicast, M: PrefixMap<SharedRoute, Addr = F>> Watch<M> {
         }
     }
 
-    /// Takes the next unit, which is read by way of a buffer, whose contents are replaced, and replaces the notes by
-    /// what the unit did to keys of chosen prefixes. A damaged unit is listed. The unit is counted unless it is before
-    /// the second `since`, since 1970 UTC. After an `Err` the watch no longer stands for units.
+    /// Takes the next unit, which means this, and replaces the notes by what the unit did to keys of chosen prefixes. A
+    /// damaged unit is listed. The unit is counted unless it is before the second `since`, since 1970 UTC. After an
+    /// `Err` the watch no longer stands for units.
     pub fn take(
         &mut self,
         alloc: Global,
-        buffer: &mut Vec<u8>,
         chosen: &ChosenPrefixes<F>,
         since: Option<u64>,
         unit: &LentUnitOf<'_, F>,
+        event: &EventRef<'_, Prefix<F>>,
         notes: &mut Vec<Note<Prefix<F>>>,
     ) -> Result<(), Memory>
+        requires { event_of event.now ≡ event_in (lent_payload unit.now.payload) }
         ensures stands { (before : List ReplayUnit) → WatchesFor since chosen.now before self.old →
             OnOk result (WatchesFor since chosen.now (before ++ lent_unit unit.now ∷ []) self.new) }
         ensures notes { (before : List ReplayUnit) → WatchesFor since chosen.now before self.old →
             OnOk result (notes.new.items ≡ chosen_notes chosen.now (unit_notes before (lent_unit unit.now))) }
     {
         notes.clear();
-        let kind = self
-            .rib
-            .take_payload(alloc, buffer, chosen, unit.place, &unit.payload, notes)?;
+        let kind = self.rib.follow(alloc, chosen, unit.place, event, notes)?;
         self.churn.count_within(since, unit, kind, notes.as_slice());
         Ok(())
     }

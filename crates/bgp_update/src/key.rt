@@ -3,7 +3,8 @@
 ghost use Rattle.std.specs.Prelude.{◌≡◌, ℕ, ◌≤◌, length, Ok, Some, OnOk, IfErr};
 ghost use Rattle.std.specs.Int.{div_ceil};
 ghost use Rattle.mrt_frame.specs.Fields.{Reads};
-ghost use Rattle.bgp_update.specs.Answers.{Gives};
+ghost use Rattle.bgp_update.specs.Answers.{Fails};
+ghost use Rattle.bgp_update.specs.Decoded.{Appends, IsGrown};
 ghost use Rattle.bgp_update.specs.Families.{form_of};
 ghost use Rattle.bgp_update.specs.Keys as keys_spec;
 ghost use Rattle.bgp_update.specs.Keys.{route_keys_in, key_count_in};
@@ -13,7 +14,6 @@ use crate::octets::leading_octets_number;
 use crate::unicast::Unicast;
 use bgp_prefix::{Prefix, RouteKey};
 use mrt_frame::{Fault, byte_at, bytes_at};
-use std::alloc::Global;
 
 /// The bytes of a prefix of this length.
 #[inline]
@@ -86,16 +86,17 @@ pub fn key_count<F: Unicast>(bytes: &[u8], add_path: bool) -> Result<usize, Faul
     Ok(count)
 }
 
-/// Returns these keys, followed by those of a field.
-pub fn with_keys<F: Unicast>(
-    keys: Vec<RouteKey<Prefix<F>>>,
+/// Appends the keys of a field to other ones.
+pub fn append_keys<F: Unicast>(
+    keys: &mut Vec<RouteKey<Prefix<F>>>,
     bytes: &[u8],
     add_path: bool,
-) -> Result<Vec<RouteKey<Prefix<F>>>, AttrError>
-    ensures { Gives (λ v. v.items) result
-        (keys_spec.with_keys keys.items (route_keys_in (form_of F.family add_path) bytes.now)) }
+) -> Result<(), AttrError>
+    ensures appends { OnOk result
+        (Appends keys.old.items keys.new.items (route_keys_in (form_of F.family add_path) bytes.now)) }
+    ensures fault { IfErr result (λ e. Fails e (route_keys_in (form_of F.family add_path) bytes.now)) }
+    ensures grown { IsGrown keys.old.items keys.new.items }
 {
-    let mut keys = keys;
     let mut rest = bytes;
     while !rest.is_empty() {
         match key_at(rest, add_path) {
@@ -106,17 +107,5 @@ pub fn with_keys<F: Unicast>(
             Err(fault) => return Err(AttrError::Bad(fault)),
         }
     }
-    Ok(keys)
-}
-
-/// Reads the keys of a field.
-pub fn read_keys<F: Unicast>(
-    alloc: Global,
-    bytes: &[u8],
-    add_path: bool,
-) -> Result<Vec<RouteKey<Prefix<F>>>, AttrError>
-    ensures { Gives (λ v. v.items) result (route_keys_in (form_of F.family add_path) bytes.now) }
-{
-    let count = key_count::<F>(bytes, add_path)?;
-    with_keys(Vec::with_capacity(alloc, count)?, bytes, add_path)
+    Ok(())
 }

@@ -20,10 +20,14 @@
 //!   and comparing, hashing and copying need no fields. Fields are decoded when a line is written.
 //! - Up to 46 bytes are stored inline: with their length and a count of owners they take an allocation of 64 bytes. In
 //!   generated dumps nine in ten routes are that short. A `Route` takes 200 bytes in two allocations.
-//! - Attributes are packed as they are read (`PackedRoute::read`, `read_packed_update`), without a `Route` in between,
-//!   except for a path of two-octet numbers, which may have to be merged, and for what doesn't fit inline. Where it
-//!   fits, a next hop is packed as it is written (`WrittenHop`). `read_update` still returns a `Route`: it is what
-//!   definitions speak of.
+//! - **Decoding appends** (`decode_entry`, `decode_update`): keys go behind other keys in one list, packed routes
+//!   behind others in one block of bytes, and what is returned says where they are (`UpdateSpans`, `RouteSpan`), with a
+//!   hash of each route's bytes. So a list of units is decoded without an allocation of its own, and each key of an own
+//!   field is read once. What was appended by a message that turns out to be damaged is left there, and nothing refers
+//!   to it.
+//! - Attributes are packed as they are read, without a `Route` in between, except for a path of two-octet numbers,
+//!   which may have to be merged. A next hop is packed as it is written (`WrittenHop`). `read_update` and `read_attrs`
+//!   return the `Update` and the `Route` that definitions speak of.
 //! - Every route that is read can be packed, since each segment has 1 to 255 numbers (`IsWritable`); one made by hand
 //!   need not be, so `PackedRoute::pack` requires it.
 //! - `Route`'s fields are declared in order of size, since the compiler keeps the order: 128 bytes instead of 144.
@@ -34,8 +38,11 @@ mod attr_error;
 mod attribute;
 mod attribute_type;
 mod carrier;
+mod decoded;
+mod decoding;
 mod families;
 mod family_mark;
+mod front_bytes;
 mod key;
 mod merge;
 mod multiprotocol;
@@ -43,9 +50,7 @@ mod next_hop;
 mod octets;
 mod packed_fields;
 mod packed_path;
-mod packed_reading;
 mod packed_route;
-mod packed_update;
 mod packing;
 mod path;
 mod path_equality;
@@ -57,22 +62,24 @@ mod segment;
 mod short_bytes;
 mod unicast;
 mod update;
+mod update_ref;
 mod values;
 mod width;
 mod written_hop;
 
 pub use agreement::{merging_is_unique, updates_agree_with_their_forms};
 pub use attr_error::AttrError;
+pub use decoded::{HashedRoute, RouteSpan, UpdateSpans};
+pub use decoding::{decode_entry, decode_update};
 pub use family_mark::FamilyMark;
 pub use key::prefix_at;
 pub use next_hop::NextHop;
 pub use packed_path::{PackedSegment, PackedSegments};
-pub use packed_reading::read_packed_update;
 pub use packed_route::PackedRoute;
-pub use packed_update::PackedUpdate;
 pub use path::{AsPath, Segment, SegmentKind};
 pub use route::{Aggregator, Origin, Route, Update};
 pub use route_ref::RouteRef;
 pub use unicast::Unicast;
 pub use update::{read_attrs, read_update};
+pub use update_ref::UpdateRef;
 pub use width::Width;

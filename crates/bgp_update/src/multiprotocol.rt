@@ -1,23 +1,20 @@
 //! MP_REACH_NLRI and MP_UNREACH_NLRI, read for one family's unicast routes only.
 
-ghost use Rattle.std.specs.Prelude.{◌≡◌, ℕ, ◌≤◌, ◌++◌, List, Option, Some, Ok, IsTrue, IfOk, length, option_map};
-ghost use Rattle.bgp_prefix.specs.Prefixes.{IpPrefix};
+ghost use Rattle.std.specs.Prelude.{◌≡◌, ◌≤◌, Some, IfErr, IfOk, OnOk, length, option_map};
 ghost use Rattle.mrt_frame.specs.Fields.{Reads};
-ghost use Rattle.bgp_update.specs.Answers.{Gives};
-ghost use Rattle.bgp_update.specs.declared.next_hop.NextHop.{NextHop};
-ghost use Rattle.bgp_update.specs.Keys as keys_spec;
+ghost use Rattle.bgp_update.specs.Answers.{Fails};
+ghost use Rattle.bgp_update.specs.Decoded.{Appends, AppendsReached, IsGrown};
 ghost use Rattle.bgp_update.specs.Multiprotocol as multiprotocol;
-ghost use Rattle.bgp_update.specs.Multiprotocol.{entry_hop_in, SaysReach, SaysUnreach, reached_keys, unreached_keys};
+ghost use Rattle.bgp_update.specs.Multiprotocol.{entry_hop_in, reached_keys, unreached_keys};
 
 use crate::attr_error::AttrError;
 use crate::attribute_type::AttributeType;
-use crate::key::{read_keys, with_keys};
+use crate::key::append_keys;
 use crate::unicast::Unicast;
 use crate::written_hop::WrittenHop;
 use bgp_prefix::{Prefix, RouteKey};
 use byteorder::{BigEndian, ByteOrder};
 use mrt_frame::{Fault, byte_at, bytes_at};
-use std::alloc::Global;
 
 /// Whether a value is for the family's AFI and SAFI 1.
 fn is_unicast<F: Unicast>(value: &[u8]) -> bool
@@ -118,96 +115,83 @@ pub fn unreach_in<F: Unicast>(value: &[u8]) -> Result<Option<&[u8]>, Fault>
     Ok(Some(&value[3..]))
 }
 
+/// Appends the keys of a value of MP_REACH_NLRI to other ones, and returns its next hop.
 #[tactic(auto, unfolding(crate::specs::Multiprotocol::reached_keys, crate::specs::Keys::route_keys_in))]
-fn whole_reach<F: Unicast>(
-    alloc: Global,
-    value: &[u8],
+fn append_reach<'a, F: Unicast>(
+    keys: &mut Vec<RouteKey<Prefix<F>>>,
+    value: &'a [u8],
     add_path: bool,
-) -> Result<(Option<WrittenHop<'_>>, Vec<RouteKey<Prefix<F>>>), AttrError>
-    ensures { Gives (λ x. (x.0, x.1.items)) result (reached_keys F.family add_path (Some value.now)) }
+) -> Result<Option<WrittenHop<'a>>, AttrError>
+    ensures appends { IfOk result
+        (λ hop. AppendsReached keys.old.items keys.new.items hop (reached_keys F.family add_path (Some value.now))) }
+    ensures fault { IfErr result (λ e. Fails e (reached_keys F.family add_path (Some value.now))) }
+    ensures grown { IsGrown keys.old.items keys.new.items }
 {
     match reach_in::<F>(value) {
-        Ok(Some((hop, keys))) => Ok((Some(hop), read_keys(alloc, keys, add_path)?)),
-        Ok(None) => Ok((None, Vec::new(alloc))),
+        Ok(Some((hop, field))) => {
+            append_keys(keys, field, add_path)?;
+            Ok(Some(hop))
+        }
+        Ok(None) => Ok(None),
         Err(fault) => Err(AttrError::Bad(fault)),
     }
 }
 
-/// Returns the next hop and the keys that a value of MP_REACH_NLRI encodes.
-fn read_reach<F: Unicast>(
-    alloc: Global,
-    value: &[u8],
-    add_path: bool,
-) -> Result<(Option<WrittenHop<'_>>, Vec<RouteKey<Prefix<F>>>), AttrError>
-    ensures found { IfOk result (λ x. SaysReach F.family add_path value.now x.0 x.1.items) }
-    ensures only { (hop : Option NextHop) (keys : List (RouteKey IpPrefix)) →
-        SaysReach F.family add_path value.now hop keys →
-        Gives {Y = Option NextHop × List (RouteKey IpPrefix)} (λ x. (x.0, x.1.items)) result (Ok (hop, keys)) }
-    ensures exact { Gives (λ x. (x.0, x.1.items)) result (reached_keys F.family add_path (Some value.now)) }
-{
-    whole_reach(alloc, value, add_path)
-}
-
-/// Returns the next hop and the keys in MP_REACH_NLRI, if it is present.
+/// Appends the keys in MP_REACH_NLRI, if it is present, to other ones, and returns its next hop.
 #[tactic(auto, unfolding(crate::specs::Multiprotocol::reached_keys))]
-pub fn reached<F: Unicast>(
-    alloc: Global,
-    value: Option<&[u8]>,
+pub fn append_reached<'a, F: Unicast>(
+    keys: &mut Vec<RouteKey<Prefix<F>>>,
+    value: Option<&'a [u8]>,
     add_path: bool,
-) -> Result<(Option<WrittenHop<'_>>, Vec<RouteKey<Prefix<F>>>), AttrError>
-    ensures { Gives (λ x. (x.0, x.1.items)) result
-        (reached_keys F.family add_path (option_map (λ v. v.now) value.entry)) }
+) -> Result<Option<WrittenHop<'a>>, AttrError>
+    ensures appends { IfOk result
+        (λ hop. AppendsReached keys.old.items keys.new.items hop
+        (reached_keys F.family add_path (option_map (λ v. v.now) value.entry))) }
+    ensures fault { IfErr result
+        (λ e. Fails e (reached_keys F.family add_path (option_map (λ v. v.now) value.entry))) }
+    ensures grown { IsGrown keys.old.items keys.new.items }
 {
     match value {
-        Some(value) => read_reach(alloc, value, add_path),
-        None => Ok((None, Vec::new(alloc))),
+        Some(value) => append_reach(keys, value, add_path),
+        None => Ok(None),
     }
 }
 
+/// Appends the keys of a value of MP_UNREACH_NLRI to other ones.
 #[tactic(auto, unfolding(crate::specs::Multiprotocol::unreached_keys, crate::specs::Keys::route_keys_in))]
-fn with_whole_unreach<F: Unicast>(
-    keys: Vec<RouteKey<Prefix<F>>>,
+fn append_unreach<F: Unicast>(
+    keys: &mut Vec<RouteKey<Prefix<F>>>,
     value: &[u8],
     add_path: bool,
-) -> Result<Vec<RouteKey<Prefix<F>>>, AttrError>
-    ensures { Gives (λ v. v.items) result
-        (keys_spec.with_keys keys.items (unreached_keys F.family add_path (Some value.now))) }
+) -> Result<(), AttrError>
+    ensures appends { OnOk result
+        (Appends keys.old.items keys.new.items (unreached_keys F.family add_path (Some value.now))) }
+    ensures fault { IfErr result (λ e. Fails e (unreached_keys F.family add_path (Some value.now))) }
+    ensures grown { IsGrown keys.old.items keys.new.items }
 {
     match unreach_in::<F>(value) {
-        Ok(Some(field)) => with_keys(keys, field, add_path),
-        Ok(None) => Ok(keys),
+        Ok(Some(field)) => append_keys(keys, field, add_path),
+        Ok(None) => Ok(()),
         Err(fault) => Err(AttrError::Bad(fault)),
     }
 }
 
-/// Returns these keys, followed by those that a value of MP_UNREACH_NLRI encodes.
-fn with_unreach<F: Unicast>(
-    keys: Vec<RouteKey<Prefix<F>>>,
-    value: &[u8],
-    add_path: bool,
-) -> Result<Vec<RouteKey<Prefix<F>>>, AttrError>
-    ensures found { IfOk result (λ v. (said : List (RouteKey IpPrefix)) × SaysUnreach F.family add_path value.now said ×
-        (v.items ≡ keys.items ++ said)) }
-    ensures only { (said : List (RouteKey IpPrefix)) → SaysUnreach F.family add_path value.now said →
-        Gives (λ v. v.items) result (Ok (keys.items ++ said)) }
-    ensures exact { Gives (λ v. v.items) result
-        (keys_spec.with_keys keys.items (unreached_keys F.family add_path (Some value.now))) }
-{
-    with_whole_unreach(keys, value, add_path)
-}
-
-/// Returns these keys, followed by those in MP_UNREACH_NLRI, if it is present.
+/// Appends the keys in MP_UNREACH_NLRI, if it is present, to other ones.
 #[tactic(auto, unfolding(crate::specs::Multiprotocol::unreached_keys))]
-pub fn with_unreached<F: Unicast>(
-    keys: Vec<RouteKey<Prefix<F>>>,
+pub fn append_unreached<F: Unicast>(
+    keys: &mut Vec<RouteKey<Prefix<F>>>,
     value: Option<&[u8]>,
     add_path: bool,
-) -> Result<Vec<RouteKey<Prefix<F>>>, AttrError>
-    ensures { Gives (λ v. v.items) result
-        (keys_spec.with_keys keys.items (unreached_keys F.family add_path (option_map (λ v. v.now) value.entry))) }
+) -> Result<(), AttrError>
+    ensures appends { OnOk result
+        (Appends keys.old.items keys.new.items
+        (unreached_keys F.family add_path (option_map (λ v. v.now) value.entry))) }
+    ensures fault { IfErr result
+        (λ e. Fails e (unreached_keys F.family add_path (option_map (λ v. v.now) value.entry))) }
+    ensures grown { IsGrown keys.old.items keys.new.items }
 {
     match value {
-        Some(value) => with_unreach(keys, value, add_path),
-        None => Ok(keys),
+        Some(value) => append_unreach(keys, value, add_path),
+        None => Ok(()),
     }
 }

@@ -1,7 +1,7 @@
-//! The fields of a route in front of its path, from values with four-octet AS numbers, written as they are stored
-//! inline, if there is room: by a pair of IPv6 next hops they take up to 50 bytes.
+//! The packed bytes of a route in front of its path, from values with four-octet AS numbers: up to 50, by a pair of
+//! IPv6 next hops.
 
-ghost use Rattle.std.specs.Prelude.{◌≡◌, ◌+◌, ◌≤◌, ◌<◌, ◌^◌, [], ◌++◌, Option, IfSome, IsTrue, length};
+ghost use Rattle.std.specs.Prelude.{◌≡◌, ◌+◌, ◌≤◌, ◌<◌, ◌^◌, [], ◌++◌, Option, IfSome, length};
 ghost use Rattle.bgp_update.specs.Attributes as attributes;
 ghost use Rattle.bgp_update.specs.Hops.{by_hop};
 ghost use Rattle.bgp_update.specs.Packing as packing;
@@ -11,13 +11,13 @@ ghost use Rattle.bgp_update.specs.declared.next_hop.NextHop.{NextHop};
 ghost use Rattle.bgp_update.specs.declared.width.Width.TheVariants.{Four};
 
 use crate::attribute_type::AttributeType;
-use crate::route::{Aggregator, Origin, Route};
+use crate::front_bytes::FrontBytes;
+use crate::route::{Aggregator, Origin};
 use crate::route_fields::{aggregator_from, number_value, origin_value};
 use crate::route_writing::{flag, origin_code};
-use crate::short_bytes::FewBytes;
 use crate::values::FirstValues;
 use crate::width::Width;
-use crate::written_hop::{WrittenHop, next_hop_of};
+use crate::written_hop::WrittenHop;
 
 /// The fields of a route except its next hop and its path, as `Route` has them.
 #[derive(Clone, Copy)]
@@ -42,23 +42,6 @@ pub(crate) fn fields_of(first: &FirstValues<'_>) -> PlainFields
         local_pref: number_value(first.value(AttributeType::LocalPref)),
         atomic: first.value(AttributeType::AtomicAggregate).is_some(),
         aggregator: aggregator_from(first, Width::Four),
-    }
-}
-
-impl PlainFields {
-    /// Returns the route of these fields and a next hop, with no path.
-    pub(crate) fn to_route(self, hop: &Option<WrittenHop<'_>>) -> Route
-        ensures { result ≡ route_by self hop.now }
-    {
-        Route {
-            origin: self.origin,
-            path: None,
-            next_hop: next_hop_of(hop),
-            med: self.med,
-            local_pref: self.local_pref,
-            atomic: self.atomic,
-            aggregator: self.aggregator,
-        }
     }
 }
 
@@ -89,8 +72,8 @@ fn flags_of(fields: PlainFields, hop: &Option<WrittenHop<'_>>) -> u8
 
 /// Appends a next hop, if there is one.
 #[inline(always)]
-fn push_hop(out: &mut FewBytes, hop: &Option<WrittenHop<'_>>)
-    requires { length out.old + 32 ≤ 46 }
+fn push_hop(out: &mut FrontBytes, hop: &Option<WrittenHop<'_>>)
+    requires { length out.old + 32 ≤ 50 }
     ensures bytes { out.new ≡ out.old ++ hop_bytes hop.now }
     ensures few { length out.new ≤ length out.old + 32 }
     ensures fits { IfSome hop.now FitsHop }
@@ -103,8 +86,8 @@ fn push_hop(out: &mut FewBytes, hop: &Option<WrittenHop<'_>>)
 
 /// Appends a number, if it is there.
 #[inline(always)]
-fn push_number(out: &mut FewBytes, number: Option<u32>)
-    requires { length out.old + 4 ≤ 46 }
+fn push_number(out: &mut FrontBytes, number: Option<u32>)
+    requires { length out.old + 4 ≤ 50 }
     ensures bytes { out.new ≡ out.old ++ number_bytes number }
     ensures few { length out.new ≤ length out.old + 4 }
     ensures fits { IfSome number (λ n. n < 256 ^ 4) }
@@ -115,34 +98,38 @@ fn push_number(out: &mut FewBytes, number: Option<u32>)
     }
 }
 
-/// Appends an aggregator, if it is there, and returns whether there was room.
+/// Appends an aggregator, if it is there.
 #[inline(always)]
-fn push_aggregator(out: &mut FewBytes, aggregator: Option<Aggregator>) -> bool
-    ensures bytes { IsTrue result → out.new ≡ out.old ++ aggregator_bytes aggregator }
+fn push_aggregator(out: &mut FrontBytes, aggregator: Option<Aggregator>)
+    requires { length out.old + 8 ≤ 50 }
+    ensures bytes { out.new ≡ out.old ++ aggregator_bytes aggregator }
     ensures fits { IfSome aggregator FitsAggregator }
 {
     match aggregator {
-        None => true,
-        Some(a) => out.try_push(&a.asn.to_be_bytes()) && out.try_push(&a.addr.to_be_bytes()),
+        None => {}
+        Some(a) => {
+            out.push(&a.asn.to_be_bytes());
+            out.push(&a.addr.to_be_bytes());
+        }
     }
 }
 
-/// Writes the bytes in front of a path, where nothing is written yet, and returns whether there was room.
+/// Writes the bytes in front of a path, where nothing is written yet.
 #[inline(always)]
 #[tactic(auto, unfolding(crate::specs::Packing::fields_bytes))]
 pub(crate) fn push_front(
-    out: &mut FewBytes,
+    out: &mut FrontBytes,
     fields: PlainFields,
     hop: &Option<WrittenHop<'_>>,
     has_path: bool,
-) -> bool
+)
     requires { out.old ≡ [] }
-    ensures bytes { IsTrue result → out.new ≡ fields_bytes (route_by fields hop.now) has_path }
+    ensures bytes { out.new ≡ fields_bytes (route_by fields hop.now) has_path }
     ensures widths { HaveWidths (route_by fields hop.now) }
 {
     out.push(&[flags_of(fields, hop), flag(has_path)]);
     push_hop(out, hop);
     push_number(out, fields.med);
     push_number(out, fields.local_pref);
-    push_aggregator(out, fields.aggregator)
+    push_aggregator(out, fields.aggregator);
 }

@@ -7,7 +7,7 @@ ghost use Rattle.bgp_update.specs.Equality.{route_eq};
 use crate::route::Route;
 use crate::route_ref::RouteRef;
 use crate::route_writing::push_route;
-use crate::short_bytes::{FewBytes, ShortBytes};
+use crate::short_bytes::ShortBytes;
 use bgp_prefix::Memory;
 use std::alloc::Global;
 use std::marker::Model;
@@ -38,17 +38,6 @@ impl PackedRoute {
     {
         let bytes = ShortBytes::from_slice(alloc, bytes)?;
         Ok(PackedRoute { bytes })
-    }
-
-    /// Returns the route of bytes that are stored inline.
-    #[inline(always)]
-    pub(crate) fn of_few(few: FewBytes) -> PackedRoute
-        requires { IsPacked few }
-        ensures { result ≡ unpacked few }
-    {
-        PackedRoute {
-            bytes: ShortBytes::of_few(few),
-        }
     }
 
     /// Packs a route whose path can be written with four-octet AS numbers: no segment is empty or has more than 255.

@@ -1,15 +1,16 @@
 //! UPDATE messages and the attributes of RIB entries.
 
-ghost use Rattle.std.specs.Prelude.{◌≡◌, Ok, None, IfOk, IfErr, IfSome, OnOk, length};
+ghost use Rattle.std.specs.Prelude.{◌≡◌, ◌≤◌, ◌+◌, ◌++◌, Ok, None, IfOk, IfErr, IfSome, OnOk, length};
 ghost use Rattle.mrt_frame.specs.Fields.{Reads};
+ghost use Rattle.bgp_prefix.specs.Prefixes.{IpPrefix};
 ghost use Rattle.bgp_update.specs.Answers.{Fails, Gives};
 ghost use Rattle.bgp_update.specs.Attributes as attributes;
 ghost use Rattle.bgp_update.specs.Attributes.{ReadsAsRoute, route_in};
+ghost use Rattle.bgp_update.specs.Decoded.{Appends, AreKeysOf, IsGrown, split_update};
 ghost use Rattle.bgp_update.specs.Updates as updates;
-ghost use Rattle.bgp_update.specs.Updates.{ReadsAsUpdate, own_keys_in, said_update, update_in};
+ghost use Rattle.bgp_update.specs.Updates.{ReadsAsUpdate, own_keys_in, update_in};
 ghost use Rattle.bgp_update.specs.Packing.{IsSpelled, IsWritable};
 ghost use Rattle.bgp_update.specs.Values.{kept_value, value_count};
-ghost use Rattle.bgp_prefix.specs.Prefixes.{IpPrefix};
 ghost use Rattle.bgp_update.specs.declared.attribute_type.AttributeType.{AttributeType};
 ghost use Rattle.bgp_update.specs.declared.attribute_type.AttributeType.TheVariants.{AsPath};
 ghost use Rattle.bgp_update.specs.declared.width.Width.TheVariants.{Four};
@@ -17,14 +18,14 @@ ghost use Rattle.bgp_update.specs.declared.width.Width.TheVariants.{Four};
 use crate::attr_error::AttrError;
 use crate::attribute_type::AttributeType;
 use crate::carrier::Carrier;
-use crate::key::read_keys;
-use crate::multiprotocol::{entry_hop_value, reached, with_unreached};
+use crate::key::append_keys;
+use crate::multiprotocol::{append_reached, append_unreached, entry_hop_value};
 use crate::route::{Route, Update};
 use crate::route_fields::route_from;
 use crate::unicast::Unicast;
 use crate::values::{FirstValues, keep_values};
 use crate::width::Width;
-use crate::written_hop::next_hop_of;
+use crate::written_hop::{WrittenHop, next_hop_of};
 use bgp_prefix::{Memory, Prefix, RouteKey, Sequence};
 use mrt_frame::{Fault, bytes_at, u16_at};
 use std::alloc::Global;
@@ -58,77 +59,116 @@ fn fields_in(body: &[u8]) -> Result<UpdateFields<'_>, Fault>
     })
 }
 
-/// Returns the update of these keys and of what the attributes say.
-#[tactic(auto, unfolding(crate::specs::Updates::said_update))]
-fn update_from<F: Unicast>(
-    alloc: Global,
-    withdrawn: Vec<RouteKey<Prefix<F>>>,
-    first: &FirstValues<'_>,
-    announced: Vec<RouteKey<Prefix<F>>>,
-    width: Width,
-    add_path: bool,
-) -> Result<Update<Prefix<F>>, AttrError>
-    ensures { Gives (λ update. update) result
-        (said_update F.family width add_path withdrawn.items (kept_value first.now) announced.items) }
-{
-    let unreached = first.value(AttributeType::MpUnreachNlri);
-    let withdrawn = with_unreached(withdrawn, unreached, add_path)?;
-    let (reached_hop, reached) = reached(alloc, first.value(AttributeType::MpReachNlri), add_path)?;
-    let route = route_from(alloc, first, width)?;
-    Ok(Update {
-        withdrawn: Sequence::from_vec(withdrawn),
-        announced: Sequence::from_vec(announced),
-        reached: Sequence::from_vec(reached),
-        route,
-        reached_hop: next_hop_of(&reached_hop),
-    })
-}
-
-/// Reads the keys of one of an UPDATE's own fields; none where they aren't of the family.
+/// Appends the keys of one of an UPDATE's own fields to other ones; none where they aren't of the family.
 #[inline(always)]
-fn own_keys<F: Unicast>(
-    alloc: Global,
+fn append_own_keys<F: Unicast>(
+    keys: &mut Vec<RouteKey<Prefix<F>>>,
     field: &[u8],
     add_path: bool,
-) -> Result<Vec<RouteKey<Prefix<F>>>, AttrError>
-    ensures { Gives (λ v. v.items) result (own_keys_in F.family add_path field.now) }
+) -> Result<(), AttrError>
+    ensures appends { OnOk result (Appends keys.old.items keys.new.items (own_keys_in F.family add_path field.now)) }
+    ensures fault { IfErr result (λ e. Fails e (own_keys_in F.family add_path field.now)) }
+    ensures grown { IsGrown keys.old.items keys.new.items }
 {
     if F::OWN_FIELDS {
-        read_keys(alloc, field, add_path)
+        append_keys(keys, field, add_path)
     } else {
-        Ok(Vec::new(alloc))
+        Ok(())
     }
 }
 
-/// Reads the keys of an UPDATE's own fields, those withdrawn and those announced, and keeps the values of its
-/// attributes where none are kept yet.
+/// How many keys an UPDATE has of each kind, in the order in which they were appended, and the next hop of
+/// MP_REACH_NLRI.
+#[derive(Drop)]
+pub(crate) struct AppendedKeys<'a> {
+    pub(crate) withdrawn: usize,
+    pub(crate) announced: usize,
+    pub(crate) unreached: usize,
+    pub(crate) reached: usize,
+    pub(crate) reached_hop: Option<WrittenHop<'a>>,
+}
+
+/// Appends the keys of an UPDATE to other ones, and keeps the values of its attributes where none are kept yet.
 #[tactic(auto, unfolding(crate::specs::Updates::update_in))]
-pub(crate) fn read_fields<'a, F: Unicast>(
-    alloc: Global,
+pub(crate) fn read_keys<'a, F: Unicast>(
+    keys: &mut Vec<RouteKey<Prefix<F>>>,
     body: &'a [u8],
     width: Width,
     add_path: bool,
     first: &mut FirstValues<'a>,
-) -> Result<(Vec<RouteKey<Prefix<F>>>, Vec<RouteKey<Prefix<F>>>), AttrError>
+) -> Result<AppendedKeys<'a>, AttrError>
     requires whole { length first.old.values ≡ value_count }
     requires none { (t : AttributeType) → kept_value first.old t ≡ None }
-    ensures said { IfOk result (λ keys.
-        said_update F.family width add_path keys.0.items (kept_value first.new) keys.1.items
-        ≡ update_in F.family width add_path body.now) }
+    ensures said { IfOk result
+        (λ appended. AreKeysOf keys.old.items keys.new.items appended (attributes.route_from width (kept_value first.new))
+        (update_in F.family width add_path body.now)) }
     ensures fault { IfErr result (λ e. Fails e (update_in F.family width add_path body.now)) }
+    ensures grown { IsGrown keys.old.items keys.new.items }
     ensures spelled { OnOk result (width ≡ Four → IfSome (kept_value first.new AsPath) IsSpelled) }
     ensures writable { OnOk result (IsWritable (attributes.route_from width (kept_value first.new)).path) }
 {
     let fields = fields_in(body)?;
-    let withdrawn = own_keys(alloc, fields.withdrawn, add_path)?;
+    let start = keys.len();
+    append_own_keys(keys, fields.withdrawn, add_path)?;
+    let withdrawn = keys.len();
     keep_values::<F>(
         first,
         fields.attributes,
         Carrier::Message { add_path },
         width,
     )?;
-    let announced = own_keys(alloc, fields.announced, add_path)?;
-    Ok((withdrawn, announced))
+    append_own_keys(keys, fields.announced, add_path)?;
+    let announced = keys.len();
+    append_unreached(keys, first.value(AttributeType::MpUnreachNlri), add_path)?;
+    let unreached = keys.len();
+    let reached_hop = append_reached(keys, first.value(AttributeType::MpReachNlri), add_path)?;
+    Ok(AppendedKeys {
+        withdrawn: withdrawn - start,
+        announced: announced - withdrawn,
+        unreached: unreached - announced,
+        reached: keys.len() - unreached,
+        reached_hop,
+    })
+}
+
+/// Appends copies of keys.
+fn copy_keys<F: Unicast>(
+    out: &mut Vec<RouteKey<Prefix<F>>>,
+    keys: &[RouteKey<Prefix<F>>],
+) -> Result<(), Memory>
+    ensures { OnOk result (out.new.items ≡ out.old.items ++ keys.now) }
+{
+    out.extend_from_slice(keys)?;
+    Ok(())
+}
+
+/// Returns the update of keys that were read, and of its route.
+fn update_of<F: Unicast>(
+    alloc: Global,
+    keys: &[RouteKey<Prefix<F>>],
+    appended: &AppendedKeys<'_>,
+    route: Route,
+) -> Result<Update<Prefix<F>>, Memory>
+    requires { appended.now.withdrawn + appended.now.announced + appended.now.unreached + appended.now.reached
+        ≤ length keys.now }
+    ensures { IfOk result (λ update. update ≡ split_update keys.now appended.now route) }
+{
+    let unreached = appended.withdrawn + appended.announced;
+    let reached = unreached + appended.unreached;
+    let mut withdrawn = Vec::new(alloc);
+    copy_keys(&mut withdrawn, &keys[..appended.withdrawn])?;
+    copy_keys(&mut withdrawn, &keys[unreached..reached])?;
+    let mut announced = Vec::new(alloc);
+    copy_keys(&mut announced, &keys[appended.withdrawn..unreached])?;
+    let mut last = Vec::new(alloc);
+    copy_keys(&mut last, &keys[reached..reached + appended.reached])?;
+    Ok(Update {
+        withdrawn: Sequence::from_vec(withdrawn),
+        announced: Sequence::from_vec(announced),
+        reached: Sequence::from_vec(last),
+        route,
+        reached_hop: next_hop_of(&appended.reached_hop),
+    })
 }
 
 fn whole_update<F: Unicast>(
@@ -139,9 +179,12 @@ fn whole_update<F: Unicast>(
 ) -> Result<Update<Prefix<F>>, AttrError>
     ensures { Gives (λ update. update) result (update_in F.family width add_path body.now) }
 {
+    let mut keys = Vec::new(alloc);
     let mut first = FirstValues::new();
-    let (withdrawn, announced) = read_fields(alloc, body, width, add_path, &mut first)?;
-    update_from(alloc, withdrawn, &first, announced, width, add_path)
+    let appended = read_keys(&mut keys, body, width, add_path, &mut first)?;
+    let route = route_from(alloc, &first, width)?;
+    let update = update_of(alloc, keys.as_slice(), &appended, route)?;
+    Ok(update)
 }
 
 /// Returns the route of a RIB entry that the values describe: of a family that NEXT_HOP isn't of, by the next hop of

@@ -1,13 +1,16 @@
 -- What a worker took, step by step.
-use Rattle.std.proofs.Common.{◌≡◌, ◌+◌, ◌-◌, ◌^◌, ◌<◌, min, List, [], ◌∷◌, ◌++◌, length, refl, sym, ap, ◌∙◌, subst, append_assoc, arith, length-append}
-use Rattle.std.proofs.lemmas.List.{append-nil, nil_from_length}
+use Rattle.std.proofs.Common.{◌≡◌, ℕ, ◌+◌, ◌-◌, ◌^◌, ◌<◌, min, List, [], ◌∷◌, ◌++◌, length, refl, sym, ap, ◌∙◌, subst, append_assoc, arith, length-append, Result, slice_index_or}
+use Rattle.std.proofs.lemmas.List.{append-nil, get_or-map, nil_from_length}
+use Rattle.mrt_frame.specs.declared.fault.Fault.{Fault}
+use Rattle.mrt_body.specs.Events.{event_in}
+use Rattle.mrt_body.specs.Plain.{Event}
 use Rattle.rtrb.specs.Ring.{SameConsumer}
 use Rattle.rtrb.specs.Ring.{received as received_lists}
 use Rattle.lane_deal.specs.Plain.{UnitList, Numbered, Worker}
 use Rattle.lane_deal.specs.UnitLists.{IsUnitList, units_of, units_of_lists}
 use Rattle.lane_deal.specs.UnitRings.{received, known_items, known_lists}
 use Rattle.lane_deal.proofs.UnitLists.{units_pushed}
-use Rattle.lane_deal.specs.LaneWorkers.{Took, TookFront, TookSome, Takes, Worked}
+use Rattle.lane_deal.specs.LaneWorkers.{events_of, Took, TookFront, TookSome, Takes, Worked}
 
 module _ {S : Type 0} (stands_for : S → List Numbered → Type 0) where
   pub Took-nil : (w : Worker S) → w.taken < 2 ^ 64 → Took stands_for w w []
@@ -97,3 +100,7 @@ module _ {S : Type 0} (stands_for : S → List Numbered → Type 0) where
         counted = (let m = p.counted in let n = length-append items (item ∷ []) in omega (arith, count));
         sessions = λ taken g. rw (← append_assoc) (h (taken ++ items) (p.sessions taken g));
       }
+
+-- what the unit at an index means
+pub event_by_index : (items : List Numbered) (at : ℕ) (item : Numbered) (d : Result Event Fault) → at < length items → slice_index_or items at item ≡ item → slice_index_or (events_of items) at d ≡ event_in item.unit.payload
+event_by_index items at item d within is = get_or-map (λ (i : Numbered). event_in i.unit.payload) items at item d within ∙ ap (λ (i : Numbered). event_in i.unit.payload) is

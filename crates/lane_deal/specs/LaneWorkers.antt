@@ -1,16 +1,16 @@
 -- What a worker does in a round.
-use Rattle.std.specs.Prelude.{◌≡◌, ◌+◌, ◌-◌, ◌^◌, ◌<◌, min, List, ◌++◌, length}
-use Rattle.std.specs.List.{AllZip}
+use Rattle.std.specs.Prelude.{◌≡◌, ◌+◌, ◌-◌, ◌^◌, ◌<◌, min, List, ◌++◌, length, map, Result}
 use mathlib.Core.List.{IsPrefix}
 use Rattle.rtrb.specs.Ring.{SameConsumer}
-use Rattle.adj_rib.specs.RouteSets.{IsAheadOf}
-use Rattle.adj_rib.specs.Plain.{ReadAhead}
+use Rattle.mrt_frame.specs.declared.fault.Fault.{Fault}
+use Rattle.mrt_body.specs.Events.{event_in}
+use Rattle.mrt_body.specs.Plain.{Event}
 use Rattle.lane_deal.specs.Plain.{Numbered, Worker}
 use Rattle.lane_deal.specs.UnitRings.{received, known_items}
 
--- each of these was read ahead of the unit at its index
-abbrev pub AreReadAhead : List Numbered → List ReadAhead → Type 0
-AreReadAhead items ahead = AllZip (λ item read. IsAheadOf item.unit.payload read) items ahead
+-- what each of these units means, or its first fault
+abbrev pub events_of : List Numbered → List (Result Event Fault)
+events_of items = map (λ item. event_in item.unit.payload) items
 
 module _ {S : Type 0} (stands_for : S → List Numbered → Type 0) where
   -- the worker took these items, in order, into its sessions

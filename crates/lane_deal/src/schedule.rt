@@ -16,10 +16,10 @@ use crate::seats::Seats;
 use crate::sessions::Sessions;
 use crate::turn::Turn;
 use crate::unit_list::LentItem;
-use adj_rib::{ReadAhead, RouteId};
+use adj_rib::RouteId;
 use bgp_prefix::{Memory, PrefixMap, Sequence};
 use bgp_update::Unicast;
-use mrt_body::UnitOf;
+use mrt_body::{DecodedEvents, UnitOf};
 use peer_tables::{Peers, Seated};
 use std::alloc::Global;
 use std::collections::VecDeque;
@@ -124,7 +124,9 @@ fn take_one<F: Unicast, M: PrefixMap<RouteId, Addr = F> + Drop>(
         number: item.number,
         unit: item.unit.lend(),
     };
-    lane.seats.take(alloc, &lent, &ReadAhead::nothing())?;
+    let mut events = DecodedEvents::new(alloc);
+    events.push(alloc, &lent.unit.payload)?;
+    lane.seats.take(alloc, &lent, &events, 0)?;
     lane.took = lane.took.saturating_add(1);
     Ok(())
 }

@@ -3,16 +3,17 @@
 ghost use Rattle.std.specs.Prelude.{◌≡◌, ◌<◌, ℕ, Some, false, length, map, slice_get, slice_index_or, IfOk, IfSome, OnOk, IsTrue, MatchOption, true, ◌==◌};
 ghost use Rattle.std.specs.List.{list_any};
 ghost use Rattle.mrt_body.specs.Lent.{lent_payload, lent_unit};
-ghost use Rattle.adj_rib.specs.RouteSets.{IsAheadOf};
+ghost use Rattle.mrt_body.specs.DecodedEvents.{event_of};
+ghost use Rattle.mrt_body.specs.Events.{event_in};
 ghost use Rattle.peer_tables.specs.Seats.{seat_of};
 ghost use Rattle.lane_deal.specs.Seating.{AreIndexed, SeatFor, TakenAt};
 
 use crate::sessions::Sessions;
 use crate::unit_list::{LentItemOf, UnitListOf};
-use adj_rib::{ReadAhead, RouteId, Session};
+use adj_rib::{RouteId, Session};
 use bgp_prefix::{Memory, Prefix, PrefixMap};
 use bgp_update::Unicast;
-use mrt_body::{LentUnitOf, PeerKey};
+use mrt_body::{DecodedEvents, EventRef, LentUnitOf, PeerKey};
 use peer_tables::Seated;
 use std::alloc::Global;
 use std::mem;
@@ -30,8 +31,6 @@ pub struct Seats<M: PrefixMap<RouteId>> {
     is_indexed: bool,
     /// The last value that prefetching read. It has no meaning.
     prefetched: usize,
-    /// By way of which the sessions read what isn't read ahead. Its contents have no meaning.
-    buffer: Vec<u8>,
     ghost indexed: { IsTrue is_indexed → AreIndexed positions.items (map (λ seat. seat.number) seats.items) },
 }
 
@@ -81,18 +80,17 @@ fn remember(positions: &mut Vec<Option<usize>>, number: usize, at: usize) -> Res
 #[inline(always)]
 fn take_at<F: Unicast, M: PrefixMap<RouteId, Addr = F> + Drop>(
     alloc: Global,
-    buffer: &mut Vec<u8>,
     seats: &mut [Seated<M>],
     at: usize,
     unit: &LentUnitOf<'_, F>,
-    ahead: &ReadAhead<Prefix<F>>,
+    event: EventRef<'_, Prefix<F>>,
 ) -> Result<(), Memory>
     requires within { at < length seats.old }
-    requires ahead { IsAheadOf (lent_payload unit.now.payload) ahead.now }
+    requires event { event_of event ≡ event_in (lent_payload unit.now.payload) }
     ensures taken { OnOk result (TakenAt (map seat_of seats.old) (map seat_of seats.new) at (lent_unit unit.now)) }
     ensures numbers { map (λ seat. seat.number) seats.new ≡ map (λ seat. seat.number) seats.old }
 {
-    seats[at].session.take_ahead(alloc, buffer, unit, ahead)
+    seats[at].session.take_event(alloc, unit, event)
 }
 
 impl<M: PrefixMap<RouteId>> Seats<M> {
@@ -200,20 +198,24 @@ impl<F: Unicast, M: PrefixMap<RouteId, Addr = F> + Drop> Seats<M> {
 
     /// Prefetches the slots where the routes of the first units would be, and then these routes. The returned number
     /// has no meaning.
-    fn touch(&self, items: &UnitListOf<F>, ahead: &[ReadAhead<Prefix<F>>]) -> usize {
-        let count = items.len().min(ahead.len()).min(MOST_NEAR);
+    fn touch(&self, items: &UnitListOf<F>, events: &DecodedEvents<F>) -> usize {
+        let count = items.len().min(MOST_NEAR);
         let mut near = [0usize; MOST_NEAR];
         let mut touched = 0usize;
         for at in 0..count {
             let position = self.position_near(items.number_at(at));
             near[at] = position;
-            if let Some(seat) = self.seat_at(position) {
-                touched = touched.saturating_add(seat.session.prefetch_slot(&ahead[at]));
+            if let Some(route) = events.first_route(at) {
+                if let Some(seat) = self.seat_at(position) {
+                    touched = touched.saturating_add(seat.session.prefetch_slot(route));
+                }
             }
         }
         for at in 0..count {
-            if let Some(seat) = self.seat_at(near[at]) {
-                touched = touched.saturating_add(seat.session.prefetch_route(&ahead[at]));
+            if let Some(route) = events.first_route(at) {
+                if let Some(seat) = self.seat_at(near[at]) {
+                    touched = touched.saturating_add(seat.session.prefetch_route(route));
+                }
             }
         }
         touched
@@ -235,12 +237,11 @@ impl<F: Unicast, M: PrefixMap<RouteId, Addr = F> + Drop> Sessions for Seats<M> {
             positions: Vec::new(alloc),
             is_indexed: true,
             prefetched: 0,
-            buffer: Vec::new(alloc),
         }
     }
 
-    fn prefetch(&mut self, items: &UnitListOf<F>, ahead: &[ReadAhead<Prefix<F>>]) {
-        self.prefetched = self.touch(items, ahead);
+    fn prefetch(&mut self, items: &UnitListOf<F>, events: &DecodedEvents<F>) {
+        self.prefetched = self.touch(items, events);
     }
 
     #[inline(always)]
@@ -248,10 +249,10 @@ impl<F: Unicast, M: PrefixMap<RouteId, Addr = F> + Drop> Sessions for Seats<M> {
         &mut self,
         alloc: Global,
         item: &LentItemOf<'_, F>,
-        ahead: &ReadAhead<Prefix<F>>,
+        events: &DecodedEvents<F>,
+        at: usize,
     ) -> Result<(), Memory> {
-        let at = self.position_for(alloc, item.number, &item.unit.peer)?;
-        let buffer = &mut self.buffer;
-        take_at(alloc, buffer, &mut self.seats, at, &item.unit, ahead)
+        let position = self.position_for(alloc, item.number, &item.unit.peer)?;
+        take_at(alloc, &mut self.seats, position, &item.unit, events.at(at))
     }
 }

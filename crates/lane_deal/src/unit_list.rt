@@ -4,7 +4,6 @@ ghost use Rattle.std.specs.Prelude.{◌≡◌, ◌+◌, ◌≤◌, length, take,
 ghost use Rattle.std.proofs.Props.{props};
 ghost use Rattle.std.specs.List.{AllByRecursion};
 ghost use Rattle.mrt_body.specs.Lent.{lent_payload};
-ghost use Rattle.adj_rib.specs.RouteSets.{IsAheadOf};
 ghost use Rattle.lane_deal.specs.ListedUnits.{IsWithin, payload_with};
 
 use crate::listed_peer::ListedPeer;
@@ -12,7 +11,6 @@ use crate::listed_unit::{
     ListedRecord, ListedUnit, NumberedPeer, PayloadKind, PayloadKindOf, index_of_peer,
     index_of_record,
 };
-use adj_rib::ReadAhead;
 use bgp_prefix::{Memory, Prefix};
 use bgp_update::{FamilyMark, Unicast};
 use mrt_body::{LentPayload, LentPayloadOf, LentUnit, LentUnitOf, Place};
@@ -264,31 +262,6 @@ impl<F: Unicast> UnitList<Prefix<F>, FamilyMark<F>> {
                 peer_index: None,
                 payload: with_bytes(unit.kind, bytes),
             },
-        }
-    }
-
-    /// Reads the route of the unit at this index ahead, by way of a buffer, whose contents are replaced.
-    pub fn read_ahead(&self, alloc: Global, buffer: &mut Vec<u8>, at: usize) -> ReadAhead<Prefix<F>>
-        requires { at < length (units_of self.now) }
-        ensures { (d : Numbered) → IsAheadOf (slice_index_or (units_of self.now) at d).unit.payload result }
-    {
-        let unit = &self.listed[at];
-        match unit.kind {
-            PayloadKind::Entry { key: _, family } => {
-                family.is_known();
-                let attrs = bytes_from(self.bytes.as_slice(), unit.start, unit.len);
-                ReadAhead::of_entry(alloc, buffer, attrs)
-            }
-            PayloadKind::Message {
-                width,
-                add_path,
-                family,
-            } => {
-                family.is_known();
-                let bytes = bytes_from(self.bytes.as_slice(), unit.start, unit.len);
-                ReadAhead::of_message(alloc, buffer, bytes, width, add_path)
-            }
-            PayloadKind::State { .. } | PayloadKind::Clear => ReadAhead::nothing(),
         }
     }
 }

@@ -1,7 +1,7 @@
 ghost use Rattle.std.specs.Prelude.{◌≡◌, Ok, OnOk, [], length, ◌<◌, true, false};
 ghost use Rattle.std.specs.List.{AllZip};
 ghost use Rattle.std.specs.Thread.{IsSync, IsSend};
-ghost use Rattle.lane_deal.specs.LaneWorkers.{AreReadAhead};
+ghost use Rattle.lane_deal.specs.LaneWorkers.{events_of};
 ghost use Rattle.lane_deal.specs.UnitLists.{units_of};
 
 use crate::gate::Gate;
@@ -9,9 +9,9 @@ use crate::halves::Works;
 use crate::numbered::Small;
 use crate::sessions::Sessions;
 use crate::unit_list::{UnitList, UnitListOf};
-use adj_rib::ReadAhead;
 use bgp_prefix::{Memory, Prefix};
 use bgp_update::{FamilyMark, Unicast};
+use mrt_body::DecodedEvents;
 use rtrb::{Consumer, Producer};
 use std::alloc::Global;
 use std::sync::atomic::{AtomicBool, Ordering};
@@ -38,18 +38,17 @@ pub struct Patience {
     pub batch: u64,
 }
 
-/// Reads ahead of each unit of a list, by way of a buffer, whose contents are replaced.
-fn read_ahead<F: Unicast>(
+/// Decodes each unit of a list.
+fn decode_all<F: Unicast>(
     alloc: Global,
-    buffer: &mut Vec<u8>,
     items: &UnitListOf<F>,
-    ahead: &mut Vec<ReadAhead<Prefix<F>>>,
+    events: &mut DecodedEvents<F>,
 ) -> Result<(), Memory>
-    ensures { OnOk result (AreReadAhead (units_of items.now) ahead.new.items) }
+    ensures { OnOk result (events.new ≡ events_of (units_of items.now)) }
 {
-    ahead.clear();
+    events.clear();
     for at in 0..items.len() {
-        ahead.push(items.read_ahead(alloc, buffer, at))?;
+        events.push(alloc, &items.at(at).unit.payload)?;
     }
     Ok(())
 }
@@ -62,14 +61,13 @@ impl<F: Unicast, S: Sessions<Addr = F>> Worker<S, Prefix<F>, FamilyMark<F>> {
         &mut self,
         alloc: Global,
         gate: &G,
-        buffer: &mut Vec<u8>,
-        ahead: &mut Vec<ReadAhead<Prefix<F>>>,
+        events: &mut DecodedEvents<F>,
     ) -> Result<(), Memory>
         ensures { OnOk result (Took S.stands_for self.old self.new (known_items self.old.consumer)) }
     {
         let _taken = self.taken;
         while self.consumer.cached_slots() > 0 {
-            self.take_list(alloc, gate, buffer, ahead)?;
+            self.take_list(alloc, gate, events)?;
         }
         Ok(())
     }
@@ -80,8 +78,7 @@ impl<F: Unicast, S: Sessions<Addr = F>> Worker<S, Prefix<F>, FamilyMark<F>> {
         gate: &G,
         over: &AtomicBool,
         patience: Patience,
-        buffer: &mut Vec<u8>,
-        ahead: &mut Vec<ReadAhead<Prefix<F>>>,
+        events: &mut DecodedEvents<F>,
     ) -> Result<(), Memory>
         ensures { OnOk result (TookSome S.stands_for self.old self.new) }
     {
@@ -91,8 +88,8 @@ impl<F: Unicast, S: Sessions<Addr = F>> Worker<S, Prefix<F>, FamilyMark<F>> {
         let mut further = 0u64;
         while empty < patience.looks && further < patience.batch {
             let last = over.load(Ordering::SeqCst);
-            if self.take_found(alloc, gate, buffer, ahead)? {
-                further = further.saturating_add(ahead.len() as u64).max(further + 1);
+            if self.take_found(alloc, gate, events)? {
+                further = further.saturating_add(events.len() as u64).max(further + 1);
                 in_a_row = 0;
             } else if last {
                 break;
@@ -110,8 +107,7 @@ impl<F: Unicast, S: Sessions<Addr = F>> Worker<S, Prefix<F>, FamilyMark<F>> {
         &mut self,
         alloc: Global,
         gate: &G,
-        buffer: &mut Vec<u8>,
-        ahead: &mut Vec<ReadAhead<Prefix<F>>>,
+        events: &mut DecodedEvents<F>,
     ) -> Result<bool, Memory>
         ensures took { OnOk result (TookSome S.stands_for self.old self.new) }
         ensures none { result ≡ Ok false → received self.new.consumer ≡ received self.old.consumer }
@@ -121,7 +117,7 @@ impl<F: Unicast, S: Sessions<Addr = F>> Worker<S, Prefix<F>, FamilyMark<F>> {
         if self.consumer.is_empty() {
             return Ok(false);
         }
-        self.take_list(alloc, gate, buffer, ahead)?;
+        self.take_list(alloc, gate, events)?;
         Ok(true)
     }
 
@@ -130,15 +126,14 @@ impl<F: Unicast, S: Sessions<Addr = F>> Worker<S, Prefix<F>, FamilyMark<F>> {
         &mut self,
         alloc: Global,
         gate: &G,
-        buffer: &mut Vec<u8>,
-        ahead: &mut Vec<ReadAhead<Prefix<F>>>,
+        events: &mut DecodedEvents<F>,
     ) -> Result<(), Memory>
         requires { 0 < length (known_lists self.old.consumer) }
         ensures { OnOk result (TookFront S.stands_for self.old self.new) }
     {
         let items = self.consumer.pop_known();
-        read_ahead(alloc, buffer, &items, ahead)?;
-        self.take_items(alloc, gate, &items, ahead.as_slice())?;
+        decode_all(alloc, &items, events)?;
+        self.take_items(alloc, gate, &items, events)?;
         self.give_back(items);
         Ok(())
     }
@@ -153,21 +148,21 @@ impl<F: Unicast, S: Sessions<Addr = F>> Worker<S, Prefix<F>, FamilyMark<F>> {
         }
     }
 
-    /// Takes the units in order.
+    /// Takes the units in order, which mean these events.
     fn take_items<G: Gate>(
         &mut self,
         alloc: Global,
         gate: &G,
         items: &UnitListOf<F>,
-        ahead: &[ReadAhead<Prefix<F>>],
+        events: &DecodedEvents<F>,
     ) -> Result<(), Memory>
-        requires { AreReadAhead (units_of items.now) ahead.now }
+        requires { events.now ≡ events_of (units_of items.now) }
         ensures { OnOk result (Takes S.stands_for self.old self.new (units_of items.now)) }
     {
-        self.sessions.prefetch(items, ahead);
-        for (at, read) in ahead.iter().enumerate() {
+        self.sessions.prefetch(items, events);
+        for at in 0..items.len() {
             gate.before(self.lane, self.taken);
-            self.sessions.take(alloc, &items.at(at), read)?;
+            self.sessions.take(alloc, &items.at(at), events, at)?;
             self.taken = self.taken.saturating_add(1);
         }
         Ok(())
@@ -186,10 +181,9 @@ impl<F: Unicast, S: Sessions<Addr = F>> Works for Worker<S, Prefix<F>, FamilyMar
         over: &AtomicBool,
         patience: Patience,
     ) -> Result<(), Memory> {
-        let mut ahead = Vec::new(alloc);
-        let mut buffer = Vec::new(alloc);
-        self.take_all_known(alloc, gate, &mut buffer, &mut ahead)?;
-        self.look_again(alloc, gate, over, patience, &mut buffer, &mut ahead)
+        let mut events = DecodedEvents::new(alloc);
+        self.take_all_known(alloc, gate, &mut events)?;
+        self.look_again(alloc, gate, over, patience, &mut events)
     }
 }
 

@@ -29,3 +29,4 @@ pub mod ReadingLaws
 pub mod RuleLaws
 pub mod OpenLaws
 pub mod NamedLaws
+pub mod DecodedLaws

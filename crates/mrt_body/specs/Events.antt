@@ -87,8 +87,11 @@ message_event_in family width add_path bytes = message_in bytes >>= λ m.
     if m.0 == UPDATE then (update_in family width add_path m.1 >>= λ update. Ok (event.Change update)) else
     Ok event.Other
 
+abbrev pub entry_event_in : FamilyOf → RouteKey → List ℕ → Result Event Fault
+entry_event_in family key attrs = route_in family Four attrs >>= λ route. Ok (event.Rib key route)
+
 unfoldable pub event_in : Payload → Result Event Fault
 event_in (State from to rule) = Ok (event.State from to rule)
 event_in (Message bytes width add_path family) = message_event_in family width add_path bytes
-event_in (Entry key attrs family) = route_in family Four attrs >>= λ route. Ok (event.Rib key route)
+event_in (Entry key attrs family) = entry_event_in family key attrs
 event_in Clear = Ok event.Clear

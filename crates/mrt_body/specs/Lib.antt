@@ -1,6 +1,6 @@
 pub mod Plain
 pub mod Events
-pub mod PackedEvents
+pub mod DecodedEvents
 pub mod Many
 pub mod Indexes
 pub mod RibRecords

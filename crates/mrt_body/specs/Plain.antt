@@ -8,7 +8,8 @@ use Rattle.mrt_body.specs.declared.unit.Found.{Found as FoundOf}
 use Rattle.mrt_body.specs.declared.lent.LentPayload.{LentPayload as LentPayloadOf}
 use Rattle.mrt_body.specs.declared.lent.LentUnit.{LentUnit as LentUnitOf}
 use Rattle.mrt_body.specs.declared.meaning.Event.{Event as EventOf}
-use Rattle.mrt_body.specs.declared.packed_meaning.PackedEvent.{PackedEvent as PackedEventOf}
+use Rattle.mrt_body.specs.declared.event_ref.EventRef.{EventRef as EventRefOf}
+use Rattle.mrt_body.specs.declared.decoded_events.DecodedEvent.{DecodedEvent as DecodedEventOf}
 
 -- a prefix that is named, and how others may stand to it
 abbrev pub PrefixChoice : Type 0
@@ -35,6 +36,10 @@ LentUnit = LentUnitOf IpPrefix FamilyOf
 abbrev pub Event : Type 0
 Event = EventOf IpPrefix
 
--- the same, with packed routes
-abbrev pub PackedEvent : Type 0
-PackedEvent = PackedEventOf IpPrefix
+-- the same, with keys and routes that are borrowed
+abbrev pub EventRef : Type 0
+EventRef = EventRefOf IpPrefix
+
+-- the same, with keys and routes among others
+abbrev pub DecodedEvent : Type 0
+DecodedEvent = DecodedEventOf IpPrefix

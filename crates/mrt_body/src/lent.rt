@@ -59,37 +59,6 @@ pub type LentPayloadOf<'a, F> = LentPayload<'a, Prefix<F>, FamilyMark<F>>;
 pub type LentUnitOf<'a, F> = LentUnit<'a, Prefix<F>, FamilyMark<F>>;
 
 impl<'a, F: Unicast> LentPayload<'a, Prefix<F>, FamilyMark<F>> {
-    /// Returns the same payload, whose bytes are lent as well.
-    #[inline(always)]
-    pub fn same(&self) -> LentPayloadOf<'a, F>
-        ensures { lent_payload result ≡ lent_payload self.now }
-    {
-        match self {
-            LentPayload::State { from, to, rule } => LentPayload::State {
-                from: *from,
-                to: *to,
-                rule: *rule,
-            },
-            LentPayload::Message {
-                bytes,
-                width,
-                add_path,
-                family,
-            } => LentPayload::Message {
-                bytes,
-                width: *width,
-                add_path: *add_path,
-                family: *family,
-            },
-            LentPayload::Entry { key, attrs, family } => LentPayload::Entry {
-                key: *key,
-                attrs,
-                family: *family,
-            },
-            LentPayload::Clear => LentPayload::Clear,
-        }
-    }
-
     /// Whether it is what a record has of the peer, and not that a RIB dump clears its table.
     #[inline(always)]
     pub fn is_recorded(&self) -> bool

@@ -33,6 +33,9 @@
 //!   peers that aren't selected are removed from the list at once, which is why each has its number.
 //! - `PayloadBytes` stores up to 112 bytes in the unit itself, and more on the heap: nearly all attributes of RIB
 //!   entries, and about nine in ten UPDATEs, are that short.
+//! - What payloads mean is decoded one after another into blocks of memory that are used again (`DecodedEvents`), which
+//!   contracts see as the list of their events and faults. Sessions take units by what was decoded of them, and a
+//!   selection by prefix looks at the keys of a message there. `event` returns the same as a value of its own.
 //! - The function `event` and the type `Event` are in two modules, `interpret` and `meaning`, because the toolchain
 //!   refuses two names in one module that differ only in case.
 #![tactic(auto)]
@@ -42,14 +45,15 @@ mod at;
 mod choice;
 mod chosen_prefixes;
 mod content;
+mod decoded_events;
 mod entries;
+mod event_ref;
 mod in_force;
 mod index;
 mod interpret;
 mod lent;
 mod meaning;
 mod message;
-mod packed_meaning;
 mod payload;
 mod payload_bytes;
 mod reading;
@@ -71,10 +75,11 @@ pub use agreement::{bodies_agree_with_their_forms, events_agree_with_their_paylo
 pub use choice::{PeerChoice, PrefixChoice, Reach};
 pub use chosen_prefixes::ChosenPrefixes;
 pub use content::{Content, content_of};
+pub use decoded_events::DecodedEvents;
+pub use event_ref::EventRef;
 pub use interpret::event;
 pub use lent::{LentPayload, LentPayloadOf, LentUnit, LentUnitOf};
 pub use meaning::Event;
-pub use packed_meaning::{PackedEvent, packed_event};
 pub use payload_bytes::PayloadBytes;
 pub use reading::{
     added_dumps_clear_nothing, readings_give_all_found, units_have_their_family,

@@ -1,24 +1,23 @@
 //! Which of the units of files are returned.
 
 ghost use Rattle.std.specs.Prelude.{◌≡◌, IfOk, true};
-ghost use Rattle.bgp_update.specs.PackedUpdates.{plain_update};
 ghost use Rattle.mrt_body.specs.Choices.{all_of, is_in_share, is_open};
 ghost use Rattle.mrt_body.specs.Lent.{lent_payload};
 ghost use Rattle.mrt_body.specs.Selections.{concerns, has_chosen, is_past, is_selected, speaks_of, takes_each_peer, takes_peer, takes_record};
-ghost use Rattle.mrt_body.specs.declared.meaning.Event.TheVariants as events;
-ghost use Rattle.std.specs.Prelude.{Ok};
+ghost use Rattle.mrt_body.specs.DecodedEvents.{event_of};
 
 use crate::choice::{PeerChoice, is_chosen_peer};
 use crate::chosen_prefixes::ChosenPrefixes;
+use crate::decoded_events::DecodedEvents;
+use crate::event_ref::EventRef;
 use crate::lent::{LentPayload, LentPayloadOf};
-use crate::packed_meaning::{PackedEvent, packed_event};
 use crate::rib_rule::RibRule;
 use crate::session_unit::SessionUnit;
 use crate::share::Share;
 use crate::state_rule::StateRule;
 use crate::unit::PeerKey;
 use bgp_prefix::{Memory, Prefix, RouteKey};
-use bgp_update::{AttrError, PackedUpdate, Unicast};
+use bgp_update::Unicast;
 use std::alloc::Global;
 use std::marker::Model;
 
@@ -72,19 +71,26 @@ fn has_chosen<F: Unicast>(chosen: &ChosenPrefixes<F>, keys: &[RouteKey<Prefix<F>
     false
 }
 
-/// Whether an UPDATE speaks of a chosen prefix.
-fn speaks_of<F: Unicast>(chosen: &ChosenPrefixes<F>, update: &PackedUpdate<Prefix<F>>) -> bool
-    ensures { result ≡ speaks_of chosen.now (Ok (events.Change (plain_update update.now))) }
+/// Whether a message speaks of a chosen prefix, or may: a damaged one does.
+fn speaks_of<F: Unicast>(chosen: &ChosenPrefixes<F>, event: &EventRef<'_, Prefix<F>>) -> bool
+    ensures { result ≡ speaks_of chosen.now (event_of event.now) }
 {
-    has_chosen(chosen, update.withdrawn.as_slice())
-        || has_chosen(chosen, update.announced.as_slice())
-        || has_chosen(chosen, update.reached.as_slice())
+    match event {
+        EventRef::Change(update) => {
+            has_chosen(chosen, update.withdrawn)
+                || has_chosen(chosen, update.unreached)
+                || has_chosen(chosen, update.announced)
+                || has_chosen(chosen, update.reached)
+        }
+        EventRef::Other => false,
+        _ => true,
+    }
 }
 
-/// Whether a payload can concern a chosen prefix. A message is read by way of a buffer, whose contents are replaced.
+/// Whether a payload can concern a chosen prefix. A message is decoded in place of what was decoded before.
 fn concerns<F: Unicast>(
     alloc: Global,
-    buffer: &mut Vec<u8>,
+    decoded: &mut DecodedEvents<F>,
     chosen: &ChosenPrefixes<F>,
     payload: &LentPayloadOf<'_, F>,
 ) -> Result<bool, Memory>
@@ -97,13 +103,9 @@ fn concerns<F: Unicast>(
             if chosen.is_open() {
                 return Ok(true);
             }
-            match packed_event(alloc, buffer, payload) {
-                Ok(PackedEvent::Change(update)) => Ok(speaks_of(chosen, &update)),
-                Ok(PackedEvent::Other) => Ok(false),
-                Ok(_) => Ok(true),
-                Err(AttrError::Bad(_)) => Ok(true),
-                Err(AttrError::Memory) => Err(Memory),
-            }
+            decoded.clear();
+            decoded.push(alloc, payload)?;
+            Ok(speaks_of(chosen, &decoded.at(0)))
         }
     }
 }
@@ -253,11 +255,11 @@ impl<F: Unicast> Selection<F> {
         !self.is_past(unit.time) && self.takes_peer(&unit.peer)
     }
 
-    /// Whether a unit is selected. A message is read by way of a buffer, whose contents are replaced.
+    /// Whether a unit is selected. A message is decoded in place of what was decoded before.
     pub(crate) fn selects(
         &self,
         alloc: Global,
-        buffer: &mut Vec<u8>,
+        decoded: &mut DecodedEvents<F>,
         unit: &SessionUnit<F>,
     ) -> Result<bool, Memory>
         ensures { IfOk result (λ selected. selected ≡ is_selected self.now unit.now) }
@@ -265,7 +267,7 @@ impl<F: Unicast> Selection<F> {
         if self.is_past(unit.time) || !self.takes_peer(&unit.peer) {
             return Ok(false);
         }
-        concerns(alloc, buffer, &self.prefixes, &unit.lend().payload)
+        concerns(alloc, decoded, &self.prefixes, &unit.lend().payload)
     }
 
     /// Whether the entries of a RIB record of this time and prefix are selected, as far as these decide.

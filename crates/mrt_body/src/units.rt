@@ -11,6 +11,7 @@ ghost use Rattle.mrt_body.specs.declared.standing.Standing.TheVariants as standi
 
 use crate::at::RecordAt;
 use crate::content::{content_of, is_extended};
+use crate::decoded_events::DecodedEvents;
 use crate::in_force::Index;
 use crate::lent::LentUnitOf;
 use crate::remarks::{Remarker, Remarks};
@@ -38,8 +39,8 @@ pub struct Units<F: Unicast = u32> {
     /// The memory of a record whose units were passed over, into which the next one is read.
     spare: Option<Vec<u8>>,
     selection: Selection<F>,
-    /// By way of which messages are read that are only selected by their prefixes. Its contents have no meaning.
-    buffer: Option<Vec<u8>>,
+    /// Where messages are decoded that are only selected by their prefixes. What is there has no meaning.
+    decoded: DecodedEvents<F>,
     max_records: u64,
     records: u64,
     aside: u64,
@@ -89,7 +90,7 @@ impl<F: Unicast> Units<F> {
             waiting: Waiting::new(alloc),
             spare: None,
             selection,
-            buffer: None,
+            decoded: DecodedEvents::new(alloc),
             max_records,
             records: 0,
             aside: 0,

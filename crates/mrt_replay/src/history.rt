@@ -16,7 +16,10 @@ use std::alloc::Global;
 
 /// The result of replaying files into rows of what happened, and what was counted.
 #[derive(Drop)]
-pub struct History<M: PrefixMap<SharedRoute>> {
+pub struct History<M: PrefixMap<SharedRoute>>
+where
+    M::Addr: Unicast,
+{
     pub told: Told<M>,
     pub records: u64,
     pub aside: u64,

@@ -23,7 +23,10 @@ use std::alloc::Global;
 /// What a replay of files into rows leaves: the watches on all peers, the rows, the refusals, and how many units there
 /// were, which stops at `u64::MAX`.
 #[derive(Drop)]
-pub struct Told<M: PrefixMap<SharedRoute>> {
+pub struct Told<M: PrefixMap<SharedRoute>>
+where
+    M::Addr: Unicast,
+{
     pub watches: Watches<M>,
     pub rows: Vec<HistoryRow<M::Addr>>,
     pub refused: Vec<Damage>,

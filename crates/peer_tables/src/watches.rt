@@ -2,7 +2,9 @@
 
 ghost use Rattle.std.specs.Prelude.{◌≡◌, [], ◌∷◌, ◌++◌, IfOk, List, OnErr, OnOk, Some, false, map, slice_get};
 ghost use Rattle.std.specs.List.{list_any};
-ghost use Rattle.mrt_body.specs.Lent.{lent_unit};
+ghost use Rattle.mrt_body.specs.DecodedEvents.{event_of};
+ghost use Rattle.mrt_body.specs.Events.{event_in};
+ghost use Rattle.mrt_body.specs.Lent.{lent_payload, lent_unit};
 ghost use Rattle.mrt_body.specs.Plain.{PrefixChoice as Choice};
 ghost use Rattle.mrt_body.specs.Plain.{Unit as ReplayUnit};
 ghost use Rattle.adj_rib.specs.Histories.{chosen_notes, unit_notes};
@@ -16,7 +18,7 @@ use crate::shared_peer::SharedPeer;
 use adj_rib::{Note, SharedRoute, Watch};
 use bgp_prefix::{Memory, Prefix, PrefixMap};
 use bgp_update::Unicast;
-use mrt_body::{ChosenPrefixes, LentUnitOf};
+use mrt_body::{ChosenPrefixes, DecodedEvents, EventRef, LentUnitOf};
 use std::alloc::Global;
 use std::marker::Model;
 
@@ -30,15 +32,16 @@ pub struct Watched<M: PrefixMap<SharedRoute>> {
 /// Passes the unit to the watch at this position, which replaces the notes.
 fn take_known<F: Unicast, M: PrefixMap<SharedRoute, Addr = F>>(
     alloc: Global,
-    buffer: &mut Vec<u8>,
     chosen: &ChosenPrefixes<F>,
     since: Option<u64>,
     peers: &mut Vec<Watched<M>>,
     at: usize,
     unit: &LentUnitOf<'_, F>,
+    event: &EventRef<'_, Prefix<F>>,
     notes: &mut Vec<Note<Prefix<F>>>,
 ) -> Result<(), Memory>
-    requires { slice_get (keys_in (map watch_in peers.old.items)) at ≡ Some (lent_unit unit.now).peer }
+    requires peer { slice_get (keys_in (map watch_in peers.old.items)) at ≡ Some (lent_unit unit.now).peer }
+    requires event { event_of event.now ≡ event_in (lent_payload unit.now.payload) }
     ensures stands { (before : List ReplayUnit) → map watch_in peers.old.items ≡ watches_of since chosen.now before →
         OnOk result (map watch_in peers.new.items ≡ watches_of since chosen.now (before ++ lent_unit unit.now ∷ [])) }
     ensures notes { (before : List ReplayUnit) → map watch_in peers.old.items ≡ watches_of since chosen.now before →
@@ -48,7 +51,7 @@ fn take_known<F: Unicast, M: PrefixMap<SharedRoute, Addr = F>>(
 {
     peers[at]
         .watch
-        .take(alloc, buffer, chosen, since, unit, notes)?;
+        .take(alloc, chosen, since, unit, event, notes)?;
     Ok(())
 }
 
@@ -56,16 +59,17 @@ fn take_known<F: Unicast, M: PrefixMap<SharedRoute, Addr = F>>(
 /// they were.
 fn take_new<F: Unicast, M: PrefixMap<SharedRoute, Addr = F> + Drop>(
     alloc: Global,
-    buffer: &mut Vec<u8>,
     chosen: &ChosenPrefixes<F>,
     since: Option<u64>,
     numbers: &mut Peers,
     peers: &mut Vec<Watched<M>>,
     unit: &LentUnitOf<'_, F>,
+    event: &EventRef<'_, Prefix<F>>,
     notes: &mut Vec<Note<Prefix<F>>>,
 ) -> Result<usize, Memory>
     requires numbered { keys_in (map watch_in peers.old.items) ≡ numbers.old }
     requires new { list_any (peer_eq (lent_unit unit.now).peer) numbers.old ≡ false }
+    requires event { event_of event.now ≡ event_in (lent_payload unit.now.payload) }
     ensures numbered { keys_in (map watch_in peers.new.items) ≡ numbers.new }
     ensures at { IfOk result (λ at. slice_get (keys_in (map watch_in peers.new.items)) at ≡ Some (lent_unit unit.now).peer) }
     ensures stands { (before : List ReplayUnit) → map watch_in peers.old.items ≡ watches_of since chosen.now before →
@@ -77,7 +81,7 @@ fn take_new<F: Unicast, M: PrefixMap<SharedRoute, Addr = F> + Drop>(
 {
     let key = SharedPeer::new(alloc, unit.peer)?;
     let mut watch = Watch::new(alloc);
-    watch.take(alloc, buffer, chosen, since, unit, notes)?;
+    watch.take(alloc, chosen, since, unit, event, notes)?;
     peers.reserve(1)?;
     let at = numbers.add(&unit.peer)?;
     peers.push_reserved(Watched { key, watch });
@@ -87,15 +91,16 @@ fn take_new<F: Unicast, M: PrefixMap<SharedRoute, Addr = F> + Drop>(
 /// Passes the unit to the watch on its peer, and returns its position.
 fn take_unit<F: Unicast, M: PrefixMap<SharedRoute, Addr = F> + Drop>(
     alloc: Global,
-    buffer: &mut Vec<u8>,
     chosen: &ChosenPrefixes<F>,
     since: Option<u64>,
     numbers: &mut Peers,
     peers: &mut Vec<Watched<M>>,
     unit: &LentUnitOf<'_, F>,
+    event: &EventRef<'_, Prefix<F>>,
     notes: &mut Vec<Note<Prefix<F>>>,
 ) -> Result<usize, Memory>
-    requires { keys_in (map watch_in peers.old.items) ≡ numbers.old }
+    requires numbered { keys_in (map watch_in peers.old.items) ≡ numbers.old }
+    requires event { event_of event.now ≡ event_in (lent_payload unit.now.payload) }
     ensures numbered { keys_in (map watch_in peers.new.items) ≡ numbers.new }
     ensures at { IfOk result (λ at. slice_get (keys_in (map watch_in peers.new.items)) at ≡ Some (lent_unit unit.now).peer) }
     ensures stands { (before : List ReplayUnit) → map watch_in peers.old.items ≡ watches_of since chosen.now before →
@@ -106,26 +111,32 @@ fn take_unit<F: Unicast, M: PrefixMap<SharedRoute, Addr = F> + Drop>(
 {
     match numbers.find(&unit.peer, unit.peer_index) {
         Some(at) => {
-            take_known(alloc, buffer, chosen, since, peers, at, unit, notes)?;
+            take_known(alloc, chosen, since, peers, at, unit, event, notes)?;
             Ok(at)
         }
-        None => take_new(alloc, buffer, chosen, since, numbers, peers, unit, notes),
+        None => take_new(alloc, chosen, since, numbers, peers, unit, event, notes),
     }
 }
 
 /// The watches on all peers, by first appearance, and what they are passed units by.
 #[derive(Drop)]
-pub struct Watches<M: PrefixMap<SharedRoute>> {
+pub struct Watches<M: PrefixMap<SharedRoute>>
+where
+    M::Addr: Unicast,
+{
     peers: Vec<Watched<M>>,
     /// The peers that they are on, by position.
     numbers: Peers,
-    /// By way of which units are read. Its contents mean nothing.
-    buffer: Vec<u8>,
+    /// Where units are decoded. What is there means nothing.
+    events: DecodedEvents<M::Addr>,
     /// What the last unit did.
     notes: Vec<Note<Prefix<M::Addr>>>,
 }
 
-impl<M: PrefixMap<SharedRoute>> Model for Watches<M> {
+impl<M: PrefixMap<SharedRoute>> Model for Watches<M>
+where
+    M::Addr: Unicast,
+{
     ghost use Rattle.std.specs.Prelude.{◌≡◌, List, map};
     ghost use Rattle.peer_tables.specs.Histories.{PeerWatch};
     ghost use Rattle.peer_tables.specs.Watching.{keys_in, watch_in};
@@ -147,7 +158,7 @@ impl<F: Unicast, M: PrefixMap<SharedRoute, Addr = F> + Drop> Watches<M> {
         Ok(Watches {
             peers: Vec::new(alloc),
             numbers: Peers::new(alloc)?,
-            buffer: Vec::new(alloc),
+            events: DecodedEvents::new(alloc),
             notes: Vec::new(alloc),
         })
     }
@@ -168,14 +179,16 @@ impl<F: Unicast, M: PrefixMap<SharedRoute, Addr = F> + Drop> Watches<M> {
             rows.old.items ≡ history_rows listing chosen.now before →
             OnOk result (rows.new.items ≡ history_rows listing chosen.now (before ++ lent_unit unit.now ∷ [])) }
     {
+        self.events.clear();
+        self.events.push(alloc, &unit.payload)?;
         let at = take_unit(
             alloc,
-            &mut self.buffer,
             chosen,
             listing.since,
             &mut self.numbers,
             &mut self.peers,
             unit,
+            &self.events.at(0),
             &mut self.notes,
         )?;
         let peer = &self.peers[at].key;
@@ -184,7 +197,10 @@ impl<F: Unicast, M: PrefixMap<SharedRoute, Addr = F> + Drop> Watches<M> {
     }
 }
 
-impl<M: PrefixMap<SharedRoute>> Watches<M> {
+impl<M: PrefixMap<SharedRoute>> Watches<M>
+where
+    M::Addr: Unicast,
+{
     /// The watches, by first appearance of their peers.
     pub fn watched(&self) -> &[Watched<M>]
         ensures { map watch_in result.now ≡ self.now }

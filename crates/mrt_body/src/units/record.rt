@@ -85,13 +85,7 @@ impl<F: Unicast> Units<F> {
         ensures selected { IfOk result (λ selected. selected ≡ is_selected self.old.selection unit.now) }
         ensures same { self.new ≡ self.old }
     {
-        let mut buffer = match self.buffer.take() {
-            Some(buffer) => buffer,
-            None => Vec::new(alloc),
-        };
-        let selected = self.selection.selects(alloc, &mut buffer, unit);
-        self.buffer = Some(buffer);
-        selected
+        self.selection.selects(alloc, &mut self.decoded, unit)
     }
 
     /// Keeps a unit to be returned if it is selected, or returns the refusal of its record.

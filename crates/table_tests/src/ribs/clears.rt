@@ -3,7 +3,7 @@
 use super::units::{take_named, unit_of};
 use adj_rib::{Churn, Note, RouteId, Session, SharedRoute, Watch, What};
 use bgp_prefix::{Flat, PrefixMap, Radix};
-use mrt_body::ChosenPrefixes;
+use mrt_body::{ChosenPrefixes, DecodedEvents};
 use std::alloc::Global;
 use std::process::Abort;
 
@@ -119,10 +119,12 @@ fn watch_named<M: PrefixMap<SharedRoute, Addr = u32>>(
 ) -> Vec<Note> {
     let unit = unit_of(alloc, name).expect(rt, name);
     let chosen = ChosenPrefixes::all(alloc);
-    let mut buffer = Vec::new(alloc);
+    let unit = unit.lend();
+    let mut events = DecodedEvents::new(alloc);
+    events.push(alloc, &unit.payload).expect(rt, name);
     let mut notes = Vec::new(alloc);
     watch
-        .take(alloc, &mut buffer, &chosen, None, &unit.lend(), &mut notes)
+        .take(alloc, &chosen, None, &unit, &events.at(0), &mut notes)
         .expect(rt, name);
     notes
 }

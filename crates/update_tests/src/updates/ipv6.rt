@@ -35,8 +35,8 @@ fn expect_keys_of_ipv6(
     }
 }
 
-/// With packed routes, the keys that are reached have a route with this hop.
-fn expect_packed(
+/// Decoded, the keys that are reached have a route with this hop.
+fn expect_decoded(
     rt: &impl Abort,
     alloc: Global,
     text: &str,
@@ -45,19 +45,22 @@ fn expect_packed(
     reached: &[(u128, u8, u32)],
 ) {
     let body = update_of(alloc, text).expect(rt, "memory");
-    let mut buffer = Vec::new(alloc);
-    let update: PackedUpdate<Prefix<Ipv6>> = read_packed_update(
+    let mut keys = Vec::new(alloc);
+    let mut bytes = Vec::new(alloc);
+    let spans = decode_update::<Ipv6>(
         alloc,
-        &mut buffer,
+        &mut keys,
+        &mut bytes,
         body.as_slice(),
         Width::Four,
         add_path,
-    ).expect(rt, "an update");
-    expect_keys_of_ipv6(rt, update.reached.as_slice(), reached, text);
-    assert!(rt; update.reached_hop == hop, "at {text}");
+    )
+    .expect(rt, "an update");
+    let update = spans.update(keys.as_slice(), bytes.as_slice());
+    expect_keys_of_ipv6(rt, update.reached, reached, text);
     match &update.reached_route {
-        Some(route) => assert!(rt; route.route_ref().next_hop() == hop, "at {text}"),
-        None => assert!(rt; reached.is_empty(), "at {text}"),
+        Some(hashed) => assert!(rt; hashed.route.next_hop() == hop, "at {text}"),
+        None => assert!(rt; reached.is_empty() && hop.is_none(), "at {text}"),
     }
 }
 
@@ -84,7 +87,7 @@ fn expect_update(
         update.reached_hop == hop && update.announced.as_slice().is_empty(),
         "at {text}"
     );
-    expect_packed(rt, alloc, text, add_path, hop, reached);
+    expect_decoded(rt, alloc, text, add_path, hop, reached);
 }
 
 #[test]
@@ -249,21 +252,20 @@ fn damaged_updates_of_ipv6_are_refused(rt: HostRuntime) {
     }
 }
 
-/// The next hop of a RIB entry of IPv6 unicast, read as a `Route` and packed, which agree; or what is wrong with it.
+/// The next hop of a RIB entry of IPv6 unicast, read as a `Route` and decoded, which agree; or what is wrong with it.
 fn hop_of_entry(rt: &impl Abort, alloc: Global, text: &str) -> Result<Option<NextHop>, Fault> {
-    let bytes = bytes_of(alloc, text).expect(rt, "memory");
-    let mut buffer = Vec::new(alloc);
-    let packed = PackedRoute::read::<Ipv6>(alloc, &mut buffer, bytes.as_slice(), Width::Four);
-    match read_attrs::<Ipv6>(alloc, bytes.as_slice(), Width::Four) {
+    let attrs = bytes_of(alloc, text).expect(rt, "memory");
+    let mut bytes = Vec::new(alloc);
+    let span = decode_entry::<Ipv6>(alloc, &mut bytes, attrs.as_slice(), Width::Four);
+    match read_attrs::<Ipv6>(alloc, attrs.as_slice(), Width::Four) {
         Ok(route) => {
-            let packed = packed.expect(rt, "a packed route");
-            let packed = packed.route_ref();
-            assert!(rt; packed.next_hop() == route.next_hop, "at {text}");
-            assert!(rt; packed.origin() == route.origin, "at {text}");
+            let decoded = span.expect(rt, "a route").route(bytes.as_slice()).route;
+            assert!(rt; decoded.next_hop() == route.next_hop, "at {text}");
+            assert!(rt; decoded.origin() == route.origin, "at {text}");
             Ok(route.next_hop)
         }
         Err(AttrError::Bad(fault)) => {
-            assert!(rt; packed.err() == Some(AttrError::Bad(fault)), "at {text}");
+            assert!(rt; span.err() == Some(AttrError::Bad(fault)), "at {text}");
             Err(fault)
         }
         Err(AttrError::Memory) => panic!(rt; "memory"),

@@ -2,6 +2,7 @@
 
 use super::readings::*;
 use bgp_update::*;
+use fixtures::update_of;
 use mrt_frame::Fault;
 use std::alloc::Global;
 use std::process::Abort;
@@ -14,12 +15,27 @@ fn expect_reached(rt: &impl Abort, update: &Update, hop: NextHop) {
     assert!(rt; update.withdrawn.as_slice().is_empty() && update.announced.as_slice().is_empty());
 }
 
-/// With packed routes, 10.0.0.0/8 has one with this hop, and the UPDATE's own route has no hop.
-fn expect_reached_packed(rt: &impl Abort, update: PackedUpdate, hop: NextHop) {
-    expect_keys(rt, update.reached.as_slice(), &[(0x0A000000, 8, 0)]);
-    assert!(rt; update.reached_hop == Some(hop) && update.route.route_ref().next_hop().is_none());
-    let route = update.reached_route.expect(rt, "a route");
-    assert!(rt; route.route_ref().next_hop() == Some(hop));
+/// Decoded, 10.0.0.0/8 has a route with this hop, and the UPDATE's own route has no hop.
+fn expect_reached_decoded(rt: &impl Abort, alloc: Global, text: &str, hop: NextHop) {
+    let body = update_of(alloc, text).expect(rt, "memory");
+    let mut keys = Vec::new(alloc);
+    let mut bytes = Vec::new(alloc);
+    let spans = decode_update::<u32>(
+        alloc,
+        &mut keys,
+        &mut bytes,
+        body.as_slice(),
+        Width::Four,
+        false,
+    )
+    .expect(rt, "an update");
+    let update = spans.update(keys.as_slice(), bytes.as_slice());
+    expect_keys(rt, update.reached, &[(0x0A000000, 8, 0)]);
+    assert!(rt; update.route.route.next_hop().is_none());
+    match &update.reached_route {
+        Some(hashed) => assert!(rt; hashed.route.next_hop() == Some(hop)),
+        None => assert!(rt; false),
+    }
 }
 
 #[test]
@@ -33,8 +49,7 @@ fn attribute_14_reaches_keys_by_each_form_of_next_hop(rt: HostRuntime) {
     ] {
         let update = reading_of(&rt, rt.alloc(), text, Width::Four, false);
         expect_reached(&rt, &update, hop);
-        let packed = packed_reading_of(&rt, rt.alloc(), text, Width::Four);
-        expect_reached_packed(&rt, packed, hop);
+        expect_reached_decoded(&rt, rt.alloc(), text, hop);
     }
 }
 

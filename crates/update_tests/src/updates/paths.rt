@@ -3,9 +3,36 @@
 use super::readings::*;
 use bgp_prefix::Memory;
 use bgp_update::*;
+use fixtures::update_of;
 use std::alloc::Global;
 use std::process::Abort;
 use std::test::Fail;
+
+/// Decoded, 10.0.0.0/8 has a route with this aggregator and this origin.
+fn expect_decoded_two_octets(
+    rt: &impl Abort,
+    alloc: Global,
+    text: &str,
+    aggregator: Option<Aggregator>,
+    origin: u32,
+) {
+    let body = update_of(alloc, text).expect(rt, "memory");
+    let mut keys = Vec::new(alloc);
+    let mut bytes = Vec::new(alloc);
+    let spans = decode_update::<u32>(
+        alloc,
+        &mut keys,
+        &mut bytes,
+        body.as_slice(),
+        Width::Two,
+        false,
+    )
+    .expect(rt, "an update");
+    let update = spans.update(keys.as_slice(), bytes.as_slice());
+    expect_keys(rt, update.announced, &[(0x0A000000, 8, 0)]);
+    assert!(rt; update.route.route.origin_as() == Some(origin));
+    assert!(rt; update.route.route.aggregator() == aggregator);
+}
 
 /// The path is AS_PATH, or AS_PATH joined with AS4_PATH. The route has this aggregator and this origin.
 fn expect_two_octet_route(
@@ -66,10 +93,7 @@ fn as4_path_is_merged_unless_it_is_longer_or_the_aggregator_is_of_another_as(rt:
         let update = reading_of(&rt, rt.alloc(), text, Width::Two, false);
         expect_two_octet_route(&rt, &update.route, is_joined, aggregator, origin);
         expect_keys(&rt, update.announced.as_slice(), &[(0x0A000000, 8, 0)]);
-        let packed = packed_reading_of(&rt, rt.alloc(), text, Width::Two);
-        expect_keys(&rt, packed.announced.as_slice(), &[(0x0A000000, 8, 0)]);
-        assert!(rt; packed.route.route_ref().origin_as() == Some(origin));
-        assert!(rt; packed.route.route_ref().aggregator() == aggregator);
+        expect_decoded_two_octets(&rt, rt.alloc(), text, aggregator, origin);
     }
 }
 

@@ -19,13 +19,6 @@ pub fn reading_of(
     read_update(alloc, body.as_slice(), width, add_path).expect(rt, "an update")
 }
 
-/// The reading of an UPDATE without fault and with no path identifiers, with packed routes.
-pub fn packed_reading_of(rt: &impl Abort, alloc: Global, text: &str, width: Width) -> PackedUpdate {
-    let body = update_of(alloc, text).expect(rt, "memory");
-    let mut buffer = Vec::new(alloc);
-    read_packed_update(alloc, &mut buffer, body.as_slice(), width, false).expect(rt, "an update")
-}
-
 /// What is wrong with an UPDATE.
 pub fn fault_in(
     rt: &impl Abort,

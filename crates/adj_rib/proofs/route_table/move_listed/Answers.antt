@@ -25,11 +25,11 @@ loop-entry-init g c = record {
 pub loop-entry-preserved : goal.loop-entry-preserved
 loop-entry-preserved g c =
     let so_far : RouteMap = fold put_entry finite.empty (routes_now c.args.routes.now (take c.loop-entry.entry-index c.args.listed.now)) in
-    let route : route_at c.intern_ref.new.self c.in_ok-new_id.new_id.at ≡ route_at c.args.routes.now c.entry-item.result.1.now.at = c.in_ok-new_id.ensures.names.is ∙ c.route.ensures in
+    let route : route_at c.intern.new.self c.in_ok-new_id.new_id.at ≡ route_at c.args.routes.now c.entry-item.result.1.now.at = c.in_ok-new_id.ensures.names.is ∙ c.new.ensures ∙ c.route.ensures in
     record {
-      all = AreNamed-insert c.intern_ref.new.self (g.M.PrefixMap.contents c.loop-entry.moved) (g.M.PrefixMap.contents c.insert.new.self) c.entry-item.result.0 c.in_ok-new_id.new_id c.in_ok-insert.ensures.ok c.in_ok-new_id.ensures.names.named
-          (AreNamed-grown c.loop-entry.kept c.intern_ref.new.self (g.M.PrefixMap.contents c.loop-entry.moved) c.in_ok-new_id.ensures.grows c.loop-entry.invariant.all);
-      same = put_again c.loop-entry.kept c.intern_ref.new.self (g.M.PrefixMap.contents c.loop-entry.moved) (g.M.PrefixMap.contents c.insert.new.self) so_far c.entry-item.result.0 c.in_ok-new_id.new_id (route_at c.args.routes.now c.entry-item.result.1.now.at)
+      all = AreNamed-insert c.intern.new.self (g.M.PrefixMap.contents c.loop-entry.moved) (g.M.PrefixMap.contents c.insert.new.self) c.entry-item.result.0 c.in_ok-new_id.new_id c.in_ok-insert.ensures.ok c.in_ok-new_id.ensures.names.named
+          (AreNamed-grown c.loop-entry.kept c.intern.new.self (g.M.PrefixMap.contents c.loop-entry.moved) c.in_ok-new_id.ensures.grows c.loop-entry.invariant.all);
+      same = put_again c.loop-entry.kept c.intern.new.self (g.M.PrefixMap.contents c.loop-entry.moved) (g.M.PrefixMap.contents c.insert.new.self) so_far c.entry-item.result.0 c.in_ok-new_id.new_id (route_at c.args.routes.now c.entry-item.result.1.now.at)
           c.in_ok-new_id.ensures.grows c.loop-entry.invariant.all c.loop-entry.invariant.same c.in_ok-insert.ensures.ok route
           ∙ sym (put_more c.args.routes.now c.args.listed.now c.loop-entry.entry-index c.entry-item.result c.loop-entry-test.true c.entry-item.is);
     }

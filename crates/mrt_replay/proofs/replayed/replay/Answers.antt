@@ -1,4 +1,4 @@
-use Rattle.std.proofs.Common.{◌≡◌, ◌≤◌, ◌+◌, ◌-◌, ◌^◌, min, [], Option, sym, ap, ◌∙◌, subst, length, map, arith}
+use Rattle.std.proofs.Common.{◌≡◌, ◌≢◌, ◌≤◌, ◌+◌, ◌-◌, ◌^◌, min, [], Option, sym, ap, ◌∙◌, subst, length, map, arith}
 use Rattle.std.specs.Prelude.{option_to_list}
 use Rattle.std.specs.List.{filter_map}
 use Rattle.std.proofs.lemmas.List.{length-map}
@@ -8,6 +8,8 @@ use Rattle.mrt_body.specs.Units.{units_of, refused_of, unit_of}
 use Rattle.peer_tables.specs.Tables.{chosen_tables}
 use Rattle.lane_deal.specs.Playing.{shown}
 use Rattle.lane_deal.specs.Replayers.{ReplayerStandsFor}
+use Rattle.lane_deal.specs.declared.state.State.{State}
+use Rattle.lane_deal.specs.declared.state.State.TheVariants.{Ended, Spent}
 use Rattle.mrt_replay.specs.Replays.{DealtAll}
 use Rattle.mrt_replay.proofs.FilesTaken.{stops_replay, took_files, few_units_of, units_came, records_taken, aside_taken}
 use Rattle.mrt_replay.proofs.LanesTaken.{all_dealt}
@@ -24,6 +26,10 @@ returns-in-Err-clause-cause g c =
     stops_replay c.new-units.result _ c.args.plan.now.max_records c.args.selection c.new-units.ensures.fresh (map g.R.Source.remaining c.args.files.now)
     (map g.R.Failures.failure_count c.args.files.now) (map g.R.Failures.failure_count c.play.new.files) c.in-Err.error c.new-units.ensures.cuts
     (length-map c.play.new.files g.R.Failures.failure_count ∙ c.play.auto.files ∙ sym (length-map c.args.files.now g.R.Failures.failure_count)) c.in-Err.ensures.cause
+
+-- a replayer at the end isn't spent
+ended_unspent : (state : State) → state ≡ Ended → state ≢ Spent
+ended_unspent state ended spent = cc
 
 pub returns-clause-replayed : goal.returns-clause-replayed
 returns-clause-replayed g c contents known =
@@ -58,7 +64,7 @@ returns-clause-replayed g c contents known =
     (subst (λ pl. ReplayerStandsFor (λ p w. law s.dealer.dealing.now p w) pl.ring units refused (shown t)) (sym still.0) three) in
     let count : c.dealt-dealt.result ≡ length units = (let d = c.dealt-dealt.ensures in let m = four.dealt_counted in omega (arith, d, m, few)) in
     let up : c.rounds-rounds.result ≡ min (s.rounds + 1) (2 ^ 64 - 1) =
-    (let f = c.in-Ok.ensures.forks (λ e. let k = kept.2 in absurd (cc)) in c.rounds-rounds.ensures ∙ f) in
+    c.rounds-rounds.ensures ∙ c.in-Ok.ensures.forks (ended_unspent s.state kept.2) in
     let at_most : c.rounds-rounds.result ≤ s.rounds + 1 = omega (arith, up) in
     record {
       stands = c.in-Ok-retain.ensures ∙ ap (λ l. chosen_tables l c.in-Ok-into_tables.tables) (c.in_ok-chosen.ensures ∙ c.prefixes.ensures)

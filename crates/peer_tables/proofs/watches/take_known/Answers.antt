@@ -16,13 +16,13 @@ returns-clause-stands g c = λ before are.
     let u = lent_unit c.args.unit.now in
     let r = c.index_mut.result.now in
     let w = c.take.new.self in
-    let within : at < length peers = omega (arith, within_keys (map see peers) at u.peer c.requires, length-map peers see) in
+    let within : at < length peers = omega (arith, within_keys (map see peers) at u.peer c.requires.peer, length-map peers see) in
     let here : get_or (map see peers) at (see r) ≡ see r = get_or-map see peers at r (see r) within ∙ ap see (sym c.index_mut.ensures.value) in
-    let stood = sym (ap (λ (p : PeerWatch). p.watch) here) ∙ watch_there c.args.since c.args.chosen.now before u (map see peers) are at (see r) c.requires in
-    let key = sym (ap (λ (p : PeerWatch). p.key) here) ∙ key_there (map see peers) at u.peer (see r) c.requires in
+    let stood = sym (ap (λ (p : PeerWatch). p.watch) here) ∙ watch_there c.args.since c.args.chosen.now before u (map see peers) are at (see r) c.requires.peer in
+    let key = sym (ap (λ (p : PeerWatch). p.key) here) ∙ key_there (map see peers) at u.peer (see r) c.requires.peer in
     map-set see peers at _
     ∙ ap (λ (k : PeerKey). set (map see peers) at (record { key = k; watch = w })) key
-    ∙ known_stands c.args.since c.args.chosen.now before u (map see peers) are at w c.requires (c.in_ok-take.ensures.stands (units_of_peer before u.peer) stood)
+    ∙ known_stands c.args.since c.args.chosen.now before u (map see peers) are at w c.requires.peer (c.in_ok-take.ensures.stands (units_of_peer before u.peer) stood)
 
 pub returns-clause-notes : goal.returns-clause-notes
 returns-clause-notes g c = λ before are.
@@ -31,9 +31,9 @@ returns-clause-notes g c = λ before are.
     let at = c.args.at in
     let u = lent_unit c.args.unit.now in
     let r = c.index_mut.result.now in
-    let within : at < length peers = omega (arith, within_keys (map see peers) at u.peer c.requires, length-map peers see) in
+    let within : at < length peers = omega (arith, within_keys (map see peers) at u.peer c.requires.peer, length-map peers see) in
     let here : get_or (map see peers) at (see r) ≡ see r = get_or-map see peers at r (see r) within ∙ ap see (sym c.index_mut.ensures.value) in
-    let stood = sym (ap (λ (p : PeerWatch). p.watch) here) ∙ watch_there c.args.since c.args.chosen.now before u (map see peers) are at (see r) c.requires in
+    let stood = sym (ap (λ (p : PeerWatch). p.watch) here) ∙ watch_there c.args.since c.args.chosen.now before u (map see peers) are at (see r) c.requires.peer in
     c.in_ok-take.ensures.notes (units_of_peer before u.peer) stood
 
 pub returns-clause-keys : goal.returns-clause-keys

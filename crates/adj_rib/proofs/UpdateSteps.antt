@@ -1,0 +1,29 @@
+-- The steps of an UPDATE, part by part.
+use Rattle.std.proofs.Common.{◌≡◌, Bool, not, ◌||◌, List, [], ◌++◌, map, Option, Some, None, refl, sym, ap, ◌∙◌}
+use Rattle.std.specs.List.{filter}
+use Rattle.std.specs.Option.{ForSome}
+use Rattle.std.proofs.lemmas.List.{map-append}
+use Rattle.std.proofs.lemmas.List.Elements.{filter-append}
+use Rattle.bgp_prefix.specs.Keys.{RouteKey, among}
+use Rattle.bgp_update.specs.declared.decoded.HashedRoute.{HashedRoute}
+use Rattle.bgp_update.specs.declared.route.Route.{Route}
+use Rattle.bgp_update.specs.Hops.{by_hop, IsByHop}
+use Rattle.bgp_update.specs.Decoded.{hop_of}
+use Rattle.adj_rib.specs.Steps.{Step, announce, withdraw}
+
+-- the keys of the own field, and then those of MP_UNREACH_NLRI
+pub withdraw_both : (other : RouteKey → Bool) (own unreached : List RouteKey) → map withdraw (filter other (own ++ unreached)) ≡ map withdraw (filter other own) ++ map withdraw (filter other unreached)
+withdraw_both other own unreached = ap (map withdraw) (filter-append other own unreached) ∙ map-append withdraw (filter other own) (filter other unreached)
+
+-- sets of the same keys leave the same others
+pub same_others : (a b c d : List RouteKey) (keys : List RouteKey) → ((k : RouteKey) → among a k ≡ among b k) → ((k : RouteKey) → among c k ≡ among d k)
+    → map withdraw (filter (λ key. not (among a key || among c key)) keys) ≡ map withdraw (filter (λ key. not (among b key || among d key)) keys)
+same_others a b c d keys first second = λ i. map withdraw (filter (λ key. not (first key i || second key i)) keys)
+
+-- each key of MP_REACH_NLRI has the route by its next hop
+pub reached_by : (plain : Route) (o : Option HashedRoute) (hashed : HashedRoute) (keys : List RouteKey) → o ≡ Some hashed → IsByHop plain hashed.route → map (λ key. announce key hashed.route) keys ≡ map (λ key. announce key (by_hop plain (hop_of o))) keys
+reached_by plain o hashed keys e by = ap (λ (r : Route). map (λ key. announce key r) keys) (by ∙ ap (λ (x : Option HashedRoute). by_hop plain (hop_of x)) (sym e))
+
+-- without that route there is none
+pub none_reached : (keys : List RouteKey) (f : RouteKey → Step) → keys ≡ [] → map f keys ≡ []
+none_reached keys f e = ap (map f) e

@@ -1,0 +1,227 @@
+-- What spans have of lists stays when items come behind these; and the spans of an update that was decoded.
+use Rattle.std.proofs.Common.{◌≡◌, ℕ, ◌+◌, ◌≤◌, Bool, true, false, List, [], ◌∷◌, ◌++◌, length, take, drop, Option, Some, None, Result, Ok, Err, refl, sym, ap, subst, ◌∙◌, arith, append_assoc, length-append, length-drop}
+use Rattle.std.specs.Prelude.{IfSome, is_some}
+use Rattle.std.proofs.lemmas.List.{append-nil, drop-append-le, take-append-le}
+use Rattle.std.proofs.Math.Seq.{drop-append_seam, take-append_seam}
+use Rattle.mrt_frame.specs.declared.fault.Fault.{Fault}
+use Rattle.bgp_prefix.specs.Keys.{RouteKey}
+use Rattle.bgp_update.specs.declared.decoded.Span.{Span}
+use Rattle.bgp_update.specs.declared.decoded.RouteSpan.{RouteSpan}
+use Rattle.bgp_update.specs.declared.decoded.UpdateSpans.{UpdateSpans}
+use Rattle.bgp_update.specs.declared.next_hop.NextHop.{NextHop}
+use Rattle.bgp_update.specs.declared.route.Route.{Route}
+use Rattle.bgp_update.specs.declared.update.AppendedKeys.{AppendedKeys}
+use Rattle.bgp_update.specs.Hops.{by_hop, IsByHop}
+use Rattle.bgp_update.specs.Packing.{CanPack, IsPacked, route_bytes, unpacked}
+use Rattle.bgp_update.specs.Updates.{Update}
+use Rattle.bgp_update.proofs.Packings.{packs_again}
+use Rattle.bgp_update.specs.Decoded.{IsGrown, AreKeysOf, AreUpdateSpans, span_of, split_update, IsWithin, route_at, IsRouteAt, hop_at, update_at, IsReachedAt, IsUpdateAt}
+
+-- ---- growth
+
+pub grown_same : {A : Type 0} (before after : List A) → after ≡ before → IsGrown before after
+grown_same before after e = record { more = []; parts = e ∙ sym (append-nil before) }
+
+pub grown_by : {A : Type 0} (before after more : List A) → after ≡ before ++ more → IsGrown before after
+grown_by before after more e = record { more = more; parts = e }
+
+pub IsGrown-trans : {A : Type 0} (a b c : List A) → IsGrown a b → IsGrown b c → IsGrown a c
+IsGrown-trans {A} a b c g h = record { more = g.more ++ h.more; parts = h.parts ∙ ap (λ (x : List A). x ++ h.more) g.parts ∙ append_assoc a g.more h.more }
+
+pub grown_longer : {A : Type 0} (before after : List A) → IsGrown before after → length before ≤ length after
+grown_longer before after g = omega (arith, ap length g.parts, length-append before g.more)
+
+-- ---- spans
+
+span_of-append : {A : Type 0} (items more : List A) (s : Span) → IsWithin (length items) s → span_of (items ++ more) s ≡ span_of items s
+span_of-append items more s h =
+    let n = length-drop s.start items in
+    ap (take s.len) (drop-append-le s.start items more (omega arith)) ∙ take-append-le s.len (drop s.start items) more (omega arith)
+
+pub span_of-grown : {A : Type 0} (before after : List A) (s : Span) → IsGrown before after → IsWithin (length before) s → span_of after s ≡ span_of before s
+span_of-grown {A} before after s g h = ap (λ (items : List A). span_of items s) g.parts ∙ span_of-append before g.more s h
+
+pub IsWithin-grown : {A : Type 0} (before after : List A) (s : Span) → IsGrown before after → IsWithin (length before) s → IsWithin (length after) s
+IsWithin-grown before after s g h = omega (arith, grown_longer before after g, h)
+
+-- ---- routes
+
+pub route_at-grown : (before after : List ℕ) (s : RouteSpan) → IsGrown before after → IsRouteAt before s → route_at after s ≡ route_at before s
+route_at-grown before after s g h = ap unpacked (span_of-grown before after s.bytes g h.within)
+
+pub IsRouteAt-grown : (before after : List ℕ) (s : RouteSpan) → IsGrown before after → IsRouteAt before s → IsRouteAt after s
+IsRouteAt-grown before after s g h = record {
+  within = IsWithin-grown before after s.bytes g h.within;
+  packed = subst IsPacked (sym (span_of-grown before after s.bytes g h.within)) h.packed;
+}
+
+-- ---- updates
+
+IsReachedAt-grown : (before after : List ℕ) (plain s : RouteSpan) → IsGrown before after → IsRouteAt before plain → IsReachedAt before plain s → IsReachedAt after plain s
+IsReachedAt-grown before after plain s g p h =
+    let same : route_at after s ≡ route_at before s = route_at-grown before after s g h.there in
+    let same_plain : route_at after plain ≡ route_at before plain = route_at-grown before after plain g p in
+    record {
+      there = IsRouteAt-grown before after s g h.there;
+      by = subst (λ (r : Route). IsByHop r (route_at after s)) (sym same_plain) (subst (λ (r : Route). IsByHop (route_at before plain) r) (sym same) h.by);
+    }
+
+reached-grown : (before after : List ℕ) (plain : RouteSpan) (o : Option RouteSpan) → IsGrown before after → IsRouteAt before plain → IfSome o (IsReachedAt before plain)
+    → IfSome o (IsReachedAt after plain) × (hop_at after o ≡ hop_at before o)
+reached-grown before after plain None g p h = (tt, refl)
+reached-grown before after plain (Some s) g p h = (IsReachedAt-grown before after plain s g p h, ap (λ (r : Route). r.next_hop) (route_at-grown before after s g h.there))
+
+pub IsUpdateAt-grown : (keys more_keys : List RouteKey) (bytes more_bytes : List ℕ) (s : UpdateSpans) → IsGrown keys more_keys → IsGrown bytes more_bytes → IsUpdateAt keys bytes s → IsUpdateAt more_keys more_bytes s
+IsUpdateAt-grown keys more_keys bytes more_bytes s k b h = record {
+  withdrawn = IsWithin-grown keys more_keys s.withdrawn k h.withdrawn;
+  announced = IsWithin-grown keys more_keys s.announced k h.announced;
+  unreached = IsWithin-grown keys more_keys s.unreached k h.unreached;
+  reached = IsWithin-grown keys more_keys s.reached k h.reached;
+  route = IsRouteAt-grown bytes more_bytes s.route b h.route;
+  reached_route = (reached-grown bytes more_bytes s.route s.reached_route b h.route h.reached_route).0;
+  none = h.none;
+}
+
+pub update_at-grown : (keys more_keys : List RouteKey) (bytes more_bytes : List ℕ) (s : UpdateSpans) → IsGrown keys more_keys → IsGrown bytes more_bytes → IsUpdateAt keys bytes s
+    → update_at more_keys more_bytes s ≡ update_at keys bytes s
+update_at-grown keys more_keys bytes more_bytes s k b h =
+    rw (
+      span_of-grown keys more_keys s.withdrawn k h.withdrawn,
+      span_of-grown keys more_keys s.announced k h.announced,
+      span_of-grown keys more_keys s.unreached k h.unreached,
+      span_of-grown keys more_keys s.reached k h.reached,
+      route_at-grown bytes more_bytes s.route b h.route,
+      (reached-grown bytes more_bytes s.route s.reached_route b h.route h.reached_route).1,
+    ) refl
+
+-- ---- the spans of keys that were added
+
+-- a span that begins behind a list and is as long as the next one has that
+span_mid : {A : Type 0} (front mid back all : List A) (s : Span) → all ≡ front ++ (mid ++ back) → s.start ≡ length front → s.len ≡ length mid → (span_of all s ≡ mid) × IsWithin (length all) s
+span_mid {A} front mid back all s parts start len =
+    let n = length-append front (mid ++ back) in
+    let m = length-append mid back in
+    let dropped : drop s.start all ≡ mid ++ back = ap (drop s.start) parts ∙ ap (λ (k : ℕ). drop k (front ++ (mid ++ back))) start ∙ drop-append_seam front (mid ++ back) in
+    (ap (take s.len) dropped ∙ ap (λ (k : ℕ). take k (mid ++ back)) len ∙ take-append_seam mid back, omega (arith, n, m, start, len, ap length parts))
+
+-- the spans have these keys
+pub record HaveKeys (all : List RouteKey) (s : UpdateSpans) (withdrawn announced unreached reached : List RouteKey) : Type 0 where
+  pub withdrawn_are : span_of all s.withdrawn ≡ withdrawn
+  pub announced_are : span_of all s.announced ≡ announced
+  pub unreached_are : span_of all s.unreached ≡ unreached
+  pub reached_are : span_of all s.reached ≡ reached
+  pub withdrawn_within : IsWithin (length all) s.withdrawn
+  pub announced_within : IsWithin (length all) s.announced
+  pub unreached_within : IsWithin (length all) s.unreached
+  pub reached_within : IsWithin (length all) s.reached
+
+have_keys : (before after : List RouteKey) (n : AppendedKeys) (route : Route) (read : Result Update Fault) (r : RouteSpan) (rr : Option RouteSpan) (s : UpdateSpans)
+    → (k : AreKeysOf before after n route read) → AreUpdateSpans (length before) n r rr s → HaveKeys after s k.withdrawn k.announced k.unreached k.reached
+have_keys before after n route read r rr s k spans =
+    let w = k.withdrawn in
+    let a = k.announced in
+    let u = k.unreached in
+    let z = k.reached in
+    let lw = k.withdrawn_len in
+    let la = k.announced_len in
+    let lu = k.unreached_len in
+    let lz = k.reached_len in
+    let n1 = length-append before w in
+    let n2 = length-append (before ++ w) a in
+    let n3 = length-append ((before ++ w) ++ a) u in
+    let second : after ≡ (before ++ w) ++ (a ++ (u ++ z)) = k.parts ∙ sym (append_assoc before w (a ++ (u ++ z))) in
+    let third : after ≡ ((before ++ w) ++ a) ++ (u ++ z) = second ∙ sym (append_assoc (before ++ w) a (u ++ z)) in
+    let fourth : after ≡ (((before ++ w) ++ a) ++ u) ++ (z ++ []) = third ∙ sym (append_assoc ((before ++ w) ++ a) u z) ∙ ap (λ (t : List RouteKey). (((before ++ w) ++ a) ++ u) ++ t) (sym (append-nil z)) in
+    let one = span_mid before w (a ++ (u ++ z)) after s.withdrawn k.parts (ap (λ (p : Span). p.start) spans.withdrawn) (ap (λ (p : Span). p.len) spans.withdrawn ∙ sym lw) in
+    let two = span_mid (before ++ w) a (u ++ z) after s.announced second (omega (arith, ap (λ (p : Span). p.start) spans.announced, lw, n1)) (ap (λ (p : Span). p.len) spans.announced ∙ sym la) in
+    let three = span_mid ((before ++ w) ++ a) u z after s.unreached third (omega (arith, ap (λ (p : Span). p.start) spans.unreached, lw, la, n1, n2)) (ap (λ (p : Span). p.len) spans.unreached ∙ sym lu) in
+    let four = span_mid (((before ++ w) ++ a) ++ u) z [] after s.reached fourth (omega (arith, ap (λ (p : Span). p.start) spans.reached, lw, la, lu, n1, n2, n3)) (ap (λ (p : Span). p.len) spans.reached ∙ sym lz) in
+    record {
+      withdrawn_are = one.0;
+      announced_are = two.0;
+      unreached_are = three.0;
+      reached_are = four.0;
+      withdrawn_within = one.1;
+      announced_within = two.1;
+      unreached_within = three.1;
+      reached_within = four.1;
+    }
+
+-- ---- the update that was decoded
+
+hop_is : (bytes : List ℕ) (plain : Route) (o : Option RouteSpan) (hop : Option NextHop) → IfSome o (λ (s : RouteSpan). route_at bytes s ≡ by_hop plain hop) → is_some o ≡ is_some hop → hop_at bytes o ≡ hop
+hop_is bytes plain None None h e = refl
+hop_is bytes plain None (Some hop) h e = absurd cc
+hop_is bytes plain (Some s) hop h e = ap (λ (r : Route). r.next_hop) h
+
+reached_is : (bytes : List ℕ) (plain : RouteSpan) (route : Route) (o : Option RouteSpan) (hop : Option NextHop) → route_at bytes plain ≡ route → IfSome o (λ (s : RouteSpan). route_at bytes s ≡ by_hop route hop) → IfSome o (IsRouteAt bytes)
+    → IfSome o (IsReachedAt bytes plain)
+reached_is bytes plain route None hop is by there = tt
+reached_is bytes plain route (Some s) hop is by there =
+    let same : by_hop route hop ≡ by_hop (route_at bytes plain) (route_at bytes s).next_hop = ap (by_hop route) (sym (ap (λ (r : Route). r.next_hop) by)) ∙ ap (λ (r : Route). by_hop r (route_at bytes s).next_hop) (sym is) in
+    record { there = there; by = by ∙ same }
+
+none_is : (o : Option RouteSpan) (hop : Option NextHop) → is_some o ≡ is_some hop → o ≡ None → hop ≡ None
+none_is None None e h = refl
+none_is None (Some hop) e h = absurd cc
+none_is (Some s) hop e h = absurd cc
+
+pub decoded_update : (before after : List RouteKey) (mid bytes : List ℕ) (n : AppendedKeys) (route : Route) (read : Result Update Fault) (r : RouteSpan) (rr : Option RouteSpan) (s : UpdateSpans)
+    → AreKeysOf before after n route read → AreUpdateSpans (length before) n r rr s
+    → route_at mid r ≡ route → IsRouteAt mid r → IsGrown mid bytes
+    → IfSome rr (λ (t : RouteSpan). route_at bytes t ≡ by_hop route n.reached_hop) → IfSome rr (IsRouteAt bytes) → is_some rr ≡ is_some n.reached_hop
+    → (read ≡ Ok (update_at after bytes s)) × IsUpdateAt after bytes s
+decoded_update before after mid bytes n route read r rr s k spans is there grown by reached_there both =
+    let keys = have_keys before after n route read r rr s k spans in
+    let own : route_at bytes s.route ≡ route = ap (route_at bytes) spans.route ∙ route_at-grown mid bytes r grown there ∙ is in
+    let own_there : IsRouteAt bytes s.route = subst (IsRouteAt bytes) (sym spans.route) (IsRouteAt-grown mid bytes r grown there) in
+    let by_own : IfSome s.reached_route (λ (t : RouteSpan). route_at bytes t ≡ by_hop route n.reached_hop) = subst (λ (o : Option RouteSpan). IfSome o (λ (t : RouteSpan). route_at bytes t ≡ by_hop route n.reached_hop)) (sym spans.reached_route) by in
+    let some_there : IfSome s.reached_route (IsRouteAt bytes) = subst (λ (o : Option RouteSpan). IfSome o (IsRouteAt bytes)) (sym spans.reached_route) reached_there in
+    let same : is_some s.reached_route ≡ is_some n.reached_hop = ap is_some spans.reached_route ∙ both in
+    let hop : hop_at bytes s.reached_route ≡ n.reached_hop = hop_is bytes route s.reached_route n.reached_hop by_own same in (
+      k.is ∙ ap (λ (u : Update). Ok u) (rw (keys.withdrawn_are, keys.announced_are, keys.unreached_are, keys.reached_are, own, hop) refl),
+      record {
+        withdrawn = keys.withdrawn_within;
+        announced = keys.announced_within;
+        unreached = keys.unreached_within;
+        reached = keys.reached_within;
+        route = own_there;
+        reached_route = reached_is bytes s.route route s.reached_route n.reached_hop own by_own some_there;
+        none = λ e. ap (λ (p : Span). p.len) spans.reached ∙ sym k.reached_len ∙ ap length (k.none (none_is s.reached_route n.reached_hop same e));
+      },
+    )
+
+-- ---- the update of keys that were read into a list of their own
+
+pub split_is : (after : List RouteKey) (n : AppendedKeys) (route : Route) (read : Result Update Fault) → AreKeysOf [] after n route read → read ≡ Ok (split_update after n route)
+split_is after n route read k =
+    let w = k.withdrawn in
+    let a = k.announced in
+    let u = k.unreached in
+    let z = k.reached in
+    let lw = k.withdrawn_len in
+    let la = k.announced_len in
+    let lu = k.unreached_len in
+    let lz = k.reached_len in
+    let n1 = length-append w a in
+    let n2 = length-append (w ++ a) u in
+    let second : after ≡ w ++ (a ++ (u ++ z)) = k.parts in
+    let third : after ≡ (w ++ a) ++ (u ++ z) = second ∙ sym (append_assoc w a (u ++ z)) in
+    let fourth : after ≡ ((w ++ a) ++ u) ++ (z ++ []) = third ∙ sym (append_assoc (w ++ a) u z) ∙ ap (λ (t : List RouteKey). ((w ++ a) ++ u) ++ t) (sym (append-nil z)) in
+    let first : take n.withdrawn after ≡ w = ap (take n.withdrawn) second ∙ ap (λ (m : ℕ). take m (w ++ (a ++ (u ++ z)))) (sym lw) ∙ take-append_seam w (a ++ (u ++ z)) in
+    let two = (span_mid w a (u ++ z) after (record { start = n.withdrawn; len = n.announced }) second (sym lw) (sym la)).0 in
+    let three = (span_mid (w ++ a) u z after (record { start = n.withdrawn + n.announced; len = n.unreached }) third (omega (arith, lw, la, n1)) (sym lu)).0 in
+    let four = (span_mid ((w ++ a) ++ u) z [] after (record { start = n.withdrawn + n.announced + n.unreached; len = n.reached }) fourth (omega (arith, lw, la, lu, n1, n2)) (sym lz)).0 in
+    k.is ∙ (λ i. Ok (record { withdrawn = sym first i ++ sym three i; announced = sym two i; reached = sym four i; route = route; reached_hop = n.reached_hop }))
+
+-- ---- a route that was packed behind other bytes
+
+pub packed_behind : (before after : List ℕ) (r : Route) (s : RouteSpan) → CanPack r → after ≡ before ++ route_bytes r → s.bytes.start ≡ length before → s.bytes.start + s.bytes.len ≡ length after
+    → (route_at after s ≡ r) × IsRouteAt after s
+packed_behind before after r s can parts start end =
+    let n = length-append before (route_bytes r) in
+    let own : after ≡ before ++ (route_bytes r ++ []) = parts ∙ ap (λ (t : List ℕ). before ++ t) (sym (append-nil (route_bytes r))) in
+    let len : s.bytes.len ≡ length (route_bytes r) = omega (arith, start, end, ap length parts, n) in
+    let mid = span_mid before (route_bytes r) [] after s.bytes own start len in
+    let packed = packs_again r (span_of after s.bytes) can mid.0 in
+    (packed.1, record { within = mid.1; packed = packed.0 })

@@ -1,0 +1,62 @@
+-- Events that are decoded stay what they are when others are decoded behind them.
+use Rattle.std.proofs.Common.{◌≡◌, ℕ, zero, suc, ◌<◌, List, [], ◌∷◌, ◌++◌, length, map, Result, Ok, Err, refl, sym, ap, ◌∙◌, arith, slice_index_or}
+use Rattle.std.specs.List.{AllByRecursion}
+use Rattle.std.proofs.lemmas.List.{map-append, get_or-map, length-map}
+use Rattle.mrt_frame.specs.declared.fault.Fault.{Fault}
+use Rattle.bgp_prefix.specs.Keys.{RouteKey}
+use Rattle.bgp_update.specs.Decoded.{IsGrown}
+use Rattle.bgp_update.specs.Updates.{Update}
+use Rattle.bgp_update.specs.declared.route.Route.{Route}
+use Rattle.bgp_update.proofs.Spans.{IsRouteAt-grown, IsUpdateAt-grown, route_at-grown, update_at-grown}
+use Rattle.mrt_body.specs.Plain.{DecodedEvent, Event}
+use Rattle.mrt_body.specs.declared.decoded_events.DecodedEvent.TheVariants as decoded
+use Rattle.mrt_body.specs.declared.meaning.Event.TheVariants as events
+use Rattle.mrt_body.specs.DecodedEvents.{event_at, IsEventAt, events_at, AreEventsAt}
+
+event_at-grown : (keys more_keys : List RouteKey) (bytes more_bytes : List ℕ) (e : DecodedEvent) → IsGrown keys more_keys → IsGrown bytes more_bytes → IsEventAt keys bytes e → event_at more_keys more_bytes e ≡ event_at keys bytes e
+event_at-grown keys more_keys bytes more_bytes decoded.Other k b h = refl
+event_at-grown keys more_keys bytes more_bytes decoded.Clear k b h = refl
+event_at-grown keys more_keys bytes more_bytes (decoded.Damaged fault) k b h = refl
+event_at-grown keys more_keys bytes more_bytes (decoded.State rule from to) k b h = refl
+event_at-grown keys more_keys bytes more_bytes (decoded.Rib key route) k b h = ap (λ (r : Route). Ok (events.Rib key r)) (route_at-grown bytes more_bytes route b h)
+event_at-grown keys more_keys bytes more_bytes (decoded.Change spans) k b h = ap (λ (u : Update). Ok (events.Change u)) (update_at-grown keys more_keys bytes more_bytes spans k b h)
+
+IsEventAt-grown : (keys more_keys : List RouteKey) (bytes more_bytes : List ℕ) (e : DecodedEvent) → IsGrown keys more_keys → IsGrown bytes more_bytes → IsEventAt keys bytes e → IsEventAt more_keys more_bytes e
+IsEventAt-grown keys more_keys bytes more_bytes decoded.Other k b h = tt
+IsEventAt-grown keys more_keys bytes more_bytes decoded.Clear k b h = tt
+IsEventAt-grown keys more_keys bytes more_bytes (decoded.Damaged fault) k b h = tt
+IsEventAt-grown keys more_keys bytes more_bytes (decoded.State rule from to) k b h = tt
+IsEventAt-grown keys more_keys bytes more_bytes (decoded.Rib key route) k b h = IsRouteAt-grown bytes more_bytes route b h
+IsEventAt-grown keys more_keys bytes more_bytes (decoded.Change spans) k b h = IsUpdateAt-grown keys more_keys bytes more_bytes spans k b h
+
+pub events_at-grown : (keys more_keys : List RouteKey) (bytes more_bytes : List ℕ) (es : List DecodedEvent) → IsGrown keys more_keys → IsGrown bytes more_bytes → AreEventsAt keys bytes es → events_at more_keys more_bytes es ≡ events_at keys bytes es
+events_at-grown keys more_keys bytes more_bytes [] k b h = refl
+events_at-grown keys more_keys bytes more_bytes (e ∷ es) k b h =
+    λ i. event_at-grown keys more_keys bytes more_bytes e k b h.0 i ∷ events_at-grown keys more_keys bytes more_bytes es k b h.1 i
+
+pub AreEventsAt-grown : (keys more_keys : List RouteKey) (bytes more_bytes : List ℕ) (es : List DecodedEvent) → IsGrown keys more_keys → IsGrown bytes more_bytes → AreEventsAt keys bytes es → AreEventsAt more_keys more_bytes es
+AreEventsAt-grown keys more_keys bytes more_bytes [] k b h = tt
+AreEventsAt-grown keys more_keys bytes more_bytes (e ∷ es) k b h = (IsEventAt-grown keys more_keys bytes more_bytes e k b h.0, AreEventsAt-grown keys more_keys bytes more_bytes es k b h.1)
+
+pub AreEventsAt-push : (keys : List RouteKey) (bytes : List ℕ) (es : List DecodedEvent) (e : DecodedEvent) → AreEventsAt keys bytes es → IsEventAt keys bytes e → AreEventsAt keys bytes (es ++ e ∷ [])
+AreEventsAt-push keys bytes [] e h own = (own, tt)
+AreEventsAt-push keys bytes (x ∷ es) e h own = (h.0, AreEventsAt-push keys bytes es e h.1 own)
+
+-- one more event, whose keys and routes came behind the others
+pub events_more : (keys more_keys : List RouteKey) (bytes more_bytes : List ℕ) (es : List DecodedEvent) (e : DecodedEvent) (is : Result Event Fault) → IsGrown keys more_keys → IsGrown bytes more_bytes → AreEventsAt keys bytes es
+    → event_at more_keys more_bytes e ≡ is → events_at more_keys more_bytes (es ++ e ∷ []) ≡ events_at keys bytes es ++ is ∷ []
+events_more keys more_keys bytes more_bytes es e is k b h own =
+    map-append (event_at more_keys more_bytes) es (e ∷ [])
+    ∙ (λ i. events_at-grown keys more_keys bytes more_bytes es k b h i ++ own i ∷ [])
+
+-- the event at an index
+pub event_by_index : (keys : List RouteKey) (bytes : List ℕ) (es : List DecodedEvent) (at : ℕ) (e : DecodedEvent) (d : Result Event Fault) → at < length (events_at keys bytes es) → e ≡ slice_index_or es at e
+    → slice_index_or (events_at keys bytes es) at d ≡ event_at keys bytes e
+event_by_index keys bytes es at e d within is =
+    let n = length-map es (event_at keys bytes) in
+    get_or-map (event_at keys bytes) es at e d (omega (arith, within, n)) ∙ ap (event_at keys bytes) (sym is)
+
+pub is_event_by_index : (keys : List RouteKey) (bytes : List ℕ) (es : List DecodedEvent) (at : ℕ) (d : DecodedEvent) → at < length es → AreEventsAt keys bytes es → IsEventAt keys bytes (slice_index_or es at d)
+is_event_by_index keys bytes [] at d l h = absurd (omega (arith, l))
+is_event_by_index keys bytes (e ∷ es) zero d l h = h.0
+is_event_by_index keys bytes (e ∷ es) (suc at) d l h = is_event_by_index keys bytes es at d (omega (arith, l)) h.1

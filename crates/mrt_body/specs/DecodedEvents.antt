@@ -1,0 +1,43 @@
+-- What payloads mean, where their keys and the packed bytes of their routes are among others.
+use Rattle.std.specs.Prelude.{⊤, ℕ, List, map, Result, Ok, Err}
+use Rattle.std.specs.List.{AllByRecursion}
+use Rattle.mrt_frame.specs.declared.fault.Fault.{Fault}
+use Rattle.bgp_prefix.specs.Keys.{RouteKey}
+use Rattle.bgp_update.specs.Decoded.{IsRouteAt, IsUpdateAt, plain_update, route_at, update_at}
+use Rattle.mrt_body.specs.Plain.{DecodedEvent, Event, EventRef}
+use Rattle.mrt_body.specs.declared.decoded_events.DecodedEvent.TheVariants as decoded
+use Rattle.mrt_body.specs.declared.event_ref.EventRef.TheVariants as refs
+use Rattle.mrt_body.specs.declared.meaning.Event.TheVariants as events
+
+-- the event, or the fault
+abbrev pub event_at : List RouteKey → List ℕ → DecodedEvent → Result Event Fault
+event_at keys bytes decoded.Other = Ok events.Other
+event_at keys bytes decoded.Clear = Ok events.Clear
+event_at keys bytes (decoded.Damaged fault) = Err fault
+event_at keys bytes (decoded.State rule from to) = Ok (events.State from to rule)
+event_at keys bytes (decoded.Rib key route) = Ok (events.Rib key (route_at bytes route))
+event_at keys bytes (decoded.Change spans) = Ok (events.Change (update_at keys bytes spans))
+
+-- its keys and its routes are there
+abbrev pub IsEventAt : List RouteKey → List ℕ → DecodedEvent → Type 0
+IsEventAt keys bytes decoded.Other = ⊤
+IsEventAt keys bytes decoded.Clear = ⊤
+IsEventAt keys bytes (decoded.Damaged fault) = ⊤
+IsEventAt keys bytes (decoded.State rule from to) = ⊤
+IsEventAt keys bytes (decoded.Rib key route) = IsRouteAt bytes route
+IsEventAt keys bytes (decoded.Change spans) = IsUpdateAt keys bytes spans
+
+abbrev pub events_at : List RouteKey → List ℕ → List DecodedEvent → List (Result Event Fault)
+events_at keys bytes es = map (event_at keys bytes) es
+
+abbrev pub AreEventsAt : List RouteKey → List ℕ → List DecodedEvent → Type 0
+AreEventsAt keys bytes es = AllByRecursion (IsEventAt keys bytes) es
+
+-- the same with keys and routes that are borrowed
+abbrev pub event_of : EventRef → Result Event Fault
+event_of (refs.State old new rule) = Ok (events.State old new rule)
+event_of (refs.Change update) = Ok (events.Change (plain_update update))
+event_of (refs.Rib key hashed) = Ok (events.Rib key hashed.route)
+event_of refs.Other = Ok events.Other
+event_of refs.Clear = Ok events.Clear
+event_of (refs.Damaged fault) = Err fault

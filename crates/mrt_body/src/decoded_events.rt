@@ -1,0 +1,219 @@
+//! What payloads mean, decoded one after another into blocks of memory that are used again.
+
+ghost use Rattle.std.specs.Prelude.{◌≡◌, List, IfOk, OnOk};
+ghost use Rattle.bgp_prefix.specs.Keys.{RouteKey as Key};
+ghost use Rattle.bgp_update.specs.Decoded.{IsGrown};
+ghost use Rattle.mrt_body.specs.DecodedEvents.{IsEventAt, event_at};
+ghost use Rattle.mrt_body.specs.Events.{entry_event_in, event_in, message_event_in};
+ghost use Rattle.mrt_body.specs.Lent.{lent_payload};
+
+use crate::event_ref::EventRef;
+use crate::interpret::UPDATE;
+use crate::lent::{LentPayload, LentPayloadOf};
+use crate::message::message_in;
+use crate::state_rule::StateRule;
+use bgp_prefix::{Memory, Prefix, RouteKey};
+use bgp_update::{AttrError, RouteSpan, Unicast, UpdateSpans, Width, decode_entry, decode_update};
+use mrt_frame::Fault;
+use std::alloc::Global;
+use std::marker::Model;
+
+/// What a payload means, whose keys and routes are among others.
+#[derive(Clone, Copy)]
+pub(crate) enum DecodedEvent<P = Prefix> {
+    Other,
+    Clear,
+    Damaged(Fault),
+    State { rule: StateRule, from: u16, to: u16 },
+    Rib { key: RouteKey<P>, route: RouteSpan },
+    Change(UpdateSpans),
+}
+
+/// Decodes a message. Its keys and the packed bytes of its routes are appended to other ones.
+#[tactic(auto, unfolding(crate::specs::Events::message_event_in))]
+fn decode_message<F: Unicast>(
+    alloc: Global,
+    keys: &mut Vec<RouteKey<Prefix<F>>>,
+    bytes: &mut Vec<u8>,
+    message: &[u8],
+    width: Width,
+    add_path: bool,
+) -> Result<DecodedEvent<Prefix<F>>, Memory>
+    ensures means { IfOk result (λ event. event_at keys.new.items bytes.new.items event
+        ≡ message_event_in F.family width add_path message.now) }
+    ensures there { IfOk result (IsEventAt keys.new.items bytes.new.items) }
+    ensures keys { OnOk result (IsGrown keys.old.items keys.new.items) }
+    ensures bytes { OnOk result (IsGrown bytes.old.items bytes.new.items) }
+{
+    let (kind, body) = match message_in(message) {
+        Ok(parts) => parts,
+        Err(fault) => return Ok(DecodedEvent::Damaged(fault)),
+    };
+    if kind != UPDATE {
+        return Ok(DecodedEvent::Other);
+    }
+    match decode_update(alloc, keys, bytes, body, width, add_path) {
+        Ok(spans) => Ok(DecodedEvent::Change(spans)),
+        Err(AttrError::Bad(fault)) => Ok(DecodedEvent::Damaged(fault)),
+        Err(AttrError::Memory) => Err(Memory),
+    }
+}
+
+/// Decodes the attributes of a RIB entry (RFC 6396, 4.3.4), likewise.
+#[inline(always)]
+fn decode_rib<F: Unicast>(
+    alloc: Global,
+    bytes: &mut Vec<u8>,
+    key: RouteKey<Prefix<F>>,
+    attrs: &[u8],
+) -> Result<DecodedEvent<Prefix<F>>, Memory>
+    ensures means { IfOk result (λ event. (keys : List Key) → event_at keys bytes.new.items event
+        ≡ entry_event_in F.family key attrs.now) }
+    ensures there { IfOk result (λ event. (keys : List Key) → IsEventAt keys bytes.new.items event) }
+    ensures bytes { OnOk result (IsGrown bytes.old.items bytes.new.items) }
+{
+    match decode_entry::<F>(alloc, bytes, attrs, Width::Four) {
+        Ok(route) => Ok(DecodedEvent::Rib { key, route }),
+        Err(AttrError::Bad(fault)) => Ok(DecodedEvent::Damaged(fault)),
+        Err(AttrError::Memory) => Err(Memory),
+    }
+}
+
+/// Decodes a payload, likewise.
+#[inline(always)]
+#[tactic(auto, unfolding(crate::specs::Events::event_in))]
+fn decode<F: Unicast>(
+    alloc: Global,
+    keys: &mut Vec<RouteKey<Prefix<F>>>,
+    bytes: &mut Vec<u8>,
+    payload: &LentPayloadOf<'_, F>,
+) -> Result<DecodedEvent<Prefix<F>>, Memory>
+    ensures means { IfOk result (λ event. event_at keys.new.items bytes.new.items event
+        ≡ event_in (lent_payload payload.now)) }
+    ensures there { IfOk result (IsEventAt keys.new.items bytes.new.items) }
+    ensures keys { OnOk result (IsGrown keys.old.items keys.new.items) }
+    ensures bytes { OnOk result (IsGrown bytes.old.items bytes.new.items) }
+{
+    match *payload {
+        LentPayload::State { from, to, rule } => Ok(DecodedEvent::State { rule, from, to }),
+        LentPayload::Message {
+            bytes: message,
+            width,
+            add_path,
+            family,
+        } => {
+            family.is_known();
+            decode_message(alloc, keys, bytes, message, width, add_path)
+        }
+        LentPayload::Entry { key, attrs, family } => {
+            family.is_known();
+            decode_rib(alloc, bytes, key, attrs)
+        }
+        LentPayload::Clear => Ok(DecodedEvent::Clear),
+    }
+}
+
+/// What payloads mean, in order, each decoded once: contracts see the list of their events and faults. The keys and the
+/// packed bytes of the routes are in one block of memory each.
+#[derive(Drop)]
+pub struct DecodedEvents<F: Unicast = u32> {
+    events: Vec<DecodedEvent<Prefix<F>>>,
+    keys: Vec<RouteKey<Prefix<F>>>,
+    bytes: Vec<u8>,
+}
+
+impl<F: Unicast> Model for DecodedEvents<F> {
+    ghost use Rattle.std.specs.Prelude.{List, Result};
+    ghost use Rattle.mrt_frame.specs.declared.fault.Fault.{Fault};
+    ghost use Rattle.mrt_body.specs.Plain.{Event};
+    ghost use Rattle.mrt_body.specs.DecodedEvents.{AreEventsAt, events_at};
+
+    ghost Value = { List (Result Event Fault) };
+
+    ghost view = { λ d. events_at d.keys.items d.bytes.items d.events.items };
+
+    ghost invariant = { λ d. AreEventsAt d.keys.items d.bytes.items d.events.items };
+}
+
+impl<F: Unicast> DecodedEvents<F> {
+    ghost use Rattle.std.specs.Prelude.{◌≡◌, ◌<◌, [], ◌∷◌, ◌++◌, OnOk, length, slice_index_or};
+    ghost use Rattle.mrt_body.specs.DecodedEvents.{event_of};
+    ghost use Rattle.mrt_body.specs.Events.{event_in};
+    ghost use Rattle.mrt_body.specs.Lent.{lent_payload};
+
+    /// Returns no events. Allocates nothing.
+    pub fn new(alloc: Global) -> DecodedEvents<F>
+        ensures { result ≡ [] }
+    {
+        DecodedEvents {
+            events: Vec::new(alloc),
+            keys: Vec::new(alloc),
+            bytes: Vec::new(alloc),
+        }
+    }
+
+    /// How many there are.
+    pub fn len(&self) -> usize
+        ensures { result ≡ length self.now }
+    {
+        self.events.len()
+    }
+
+    /// Removes all. Their memory stays for other ones.
+    pub fn clear(&mut self)
+        ensures { self.new ≡ [] }
+    {
+        self.events.clear();
+        self.keys.clear();
+        self.bytes.clear();
+    }
+
+    /// Adds what a payload means, or its first fault, as `event` has it. After an `Err` others may be gone.
+    // Inlined, since for a call the payload would be kept in memory.
+    #[inline(always)]
+    pub fn push(&mut self, alloc: Global, payload: &LentPayloadOf<'_, F>) -> Result<(), Memory>
+        ensures { OnOk result (self.new ≡ self.old ++ event_in (lent_payload payload.now) ∷ []) }
+    {
+        match decode(alloc, &mut self.keys, &mut self.bytes, payload) {
+            Ok(event) => {
+                self.events.push(event)?;
+                Ok(())
+            }
+            Err(memory) => {
+                self.events.clear();
+                Err(memory)
+            }
+        }
+    }
+
+    /// What the payload at an index means.
+    #[inline(always)]
+    pub fn at(&self, at: usize) -> EventRef<'_, Prefix<F>>
+        requires { at < length self.now }
+        ensures { (d : _) → slice_index_or self.now at d ≡ event_of result }
+    {
+        match self.events[at] {
+            DecodedEvent::Other => EventRef::Other,
+            DecodedEvent::Clear => EventRef::Clear,
+            DecodedEvent::Damaged(fault) => EventRef::Damaged(fault),
+            DecodedEvent::State { rule, from, to } => EventRef::State(from, to, rule),
+            DecodedEvent::Rib { key, route } => {
+                EventRef::Rib(key, route.route(self.bytes.as_slice()))
+            }
+            DecodedEvent::Change(spans) => {
+                EventRef::Change(spans.update(self.keys.as_slice(), self.bytes.as_slice()))
+            }
+        }
+    }
+
+    /// The route that a session which takes the event at an index will look for first, if there is one: for prefetching
+    /// alone.
+    #[inline(always)]
+    pub fn first_route(&self, at: usize) -> Option<RouteSpan> {
+        match self.events.get(at) {
+            Some(DecodedEvent::Rib { key: _, route }) => Some(*route),
+            Some(DecodedEvent::Change(spans)) => spans.first_route(),
+            _ => None,
+        }
+    }
+}
