@@ -1,5 +1,5 @@
 -- Maps of numbers of routes, as they change and as routes are added.
-use Rattle.std.proofs.Common.{◌≡◌, ℕ, Bool, true, false, cond, List, [], ◌∷◌, ◌++◌, map, Option, Some, None, refl, sym, ap, subst, ◌∙◌}
+use Rattle.std.proofs.Common.{◌≡◌, ℕ, Bool, true, false, cond, List, Option, Some, None, refl, sym, ap, subst, ◌∙◌}
 use Rattle.std.specs.Prelude.{is_some}
 use Rattle.std.specs.Option.{option_map, IfSome}
 use Rattle.std.specs.Ordering.{eq_by_cmp}
@@ -11,7 +11,6 @@ use Rattle.bgp_update.specs.declared.route.Route.{Route}
 use Rattle.adj_rib.specs.declared.churn.Churn.{Churn}
 use Rattle.adj_rib.specs.declared.outcome.Outcome.{Outcome}
 use Rattle.adj_rib.specs.declared.routes.RouteId.{RouteId}
-use Rattle.adj_rib.specs.MappedValues.{map_values}
 use Rattle.bgp_update.specs.Decoded.{IsGrown}
 use Rattle.adj_rib.specs.Routes.{IsNamed, route_at, named_routes, AreNamed}
 use Rattle.adj_rib.specs.Steps.{announce}

@@ -1,5 +1,5 @@
 -- Routes in a block of bytes stay what they are when bytes are added at its end.
-use Rattle.std.proofs.Common.{◌≡◌, ℕ, ◌+◌, ◌-◌, ◌^◌, ◌<◌, ◌≤◌, Bool, true, false, cond, eqb, nat_lt, List, [], ◌∷◌, ◌++◌, Some, length, get_or, take, drop, refl, sym, ap, subst, ◌∙◌, arith, append_assoc, length-append, length-drop}
+use Rattle.std.proofs.Common.{◌≡◌, ℕ, ◌+◌, ◌^◌, ◌<◌, ◌≤◌, Bool, true, false, cond, eqb, nat_lt, List, [], ◌∷◌, ◌++◌, length, get_or, take, drop, refl, sym, ap, subst, ◌∙◌, arith, append_assoc, length-append, length-drop}
 use Rattle.std.proofs.lemmas.List.{take-append-le, drop-append-le, get_or_append_left, append-nil}
 use Rattle.std.proofs.lemmas.Bool.{ltb-true, ne_eqb}
 use Rattle.std.proofs.Math.Seq.{drop-append_seam, take-length}
@@ -8,11 +8,9 @@ use Rattle.std.specs.Prelude.{◌≢◌}
 use Rattle.byteorder.specs.Endian.{big_number, big_bytes}
 use Rattle.byteorder.specs.Numbers.{big_from-append, big_number-reads_back, length-bytes_high_first}
 use Rattle.bgp_update.specs.Packing.{IsPacked, unpacked}
-use Rattle.bgp_update.specs.declared.route.Route.{Route}
-use Rattle.adj_rib.specs.declared.routes.RouteId.{RouteId}
 use Rattle.adj_rib.specs.declared.routes.IndexSlot.{IndexSlot}
 use Rattle.bgp_update.specs.Decoded.{IsGrown}
-use Rattle.adj_rib.specs.Routes.{is_long, head_len, body_len, front_of, head_of, IsFront, IsNamed, route_at, Names, IsSlot, AreSlots}
+use Rattle.adj_rib.specs.Routes.{is_long, head_len, body_len, front_of, head_of, IsFront, IsNamed, route_at, IsSlot, AreSlots}
 
 -- the front, by whether its length is long
 pub front_by : (rest : List ℕ) (b : Bool) → is_long rest ≡ b → front_of rest ≡ take (body_len b rest) (drop (head_len b) rest)

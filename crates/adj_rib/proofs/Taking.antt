@@ -27,6 +27,7 @@ use Rattle.mrt_body.specs.Plain.{Event}
 use Rattle.mrt_body.specs.declared.meaning.Event.TheVariants as event
 use Rattle.mrt_body.specs.States.{up_by, established_by}
 use Rattle.mrt_body.specs.Units.{is_recorded}
+use Rattle.mrt_body.specs.DecodedEvents.{Means, is_recorded_event}
 use Rattle.mrt_body.specs.Events.{UPDATE, message_in, message_event_in, event_in}
 use Rattle.adj_rib.specs.declared.arrivals.Arrivals.{Arrivals}
 use Rattle.adj_rib.specs.declared.churn.Churn.{Churn}
@@ -259,6 +260,20 @@ taken_as k unit = elim (reading_of unit) as (λ r. read_as (record k { churn = t
   | Err fault ↦ refl
 ]
 
+-- and as it is told to
+timed_told : (unit : ReplayUnit) (place : Place) (time : ℕ) (event : Result Event Fault) → Means unit place time event → is_recorded_event (event_in unit.payload) ≡ is_recorded unit.payload → (c : Churn) → (if is_recorded_event event then timed time c else c) ≡ timed_by unit c
+timed_told unit place time event m told c =
+    ap (λ t. if is_recorded_event event then timed t c else c) (sym m.time_is)
+    ∙ ap (λ b. if b then timed unit.time c else c) (ap is_recorded_event (sym m.event_is) ∙ told)
+
+pub taken_by : (k : Kept) (unit : ReplayUnit) (place : Place) (time : ℕ) (event : Result Event Fault) → Means unit place time event → is_recorded_event (event_in unit.payload) ≡ is_recorded unit.payload
+    → read_as (record k { churn = if is_recorded_event event then timed time k.churn else k.churn }) place event ≡ taken k unit
+taken_by k unit place time event m told =
+    ap (λ c. read_as (record k { churn = c }) place event) (timed_told unit place time event m told k.churn)
+    ∙ (ap (λ p. read_as (record k { churn = timed_by unit k.churn }) p event) (sym m.place_is)
+    ∙ (ap (read_as (record k { churn = timed_by unit k.churn }) unit.place) (sym m.event_is)
+    ∙ taken_as k unit))
+
 -- ---- how many units came
 
 arrived-one : (places : List Place) (place : Place) → arrived place (record { units = stopped (length places); first = first_of places }) ≡ record { units = stopped (length (places ++ place ∷ [])); first = first_of (places ++ place ∷ []) }
@@ -277,6 +292,11 @@ unfolding arrivals_of
 arrived-push units unit =
     arrived-more (is_recorded unit.payload) (recorded_places units) unit.place
     ∙ ap (λ (l : List Place). record { units = stopped (length l); first = first_of l }) (sym (recorded-push (λ (u : ReplayUnit). u.place) units unit))
+
+pub arrived_told : (unit : ReplayUnit) (place : Place) (time : ℕ) (event : Result Event Fault) → Means unit place time event → is_recorded_event (event_in unit.payload) ≡ is_recorded unit.payload → (a : Arrivals) → (if is_recorded_event event then arrived place a else a) ≡ arrived_by unit a
+arrived_told unit place time event m told a =
+    ap (λ p. if is_recorded_event event then arrived p a else a) (sym m.place_is)
+    ∙ ap (λ b. if b then arrived unit.place a else a) (ap is_recorded_event (sym m.event_is) ∙ told)
 
 -- ---- the session
 

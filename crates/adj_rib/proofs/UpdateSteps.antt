@@ -1,7 +1,6 @@
 -- The steps of an UPDATE, part by part.
-use Rattle.std.proofs.Common.{◌≡◌, Bool, not, ◌||◌, List, [], ◌++◌, map, Option, Some, None, refl, sym, ap, ◌∙◌}
+use Rattle.std.proofs.Common.{◌≡◌, Bool, not, ◌||◌, List, [], ◌++◌, map, Option, Some, sym, ap, ◌∙◌}
 use Rattle.std.specs.List.{filter}
-use Rattle.std.specs.Option.{ForSome}
 use Rattle.std.proofs.lemmas.List.{map-append}
 use Rattle.std.proofs.lemmas.List.Elements.{filter-append}
 use Rattle.bgp_prefix.specs.Keys.{RouteKey, among}

@@ -1,6 +1,6 @@
 -- A peer's routes in one block of bytes, in which a route is named by where it begins: a byte with the length of its
 -- packed bytes, or 255 and four bytes with it, and then these.
-use Rattle.std.specs.Prelude.{◌≡◌, ◌≢◌, ℕ, ◌+◌, ◌≤◌, Bool, List, [], ◌∷◌, ◌++◌, nat_lt, drop, take, length, slice_index, IfSome, map, ◌==◌, if◌then◌else◌}
+use Rattle.std.specs.Prelude.{◌≡◌, ◌≢◌, ℕ, ◌+◌, ◌≤◌, Bool, List, [], ◌∷◌, nat_lt, drop, take, length, slice_index, IfSome, map, ◌==◌, if◌then◌else◌}
 use Rattle.std.specs.Borrow.{Bor}
 use Rattle.std.specs.List.{All}
 use Rattle.std.specs.FinMap as finite

@@ -1,7 +1,6 @@
 //! How many units of a peer came, and where the first one stands.
 
-use bgp_update::Unicast;
-use mrt_body::{LentUnitOf, Place};
+use mrt_body::Place;
 
 /// How many units of a peer were taken, and where the first one stands.
 #[derive(Clone, Copy, Debug, PartialEq, Eq)]
@@ -13,9 +12,8 @@ pub struct Arrivals {
 }
 
 impl Arrivals {
-    ghost use Rattle.std.specs.Prelude.{◌≡◌};
-    ghost use Rattle.mrt_body.specs.Lent.{lent_unit};
-    ghost use Rattle.adj_rib.specs.Arrived.{arrived_by, no_arrivals};
+    ghost use Rattle.std.specs.Prelude.{◌≡◌, if◌then◌else◌};
+    ghost use Rattle.adj_rib.specs.Arrived.{arrived, no_arrivals};
 
     /// Returns the arrivals of no unit.
     pub(crate) fn new() -> Arrivals
@@ -30,13 +28,13 @@ impl Arrivals {
     /// Notes a unit, if it is recorded.
     #[inline(always)]
     #[tactic(auto, unfolding(crate::specs::Arrived::arrived))]
-    pub(crate) fn note<F: Unicast>(&mut self, unit: &LentUnitOf<'_, F>)
-        ensures { self.new ≡ arrived_by (lent_unit unit.now) self.old }
+    pub(crate) fn note(&mut self, is_recorded: bool, place: Place)
+        ensures { self.new ≡ (if is_recorded then arrived place self.old else self.old) }
     {
-        if unit.payload.is_recorded() {
+        if is_recorded {
             self.units = self.units.saturating_add(1);
             if self.first.is_none() {
-                self.first = Some(unit.place);
+                self.first = Some(place);
             }
         }
     }

@@ -7,7 +7,7 @@ use crate::note::{Note, What};
 use crate::outcome::{Outcome, UnitKind};
 use bgp_prefix::Prefix;
 use bgp_update::Unicast;
-use mrt_body::LentUnitOf;
+use mrt_body::UnitRef;
 
 /// Whether a time, in microseconds since 1970 UTC, is before this second.
 pub fn is_before(since: Option<u64>, time: u64) -> bool
@@ -46,10 +46,9 @@ pub struct Churn {
 }
 
 impl Churn {
-    ghost use Rattle.std.specs.Prelude.{◌≡◌, None};
+    ghost use Rattle.std.specs.Prelude.{◌≡◌, None, if◌then◌else◌};
     ghost use Rattle.std.specs.List.{fold};
-    ghost use Rattle.mrt_body.specs.Lent.{lent_unit};
-    ghost use Rattle.adj_rib.specs.Applied.{counted, no_churn, timed_by};
+    ghost use Rattle.adj_rib.specs.Applied.{counted, no_churn, timed};
     ghost use Rattle.adj_rib.specs.Counting.{counted_note, counted_this, counted_unit, counted_within};
     ghost use Rattle.adj_rib.specs.Histories.{outcome_noted};
 
@@ -90,12 +89,12 @@ impl Churn {
     /// Notes the time of a unit, if it is recorded.
     #[inline(always)]
     #[tactic(auto, unfolding(crate::specs::Applied::timed))]
-    pub(crate) fn note_unit<F: Unicast>(&mut self, unit: &LentUnitOf<'_, F>)
-        ensures { self.new ≡ timed_by (lent_unit unit.now) self.old }
+    pub(crate) fn note_unit(&mut self, is_recorded: bool, time: u64)
+        ensures { self.new ≡ (if is_recorded then timed time self.old else self.old) }
     {
-        if unit.payload.is_recorded() {
-            self.first = Some(self.first.unwrap_or(unit.time));
-            self.last = Some(unit.time);
+        if is_recorded {
+            self.first = Some(self.first.unwrap_or(time));
+            self.last = Some(time);
         }
     }
 
@@ -139,16 +138,16 @@ impl Churn {
     pub(crate) fn count_within<F: Unicast>(
         &mut self,
         since: Option<u64>,
-        unit: &LentUnitOf<'_, F>,
+        unit: &UnitRef<'_, F>,
         kind: UnitKind,
         notes: &[Note<Prefix<F>>],
     )
-        ensures { self.new ≡ counted_within since (lent_unit unit.now) kind notes.now self.old }
+        ensures { self.new ≡ counted_within since unit.now kind notes.now self.old }
     {
         if is_before(since, unit.time) {
             return;
         }
-        self.note_unit(unit);
+        self.note_unit(unit.payload.is_recorded(), unit.time);
         self.count_unit(kind);
         self.count_notes(notes);
     }

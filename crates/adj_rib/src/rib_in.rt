@@ -1,7 +1,6 @@
 //! A peer's Adj-RIB-In (RFC 4271, 3.2), and how each unit changes it.
 
 ghost use Rattle.std.specs.Prelude.{◌≡◌};
-ghost use Rattle.mrt_body.specs.Lent.{lent_payload};
 
 use crate::churn::Churn;
 use crate::outcome::Outcome;
@@ -10,7 +9,7 @@ use crate::routes::RouteId;
 use crate::update::apply_update;
 use bgp_prefix::{Memory, Prefix, PrefixMap, RouteKey};
 use bgp_update::{HashedRoute, RouteSpan, Unicast, UpdateRef};
-use mrt_body::{Damage, EventRef, LentUnitOf, Place, StateRule};
+use mrt_body::{Damage, EventRef, Place, StateRule, clears_are_told};
 use std::alloc::Global;
 
 /// A peer's Adj-RIB-In, along with what is counted and listed for the peer.
@@ -26,9 +25,8 @@ pub(crate) struct RibIn<M: PrefixMap<RouteId>> {
 
 impl<F: Unicast, M: PrefixMap<RouteId, Addr = F> + Drop> RibIn<M> {
     ghost use Rattle.std.specs.Prelude.{◌≡◌, true, Ok, OnOk};
-    ghost use Rattle.mrt_body.specs.DecodedEvents.{event_of};
-    ghost use Rattle.mrt_body.specs.Events.{event_in};
-    ghost use Rattle.mrt_body.specs.Lent.{lent_payload, lent_unit};
+    ghost use Rattle.mrt_body.specs.DecodedEvents.{event_of, Means};
+    ghost use Rattle.mrt_body.specs.Plain.{Unit as ReplayUnit};
     ghost use Rattle.mrt_body.specs.declared.meaning.Event.TheVariants as events;
     ghost use Rattle.adj_rib.specs.Applied.{START, counted_if, followed, refused, read_as, taken};
     ghost use Rattle.adj_rib.specs.Keeping.{kept_in};
@@ -161,20 +159,21 @@ impl<F: Unicast, M: PrefixMap<RouteId, Addr = F> + Drop> RibIn<M> {
         self.table.prefetch_route(route)
     }
 
-    /// Takes the next unit, which means this.
+    /// Takes the next unit, which stands at this place, has this time and means this.
     #[inline(always)]
     pub(crate) fn take(
         &mut self,
         alloc: Global,
-        unit: &LentUnitOf<'_, F>,
+        place: Place,
+        time: u64,
         event: EventRef<'_, Prefix<F>>,
     ) -> Result<(), Memory>
-        requires { event_of event ≡ event_in (lent_payload unit.now.payload) }
-        ensures { OnOk result
-            (kept_in self.new ≡ taken (kept_in self.old) (lent_unit unit.now)) }
+        ensures { (unit : ReplayUnit) → Means unit place time (event_of event.entry) →
+            OnOk result (kept_in self.new ≡ taken (kept_in self.old) unit) }
     {
+        clears_are_told();
         self.table.give_back(alloc)?;
-        self.churn.note_unit(unit);
-        self.follow(alloc, unit.place, event)
+        self.churn.note_unit(event.is_recorded(), time);
+        self.follow(alloc, place, event)
     }
 }

@@ -3,9 +3,7 @@
 ghost use Rattle.std.specs.Prelude.{◌≡◌, [], ◌∷◌, ◌++◌, List, OnOk, is_err, IsErr, IsTrue};
 ghost use Rattle.std.specs.FinMap as finite;
 ghost use Rattle.adj_rib.specs.Sessions.{StandsFor, chosen_session};
-ghost use Rattle.mrt_body.specs.DecodedEvents.{event_of};
-ghost use Rattle.mrt_body.specs.Events.{event_in};
-ghost use Rattle.mrt_body.specs.Lent.{lent_payload, lent_unit};
+ghost use Rattle.mrt_body.specs.DecodedEvents.{event_of, Means};
 ghost use Rattle.mrt_body.specs.Plain.{Unit as ReplayUnit};
 
 use crate::arrivals::Arrivals;
@@ -16,7 +14,7 @@ use crate::route_table::RouteTable;
 use crate::routes::RouteId;
 use bgp_prefix::{Memory, Prefix, PrefixMap};
 use bgp_update::{RouteSpan, Unicast};
-use mrt_body::{ChosenPrefixes, Damage, DecodedEvents, EventRef, LentUnitOf, UnitOf};
+use mrt_body::{ChosenPrefixes, Damage, DecodedEvents, EventRef, Place, UnitOf, clears_are_told};
 use std::alloc::Global;
 use std::marker::Model;
 
@@ -68,32 +66,34 @@ impl<F: Unicast, M: PrefixMap<RouteId, Addr = F> + Drop> Session<M> {
     {
         let unit = unit.lend();
         let mut events = DecodedEvents::new(alloc);
-        if events.push(alloc, &unit.payload).is_err() {
+        let Ok(()) = events.push(alloc, &unit.payload) else {
             self.spent = true;
             return Err(Memory);
-        }
-        self.take_event(alloc, &unit, events.at(0))
+        };
+        self.take_event(alloc, unit.place, unit.time, events.at(0))
     }
 
-    /// Takes the next unit, whose bytes are lent and which means this, as `take` does.
+    /// Takes the next unit, which stands at this place, has this time and means this, as `take` does.
     #[inline(always)]
     pub fn take_event(
         &mut self,
         alloc: Global,
-        unit: &LentUnitOf<'_, F>,
+        place: Place,
+        time: u64,
         event: EventRef<'_, Prefix<F>>,
     ) -> Result<(), Memory>
-        requires { event_of event ≡ event_in (lent_payload unit.now.payload) }
-        ensures stands { (before : List ReplayUnit) → StandsFor self.old before →
-            OnOk result (StandsFor self.new (before ++ lent_unit unit.now ∷ [])) }
+        ensures stands { (before : List ReplayUnit) (unit : ReplayUnit) → StandsFor self.old before →
+            Means unit place time (event_of event.entry) →
+            OnOk result (StandsFor self.new (before ++ unit ∷ [])) }
         ensures spent { self.new.spent ≡ is_err result }
         ensures stays_spent { IsTrue self.old.spent → IsErr result }
     {
         if self.spent {
             return Err(Memory);
         }
-        self.arrivals.note(unit);
-        match self.rib.take(alloc, unit, event) {
+        clears_are_told();
+        self.arrivals.note(event.is_recorded(), place);
+        match self.rib.take(alloc, place, time, event) {
             Ok(()) => Ok(()),
             Err(memory) => {
                 self.spent = true;

@@ -4,7 +4,6 @@ ghost use Rattle.std.specs.Prelude.{◌≡◌, [], ◌∷◌, ◌++◌, List, On
 ghost use Rattle.std.specs.FinMap as finite;
 ghost use Rattle.mrt_body.specs.DecodedEvents.{event_of};
 ghost use Rattle.mrt_body.specs.Events.{event_in};
-ghost use Rattle.mrt_body.specs.Lent.{lent_payload, lent_unit};
 ghost use Rattle.mrt_body.specs.Plain.{PrefixChoice as Choice};
 ghost use Rattle.mrt_body.specs.Plain.{Unit as ReplayUnit};
 ghost use Rattle.adj_rib.specs.Counting.{change_kind, kind_of, routing_kind};
@@ -18,7 +17,7 @@ use crate::route_set::RouteSet;
 use crate::shared_route::SharedRoute;
 use bgp_prefix::{Memory, Prefix, PrefixMap, RouteKey};
 use bgp_update::{HashedRoute, Unicast, UpdateRef};
-use mrt_body::{ChosenPrefixes, Damage, EventRef, LentUnitOf, Place, StateRule};
+use mrt_body::{ChosenPrefixes, Damage, EventRef, Place, StateRule, UnitRef};
 use std::alloc::Global;
 use std::marker::Model;
 
@@ -240,15 +239,15 @@ impl<F: Unicast, M: PrefixMap<SharedRoute, Addr = F>> Watch<M> {
         alloc: Global,
         chosen: &ChosenPrefixes<F>,
         since: Option<u64>,
-        unit: &LentUnitOf<'_, F>,
+        unit: &UnitRef<'_, F>,
         event: &EventRef<'_, Prefix<F>>,
         notes: &mut Vec<Note<Prefix<F>>>,
     ) -> Result<(), Memory>
-        requires { event_of event.now ≡ event_in (lent_payload unit.now.payload) }
+        requires { event_of event.now ≡ event_in unit.now.payload }
         ensures stands { (before : List ReplayUnit) → WatchesFor since chosen.now before self.old →
-            OnOk result (WatchesFor since chosen.now (before ++ lent_unit unit.now ∷ []) self.new) }
+            OnOk result (WatchesFor since chosen.now (before ++ unit.now ∷ []) self.new) }
         ensures notes { (before : List ReplayUnit) → WatchesFor since chosen.now before self.old →
-            OnOk result (notes.new.items ≡ chosen_notes chosen.now (unit_notes before (lent_unit unit.now))) }
+            OnOk result (notes.new.items ≡ chosen_notes chosen.now (unit_notes before unit.now)) }
     {
         notes.clear();
         let kind = self.rib.follow(alloc, chosen, unit.place, event, notes)?;

@@ -33,10 +33,10 @@ fn hash_of(bytes: &[u8]) -> u32 {
 }
 
 /// A part of a list: where it begins, and how many items it has.
-#[derive(Clone, Copy)]
-pub(crate) struct Span {
-    start: u32,
-    len: u32,
+#[derive(Clone, Copy, Debug)]
+pub struct Span {
+    pub start: u32,
+    pub len: u32,
 }
 
 /// The maximum number of items of a list that has spans.
@@ -45,7 +45,7 @@ const MOST_ITEMS: usize = u32::MAX as usize;
 impl Span {
     /// Returns the span from the first of these positions up to the other.
     #[inline(always)]
-    pub(crate) fn between(start: usize, end: usize) -> Result<Span, Memory>
+    pub fn between(start: usize, end: usize) -> Result<Span, Memory>
         requires { start ≤ end }
         ensures { IfOk result (λ span. (span.start ≡ start) × (span.start + span.len ≡ end)) }
     {
@@ -66,7 +66,7 @@ impl Span {
 
     /// The items of the span.
     #[inline(always)]
-    fn of<'a, T>(&self, items: &'a [T]) -> &'a [T]
+    pub fn of<'a, T>(&self, items: &'a [T]) -> &'a [T]
         requires { IsWithin (length items.now) self.now }
         ensures { result.now ≡ span_of items.now self.now }
     {

@@ -69,7 +69,7 @@ mod written_hop;
 
 pub use agreement::{merging_is_unique, updates_agree_with_their_forms};
 pub use attr_error::AttrError;
-pub use decoded::{HashedRoute, RouteSpan, UpdateSpans};
+pub use decoded::{HashedRoute, RouteSpan, Span, UpdateSpans};
 pub use decoding::{decode_entry, decode_update};
 pub use family_mark::FamilyMark;
 pub use key::prefix_at;

@@ -79,21 +79,22 @@ fn check_dealings<M: PrefixMap<RouteId, Addr = u32> + Send + Sync + Drop>(
     check_dealing::<M, _>(rt, alloc, file, plan, most, list)
 }
 
-/// Replays the file by each number of workers, and each ring, batch and greatest number of rounds.
+/// Replays the file by each number of workers with its looks, and each ring, batch and greatest number of rounds.
 fn check_plans<M: PrefixMap<RouteId, Addr = u32> + Send + Sync + Drop>(
     rt: &(impl Threads + Abort + Sync),
     alloc: Global,
     file: &Dumped,
-    workers: &[usize],
+    workers: &[(usize, u32)],
     rings: &[(usize, u64, u64)],
     list: &ByList,
 ) -> Result<(), Fail> {
-    for workers in workers {
+    for (workers, looks) in workers {
         for (ring, batch, most) in rings {
             let plan = Plan {
                 workers: *workers,
                 ring: *ring,
                 batch: *batch,
+                looks: *looks,
                 ..PLAN
             };
             check_dealings::<M>(rt, alloc, file, &plan, *most, list)?;
@@ -112,9 +113,10 @@ fn three_peers_have_the_same_tables_by_every_dealing(rt: HostRuntime) -> Result<
     };
     let rings = [(1, 1, 17), (1, 8, 12), (4, 8, 4), (65_536, 1_048_576, 2)];
     let list = ByList::new(vec![in alloc; 1, 1, 0]?);
-    check_plans::<Radix<u32, RouteId>>(&rt, alloc, &file, &[1, 2, 3, 64], &rings, &list)?;
-    check_plans::<Flat<u32, RouteId>>(&rt, alloc, &file, &[1, 2, 3, 64], &rings, &list)?;
-    check_plans::<Shelf<u32, RouteId>>(&rt, alloc, &file, &[1, 2, 3, 64], &rings, &list)
+    let workers = [(1, 0), (1, 1), (2, 0), (3, 0), (3, 1), (64, 0)];
+    check_plans::<Radix<u32, RouteId>>(&rt, alloc, &file, &workers, &rings, &list)?;
+    check_plans::<Flat<u32, RouteId>>(&rt, alloc, &file, &workers, &rings, &list)?;
+    check_plans::<Shelf<u32, RouteId>>(&rt, alloc, &file, &workers, &rings, &list)
 }
 
 /// 300 announcements, each by a peer of another address, 198.18.0.0 to 198.18.1.43.
@@ -164,7 +166,7 @@ fn check_three_hundred<M: PrefixMap<RouteId, Addr = u32> + Send + Sync + Drop>(
         (256, 100, 7),
         (65_536, 1_048_576, 2),
     ];
-    check_plans::<M>(rt, alloc, &file, &[1, 64], &rings, &list)
+    check_plans::<M>(rt, alloc, &file, &[(1, 0), (1, 1), (64, 0)], &rings, &list)
 }
 
 #[test]

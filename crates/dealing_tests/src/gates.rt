@@ -215,6 +215,41 @@ fn gates_are_told_each_number(rt: HostRuntime) -> Result<(), Fail> {
     Ok(())
 }
 
+/// A worker that takes what is dealt at once takes at most 32 units behind the last that was dealt.
+#[test]
+fn gates_are_told_each_number_of_a_single_worker(rt: HostRuntime) -> Result<(), Fail> {
+    let alloc = rt.alloc();
+    let mut words = String::new(alloc);
+    for _ in 0..70u32 {
+        words.push_str("announcement ")?;
+    }
+    for batch in [1, 40, 128] {
+        let gate = Counting {
+            dealt: [AtomicU64::new(0), AtomicU64::new(0)],
+            taken: [AtomicU64::new(0), AtomicU64::new(0)],
+            astray: AtomicBool::new(false),
+        };
+        let plan = Plan {
+            workers: 1,
+            looks: 1,
+            batch,
+            ..PLAN
+        };
+        let summary = run_with(&rt, alloc, words.as_str(), &plan, &gate)??;
+        assert_eq!(rt; summary.units, 70);
+        assert!(rt; !gate.astray.load(Ordering::SeqCst), "batch {batch}");
+        assert!(rt;
+            gate.dealt[0].load(Ordering::SeqCst) == 70,
+            "dealt by {batch}"
+        );
+        assert!(rt;
+            gate.taken[0].load(Ordering::SeqCst) == 70,
+            "taken by {batch}"
+        );
+    }
+    Ok(())
+}
+
 /// Writes down the numbers of routes that it is told, as digits of one number.
 #[derive(Drop)]
 struct Digits {

@@ -1,5 +1,5 @@
 -- What the files gave, step by step.
-use Rattle.std.proofs.Common.{◌≡◌, ℕ, ◌≤◌, List, [], ◌∷◌, ◌++◌, length, Option, Some, None, refl, sym, ap, ◌∙◌, subst, append_assoc, length-append, arith, inl, inr}
+use Rattle.std.proofs.Common.{◌≡◌, ℕ, ◌≤◌, List, [], ◌∷◌, ◌++◌, length, Option, Some, None, Result, Ok, Err, refl, sym, ap, ◌∙◌, subst, append_assoc, length-append, arith, inl, inr}
 use Rattle.std.specs.Prelude.{slice_index}
 use Rattle.std.specs.List.{filter_map}
 use Rattle.std.proofs.lemmas.List.Elements.{filter_map-append}
@@ -14,6 +14,7 @@ use Rattle.mrt_body.specs.declared.unit.Damage.{Damage}
 use Rattle.mrt_body.specs.Plain.{Found}
 use Rattle.mrt_body.specs.declared.unit.Found.TheVariants as found
 use Rattle.mrt_body.specs.ToCome.{UnitsState, TakesFound, KeepsPlan, NothingToCome, GivesAllBefore, found_to_come, refusals, units_left, Stops}
+use Rattle.lane_deal.specs.Answers.{IfAnswered}
 use Rattle.lane_deal.specs.Asking.{TakesUnits, StopsReading, StopsBehind, as_refused, GivesFront, GivesAll, Asked, AskedInVain}
 
 abbrev Known : Type 0
@@ -179,3 +180,8 @@ AskedInVain-from r r' a b c k k' k'' file p before =
       gives = front_from_takes a b k k' _ p.takes;
       behind = subst (StopsBehind a k c k'') (append-nil (as_refused p.listed)) (behind_more a b c k k' k'' (as_refused p.listed) [] p.takes (behind_one b c k' k'' file before));
     }
+
+-- what follows from what holds of a call that answered
+pub answered_as : {A : Type 0} (r : Result A ReplayError) (P Q : Type 0) → (P → Q) → IfAnswered r P → IfAnswered r Q
+answered_as (Ok x) P Q f p = f p
+answered_as (Err e) P Q f p = λ file is. f (p file is)

@@ -1,12 +1,12 @@
 -- What the dealer did, unit by unit.
-use Rattle.std.proofs.Common.{◌≡◌, ℕ, ◌+◌, ◌-◌, ◌^◌, ◌≤◌, ◌<◌, ◌||◌, true, false, if◌then◌else◌, List, [], ◌∷◌, ◌++◌, length, map, take, drop, slice_index_or, Option, Some, None, Ok, Err, refl, sym, ap, ◌∙◌, subst, append_assoc, arith, length-append}
-use Rattle.std.specs.Prelude.{option_to_list, min}
+use Rattle.std.proofs.Common.{◌≡◌, ℕ, ◌+◌, ◌-◌, ◌^◌, ◌≤◌, ◌<◌, ◌||◌, true, false, eqb, if◌then◌else◌, List, [], ◌∷◌, ◌++◌, length, map, take, drop, Option, Some, None, Ok, Err, refl, sym, ap, ◌∙◌, subst, append_assoc, arith, length-append}
+use Rattle.std.specs.Prelude.{option_to_list, min, IfOk, Result}
 use Rattle.std.specs.List.{list_any, filter_map, AllByRecursion}
-use Rattle.std.proofs.lemmas.List.{append-nil, map-append}
+use Rattle.std.proofs.lemmas.List.{append-nil, length-map, map-append}
 use Rattle.std.proofs.lemmas.List.Elements.{filter_map-append}
+use Rattle.std.proofs.lemmas.List.Sums.{length-filter, count_by-le-length}
 use Rattle.std.proofs.lemmas.List.Folds.{list_any-append}
 use Rattle.std.proofs.Math.Bool.{or-true}
-use Rattle.lane_deal.specs.UnitRings.{known_free}
 use Rattle.mrt_frame.specs.declared.error.ReplayError.{ReplayError}
 use Rattle.mrt_body.specs.declared.standing.Standing.TheVariants as standings
 use Rattle.mrt_body.specs.declared.unit.Damage.{Damage}
@@ -18,16 +18,16 @@ use Rattle.mrt_body.specs.Units.{unit_of, damage_of}
 use Rattle.mrt_body.specs.ToCome.{UnitsState, GivesPending, KeepsPlan, TakesFound, as_found, units_left}
 use Rattle.peer_tables.specs.Peers.{peer_eq, peers_of}
 use Rattle.lane_deal.specs.Dealers.{Dealer}
-use Rattle.lane_deal.specs.Plain.{Feed}
-use Rattle.lane_deal.specs.declared.step.Step.TheVariants.{Blocked, End}
+use Rattle.lane_deal.specs.Plain.{Numbered}
+use Rattle.lane_deal.specs.declared.step.Step.{Step}
+use Rattle.lane_deal.specs.declared.step.Step.TheVariants.{Blocked, FullBatch, End}
 use Rattle.lane_deal.specs.Asking.{TakesUnits, as_refused, Asked, AskedInVain}
-use Rattle.lane_deal.specs.DealerSteps.{Asks, Next, NextInVain, Handles, Deals}
-use Rattle.lane_deal.specs.Feeds.{Dealt, in_lane}
+use Rattle.lane_deal.specs.DealerSteps.{Asks, Next, NextInVain, Handles, StopsDealing, Deals, DealsTo}
+use Rattle.lane_deal.specs.Feeds.{in_lane}
 use Rattle.lane_deal.specs.Kept.{to_deal}
 use Rattle.peer_tables.specs.Numbers.{NumbersPeer, number_in}
 use Rattle.lane_deal.specs.Numbers.{with_number, numbered}
 use Rattle.lane_deal.proofs.Asking.{TakesUnits-none, TakesUnits-more, front_from_takes, front_more, all_more_given, behind_more}
-use Rattle.lane_deal.proofs.Deals.{Dealt-append, Dealt-same, Dealt-none}
 use Rattle.lane_deal.proofs.Numbering.{unlisted}
 use Rattle.peer_tables.proofs.PeerPositions.{listed_now, peer_itself, first_position}
 use Rattle.lane_deal.proofs.Peers.{is_seen, new_peer, peers_of-append, listed_peer, all_more}
@@ -178,15 +178,19 @@ module _ {D : Type 0} where
       }
 
   -- so far
-  pub record SoFar (lane_of : ℕ → ℕ) (f f' : List Feed) (old new : Dealer D) (u : UnitsState) (k : Known) (u' : UnitsState) (k' : Known) (count : ℕ) : Type 0 where
+  pub record SoFar (old new : Dealer D) (u : UnitsState) (k : Known) (u' : UnitsState) (k' : Known) (count : ℕ) : Type 0 where
     pub given : List Found
     pub done : List Found
     pub takes : TakesUnits u k u' k' given
-    pub handles : Handles lane_of f f' old new given done
+    pub handles : Handles old new given done
     pub count_is : length (filter_map unit_of done) ≡ count
 
-  pub SoFar-none : (lane_of : ℕ → ℕ) (f : List Feed) (old : Dealer D) (u : UnitsState) (k : Known) → old.dealt ≡ min (old.dealt + 0) (2 ^ 64 - 1) → SoFar lane_of f f old old u k u k 0
-  SoFar-none lane_of f old u k bound =
+  -- the units that were dealt so far, with their numbers
+  abbrev pub dealt_so_far : {old new : Dealer D} {u u' : UnitsState} {k k' : Known} {count : ℕ} → SoFar old new u k u' k' count → List Numbered
+  dealt_so_far {old} {new} s = numbered new.peers (filter_map unit_of s.done)
+
+  pub SoFar-none : (old : Dealer D) (u : UnitsState) (k : Known) → old.dealt ≡ min (old.dealt + 0) (2 ^ 64 - 1) → SoFar old old u k u k 0
+  SoFar-none old u k bound =
       record {
         given = [];
         done = [];
@@ -197,14 +201,13 @@ module _ {D : Type 0} where
               order = refl;
               refused = sym (append-nil old.refused.items);
               counted = bound;
-              pushed = Dealt-none lane_of f;
               listed = tt;
               keys = λ before h. h ∙ ap (λ l. peers_of (l ++ option_to_list old.kept)) (sym (append-nil before));
             };
         count_is = refl;
       }
 
-  module _ (lane_of : ℕ → ℕ) (f f₁ f₂ : List Feed) (old mid new : Dealer D) (given done more : List Found) (listed : List Damage) (p : Handles lane_of f f₁ old mid given done) (refused : new.refused.items ≡ mid.refused.items ++ listed) (dealing : new.dealing ≡ mid.dealing) where
+  module _ (old mid new : Dealer D) (given done more : List Found) (listed : List Damage) (p : Handles old mid given done) (refused : new.refused.items ≡ mid.refused.items ++ listed) (dealing : new.dealing ≡ mid.dealing) where
     units_then : (rest : List Found) → filter_map unit_of (done ++ (as_refused listed ++ rest)) ≡ filter_map unit_of done ++ filter_map unit_of rest
     units_then rest =
         filter_map-append unit_of done (as_refused listed ++ rest)
@@ -232,9 +235,21 @@ module _ {D : Type 0} where
       item_is : record { number = n; unit = unit } ≡ with_number new.peers unit
       item_is = ap (λ m. record { number = m; unit = unit }) number.number_is
 
+      -- one item more was dealt
+      pub items_then : numbered new.peers (filter_map unit_of (done ++ (as_refused listed ++ found.Unit unit ∷ []))) ≡ numbered mid.peers (filter_map unit_of done) ++ record { number = n; unit = unit } ∷ []
+      items_then =
+          ap (numbered new.peers) (units_then (found.Unit unit ∷ []))
+          ∙ (map-append (with_number new.peers) (filter_map unit_of done) (unit ∷ [])
+          ∙ (ap (λ l. l ++ with_number new.peers unit ∷ []) numbers_still
+          ∙ ap (λ i. numbered mid.peers (filter_map unit_of done) ++ i ∷ []) (sym item_is)))
+
+      -- none was
+      pub items_still : numbered new.peers (filter_map unit_of (done ++ (as_refused listed ++ []))) ≡ numbered mid.peers (filter_map unit_of done)
+      items_still = ap (numbered new.peers) (units_then [] ∙ append-nil _) ∙ numbers_still
+
       -- the unit was dealt
-      pub Handles-dealt : new.kept ≡ None → new.dealt ≡ min (mid.dealt + 1) (2 ^ 64 - 1) → Dealt lane_of f₁ f₂ (record { number = n; unit = unit } ∷ []) → Handles lane_of f f₂ old new (given ++ more) (done ++ (as_refused listed ++ found.Unit unit ∷ []))
-      Handles-dealt none counted q =
+      pub Handles-dealt : new.kept ≡ None → new.dealt ≡ min (mid.dealt + 1) (2 ^ 64 - 1) → Handles old new (given ++ more) (done ++ (as_refused listed ++ found.Unit unit ∷ []))
+      Handles-dealt none counted =
           let units : filter_map unit_of (done ++ (as_refused listed ++ found.Unit unit ∷ [])) ≡ filter_map unit_of done ++ unit ∷ [] = units_then (found.Unit unit ∷ []) in
           record {
             dealing = dealing ∙ p.dealing;
@@ -244,11 +259,6 @@ module _ {D : Type 0} where
                 ∙ sym (append-nil _) ∙ ap (λ o. (done ++ (as_refused listed ++ found.Unit unit ∷ [])) ++ to_deal o []) (sym none);
             refused = damage_then (found.Unit unit ∷ []) refl;
             counted = (let n = ap length units ∙ length-append (filter_map unit_of done) (unit ∷ []) in let m = p.counted in omega arith);
-            pushed =
-                subst (λ l. Dealt lane_of f f₂ (numbered new.peers l)) (sym units)
-                (subst (Dealt lane_of f f₂) (sym (map-append (with_number new.peers) (filter_map unit_of done) (unit ∷ [])))
-                (Dealt-append lane_of f f₁ f₂ (numbered new.peers (filter_map unit_of done)) (with_number new.peers unit ∷ [])
-                (subst (Dealt lane_of f f₁) (sym numbers_still) p.pushed) (subst (λ i. Dealt lane_of f₁ f₂ (i ∷ [])) item_is q)));
             listed =
                 subst (AreListed new.peers) (sym units)
                 (all_push (λ u. list_any (peer_eq u.peer) new.peers ≡ true) (filter_map unit_of done) (unit ∷ []) listed_still (listed_now mid.peers new.peers unit.peer n number, tt));
@@ -258,8 +268,8 @@ module _ {D : Type 0} where
           }
 
       -- the unit came back
-      pub Handles-blocked : new.kept ≡ Some unit → new.dealt ≡ mid.dealt → Dealt lane_of f₁ f₂ [] → Handles lane_of f f₂ old new (given ++ more) (done ++ (as_refused listed ++ []))
-      Handles-blocked kept counted q =
+      pub Handles-blocked : new.kept ≡ Some unit → new.dealt ≡ mid.dealt → Handles old new (given ++ more) (done ++ (as_refused listed ++ []))
+      Handles-blocked kept counted =
           let units : filter_map unit_of (done ++ (as_refused listed ++ [])) ≡ filter_map unit_of done = units_then [] ∙ append-nil _ in
           record {
             dealing = dealing ∙ p.dealing;
@@ -269,9 +279,6 @@ module _ {D : Type 0} where
                 ∙ ap (λ o. (done ++ (as_refused listed ++ [])) ++ to_deal o []) (sym kept);
             refused = damage_then [] refl;
             counted = counted ∙ p.counted ∙ ap (λ l. min (old.dealt + length l) (2 ^ 64 - 1)) (sym units);
-            pushed =
-                subst (λ l. Dealt lane_of f f₂ (numbered new.peers l)) (sym units)
-                (Dealt-same lane_of f f₁ f₂ (numbered new.peers (filter_map unit_of done)) (subst (Dealt lane_of f f₁) (sym numbers_still) p.pushed) q);
             listed = subst (AreListed new.peers) (sym units) listed_still;
             keys = λ before h.
                 keys_step (before ++ filter_map unit_of done) mid.kept more listed unit mid.peers new.peers n (p.keys before h) order number
@@ -279,7 +286,7 @@ module _ {D : Type 0} where
           }
 
     -- no unit came
-    pub Handles-none : to_deal mid.kept more ≡ as_refused listed → new.kept ≡ None → new.dealt ≡ mid.dealt → new.peers ≡ mid.peers → Handles lane_of f f₁ old new (given ++ more) (done ++ (as_refused listed ++ []))
+    pub Handles-none : to_deal mid.kept more ≡ as_refused listed → new.kept ≡ None → new.dealt ≡ mid.dealt → new.peers ≡ mid.peers → Handles old new (given ++ more) (done ++ (as_refused listed ++ []))
     Handles-none order none counted peers =
         let units : filter_map unit_of (done ++ (as_refused listed ++ [])) ≡ filter_map unit_of done = units_then [] ∙ append-nil _ in
         let before_none : mid.kept ≡ None = none_kept mid.kept more listed order in
@@ -291,99 +298,202 @@ module _ {D : Type 0} where
               ∙ sym (append-nil _) ∙ ap (λ o. (done ++ (as_refused listed ++ [])) ++ to_deal o []) (sym none);
           refused = damage_then [] refl;
           counted = counted ∙ p.counted ∙ ap (λ l. min (old.dealt + length l) (2 ^ 64 - 1)) (sym units);
-          pushed = subst (λ l. Dealt lane_of f f₁ (numbered l (filter_map unit_of (done ++ (as_refused listed ++ []))))) (sym keys) (subst (λ l. Dealt lane_of f f₁ (numbered mid.peers l)) (sym units) p.pushed);
           listed = subst (λ l. AreListed l (filter_map unit_of (done ++ (as_refused listed ++ [])))) (sym keys) (subst (AreListed mid.peers) (sym units) p.listed);
           keys = λ before h.
               keys ∙ p.keys before h ∙ ap (λ l. peers_of ((before ++ l) ++ option_to_list mid.kept)) (sym units)
               ∙ ap (λ o. peers_of ((before ++ filter_map unit_of (done ++ (as_refused listed ++ []))) ++ option_to_list o)) (before_none ∙ sym none);
         }
 
-  module _ (lane_of : ℕ → ℕ) (f f₁ f₂ : List Feed) (old mid asked new : Dealer D) (u u₁ u₂ : UnitsState) (k k₁ k₂ : Known) (count : ℕ) (s : SoFar lane_of f f₁ old mid u k u₁ k₁ count) where
-    -- one unit more
-    pub SoFar-more : (unit : ReplayUnit) (n : ℕ) → Next mid asked u₁ k₁ u₂ k₂ (Some unit) → NumbersPeer asked.peers new.peers unit.peer n → new.dealing ≡ asked.dealing → new.kept ≡ asked.kept → new.refused ≡ asked.refused → new.dealt ≡ min (asked.dealt + 1) (2 ^ 64 - 1)
-        → Dealt lane_of f₁ f₂ (record { number = n; unit = unit } ∷ []) → SoFar lane_of f f₂ old new u k u₂ k₂ (count + 1)
-    SoFar-more unit n next number dealing kept refused counted q =
-        let keys : asked.peers ≡ mid.peers = next.asks.peers in
-        let number' : NumbersPeer mid.peers new.peers unit.peer n = subst (λ l. NumbersPeer l new.peers unit.peer n) keys number in
-        let listing : new.refused.items ≡ mid.refused.items ++ next.listed = ap (λ o. o.items) refused ∙ next.refused in
-        record {
-          given = s.given ++ next.given;
-          done = s.done ++ (as_refused next.listed ++ found.Unit unit ∷ []);
-          takes = TakesUnits-more u u₁ u₂ k k₁ k₂ s.given next.given s.takes next.takes;
-          handles = Handles-dealt lane_of f f₁ f₂ old mid new s.given s.done next.given next.listed s.handles listing (dealing ∙ next.asks.dealing) unit n next.order number' (kept ∙ next.asks.kept) (counted ∙ ap (λ m. min (m + 1) (2 ^ 64 - 1)) next.asks.dealt) q;
-          count_is =
-              ap length (units_then lane_of f f₁ f₂ old mid new s.given s.done next.given next.listed s.handles listing (dealing ∙ next.asks.dealing) (found.Unit unit ∷ []))
-              ∙ length-append (filter_map unit_of s.done) (unit ∷ []) ∙ ap (λ m. m + 1) s.count_is;
-        }
+    -- the items that were dealt are the same where no unit came
+    pub items_kept : new.peers ≡ mid.peers → numbered new.peers (filter_map unit_of (done ++ (as_refused listed ++ []))) ≡ numbered mid.peers (filter_map unit_of done)
+    items_kept peers = ap (numbered new.peers) (units_then [] ∙ append-nil _) ∙ ap (λ (l : List PeerKey). numbered l (filter_map unit_of done)) peers
 
-    -- the unit came back
-    pub Deals-blocked : (batch : ℕ) → count ≤ batch → (unit back : ReplayUnit) (n lane : ℕ) → Next mid asked u₁ k₁ u₂ k₂ (Some unit) → NumbersPeer asked.peers new.peers unit.peer n → new.dealing ≡ asked.dealing → new.kept ≡ Some back → back ≡ unit → new.refused ≡ asked.refused → new.dealt ≡ asked.dealt
-        → lane_of n ≡ lane → lane < length f → Dealt lane_of f₁ f₂ [] → ((d : Feed) → known_free (slice_index_or f₁ lane d).producer ≡ 0) → Deals lane_of batch f f₂ old new u k u₂ k₂ (Ok Blocked)
-    Deals-blocked batch within unit back n lane next number dealing kept same refused counted at below q full =
-        let keys : asked.peers ≡ mid.peers = next.asks.peers in
-        let number' : NumbersPeer mid.peers new.peers unit.peer n = subst (λ l. NumbersPeer l new.peers unit.peer n) keys number in
-        let listing : new.refused.items ≡ mid.refused.items ++ next.listed = ap (λ o. o.items) refused ∙ next.refused in
-        let kept' : new.kept ≡ Some unit = kept ∙ ap (λ v. Some v) same in
-        let h = Handles-blocked lane_of f f₁ f₂ old mid new s.given s.done next.given next.listed s.handles listing (dealing ∙ next.asks.dealing) unit n next.order number' kept' (counted ∙ next.asks.dealt) q in
-        let takes = TakesUnits-more u u₁ u₂ k k₁ k₂ s.given next.given s.takes next.takes in
-        let units : filter_map unit_of (s.done ++ (as_refused next.listed ++ [])) ≡ filter_map unit_of s.done =
-        units_then lane_of f f₁ f₂ old mid new s.given s.done next.given next.listed s.handles listing (dealing ∙ next.asks.dealing) [] ∙ append-nil _ in
-        let still = numbers_still lane_of f f₁ f₂ old mid new s.given s.done next.given next.listed s.handles listing (dealing ∙ next.asks.dealing) unit n next.order number' in
-        let items : numbered new.peers (filter_map unit_of (s.done ++ (as_refused next.listed ++ []))) ≡ numbered mid.peers (filter_map unit_of s.done) = ap (numbered new.peers) units ∙ still in
-        let lane_is : lane_of (number_in new.peers unit.peer) ≡ lane = ap lane_of (sym number'.number_is) ∙ at in
-        record {
-          given = s.given ++ next.given;
-          done = s.done ++ (as_refused next.listed ++ []);
-          gives = front_from_takes u u₂ k k₂ (s.given ++ next.given) takes;
-          takes = takes;
-          handles = h;
-          few = (let n = ap length units in let m = s.count_is in omega arith);
-          stops =
-              record {
-                unit = unit;
-                kept = kept';
-                full = λ d.
-                    subst (λ m. known_free (slice_index_or f m d).producer ≤ length (in_lane lane_of m (numbered new.peers (filter_map unit_of (s.done ++ (as_refused next.listed ++ [])))))) (sym lane_is)
-                    (subst (λ l. known_free (slice_index_or f lane d).producer ≤ length (in_lane lane_of lane l)) (sym items)
-                    (let room = (s.handles.pushed.each lane d below).free in let none = full d in omega arith));
-              };
-          nothing_kept = tt;
-          behind = tt;
-        }
+  module _ (old mid asked new : Dealer D) (u u₁ u₂ : UnitsState) (k k₁ k₂ : Known) (count : ℕ) (s : SoFar old mid u k u₁ k₁ count) where
+    -- one unit more
+    module _ (unit : ReplayUnit) (n : ℕ) (next : Next mid asked u₁ k₁ u₂ k₂ (Some unit)) (number : NumbersPeer asked.peers new.peers unit.peer n) (dealing : new.dealing ≡ asked.dealing) (refused : new.refused ≡ asked.refused) where
+      numbers : NumbersPeer mid.peers new.peers unit.peer n
+      numbers = subst (λ l. NumbersPeer l new.peers unit.peer n) next.asks.peers number
+
+      listing : new.refused.items ≡ mid.refused.items ++ next.listed
+      listing = ap (λ o. o.items) refused ∙ next.refused
+
+      pub SoFar-more : new.kept ≡ asked.kept → new.dealt ≡ min (asked.dealt + 1) (2 ^ 64 - 1) → SoFar old new u k u₂ k₂ (count + 1)
+      SoFar-more kept counted =
+          record {
+            given = s.given ++ next.given;
+            done = s.done ++ (as_refused next.listed ++ found.Unit unit ∷ []);
+            takes = TakesUnits-more u u₁ u₂ k k₁ k₂ s.given next.given s.takes next.takes;
+            handles = Handles-dealt old mid new s.given s.done next.given next.listed s.handles listing (dealing ∙ next.asks.dealing) unit n next.order numbers (kept ∙ next.asks.kept) (counted ∙ ap (λ m. min (m + 1) (2 ^ 64 - 1)) next.asks.dealt);
+            count_is =
+                ap length (units_then old mid new s.given s.done next.given next.listed s.handles listing (dealing ∙ next.asks.dealing) (found.Unit unit ∷ []))
+                ∙ length-append (filter_map unit_of s.done) (unit ∷ []) ∙ ap (λ m. m + 1) s.count_is;
+          }
+
+      -- its items
+      pub items_more : (kept : new.kept ≡ asked.kept) (counted : new.dealt ≡ min (asked.dealt + 1) (2 ^ 64 - 1)) → dealt_so_far (SoFar-more kept counted) ≡ dealt_so_far s ++ record { number = n; unit = unit } ∷ []
+      unfolding SoFar-more
+      items_more kept counted = items_then old mid new s.given s.done next.given next.listed s.handles listing (dealing ∙ next.asks.dealing) unit n next.order numbers
+
+      -- the unit came back
+      module _ (lane_of room room₁ : ℕ → ℕ) (batch lane : ℕ) (within : count ≤ batch) (back : ReplayUnit) (kept : new.kept ≡ Some back) (same : back ≡ unit) (counted : new.dealt ≡ asked.dealt) (at : lane_of n ≡ lane) (spent : room lane ≤ room₁ lane + length (in_lane lane_of lane (dealt_so_far s))) (full : room₁ lane ≡ 0) where
+        items_before : numbered new.peers (filter_map unit_of (s.done ++ (as_refused next.listed ++ []))) ≡ dealt_so_far s
+        items_before = items_still old mid new s.given s.done next.given next.listed s.handles listing (dealing ∙ next.asks.dealing) unit n next.order numbers
+
+        pub Deals-blocked : Deals lane_of batch room old new u k u₂ k₂ (Ok Blocked)
+        Deals-blocked =
+            let kept' : new.kept ≡ Some unit = kept ∙ ap (λ v. Some v) same in
+            let takes = TakesUnits-more u u₁ u₂ k k₁ k₂ s.given next.given s.takes next.takes in
+            let units : filter_map unit_of (s.done ++ (as_refused next.listed ++ [])) ≡ filter_map unit_of s.done =
+            units_then old mid new s.given s.done next.given next.listed s.handles listing (dealing ∙ next.asks.dealing) [] ∙ append-nil _ in
+            let lane_is : lane_of (number_in new.peers unit.peer) ≡ lane = ap lane_of (sym numbers.number_is) ∙ at in
+            record {
+              given = s.given ++ next.given;
+              done = s.done ++ (as_refused next.listed ++ []);
+              gives = front_from_takes u u₂ k k₂ (s.given ++ next.given) takes;
+              takes = takes;
+              handles = Handles-blocked old mid new s.given s.done next.given next.listed s.handles listing (dealing ∙ next.asks.dealing) unit n next.order numbers kept' (counted ∙ next.asks.dealt);
+              few = (let n = ap length units in let m = s.count_is in omega arith);
+              stops =
+                  record {
+                    unit = unit;
+                    kept = kept';
+                    full =
+                        subst (λ m. room m ≤ length (in_lane lane_of m (numbered new.peers (filter_map unit_of (s.done ++ (as_refused next.listed ++ [])))))) (sym lane_is)
+                        (subst (λ l. room lane ≤ length (in_lane lane_of lane l)) (sym items_before) (omega (arith, spent, full)));
+                  };
+              nothing_kept = tt;
+              behind = tt;
+            }
+
+        pub items_blocked : numbered new.peers (filter_map unit_of Deals-blocked.done) ≡ dealt_so_far s
+        unfolding Deals-blocked
+        items_blocked = items_before
 
     -- no more than so many were dealt
     few_then : {batch : ℕ} → count ≤ batch → (listed : List Damage) (more : List Found) → new.refused.items ≡ mid.refused.items ++ listed → new.dealing ≡ mid.dealing → length (filter_map unit_of (s.done ++ (as_refused listed ++ []))) ≤ batch
     few_then within listed more refused dealing =
-        let n = ap length (units_then lane_of f f₁ f₁ old mid new s.given s.done more listed s.handles refused dealing [] ∙ append-nil (filter_map unit_of s.done)) in
+        let n = ap length (units_then old mid new s.given s.done more listed s.handles refused dealing [] ∙ append-nil (filter_map unit_of s.done)) in
         let m = s.count_is in omega arith
 
     -- the files ended
-    pub Deals-end : (batch : ℕ) → count ≤ batch → Next mid new u₁ k₁ u₂ k₂ None → Deals lane_of batch f f₁ old new u k u₂ k₂ (Ok End)
-    Deals-end batch within next =
-        let takes = TakesUnits-more u u₁ u₂ k k₁ k₂ s.given next.given s.takes next.takes in
-        record {
-          given = s.given ++ next.given;
-          done = s.done ++ (as_refused next.listed ++ []);
-          gives = front_from_takes u u₂ k k₂ (s.given ++ next.given) takes;
-          takes = takes;
-          handles = Handles-none lane_of f f₁ f₁ old mid new s.given s.done next.given next.listed s.handles next.refused next.asks.dealing (next.order ∙ append-nil _) next.asks.kept next.asks.dealt next.asks.peers;
-          few = few_then within next.listed next.given next.refused next.asks.dealing;
-          stops = (next.asks.kept, all_more_given u u₁ k k₁ s.given next.given s.takes (next.ended refl));
-          nothing_kept = tt;
-          behind = tt;
-        }
+    module _ (lane_of room : ℕ → ℕ) (batch : ℕ) (within : count ≤ batch) (next : Next mid new u₁ k₁ u₂ k₂ None) where
+      pub Deals-end : Deals lane_of batch room old new u k u₂ k₂ (Ok End)
+      Deals-end =
+          let takes = TakesUnits-more u u₁ u₂ k k₁ k₂ s.given next.given s.takes next.takes in
+          record {
+            given = s.given ++ next.given;
+            done = s.done ++ (as_refused next.listed ++ []);
+            gives = front_from_takes u u₂ k k₂ (s.given ++ next.given) takes;
+            takes = takes;
+            handles = Handles-none old mid new s.given s.done next.given next.listed s.handles next.refused next.asks.dealing (next.order ∙ append-nil _) next.asks.kept next.asks.dealt next.asks.peers;
+            few = few_then within next.listed next.given next.refused next.asks.dealing;
+            stops = (next.asks.kept, all_more_given u u₁ k k₁ s.given next.given s.takes (next.ended refl));
+            nothing_kept = tt;
+            behind = tt;
+          }
+
+      pub items_end : numbered new.peers (filter_map unit_of Deals-end.done) ≡ dealt_so_far s
+      unfolding Deals-end
+      items_end = items_kept old mid new s.given s.done next.given next.listed s.handles next.refused next.asks.dealing next.asks.peers
 
     -- a read failed
-    pub Deals-failed : (batch : ℕ) (error : ReplayError) → count ≤ batch → NextInVain mid new u₁ k₁ u₂ k₂ → Deals lane_of batch f f₁ old new u k u₂ k₂ (Err error)
-    Deals-failed batch error within next =
-        record {
-          given = s.given ++ next.given;
-          done = s.done ++ (as_refused next.listed ++ []);
-          gives = front_more u u₁ k k₁ s.given next.given s.takes next.gives;
-          takes = tt;
-          handles = Handles-none lane_of f f₁ f₁ old mid new s.given s.done next.given next.listed s.handles next.refused next.asks.dealing next.order next.asks.kept next.asks.dealt next.asks.peers;
-          few = few_then within next.listed next.given next.refused next.asks.dealing;
-          stops = tt;
-          nothing_kept = next.asks.kept;
-          behind = behind_more u u₁ u₂ k k₁ k₂ s.given next.given s.takes next.behind;
-        }
+    module _ (lane_of room : ℕ → ℕ) (batch : ℕ) (error : ReplayError) (within : count ≤ batch) (next : NextInVain mid new u₁ k₁ u₂ k₂) where
+      pub Deals-failed : Deals lane_of batch room old new u k u₂ k₂ (Err error)
+      Deals-failed =
+          record {
+            given = s.given ++ next.given;
+            done = s.done ++ (as_refused next.listed ++ []);
+            gives = front_more u u₁ k k₁ s.given next.given s.takes next.gives;
+            takes = tt;
+            handles = Handles-none old mid new s.given s.done next.given next.listed s.handles next.refused next.asks.dealing next.order next.asks.kept next.asks.dealt next.asks.peers;
+            few = few_then within next.listed next.given next.refused next.asks.dealing;
+            stops = tt;
+            nothing_kept = next.asks.kept;
+            behind = behind_more u u₁ u₂ k k₁ k₂ s.given next.given s.takes next.behind;
+          }
+
+      pub items_failed : numbered new.peers (filter_map unit_of Deals-failed.done) ≡ dealt_so_far s
+      unfolding Deals-failed
+      items_failed = items_kept old mid new s.given s.done next.given next.listed s.handles next.refused next.asks.dealing next.asks.peers
+
+  -- a batch is dealt
+  pub Deals-full : (lane_of room : ℕ → ℕ) (batch : ℕ) (old new : Dealer D) (u u' : UnitsState) (k k' : Known) (count : ℕ) → count ≡ batch → (s : SoFar old new u k u' k' count) → Deals lane_of batch room old new u k u' k' (Ok FullBatch)
+  Deals-full lane_of room batch old new u u' k k' count is s =
+      record {
+        given = s.given;
+        done = s.done;
+        gives = front_from_takes u u' k k' s.given s.takes;
+        takes = s.takes;
+        handles = s.handles;
+        few = (let n = s.count_is in omega (arith, is));
+        stops = s.count_is ∙ is;
+        nothing_kept = tt;
+        behind = tt;
+      }
+
+  -- where there is room for more than a batch, whatever room there is
+  unfoldable pub Deals-unblocked : (lane_of room : ℕ → ℕ) (batch most : ℕ) (old new : Dealer D) (u u' : UnitsState) (k k' : Known) (result : Result Step ReplayError) → batch < most → Deals lane_of batch (λ _. most) old new u k u' k' result → Deals lane_of batch room old new u k u' k' result
+  Deals-unblocked lane_of room batch most old new u u' k k' result below p =
+      record { given = p.given; done = p.done; gives = p.gives; takes = p.takes; handles = p.handles; few = p.few; stops = stops result p.stops; nothing_kept = p.nothing_kept; behind = p.behind }
+    where
+      stops : (r : Result Step ReplayError) → IfOk r (StopsDealing lane_of batch (λ _. most) new u k p.given (filter_map unit_of p.done)) → IfOk r (StopsDealing lane_of batch room new u k p.given (filter_map unit_of p.done))
+      stops (Ok Blocked) h =
+          let lane = lane_of (number_in new.peers h.unit.peer) in
+          let dealt = numbered new.peers (filter_map unit_of p.done) in
+          absurd (let f = h.full in let n = length-filter (λ item. eqb (lane_of item.number) lane) dealt in let c = count_by-le-length (λ item. eqb (lane_of item.number) lane) dealt in let m = length-map (filter_map unit_of p.done) (with_number new.peers) in let few = p.few in omega arith)
+      stops (Ok FullBatch) h = h
+      stops (Ok End) h = h
+      stops (Err e) h = tt
+
+  -- the same, told of what is received otherwise
+  pub DealsTo-as : {K L : Type 0} (gets : K → K → List Numbered → Type 0) (gets' : L → L → List Numbered → Type 0) (lane_of room : ℕ → ℕ) (batch : ℕ) (to to' : K) (s s' : L) (old new : Dealer D) (u u' : UnitsState) (k k' : Known) (result : Result Step ReplayError) → ((items : List Numbered) → gets to to' items → gets' s s' items) → DealsTo gets lane_of batch room to to' old new u k u' k' result → DealsTo gets' lane_of batch room s s' old new u k u' k' result
+  DealsTo-as gets gets' lane_of room batch to to' s s' old new u u' k k' result f p = record { deals = p.deals; received = f _ p.received }
+
+  module _ {K : Type 0} (gets : K → K → List Numbered → Type 0) where
+    -- so far, with what was dealt received
+    pub record SoFarTo (to to' : K) (old new : Dealer D) (u : UnitsState) (k : Known) (u' : UnitsState) (k' : Known) (count : ℕ) : Type 0 where
+      pub far : SoFar old new u k u' k' count
+      pub received : gets to to' (dealt_so_far far)
+
+    pub SoFarTo-none : (to : K) (old : Dealer D) (u : UnitsState) (k : Known) → old.dealt ≡ min (old.dealt + 0) (2 ^ 64 - 1) → gets to to [] → SoFarTo to to old old u k u k 0
+    unfolding SoFar-none
+    SoFarTo-none to old u k bound nothing = record { far = SoFar-none old u k bound; received = nothing }
+
+    module _ (joined : (a b c : K) (xs ys : List Numbered) → gets a b xs → gets b c ys → gets a c (xs ++ ys)) (to to₁ to₂ : K) (old mid asked new : Dealer D) (u u₁ u₂ : UnitsState) (k k₁ k₂ : Known) (count : ℕ) (s : SoFarTo to to₁ old mid u k u₁ k₁ count) where
+      pub SoFarTo-more : (unit : ReplayUnit) (n : ℕ) → Next mid asked u₁ k₁ u₂ k₂ (Some unit) → NumbersPeer asked.peers new.peers unit.peer n → new.dealing ≡ asked.dealing → new.kept ≡ asked.kept → new.refused ≡ asked.refused → new.dealt ≡ min (asked.dealt + 1) (2 ^ 64 - 1)
+          → gets to₁ to₂ (record { number = n; unit = unit } ∷ []) → SoFarTo to to₂ old new u k u₂ k₂ (count + 1)
+      SoFarTo-more unit n next number dealing kept refused counted q =
+          record {
+            far = SoFar-more old mid asked new u u₁ u₂ k k₁ k₂ count s.far unit n next number dealing refused kept counted;
+            received =
+                subst (gets to to₂) (sym (items_more old mid asked new u u₁ u₂ k k₁ k₂ count s.far unit n next number dealing refused kept counted))
+                (joined to to₁ to₂ (dealt_so_far s.far) (record { number = n; unit = unit } ∷ []) s.received q);
+          }
+
+      pub DealsTo-blocked : (lane_of room room₁ : ℕ → ℕ) (batch : ℕ) → count ≤ batch → (unit back : ReplayUnit) (n lane : ℕ) → Next mid asked u₁ k₁ u₂ k₂ (Some unit) → NumbersPeer asked.peers new.peers unit.peer n → new.dealing ≡ asked.dealing → new.kept ≡ Some back → back ≡ unit → new.refused ≡ asked.refused → new.dealt ≡ asked.dealt
+          → lane_of n ≡ lane → room lane ≤ room₁ lane + length (in_lane lane_of lane (dealt_so_far s.far)) → gets to₁ to₂ [] → room₁ lane ≡ 0 → DealsTo gets lane_of batch room to to₂ old new u k u₂ k₂ (Ok Blocked)
+      DealsTo-blocked lane_of room room₁ batch within unit back n lane next number dealing kept same refused counted at spent q full =
+          record {
+            deals = Deals-blocked old mid asked new u u₁ u₂ k k₁ k₂ count s.far unit n next number dealing refused lane_of room room₁ batch lane within back kept same counted at spent full;
+            received =
+                subst (gets to to₂) (sym (items_blocked old mid asked new u u₁ u₂ k k₁ k₂ count s.far unit n next number dealing refused lane_of room room₁ batch lane within back kept same counted at spent full))
+                (subst (gets to to₂) (append-nil (dealt_so_far s.far)) (joined to to₁ to₂ (dealt_so_far s.far) [] s.received q));
+          }
+
+      pub DealsTo-end : (lane_of room : ℕ → ℕ) (batch : ℕ) → count ≤ batch → Next mid new u₁ k₁ u₂ k₂ None → DealsTo gets lane_of batch room to to₁ old new u k u₂ k₂ (Ok End)
+      DealsTo-end lane_of room batch within next =
+          record {
+            deals = Deals-end old mid asked new u u₁ u₂ k k₁ k₂ count s.far lane_of room batch within next;
+            received = subst (gets to to₁) (sym (items_end old mid asked new u u₁ u₂ k k₁ k₂ count s.far lane_of room batch within next)) s.received;
+          }
+
+      pub DealsTo-failed : (lane_of room : ℕ → ℕ) (batch : ℕ) (error : ReplayError) → count ≤ batch → NextInVain mid new u₁ k₁ u₂ k₂ → DealsTo gets lane_of batch room to to₁ old new u k u₂ k₂ (Err error)
+      DealsTo-failed lane_of room batch error within next =
+          record {
+            deals = Deals-failed old mid asked new u u₁ u₂ k k₁ k₂ count s.far lane_of room batch error within next;
+            received = subst (gets to to₁) (sym (items_failed old mid asked new u u₁ u₂ k k₁ k₂ count s.far lane_of room batch error within next)) s.received;
+          }
+
+    pub DealsTo-full : (lane_of room : ℕ → ℕ) (batch : ℕ) (to to' : K) (old new : Dealer D) (u u' : UnitsState) (k k' : Known) (count : ℕ) → count ≡ batch → SoFarTo to to' old new u k u' k' count → DealsTo gets lane_of batch room to to' old new u k u' k' (Ok FullBatch)
+    unfolding Deals-full
+    DealsTo-full lane_of room batch to to' old new u u' k k' count is s = record { deals = Deals-full lane_of room batch old new u u' k k' count is s.far; received = s.received }

@@ -1,10 +1,11 @@
 -- What the dealer pushed, item by item.
-use Rattle.std.proofs.Common.{◌≡◌, ℕ, ◌<◌, List, [], ◌++◌, length, refl, sym, ap, ◌∙◌, append_assoc, subst, arith, length-append}
+use Rattle.std.proofs.Common.{◌≡◌, ℕ, zero, suc, ◌+◌, ◌<◌, ◌≤◌, List, [], ◌∷◌, ◌++◌, length, slice_index_or, set, refl, sym, ap, ◌∙◌, append_assoc, arith, length-append}
 use Rattle.std.proofs.lemmas.List.{append-nil}
 use Rattle.std.proofs.lemmas.List.Elements.{filter-append}
-use Rattle.lane_deal.specs.UnitRings.{sent}
+use Rattle.lane_deal.specs.UnitRings.{known_free, sent}
 use Rattle.lane_deal.specs.Plain.{Numbered, Feed}
-use Rattle.lane_deal.specs.Feeds.{Pushed, Dealt, in_lane}
+use Rattle.lane_deal.specs.Feeds.{Pushed, Dealt, in_lane, room_of}
+use Rattle.lane_deal.proofs.Batches.{some_item}
 
 pub Pushed-append : (a b c : Feed) (xs ys : List Numbered) → Pushed a b xs → Pushed b c ys → Pushed a c (xs ++ ys)
 Pushed-append a b c xs ys p q =
@@ -13,6 +14,18 @@ Pushed-append a b c xs ys p q =
       sent = q.sent ∙ (ap (λ s. s ++ ys) p.sent ∙ append_assoc (sent a.producer) xs ys);
       free = (let f = p.free in let h = q.free in omega (arith, length-append xs ys));
     }
+
+-- the room of a lane is that of its ring
+pub room_at : (feeds : List Feed) (lane : ℕ) (d : Feed) → lane < length feeds → room_of feeds lane ≡ known_free (slice_index_or feeds lane d).producer
+room_at [] lane d l = absurd (omega arith)
+room_at (feed ∷ feeds) zero d l = refl
+room_at (feed ∷ feeds) (suc lane) d l = room_at feeds lane d (omega arith)
+
+-- a lane that is set has the room of its ring
+pub room_set : (feeds : List Feed) (lane : ℕ) (feed : Feed) → lane < length feeds → room_of (set feeds lane feed) lane ≡ known_free feed.producer
+room_set [] lane feed l = absurd (omega arith)
+room_set (first ∷ feeds) zero feed l = refl
+room_set (first ∷ feeds) (suc lane) feed l = room_set feeds lane feed (omega arith)
 
 module _ (lane_of : ℕ → ℕ) where
   pub in_lane-append : (lane : ℕ) (xs ys : List Numbered) → in_lane lane_of lane (xs ++ ys) ≡ in_lane lane_of lane xs ++ in_lane lane_of lane ys
@@ -28,8 +41,13 @@ module _ (lane_of : ℕ → ℕ) where
             rw (in_lane-append lane xs ys) (Pushed-append _ _ _ _ _ (p.each lane d l) (q.each lane d l'));
       }
 
-  pub Dealt-same : (a b c : List Feed) (xs : List Numbered) → Dealt lane_of a b xs → Dealt lane_of b c [] → Dealt lane_of a c xs
-  Dealt-same a b c xs p q = let P : List Numbered → Type 0 = Dealt lane_of a c in subst P (append-nil xs) (Dealt-append a b c xs [] p q)
-
   pub Dealt-none : (a : List Feed) → Dealt lane_of a a []
   Dealt-none a = record { lanes = refl; each = λ lane d l. record { ring = ((refl, refl, refl, refl), refl); sent = sym (append-nil _); free = omega arith } }
+
+  -- what was received took no more room than it counts
+  pub Dealt-room : (a b : List Feed) (xs : List Numbered) (lane : ℕ) → lane < length a → Dealt lane_of a b xs → room_of a lane ≤ room_of b lane + length (in_lane lane_of lane xs)
+  Dealt-room a b xs lane l p =
+      let d = some_item a lane l in
+      let free = (p.each lane d l).free in
+      let before = room_at a lane d l in
+      let after = room_at b lane d (let n = p.lanes in omega arith) in omega (arith, free, before, after)

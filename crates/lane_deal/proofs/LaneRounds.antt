@@ -1,15 +1,22 @@
 -- What a round does to one lane, and to all.
-use Rattle.std.proofs.Common.{◌≡◌, ℕ, ◌<◌, ◌≤◌, List, [], ◌++◌, length, slice_index_or, sym, ap, ◌∙◌, subst, append_assoc, arith, length-append}
+use Rattle.std.proofs.Common.{◌≡◌, ℕ, zero, suc, ◌+◌, ◌<◌, ◌≤◌, cond, eqb, List, [], ◌∷◌, ◌++◌, refl, length, take, Option, Result, slice_index_or, sym, ap, ◌∙◌, subst, append_assoc, arith, length-append}
 use Rattle.std.specs.List.{AllZip}
 use Rattle.std.proofs.lemmas.List.Elements.{length_all_zip, AllZip-get_or}
-use Rattle.lane_deal.specs.UnitRings.{sent, received, known_items}
+use Rattle.lane_deal.specs.UnitRings.{ListConsumer, IsPair, sent, known_free, received, known_items, ring_capacity}
 use Rattle.lane_deal.specs.Plain.{Numbered, Feed, Worker}
-use Rattle.lane_deal.specs.Feeds.{in_lane, Pushed, Dealt}
-use Rattle.lane_deal.specs.LaneRounds.{Rounded}
-use Rattle.lane_deal.specs.LaneWorkers.{Worked}
+use Rattle.lane_deal.specs.Feeds.{in_lane, room_of, Pushed, Dealt}
+use Rattle.lane_deal.specs.LaneRounds.{Rounded, PlaysLanes}
+use Rattle.lane_deal.specs.LaneWorkers.{Takes, Worked}
 use Rattle.lane_deal.specs.LaneRings.{IsLane, IsReady, AreReady, LaneStands, LanesStand, Renewed, RenewedAll, Settled}
 use Rattle.lane_deal.proofs.Deals.{in_lane-append, Dealt-none}
+use Rattle.lane_deal.proofs.DealerLaws.{Deals-unblocked}
+use Rattle.mrt_frame.specs.declared.error.ReplayError.{ReplayError}
+use Rattle.mrt_body.specs.ToCome.{UnitsState}
+use Rattle.lane_deal.specs.Dealers.{Dealer}
+use Rattle.lane_deal.specs.DealerSteps.{DealsTo}
+use Rattle.lane_deal.specs.declared.step.Step.{Step}
 use Rattle.std.proofs.lemmas.List.{append-nil, nil_from_length}
+use Rattle.std.proofs.Math.Seq.{take-append_seam}
 
 module _ {S : Type 0} (stands_for : S → List Numbered → Type 0) (capacity : ℕ) where
   -- both ends still belong together once one half pushed and the other popped
@@ -98,3 +105,84 @@ module _ {S : Type 0} (stands_for : S → List Numbered → Type 0) (capacity : 
             λ e lane d l.
             nil_from_length _ (let t = lanes_taken (λ n. n) fs fs ws ws₁ [] ready (none (λ n. n)) worked fs₂ ws₂ renewed e lane d l in omega arith);
       }
+
+  -- ---- a single worker in the thread that deals
+
+  -- all items go to the only lane
+  pub in_only_lane : (lane_of : ℕ → ℕ) → ((number : ℕ) → lane_of number < 1) → (items : List Numbered) → in_lane lane_of 0 items ≡ items
+  in_only_lane lane_of below [] = refl
+  in_only_lane lane_of below (item ∷ items) =
+      let zero_is : lane_of item.number ≡ 0 = (let b = below item.number in omega arith) in
+      ap (λ n. cond (eqb n 0) (item ∷ in_lane lane_of 0 items) (in_lane lane_of 0 items)) zero_is ∙ ap (λ l. item ∷ l) (in_only_lane lane_of below items)
+
+  -- what was dealt is taken, where nothing waited
+  pub alone_stands : (f : Feed) (w w₁ : Worker S) (xs dealt : List Numbered) → sent f.producer ≡ [] → Takes stands_for w w₁ xs → LaneStands stands_for f w dealt → LaneStands stands_for f w₁ (dealt ++ xs)
+  alone_stands f w w₁ xs dealt empty q h =
+      record {
+        taken = h.taken ++ xs;
+        sessions = q.sessions h.taken h.sessions;
+        whole =
+            ap (λ l. (h.taken ++ xs) ++ l) empty ∙ (append-nil (h.taken ++ xs)
+            ∙ ap (λ l. l ++ xs) (sym (append-nil h.taken) ∙ (ap (λ l. h.taken ++ l) (sym empty) ∙ h.whole)));
+        counted = (let a = q.counted in let m = h.counted in let k = length-append h.taken xs in omega arith);
+      }
+
+  pub alone_ready : (capacity : ℕ) (f : Feed) (w w₁ : Worker S) → w₁.consumer ≡ w.consumer → IsReady capacity f w → IsReady capacity f w₁
+  alone_ready capacity f w w₁ same r =
+      let Q : ListConsumer → Type 0 = λ c. IsPair f.producer c × (ring_capacity f.producer ≡ capacity) × (received c ≡ []) × (known_items c ≡ sent f.producer) × (length (sent f.producer) ≤ capacity) × (known_free f.producer + length (sent f.producer) ≡ capacity) in
+      subst Q (sym same) r
+
+  -- a worker alone took what was dealt, once what waited had been taken
+  pub alone_rounded : (lane_of : ℕ → ℕ) (fs fs₁ : List Feed) (ws ws₁ rest : List (Worker S)) (w w₁ : Worker S) (items : List Numbered) → length fs ≡ 1 → ((number : ℕ) → lane_of number < 1) → Settled stands_for capacity fs ws fs₁ ws₁ → ws₁ ≡ rest ++ w ∷ [] → Takes stands_for w w₁ items
+      → Rounded stands_for lane_of capacity fs ws fs₁ (rest ++ w₁ ∷ []) items
+  alone_rounded lane_of fs fs₁ ws ws₁ rest w w₁ items one below s is took =
+      record { count = s.count; ready = (count, ready); stands = stands; taken = taken }
+    where
+      first : 0 < length fs₁
+      first = let c = s.count in omega arith
+
+      none : length rest ≡ 0
+      none = let c = s.count in let r = s.ready.0 in let n = ap length is in let m = length-append rest (w ∷ []) in omega arith
+
+      count : length (rest ++ w₁ ∷ []) ≡ length fs₁
+      count = let c = s.count in let n = none in let m = length-append rest (w₁ ∷ []) in omega arith
+
+      at : (e v : Worker S) → slice_index_or (rest ++ v ∷ []) 0 e ≡ v
+      at e v = ap (λ l. slice_index_or (l ++ v ∷ []) 0 e) (nil_from_length rest none)
+
+      takes : (e : Worker S) → Takes stands_for (slice_index_or ws₁ 0 e) (slice_index_or (rest ++ w₁ ∷ []) 0 e) items
+      takes e =
+          let P : Worker S → Type 0 = λ v. Takes stands_for v (slice_index_or (rest ++ w₁ ∷ []) 0 e) items in
+          subst P (sym (ap (λ l. slice_index_or l 0 e) is ∙ at e w)) (subst (λ v. Takes stands_for w v items) (sym (at e w₁)) took)
+
+      ready : (lane : ℕ) (d : Feed) (e : Worker S) → lane < length fs₁ → IsReady capacity (slice_index_or fs₁ lane d) (slice_index_or (rest ++ w₁ ∷ []) lane e)
+      ready zero d e l = alone_ready capacity (slice_index_or fs₁ 0 d) (slice_index_or ws₁ 0 e) (slice_index_or (rest ++ w₁ ∷ []) 0 e) (takes e).ring (s.ready.1 0 d e first)
+      ready (suc lane) d e l = absurd (let c = s.count in omega arith)
+
+      stands : (dealt : List Numbered) → LanesStand stands_for lane_of fs ws dealt → LanesStand stands_for lane_of fs₁ (rest ++ w₁ ∷ []) (dealt ++ items)
+      stands dealt h zero d e l =
+          rw (in_lane-append lane_of 0 dealt items, in_only_lane lane_of below items)
+          (alone_stands (slice_index_or fs₁ 0 d) (slice_index_or ws₁ 0 e) (slice_index_or (rest ++ w₁ ∷ []) 0 e) items (in_lane lane_of 0 dealt) (s.empty e 0 d (omega (arith, one))) (takes e) (s.stands lane_of dealt h 0 d e first))
+      stands dealt h (suc lane) d e l = absurd (let c = s.count in omega arith)
+
+      taken : Worker S → (lane : ℕ) (d : Feed) → lane < length fs → length (sent (slice_index_or fs₁ lane d).producer) ≤ length (in_lane lane_of lane items)
+      taken e zero d l = (let empty = ap length (s.empty e 0 d l) in omega arith)
+      taken e (suc lane) d l = absurd (omega arith)
+
+  -- what a dealer did in the round, and that the worker alone took it
+  pub alone_plays : {D K : Type 0} (gets : K → K → List Numbered → Type 0) (lane_of : ℕ → ℕ) (batch most : ℕ) (to to' : K) (fs fs₁ : List Feed) (ws ws₁ rest : List (Worker S)) (w w₁ : Worker S) (old new : Dealer D) (u u' : UnitsState) (k k' : List (Option (List ℕ))) (result : Result Step ReplayError) → batch < most → length fs ≡ 1 → ((number : ℕ) → lane_of number < 1)
+      → Settled stands_for capacity fs ws fs₁ ws₁ → ws₁ ≡ rest ++ w ∷ [] → ((items : List Numbered) → gets to to' items → Takes stands_for w w₁ items) → DealsTo gets lane_of batch (λ _. most) to to' old new u k u' k' result → PlaysLanes stands_for lane_of capacity batch fs ws fs₁ (rest ++ w₁ ∷ []) old new u k u' k' result
+  unfolding Deals-unblocked
+  alone_plays gets lane_of batch most to to' fs fs₁ ws ws₁ rest w w₁ old new u u' k k' result few one below s is took p =
+      record { deals = Deals-unblocked lane_of (room_of fs) batch most old new u u' k k' result few p.deals; rounded = alone_rounded lane_of fs fs₁ ws ws₁ rest w w₁ _ one below s is (took _ p.received) }
+
+-- a round of as many lanes, said of the lists that were written back
+pub PlaysLanes-as : {S D : Type 0} (stands_for : S → List Numbered → Type 0) (lane_of : ℕ → ℕ) (capacity batch : ℕ) (fs fs₁ fs₂ : List Feed) (ws ws₁ ws₂ : List (Worker S)) (old new : Dealer D) (u u' : UnitsState) (k k' : List (Option (List ℕ))) (result : Result Step ReplayError) → fs₂ ≡ fs₁ → ws₂ ≡ ws₁ → PlaysLanes stands_for lane_of capacity batch fs ws fs₁ ws₁ old new u k u' k' result → PlaysLanes stands_for lane_of capacity batch fs ws fs₂ ws₂ old new u k u' k' result
+PlaysLanes-as {S} stands_for lane_of capacity batch fs fs₁ fs₂ ws ws₁ ws₂ old new u u' k k' result e f p =
+    let P : List Feed → Type 0 = λ xs. PlaysLanes stands_for lane_of capacity batch fs ws xs ws₂ old new u k u' k' result in
+    let Q : List (Worker S) → Type 0 = λ xs. PlaysLanes stands_for lane_of capacity batch fs ws fs₁ xs old new u k u' k' result in
+    subst P (sym e) (subst Q (sym f) p)
+
+-- a list that was written back whole
+pub written : {X : Type 0} (n : ℕ) (xs ys : List X) → length xs ≡ n → take n (xs ++ ys) ≡ xs
+written n xs ys e = ap (λ k. take k (xs ++ ys)) (sym e) ∙ take-append_seam xs ys

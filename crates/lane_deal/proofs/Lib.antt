@@ -11,6 +11,7 @@ pub mod ListedLaws
 pub mod UnitLists
 pub mod MovedLists
 pub mod Pairs
+pub mod Batches
 pub mod Working
 pub mod Renewals
 pub mod Deals

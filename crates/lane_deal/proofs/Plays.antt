@@ -1,5 +1,5 @@
 -- A round of a replayer, from that of its lanes.
-use Rattle.std.proofs.Common.{◌≡◌, ◌≢◌, ℕ, ◌+◌, ◌<◌, ◌≤◌, Bool, false, eqb, List, [], ◌∷◌, ◌++◌, length, get_or, Option, Some, None, Result, Ok, Err, refl, sym, ap, ◌∙◌, subst, arith, length-append}
+use Rattle.std.proofs.Common.{◌≡◌, ◌≢◌, ℕ, ◌+◌, ◌<◌, ◌≤◌, Bool, false, eqb, List, [], ◌++◌, length, get_or, Option, Some, None, Result, Ok, Err, refl, sym, ap, ◌∙◌, subst, arith, length-append}
 use Rattle.std.specs.Prelude.{slice_get, option_to_list, IfOk}
 use Rattle.std.specs.List.{filter, filter_map, count_by}
 use Rattle.std.proofs.lemmas.List.{length-map, nil_from_length, get_or_default}
@@ -27,7 +27,7 @@ use Rattle.lane_deal.specs.declared.step.Step.TheVariants.{Blocked, FullBatch, E
 use Rattle.lane_deal.specs.Asking.{GivesAll}
 use Rattle.lane_deal.specs.Answers.{IfAnswered, StateAfter, is_spent, state_of_step, state_of_error}
 use Rattle.lane_deal.specs.DealerSteps.{StopsDealing}
-use Rattle.lane_deal.specs.Feeds.{in_lane}
+use Rattle.lane_deal.specs.Feeds.{in_lane, room_of}
 use Rattle.lane_deal.specs.Kept.{to_deal}
 use Rattle.lane_deal.specs.LaneRings.{AreReady, LanesStand, AreFresh, Settled}
 use Rattle.lane_deal.specs.LaneRounds.{PlaysLanes}
@@ -40,6 +40,8 @@ use Rattle.std.proofs.Math.Logic.{∥∥₁_map}
 use Rattle.lane_deal.specs.Rounds.{PlaysRound, Stops, Settles, share_of, lane_in}
 use Rattle.lane_deal.specs.Shown.{lane_state, lane_states, state_at, SeatsHold}
 use Rattle.lane_deal.proofs.Bridges.{filter_mapped, dealt_items, dealt_items-append, stands_in, stands_out, length-lane_states, lane_states-at, lane_at}
+use Rattle.lane_deal.proofs.Batches.{some_item}
+use Rattle.lane_deal.proofs.Deals.{room_at}
 use Rattle.lane_deal.proofs.DealerLaws.{in_order}
 
 -- ---- answers
@@ -68,10 +70,6 @@ ready_same {S} capacity fs fs' ws ws' e f h =
     let P : List Feed → Type 0 = λ xs. AreReady capacity xs ws in
     let Q : List (Worker S) → Type 0 = λ xs. AreReady capacity fs' xs in
     subst P (sym e) (subst Q (sym f) h)
-
-some_item : {X : Type 0} (xs : List X) (i : ℕ) → i < length xs → X
-some_item [] i l = absurd (omega arith)
-some_item (x ∷ xs) i l = x
 
 no_more : (given left : List Found) → given ≡ given ++ left → left ≡ []
 no_more given left e = nil_from_length left (let n = ap length e in omega (arith, length-append given left))
@@ -164,7 +162,7 @@ module _ {M A D : Type 0} {g : Ghosts M RouteId A} {a : AddressGhosts A} where
           let is = ap (λ s. length s.ring.sent) at.state_is in omega (arith, few, share, is);
     }
 
-    stops_then : (step : Step) → StopsDealing (λ n. dealing n (length fs)) plan.batch fs new u k p.deals.given dealt step → (left : List Found) → (step ≡ End → IsLeft u k p.deals.given left) → Stops dealing plan before after left dealt step
+    stops_then : (step : Step) → StopsDealing (λ n. dealing n (length fs)) plan.batch (room_of fs) new u k p.deals.given dealt step → (left : List Found) → (step ≡ End → IsLeft u k p.deals.given left) → Stops dealing plan before after left dealt step
     stops_then Blocked h left _ =
         let n = length (lane_states fs' ws') in
         let number = number_in new.peers h.unit.peer in
@@ -175,24 +173,25 @@ module _ {M A D : Type 0} {g : Ghosts M RouteId A} {a : AddressGhosts A} where
         let w = some_item ws lane (let c = ready.0 in omega (arith, within, c)) in
         let state = lane_state (get_or fs lane f) (get_or ws lane w) in
         let room = (ready.1 lane f w within).5 in
-        let full = h.full f in
+        let full = h.full in
+        let own = room_at fs lane f within in
         let share = share_is dealing plan.ring fs ws new spent ready n lanes_now lane dealt in
         subst (λ l. (unit : ReplayUnit) × (s : LaneState) × (new.kept ≡ Some unit) × (slice_get (lane_states fs ws) (lane_in dealing after unit) ≡ Some s) × (plan.ring ≤ length s.ring.sent + share_of dealing after (lane_in dealing after unit) dealt)) {x = lane} {y = lane} refl (
           h.unit,
           state,
           h.kept,
           ap (slice_get (lane_states fs ws)) same ∙ lane_states-at fs ws lane f w ready.0 within,
-          subst (λ l. plan.ring ≤ length state.ring.sent + share_of dealing after l dealt) (sym same) (omega (arith, room, full, share)),
+          subst (λ l. plan.ring ≤ length state.ring.sent + share_of dealing after l dealt) (sym same) (omega (arith, room, full, own, share)),
         )
     stops_then FullBatch h left _ = h
     stops_then End h left end =
         let is = end refl in (h.0, no_more p.deals.given left (sym (h.1 is.0 is.1) ∙ is.2))
 
-    stops_all : (r : Result Step ReplayError) → IfOk r (StopsDealing (λ n. dealing n (length fs)) plan.batch fs new u k p.deals.given dealt) → IfOk r (λ step. (left : List Found) → (step ≡ End → IsLeft u k p.deals.given left) → Stops dealing plan before after left dealt step)
+    stops_all : (r : Result Step ReplayError) → IfOk r (StopsDealing (λ n. dealing n (length fs)) plan.batch (room_of fs) new u k p.deals.given dealt) → IfOk r (λ step. (left : List Found) → (step ≡ End → IsLeft u k p.deals.given left) → Stops dealing plan before after left dealt step)
     stops_all (Ok step) h = stops_then step h
     stops_all (Err e) h = tt
 
-    ended_then : (r : Result Step ReplayError) → IfOk r (StopsDealing (λ n. dealing n (length fs)) plan.batch fs new u k p.deals.given dealt) → r ≡ Ok End → (new.kept ≡ None) × GivesAll u k p.deals.given
+    ended_then : (r : Result Step ReplayError) → IfOk r (StopsDealing (λ n. dealing n (length fs)) plan.batch (room_of fs) new u k p.deals.given dealt) → r ≡ Ok End → (new.kept ≡ None) × GivesAll u k p.deals.given
     ended_then (Ok Blocked) h e = absurd (cc)
     ended_then (Ok FullBatch) h e = absurd (cc)
     ended_then (Ok End) h e = h

@@ -1,16 +1,16 @@
 -- What a worker took, step by step.
-use Rattle.std.proofs.Common.{◌≡◌, ℕ, ◌+◌, ◌-◌, ◌^◌, ◌<◌, min, List, [], ◌∷◌, ◌++◌, length, refl, sym, ap, ◌∙◌, subst, append_assoc, arith, length-append, Result, slice_index_or}
-use Rattle.std.proofs.lemmas.List.{append-nil, get_or-map, nil_from_length}
-use Rattle.mrt_frame.specs.declared.fault.Fault.{Fault}
+use Rattle.std.proofs.Common.{◌≡◌, ◌+◌, ◌-◌, ◌^◌, ◌<◌, min, List, [], ◌∷◌, ◌++◌, length, refl, sym, ap, ◌∙◌, subst, append_assoc, arith, length-append}
+use Rattle.std.proofs.lemmas.List.{append-nil, nil_from_length}
 use Rattle.mrt_body.specs.Events.{event_in}
-use Rattle.mrt_body.specs.Plain.{Event}
 use Rattle.rtrb.specs.Ring.{SameConsumer}
 use Rattle.rtrb.specs.Ring.{received as received_lists}
 use Rattle.lane_deal.specs.Plain.{UnitList, Numbered, Worker}
 use Rattle.lane_deal.specs.UnitLists.{IsUnitList, units_of, units_of_lists}
 use Rattle.lane_deal.specs.UnitRings.{received, known_items, known_lists}
 use Rattle.lane_deal.proofs.UnitLists.{units_pushed}
-use Rattle.lane_deal.specs.LaneWorkers.{events_of, Took, TookFront, TookSome, Takes, Worked}
+use Rattle.lane_deal.specs.DecodedBatches.{AreDecoded, BatchState, head_of, no_batch}
+use Rattle.lane_deal.proofs.Batches.{AreDecoded-none, AreDecoded-more}
+use Rattle.lane_deal.specs.LaneWorkers.{Took, TookFront, TookSome, Takes, TakesAhead, Worked}
 
 module _ {S : Type 0} (stands_for : S → List Numbered → Type 0) where
   pub Took-nil : (w : Worker S) → w.taken < 2 ^ 64 → Took stands_for w w []
@@ -101,6 +101,43 @@ module _ {S : Type 0} (stands_for : S → List Numbered → Type 0) where
         sessions = λ taken g. rw (← append_assoc) (h (taken ++ items) (p.sessions taken g));
       }
 
--- what the unit at an index means
-pub event_by_index : (items : List Numbered) (at : ℕ) (item : Numbered) (d : Result Event Fault) → at < length items → slice_index_or items at item ≡ item → slice_index_or (events_of items) at d ≡ event_in item.unit.payload
-event_by_index items at item d within is = get_or-map (λ (i : Numbered). event_in i.unit.payload) items at item d within ∙ ap (λ (i : Numbered). event_in i.unit.payload) is
+  -- what was decoded ahead is taken
+  pub TakesAhead-none : (w : Worker S) (batch : BatchState) → w.taken < 2 ^ 64 → batch ≡ no_batch → TakesAhead stands_for w w batch []
+  TakesAhead-none w batch l e =
+      record {
+        taken = [];
+        waiting = [];
+        takes = record { lane = refl; ring = refl; counted = omega arith; sessions = λ taken g. rw append-nil g };
+        decoded = subst (λ b. AreDecoded b []) (sym e) AreDecoded-none;
+        whole = refl;
+      }
+
+  pub Takes-append : (a b c : Worker S) (xs ys : List Numbered) → Takes stands_for a b xs → Takes stands_for b c ys → Takes stands_for a c (xs ++ ys)
+  Takes-append a b c xs ys p q =
+      record {
+        lane = q.lane ∙ p.lane;
+        ring = q.ring ∙ p.ring;
+        counted = (let m = p.counted in let n = q.counted in let k = length-append xs ys in omega arith);
+        sessions = λ taken h. rw (← append_assoc) (q.sessions (taken ++ xs) (p.sessions taken h));
+      }
+
+  -- one more is decoded
+  pub TakesAhead-more : (a b : Worker S) (batch batch' : BatchState) (items : List Numbered) (item : Numbered) → TakesAhead stands_for a b batch items → batch'.heads ≡ batch.heads ++ head_of item ∷ [] → batch'.events ≡ batch.events ++ event_in item.unit.payload ∷ [] → TakesAhead stands_for a b batch' (items ++ item ∷ [])
+  TakesAhead-more a b batch batch' items item p heads events =
+      record {
+        taken = p.taken;
+        waiting = p.waiting ++ item ∷ [];
+        takes = p.takes;
+        decoded = AreDecoded-more batch batch' p.waiting item p.decoded heads events;
+        whole = ap (λ l. l ++ item ∷ []) p.whole ∙ append_assoc p.taken p.waiting (item ∷ []);
+      }
+
+  -- those that were decoded are taken
+  pub TakesAhead-all : (a b c : Worker S) (batch : BatchState) (items : List Numbered) → TakesAhead stands_for a b batch items → ((waiting : List Numbered) → AreDecoded batch waiting → Takes stands_for b c waiting) → Takes stands_for a c items
+  TakesAhead-all a b c batch items p took =
+      subst (Takes stands_for a c) (sym p.whole) (Takes-append a b c p.taken p.waiting p.takes (took p.waiting p.decoded))
+
+  -- nothing waits
+  pub TakesAhead-from : (a b : Worker S) (batch : BatchState) (items : List Numbered) → Takes stands_for a b items → batch ≡ no_batch → TakesAhead stands_for a b batch items
+  TakesAhead-from a b batch items p e =
+      record { taken = items; waiting = []; takes = p; decoded = subst (λ b. AreDecoded b []) (sym e) AreDecoded-none; whole = sym (append-nil items) }

@@ -1,5 +1,5 @@
 -- What the dealer does in a round.
-use Rattle.std.specs.Prelude.{◌≡◌, ℕ, ◌+◌, ◌<◌, ◌≤◌, List, ◌++◌, length, filter, ◌==◌, slice_index_or}
+use Rattle.std.specs.Prelude.{◌≡◌, ℕ, zero, suc, ◌+◌, ◌<◌, ◌≤◌, List, [], ◌∷◌, ◌++◌, length, filter, ◌==◌, slice_index_or}
 use Rattle.lane_deal.specs.UnitRings.{sent, known_free, SameProducer}
 use Rattle.lane_deal.specs.Plain.{Numbered, Feed}
 
@@ -18,3 +18,9 @@ pub record Dealt (lane_of : ℕ → ℕ) (before after : List Feed) (items : Lis
   pub lanes : length after ≡ length before
   pub each : (lane : ℕ) (d : Feed) → lane < length before →
       Pushed (slice_index_or before lane d) (slice_index_or after lane d) (in_lane lane_of lane items)
+
+-- how many more units the dealer may deal to the ring of a lane
+abbrev pub room_of : List Feed → ℕ → ℕ
+room_of [] lane = 0
+room_of (feed ∷ feeds) zero = known_free feed.producer
+room_of (feed ∷ feeds) (suc lane) = room_of feeds lane

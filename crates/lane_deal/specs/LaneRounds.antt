@@ -9,7 +9,7 @@ use Rattle.lane_deal.specs.Dealers.{Dealer}
 use Rattle.lane_deal.specs.Plain.{Feed, Numbered, Worker}
 use Rattle.lane_deal.specs.declared.step.Step.{Step}
 use Rattle.lane_deal.specs.DealerSteps.{Deals}
-use Rattle.lane_deal.specs.Feeds.{in_lane}
+use Rattle.lane_deal.specs.Feeds.{in_lane, room_of}
 use Rattle.lane_deal.specs.LaneRings.{AreReady, LanesStand}
 use Rattle.lane_deal.specs.Numbers.{numbered}
 
@@ -29,7 +29,6 @@ pub record PlaysLanes {S D : Type 0} (stands_for : S → List Numbered → Type 
     (feeds : List Feed) (workers : List (Worker S)) (feeds' : List Feed) (workers' : List (Worker S))
     (old new : Dealer D) (u : UnitsState) (known : List (Option (List ℕ))) (u' : UnitsState)
     (known' : List (Option (List ℕ))) (result : Result Step ReplayError) : Type 0 where
-  pub between : List Feed
-  pub deals : Deals lane_of batch feeds between old new u known u' known' result
+  pub deals : Deals lane_of batch (room_of feeds) old new u known u' known' result
   pub rounded : Rounded stands_for lane_of capacity feeds workers feeds' workers'
       (numbered new.peers (filter_map unit_of deals.done))

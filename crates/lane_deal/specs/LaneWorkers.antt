@@ -1,16 +1,10 @@
 -- What a worker does in a round.
-use Rattle.std.specs.Prelude.{◌≡◌, ◌+◌, ◌-◌, ◌^◌, ◌<◌, min, List, ◌++◌, length, map, Result}
+use Rattle.std.specs.Prelude.{◌≡◌, ◌+◌, ◌-◌, ◌^◌, ◌<◌, min, List, ◌++◌, length}
 use mathlib.Core.List.{IsPrefix}
 use Rattle.rtrb.specs.Ring.{SameConsumer}
-use Rattle.mrt_frame.specs.declared.fault.Fault.{Fault}
-use Rattle.mrt_body.specs.Events.{event_in}
-use Rattle.mrt_body.specs.Plain.{Event}
+use Rattle.lane_deal.specs.DecodedBatches.{AreDecoded, BatchState}
 use Rattle.lane_deal.specs.Plain.{Numbered, Worker}
 use Rattle.lane_deal.specs.UnitRings.{received, known_items}
-
--- what each of these units means, or its first fault
-abbrev pub events_of : List Numbered → List (Result Event Fault)
-events_of items = map (λ item. event_in item.unit.payload) items
 
 module _ {S : Type 0} (stands_for : S → List Numbered → Type 0) where
   -- the worker took these items, in order, into its sessions
@@ -47,3 +41,11 @@ module _ {S : Type 0} (stands_for : S → List Numbered → Type 0) where
     pub items : List Numbered
     pub took : Took before after items
     pub known : IsPrefix (known_items before.consumer) items
+
+  -- of these items the first ones were taken, and the others were decoded and wait
+  pub record TakesAhead (before after : Worker S) (batch : BatchState) (items : List Numbered) : Type 0 where
+    pub taken : List Numbered
+    pub waiting : List Numbered
+    pub takes : Takes before after taken
+    pub decoded : AreDecoded batch waiting
+    pub whole : items ≡ taken ++ waiting

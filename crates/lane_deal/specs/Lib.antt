@@ -6,6 +6,7 @@ pub mod Replayers
 pub mod Rounds
 pub mod Numbers
 pub mod ListedPeers
+pub mod PlacedProps
 pub mod ListedUnits
 pub mod UnitLists
 pub mod Plain
@@ -16,6 +17,7 @@ pub mod LaneWorkers
 pub mod Asking
 pub mod Kept
 pub mod Dealers
+pub mod DecodedBatches
 pub mod DealerSteps
 pub mod Seating
 pub mod LaneRounds

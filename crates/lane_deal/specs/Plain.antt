@@ -1,22 +1,17 @@
 -- Units on their way to the sessions, and the halves of lanes, with keys of either family.
+use Rattle.std.specs.Prelude.{ℕ, List}
 use Rattle.bgp_prefix.specs.Prefixes.{IpPrefix}
 use Rattle.bgp_update.specs.Families.{FamilyOf}
 use Rattle.lane_deal.specs.declared.feed.Feed.{Feed as FeedOf}
 use Rattle.lane_deal.specs.declared.listed_unit.ListedUnit.{ListedUnit as ListedUnitOf}
-use Rattle.lane_deal.specs.declared.listed_unit.PayloadKind.{PayloadKind as PayloadKindOf}
 use Rattle.lane_deal.specs.declared.numbered.Numbered.{Numbered as NumberedOf}
-use Rattle.lane_deal.specs.declared.unit_list.LentItem.{LentItem as LentItemOf}
 use Rattle.lane_deal.specs.declared.unit_list.UnitList.{UnitList as UnitListOf}
 use Rattle.lane_deal.specs.declared.unit_producer.UnitProducer.{UnitProducer as UnitProducerOf}
 use Rattle.lane_deal.specs.declared.worker.Worker.{Worker as WorkerOf}
 
 -- a unit, with its peer's number
 abbrev pub Numbered : Type 0
-Numbered = NumberedOf IpPrefix FamilyOf
-
--- a payload without its bytes
-abbrev pub PayloadKind : Type 0
-PayloadKind = PayloadKindOf IpPrefix FamilyOf
+Numbered = NumberedOf (List ℕ) IpPrefix FamilyOf
 
 -- a unit of a list
 abbrev pub ListedUnit : Type 0
@@ -24,10 +19,6 @@ ListedUnit = ListedUnitOf IpPrefix FamilyOf
 
 abbrev pub UnitList : Type 0
 UnitList = UnitListOf IpPrefix FamilyOf
-
--- a unit that its list lends
-abbrev pub LentItem : Type 0
-LentItem = LentItemOf IpPrefix FamilyOf
 
 -- the dealer's end of a ring
 abbrev pub UnitProducer : Type 0

@@ -2,23 +2,20 @@
 
 ghost use Rattle.std.specs.Prelude.{◌≡◌, ℕ, ◌<◌, ◌∷◌, [], length, map, drop, true, false, IfErr, IfSome, IfOk, MatchResult, OnErr, OnOk, None};
 ghost use Rattle.std.specs.Option.{ForSome};
-ghost use Rattle.lane_deal.specs.UnitRings.{known_free};
-ghost use Rattle.std.specs.Prelude.{slice_index_or};
-ghost use Rattle.mrt_body.specs.Lent.{lent_unit};
 ghost use Rattle.mrt_body.specs.Units.{IsSmallUnit};
 ghost use Rattle.mrt_body.specs.declared.standing.Standing.TheVariants as standings;
 ghost use Rattle.mrt_frame.specs.declared.error.ReplayError.TheVariants.{Read};
 ghost use Rattle.lane_deal.specs.Asking.{Asked, AskedInVain, StopsReading, TakesUnits};
-ghost use Rattle.lane_deal.specs.Feeds.{Dealt};
 
 use crate::dealing::Dealing;
 use crate::feed::FeedOf;
 use crate::gate::Gate;
 use crate::halves::Deals;
+use crate::receives::Receives;
 use crate::step::Step;
 use bgp_prefix::{Memory, Prefix};
 use bgp_update::{FamilyMark, Unicast};
-use mrt_body::{Damage, LentUnitOf, PeerKey, Unit, Units};
+use mrt_body::{Damage, LentUnitOf, PayloadBytes, PeerKey, Unit, Units};
 use mrt_frame::{ReplayError, Source};
 use peer_tables::Peers;
 use std::alloc::Global;
@@ -30,7 +27,7 @@ pub struct Dealer<D, P = Prefix, K = FamilyMark> {
     pub dealing: D,
     pub peers: Peers,
     /// The unit whose lane's ring was full. It is the next to be dealt.
-    pub kept: Option<Unit<P, K>>,
+    pub kept: Option<Unit<PayloadBytes, P, K>>,
     pub refused: Vec<Damage>,
     /// The number of units dealt. Saturates at `u64::MAX`.
     pub dealt: u64,
@@ -39,43 +36,6 @@ pub struct Dealer<D, P = Prefix, K = FamilyMark> {
 
 /// Deals what the files yield to lanes of a family.
 pub type DealerOf<D, F> = Dealer<D, Prefix<F>, FamilyMark<F>>;
-
-/// Whether the lane's ring has room for another unit, at once or at one of this many further looks.
-#[inline(always)]
-fn has_room<F: Unicast, G: Gate>(
-    gate: &G,
-    feeds: &mut [FeedOf<F>],
-    lane: usize,
-    looks: u32,
-    over: &AtomicBool,
-) -> bool
-    requires { lane < length feeds.old }
-    ensures looked { (lane_of : ℕ → ℕ) → Dealt lane_of feeds.old feeds.new [] }
-    ensures room { result ≡ true → (d : _) → 0 < known_free (slice_index_or feeds.new lane d).producer }
-    ensures full { result ≡ false → (d : _) → known_free (slice_index_or feeds.old lane d).producer ≡ 0 }
-{
-    feeds[lane].has_room(gate, looks, over)
-}
-
-/// Deals a copy of this unit of the peer with this number to its lane's ring, which has room for it.
-#[inline(always)]
-fn deal_one<F: Unicast, G: Gate>(
-    alloc: Global,
-    gate: &G,
-    lane: usize,
-    number: usize,
-    unit: &LentUnitOf<'_, F>,
-    feeds: &mut [FeedOf<F>],
-) -> Result<(), Memory>
-    requires lane { lane < length feeds.old }
-    requires small { IsSmallUnit (lent_unit unit.now) }
-    requires room { (d : _) → 0 < known_free (slice_index_or feeds.old lane d).producer }
-    ensures { OnOk result
-        ((lane_of : ℕ → ℕ) → lane_of number ≡ lane →
-        Dealt lane_of feeds.old feeds.new (record { number = number; unit = lent_unit unit.now } ∷ [])) }
-{
-    feeds[lane].push(alloc, gate, lane, number, unit)
-}
 
 /// Lists what the files refuse, until a unit of theirs is to be dealt or they end.
 fn list_refusals<F: Unicast, R: Source>(
@@ -105,7 +65,7 @@ fn list_refusals<F: Unicast, R: Source>(
 }
 
 impl<F: Unicast, D: Dealing> Dealer<D, Prefix<F>, FamilyMark<F>> {
-    ghost use Rattle.lane_deal.specs.DealerSteps.{Deals};
+    ghost use Rattle.lane_deal.specs.DealerSteps.{DealsTo};
     ghost use Rattle.lane_deal.specs.Answers.{IfAnswered};
     ghost use Rattle.peer_tables.specs.Numbers.{NumbersPeer};
 
@@ -131,6 +91,7 @@ impl<F: Unicast, D: Dealing> Dealer<D, Prefix<F>, FamilyMark<F>> {
     {}
 
     /// Lists what the files refuse, until a unit is to be dealt or they end. A kept unit is to be dealt at once.
+    #[inline(always)]
     fn ask<R: Source>(
         &mut self,
         alloc: Global,
@@ -160,6 +121,9 @@ impl<F: Unicast, D: Dealing> Dealer<D, Prefix<F>, FamilyMark<F>> {
         if self.kept.is_some() {
             return Ok(());
         }
+        if units.is_lending() {
+            return Ok(());
+        }
         list_refusals(alloc, units, files, &mut self.refused)
     }
 
@@ -167,10 +131,10 @@ impl<F: Unicast, D: Dealing> Dealer<D, Prefix<F>, FamilyMark<F>> {
     #[inline(always)]
     fn lent<'a>(&self, units: &'a Units<F>) -> Option<LentUnitOf<'a, F>>
         ensures kept { IfSome result (λ _. self.now.kept ≡ None) }
-        ensures lends { IfSome result (λ unit. units.now.pending ≡ lent_unit unit ∷ drop 1 units.now.pending) }
+        ensures lends { IfSome result (λ lent. units.now.pending ≡ lent.unit ∷ drop 1 units.now.pending) }
         ensures none { result ≡ None → self.now.kept ≡ None → units.now.standing ≡ standings.Going →
             units.now.pending ≡ [] }
-        ensures small { IfSome result (λ unit. IsSmallUnit (lent_unit unit)) }
+        ensures small { IfSome result (λ lent. IsSmallUnit lent.unit) }
     {
         match &self.kept {
             Some(_) => None,
@@ -197,8 +161,8 @@ impl<F: Unicast, D: Dealing> Dealer<D, Prefix<F>, FamilyMark<F>> {
         Ok((number, self.dealing.lane(number, lanes)))
     }
 
-    /// Deals until a ring is full and stays full for this many further looks, a batch is dealt or the files end.
-    pub fn deal<R: Source, G: Gate>(
+    /// Deals until a lane has no room and still none at this many further looks, a batch is dealt or the files end.
+    pub fn deal<R: Source, G: Gate, K: Receives<Addr = F>>(
         &mut self,
         alloc: Global,
         gate: &G,
@@ -207,33 +171,34 @@ impl<F: Unicast, D: Dealing> Dealer<D, Prefix<F>, FamilyMark<F>> {
         over: &AtomicBool,
         units: &mut Units<F>,
         files: &mut [R],
-        feeds: &mut [FeedOf<F>],
+        to: &mut K,
     ) -> Result<Step, ReplayError>
-        requires lanes { 0 < length feeds.old }
+        requires lanes { 0 < K.count to.old }
         requires files { length files.old ≡ units.old.count }
         ensures count { units.new.count ≡ units.old.count }
+        ensures lanes { K.count to.new ≡ K.count to.old }
         ensures sound { OnOk result (map R.failure_count files.new ≡ map R.failure_count files.old) }
         ensures cause { IfErr result
             (StopsReading units.old (map R.remaining files.old) (map R.failure_count files.old)
             (map R.failure_count files.new)) }
         ensures at_end { result ≡ Ok Step.End → units.new.file ≡ units.new.count }
         ensures deals { IfAnswered result
-            (Deals (λ number. D.lane_of self.old.dealing number (length feeds.old)) batch feeds.old feeds.new self.old
+            (DealsTo (K.received (λ number. D.lane_of self.old.dealing number (K.count to.old)))
+            (λ number. D.lane_of self.old.dealing number (K.count to.old)) batch (K.room to.old) to.old to.new self.old
             self.new units.old (map R.remaining files.old) units.new (map R.remaining files.new) result) }
     {
+        to.adds_up();
         let _dealt = self.dealt;
         for dealt in 0..batch {
             self.ask(alloc, units, files)?;
-            if let Some(unit) = self.lent(units) {
-                let (number, lane) = self.lane_for(&unit.peer, unit.peer_index, feeds.len())?;
-                if !has_room(gate, feeds, lane, looks, over) {
-                    // A copy is lent, so that the unit itself needs no place in memory.
-                    let blocked = unit;
-                    self.kept = Some(blocked.to_unit(alloc)?);
+            if let Some(lent) = self.lent(units) {
+                let (number, lane) = self.lane_for(&lent.unit.peer, lent.peer_index, to.lanes())?;
+                if !to.has_room(gate, lane, looks, over) {
+                    self.kept = Some(lent.unit.to_unit(alloc)?);
                     units.pass();
                     return Ok(Step::Blocked);
                 }
-                deal_one(alloc, gate, lane, number, &unit, feeds)?;
+                to.receive(alloc, gate, lane, number, &lent.unit)?;
                 units.pass();
                 self.dealt = self.dealt.saturating_add(1);
                 continue;
@@ -241,12 +206,12 @@ impl<F: Unicast, D: Dealing> Dealer<D, Prefix<F>, FamilyMark<F>> {
             let Some(unit) = self.kept.take() else {
                 return Ok(Step::End);
             };
-            let (number, lane) = self.lane_for(&unit.peer, None, feeds.len())?;
-            if !has_room(gate, feeds, lane, looks, over) {
+            let (number, lane) = self.lane_for(&unit.peer, None, to.lanes())?;
+            if !to.has_room(gate, lane, looks, over) {
                 self.kept = Some(unit);
                 return Ok(Step::Blocked);
             }
-            deal_one(alloc, gate, lane, number, &unit.lend(), feeds)?;
+            to.receive(alloc, gate, lane, number, &unit.lend())?;
             self.dealt = self.dealt.saturating_add(1);
         }
         Ok(Step::FullBatch)
@@ -271,7 +236,7 @@ impl<F: Unicast, D: Dealing> Deals for Dealer<D, Prefix<F>, FamilyMark<F>> {
         over: &AtomicBool,
         units: &mut Units<F>,
         files: &mut [R],
-        feeds: &mut [FeedOf<F>],
+        feeds: &mut Vec<FeedOf<F>>,
     ) -> Result<Step, ReplayError> {
         self.deal(alloc, gate, batch, looks, over, units, files, feeds)
     }

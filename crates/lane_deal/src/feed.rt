@@ -1,13 +1,13 @@
 ghost use Rattle.std.specs.Prelude.{◌≡◌, ◌+◌, ◌-◌, ◌^◌, ◌<◌, min, true, false, [], ◌∷◌, OnOk};
-ghost use Rattle.mrt_body.specs.Lent.{lent_unit};
 ghost use Rattle.mrt_body.specs.Units.{IsSmallUnit};
 
 use crate::gate::Gate;
+use crate::receives::Receives;
 use crate::unit_list::UnitList;
 use crate::unit_producer::UnitProducer;
 use bgp_prefix::{Memory, Prefix};
 use bgp_update::{FamilyMark, Unicast};
-use mrt_body::LentUnitOf;
+use mrt_body::UnitRef;
 use rtrb::Consumer;
 use std::alloc::Global;
 use std::sync::atomic::{AtomicBool, Ordering};
@@ -81,12 +81,12 @@ impl<F: Unicast> Feed<Prefix<F>, FamilyMark<F>> {
         gate: &G,
         lane: usize,
         number: usize,
-        unit: &LentUnitOf<'_, F>,
+        unit: &UnitRef<'_, F>,
     ) -> Result<(), Memory>
-        requires small { IsSmallUnit (lent_unit unit.now) }
+        requires small { IsSmallUnit unit.now }
         requires room { 0 < known_free self.old.producer }
         ensures pushed { OnOk result
-            (Pushed self.old self.new (record { number = number; unit = lent_unit unit.now } ∷ [])) }
+            (Pushed self.old self.new (record { number = number; unit = unit.now } ∷ [])) }
         ensures counted { OnOk result (self.new.dealt ≡ min (self.old.dealt + 1) (2 ^ 64 - 1)) }
     {
         self.producer.push(alloc, &mut self.emptied, number, unit)?;
@@ -94,4 +94,42 @@ impl<F: Unicast> Feed<Prefix<F>, FamilyMark<F>> {
         self.dealt = self.dealt.saturating_add(1);
         Ok(())
     }
+}
+
+/// The rings of lanes.
+impl<F: Unicast> Receives for Vec<FeedOf<F>> {
+    ghost use Rattle.std.specs.Prelude.{length};
+    ghost use Rattle.lane_deal.specs.Feeds.{Dealt, room_of};
+
+    type Addr = F;
+
+    ghost count = { λ feeds. length feeds.items };
+
+    ghost room = { λ feeds lane. room_of feeds.items lane };
+
+    ghost received = { λ lane_of a b items. Dealt lane_of a.items b.items items };
+
+    #[inline(always)]
+    fn lanes(&self) -> usize {
+        self.len()
+    }
+
+    #[inline(always)]
+    fn has_room<G: Gate>(&mut self, gate: &G, lane: usize, looks: u32, over: &AtomicBool) -> bool {
+        self[lane].has_room(gate, looks, over)
+    }
+
+    #[inline(always)]
+    fn receive<G: Gate>(
+        &mut self,
+        alloc: Global,
+        gate: &G,
+        lane: usize,
+        number: usize,
+        unit: &UnitRef<'_, F>,
+    ) -> Result<(), Memory> {
+        self[lane].push(alloc, gate, lane, number, unit)
+    }
+
+    fn adds_up(&self) {}
 }

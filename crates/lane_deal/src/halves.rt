@@ -40,12 +40,12 @@ pub trait Deals {
         over: &AtomicBool,
         units: &mut Units<Self::Addr>,
         files: &mut [R],
-        feeds: &mut [FeedOf<Self::Addr>],
+        feeds: &mut Vec<FeedOf<Self::Addr>>,
     ) -> Result<Step, ReplayError>
-        requires lanes { 0 < length feeds.old }
+        requires lanes { 0 < length feeds.old.items }
         requires files { length files.old ≡ units.old.count }
-        ensures { DealsOn (λ number. lane_of (dealer self.old).dealing number (length feeds.old)) batch feeds.old
-            feeds.new (dealer self.old) (dealer self.new) units.old (map R.remaining files.old)
+        ensures { DealsOn (λ number. lane_of (dealer self.old).dealing number (length feeds.old.items)) batch
+            feeds.old.items feeds.new.items (dealer self.old) (dealer self.new) units.old (map R.remaining files.old)
             (map R.failure_count files.old) units.new (map R.remaining files.new) (map R.failure_count files.new)
             result };
 }

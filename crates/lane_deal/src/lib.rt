@@ -10,7 +10,10 @@
 //!   another one but in the join: so a run can't hang, which is proved like any function's return. The price is that
 //!   threads start anew and that a round ends with its slowest worker, so batches are large.
 //! - **The dealer runs in the caller's thread.** If no thread can be started, `join_mut` makes both calls in sequence,
-//!   dealing first. A single worker that looks at most once runs there too, after the dealing.
+//!   dealing first.
+//! - **A single worker that looks once takes what is dealt at once** (`Alone`), in the same thread: a unit is decoded
+//!   from its record, and neither listed nor copied. The dealer deals alike to it and to the rings of lanes (`Receives`),
+//!   and the contract of a round is the same for both.
 //! - **A full ring ends a round.** The unit is kept and dealt first in the next, so no unit overtakes another in its
 //!   lane. Before that the dealer looks again, at most 1,000 times. What a worker takes beyond what waited at first
 //!   depends on timing, so the contract says what is dealt and what waits, and not who took how much.
@@ -19,9 +22,9 @@
 //!   thread looks, or on how it pauses, which is up to the gate (`Gate::pause`, `Gate::wait_for_room`).
 //! - **A ring's item is a list of up to 32 units** whose bytes are in one block, so that a ring's position is exchanged
 //!   once for them all and no unit is an allocation. The producer counts units (`UnitProducer`): a round is blocked by
-//!   units, not lists, and contracts see a ring of units. A listed unit has 40 bytes: the records and peers of a list
-//!   are listed once. Lists go back by a second ring, since a worker that freed them would lock the dealer's heap; the
-//!   dealer writes to all of one before it fills it again, so that the misses overlap.
+//!   units, not lists, and contracts see a ring of units. A listed unit of IPv4 has 32 bytes: the records and peers of
+//!   a list are listed once. Lists go back by a second ring, since a worker that freed them would lock the dealer's
+//!   heap; the dealer writes to all of one before it fills it again, so that the misses overlap.
 //! - **All units of a run are of one family of addresses.** Its mark takes no room in a unit, so plain data is generic
 //!   in the prefix and the mark, and contracts see the prefixes of either family alike.
 //! - **A round's two closures have no type parameter in common** (`Deals`, `Works`), since the borrow checker covers no
@@ -37,9 +40,11 @@
 //!   which ones is a relation (`ReplayerStandsFor`), and no ghost list is kept.
 #![tactic(auto)]
 
+mod alone;
 mod collecting;
 mod dealer;
 mod dealing;
+mod decoded_batch;
 mod feed;
 mod gate;
 mod halves;
@@ -50,6 +55,7 @@ mod listed_peer;
 mod listed_unit;
 mod numbered;
 mod plan;
+mod receives;
 mod replayer;
 mod round;
 mod schedule;
@@ -59,6 +65,7 @@ mod sessions;
 mod state;
 mod step;
 mod turn;
+mod unit_head;
 mod unit_list;
 mod unit_producer;
 mod worker;

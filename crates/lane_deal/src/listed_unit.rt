@@ -5,35 +5,9 @@ ghost use Rattle.std.specs.Prelude.{◌≡◌, true, IfOk};
 ghost use Rattle.lane_deal.specs.ListedUnits.{AreKept, IsListedAt};
 
 use crate::listed_peer::ListedPeer;
-use bgp_prefix::{Memory, Prefix, RouteKey};
-use bgp_update::{FamilyMark, Width};
-use mrt_body::{Place, StateRule};
-
-/// A payload without its bytes. A message and an entry have the mark of their family, which takes no room.
-// Variants and fields stand in the order in which an entry takes the fewest instructions: a clear first, and the rule
-// of a state change before the bytes that a key has.
-#[derive(Clone, Copy)]
-pub enum PayloadKind<P = Prefix, K = FamilyMark> {
-    Clear,
-    /// Numbers below 65,536. As long as the fields of a key, they are copied together with these.
-    State {
-        rule: StateRule,
-        from: u32,
-        to: u32,
-    },
-    Message {
-        width: Width,
-        add_path: bool,
-        family: K,
-    },
-    Entry {
-        key: RouteKey<P>,
-        family: K,
-    },
-}
-
-/// A payload of a family without its bytes.
-pub type PayloadKindOf<F> = PayloadKind<Prefix<F>, FamilyMark<F>>;
+use bgp_prefix::{Memory, Prefix};
+use bgp_update::{FamilyMark, Span};
+use mrt_body::{Payload, Place};
 
 /// Where the record of a unit is, and the unit's time.
 #[derive(Drop)]
@@ -50,12 +24,10 @@ pub struct NumberedPeer {
     pub peer: ListedPeer,
 }
 
-/// A unit of a list in 40 bytes: where its record, its peer and its bytes are among those of the list.
+/// A unit of a list, in 32 bytes (IPv4): where its record, its peer and its bytes are among those of the list.
 #[derive(Drop)]
 pub struct ListedUnit<P = Prefix, K = FamilyMark> {
-    pub kind: PayloadKind<P, K>,
-    pub start: usize,
-    pub len: usize,
+    pub payload: Payload<Span, P, K>,
     pub entry: Option<u16>,
     pub record: u16,
     pub peer: u16,

@@ -3,18 +3,21 @@ ghost use Rattle.lane_deal.specs.UnitLists.{IsUnitList};
 use crate::unit_list::UnitList;
 use bgp_prefix::Prefix;
 use bgp_update::FamilyMark;
-use mrt_body::Unit;
+use mrt_body::{BytesRef, PayloadBytes, Unit};
 use rtrb::Protocol;
 
 /// A unit, with its peer's number.
 #[derive(Drop)]
-pub struct Numbered<P = Prefix, K = FamilyMark> {
+pub struct Numbered<B = PayloadBytes, P = Prefix, K = FamilyMark> {
     pub number: usize,
-    pub unit: Unit<P, K>,
+    pub unit: Unit<B, P, K>,
 }
 
 /// A unit of a family, with its peer's number.
-pub type NumberedOf<F> = Numbered<Prefix<F>, FamilyMark<F>>;
+pub type NumberedOf<F> = Numbered<PayloadBytes, Prefix<F>, FamilyMark<F>>;
+
+/// The same with borrowed bytes.
+pub type NumberedRef<'a, F> = Numbered<BytesRef<'a>, Prefix<F>, FamilyMark<F>>;
 
 /// A ring takes only lists of units whose bytes number at most 16,777,216, and no empty list.
 #[derive(Clone, Copy)]

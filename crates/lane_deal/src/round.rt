@@ -1,6 +1,6 @@
 //! One round over all lanes.
 
-ghost use Rattle.std.specs.Prelude.{◌≡◌, ◌<◌, ℕ, OnOk, length, map};
+ghost use Rattle.std.specs.Prelude.{◌≡◌, ◌<◌, ℕ, None, OnOk, length, map};
 ghost use Rattle.std.specs.List.{AllZip};
 ghost use Rattle.std.specs.Thread.{IsSync, IsSend};
 ghost use Rattle.lane_deal.specs.Answers.{IfAnswered};
@@ -9,6 +9,7 @@ ghost use Rattle.lane_deal.specs.DealerSteps.{DealsOn};
 ghost use Rattle.lane_deal.specs.LaneRings.{AreReady, Settled};
 ghost use Rattle.lane_deal.specs.LaneRounds.{PlaysLanes};
 
+use crate::alone::Alone;
 use crate::dealer::DealerOf;
 use crate::dealing::Dealing;
 use crate::feed::FeedOf;
@@ -17,7 +18,7 @@ use crate::halves::{Deals, Works};
 use crate::lane::renew_all;
 use crate::sessions::Sessions;
 use crate::step::Step;
-use crate::worker::{Patience, WorkerOf, run_all, run_at_most_one};
+use crate::worker::{Patience, WorkerOf, run_all};
 use bgp_prefix::Memory;
 use bgp_update::Unicast;
 use mrt_body::Units;
@@ -27,8 +28,6 @@ use std::sync::atomic::{AtomicBool, Ordering};
 use std::thread::{Threads, join_mut};
 
 /// Deals in one half while the workers take in the other. The round is over once the dealer ends or a worker fails.
-/// For a single worker that looks at most once at an empty ring, and so would gain little from a thread of its own,
-/// the calling thread deals first and takes afterwards.
 fn deal_and_work<
     T: Threads + Sync,
     F: Unicast + Send,
@@ -45,28 +44,21 @@ fn deal_and_work<
     dealer: &mut L,
     units: &mut Units<F>,
     files: &mut [R],
-    feeds: &mut [FeedOf<F>],
+    feeds: &mut Vec<FeedOf<F>>,
     workers: &mut [W],
 ) -> (Result<Step, ReplayError>, Result<(), Memory>)
-    requires lanes { 0 < length feeds.old }
+    requires lanes { 0 < length feeds.old.items }
     requires files { length files.old ≡ units.old.count }
-    ensures deals { DealsOn (λ number. L.lane_of (L.dealer dealer.old).dealing number (length feeds.old)) patience.batch
-        feeds.old feeds.new (L.dealer dealer.old) (L.dealer dealer.new) units.old (map R.remaining files.old)
+    ensures deals { DealsOn (λ number. L.lane_of (L.dealer dealer.old).dealing number (length feeds.old.items)) patience.batch
+        feeds.old.items feeds.new.items (L.dealer dealer.old) (L.dealer dealer.new) units.old (map R.remaining files.old)
         (map R.failure_count files.old) units.new (map R.remaining files.new) (map R.failure_count files.new) result.0 }
     ensures worked { OnOk result.1 (AllZip W.worked workers.old workers.new) }
 {
     let (batch, looks) = (patience.batch, patience.looks);
-    if workers.len() < 2 && looks < 2 {
-        // Nobody empties a full ring meanwhile, so the dealer looks no further.
-        let step = dealer.deal_on(alloc, gate, batch, 0, over, units, files, feeds);
-        over.store(true, Ordering::SeqCst);
-        let worked = run_at_most_one(alloc, gate, over, patience, workers);
-        return (step, worked);
-    }
     let mut deal = || -> Result<Step, ReplayError>
-        requires { (0 < length feeds.now) × (length files.now ≡ units.now.count) }
-        ensures { DealsOn (λ number. L.lane_of (L.dealer dealer.entry.now).dealing number (length feeds.entry.now))
-            batch feeds.entry.now feeds.exit.now (L.dealer dealer.entry.now) (L.dealer dealer.exit.now)
+        requires { (0 < length feeds.now.items) × (length files.now ≡ units.now.count) }
+        ensures { DealsOn (λ number. L.lane_of (L.dealer dealer.entry.now).dealing number (length feeds.entry.now.items))
+            batch feeds.entry.now.items feeds.exit.now.items (L.dealer dealer.entry.now) (L.dealer dealer.exit.now)
             units.entry.now (map R.remaining files.entry.now) (map R.failure_count files.entry.now) units.exit.now
             (map R.remaining files.exit.now) (map R.failure_count files.exit.now) result }
     {
@@ -83,7 +75,66 @@ fn deal_and_work<
     (step, worked)
 }
 
-/// Runs one round over all lanes, whose rings are made anew at its end.
+/// Runs one round of a single worker in this thread: what waits is taken, and then each unit that is dealt.
+fn run_alone<
+    T: Threads + Sync,
+    F: Unicast + Send,
+    D: Dealing + Send,
+    R: Source + Send,
+    S: Sessions<Addr = F> + Send,
+    G: Gate + Sync,
+>(
+    rt: &T,
+    alloc: Global,
+    capacity: usize,
+    gate: &G,
+    patience: Patience,
+    dealer: &mut DealerOf<D, F>,
+    units: &mut Units<F>,
+    files: &mut [R],
+    feeds: &mut Vec<FeedOf<F>>,
+    workers: &mut Vec<WorkerOf<S, F>>,
+) -> Result<Step, ReplayError>
+    requires lanes { length feeds.old.items ≡ 1 }
+    requires files { length files.old ≡ units.old.count }
+    requires kept { dealer.old.kept ≡ None }
+    requires ready { AreReady capacity feeds.old.items workers.old.items }
+    ensures lanes { length feeds.new.items ≡ length feeds.old.items }
+    ensures count { units.new.count ≡ units.old.count }
+    ensures reads { ReadsOn units.old (map R.remaining files.old) (map R.failure_count files.old) units.new
+        (map R.failure_count files.new) result }
+    ensures plays { IfAnswered result
+        (PlaysLanes S.stands_for (λ number. D.lane_of dealer.old.dealing number (length feeds.old.items)) capacity
+        patience.batch feeds.old.items workers.old.items feeds.new.items workers.new.items dealer.old dealer.new
+        units.old (map R.remaining files.old) units.new (map R.remaining files.new) result) }
+{
+    dealer.lanes_are_below(1);
+    settle_lanes(rt, alloc, capacity, gate, patience, feeds, workers)?;
+    let Some(worker) = workers.pop() else {
+        unreachable!()
+    };
+    let mut alone = Alone::new(alloc, worker);
+    let over = AtomicBool::new(false);
+    let step = dealer.deal(
+        alloc,
+        gate,
+        patience.batch,
+        0,
+        &over,
+        units,
+        files,
+        &mut alone,
+    );
+    let (worker, taken) = alone.into_worker(alloc, gate);
+    workers.push_reserved(worker);
+    let Ok(()) = taken else {
+        return Err(ReplayError::Memory);
+    };
+    step
+}
+
+/// Runs one round over all lanes, whose rings are made anew at its end. A single worker that looks once at an empty ring
+/// would gain little from a thread of its own: the calling thread deals to it directly, and nothing waits in its ring.
 pub fn run_round<
     T: Threads + Sync,
     F: Unicast + Send,
@@ -100,20 +151,26 @@ pub fn run_round<
     dealer: &mut DealerOf<D, F>,
     units: &mut Units<F>,
     files: &mut [R],
-    feeds: &mut [FeedOf<F>],
-    workers: &mut [WorkerOf<S, F>],
+    feeds: &mut Vec<FeedOf<F>>,
+    workers: &mut Vec<WorkerOf<S, F>>,
 ) -> Result<Step, ReplayError>
-    requires lanes { 0 < length feeds.old }
+    requires lanes { 0 < length feeds.old.items }
     requires files { length files.old ≡ units.old.count }
-    requires ready { AreReady capacity feeds.old workers.old }
+    requires ready { AreReady capacity feeds.old.items workers.old.items }
+    ensures lanes { length feeds.new.items ≡ length feeds.old.items }
     ensures count { units.new.count ≡ units.old.count }
     ensures reads { ReadsOn units.old (map R.remaining files.old) (map R.failure_count files.old) units.new
         (map R.failure_count files.new) result }
     ensures plays { IfAnswered result
-        (PlaysLanes S.stands_for (λ number. D.lane_of dealer.old.dealing number (length feeds.old)) capacity
-        patience.batch feeds.old workers.old feeds.new workers.new dealer.old dealer.new units.old
-        (map R.remaining files.old) units.new (map R.remaining files.new) result) }
+        (PlaysLanes S.stands_for (λ number. D.lane_of dealer.old.dealing number (length feeds.old.items)) capacity
+        patience.batch feeds.old.items workers.old.items feeds.new.items workers.new.items dealer.old dealer.new
+        units.old (map R.remaining files.old) units.new (map R.remaining files.new) result) }
 {
+    if workers.len() < 2 && patience.looks == 1 && dealer.kept.is_none() {
+        return run_alone(
+            rt, alloc, capacity, gate, patience, dealer, units, files, feeds, workers,
+        );
+    }
     let over = AtomicBool::new(false);
     let (step, worked) = deal_and_work(
         rt, alloc, gate, &over, patience, dealer, units, files, feeds, workers,

@@ -9,17 +9,17 @@ ghost use Rattle.lane_deal.specs.Schedules.{LanesState, dealt, took, after_turn,
 ghost use Rattle.lane_deal.specs.ShownLanes.{LaneShows, LanesShow, Shows};
 
 use crate::dealing::Dealing;
+use crate::decoded_batch::DecodedBatch;
 use crate::holding::{HoldsSeats, exchange_seats};
 use crate::numbered::{Numbered, NumberedOf};
 use crate::scheduled::Lanes;
 use crate::seats::Seats;
 use crate::sessions::Sessions;
 use crate::turn::Turn;
-use crate::unit_list::LentItem;
 use adj_rib::RouteId;
 use bgp_prefix::{Memory, PrefixMap, Sequence};
 use bgp_update::Unicast;
-use mrt_body::{DecodedEvents, UnitOf};
+use mrt_body::UnitOf;
 use peer_tables::{Peers, Seated};
 use std::alloc::Global;
 use std::collections::VecDeque;
@@ -120,13 +120,9 @@ fn take_one<F: Unicast, M: PrefixMap<RouteId, Addr = F> + Drop>(
     let Some(item) = lane.ring.pop_front() else {
         return Ok(());
     };
-    let lent = LentItem {
-        number: item.number,
-        unit: item.unit.lend(),
-    };
-    let mut events = DecodedEvents::new(alloc);
-    events.push(alloc, &lent.unit.payload)?;
-    lane.seats.take(alloc, &lent, &events, 0)?;
+    let mut batch = DecodedBatch::new(alloc);
+    batch.push(alloc, item.number, &item.unit.lend())?;
+    lane.seats.take(alloc, &batch, 0)?;
     lane.took = lane.took.saturating_add(1);
     Ok(())
 }

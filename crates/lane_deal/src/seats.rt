@@ -2,18 +2,18 @@
 
 ghost use Rattle.std.specs.Prelude.{◌≡◌, ◌<◌, ℕ, Some, false, length, map, slice_get, slice_index_or, IfOk, IfSome, OnOk, IsTrue, MatchOption, true, ◌==◌};
 ghost use Rattle.std.specs.List.{list_any};
-ghost use Rattle.mrt_body.specs.Lent.{lent_payload, lent_unit};
-ghost use Rattle.mrt_body.specs.DecodedEvents.{event_of};
-ghost use Rattle.mrt_body.specs.Events.{event_in};
+ghost use Rattle.mrt_body.specs.DecodedEvents.{Means, event_of};
+ghost use Rattle.mrt_body.specs.Plain.{Unit as ReplayUnit};
 ghost use Rattle.peer_tables.specs.Seats.{seat_of};
 ghost use Rattle.lane_deal.specs.Seating.{AreIndexed, SeatFor, TakenAt};
 
+use crate::decoded_batch::DecodedBatch;
 use crate::sessions::Sessions;
-use crate::unit_list::{LentItemOf, UnitListOf};
+use crate::unit_head::UnitHead;
 use adj_rib::{RouteId, Session};
 use bgp_prefix::{Memory, Prefix, PrefixMap};
 use bgp_update::Unicast;
-use mrt_body::{DecodedEvents, EventRef, LentUnitOf, PeerKey};
+use mrt_body::{EventRef, PeerKey};
 use peer_tables::Seated;
 use std::alloc::Global;
 use std::mem;
@@ -82,15 +82,17 @@ fn take_at<F: Unicast, M: PrefixMap<RouteId, Addr = F> + Drop>(
     alloc: Global,
     seats: &mut [Seated<M>],
     at: usize,
-    unit: &LentUnitOf<'_, F>,
+    head: &UnitHead,
     event: EventRef<'_, Prefix<F>>,
 ) -> Result<(), Memory>
     requires within { at < length seats.old }
-    requires event { event_of event ≡ event_in (lent_payload unit.now.payload) }
-    ensures taken { OnOk result (TakenAt (map seat_of seats.old) (map seat_of seats.new) at (lent_unit unit.now)) }
+    ensures taken { (unit : ReplayUnit) → Means unit head.now.place head.now.time (event_of event.entry) →
+        OnOk result (TakenAt (map seat_of seats.old) (map seat_of seats.new) at unit) }
     ensures numbers { map (λ seat. seat.number) seats.new ≡ map (λ seat. seat.number) seats.old }
 {
-    seats[at].session.take_event(alloc, unit, event)
+    seats[at]
+        .session
+        .take_event(alloc, head.place, head.time, event)
 }
 
 impl<M: PrefixMap<RouteId>> Seats<M> {
@@ -198,21 +200,21 @@ impl<F: Unicast, M: PrefixMap<RouteId, Addr = F> + Drop> Seats<M> {
 
     /// Prefetches the slots where the routes of the first units would be, and then these routes. The returned number
     /// has no meaning.
-    fn touch(&self, items: &UnitListOf<F>, events: &DecodedEvents<F>) -> usize {
-        let count = items.len().min(MOST_NEAR);
+    fn touch(&self, batch: &DecodedBatch<F>) -> usize {
+        let count = batch.len().min(MOST_NEAR);
         let mut near = [0usize; MOST_NEAR];
         let mut touched = 0usize;
         for at in 0..count {
-            let position = self.position_near(items.number_at(at));
+            let position = self.position_near(batch.head(at).number);
             near[at] = position;
-            if let Some(route) = events.first_route(at) {
+            if let Some(route) = batch.first_route(at) {
                 if let Some(seat) = self.seat_at(position) {
                     touched = touched.saturating_add(seat.session.prefetch_slot(route));
                 }
             }
         }
         for at in 0..count {
-            if let Some(route) = events.first_route(at) {
+            if let Some(route) = batch.first_route(at) {
                 if let Some(seat) = self.seat_at(near[at]) {
                     touched = touched.saturating_add(seat.session.prefetch_route(route));
                 }
@@ -240,19 +242,14 @@ impl<F: Unicast, M: PrefixMap<RouteId, Addr = F> + Drop> Sessions for Seats<M> {
         }
     }
 
-    fn prefetch(&mut self, items: &UnitListOf<F>, events: &DecodedEvents<F>) {
-        self.prefetched = self.touch(items, events);
+    fn prefetch(&mut self, batch: &DecodedBatch<F>) {
+        self.prefetched = self.touch(batch);
     }
 
     #[inline(always)]
-    fn take(
-        &mut self,
-        alloc: Global,
-        item: &LentItemOf<'_, F>,
-        events: &DecodedEvents<F>,
-        at: usize,
-    ) -> Result<(), Memory> {
-        let position = self.position_for(alloc, item.number, &item.unit.peer)?;
-        take_at(alloc, &mut self.seats, position, &item.unit, events.at(at))
+    fn take(&mut self, alloc: Global, batch: &DecodedBatch<F>, at: usize) -> Result<(), Memory> {
+        let head = batch.head(at);
+        let position = self.position_for(alloc, head.number, &head.peer)?;
+        take_at(alloc, &mut self.seats, position, head, batch.event(at))
     }
 }

@@ -1,30 +1,20 @@
 //! Lists of units, which pass through a ring as one item.
 
-ghost use Rattle.std.specs.Prelude.{◌≡◌, ◌+◌, ◌≤◌, length, take, drop};
+ghost use Rattle.std.specs.Prelude.{◌≡◌, length};
 ghost use Rattle.std.proofs.Props.{props};
+ghost use Rattle.lane_deal.specs.PlacedProps.{meet_prop};
 ghost use Rattle.std.specs.List.{AllByRecursion};
-ghost use Rattle.mrt_body.specs.Lent.{lent_payload};
-ghost use Rattle.lane_deal.specs.ListedUnits.{IsWithin, payload_with};
+ghost use Rattle.bgp_update.specs.Decoded.{IsWithin, span_of};
+ghost use Rattle.mrt_body.specs.HeldBytes.{BytesMeet, payload_of_held};
+ghost use Rattle.lane_deal.specs.ListedUnits.{IsListed};
 
 use crate::listed_peer::ListedPeer;
-use crate::listed_unit::{
-    ListedRecord, ListedUnit, NumberedPeer, PayloadKind, PayloadKindOf, index_of_peer,
-    index_of_record,
-};
+use crate::listed_unit::{ListedRecord, ListedUnit, NumberedPeer, index_of_peer, index_of_record};
+use crate::numbered::{Numbered, NumberedRef};
 use bgp_prefix::{Memory, Prefix};
-use bgp_update::{FamilyMark, Unicast};
-use mrt_body::{LentPayload, LentPayloadOf, LentUnit, LentUnitOf, Place};
+use bgp_update::{FamilyMark, Span, Unicast};
+use mrt_body::{BytesRef, Payload, PayloadRef, Place, Unit, UnitRef};
 use std::alloc::Global;
-
-/// A unit that its list lends, with its peer's number.
-#[derive(Clone, Copy)]
-pub struct LentItem<'a, P = Prefix, K = FamilyMark> {
-    pub number: usize,
-    pub unit: LentUnit<'a, P, K>,
-}
-
-/// A unit of a family that its list lends, with its peer's number.
-pub type LentItemOf<'a, F> = LentItem<'a, Prefix<F>, FamilyMark<F>>;
 
 /// Units that were dealt to one lane, in order. Their records, their peers and their bytes are in blocks of memory of
 /// their own, so a list takes four allocations, and one more each time one of these blocks is outgrown.
@@ -38,8 +28,8 @@ pub struct UnitList<P = Prefix, K = FamilyMark> {
     /// The index of the peer whose unit probably comes next: peers take turns in RIB records.
     probable: u16,
     ghost within: { AllByRecursion
-        (λ unit. IsWithin (length records.items) (length peers.items) (length bytes.items) unit)
-        listed.items } by { Prim.hlevel props },
+        (λ unit. IsListed (length records.items) (length peers.items) (length bytes.items) unit)
+        listed.items } by { Prim.hlevel (props, meet_prop) },
 }
 
 /// Units of a family that were dealt to one lane.
@@ -55,95 +45,34 @@ const MOST_KEPT: usize = 16_384;
 /// next units.
 const MOST_PEERS: usize = 24;
 
-/// How many numbers a state may have.
-const STATES: u32 = 65_536;
-
-/// Returns a payload's kind and its bytes.
+/// Lends a payload whose bytes are in this block.
 #[inline(always)]
-fn parts_of<'a, F: Unicast>(payload: &LentPayloadOf<'a, F>) -> (PayloadKindOf<F>, &'a [u8])
-    ensures { payload_with result.0 result.1.now ≡ lent_payload payload.now }
+fn lent_from<'a, F: Unicast>(
+    payload: &Payload<Span, Prefix<F>, FamilyMark<F>>,
+    block: &'a [u8],
+) -> PayloadRef<'a, F>
+    requires { BytesMeet (IsWithin (length block.now)) payload.now }
+    ensures { result ≡ payload_of_held (span_of block.now) payload.now }
 {
-    match *payload {
-        LentPayload::State { from, to, rule } => (
-            PayloadKind::State {
-                from: from as u32,
-                to: to as u32,
-                rule,
-            },
-            &[],
-        ),
-        LentPayload::Message {
-            bytes,
-            width,
-            add_path,
-            family,
-        } => (
-            PayloadKind::Message {
-                width,
-                add_path,
-                family,
-            },
-            bytes,
-        ),
-        LentPayload::Entry { key, attrs, family } => (PayloadKind::Entry { key, family }, attrs),
-        LentPayload::Clear => (PayloadKind::Clear, &[]),
+    match payload {
+        Payload::Message { bytes, .. } => payload.with_bytes(BytesRef::new(bytes.of(block))),
+        Payload::Entry { attrs, .. } => payload.with_bytes(BytesRef::new(attrs.of(block))),
+        Payload::State { .. } | Payload::Clear => payload.with_bytes(BytesRef::new(&[])),
     }
-}
-
-/// Returns the payload of this kind with these bytes.
-#[inline(always)]
-fn with_bytes<F: Unicast>(kind: PayloadKindOf<F>, bytes: &[u8]) -> LentPayloadOf<'_, F>
-    ensures { lent_payload result ≡ payload_with kind bytes.now }
-{
-    match kind {
-        PayloadKind::State { from, to, rule } => LentPayload::State {
-            from: (from % STATES) as u16,
-            to: (to % STATES) as u16,
-            rule,
-        },
-        PayloadKind::Message {
-            width,
-            add_path,
-            family,
-        } => LentPayload::Message {
-            bytes,
-            width,
-            add_path,
-            family,
-        },
-        PayloadKind::Entry { key, family } => LentPayload::Entry {
-            key,
-            attrs: bytes,
-            family,
-        },
-        PayloadKind::Clear => LentPayload::Clear,
-    }
-}
-
-/// Returns this many bytes from a position on.
-#[inline(always)]
-fn bytes_from(bytes: &[u8], start: usize, len: usize) -> &[u8]
-    requires { start + len ≤ length bytes.now }
-    ensures { result.now ≡ take len (drop start bytes.now) }
-{
-    &bytes[start..start + len]
 }
 
 /// Writes to all of the units and bytes. The processor of the worker that read them has their cache lines too, so
 /// that a write to each waits for it. One after the other, these waits overlap; while a list is filled they wouldn't.
 fn write_ahead<P, K>(listed: &mut [ListedUnit<P, K>], bytes: &mut [u8]) {
     for unit in listed.iter_mut() {
-        unit.start = 0;
+        unit.entry = None;
     }
     bytes.fill(0);
 }
 
 impl<F: Unicast> UnitList<Prefix<F>, FamilyMark<F>> {
     ghost use Rattle.std.specs.Prelude.{◌<◌, [], ◌∷◌, ◌++◌, MatchOption, OnOk, OnErr, slice_index_or};
-    ghost use Rattle.mrt_body.specs.Lent.{lent_unit};
-    ghost use Rattle.lane_deal.specs.ListedUnits.{lent_item};
     ghost use Rattle.lane_deal.specs.UnitLists.{units_of};
-    ghost use Rattle.lane_deal.specs.Plain.{Numbered};
 
     /// Returns a list without units. Allocates nothing.
     pub fn new(alloc: Global) -> UnitListOf<F>
@@ -195,22 +124,21 @@ impl<F: Unicast> UnitList<Prefix<F>, FamilyMark<F>> {
 
     /// Adds a copy of this unit of the peer with this number.
     #[inline(always)]
-    pub fn push(&mut self, number: usize, unit: &LentUnitOf<'_, F>) -> Result<(), Memory>
+    pub fn push(&mut self, number: usize, unit: &UnitRef<'_, F>) -> Result<(), Memory>
         ensures pushed { OnOk result
-            (units_of self.new ≡ units_of self.old ++ record { number = number; unit = lent_unit unit.now } ∷ []) }
+            (units_of self.new ≡ units_of self.old ++ record { number = number; unit = unit.now } ∷ []) }
         ensures failed { OnErr result (units_of self.new ≡ units_of self.old) }
     {
-        let (kind, bytes) = parts_of(&unit.payload);
         self.listed.reserve(1)?;
         let record = index_of_record(&mut self.records, &unit.place, unit.time)?;
         let peer = ListedPeer::new(&unit.peer);
         let peer = index_of_peer(&mut self.peers, self.probable, number, peer)?;
+        let bytes = unit.payload.as_slice();
         let start = self.bytes.len();
+        let place = Span::between(start, start.saturating_add(bytes.len()))?;
         self.bytes.extend_from_slice(bytes)?;
         self.listed.push_reserved(ListedUnit {
-            kind,
-            start,
-            len: bytes.len(),
+            payload: unit.payload.with_bytes(place),
             entry: unit.place.entry,
             record,
             peer,
@@ -229,29 +157,18 @@ impl<F: Unicast> UnitList<Prefix<F>, FamilyMark<F>> {
         next
     }
 
-    /// Returns the number of the peer of the unit at this index.
-    #[inline(always)]
-    pub fn number_at(&self, at: usize) -> usize
-        requires { at < length (units_of self.now) }
-        ensures { (d : Numbered) → (slice_index_or (units_of self.now) at d).number ≡ result }
-    {
-        let unit = &self.listed[at];
-        self.peers[unit.peer as usize].number
-    }
-
     /// Lends the unit at this index.
     #[inline(always)]
-    pub fn at(&self, at: usize) -> LentItemOf<'_, F>
+    pub fn at(&self, at: usize) -> NumberedRef<'_, F>
         requires { at < length (units_of self.now) }
-        ensures { (d : _) → slice_index_or (units_of self.now) at d ≡ lent_item result }
+        ensures { (d : _) → slice_index_or (units_of self.now) at d ≡ result }
     {
         let unit = &self.listed[at];
         let record = &self.records[unit.record as usize];
         let source = &self.peers[unit.peer as usize];
-        let bytes = bytes_from(self.bytes.as_slice(), unit.start, unit.len);
-        LentItem {
+        Numbered {
             number: source.number,
-            unit: LentUnit {
+            unit: Unit {
                 place: Place {
                     file: record.file,
                     offset: record.offset,
@@ -259,8 +176,7 @@ impl<F: Unicast> UnitList<Prefix<F>, FamilyMark<F>> {
                 },
                 time: record.time,
                 peer: source.peer.key(),
-                peer_index: None,
-                payload: with_bytes(unit.kind, bytes),
+                payload: lent_from(&unit.payload, self.bytes.as_slice()),
             },
         }
     }

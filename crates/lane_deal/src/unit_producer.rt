@@ -11,7 +11,7 @@ use crate::numbered::Small;
 use crate::unit_list::{UnitList, UnitListOf};
 use bgp_prefix::{Memory, Prefix};
 use bgp_update::{FamilyMark, Unicast};
-use mrt_body::LentUnitOf;
+use mrt_body::UnitRef;
 use rtrb::{Consumer, Producer, RingBuffer};
 use std::alloc::Global;
 use std::collections::VecDeque;
@@ -81,7 +81,6 @@ fn take_sum(lengths: &mut VecDeque<usize>, count: usize) -> usize
 impl<F: Unicast> UnitProducer<Prefix<F>, FamilyMark<F>> {
     ghost use Rattle.std.specs.Prelude.{◌≡◌, ◌+◌, ◌<◌, ◌≤◌, [], ◌∷◌, ◌++◌, length, IfOk, OnOk, IsTrue, ◌↔◌, false};
     ghost use Rattle.rtrb.specs.Ring.{ConsumerLooked};
-    ghost use Rattle.mrt_body.specs.Lent.{lent_unit};
     ghost use Rattle.mrt_body.specs.Units.{IsSmallUnit};
     ghost use Rattle.lane_deal.specs.UnitLists.{IsUnitList};
     ghost use Rattle.lane_deal.specs.UnitRings.{sent, known_free, ring_capacity, received, known_items, IsPair, SameProducer, ProducerLooked};
@@ -219,13 +218,13 @@ impl<F: Unicast> UnitProducer<Prefix<F>, FamilyMark<F>> {
         alloc: Global,
         emptied: &mut Consumer<UnitListOf<F>, Global>,
         number: usize,
-        unit: &LentUnitOf<'_, F>,
+        unit: &UnitRef<'_, F>,
     ) -> Result<(), Memory>
-        requires small { IsSmallUnit (lent_unit unit.now) }
+        requires small { IsSmallUnit unit.now }
         requires room { 0 < known_free self.old }
         ensures ring { SameProducer self.old self.new }
         ensures sent { OnOk result
-            (sent self.new ≡ sent self.old ++ record { number = number; unit = lent_unit unit.now } ∷ []) }
+            (sent self.new ≡ sent self.old ++ record { number = number; unit = unit.now } ∷ []) }
         ensures free { OnOk result (known_free self.old ≡ known_free self.new + 1) }
     {
         if self.filling.len() == 0 {

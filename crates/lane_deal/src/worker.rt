@@ -1,9 +1,11 @@
-ghost use Rattle.std.specs.Prelude.{◌≡◌, Ok, OnOk, [], length, ◌<◌, true, false};
+ghost use Rattle.std.specs.Prelude.{◌≡◌, Ok, OnOk, List, [], length, ◌<◌, true, false};
 ghost use Rattle.std.specs.List.{AllZip};
 ghost use Rattle.std.specs.Thread.{IsSync, IsSend};
-ghost use Rattle.lane_deal.specs.LaneWorkers.{events_of};
+ghost use Rattle.lane_deal.specs.DecodedBatches.{AreDecoded};
+ghost use Rattle.lane_deal.specs.Plain.{Numbered};
 ghost use Rattle.lane_deal.specs.UnitLists.{units_of};
 
+use crate::decoded_batch::DecodedBatch;
 use crate::gate::Gate;
 use crate::halves::Works;
 use crate::numbered::Small;
@@ -11,7 +13,6 @@ use crate::sessions::Sessions;
 use crate::unit_list::{UnitList, UnitListOf};
 use bgp_prefix::{Memory, Prefix};
 use bgp_update::{FamilyMark, Unicast};
-use mrt_body::DecodedEvents;
 use rtrb::{Consumer, Producer};
 use std::alloc::Global;
 use std::sync::atomic::{AtomicBool, Ordering};
@@ -42,13 +43,14 @@ pub struct Patience {
 fn decode_all<F: Unicast>(
     alloc: Global,
     items: &UnitListOf<F>,
-    events: &mut DecodedEvents<F>,
+    batch: &mut DecodedBatch<F>,
 ) -> Result<(), Memory>
-    ensures { OnOk result (events.new ≡ events_of (units_of items.now)) }
+    ensures { OnOk result (AreDecoded batch.new (units_of items.now)) }
 {
-    events.clear();
+    batch.clear();
     for at in 0..items.len() {
-        events.push(alloc, &items.at(at).unit.payload)?;
+        let item = items.at(at);
+        batch.push(alloc, item.number, &item.unit)?;
     }
     Ok(())
 }
@@ -61,13 +63,13 @@ impl<F: Unicast, S: Sessions<Addr = F>> Worker<S, Prefix<F>, FamilyMark<F>> {
         &mut self,
         alloc: Global,
         gate: &G,
-        events: &mut DecodedEvents<F>,
+        batch: &mut DecodedBatch<F>,
     ) -> Result<(), Memory>
         ensures { OnOk result (Took S.stands_for self.old self.new (known_items self.old.consumer)) }
     {
         let _taken = self.taken;
         while self.consumer.cached_slots() > 0 {
-            self.take_list(alloc, gate, events)?;
+            self.take_list(alloc, gate, batch)?;
         }
         Ok(())
     }
@@ -78,7 +80,7 @@ impl<F: Unicast, S: Sessions<Addr = F>> Worker<S, Prefix<F>, FamilyMark<F>> {
         gate: &G,
         over: &AtomicBool,
         patience: Patience,
-        events: &mut DecodedEvents<F>,
+        batch: &mut DecodedBatch<F>,
     ) -> Result<(), Memory>
         ensures { OnOk result (TookSome S.stands_for self.old self.new) }
     {
@@ -88,8 +90,8 @@ impl<F: Unicast, S: Sessions<Addr = F>> Worker<S, Prefix<F>, FamilyMark<F>> {
         let mut further = 0u64;
         while empty < patience.looks && further < patience.batch {
             let last = over.load(Ordering::SeqCst);
-            if self.take_found(alloc, gate, events)? {
-                further = further.saturating_add(events.len() as u64).max(further + 1);
+            if self.take_found(alloc, gate, batch)? {
+                further = further.saturating_add(batch.len() as u64).max(further + 1);
                 in_a_row = 0;
             } else if last {
                 break;
@@ -107,7 +109,7 @@ impl<F: Unicast, S: Sessions<Addr = F>> Worker<S, Prefix<F>, FamilyMark<F>> {
         &mut self,
         alloc: Global,
         gate: &G,
-        events: &mut DecodedEvents<F>,
+        batch: &mut DecodedBatch<F>,
     ) -> Result<bool, Memory>
         ensures took { OnOk result (TookSome S.stands_for self.old self.new) }
         ensures none { result ≡ Ok false → received self.new.consumer ≡ received self.old.consumer }
@@ -117,7 +119,7 @@ impl<F: Unicast, S: Sessions<Addr = F>> Worker<S, Prefix<F>, FamilyMark<F>> {
         if self.consumer.is_empty() {
             return Ok(false);
         }
-        self.take_list(alloc, gate, events)?;
+        self.take_list(alloc, gate, batch)?;
         Ok(true)
     }
 
@@ -126,14 +128,14 @@ impl<F: Unicast, S: Sessions<Addr = F>> Worker<S, Prefix<F>, FamilyMark<F>> {
         &mut self,
         alloc: Global,
         gate: &G,
-        events: &mut DecodedEvents<F>,
+        batch: &mut DecodedBatch<F>,
     ) -> Result<(), Memory>
         requires { 0 < length (known_lists self.old.consumer) }
         ensures { OnOk result (TookFront S.stands_for self.old self.new) }
     {
         let items = self.consumer.pop_known();
-        decode_all(alloc, &items, events)?;
-        self.take_items(alloc, gate, &items, events)?;
+        decode_all(alloc, &items, batch)?;
+        self.take_decoded(alloc, gate, batch)?;
         self.give_back(items);
         Ok(())
     }
@@ -148,21 +150,20 @@ impl<F: Unicast, S: Sessions<Addr = F>> Worker<S, Prefix<F>, FamilyMark<F>> {
         }
     }
 
-    /// Takes the units in order, which mean these events.
-    fn take_items<G: Gate>(
+    /// Takes these units, in order.
+    pub fn take_decoded<G: Gate>(
         &mut self,
         alloc: Global,
         gate: &G,
-        items: &UnitListOf<F>,
-        events: &DecodedEvents<F>,
+        batch: &DecodedBatch<F>,
     ) -> Result<(), Memory>
-        requires { events.now ≡ events_of (units_of items.now) }
-        ensures { OnOk result (Takes S.stands_for self.old self.new (units_of items.now)) }
+        ensures { OnOk result ((items : List Numbered) → AreDecoded batch.now items →
+            Takes S.stands_for self.old self.new items) }
     {
-        self.sessions.prefetch(items, events);
-        for at in 0..items.len() {
+        self.sessions.prefetch(batch);
+        for at in 0..batch.len() {
             gate.before(self.lane, self.taken);
-            self.sessions.take(alloc, &items.at(at), events, at)?;
+            self.sessions.take(alloc, batch, at)?;
             self.taken = self.taken.saturating_add(1);
         }
         Ok(())
@@ -181,9 +182,9 @@ impl<F: Unicast, S: Sessions<Addr = F>> Works for Worker<S, Prefix<F>, FamilyMar
         over: &AtomicBool,
         patience: Patience,
     ) -> Result<(), Memory> {
-        let mut events = DecodedEvents::new(alloc);
-        self.take_all_known(alloc, gate, &mut events)?;
-        self.look_again(alloc, gate, over, patience, &mut events)
+        let mut batch = DecodedBatch::new(alloc);
+        self.take_all_known(alloc, gate, &mut batch)?;
+        self.look_again(alloc, gate, over, patience, &mut batch)
     }
 }
 

@@ -87,5 +87,11 @@ fn rounds_give_the_tables_or_spend_the_replayer(rt: HostRuntime) -> Result<(), F
         ..PLAN
     };
     play_to_the_end::<Shelf<u32, RouteId>>(&rt, alloc, small)?;
+    let alone = Plan {
+        workers: 1,
+        looks: 1,
+        ..PLAN
+    };
+    play_to_the_end::<Shelf<u32, RouteId>>(&rt, alloc, alone)?;
     play_to_the_end::<Radix<u32, RouteId>>(&rt, alloc, PLAN)
 }

@@ -34,6 +34,22 @@ spent
 round Spent
 settle Spent
 into_tables Spent
+row memory-of-one-worker-in-the-round-that-deals
+file announcement
+plan workers 1,looks 1
+round Memory
+spent
+round Spent
+settle Spent
+into_tables Spent
+row memory-before-read-of-one-worker-in-the-round-that-deals
+broken announcement
+plan workers 1,looks 1
+round Memory
+spent
+round Spent
+settle Spent
+into_tables Spent
 row memory-before-read-of-64-workers
 broken announcement
 plan workers 64,batch 1
@@ -93,7 +109,7 @@ into_tables Ok
 
 #[test]
 fn a_refused_growth_spends_the_replayer(rt: HostRuntime) {
-    assert_eq!(rt; play_rows::<Refusing>(&rt, rt.alloc(), WANTS), 8);
+    assert_eq!(rt; play_rows::<Refusing>(&rt, rt.alloc(), WANTS), 10);
 }
 
 /// A session is spent after a refused growth, and lanes on one thread aren't had.

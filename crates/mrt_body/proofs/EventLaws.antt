@@ -1,5 +1,5 @@
 -- A payload has an event exactly where the reading of it gives one.
-use Rattle.std.proofs.Common.{◌≡◌, ◌≢◌, ℕ, ◌+◌, ◌^◌, ◌<◌, Bool, true, false, cond, eqb, List, length, Result, Ok, refl, sym, ap, subst, ◌∙◌, arith}
+use Rattle.std.proofs.Common.{◌≡◌, ◌≢◌, ℕ, ◌+◌, ◌^◌, ◌<◌, Bool, true, false, cond, eqb, List, length, Result, Ok, Err, refl, sym, ap, subst, ◌∙◌, arith}
 use Rattle.std.proofs.lemmas.Bool.{eqb-true, eqb-false}
 use Rattle.mrt_frame.specs.declared.fault.Fault.{Fault}
 use Rattle.mrt_frame.specs.Fields.{◌>>=◌}
@@ -16,7 +16,9 @@ use Rattle.mrt_body.specs.Plain.{Payload}
 use Rattle.mrt_body.specs.declared.unit.Payload.TheVariants.{State, Message, Entry, Clear}
 use Rattle.mrt_body.specs.Plain.{Event}
 use Rattle.mrt_body.specs.declared.meaning.Event.TheVariants as event
-use Rattle.mrt_body.specs.Units.{payload_bytes}
+use Rattle.mrt_body.specs.Units.{is_recorded, payload_bytes}
+use Rattle.mrt_body.specs.DecodedEvents.{is_recorded_event}
+use Rattle.bgp_update.specs.declared.route.Route.{Route}
 use Rattle.mrt_body.specs.Events.{UPDATE, IsMessageEvent, IsEntryEvent, IsEvent, message_bytes, message_in, message_event_in, event_in}
 use Rattle.mrt_body.proofs.MessageLaws.{message_takes, message_again, other_found, change_found}
 
@@ -85,3 +87,28 @@ event_again Clear e h = ap (λ (x : Event). done x) (sym h)
 
 pub one_event : (payload : Payload) (e other : Event) → IsEvent payload e → IsEvent payload other → e ≡ other
 one_event payload e other h k = ok_is e other (sym (event_again payload e h) ∙ event_again payload other k)
+
+-- ---- clears
+
+update_told : (r : Result Update Fault) → is_recorded_event (r >>= λ update. Ok (event.Change update)) ≡ true
+update_told (Ok update) = refl
+update_told (Err fault) = refl
+
+route_told : (key : RouteKey) (r : Result Route Fault) → is_recorded_event (r >>= λ route. Ok (event.Rib key route)) ≡ true
+route_told key (Ok route) = refl
+route_told key (Err fault) = refl
+
+message_told : (family : FamilyOf) (width : Width) (add_path : Bool) (r : Result (ℕ × List ℕ) Fault) → is_recorded_event (r >>= λ m. cond (eqb m.0 UPDATE) (update_in family width add_path m.1 >>= λ update. Ok (event.Change update)) (Ok event.Other)) ≡ true
+message_told family width add_path (Err fault) = refl
+message_told family width add_path (Ok m) =
+    elim (eqb m.0 UPDATE) as (λ b. is_recorded_event (cond b (update_in family width add_path m.1 >>= λ update. Ok (event.Change update)) (Ok event.Other)) ≡ true) [
+      | true ↦ update_told (update_in family width add_path m.1)
+      | false ↦ refl
+    ]
+
+pub recorded_told : (payload : Payload) → is_recorded_event (event_in payload) ≡ is_recorded payload
+unfolding event_in message_event_in
+recorded_told (State from to rule) = refl
+recorded_told (Message bytes width add_path family) = message_told family width add_path (message_in bytes)
+recorded_told (Entry key attrs family) = route_told key (route_in family Four attrs)
+recorded_told Clear = refl

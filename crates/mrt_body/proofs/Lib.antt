@@ -30,3 +30,4 @@ pub mod RuleLaws
 pub mod OpenLaws
 pub mod NamedLaws
 pub mod DecodedLaws
+pub mod HeldLaws

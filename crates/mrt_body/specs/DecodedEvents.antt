@@ -1,10 +1,12 @@
 -- What payloads mean, where their keys and the packed bytes of their routes are among others.
-use Rattle.std.specs.Prelude.{⊤, ℕ, List, map, Result, Ok, Err}
+use Rattle.std.specs.Prelude.{◌≡◌, ⊤, ℕ, Bool, true, false, List, map, Result, Ok, Err}
 use Rattle.std.specs.List.{AllByRecursion}
 use Rattle.mrt_frame.specs.declared.fault.Fault.{Fault}
 use Rattle.bgp_prefix.specs.Keys.{RouteKey}
 use Rattle.bgp_update.specs.Decoded.{IsRouteAt, IsUpdateAt, plain_update, route_at, update_at}
-use Rattle.mrt_body.specs.Plain.{DecodedEvent, Event, EventRef}
+use Rattle.mrt_body.specs.Events.{event_in}
+use Rattle.mrt_body.specs.Plain.{DecodedEvent, Event, EventRef, Unit as ReplayUnit}
+use Rattle.mrt_body.specs.declared.unit.Place.{Place}
 use Rattle.mrt_body.specs.declared.decoded_events.DecodedEvent.TheVariants as decoded
 use Rattle.mrt_body.specs.declared.event_ref.EventRef.TheVariants as refs
 use Rattle.mrt_body.specs.declared.meaning.Event.TheVariants as events
@@ -41,3 +43,18 @@ event_of (refs.Rib key hashed) = Ok (events.Rib key hashed.route)
 event_of refs.Other = Ok events.Other
 event_of refs.Clear = Ok events.Clear
 event_of (refs.Damaged fault) = Err fault
+
+-- what a record has of the peer, and not that a RIB dump clears its table
+abbrev pub is_recorded_event : Result Event Fault → Bool
+is_recorded_event (Ok (events.State old new rule)) = true
+is_recorded_event (Ok (events.Change update)) = true
+is_recorded_event (Ok (events.Rib key route)) = true
+is_recorded_event (Ok events.Other) = true
+is_recorded_event (Ok events.Clear) = false
+is_recorded_event (Err fault) = true
+
+-- it stands at this place, has this time and means this
+pub record Means (unit : ReplayUnit) (place : Place) (time : ℕ) (event : Result Event Fault) : Type 0 where
+  pub place_is : unit.place ≡ place
+  pub time_is : unit.time ≡ time
+  pub event_is : event_in unit.payload ≡ event

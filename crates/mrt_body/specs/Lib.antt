@@ -11,8 +11,7 @@ pub mod Named
 pub mod Selections
 pub mod RibDumps
 pub mod Units
-pub mod Lent
-pub mod SessionUnits
+pub mod HeldBytes
 pub mod Agreement
 pub mod Refusals
 pub mod Listed

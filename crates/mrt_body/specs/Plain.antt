@@ -1,12 +1,11 @@
 -- Units and what they mean, with keys and choices of prefixes of either family.
+use Rattle.std.specs.Prelude.{ℕ, List}
 use Rattle.bgp_prefix.specs.Prefixes.{IpPrefix}
 use Rattle.bgp_update.specs.Families.{FamilyOf}
 use Rattle.mrt_body.specs.declared.choice.PrefixChoice.{PrefixChoice as PrefixChoiceOf}
 use Rattle.mrt_body.specs.declared.unit.Payload.{Payload as PayloadOf}
 use Rattle.mrt_body.specs.declared.unit.Unit.{Unit as UnitOf}
 use Rattle.mrt_body.specs.declared.unit.Found.{Found as FoundOf}
-use Rattle.mrt_body.specs.declared.lent.LentPayload.{LentPayload as LentPayloadOf}
-use Rattle.mrt_body.specs.declared.lent.LentUnit.{LentUnit as LentUnitOf}
 use Rattle.mrt_body.specs.declared.meaning.Event.{Event as EventOf}
 use Rattle.mrt_body.specs.declared.event_ref.EventRef.{EventRef as EventRefOf}
 use Rattle.mrt_body.specs.declared.decoded_events.DecodedEvent.{DecodedEvent as DecodedEventOf}
@@ -17,20 +16,13 @@ PrefixChoice = PrefixChoiceOf IpPrefix
 
 -- what a unit says; a message and an entry have the family by which they are read
 abbrev pub Payload : Type 0
-Payload = PayloadOf IpPrefix FamilyOf
+Payload = PayloadOf (List ℕ) IpPrefix FamilyOf
 
 abbrev pub Unit : Type 0
-Unit = UnitOf IpPrefix FamilyOf
+Unit = UnitOf (List ℕ) IpPrefix FamilyOf
 
 abbrev pub Found : Type 0
 Found = FoundOf IpPrefix FamilyOf
-
--- the same, with bytes that are lent
-abbrev pub LentPayload : Type 0
-LentPayload = LentPayloadOf IpPrefix FamilyOf
-
-abbrev pub LentUnit : Type 0
-LentUnit = LentUnitOf IpPrefix FamilyOf
 
 -- what a payload means
 abbrev pub Event : Type 0

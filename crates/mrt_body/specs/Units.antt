@@ -309,14 +309,14 @@ is_recorded Clear = false
 
 module _ {P K : Type 0} where
   -- those of a message, or of an entry's attributes
-  abbrev pub payload_bytes : PayloadOf P K → List ℕ
+  abbrev pub payload_bytes : PayloadOf (List ℕ) P K → List ℕ
   payload_bytes (State from to rule) = []
   payload_bytes (Message bytes width add_path family) = bytes
   payload_bytes (Entry key attrs family) = attrs
   payload_bytes Clear = []
 
   -- no more than the greatest body of a record
-  abbrev pub IsSmallUnit : UnitOf P K → Type 0
+  abbrev pub IsSmallUnit : UnitOf (List ℕ) P K → Type 0
   IsSmallUnit unit = length (payload_bytes unit.payload) ≤ 16777216
 
 abbrev pub IsSmall : Found → Type 0

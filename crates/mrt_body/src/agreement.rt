@@ -13,7 +13,8 @@ ghost use Rattle.mrt_body.specs.declared.unit.PeerKey.{PeerKey};
 ghost use Rattle.mrt_body.specs.Plain.{Unit as ReplayUnit};
 ghost use Rattle.mrt_body.specs.Indexes.{peers_in};
 ghost use Rattle.mrt_body.specs.Events.{IsEvent, event_in};
-ghost use Rattle.mrt_body.specs.Units.{payload_bytes, units_in};
+ghost use Rattle.mrt_body.specs.DecodedEvents.{is_recorded_event};
+ghost use Rattle.mrt_body.specs.Units.{is_recorded, payload_bytes, units_in};
 ghost use Rattle.mrt_body.specs.Agreement.{IsIndexBody, Agrees};
 ghost use Rattle.mrt_body.specs.Refusals.{IsRefused};
 
@@ -41,4 +42,9 @@ pub fn events_agree_with_their_payloads()
     ensures events { (payload : Payload) (e : Event) → AreBytes (payload_bytes payload) →
         (event_in payload ≡ Ok e) ↔ IsEvent payload e }
     ensures one_event { (payload : Payload) (e other : Event) → IsEvent payload e → IsEvent payload other → e ≡ other }
+{}
+
+/// What a payload means tells whether a record has it of the peer: nothing but a clear means a clear.
+pub fn clears_are_told()
+    ensures { (payload : Payload) → is_recorded_event (event_in payload) ≡ is_recorded payload }
 {}

@@ -5,13 +5,13 @@ ghost use Rattle.bgp_prefix.specs.Keys.{RouteKey as Key};
 ghost use Rattle.bgp_update.specs.Decoded.{IsGrown};
 ghost use Rattle.mrt_body.specs.DecodedEvents.{IsEventAt, event_at};
 ghost use Rattle.mrt_body.specs.Events.{entry_event_in, event_in, message_event_in};
-ghost use Rattle.mrt_body.specs.Lent.{lent_payload};
 
 use crate::event_ref::EventRef;
 use crate::interpret::UPDATE;
-use crate::lent::{LentPayload, LentPayloadOf};
+use crate::lent::PayloadRef;
 use crate::message::message_in;
 use crate::state_rule::StateRule;
+use crate::unit::Payload;
 use bgp_prefix::{Memory, Prefix, RouteKey};
 use bgp_update::{AttrError, RouteSpan, Unicast, UpdateSpans, Width, decode_entry, decode_update};
 use mrt_frame::Fault;
@@ -86,30 +86,34 @@ fn decode<F: Unicast>(
     alloc: Global,
     keys: &mut Vec<RouteKey<Prefix<F>>>,
     bytes: &mut Vec<u8>,
-    payload: &LentPayloadOf<'_, F>,
+    payload: &PayloadRef<'_, F>,
 ) -> Result<DecodedEvent<Prefix<F>>, Memory>
     ensures means { IfOk result (λ event. event_at keys.new.items bytes.new.items event
-        ≡ event_in (lent_payload payload.now)) }
+        ≡ event_in payload.now) }
     ensures there { IfOk result (IsEventAt keys.new.items bytes.new.items) }
     ensures keys { OnOk result (IsGrown keys.old.items keys.new.items) }
     ensures bytes { OnOk result (IsGrown bytes.old.items bytes.new.items) }
 {
-    match *payload {
-        LentPayload::State { from, to, rule } => Ok(DecodedEvent::State { rule, from, to }),
-        LentPayload::Message {
+    match payload {
+        Payload::State { from, to, rule } => Ok(DecodedEvent::State {
+            rule: *rule,
+            from: *from,
+            to: *to,
+        }),
+        Payload::Message {
             bytes: message,
             width,
             add_path,
             family,
         } => {
             family.is_known();
-            decode_message(alloc, keys, bytes, message, width, add_path)
+            decode_message(alloc, keys, bytes, message.as_slice(), *width, *add_path)
         }
-        LentPayload::Entry { key, attrs, family } => {
+        Payload::Entry { key, attrs, family } => {
             family.is_known();
-            decode_rib(alloc, bytes, key, attrs)
+            decode_rib(alloc, bytes, *key, attrs.as_slice())
         }
-        LentPayload::Clear => Ok(DecodedEvent::Clear),
+        Payload::Clear => Ok(DecodedEvent::Clear),
     }
 }
 
@@ -139,7 +143,6 @@ impl<F: Unicast> DecodedEvents<F> {
     ghost use Rattle.std.specs.Prelude.{◌≡◌, ◌<◌, [], ◌∷◌, ◌++◌, OnOk, length, slice_index_or};
     ghost use Rattle.mrt_body.specs.DecodedEvents.{event_of};
     ghost use Rattle.mrt_body.specs.Events.{event_in};
-    ghost use Rattle.mrt_body.specs.Lent.{lent_payload};
 
     /// Returns no events. Allocates nothing.
     pub fn new(alloc: Global) -> DecodedEvents<F>
@@ -171,8 +174,8 @@ impl<F: Unicast> DecodedEvents<F> {
     /// Adds what a payload means, or its first fault, as `event` has it. After an `Err` others may be gone.
     // Inlined, since for a call the payload would be kept in memory.
     #[inline(always)]
-    pub fn push(&mut self, alloc: Global, payload: &LentPayloadOf<'_, F>) -> Result<(), Memory>
-        ensures { OnOk result (self.new ≡ self.old ++ event_in (lent_payload payload.now) ∷ []) }
+    pub fn push(&mut self, alloc: Global, payload: &PayloadRef<'_, F>) -> Result<(), Memory>
+        ensures { OnOk result (self.new ≡ self.old ++ event_in payload.now ∷ []) }
     {
         match decode(alloc, &mut self.keys, &mut self.bytes, payload) {
             Ok(event) => {

@@ -2,7 +2,6 @@
 
 ghost use Rattle.std.specs.Prelude.{◌≡◌, ◌≤◌, ◌+◌, ◌/◌, ◌∷◌, [], length, take, drop, max, vec_capacity, false, ◌↔◌, Some, None, IfOk, IfSome, OnOk, slice_index_or};
 ghost use Rattle.bgp_update.specs.Answers.{Gives};
-ghost use Rattle.mrt_body.specs.Lent.{lent_unit};
 ghost use Rattle.mrt_body.specs.Units.{IsSmallUnit, no_peer, rib_units_in};
 ghost use Rattle.mrt_body.specs.Pending.{AreListed, units_left};
 ghost use Rattle.mrt_body.specs.Selections.{is_selected, takes_peer};
@@ -11,11 +10,11 @@ ghost use Rattle.mrt_body.specs.RibDumps.{heard_of};
 ghost use Rattle.mrt_body.specs.declared.rib_rule.RibRule.TheVariants.{Replace};
 
 use crate::at::RecordAt;
-use crate::lent::{LentPayload, LentUnit, LentUnitOf};
+use crate::lent::{BytesRef, LentUnit, LentUnitOf};
 use crate::rib::{ListedEntry, list_entries, rib_head_at};
 use crate::rib_dumps::RibDumps;
 use crate::selection::Selection;
-use crate::unit::{PeerAddr, PeerKey};
+use crate::unit::{Payload, PeerAddr, PeerKey, Unit};
 use bgp_prefix::{Memory, Prefix, RouteKey, Sequence};
 use bgp_update::{AttrError, FamilyMark, Unicast};
 
@@ -154,11 +153,11 @@ impl<F: Unicast> RibRecord<Prefix<F>> {
     pub(crate) fn lend(&self, peers: &[PeerKey], list: &[ListedEntry]) -> Option<LentUnitOf<'_, F>>
         requires { AreListed peers.now list.now self.now }
         ensures lends { IfSome result
-            (λ unit. units_left F.family peers.now list.now self.now
-            ≡ lent_unit unit ∷ drop 1 (units_left F.family peers.now list.now self.now)) }
+            (λ lent. units_left F.family peers.now list.now self.now
+            ≡ lent.unit ∷ drop 1 (units_left F.family peers.now list.now self.now)) }
         ensures none { (result ≡ None → units_left F.family peers.now list.now self.now ≡ [])
             × (units_left F.family peers.now list.now self.now ≡ [] → result ≡ None) }
-        ensures small { IfSome result (λ unit. IsSmallUnit (lent_unit unit)) }
+        ensures small { IfSome result (λ lent. IsSmallUnit lent.unit) }
     {
         if self.given as usize == list.len() {
             return None;
@@ -173,16 +172,19 @@ impl<F: Unicast> RibRecord<Prefix<F>> {
             prefix: self.prefix,
             id: entry.identifier,
         };
-        Some(LentUnit {
+        let unit = Unit {
             place: self.at.place(Some(entry.number)),
             time: self.at.time(0),
             peer: peers[entry.peer as usize],
-            peer_index: Some(entry.peer),
-            payload: LentPayload::Entry {
+            payload: Payload::Entry {
                 key,
-                attrs,
+                attrs: BytesRef::new(attrs),
                 family: FamilyMark::new(),
             },
+        };
+        Some(LentUnit {
+            unit,
+            peer_index: Some(entry.peer),
         })
     }
 

@@ -2,7 +2,7 @@
 
 use crate::state_rule::StateRule;
 use bgp_prefix::{Prefix, RouteKey};
-use bgp_update::{HashedRoute, UpdateRef};
+use bgp_update::{HashedRoute, Unicast, UpdateRef};
 use mrt_frame::Fault;
 
 /// What a payload means, as `Event` has it, or its first fault. A fault means that the unit is damaged and changes no
@@ -21,4 +21,20 @@ pub enum EventRef<'a, P = Prefix> {
     Clear,
     /// The payload is damaged.
     Damaged(Fault),
+}
+
+impl<F: Unicast> EventRef<'_, Prefix<F>> {
+    ghost use Rattle.std.specs.Prelude.{◌≡◌};
+    ghost use Rattle.mrt_body.specs.DecodedEvents.{event_of, is_recorded_event};
+
+    /// Whether it is what a record has of the peer, and not that a RIB dump clears its table.
+    #[inline(always)]
+    pub fn is_recorded(&self) -> bool
+        ensures { result ≡ is_recorded_event (event_of self.now) }
+    {
+        match self {
+            EventRef::Clear => false,
+            _ => true,
+        }
+    }
 }

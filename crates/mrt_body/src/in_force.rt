@@ -2,7 +2,6 @@
 
 ghost use Rattle.std.specs.Prelude.{◌≡◌, ◌≤◌, ◌∷◌, ◌++◌, [], drop, length, true, false, ◌↔◌, Some, None, Ok, OnErr, OnOk, IfOk, IfSome, option_to_list};
 ghost use Rattle.bgp_update.specs.Answers.{Gives};
-ghost use Rattle.mrt_body.specs.Lent.{lent_unit};
 ghost use Rattle.mrt_body.specs.Units.{IsSmallUnit, rib_units_in, selected_units};
 ghost use Rattle.mrt_body.specs.Pending.{without_pending};
 ghost use Rattle.mrt_body.specs.RibDumps.{heard_of};
@@ -119,9 +118,9 @@ impl<F: Unicast> Index<F> {
     /// Lends the unit of the next entry, or returns `None` at the end.
     #[inline(always)]
     pub(crate) fn lend(&self) -> Option<LentUnitOf<'_, F>>
-        ensures lends { IfSome result (λ unit. self.now.pending ≡ lent_unit unit ∷ drop 1 self.now.pending) }
+        ensures lends { IfSome result (λ lent. self.now.pending ≡ lent.unit ∷ drop 1 self.now.pending) }
         ensures none { (result ≡ None → self.now.pending ≡ []) × (self.now.pending ≡ [] → result ≡ None) }
-        ensures small { IfSome result (λ unit. IsSmallUnit (lent_unit unit)) }
+        ensures small { IfSome result (λ lent. IsSmallUnit lent.unit) }
     {
         match &self.last {
             Some(record) => record.lend(self.peers.as_slice(), self.list.as_slice()),
@@ -153,7 +152,7 @@ impl<F: Unicast> Index<F> {
             self.leave_out();
             return Ok(None);
         };
-        let unit = lent.to_unit(alloc)?;
+        let unit = lent.unit.to_unit(alloc)?;
         self.pass();
         Ok(Some(unit))
     }

@@ -4,12 +4,11 @@ ghost use Rattle.std.specs.Prelude.{◌≡◌, IfOk, Ok};
 ghost use Rattle.bgp_prefix.specs.Prefixes.{IpPrefix};
 ghost use Rattle.bgp_update.specs.Answers.{Gives};
 ghost use Rattle.mrt_body.specs.Events.{IsEvent, IsMessageEvent, IsWritableEvent, event_in, message_event_in};
-ghost use Rattle.mrt_body.specs.Lent.{lent_payload};
 
-use crate::lent::{LentPayload, LentPayloadOf};
+use crate::lent::PayloadRef;
 use crate::meaning::Event;
 use crate::message::message_in;
-use crate::unit::PayloadOf;
+use crate::unit::{Payload, PayloadOf};
 use bgp_prefix::Prefix;
 use bgp_update::{AttrError, Unicast, Width, read_attrs, read_update};
 use std::alloc::Global;
@@ -58,37 +57,37 @@ pub fn event<F: Unicast>(
     // Its route can be packed.
     ensures writable { IfOk result IsWritableEvent }
 {
-    lent_event(alloc, &payload.lend())
+    whole_event(alloc, &payload.lend())
 }
 
 #[tactic(auto, unfolding(crate::specs::Events::event_in))]
-fn lent_event<F: Unicast>(
+fn whole_event<F: Unicast>(
     alloc: Global,
-    payload: &LentPayloadOf<'_, F>,
+    payload: &PayloadRef<'_, F>,
 ) -> Result<Event<Prefix<F>>, AttrError>
-    ensures found { IfOk result (IsEvent (lent_payload payload.now)) }
-    ensures only { (e : Event IpPrefix) → IsEvent (lent_payload payload.now) e → Gives (λ e. e) result (Ok e) }
-    ensures exact { Gives (λ e. e) result (event_in (lent_payload payload.now)) }
+    ensures found { IfOk result (IsEvent payload.now) }
+    ensures only { (e : Event IpPrefix) → IsEvent payload.now e → Gives (λ e. e) result (Ok e) }
+    ensures exact { Gives (λ e. e) result (event_in payload.now) }
     ensures writable { IfOk result IsWritableEvent }
 {
-    match *payload {
-        LentPayload::State { from, to, rule } => Ok(Event::State(from, to, rule)),
-        LentPayload::Message {
+    match payload {
+        Payload::State { from, to, rule } => Ok(Event::State(*from, *to, *rule)),
+        Payload::Message {
             bytes,
             width,
             add_path,
             family,
         } => {
             family.is_known();
-            message_event(alloc, bytes, width, add_path)
+            message_event(alloc, bytes.as_slice(), *width, *add_path)
         }
-        LentPayload::Entry { key, attrs, family } => {
+        Payload::Entry { key, attrs, family } => {
             family.is_known();
-            match read_attrs::<F>(alloc, attrs, Width::Four) {
-                Ok(route) => Ok(Event::Rib(key, route)),
+            match read_attrs::<F>(alloc, attrs.as_slice(), Width::Four) {
+                Ok(route) => Ok(Event::Rib(*key, route)),
                 Err(error) => Err(error),
             }
         }
-        LentPayload::Clear => Ok(Event::Clear),
+        Payload::Clear => Ok(Event::Clear),
     }
 }

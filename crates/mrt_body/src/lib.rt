@@ -71,14 +71,16 @@ mod unit;
 mod units;
 mod waiting;
 
-pub use agreement::{bodies_agree_with_their_forms, events_agree_with_their_payloads};
+pub use agreement::{
+    bodies_agree_with_their_forms, clears_are_told, events_agree_with_their_payloads,
+};
 pub use choice::{PeerChoice, PrefixChoice, Reach};
 pub use chosen_prefixes::ChosenPrefixes;
 pub use content::{Content, content_of};
 pub use decoded_events::DecodedEvents;
 pub use event_ref::EventRef;
 pub use interpret::event;
-pub use lent::{LentPayload, LentPayloadOf, LentUnit, LentUnitOf};
+pub use lent::{BytesRef, LentUnit, LentUnitOf, PayloadRef, UnitRef};
 pub use meaning::Event;
 pub use payload_bytes::PayloadBytes;
 pub use reading::{

@@ -7,8 +7,9 @@ ghost use Rattle.mrt_body.specs.Units.{payload_bytes};
 
 use crate::at::RecordAt;
 use crate::session::{microseconds_at, session_peer_at, states_in};
-use crate::session_unit::{SessionKind, SessionUnit};
+use crate::session_unit::SessionUnit;
 use crate::state_rule::StateRule;
+use crate::unit::{Payload, Unit};
 use bgp_prefix::Sequence;
 use bgp_update::{FamilyMark, Unicast, Width};
 use mrt_frame::Fault;
@@ -30,15 +31,18 @@ pub(crate) fn message_unit<F: Unicast>(
     let (microseconds, after) = microseconds_at(bytes, is_extended)?;
     let (peer, rest) = session_peer_at(after, width)?;
     let start = bytes.len() - rest.len();
-    Ok(SessionUnit {
+    let unit = Unit {
         place: at.place(None),
         time: at.time(microseconds),
         peer,
-        kind: SessionKind::Message { width, add_path },
-        family: FamilyMark::new(),
-        body,
-        start,
-    })
+        payload: Payload::Message {
+            bytes: start,
+            width,
+            add_path,
+            family: FamilyMark::new(),
+        },
+    };
+    Ok(SessionUnit { unit, body })
 }
 
 /// Returns the unit of a state change, which is taken by this rule.
@@ -57,13 +61,11 @@ pub(crate) fn states_unit<F: Unicast>(
     let (microseconds, rest) = microseconds_at(body.as_slice(), is_extended)?;
     let (peer, rest) = session_peer_at(rest, width)?;
     let (from, to) = states_in(rest)?;
-    Ok(SessionUnit {
+    let unit = Unit {
         place: at.place(None),
         time: at.time(microseconds),
         peer,
-        kind: SessionKind::State { from, to, rule },
-        family: FamilyMark::new(),
-        body,
-        start: 0,
-    })
+        payload: Payload::State { from, to, rule },
+    };
+    Ok(SessionUnit { unit, body })
 }

@@ -2,7 +2,6 @@
 
 ghost use Rattle.std.specs.Prelude.{◌≡◌, IfOk, true};
 ghost use Rattle.mrt_body.specs.Choices.{all_of, is_in_share, is_open};
-ghost use Rattle.mrt_body.specs.Lent.{lent_payload};
 ghost use Rattle.mrt_body.specs.Selections.{concerns, has_chosen, is_past, is_selected, speaks_of, takes_each_peer, takes_peer, takes_record};
 ghost use Rattle.mrt_body.specs.DecodedEvents.{event_of};
 
@@ -10,12 +9,12 @@ use crate::choice::{PeerChoice, is_chosen_peer};
 use crate::chosen_prefixes::ChosenPrefixes;
 use crate::decoded_events::DecodedEvents;
 use crate::event_ref::EventRef;
-use crate::lent::{LentPayload, LentPayloadOf};
+use crate::lent::PayloadRef;
 use crate::rib_rule::RibRule;
 use crate::session_unit::SessionUnit;
 use crate::share::Share;
 use crate::state_rule::StateRule;
-use crate::unit::PeerKey;
+use crate::unit::{Payload, PeerKey};
 use bgp_prefix::{Memory, Prefix, RouteKey};
 use bgp_update::Unicast;
 use std::alloc::Global;
@@ -92,14 +91,14 @@ fn concerns<F: Unicast>(
     alloc: Global,
     decoded: &mut DecodedEvents<F>,
     chosen: &ChosenPrefixes<F>,
-    payload: &LentPayloadOf<'_, F>,
+    payload: &PayloadRef<'_, F>,
 ) -> Result<bool, Memory>
-    ensures { IfOk result (λ concerned. concerned ≡ concerns chosen.now (lent_payload payload.now)) }
+    ensures { IfOk result (λ concerned. concerned ≡ concerns chosen.now payload.now) }
 {
     match payload {
-        LentPayload::State { .. } | LentPayload::Clear => Ok(true),
-        LentPayload::Entry { key, .. } => Ok(chosen.takes(&key.prefix)),
-        LentPayload::Message { .. } => {
+        Payload::State { .. } | Payload::Clear => Ok(true),
+        Payload::Entry { key, .. } => Ok(chosen.takes(&key.prefix)),
+        Payload::Message { .. } => {
             if chosen.is_open() {
                 return Ok(true);
             }
@@ -252,7 +251,7 @@ impl<F: Unicast> Selection<F> {
         requires { is_open self.now.prefixes ≡ true }
         ensures { result ≡ is_selected self.now unit.now }
     {
-        !self.is_past(unit.time) && self.takes_peer(&unit.peer)
+        !self.is_past(unit.unit.time) && self.takes_peer(&unit.unit.peer)
     }
 
     /// Whether a unit is selected. A message is decoded in place of what was decoded before.
@@ -264,10 +263,10 @@ impl<F: Unicast> Selection<F> {
     ) -> Result<bool, Memory>
         ensures { IfOk result (λ selected. selected ≡ is_selected self.now unit.now) }
     {
-        if self.is_past(unit.time) || !self.takes_peer(&unit.peer) {
+        if self.is_past(unit.unit.time) || !self.takes_peer(&unit.unit.peer) {
             return Ok(false);
         }
-        concerns(alloc, decoded, &self.prefixes, &unit.lend().payload)
+        concerns(alloc, decoded, &self.prefixes, &unit.lend().unit.payload)
     }
 
     /// Whether the entries of a RIB record of this time and prefix are selected, as far as these decide.

@@ -37,10 +37,11 @@ pub struct Damage {
     pub fault: Fault,
 }
 
-/// What a unit says, as it appears in the record: its bytes are not yet interpreted. A message and an entry have a mark
-/// of the family by which they are read, which takes no room.
+/// What a unit says, as it appears in the record: its bytes are not yet interpreted. They are its own, or borrowed, or
+/// only their place is told, by the type of `B`. A message and an entry have a mark of the family by which they are
+/// read, which takes no room.
 #[derive(Debug, Drop)]
-pub enum Payload<P = Prefix, K = FamilyMark> {
+pub enum Payload<B = PayloadBytes, P = Prefix, K = FamilyMark> {
     /// A state change (RFC 6396, 4.4.1): the old and the new state, any numbers, and the rule by which it is taken,
     /// which is that of the selection.
     State {
@@ -50,7 +51,7 @@ pub enum Payload<P = Prefix, K = FamilyMark> {
     },
     /// A BGP message (RFC 6396, 4.4.2 and 4.4.3; with identifiers RFC 8050, 3).
     Message {
-        bytes: PayloadBytes,
+        bytes: B,
         width: Width,
         add_path: bool,
         family: K,
@@ -58,7 +59,7 @@ pub enum Payload<P = Prefix, K = FamilyMark> {
     /// An entry of a RIB record (RFC 6396, 4.3.4; with an identifier RFC 8050, 4.1).
     Entry {
         key: RouteKey<P>,
-        attrs: PayloadBytes,
+        attrs: B,
         family: K,
     },
     /// Nothing that the peer said: a RIB dump begins that replaces what came before it, and clears the peer's table.
@@ -68,25 +69,25 @@ pub enum Payload<P = Prefix, K = FamilyMark> {
 /// A message, a state change or a RIB entry of one peer, or that a dump clears the peer's table. Its time is in
 /// microseconds since 1970 UTC.
 #[derive(Debug, Drop)]
-pub struct Unit<P = Prefix, K = FamilyMark> {
+pub struct Unit<B = PayloadBytes, P = Prefix, K = FamilyMark> {
     pub place: Place,
     pub time: u64,
     pub peer: PeerKey,
-    pub payload: Payload<P, K>,
+    pub payload: Payload<B, P, K>,
 }
 
 /// What comes next in the files: a unit, or a record that yields none.
 #[derive(Debug, Drop)]
 pub enum Found<P = Prefix, K = FamilyMark> {
-    Unit(Unit<P, K>),
+    Unit(Unit<PayloadBytes, P, K>),
     Refused(Damage),
 }
 
 /// A payload of a family.
-pub type PayloadOf<F> = Payload<Prefix<F>, FamilyMark<F>>;
+pub type PayloadOf<F> = Payload<PayloadBytes, Prefix<F>, FamilyMark<F>>;
 
 /// A unit of a family.
-pub type UnitOf<F> = Unit<Prefix<F>, FamilyMark<F>>;
+pub type UnitOf<F> = Unit<PayloadBytes, Prefix<F>, FamilyMark<F>>;
 
 /// What comes next in files that are read for a family.
 pub type FoundOf<F> = Found<Prefix<F>, FamilyMark<F>>;

@@ -2,8 +2,7 @@
 
 mod record;
 
-ghost use Rattle.std.specs.Prelude.{◌≡◌, ℕ, List, Option, ◌<◌, ◌≤◌, ◌+◌, ◌^◌, ◌∷◌, None, [], map, take, drop, false, ◌↔◌, Ok, Err, IfOk, IfErr, IfSome, OnOk, length, option_to_list};
-ghost use Rattle.mrt_body.specs.Lent.{lent_unit};
+ghost use Rattle.std.specs.Prelude.{◌≡◌, ℕ, List, Option, ◌<◌, ◌≤◌, ◌≢◌, true, ◌+◌, ◌^◌, ◌∷◌, None, [], map, take, drop, false, ◌↔◌, Ok, Err, IfOk, IfErr, IfSome, OnOk, length, option_to_list};
 ghost use Rattle.mrt_body.specs.Units.{IsSmall, IsSmallUnit, all_cuts, found_in};
 ghost use Rattle.mrt_frame.specs.Frames.{StandsAt, KeepsUnlessRead};
 ghost use Rattle.mrt_body.specs.ToCome.{UnitsState, GivesPending, CutsOne, TakesFound, NothingToCome, HasEnded, FailsInRecord, GivesAllBefore, Steps, StopsAt, Stops, KeepsPlan, as_found, answers_left, refusals, units_left, unit_count, cuts_to_come, found_to_come, steps_left, fresh_units, standing_after};
@@ -247,6 +246,7 @@ impl<F: Unicast> Units<F> {
     }
 
     /// Whether a unit of the record that was cut last is to be returned.
+    #[inline(always)]
     #[tactic(auto, using(crate::proofs::WaitingLaws::both_none))]
     fn is_pending(&self) -> bool
         ensures { result ≡ false ↔ (self.now.pending ≡ []) }
@@ -266,10 +266,10 @@ impl<F: Unicast> Units<F> {
     #[inline(always)]
     pub fn lend(&self) -> Option<LentUnitOf<'_, F>>
         ensures lends { IfSome result
-            (λ unit. (self.now.standing ≡ standings.Going)
-            × (self.now.pending ≡ lent_unit unit ∷ drop 1 self.now.pending)) }
+            (λ lent. (self.now.standing ≡ standings.Going)
+            × (self.now.pending ≡ lent.unit ∷ drop 1 self.now.pending)) }
         ensures none { result ≡ None → self.now.standing ≡ standings.Going → self.now.pending ≡ [] }
-        ensures small { IfSome result (λ unit. IsSmallUnit (lent_unit unit)) }
+        ensures small { IfSome result (λ lent. IsSmallUnit lent.unit) }
     {
         let Standing::Going = self.standing else {
             return None;
@@ -280,6 +280,18 @@ impl<F: Unicast> Units<F> {
         match &self.index {
             Some(index) => index.lend(),
             None => None,
+        }
+    }
+
+    /// Whether `lend` lends a unit.
+    #[inline(always)]
+    pub fn is_lending(&self) -> bool
+        ensures lends { result ≡ true → (self.now.standing ≡ standings.Going) × (self.now.pending ≢ []) }
+        ensures none { result ≡ false → self.now.standing ≡ standings.Going → self.now.pending ≡ [] }
+    {
+        match self.standing {
+            Standing::Going => self.is_pending(),
+            _ => false,
         }
     }
 

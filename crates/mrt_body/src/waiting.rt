@@ -1,15 +1,14 @@
 //! The units that are still to be returned, beside the entries of a RIB record.
 
 ghost use Rattle.std.specs.Prelude.{◌≡◌, ◌∷◌, ◌++◌, ◌↔◌, [], IfOk, IfSome, None, Ok, drop, false, map, option_to_list};
-ghost use Rattle.mrt_body.specs.Lent.{lent_unit};
 ghost use Rattle.mrt_body.specs.Units.{IsSmallUnit, clear_unit};
 
 use crate::at::RecordAt;
 use crate::lent::LentUnitOf;
-use crate::session_unit::{SessionKind, SessionUnit};
-use crate::unit::{PeerKey, UnitOf};
+use crate::session_unit::SessionUnit;
+use crate::unit::{Payload, PeerKey, Unit, UnitOf};
 use bgp_prefix::{Memory, Sequence};
-use bgp_update::{FamilyMark, Unicast};
+use bgp_update::Unicast;
 use std::alloc::Global;
 use std::collections::BTreeSet;
 use std::marker::Model;
@@ -66,13 +65,13 @@ fn pop_clear<F: Unicast>(
 {
     let peer = cleared.pop_first()?;
     Some(SessionUnit {
-        place: at.place(None),
-        time: at.time(0),
-        peer,
-        kind: SessionKind::Clear,
-        family: FamilyMark::new(),
+        unit: Unit {
+            place: at.place(None),
+            time: at.time(0),
+            peer,
+            payload: Payload::Clear,
+        },
         body: Sequence::from_vec(Vec::new(alloc)),
-        start: 0,
     })
 }
 
@@ -133,9 +132,9 @@ impl<F: Unicast> Waiting<F> {
     /// Lends the next unit.
     #[inline(always)]
     pub(crate) fn lend(&self) -> Option<LentUnitOf<'_, F>>
-        ensures lends { IfSome result (λ unit. self.now ≡ lent_unit unit ∷ drop 1 self.now) }
+        ensures lends { IfSome result (λ lent. self.now ≡ lent.unit ∷ drop 1 self.now) }
         ensures none { result ≡ None → self.now ≡ [] }
-        ensures small { IfSome result (λ unit. IsSmallUnit (lent_unit unit)) }
+        ensures small { IfSome result (λ lent. IsSmallUnit lent.unit) }
     {
         match &self.first {
             Some(unit) => Some(unit.lend()),

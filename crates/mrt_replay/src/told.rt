@@ -2,7 +2,6 @@
 
 ghost use Rattle.std.specs.Prelude.{◌≡◌, [], ◌∷◌, ◌++◌, IfErr, IfOk, List, OnOk, length, map};
 ghost use Rattle.std.specs.List.{filter_map};
-ghost use Rattle.mrt_body.specs.Lent.{lent_unit};
 ghost use Rattle.mrt_body.specs.Units.{damage_of, unit_of};
 ghost use Rattle.mrt_body.specs.Plain.{PrefixChoice as Choice};
 ghost use Rattle.mrt_body.specs.declared.standing.Standing.TheVariants.{Going};
@@ -15,7 +14,7 @@ ghost use Rattle.mrt_replay.specs.Tellings.{Tells};
 use adj_rib::SharedRoute;
 use bgp_prefix::{Memory, PrefixMap};
 use bgp_update::Unicast;
-use mrt_body::{ChosenPrefixes, Damage, Found, FoundOf, LentUnitOf, Units};
+use mrt_body::{ChosenPrefixes, Damage, Found, FoundOf, UnitRef, Units};
 use mrt_frame::{ReplayError, Source};
 use peer_tables::{HistoryRow, Listing, Watches};
 use std::alloc::Global;
@@ -54,10 +53,10 @@ impl<F: Unicast, M: PrefixMap<SharedRoute, Addr = F> + Drop> Told<M> {
         alloc: Global,
         chosen: &ChosenPrefixes<F>,
         listing: Listing,
-        unit: &LentUnitOf<'_, F>,
+        unit: &UnitRef<'_, F>,
     ) -> Result<(), Memory>
         ensures { (units : List ReplayUnit) (refused : List AnyDamage) → Tells chosen.now listing self.old units refused →
-            OnOk result (Tells chosen.now listing self.new (units ++ lent_unit unit.now ∷ []) refused) }
+            OnOk result (Tells chosen.now listing self.new (units ++ unit.now ∷ []) refused) }
     {
         self.watches
             .take(alloc, chosen, listing, unit, &mut self.rows)?;

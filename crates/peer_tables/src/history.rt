@@ -1,7 +1,6 @@
 //! Rows of what happened.
 
 ghost use Rattle.std.specs.Prelude.{◌≡◌, ◌++◌, IfOk, IfSome, IsNone, None, OnOk, Some};
-ghost use Rattle.mrt_body.specs.Lent.{lent_payload, lent_unit};
 ghost use Rattle.peer_tables.specs.Histories.{by_of, is_asked, is_change};
 ghost use Rattle.peer_tables.specs.Watching.{asked_rows, listed_rows};
 
@@ -9,7 +8,7 @@ use crate::shared_peer::SharedPeer;
 use adj_rib::{Note, SharedRoute, What, is_before};
 use bgp_prefix::{Family, Memory, Prefix, RouteKey};
 use bgp_update::Unicast;
-use mrt_body::{LentPayload, LentPayloadOf, LentUnitOf, PeerKey};
+use mrt_body::{Payload, PayloadRef, PeerKey, UnitRef};
 use std::alloc::Global;
 use std::marker::Model;
 
@@ -170,13 +169,13 @@ pub struct Listing {
 }
 
 /// Returns what brings about what a unit does.
-fn by_of<F: Unicast>(payload: &LentPayloadOf<'_, F>) -> By
-    ensures { result ≡ by_of (lent_payload payload.now) }
+fn by_of<F: Unicast>(payload: &PayloadRef<'_, F>) -> By
+    ensures { result ≡ by_of payload.now }
 {
     match payload {
-        LentPayload::Entry { .. } | LentPayload::Clear => By::Rib,
-        LentPayload::Message { .. } => By::Update,
-        LentPayload::State { .. } => By::State,
+        Payload::Entry { .. } | Payload::Clear => By::Rib,
+        Payload::Message { .. } => By::Update,
+        Payload::State { .. } => By::State,
     }
 }
 
@@ -206,12 +205,12 @@ fn list_notes<F: Unicast>(
     alloc: Global,
     listed: Listed,
     peer: &SharedPeer,
-    unit: &LentUnitOf<'_, F>,
+    unit: &UnitRef<'_, F>,
     notes: &[Note<Prefix<F>>],
     rows: &mut Vec<HistoryRow<F>>,
 ) -> Result<(), Memory>
-    requires { peer.now ≡ (lent_unit unit.now).peer }
-    ensures { OnOk result (rows.new.items ≡ rows.old.items ++ asked_rows listed (lent_unit unit.now) notes.now) }
+    requires { peer.now ≡ unit.now.peer }
+    ensures { OnOk result (rows.new.items ≡ rows.old.items ++ asked_rows listed unit.now notes.now) }
 {
     for note in notes {
         if is_asked(listed, note.what) {
@@ -227,12 +226,12 @@ pub(crate) fn list_unit<F: Unicast>(
     alloc: Global,
     listing: Listing,
     peer: &SharedPeer,
-    unit: &LentUnitOf<'_, F>,
+    unit: &UnitRef<'_, F>,
     notes: &[Note<Prefix<F>>],
     rows: &mut Vec<HistoryRow<F>>,
 ) -> Result<(), Memory>
-    requires { peer.now ≡ (lent_unit unit.now).peer }
-    ensures { OnOk result (rows.new.items ≡ rows.old.items ++ listed_rows listing (lent_unit unit.now) notes.now) }
+    requires { peer.now ≡ unit.now.peer }
+    ensures { OnOk result (rows.new.items ≡ rows.old.items ++ listed_rows listing unit.now notes.now) }
 {
     if is_before(listing.since, unit.time) {
         return Ok(());

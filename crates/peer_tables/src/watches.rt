@@ -4,7 +4,6 @@ ghost use Rattle.std.specs.Prelude.{◌≡◌, [], ◌∷◌, ◌++◌, IfOk, Li
 ghost use Rattle.std.specs.List.{list_any};
 ghost use Rattle.mrt_body.specs.DecodedEvents.{event_of};
 ghost use Rattle.mrt_body.specs.Events.{event_in};
-ghost use Rattle.mrt_body.specs.Lent.{lent_payload, lent_unit};
 ghost use Rattle.mrt_body.specs.Plain.{PrefixChoice as Choice};
 ghost use Rattle.mrt_body.specs.Plain.{Unit as ReplayUnit};
 ghost use Rattle.adj_rib.specs.Histories.{chosen_notes, unit_notes};
@@ -18,7 +17,7 @@ use crate::shared_peer::SharedPeer;
 use adj_rib::{Note, SharedRoute, Watch};
 use bgp_prefix::{Memory, Prefix, PrefixMap};
 use bgp_update::Unicast;
-use mrt_body::{ChosenPrefixes, DecodedEvents, EventRef, LentUnitOf};
+use mrt_body::{ChosenPrefixes, DecodedEvents, EventRef, UnitRef};
 use std::alloc::Global;
 use std::marker::Model;
 
@@ -36,17 +35,17 @@ fn take_known<F: Unicast, M: PrefixMap<SharedRoute, Addr = F>>(
     since: Option<u64>,
     peers: &mut Vec<Watched<M>>,
     at: usize,
-    unit: &LentUnitOf<'_, F>,
+    unit: &UnitRef<'_, F>,
     event: &EventRef<'_, Prefix<F>>,
     notes: &mut Vec<Note<Prefix<F>>>,
 ) -> Result<(), Memory>
-    requires peer { slice_get (keys_in (map watch_in peers.old.items)) at ≡ Some (lent_unit unit.now).peer }
-    requires event { event_of event.now ≡ event_in (lent_payload unit.now.payload) }
+    requires peer { slice_get (keys_in (map watch_in peers.old.items)) at ≡ Some unit.now.peer }
+    requires event { event_of event.now ≡ event_in unit.now.payload }
     ensures stands { (before : List ReplayUnit) → map watch_in peers.old.items ≡ watches_of since chosen.now before →
-        OnOk result (map watch_in peers.new.items ≡ watches_of since chosen.now (before ++ lent_unit unit.now ∷ [])) }
+        OnOk result (map watch_in peers.new.items ≡ watches_of since chosen.now (before ++ unit.now ∷ [])) }
     ensures notes { (before : List ReplayUnit) → map watch_in peers.old.items ≡ watches_of since chosen.now before →
         OnOk result (notes.new.items ≡ chosen_notes chosen.now
-        (unit_notes (units_of_peer before (lent_unit unit.now).peer) (lent_unit unit.now))) }
+        (unit_notes (units_of_peer before unit.now.peer) unit.now)) }
     ensures keys { keys_in (map watch_in peers.new.items) ≡ keys_in (map watch_in peers.old.items) }
 {
     peers[at]
@@ -63,20 +62,20 @@ fn take_new<F: Unicast, M: PrefixMap<SharedRoute, Addr = F> + Drop>(
     since: Option<u64>,
     numbers: &mut Peers,
     peers: &mut Vec<Watched<M>>,
-    unit: &LentUnitOf<'_, F>,
+    unit: &UnitRef<'_, F>,
     event: &EventRef<'_, Prefix<F>>,
     notes: &mut Vec<Note<Prefix<F>>>,
 ) -> Result<usize, Memory>
     requires numbered { keys_in (map watch_in peers.old.items) ≡ numbers.old }
-    requires new { list_any (peer_eq (lent_unit unit.now).peer) numbers.old ≡ false }
-    requires event { event_of event.now ≡ event_in (lent_payload unit.now.payload) }
+    requires new { list_any (peer_eq unit.now.peer) numbers.old ≡ false }
+    requires event { event_of event.now ≡ event_in unit.now.payload }
     ensures numbered { keys_in (map watch_in peers.new.items) ≡ numbers.new }
-    ensures at { IfOk result (λ at. slice_get (keys_in (map watch_in peers.new.items)) at ≡ Some (lent_unit unit.now).peer) }
+    ensures at { IfOk result (λ at. slice_get (keys_in (map watch_in peers.new.items)) at ≡ Some unit.now.peer) }
     ensures stands { (before : List ReplayUnit) → map watch_in peers.old.items ≡ watches_of since chosen.now before →
-        OnOk result (map watch_in peers.new.items ≡ watches_of since chosen.now (before ++ lent_unit unit.now ∷ [])) }
+        OnOk result (map watch_in peers.new.items ≡ watches_of since chosen.now (before ++ unit.now ∷ [])) }
     ensures notes { (before : List ReplayUnit) → map watch_in peers.old.items ≡ watches_of since chosen.now before →
         OnOk result (notes.new.items ≡ chosen_notes chosen.now
-        (unit_notes (units_of_peer before (lent_unit unit.now).peer) (lent_unit unit.now))) }
+        (unit_notes (units_of_peer before unit.now.peer) unit.now)) }
     ensures left { OnErr result (map watch_in peers.new.items ≡ map watch_in peers.old.items) }
 {
     let key = SharedPeer::new(alloc, unit.peer)?;
@@ -95,21 +94,21 @@ fn take_unit<F: Unicast, M: PrefixMap<SharedRoute, Addr = F> + Drop>(
     since: Option<u64>,
     numbers: &mut Peers,
     peers: &mut Vec<Watched<M>>,
-    unit: &LentUnitOf<'_, F>,
+    unit: &UnitRef<'_, F>,
     event: &EventRef<'_, Prefix<F>>,
     notes: &mut Vec<Note<Prefix<F>>>,
 ) -> Result<usize, Memory>
     requires numbered { keys_in (map watch_in peers.old.items) ≡ numbers.old }
-    requires event { event_of event.now ≡ event_in (lent_payload unit.now.payload) }
+    requires event { event_of event.now ≡ event_in unit.now.payload }
     ensures numbered { keys_in (map watch_in peers.new.items) ≡ numbers.new }
-    ensures at { IfOk result (λ at. slice_get (keys_in (map watch_in peers.new.items)) at ≡ Some (lent_unit unit.now).peer) }
+    ensures at { IfOk result (λ at. slice_get (keys_in (map watch_in peers.new.items)) at ≡ Some unit.now.peer) }
     ensures stands { (before : List ReplayUnit) → map watch_in peers.old.items ≡ watches_of since chosen.now before →
-        OnOk result (map watch_in peers.new.items ≡ watches_of since chosen.now (before ++ lent_unit unit.now ∷ [])) }
+        OnOk result (map watch_in peers.new.items ≡ watches_of since chosen.now (before ++ unit.now ∷ [])) }
     ensures notes { (before : List ReplayUnit) → map watch_in peers.old.items ≡ watches_of since chosen.now before →
         OnOk result (notes.new.items ≡ chosen_notes chosen.now
-        (unit_notes (units_of_peer before (lent_unit unit.now).peer) (lent_unit unit.now))) }
+        (unit_notes (units_of_peer before unit.now.peer) unit.now)) }
 {
-    match numbers.find(&unit.peer, unit.peer_index) {
+    match numbers.find(&unit.peer, None) {
         Some(at) => {
             take_known(alloc, chosen, since, peers, at, unit, event, notes)?;
             Ok(at)
@@ -170,14 +169,14 @@ impl<F: Unicast, M: PrefixMap<SharedRoute, Addr = F> + Drop> Watches<M> {
         alloc: Global,
         chosen: &ChosenPrefixes<F>,
         listing: Listing,
-        unit: &LentUnitOf<'_, F>,
+        unit: &UnitRef<'_, F>,
         rows: &mut Vec<HistoryRow<F>>,
     ) -> Result<(), Memory>
         ensures stands { (before : List ReplayUnit) → self.old ≡ watches_of listing.since chosen.now before →
-            OnOk result (self.new ≡ watches_of listing.since chosen.now (before ++ lent_unit unit.now ∷ [])) }
+            OnOk result (self.new ≡ watches_of listing.since chosen.now (before ++ unit.now ∷ [])) }
         ensures rows { (before : List ReplayUnit) → self.old ≡ watches_of listing.since chosen.now before →
             rows.old.items ≡ history_rows listing chosen.now before →
-            OnOk result (rows.new.items ≡ history_rows listing chosen.now (before ++ lent_unit unit.now ∷ [])) }
+            OnOk result (rows.new.items ≡ history_rows listing chosen.now (before ++ unit.now ∷ [])) }
     {
         self.events.clear();
         self.events.push(alloc, &unit.payload)?;

@@ -44,6 +44,7 @@ impl<'a> Row<'a> {
             "workers" => self.plan.workers = number as usize,
             "ring" => self.plan.ring = number as usize,
             "batch" => self.plan.batch = number,
+            "looks" => self.plan.looks = u32::try_from(number).unwrap_or(0),
             "records" => self.plan.max_records = number,
             _ => {}
         }

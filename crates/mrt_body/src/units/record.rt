@@ -269,7 +269,7 @@ fn hear<F: Unicast>(
 {
     match selection.ribs() {
         RibRule::Add => Ok(()),
-        RibRule::Replace => dumps.hear(unit.peer),
+        RibRule::Replace => dumps.hear(unit.unit.peer),
     }
 }
 

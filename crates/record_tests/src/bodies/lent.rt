@@ -10,10 +10,10 @@ use std::process::Abort;
 
 /// The unit that is lent, as what is found.
 fn lent_in(rt: &impl Abort, alloc: Global, units: &Units) -> Found {
-    let Some(unit) = units.lend() else {
+    let Some(lent) = units.lend() else {
         panic!(rt; "no unit is lent")
     };
-    Found::Unit(unit.to_unit(alloc).expect(rt, "memory for a unit"))
+    Found::Unit(lent.unit.to_unit(alloc).expect(rt, "memory for a unit"))
 }
 
 /// What comes next in a file.

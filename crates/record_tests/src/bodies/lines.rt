@@ -124,7 +124,7 @@ fn push_lent_next<R: Source>(
             let Some(lent) = units.lend() else {
                 return false;
             };
-            let unit = lent.to_unit(alloc).expect(rt, "memory for a unit");
+            let unit = lent.unit.to_unit(alloc).expect(rt, "memory for a unit");
             push_unit(rt, text, &unit);
             units.pass();
             true

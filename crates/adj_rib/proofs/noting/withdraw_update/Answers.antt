@@ -1,4 +1,4 @@
-use Rattle.std.proofs.Common.{◌∙◌, ◌||◌, ◌++◌, Bool, List, map, not, sym, ap}
+use Rattle.std.proofs.Common.{◌∙◌, ◌||◌, Bool, List, map, not, sym, ap}
 use Rattle.std.specs.List.{fold, filter}
 use Rattle.std.proofs.lemmas.List.Sums.{fold-append}
 use Rattle.std.proofs.lemmas.List.Elements.{filter-append}

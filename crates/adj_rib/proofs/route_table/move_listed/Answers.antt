@@ -1,4 +1,4 @@
-use Rattle.std.proofs.Common.{◌≡◌, ◌∙◌, ◌+◌, sym, subst, take, List}
+use Rattle.std.proofs.Common.{◌≡◌, ◌∙◌, sym, subst, take}
 use Rattle.std.specs.List.{fold}
 use Rattle.std.specs.Borrow.{Bor}
 use Rattle.std.specs.FinMap as finite

@@ -1,4 +1,4 @@
-use Rattle.adj_rib.proofs.NamedRoutes.{announced, AreNamed-insert, AreNamed-same}
+use Rattle.adj_rib.proofs.NamedRoutes.{announced, AreNamed-insert}
 use Rattle.adj_rib.proofs.route_table.put_route.Goals as goal
 
 pub returns-clause-ok : goal.returns-clause-ok

@@ -1,7 +1,7 @@
-use Rattle.std.proofs.Common.{◌≡◌, ℕ, ◌+◌, ◌-◌, true, false, eqb, List, take, drop, get_or, sym, ap, ◌∙◌, arith, rules}
+use Rattle.std.proofs.Common.{◌≡◌, ℕ, ◌+◌, ◌-◌, true, false, List, take, drop, get_or, sym, ap, ◌∙◌, arith, rules}
 use Rattle.std.proofs.lemmas.List.{take_rest}
 use Rattle.byteorder.specs.Endian.{big_number}
-use Rattle.adj_rib.specs.Routes.{is_long, front_of}
+use Rattle.adj_rib.specs.Routes.{is_long}
 use Rattle.adj_rib.proofs.RouteBlocks.{front_by}
 use Rattle.adj_rib.proofs.routes.front_of.Goals as goal
 

@@ -1,7 +1,7 @@
 use Rattle.std.proofs.Common.{◌≡◌, List, sym, ap, subst}
 use Rattle.std.specs.Prelude.{OnOk}
 use Rattle.std.specs.List.{fold}
-use Rattle.adj_rib.specs.Steps.{Step, announce}
+use Rattle.adj_rib.specs.Steps.{Step}
 use Rattle.adj_rib.specs.Applied.{RouteMap, applied}
 use Rattle.adj_rib.specs.declared.churn.Churn.{Churn}
 use Rattle.adj_rib.proofs.UpdateSteps.{reached_by, none_reached}

@@ -1,7 +1,7 @@
-use Rattle.std.proofs.Common.{◌≡◌, take}
-use Rattle.lane_deal.specs.LaneWorkers.{events_of}
+use Rattle.std.proofs.Common.{take}
+use Rattle.lane_deal.specs.DecodedBatches.{AreDecoded}
 use Rattle.lane_deal.specs.UnitLists.{units_of}
 use Rattle.lane_deal.proofs.worker.decode_all.Given as goal
 
 abbrev pub invariant-loop-at : goal.invariant-loop-at
-invariant-loop-at g l = l.events ≡ events_of (take l.at (units_of l.items))
+invariant-loop-at g l = AreDecoded l.batch (take l.at (units_of l.items))

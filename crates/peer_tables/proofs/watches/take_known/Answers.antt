@@ -1,6 +1,5 @@
 use Rattle.std.proofs.Common.{◌≡◌, ◌<◌, length, map, set, get_or, sym, ap, ◌∙◌, arith}
 use Rattle.std.proofs.lemmas.List.{length-map, get_or-map, map-set}
-use Rattle.mrt_body.specs.Lent.{lent_unit}
 use Rattle.mrt_body.specs.declared.unit.PeerKey.{PeerKey}
 use Rattle.peer_tables.specs.Histories.{PeerWatch}
 use Rattle.peer_tables.specs.Peers.{units_of_peer}
@@ -13,7 +12,7 @@ returns-clause-stands g c = λ before are.
     let see = watch_in {M = g.row.M.Denot} {A = g.row.F.Denot} in
     let peers = c.args.peers.now.items in
     let at = c.args.at in
-    let u = lent_unit c.args.unit.now in
+    let u = c.args.unit.now in
     let r = c.index_mut.result.now in
     let w = c.take.new.self in
     let within : at < length peers = omega (arith, within_keys (map see peers) at u.peer c.requires.peer, length-map peers see) in
@@ -29,7 +28,7 @@ returns-clause-notes g c = λ before are.
     let see = watch_in {M = g.row.M.Denot} {A = g.row.F.Denot} in
     let peers = c.args.peers.now.items in
     let at = c.args.at in
-    let u = lent_unit c.args.unit.now in
+    let u = c.args.unit.now in
     let r = c.index_mut.result.now in
     let within : at < length peers = omega (arith, within_keys (map see peers) at u.peer c.requires.peer, length-map peers see) in
     let here : get_or (map see peers) at (see r) ≡ see r = get_or-map see peers at r (see r) within ∙ ap see (sym c.index_mut.ensures.value) in

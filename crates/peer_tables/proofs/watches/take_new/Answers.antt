@@ -1,6 +1,5 @@
 use Rattle.std.proofs.Common.{[], ◌∷◌, ◌++◌, map, slice_get, sym, ap, ◌∙◌}
 use Rattle.std.proofs.lemmas.List.{map-append}
-use Rattle.mrt_body.specs.Lent.{lent_unit}
 use Rattle.mrt_body.specs.declared.unit.PeerKey.{PeerKey}
 use Rattle.adj_rib.specs.Histories.{watch_of}
 use Rattle.peer_tables.specs.Peers.{units_of_peer}
@@ -13,7 +12,7 @@ use Rattle.peer_tables.proofs.watches.take_new.Goals as goal
 pub returns-clause-numbered : goal.returns-clause-numbered
 returns-clause-numbered g c =
     let see = watch_in {M = g.row.M.Denot} {A = g.row.F.Denot} in
-    let q = (lent_unit c.args.unit.now).peer in
+    let q = c.args.unit.now.peer in
     let item : Watched g.row.M.Denot g.row.F.Denot = record { key = c.in_ok-key.key; watch = c.take.new.self } in
     ap (λ l. keys_in (map see l)) (c.push_reserved.ensures.items ∙ ap (λ l. l ++ item ∷ []) c.in_ok-reserve.ensures.items)
     ∙ keys_push see c.args.peers.now.items item q c.in_ok-key.ensures
@@ -29,7 +28,7 @@ returns-clause-stands g c = λ before are.
     let since = c.args.since in
     let choices = c.args.chosen.now in
     let peers = c.args.peers.now.items in
-    let u = lent_unit c.args.unit.now in
+    let u = c.args.unit.now in
     let new = unlisted (map see peers) _ u.peer c.requires.numbered c.requires.new in
     let fresh = c.new-watch.ensures since choices ∙ ap (watch_of since choices) (sym (none_before since choices before u (map see peers) are new)) in
     let item : Watched g.row.M.Denot g.row.F.Denot = record { key = c.in_ok-key.key; watch = c.take.new.self } in
@@ -43,7 +42,7 @@ returns-clause-notes g c = λ before are.
     let since = c.args.since in
     let choices = c.args.chosen.now in
     let peers = c.args.peers.now.items in
-    let u = lent_unit c.args.unit.now in
+    let u = c.args.unit.now in
     let new = unlisted (map see peers) _ u.peer c.requires.numbered c.requires.new in
     let fresh = c.new-watch.ensures since choices ∙ ap (watch_of since choices) (sym (none_before since choices before u (map see peers) are new)) in
     c.in_ok-take.ensures.notes (units_of_peer before u.peer) fresh

@@ -1,5 +1,4 @@
-use Rattle.std.proofs.Common.{◌≡◌, ◌∙◌, map}
-use Rattle.std.specs.List.{fold}
+use Rattle.std.proofs.Common.{◌≡◌, ◌∙◌}
 use Rattle.adj_rib.specs.Steps.{announce}
 use Rattle.adj_rib.specs.Applied.{applied}
 use Rattle.adj_rib.specs.Routes.{named_routes, route_at}

@@ -1,4 +1,4 @@
-use Rattle.std.proofs.Common.{◌≡◌, ◌∙◌, ap, sym, subst, List}
+use Rattle.std.proofs.Common.{◌≡◌, ◌∙◌, ap, sym, subst}
 use Rattle.std.specs.List.{All}
 use Rattle.std.proofs.lemmas.Result.{IfOk-weaker}
 use Rattle.std.specs.Borrow.{Bor}
@@ -6,7 +6,7 @@ use Rattle.std.specs.FinMap as finite
 use Rattle.bgp_prefix.specs.Keys.{RouteKey}
 use Rattle.adj_rib.specs.declared.routes.RouteId.{RouteId}
 use Rattle.adj_rib.specs.Applied.{RouteMap}
-use Rattle.adj_rib.specs.Routes.{IsNamed, ids_now, routes_now}
+use Rattle.adj_rib.specs.Routes.{IsNamed, routes_now}
 use Rattle.adj_rib.proofs.Listings.{routes_listed, listed_named}
 use Rattle.adj_rib.proofs.route_table.RouteTable.entries.Goals as goal
 

@@ -1,4 +1,3 @@
-use Rattle.std.proofs.Common.{List, ℕ}
 use Rattle.std.proofs.lemmas.List.Elements.{All-set}
 use Rattle.adj_rib.specs.Routes.{IsSlot}
 use Rattle.adj_rib.proofs.RouteBlocks.{AreSlots-grown}

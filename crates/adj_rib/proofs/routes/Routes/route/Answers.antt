@@ -1,4 +1,4 @@
-use Rattle.std.proofs.Common.{◌≡◌, ◌∙◌, ap, sym, drop, List, ℕ}
+use Rattle.std.proofs.Common.{◌∙◌, ap, drop, List, ℕ}
 use Rattle.bgp_update.specs.Packing.{unpacked}
 use Rattle.adj_rib.specs.Routes.{front_of, route_at}
 use Rattle.adj_rib.proofs.routes.Routes.route.Goals as goal

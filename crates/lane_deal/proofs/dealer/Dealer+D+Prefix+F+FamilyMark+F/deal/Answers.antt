@@ -1,16 +1,17 @@
-use Rattle.std.proofs.Common.{◌≡◌, ℕ, [], ◌∷◌, length, ◌∙◌, refl, sym, ap, arith}
+use Rattle.std.proofs.Common.{◌≡◌, ℕ, [], ◌∷◌, ◌∙◌, refl, sym, ap, arith}
 use Rattle.std.proofs.lemmas.Result.{err_from_is_err_and}
-use Rattle.mrt_body.specs.Lent.{lent_unit}
-use Rattle.lane_deal.proofs.DealerLaws.{emptied, Next-lent, Next-kept, Next-ended, NextInVain-asked, SoFar-none, SoFar-more, Deals-blocked, Deals-end, Deals-failed}
+use Rattle.lane_deal.proofs.DealerLaws.{emptied, Next-lent, Next-kept, Next-ended, NextInVain-asked, SoFarTo-none, SoFarTo-more, DealsTo-blocked, DealsTo-end, DealsTo-failed, DealsTo-full}
 use Rattle.lane_deal.proofs.Asking.{stops_later}
-use Rattle.lane_deal.proofs.Deals.{Dealt-append}
 use Rattle.lane_deal.proofs.dealer.Dealer+D+Prefix+F+FamilyMark+F.deal.Goals as goal
 
 pub loop-dealt-init : goal.loop-dealt-init
-loop-dealt-init g c = record { count = refl; sound = refl; far = SoFar-none _ _ _ _ _ (omega arith) }
+loop-dealt-init g c = record { count = refl; lanes = refl; sound = refl; far = SoFarTo-none _ _ _ _ _ (omega arith) (c.adds_up.ensures.nothing _ c.args.to.now) }
 
 pub returns-clause-sound : goal.returns-clause-sound
 returns-clause-sound g c = c.loop-dealt.invariant.sound
+
+pub returns-clause-deals : goal.returns-clause-deals
+returns-clause-deals g c = DealsTo-full _ _ _ _ _ c.loop-dealt.to _ _ _ _ _ _ c.loop-dealt.dealt (omega arith) c.loop-dealt.invariant.far
 
 -- ---- nothing came
 
@@ -18,14 +19,15 @@ pub returns-in_err-ask-clause-cause : goal.returns-in_err-ask-clause-cause
 returns-in_err-ask-clause-cause g c =
     let p = err_from_is_err_and c.from_residual.result c.from_residual.ensures.1 in
     let i = c.loop-dealt.invariant in
-    rw (p.1, p.2) (stops_later _ _ _ _ _ _ _ _ _ i.far.takes i.sound c.in_err-ask.ensures.cause)
+    rw (p.1, p.2) (stops_later _ _ _ _ _ _ _ _ _ i.far.far.takes i.sound c.in_err-ask.ensures.cause)
 
 pub returns-in_err-ask-clause-deals : goal.returns-in_err-ask-clause-deals
 returns-in_err-ask-clause-deals g c =
     let p = err_from_is_err_and c.from_residual.result c.from_residual.ensures.1 in
+    let lane_of : ℕ → ℕ = λ number. g.D.Dealing.lane_of c.args.self.now.dealing number (g.K.Receives.count c.args.to.now) in
     let same = c.ask.ensures.same in
     let none = c.in_err-ask.ensures.failed in
-    rw (p.1, p.2) (λ file e. Deals-failed _ _ _ c.loop-dealt.feeds _ _ c.ask.new.self _ _ _ _ _ _ _ _ c.loop-dealt.invariant.far _ _ (let t = c.loop-dealt-test.true in omega arith)
+    rw (p.1, p.2) (λ file e. DealsTo-failed _ (c.adds_up.ensures.joined lane_of) _ c.loop-dealt.to c.loop-dealt.to _ _ c.ask.new.self c.ask.new.self _ _ _ _ _ _ _ c.loop-dealt.invariant.far lane_of _ _ _ (let t = c.loop-dealt-test.true in omega arith)
     (NextInVain-asked _ _ _ _ _ _ none (record { dealing = ap (λ o. o.dealing) same; peers = ap (λ o. o.peers) same; kept = ap (λ o. o.kept) same ∙ none; dealt = ap (λ o. o.dealt) same }) (c.in_err-ask.ensures.asked none file e)))
 
 pub returns-in_default-take-clause-sound : goal.returns-in_default-take-clause-sound
@@ -33,6 +35,7 @@ returns-in_default-take-clause-sound g c = c.in_ok-ask.ensures.sound ∙ c.loop-
 
 pub returns-in_default-take-clause-deals : goal.returns-in_default-take-clause-deals
 returns-in_default-take-clause-deals g c =
+    let lane_of : ℕ → ℕ = λ number. g.D.Dealing.lane_of c.args.self.now.dealing number (g.K.Receives.count c.args.to.now) in
     let i = c.loop-dealt.invariant in
     let same = c.ask.ensures.same in
     let kept = sym c.take.ensures.value ∙ c.in_default-take.is in
@@ -40,18 +43,37 @@ returns-in_default-take-clause-deals g c =
     let empty = c.in_default.ensures.none refl kept (c.in_ok-ask.ensures.going none) in
     let next =
     Next-ended _ _ _ _ _ _ none (record { dealing = ap (λ o. o.dealing) same; peers = ap (λ o. o.peers) same; kept = c.take.ensures.after; dealt = ap (λ o. o.dealt) same }) (c.in_ok-ask.ensures.asked none) empty in
-    Deals-end _ _ _ c.loop-dealt.feeds _ _ c.ask.new.self _ _ _ _ _ _ _ _ i.far _ (let t = c.loop-dealt-test.true in omega arith) next
+    DealsTo-end _ (c.adds_up.ensures.joined lane_of) _ c.loop-dealt.to c.loop-dealt.to _ _ c.ask.new.self _ _ _ _ _ _ _ _ i.far lane_of _ _ (let t = c.loop-dealt-test.true in omega arith) next
 
 -- ---- a unit that was lent
+
+pub has_room-requires : goal.has_room-requires
+has_room-requires g c =
+    let lane = c.in_ok-number.ensures.lane in
+    let lanes = c.loop-dealt.invariant.lanes in
+    let shown = c.lanes.ensures in
+    let some = c.requires.lanes in
+    let below = g.met.D.Dealing.is_below c.ask.new.self.dealing c.in_ok-number.number c.lanes.result (omega (arith, lanes, some, shown)) in
+    omega (arith, below, lane, shown)
+
+pub receive-requires-clause-lane : goal.receive-requires-clause-lane
+receive-requires-clause-lane g c =
+    let lane = c.in_ok-number.ensures.lane in
+    let lanes = c.loop-dealt.invariant.lanes in
+    let looked = c.has_room.ensures.lanes in
+    let shown = c.lanes.ensures in
+    let some = c.requires.lanes in
+    let below = g.met.D.Dealing.is_below c.ask.new.self.dealing c.in_ok-number.number c.lanes.result (omega (arith, lanes, some, shown)) in
+    omega (arith, below, lane, looked, shown)
 
 pub returns-then-not-has_room-clause-sound : goal.returns-then-not-has_room-clause-sound
 returns-then-not-has_room-clause-sound g c = c.in_ok-ask.ensures.sound ∙ c.loop-dealt.invariant.sound
 
 pub returns-then-not-has_room-clause-deals : goal.returns-then-not-has_room-clause-deals
 returns-then-not-has_room-clause-deals g c =
-    let lane_of : ℕ → ℕ = λ number. g.D.Dealing.lane_of c.args.self.now.dealing number (length c.args.feeds.now) in
+    let lane_of : ℕ → ℕ = λ number. g.D.Dealing.lane_of c.args.self.now.dealing number (g.K.Receives.count c.args.to.now) in
     let i = c.loop-dealt.invariant in
-    let unit = lent_unit c.in-Some.unit in
+    let unit = c.in-Some.lent.unit in
     let asked = c.ask.ensures.same in
     let kept = c.in-Some.ensures.kept in
     let none = sym (ap (λ o. o.kept) asked) ∙ kept in
@@ -59,16 +81,18 @@ returns-then-not-has_room-clause-deals g c =
     let next =
     Next-lent c.loop-dealt.self c.ask.new.self c.loop-dealt.units c.ask.new.units c.pass.new.self _ _ unit none (record { dealing = ap (λ o. o.dealing) asked; peers = ap (λ o. o.peers) asked; kept = kept; dealt = ap (λ o. o.dealt) asked }) (c.in_ok-ask.ensures.asked none) c.in-Some.ensures.lends
     c.pass.ensures.passes c.pass.ensures.found c.pass.ensures.units c.pass.ensures.plan (c.in_ok-ask.ensures.going none) in
-    let lane : lane_of c.in_ok-number.number ≡ c.in_ok-number.lane = (let e = ap (λ o. o.dealing) asked in let d = i.far.handles.dealing in let f = i.far.handles.pushed.lanes in let l = c.in_ok-number.ensures.lane in cc) in
-    let below = g.met.D.Dealing.is_below c.args.self.now.dealing c.in_ok-number.number (length c.args.feeds.now) c.requires.lanes in
-    Deals-blocked lane_of _ _ _ _ _ c.ask.new.self _ _ _ _ _ _ _ _ i.far _ (let t = c.loop-dealt-test.true in omega arith) unit _ c.in_ok-number.number c.in_ok-number.lane next c.in_ok-number.ensures.numbers (ap (λ o. o.dealing) same) refl c.in_ok-to_unit.ensures.copies (ap (λ o. o.refused) same) (ap (λ o. o.dealt) same)
-    lane (omega (arith, below, lane)) (c.if-not-has_room.ensures.looked lane_of) (c.if-not-has_room.ensures.full refl)
+    let alike = i.lanes in
+    let lane : lane_of c.in_ok-number.number ≡ c.in_ok-number.lane = (let e = ap (λ o. o.dealing) asked in let d = i.far.far.handles.dealing in let l = c.in_ok-number.ensures.lane in let n = c.lanes.ensures in cc) in
+    let below = g.met.D.Dealing.is_below c.args.self.now.dealing c.in_ok-number.number (g.K.Receives.count c.args.to.now) c.requires.lanes in
+    let spent = c.adds_up.ensures.spent lane_of c.args.to.now c.loop-dealt.to _ c.in_ok-number.lane (omega (arith, below, lane)) i.far.received in
+    DealsTo-blocked _ (c.adds_up.ensures.joined lane_of) _ c.loop-dealt.to c.has_room.new.self _ _ c.ask.new.self _ _ _ _ _ _ _ _ i.far lane_of _ (g.K.Receives.room c.loop-dealt.to) _ (let t = c.loop-dealt-test.true in omega arith) unit _ c.in_ok-number.number c.in_ok-number.lane next c.in_ok-number.ensures.numbers (ap (λ o. o.dealing) same) refl c.in_ok-to_unit.ensures.copies (ap (λ o. o.refused) same) (ap (λ o. o.dealt) same)
+    lane spent (c.if-not-has_room.ensures.looked lane_of) (c.if-not-has_room.ensures.full refl)
 
 pub loop-dealt-preserved-in-Some : goal.loop-dealt-preserved-in-Some
 loop-dealt-preserved-in-Some g c =
-    let lane_of : ℕ → ℕ = λ number. g.D.Dealing.lane_of c.args.self.now.dealing number (length c.args.feeds.now) in
+    let lane_of : ℕ → ℕ = λ number. g.D.Dealing.lane_of c.args.self.now.dealing number (g.K.Receives.count c.args.to.now) in
     let i = c.loop-dealt.invariant in
-    let unit = lent_unit c.in-Some.unit in
+    let unit = c.in-Some.lent.unit in
     let asked = c.ask.ensures.same in
     let kept = c.in-Some.ensures.kept in
     let none = sym (ap (λ o. o.kept) asked) ∙ kept in
@@ -76,11 +100,13 @@ loop-dealt-preserved-in-Some g c =
     let next =
     Next-lent c.loop-dealt.self c.ask.new.self c.loop-dealt.units c.ask.new.units c.pass-in-Some.new.self _ _ unit none (record { dealing = ap (λ o. o.dealing) asked; peers = ap (λ o. o.peers) asked; kept = kept; dealt = ap (λ o. o.dealt) asked }) (c.in_ok-ask.ensures.asked none)
     c.in-Some.ensures.lends c.pass-in-Some.ensures.passes c.pass-in-Some.ensures.found c.pass-in-Some.ensures.units c.pass-in-Some.ensures.plan (c.in_ok-ask.ensures.going none) in
-    let lane : lane_of c.in_ok-number.number ≡ c.in_ok-number.lane = (let e = ap (λ o. o.dealing) asked in let d = i.far.handles.dealing in let f = i.far.handles.pushed.lanes in let l = c.in_ok-number.ensures.lane in cc) in record {
+    let alike = i.lanes in
+    let lane : lane_of c.in_ok-number.number ≡ c.in_ok-number.lane = (let e = ap (λ o. o.dealing) asked in let d = i.far.far.handles.dealing in let l = c.in_ok-number.ensures.lane in let n = c.lanes.ensures in cc) in record {
       count = c.pass-in-Some.ensures.plan.0 ∙ c.ask.ensures.count ∙ i.count;
+      lanes = c.receive.ensures.lanes ∙ c.has_room.ensures.lanes ∙ i.lanes;
       sound = c.in_ok-ask.ensures.sound ∙ i.sound;
-      far = SoFar-more lane_of _ _ _ _ _ c.ask.new.self _ _ _ _ _ _ _ _ i.far unit c.in_ok-number.number next c.in_ok-number.ensures.numbers (ap (λ o. o.dealing) same) (ap (λ o. o.kept) same) (ap (λ o. o.refused) same) (let n = ap (λ o. o.dealt) same in omega arith)
-          (Dealt-append lane_of _ _ _ [] (record { number = c.in_ok-number.number; unit = unit } ∷ []) (c.if-not-has_room.ensures.looked lane_of) (c.in_ok-deal_one.ensures lane_of lane));
+      far = SoFarTo-more _ (c.adds_up.ensures.joined lane_of) _ c.loop-dealt.to c.receive.new.self _ _ c.ask.new.self _ _ _ _ _ _ _ _ i.far unit c.in_ok-number.number next c.in_ok-number.ensures.numbers (ap (λ o. o.dealing) same) (ap (λ o. o.kept) same) (ap (λ o. o.refused) same) (let n = ap (λ o. o.dealt) same in omega arith)
+          (c.adds_up.ensures.joined lane_of c.loop-dealt.to c.has_room.new.self c.receive.new.self [] (record { number = c.in_ok-number.number; unit = unit } ∷ []) (c.if-not-has_room.ensures.looked lane_of) (c.in_ok-receive.ensures.received lane_of lane));
     }
 
 -- ---- a unit that was kept
@@ -90,7 +116,7 @@ returns-then-not-has_room-2-clause-sound g c = c.in_ok-ask.ensures.sound ∙ c.l
 
 pub returns-then-not-has_room-2-clause-deals : goal.returns-then-not-has_room-2-clause-deals
 returns-then-not-has_room-2-clause-deals g c =
-    let lane_of : ℕ → ℕ = λ number. g.D.Dealing.lane_of c.args.self.now.dealing number (length c.args.feeds.now) in
+    let lane_of : ℕ → ℕ = λ number. g.D.Dealing.lane_of c.args.self.now.dealing number (g.K.Receives.count c.args.to.now) in
     let i = c.loop-dealt.invariant in
     let unit = c.in-Some-take.unit in
     let asking = c.ask.ensures.same in
@@ -99,14 +125,16 @@ returns-then-not-has_room-2-clause-deals g c =
     let same = c.lane_for-in-loop-dealt.ensures.same in
     let asked = emptied c.ask.new.self in
     let next = Next-kept c.loop-dealt.self c.ask.new.self _ _ _ _ unit kept (ap (λ o. o.dealing) asking) (ap (λ o. o.peers) asking) (ap (λ o. o.dealt) asking) waits.0 waits.1 in
-    let lane : lane_of c.in_ok-number-2.number ≡ c.in_ok-number-2.lane = (let e = ap (λ o. o.dealing) asking in let d = i.far.handles.dealing in let f = i.far.handles.pushed.lanes in let l = c.in_ok-number-2.ensures.lane in cc) in
-    let below = g.met.D.Dealing.is_below c.args.self.now.dealing c.in_ok-number-2.number (length c.args.feeds.now) c.requires.lanes in
-    Deals-blocked lane_of _ _ _ _ _ asked _ _ _ _ _ _ _ _ i.far _ (let t = c.loop-dealt-test.true in omega arith) unit unit c.in_ok-number-2.number c.in_ok-number-2.lane next c.in_ok-number-2.ensures.numbers (ap (λ o. o.dealing) same) refl refl (ap (λ o. o.refused) same) (ap (λ o. o.dealt) same)
-    lane (omega (arith, below, lane)) (c.if-not-has_room-2.ensures.looked lane_of) (c.if-not-has_room-2.ensures.full refl)
+    let alike = i.lanes in
+    let lane : lane_of c.in_ok-number-2.number ≡ c.in_ok-number-2.lane = (let e = ap (λ o. o.dealing) asking in let d = i.far.far.handles.dealing in let l = c.in_ok-number-2.ensures.lane in let n = c.lanes-in-loop-dealt.ensures in cc) in
+    let below = g.met.D.Dealing.is_below c.args.self.now.dealing c.in_ok-number-2.number (g.K.Receives.count c.args.to.now) c.requires.lanes in
+    let spent = c.adds_up.ensures.spent lane_of c.args.to.now c.loop-dealt.to _ c.in_ok-number-2.lane (omega (arith, below, lane)) i.far.received in
+    DealsTo-blocked _ (c.adds_up.ensures.joined lane_of) _ c.loop-dealt.to c.has_room-in-loop-dealt.new.self _ _ asked _ _ _ _ _ _ _ _ i.far lane_of _ (g.K.Receives.room c.loop-dealt.to) _ (let t = c.loop-dealt-test.true in omega arith) unit unit c.in_ok-number-2.number c.in_ok-number-2.lane next c.in_ok-number-2.ensures.numbers (ap (λ o. o.dealing) same) refl refl (ap (λ o. o.refused) same) (ap (λ o. o.dealt) same)
+    lane spent (c.if-not-has_room-2.ensures.looked lane_of) (c.if-not-has_room-2.ensures.full refl)
 
 pub loop-dealt-preserved : goal.loop-dealt-preserved
 loop-dealt-preserved g c =
-    let lane_of : ℕ → ℕ = λ number. g.D.Dealing.lane_of c.args.self.now.dealing number (length c.args.feeds.now) in
+    let lane_of : ℕ → ℕ = λ number. g.D.Dealing.lane_of c.args.self.now.dealing number (g.K.Receives.count c.args.to.now) in
     let i = c.loop-dealt.invariant in
     let unit = c.in-Some-take.unit in
     let asking = c.ask.ensures.same in
@@ -115,9 +143,11 @@ loop-dealt-preserved g c =
     let same = c.lane_for-in-loop-dealt.ensures.same in
     let asked = emptied c.ask.new.self in
     let next = Next-kept c.loop-dealt.self c.ask.new.self _ _ _ _ unit kept (ap (λ o. o.dealing) asking) (ap (λ o. o.peers) asking) (ap (λ o. o.dealt) asking) waits.0 waits.1 in
-    let lane : lane_of c.in_ok-number-2.number ≡ c.in_ok-number-2.lane = (let e = ap (λ o. o.dealing) asking in let d = i.far.handles.dealing in let f = i.far.handles.pushed.lanes in let l = c.in_ok-number-2.ensures.lane in cc) in record {
+    let alike = i.lanes in
+    let lane : lane_of c.in_ok-number-2.number ≡ c.in_ok-number-2.lane = (let e = ap (λ o. o.dealing) asking in let d = i.far.far.handles.dealing in let l = c.in_ok-number-2.ensures.lane in let n = c.lanes-in-loop-dealt.ensures in cc) in record {
       count = c.ask.ensures.count ∙ i.count;
+      lanes = c.receive-in-loop-dealt.ensures.lanes ∙ c.has_room-in-loop-dealt.ensures.lanes ∙ i.lanes;
       sound = c.in_ok-ask.ensures.sound ∙ i.sound;
-      far = SoFar-more lane_of _ _ _ _ _ asked _ _ _ _ _ _ _ _ i.far unit c.in_ok-number-2.number next c.in_ok-number-2.ensures.numbers (ap (λ o. o.dealing) same) (ap (λ o. o.kept) same ∙ c.take.ensures.after) (ap (λ o. o.refused) same) (let n = ap (λ o. o.dealt) same in omega arith)
-          (Dealt-append lane_of _ _ _ [] (record { number = c.in_ok-number-2.number; unit = unit } ∷ []) (c.if-not-has_room-2.ensures.looked lane_of) (rw c.lend.ensures at (c.in_ok-deal_one-2.ensures lane_of lane)));
+      far = SoFarTo-more _ (c.adds_up.ensures.joined lane_of) _ c.loop-dealt.to c.receive-in-loop-dealt.new.self _ _ asked _ _ _ _ _ _ _ _ i.far unit c.in_ok-number-2.number next c.in_ok-number-2.ensures.numbers (ap (λ o. o.dealing) same) (ap (λ o. o.kept) same ∙ c.take.ensures.after) (ap (λ o. o.refused) same) (let n = ap (λ o. o.dealt) same in omega arith)
+          (c.adds_up.ensures.joined lane_of c.loop-dealt.to c.has_room-in-loop-dealt.new.self c.receive-in-loop-dealt.new.self [] (record { number = c.in_ok-number-2.number; unit = unit } ∷ []) (c.if-not-has_room-2.ensures.looked lane_of) (rw c.lend.ensures at (c.in_ok-receive-2.ensures.received lane_of lane)));
     }

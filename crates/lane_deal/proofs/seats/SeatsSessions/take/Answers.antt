@@ -1,22 +1,22 @@
-use Rattle.std.proofs.Common.{◌∙◌, List, map, ap, sym, subst, arith}
+use Rattle.std.proofs.Common.{◌∙◌, map, ap, sym, subst, arith}
 use Rattle.std.proofs.lemmas.List.{with_items_is}
 use Rattle.mrt_body.specs.Events.{event_in}
-use Rattle.mrt_body.specs.Lent.{lent_payload, lent_unit}
 use Rattle.peer_tables.specs.Seats.{seat_of}
-use Rattle.lane_deal.specs.Seating.{AreIndexed}
+use Rattle.mrt_body.specs.DecodedEvents.{Means, event_of}
+use Rattle.lane_deal.specs.DecodedBatches.{head_of}
+use Rattle.lane_deal.specs.Seating.{AreIndexed, SeatFor}
 use Rattle.lane_deal.proofs.SeatLists.{HoldsUnits-taken}
 use Rattle.lane_deal.proofs.seats.SeatsSessions.take.Goals as goal
 
-pub take_at-requires-clause-event : goal.take_at-requires-clause-event
-take_at-requires-clause-event g c =
-    let own = event_in (lent_payload c.args.item.now.unit.payload) in
-    sym (c.at.ensures own) ∙ c.requires.event own
-
 pub returns : goal.returns
-returns g c =
-    let took = rw c.deref_mut.ensures.value at c.take_at.ensures.taken in
+returns g c = λ item decoded.
+    let head = sym (c.head-head.ensures (head_of item)) ∙ decoded.head (head_of item) in
+    let event = sym (c.event.ensures (event_in item.unit.payload)) ∙ decoded.event (event_in item.unit.payload) in
+    let means : Means item.unit c.head-head.result.now.place c.head-head.result.now.time (event_of c.event.result) = record { place_is = sym (ap (λ h. h.place) head); time_is = sym (ap (λ h. h.time) head); event_is = sym event } in
+    let took = rw c.deref_mut.ensures.value at (c.take_at.ensures.taken item.unit means) in
     let is = with_items_is c.position_for.new.self.seats c.take_at.new.seats (omega arith) in
-    HoldsUnits-taken c.take_at.result _ _ (map seat_of c.take_at.new.seats) _ c.args.item.now.number c.in_ok-position.position (lent_unit c.args.item.now.unit) c.in_ok-position.ensures.seat (ap (map seat_of) is) took
+    let seat = subst (λ h. SeatFor (map seat_of c.args.self.now.seats.items) (map seat_of c.position_for.new.self.seats.items) h.number h.peer c.in_ok-position.position) head c.in_ok-position.ensures.seat in
+    HoldsUnits-taken c.take_at.result _ _ (map seat_of c.take_at.new.seats) _ item.number c.in_ok-position.position item.unit seat (ap (map seat_of) is) took
 
 pub invariant_of-self : goal.invariant_of-self
 invariant_of-self g c =
