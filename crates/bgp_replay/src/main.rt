@@ -5,14 +5,8 @@
 //!
 //! - **A run replays the routes of one family**, whose type of addresses is a parameter of all that has a job: the two
 //!   are told apart where the arguments were read (`Asked`), and the map of routes is chosen with it.
-//! - **All files are opened before any is read**, so that a wrong name is reported at once. The first 16 stay open, as
-//!   long as the system lets so many be open; a later one is closed and opened again when its turn comes, except pipes
-//!   and the like, which can't be opened twice. A file is closed when the next one is begun, if its end wasn't read.
-//!   Standard input is read like a file; a second `-` finds nothing left.
 //! - **Packed files are unpacked by threads beside the replay** (`PackedFiles`), where there may be more than one and a
 //!   regular file is packed; else no such thread is started. Whether a file is packed is told when it is opened.
-//! - **`Dump` and `Report` are generic over their device**, and state what they make known by what it does (`run_io`):
-//!   so what is counted, shown and kept on the way is proved to change no byte.
 //! - **The first line on standard error is fixed** for each status, so that scripts can read it. Further lines begin
 //!   with two spaces and say which file and why, in the system's words. If the reader of a pipe is gone, nothing is
 //!   reported: `head` needs no message.
@@ -23,27 +17,14 @@
 //! - **The plan**: batches of 65,536 units for each worker and 1,048,576 at most, a million looks, and one look for a
 //!   single worker, which then shares the dealer's thread. A worker that leaves a round ends it for all, since nobody
 //!   empties its ring; with a million looks, rounds end by their batch even where the input is slow.
-//! - **The gate sleeps**, since the libraries have no clock: a worker after ten looks in a row in vain, for 20
-//!   microseconds at first and 80 at most, and the dealer at once, for one at first and 64 at most. A thread that only
-//!   yields stays ready to run, and two that have work share a processor meanwhile. A sleep ends by itself, so no
-//!   thread waits for another one.
-//! - **`--progress` looks at the clock once per mebibyte** and rewrites its line after 250 ms; its number of routes is
-//!   that after the last round, since counting goes over all sessions. **`--summary`** takes the units and faults of
-//!   each file from the gate (`counts.rt`), and its peak of memory from `/proc/self/status`. Nothing is proved of
-//!   either but that they are safe.
+//! - **`--summary` takes its peak of memory** from `/proc/self/status`. Nothing is proved of it but that it is safe.
 #![tactic(auto)]
 
 ghost use Rattle.std.specs.Prelude.{◌≡◌, ◌≤◌, ◌*◌, min, IfOk, IsTrue};
 ghost use Rattle.lane_deal.specs.Plans.{IsPlan};
 
-mod counts;
-mod files;
-mod input;
 mod lists;
-mod naps;
 mod notes;
-mod output;
-mod progress;
 mod telling;
 
 use adj_rib::{RouteId, SharedRoute};
@@ -52,20 +33,18 @@ use bgp_update::Unicast;
 use command_line::{
     AddressFamily, AddressText, Asked, Job, Usage, read_words, standard_input_fault, wrapped,
 };
-use counts::Counts;
-use files::{Device, Files, OpenError};
-use input::{Input, Watched, inputs_of, packed_files_of};
 use lane_deal::{ByTurns, Plan};
 use lists::{listed_dumps, listed_prefixes};
 use mrt_body::{ChosenPrefixes, PrefixChoice, Reach, Selection};
 use mrt_frame::{Counted, ReplayError};
 use mrt_replay::{Summary, run, status};
-use naps::Naps;
 use notes::tell_notes;
-use output::{Output, Report, columns};
 use packed_io::PackedFiles;
 use prefix_shelf::Shelf;
-use progress::{Board, Counter, terminal_width};
+use replay_io::{
+    Board, Counter, Counts, Device, Files, Input, Naps, OpenError, Output, Report, Watched,
+    columns, inputs_of, packed_files_of, terminal_width,
+};
 use rib_report::{Request, WrittenAddress};
 use std::alloc::Global;
 use std::env::{Env, FillError};

@@ -1,10 +1,10 @@
 //! What is remarkable about the dumps of a complete run, on standard error: what they are likely not meant to be. A
 //! note is a line that begins with two spaces and `note: `; no report and no status depends on it.
 
-use crate::input::Input;
 use command_line::{AddressFamily, FileName};
 use mrt_body::{Marked, PeerAddr, PeerKey, RibRule};
 use mrt_replay::{Idle, Summary};
+use replay_io::Input;
 use std::alloc::{AllocError, Global};
 
 /// The most files or peers that a note names.

@@ -1,14 +1,11 @@
 //! What the program reports on standard error. Lines after the first are indented by two spaces, and
 //! say which file and why. A failure to write them doesn't change the status.
 
-use crate::counts::{Counts, FileCounts};
-use crate::files::Device;
-use crate::input::{Dump, Input};
-use crate::output::Output;
 use command_line::{FileName, Kind, Records};
 use mrt_frame::ReplayError;
 use mrt_replay::Summary;
 use packed_io::{Effect, Format, PackedFault};
+use replay_io::{Counts, Device, Dump, FileCounts, Input, Output};
 use rib_report::Request;
 use std::fmt::Display;
 use std::io::{self, ErrorKind};

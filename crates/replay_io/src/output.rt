@@ -2,7 +2,7 @@
 
 ghost use Rattle.std.specs.Prelude.{◌≡◌};
 ghost use Rattle.std.specs.Io.KnownBytes.{append_known};
-ghost use Rattle.bgp_replay.specs.Devices.{report_contents};
+ghost use Rattle.replay_io.specs.Devices.{report_contents};
 
 use crate::progress::Board;
 use mrt_frame::Counted;

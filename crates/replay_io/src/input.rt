@@ -2,7 +2,7 @@
 
 ghost use Rattle.std.specs.Prelude.{◌≡◌};
 ghost use Rattle.packed_io.specs.Formats.{told_of};
-ghost use Rattle.bgp_replay.specs.Devices.{contents_remaining, dump_contents, dump_remaining};
+ghost use Rattle.replay_io.specs.Devices.{contents_remaining, dump_contents, dump_remaining};
 
 use crate::counts::Counts;
 use crate::files::{Device, Files};

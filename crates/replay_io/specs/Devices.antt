@@ -2,10 +2,10 @@
 use Rattle.std.specs.Prelude.{ℕ, List, Option, None}
 use Rattle.packed_io.specs.Reading.{unpacked_remaining}
 use Rattle.run_io.specs.Headers.{headed_contents}
-use Rattle.bgp_replay.specs.declared.input.Contents.{Contents}
-use Rattle.bgp_replay.specs.declared.input.Contents.TheVariants.{Here, Ahead}
-use Rattle.bgp_replay.specs.declared.input.Dump.{Dump}
-use Rattle.bgp_replay.specs.declared.output.Report.{Report}
+use Rattle.replay_io.specs.declared.input.Contents.{Contents}
+use Rattle.replay_io.specs.declared.input.Contents.TheVariants.{Here, Ahead}
+use Rattle.replay_io.specs.declared.input.Dump.{Dump}
+use Rattle.replay_io.specs.declared.output.Report.{Report}
 
 -- nothing is known of the bytes of a packed file, whoever unpacks it
 abbrev pub contents_remaining : {D : Type 0} → (D → Option (List ℕ)) → Contents D → Option (List ℕ)
