@@ -36,7 +36,7 @@ use Rattle.adj_rib.specs.Tables.{IsTable, table_of}
 use Rattle.adj_rib.specs.Churns.{outcomes_of, is_routing, reading_of, idle_flags, damage_in, damaged_of, first_of, stopped, recorded_times, first_time, last_time, churn_of}
 use Rattle.adj_rib.specs.Arrived.{recorded_places, arrivals_of, no_arrivals, arrived, arrived_by}
 use Rattle.adj_rib.specs.Sessions.{SessionState, session_of}
-use Rattle.adj_rib.specs.Applied.{counted_if, RouteMap, applied, timed, timed_by, noted, up_after, established_after, Kept, START, followed, listed, taken, read_as, refused}
+use Rattle.adj_rib.specs.Applied.{counted_if, RouteMap, applied, timed, timed_by, noted, up_after, established_after, RibState, START, followed, listed, taken, read_as, refused}
 use Rattle.adj_rib.proofs.TableLaws.{last_or-append, find-table_of, entries-IsTable, IsTable_start}
 use Rattle.adj_rib.proofs.After.{steps_of-push}
 use Rattle.adj_rib.proofs.Stepping.{stopped_more, stopped-count_by-push, AreCounts, AreAfter, AreAfter-steps, AgreeBeside, beside_steps}
@@ -162,7 +162,7 @@ last_time-push units unit = ap (last_or None) (recorded-push (λ (u : ReplayUnit
 -- ---- all of it
 
 -- what is kept stands for the units
-pub record Stands (units : List ReplayUnit) (k : Kept) : Type 0 where
+pub record Stands (units : List ReplayUnit) (k : RibState) : Type 0 where
   pub up : k.up ≡ is_up units
   pub established : k.established ≡ is_established units
   pub table : finite.entries k.table ≡ table_of (steps_of units)
@@ -247,13 +247,13 @@ taken_stands units unit table h = record {
   faults = sym (damaged_of-push units unit);
 }
 
-pub Stands-taken : (units : List ReplayUnit) (unit : ReplayUnit) (k : Kept) → Stands units k → Stands (units ++ unit ∷ []) (taken k unit)
+pub Stands-taken : (units : List ReplayUnit) (unit : ReplayUnit) (k : RibState) → Stands units k → Stands (units ++ unit ∷ []) (taken k unit)
 Stands-taken units unit k h =
     let same : k ≡ record { up = is_up units; established = is_established units; table = k.table; churn = churn_of units; faults = damaged_of units } = λ i. record { up = h.up i; established = h.established i; table = k.table; churn = h.churn i; faults = h.faults i } in
     rw same (taken_stands units unit k.table h.table)
 
 -- a unit is taken as its reading says
-pub taken_as : (k : Kept) (unit : ReplayUnit) → read_as (record k { churn = timed_by unit k.churn }) unit.place (reading_of unit) ≡ taken k unit
+pub taken_as : (k : RibState) (unit : ReplayUnit) → read_as (record k { churn = timed_by unit k.churn }) unit.place (reading_of unit) ≡ taken k unit
 unfolding taken followed refused
 taken_as k unit = elim (reading_of unit) as (λ r. read_as (record k { churn = timed_by unit k.churn }) unit.place r ≡ record (followed (record k { churn = timed_by unit k.churn }) r) { faults = listed k.faults (damage_in unit r) }) [
   | Ok e ↦ refl
@@ -266,7 +266,7 @@ timed_told unit place time event m told c =
     ap (λ t. if is_recorded_event event then timed t c else c) (sym m.time_is)
     ∙ ap (λ b. if b then timed unit.time c else c) (ap is_recorded_event (sym m.event_is) ∙ told)
 
-pub taken_by : (k : Kept) (unit : ReplayUnit) (place : Place) (time : ℕ) (event : Result Event Fault) → Means unit place time event → is_recorded_event (event_in unit.payload) ≡ is_recorded unit.payload
+pub taken_by : (k : RibState) (unit : ReplayUnit) (place : Place) (time : ℕ) (event : Result Event Fault) → Means unit place time event → is_recorded_event (event_in unit.payload) ≡ is_recorded unit.payload
     → read_as (record k { churn = if is_recorded_event event then timed time k.churn else k.churn }) place event ≡ taken k unit
 taken_by k unit place time event m told =
     ap (λ c. read_as (record k { churn = c }) place event) (timed_told unit place time event m told k.churn)
@@ -300,23 +300,23 @@ arrived_told unit place time event m told a =
 
 -- ---- the session
 
-abbrev pub session_with : Kept → Arrivals → Bool → SessionState
+abbrev pub session_with : RibState → Arrivals → Bool → SessionState
 session_with k arrivals spent = record { up = k.up; established = k.established; table = finite.entries k.table; churn = k.churn; arrivals = arrivals; faults = k.faults; spent = spent }
 
-stands_from_session : (units : List ReplayUnit) (k : Kept) (arrivals : Arrivals) (spent : Bool) → session_with k arrivals spent ≡ session_of units → Stands units k
+stands_from_session : (units : List ReplayUnit) (k : RibState) (arrivals : Arrivals) (spent : Bool) → session_with k arrivals spent ≡ session_of units → Stands units k
 unfolding session_of
 stands_from_session units k arrivals spent h = record { up = ap (λ s. s.up) h; established = ap (λ s. s.established) h; table = ap (λ s. s.table) h; churn = ap (λ s. s.churn) h; faults = ap (λ s. s.faults) h }
 
-arrivals_from_session : (units : List ReplayUnit) (k : Kept) (arrivals : Arrivals) (spent : Bool) → session_with k arrivals spent ≡ session_of units → arrivals ≡ arrivals_of units
+arrivals_from_session : (units : List ReplayUnit) (k : RibState) (arrivals : Arrivals) (spent : Bool) → session_with k arrivals spent ≡ session_of units → arrivals ≡ arrivals_of units
 unfolding session_of
 arrivals_from_session units k arrivals spent h = ap (λ s. s.arrivals) h
 
-session_from_stands : (units : List ReplayUnit) (k : Kept) (arrivals : Arrivals) → Stands units k → arrivals ≡ arrivals_of units → session_with k arrivals false ≡ session_of units
+session_from_stands : (units : List ReplayUnit) (k : RibState) (arrivals : Arrivals) → Stands units k → arrivals ≡ arrivals_of units → session_with k arrivals false ≡ session_of units
 unfolding session_of
 session_from_stands units k arrivals h came = λ i. record { up = h.up i; established = h.established i; table = h.table i; churn = h.churn i; arrivals = came i; faults = h.faults i; spent = false }
 
 -- a session that stands for units stands for one more after it has taken it
-pub session_after : (before : List ReplayUnit) (unit : ReplayUnit) (k after : Kept) (arrivals arrivals' : Arrivals) (spent : Bool) → spent ≡ false → session_with k arrivals spent ≡ session_of before
+pub session_after : (before : List ReplayUnit) (unit : ReplayUnit) (k after : RibState) (arrivals arrivals' : Arrivals) (spent : Bool) → spent ≡ false → session_with k arrivals spent ≡ session_of before
     → after ≡ taken k unit → arrivals' ≡ arrived_by unit arrivals → session_with after arrivals' spent ≡ session_of (before ++ unit ∷ [])
 session_after before unit k after arrivals arrivals' spent unspent h e came =
     ap (session_with after arrivals') unspent

@@ -89,7 +89,7 @@ established_after was (Ok event.Clear) = was
 established_after was (Err fault) = was
 
 -- what a session keeps beside whether it is spent
-pub record Kept : Type 0 where
+pub record RibState : Type 0 where
   pub up : Bool
   pub established : Bool
   pub table : RouteMap
@@ -112,11 +112,11 @@ no_churn = record {
 }
 
 -- before the first unit
-abbrev pub START : Kept
+abbrev pub START : RibState
 START = record { up = true; established = true; table = finite.empty; churn = no_churn; faults = [] }
 
 -- after the steps of a reading
-unfoldable pub followed : Kept → Result Event Fault → Kept
+unfoldable pub followed : RibState → Result Event Fault → RibState
 followed k reading =
     let rib = fold applied (k.table, noted k.up reading k.churn) (reading_steps k.up reading) in
     record {
@@ -133,16 +133,16 @@ listed faults None = faults
 listed faults (Some damage) = faults ++ damage ∷ []
 
 -- after a damaged unit
-unfoldable pub refused : Kept → Damage → Kept
+unfoldable pub refused : RibState → Damage → RibState
 refused k damage = record (followed k (Err damage.fault)) { faults = k.faults ++ damage ∷ [] }
 
 -- after a unit at a place, by its reading
-abbrev pub read_as : Kept → Place → Result Event Fault → Kept
+abbrev pub read_as : RibState → Place → Result Event Fault → RibState
 read_as k place (Ok e) = followed k (Ok e)
 read_as k place (Err fault) = refused k (record { place = place; fault = fault })
 
 -- after one more unit
-unfoldable pub taken : Kept → ReplayUnit → Kept
+unfoldable pub taken : RibState → ReplayUnit → RibState
 taken k unit =
     let after = followed (record k { churn = timed_by unit k.churn }) (reading_of unit) in
     record after { faults = listed k.faults (damage_in unit (reading_of unit)) }

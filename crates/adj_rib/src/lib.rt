@@ -31,7 +31,7 @@
 
 mod arrivals;
 mod churn;
-mod holding;
+mod laws;
 mod note;
 mod noting;
 mod outcome;
@@ -40,26 +40,21 @@ mod rib_in;
 mod route_set;
 mod route_table;
 mod routes;
-mod selecting;
 mod session;
 mod shared_route;
-mod source;
-mod states;
 mod table;
 mod update;
 mod watch;
 
 pub use arrivals::Arrivals;
 pub use churn::{Churn, is_before};
-pub use holding::table_has_what_holds;
+pub use laws::{
+    counts_are_of_all_units, early_is_late, established_sessions_decide, notes_are_of_concerned,
+    recorded_states_decide, routes_come_while_up, selections_commute, table_has_what_holds,
+};
 pub use note::{Note, What};
 pub use route_table::RouteTable;
 pub use routes::RouteId;
-pub use selecting::{
-    counts_are_of_all_units, early_is_late, notes_are_of_concerned, selections_commute,
-};
 pub use session::Session;
 pub use shared_route::SharedRoute;
-pub use source::routes_come_while_up;
-pub use states::{established_sessions_decide, recorded_states_decide};
 pub use watch::Watch;

@@ -29,12 +29,12 @@ impl<F: Unicast, M: PrefixMap<RouteId, Addr = F> + Drop> RibIn<M> {
     ghost use Rattle.mrt_body.specs.Plain.{Unit as ReplayUnit};
     ghost use Rattle.mrt_body.specs.declared.meaning.Event.TheVariants as events;
     ghost use Rattle.adj_rib.specs.Applied.{START, counted_if, followed, refused, read_as, taken};
-    ghost use Rattle.adj_rib.specs.Keeping.{kept_in};
+    ghost use Rattle.adj_rib.specs.Keeping.{rib_state_in};
     ghost use Rattle.bgp_update.specs.Decoded.{plain_update};
 
     /// Returns that of a peer without units, which is up.
     pub(crate) fn new(alloc: Global) -> RibIn<M>
-        ensures { kept_in result ≡ START }
+        ensures { rib_state_in result ≡ START }
     {
         RibIn {
             up: true,
@@ -48,7 +48,7 @@ impl<F: Unicast, M: PrefixMap<RouteId, Addr = F> + Drop> RibIn<M> {
     /// Takes the steps of a state change.
     #[tactic(auto, unfolding(crate::specs::Applied::followed, crate::specs::Applied::noted))]
     fn change_state(&mut self, old: u16, new: u16, rule: StateRule)
-        ensures { kept_in self.new ≡ followed (kept_in self.old) (Ok (events.State old new rule)) }
+        ensures { rib_state_in self.new ≡ followed (rib_state_in self.old) (Ok (events.State old new rule)) }
     {
         if rule.breaks(old, new) {
             self.table.clear();
@@ -63,7 +63,7 @@ impl<F: Unicast, M: PrefixMap<RouteId, Addr = F> + Drop> RibIn<M> {
     /// Takes the step of a clear.
     #[tactic(auto, unfolding(crate::specs::Applied::followed, crate::specs::Applied::noted, crate::specs::Applied::counted))]
     fn clear(&mut self)
-        ensures { kept_in self.new ≡ followed (kept_in self.old) (Ok events.Clear) }
+        ensures { rib_state_in self.new ≡ followed (rib_state_in self.old) (Ok events.Clear) }
     {
         self.table.clear();
     }
@@ -83,8 +83,8 @@ impl<F: Unicast, M: PrefixMap<RouteId, Addr = F> + Drop> RibIn<M> {
         alloc: Global,
         update: &UpdateRef<'_, Prefix<F>>,
     ) -> Result<(), Memory>
-        ensures { OnOk result (kept_in self.new
-            ≡ followed (kept_in self.old) (Ok (events.Change (plain_update update.now)))) }
+        ensures { OnOk result (rib_state_in self.new
+            ≡ followed (rib_state_in self.old) (Ok (events.Change (plain_update update.now)))) }
     {
         if !self.up {
             self.count_idle();
@@ -96,7 +96,7 @@ impl<F: Unicast, M: PrefixMap<RouteId, Addr = F> + Drop> RibIn<M> {
     /// Lists a damaged unit.
     #[tactic(auto, unfolding(crate::specs::Applied::refused, crate::specs::Applied::followed, crate::specs::Applied::noted))]
     fn list_damage(&mut self, damage: Damage) -> Result<(), Memory>
-        ensures { OnOk result (kept_in self.new ≡ refused (kept_in self.old) damage) }
+        ensures { OnOk result (rib_state_in self.new ≡ refused (rib_state_in self.old) damage) }
     {
         self.churn.refused = self.churn.refused.saturating_add(1);
         self.faults.push(damage)?;
@@ -112,8 +112,8 @@ impl<F: Unicast, M: PrefixMap<RouteId, Addr = F> + Drop> RibIn<M> {
         key: RouteKey<Prefix<F>>,
         hashed: &HashedRoute<'_>,
     ) -> Result<(), Memory>
-        ensures { OnOk result (kept_in self.new
-            ≡ followed (kept_in self.old) (Ok (events.Rib key hashed.now.route))) }
+        ensures { OnOk result (rib_state_in self.new
+            ≡ followed (rib_state_in self.old) (Ok (events.Rib key hashed.now.route))) }
     {
         if self.up {
             return self.table.announce(alloc, &mut self.churn, key, hashed);
@@ -131,7 +131,7 @@ impl<F: Unicast, M: PrefixMap<RouteId, Addr = F> + Drop> RibIn<M> {
         place: Place,
         event: EventRef<'_, Prefix<F>>,
     ) -> Result<(), Memory>
-        ensures { OnOk result (kept_in self.new ≡ read_as (kept_in self.old) place (event_of event.entry)) }
+        ensures { OnOk result (rib_state_in self.new ≡ read_as (rib_state_in self.old) place (event_of event.entry)) }
     {
         match event {
             EventRef::Rib(key, route) => self.announce_entry(alloc, key, &route),
@@ -169,7 +169,7 @@ impl<F: Unicast, M: PrefixMap<RouteId, Addr = F> + Drop> RibIn<M> {
         event: EventRef<'_, Prefix<F>>,
     ) -> Result<(), Memory>
         ensures { (unit : ReplayUnit) → Means unit place time (event_of event.entry) →
-            OnOk result (kept_in self.new ≡ taken (kept_in self.old) unit) }
+            OnOk result (rib_state_in self.new ≡ taken (rib_state_in self.old) unit) }
     {
         clears_are_told();
         self.table.give_back(alloc)?;

@@ -9,7 +9,7 @@ use Rattle.mrt_frame.specs.declared.fault.Fault.{Fault}
 use Rattle.mrt_frame.specs.declared.fault.Fault.TheVariants.{BadPrefix, BadUpdate, BadAttribute}
 use Rattle.mrt_frame.specs.Fields.{◌>>=◌, items_after}
 use Rattle.bgp_update.specs.declared.attribute_type.AttributeType.TheVariants.{MpReachNlri}
-use Rattle.bgp_update.specs.declared.carrier.Carrier.TheVariants.{RibEntry}
+use Rattle.bgp_update.specs.declared.attribute_context.AttributeContext.TheVariants.{RibEntry}
 use Rattle.bgp_update.specs.declared.next_hop.NextHop.{NextHop}
 use Rattle.bgp_update.specs.declared.next_hop.NextHop.TheVariants.{V4, V6, V6Pair}
 use Rattle.bgp_update.specs.declared.path.SegmentKind.TheVariants.{AsSequence}

@@ -6,7 +6,7 @@ use Rattle.bgp_update.specs.Families.{FamilyOf}
 use Rattle.bgp_update.specs.declared.attribute_type.AttributeType.{AttributeType}
 use Rattle.bgp_update.specs.declared.attribute_type.AttributeType.TheVariants as types
 use Rattle.bgp_update.specs.declared.width.Width.{Width}
-use Rattle.bgp_update.specs.declared.carrier.Carrier.{Carrier}
+use Rattle.bgp_update.specs.declared.attribute_context.AttributeContext.{AttributeContext}
 use Rattle.bgp_update.specs.declared.values.FirstValues.{FirstValues}
 use Rattle.bgp_update.specs.AttributeTypes.{type_of, bad_attribute}
 use Rattle.bgp_update.specs.Attributes.{WrittenAttribute, value_fault, refuses_repeat, fault_unless, fault_of_type, fault_beside}
@@ -17,7 +17,7 @@ abbrev Values : Type 0
 Values = AttributeType → Option (List ℕ)
 
 -- the fault of an attribute of a type
-beside : (family : FamilyOf) (carrier : Carrier) (width : Width) (value_at : Values) (a : WrittenAttribute) (t : AttributeType) (o : Option (List ℕ)) → type_of a.code ≡ Some t → value_at t ≡ o → fault_beside family carrier width value_at a ≡ fault_of_type family carrier width t o a.value
+beside : (family : FamilyOf) (carrier : AttributeContext) (width : Width) (value_at : Values) (a : WrittenAttribute) (t : AttributeType) (o : Option (List ℕ)) → type_of a.code ≡ Some t → value_at t ≡ o → fault_beside family carrier width value_at a ≡ fault_of_type family carrier width t o a.value
 beside family carrier width value_at a t o e h = rw e (ap (λ (x : Option (List ℕ)). fault_of_type family carrier width t x a.value) h)
 
 or_none : (o : Option (List ℕ)) → o ≡ or_value o None
@@ -25,7 +25,7 @@ or_none None = refl
 or_none (Some value) = refl
 
 -- of a type that isn't looked at
-pub takes_other : (family : FamilyOf) (carrier : Carrier) (width : Width) (first : FirstValues) (a : WrittenAttribute) → type_of a.code ≡ None → Takes family carrier width first a first
+pub takes_other : (family : FamilyOf) (carrier : AttributeContext) (width : Width) (first : FirstValues) (a : WrittenAttribute) → type_of a.code ≡ None → Takes family carrier width first a first
 takes_other family carrier width first a e =
     record {
       passes = rw e refl;
@@ -33,7 +33,7 @@ takes_other family carrier width first a e =
     }
 
 -- the first of its type
-pub takes_first : (family : FamilyOf) (carrier : Carrier) (width : Width) (first later : FirstValues) (a : WrittenAttribute) (t : AttributeType) → type_of a.code ≡ Some t → kept_value first t ≡ None → value_fault family carrier width t a.value ≡ None
+pub takes_first : (family : FamilyOf) (carrier : AttributeContext) (width : Width) (first later : FirstValues) (a : WrittenAttribute) (t : AttributeType) → type_of a.code ≡ Some t → kept_value first t ≡ None → value_fault family carrier width t a.value ≡ None
     → ((u : AttributeType) → kept_value later u ≡ cond (eqb (value_index u) (value_index t)) (Some a.value) (kept_value first u)) → Takes family carrier width first a later
 takes_first family carrier width first later a t e none fine kept =
     record {
@@ -46,7 +46,7 @@ takes_first family carrier width first later a t e none fine kept =
     by_test u true h = ap (λ (o : Option (List ℕ)). or_value o (Some a.value)) (sym (ap (kept_value first) (equal_value_indices u t h) ∙ none))
 
 -- a repeat
-pub takes_again : (family : FamilyOf) (carrier : Carrier) (width : Width) (first : FirstValues) (a : WrittenAttribute) (t : AttributeType) (value : List ℕ) → type_of a.code ≡ Some t → Some value ≡ kept_value first t → refuses_repeat carrier t ≡ false → Takes family carrier width first a first
+pub takes_again : (family : FamilyOf) (carrier : AttributeContext) (width : Width) (first : FirstValues) (a : WrittenAttribute) (t : AttributeType) (value : List ℕ) → type_of a.code ≡ Some t → Some value ≡ kept_value first t → refuses_repeat carrier t ≡ false → Takes family carrier width first a first
 takes_again family carrier width first a t value e some allowed =
     record {
       passes = beside family carrier width (kept_value first) a t (Some value) e (sym some) ∙ ap (λ (b : Bool). fault_unless (cond b false true) (bad_attribute t)) allowed;
@@ -68,7 +68,7 @@ no_fault : (b : Bool) (fault : Fault) → fault_unless b fault ≡ None → b �
 no_fault true fault e = refl
 no_fault false fault e = absurd cc
 
-pub atomic_is_empty : (family : FamilyOf) (carrier : Carrier) (width : Width) (t : AttributeType) (value : List ℕ) → value_index t ≡ value_count → value_fault family carrier width t value ≡ None → value ≡ []
+pub atomic_is_empty : (family : FamilyOf) (carrier : AttributeContext) (width : Width) (t : AttributeType) (value : List ℕ) → value_index t ≡ value_count → value_fault family carrier width t value ≡ None → value ≡ []
 unfolding value_fault
 atomic_is_empty family carrier width types.AtomicAggregate value h e = no_bytes value (eqb-true (length value) 0 (no_fault (eqb (length value) 0) (bad_attribute types.AtomicAggregate) e))
 atomic_is_empty family carrier width t value h e = absurd (omega (arith, h))

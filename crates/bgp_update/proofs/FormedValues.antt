@@ -8,8 +8,8 @@ use Rattle.bgp_update.specs.Families.{FamilyOf}
 use Rattle.bgp_update.specs.declared.attribute_type.AttributeType.{AttributeType}
 use Rattle.bgp_update.specs.declared.attribute_type.AttributeType.TheVariants as types
 use Rattle.bgp_update.specs.declared.width.Width.{Width}
-use Rattle.bgp_update.specs.declared.carrier.Carrier.{Carrier}
-use Rattle.bgp_update.specs.declared.carrier.Carrier.TheVariants.{RibEntry, Message}
+use Rattle.bgp_update.specs.declared.attribute_context.AttributeContext.{AttributeContext}
+use Rattle.bgp_update.specs.declared.attribute_context.AttributeContext.TheVariants.{RibEntry, Message}
 use Rattle.bgp_update.specs.declared.route.Origin.{Origin}
 use Rattle.bgp_update.specs.declared.route.Origin.TheVariants.{Igp, Egp, Incomplete}
 use Rattle.bgp_update.specs.Paths.{PathSegment}
@@ -99,23 +99,23 @@ entry_passes : (own : Bool) (family : FamilyOf) (value : List ℕ) → HoldsEntr
 entry_passes true family value h = refl
 entry_passes false family value h = ap fault_of (entry_hop_in-said family value h.0 h.1)
 
-holds_reach : (family : FamilyOf) (carrier : Carrier) (value : List ℕ) → IsBytes value → reached_fault family carrier value ≡ None → HoldsReach family carrier value
+holds_reach : (family : FamilyOf) (carrier : AttributeContext) (value : List ℕ) → IsBytes value → reached_fault family carrier value ≡ None → HoldsReach family carrier value
 holds_reach family RibEntry value fine e = entry_holds family.own_fields family value fine e
 holds_reach family (Message add_path) value fine e =
     let r = no_reading_fault (reached_in family add_path value) e in
     (r.0.0, r.0.1, reached_in-is family add_path value r.0 fine r.1)
 
-reach_passes : (family : FamilyOf) (carrier : Carrier) (value : List ℕ) → HoldsReach family carrier value → reached_fault family carrier value ≡ None
+reach_passes : (family : FamilyOf) (carrier : AttributeContext) (value : List ℕ) → HoldsReach family carrier value → reached_fault family carrier value ≡ None
 reach_passes family RibEntry value h = entry_passes family.own_fields family value h
 reach_passes family (Message add_path) value h = rw (reached_in-bytes family add_path value h.0 h.1 h.2) refl
 
-holds_unreach : (family : FamilyOf) (carrier : Carrier) (value : List ℕ) → IsBytes value → unreached_fault family carrier value ≡ None → HoldsUnreach family carrier value
+holds_unreach : (family : FamilyOf) (carrier : AttributeContext) (value : List ℕ) → IsBytes value → unreached_fault family carrier value ≡ None → HoldsUnreach family carrier value
 holds_unreach family RibEntry value fine e = tt
 holds_unreach family (Message add_path) value fine e =
     let r = no_reading_fault (unreached_in family add_path value) e in
     (r.0, unreached_in-is family add_path value r.0 fine r.1)
 
-unreach_passes : (family : FamilyOf) (carrier : Carrier) (value : List ℕ) → HoldsUnreach family carrier value → unreached_fault family carrier value ≡ None
+unreach_passes : (family : FamilyOf) (carrier : AttributeContext) (value : List ℕ) → HoldsUnreach family carrier value → unreached_fault family carrier value ≡ None
 unreach_passes family RibEntry value h = refl
 unreach_passes family (Message add_path) value h = rw (unreached_in-bytes family add_path value h.0 h.1) refl
 
@@ -130,7 +130,7 @@ path_is width value fine e =
 path_passes : (width : Width) (value : List ℕ) (path : List PathSegment) → IsPath (number_len width) path → value ≡ path_bytes (number_len width) path → fault_of (path_in (number_len width) value) ≡ None
 path_passes width value path h e = ap (λ (v : List ℕ). fault_of (path_in (number_len width) v)) e ∙ rw (path_in-bytes width path h) refl
 
-pub value_is_formed : (family : FamilyOf) (carrier : Carrier) (width : Width) (t : AttributeType) (value : List ℕ) → IsBytes value → value_fault family carrier width t value ≡ None → IsFormed family carrier width t value
+pub value_is_formed : (family : FamilyOf) (carrier : AttributeContext) (width : Width) (t : AttributeType) (value : List ℕ) → IsBytes value → value_fault family carrier width t value ≡ None → IsFormed family carrier width t value
 unfolding value_fault
 value_is_formed family carrier width types.Origin value fine e = is_origin value (no_fault (is_some (origin_of value)) (bad_attribute types.Origin) e)
 value_is_formed family carrier width types.AsPath value fine e = path_is width value fine e
@@ -144,7 +144,7 @@ value_is_formed family carrier width types.MpUnreachNlri value fine e = holds_un
 value_is_formed family carrier width types.As4Path value fine e = tt
 value_is_formed family carrier width types.As4Aggregator value fine e = tt
 
-pub formed_passes : (family : FamilyOf) (carrier : Carrier) (width : Width) (t : AttributeType) (value : List ℕ) → IsFormed family carrier width t value → value_fault family carrier width t value ≡ None
+pub formed_passes : (family : FamilyOf) (carrier : AttributeContext) (width : Width) (t : AttributeType) (value : List ℕ) → IsFormed family carrier width t value → value_fault family carrier width t value ≡ None
 unfolding value_fault
 formed_passes family carrier width types.Origin value h = origin_passes value h.0 (bad_attribute types.Origin) h.1
 formed_passes family carrier width types.AsPath value h = path_passes width value h.0 h.1 h.2

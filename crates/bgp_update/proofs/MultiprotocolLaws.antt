@@ -15,7 +15,7 @@ use Rattle.bgp_update.specs.declared.attribute_type.AttributeType.TheVariants.{M
 use Rattle.bgp_update.specs.declared.attr_error.AttrError.{AttrError}
 use Rattle.bgp_update.specs.declared.next_hop.NextHop.{NextHop}
 use Rattle.bgp_update.specs.declared.next_hop.NextHop.TheVariants.{V4, V6, V6Pair}
-use Rattle.bgp_update.specs.Answers.{Gives}
+use Rattle.bgp_update.specs.Results.{Gives}
 use Rattle.bgp_update.specs.AttributeTypes.{bad_attribute}
 use Rattle.bgp_update.specs.Keys.{WrittenKey, keys_bytes, keys_of, with_keys}
 use Rattle.bgp_update.specs.Multiprotocol.{family_bytes, hop_bytes, hop_part, FitsHop, IsOfAnotherFamily, IsReach, IsUnreach, SaysReach, SaysUnreach, is_unicast, is_hop_len, next_hop_of, hop_at, reach_at, reach_in, unreach_in, keys_beside, field_of, hop_of, reached_in, unreached_in, reached_keys, unreached_keys}

@@ -16,7 +16,7 @@ use Rattle.bgp_update.specs.declared.width.Width.{Width}
 use Rattle.bgp_update.specs.declared.width.Width.TheVariants.{Two, Four}
 use Rattle.bgp_update.specs.declared.attr_error.AttrError.{AttrError}
 use Rattle.bgp_update.specs.declared.route.Route.{Route}
-use Rattle.bgp_update.specs.Answers.{Gives}
+use Rattle.bgp_update.specs.Results.{Gives}
 use Rattle.bgp_update.specs.Paths.{PathSegment, is_sequence, has_numbers, is_plain, part_of, part_front, longest_front, segment_length, path_length, merged}
 use Rattle.bgp_update.specs.Segments.{number_len, path_in, well_formed, path_of_value, IsSegment, IsPath}
 use Rattle.bgp_update.specs.Merging.{aggregator_of, as4_aggregator_of, as4_path_of, joined_path, is_stale}

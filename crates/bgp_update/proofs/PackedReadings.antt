@@ -10,7 +10,7 @@ use Rattle.bgp_update.specs.declared.next_hop.NextHop.{NextHop}
 use Rattle.bgp_update.specs.Hops.{by_hop}
 use Rattle.bgp_update.specs.declared.width.Width.{Width}
 use Rattle.bgp_update.specs.declared.width.Width.TheVariants.{Four}
-use Rattle.bgp_update.specs.declared.carrier.Carrier.{Carrier}
+use Rattle.bgp_update.specs.declared.attribute_context.AttributeContext.{AttributeContext}
 use Rattle.bgp_update.specs.declared.values.FirstValues.{FirstValues}
 use Rattle.bgp_update.specs.declared.route.Route.{Route}
 use Rattle.bgp_update.specs.Paths.{PathSegment}
@@ -25,17 +25,17 @@ use Rattle.bgp_update.proofs.Packings.{route_bytes-fields}
 use Rattle.bgp_update.proofs.PackedPaths.{spelled-bytes}
 use Rattle.bgp_update.proofs.Packable.{said_writable, values_fine}
 
-spelled_if : (family : FamilyOf) (carrier : Carrier) (o : Option (List ℕ)) → IfSome o (IsFormed family carrier Four AsPath) → IfSome o IsSpelled
+spelled_if : (family : FamilyOf) (carrier : AttributeContext) (o : Option (List ℕ)) → IfSome o (IsFormed family carrier Four AsPath) → IfSome o IsSpelled
 spelled_if family carrier None h = tt
 spelled_if family carrier (Some value) h = subst IsSpelled (sym h.2) (spelled-bytes h.0 h.1)
 
-pub keeps_spelled : (family : FamilyOf) (carrier : Carrier) (width : Width) (bytes : List ℕ) (first : FirstValues) → IsBytes bytes → KeepsFirst family carrier width bytes first → width ≡ Four → IfSome (kept_value first AsPath) IsSpelled
+pub keeps_spelled : (family : FamilyOf) (carrier : AttributeContext) (width : Width) (bytes : List ℕ) (first : FirstValues) → IsBytes bytes → KeepsFirst family carrier width bytes first → width ≡ Four → IfSome (kept_value first AsPath) IsSpelled
 keeps_spelled family carrier width bytes first fine keeps e =
     let four : KeepsFirst family carrier Four bytes first = subst (λ (w : Width). KeepsFirst family carrier w bytes first) e keeps in
     let law = attributes_in-is family carrier Four bytes four.0 fine four.1 in
     subst (λ (o : Option (List ℕ)). IfSome o IsSpelled) (sym (four.2 AsPath)) (spelled_if family carrier (value_of AsPath four.0) (law.1.formed AsPath))
 
-pub keeps_writable : (family : FamilyOf) (carrier : Carrier) (width : Width) (bytes : List ℕ) (first : FirstValues) → IsBytes bytes → KeepsFirst family carrier width bytes first → IsWritable (route_from width (kept_value first)).path
+pub keeps_writable : (family : FamilyOf) (carrier : AttributeContext) (width : Width) (bytes : List ℕ) (first : FirstValues) → IsBytes bytes → KeepsFirst family carrier width bytes first → IsWritable (route_from width (kept_value first)).path
 keeps_writable family carrier width bytes first fine keeps =
     let law = attributes_in-is family carrier width bytes keeps.0 fine keeps.1 in
     let written : IsWritable (route_from width (λ t. value_of t keeps.0)).path = said_writable width (λ t. value_of t keeps.0) (λ t. values_fine t keeps.0 (subst IsBytes law.0 fine)) in

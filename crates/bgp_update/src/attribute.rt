@@ -10,8 +10,8 @@ ghost use Rattle.bgp_update.specs.Segments.{number_len, path_in};
 ghost use Rattle.bgp_update.specs.Attributes as attributes;
 ghost use Rattle.bgp_update.specs.Attributes.{length_len, fault_of};
 
+use crate::attribute_context::AttributeContext;
 use crate::attribute_type::AttributeType;
-use crate::carrier::Carrier;
 use crate::key::key_count;
 use crate::multiprotocol::{entry_hop, reach_in, unreach_in};
 use crate::route_fields::origin_of;
@@ -81,16 +81,16 @@ fn path_fault(value: &[u8], width: Width) -> Option<Fault>
 
 /// Returns the fault of MP_REACH_NLRI.
 #[tactic(auto, using(crate::proofs::Counts::fault_of_mapped))]
-fn reached_fault<F: Unicast>(carrier: Carrier, value: &[u8]) -> Option<Fault>
+fn reached_fault<F: Unicast>(carrier: AttributeContext, value: &[u8]) -> Option<Fault>
     ensures { result ≡ attributes.reached_fault F.family carrier value.now }
 {
     match carrier {
-        Carrier::RibEntry => if F::OWN_FIELDS {
+        AttributeContext::RibEntry => if F::OWN_FIELDS {
             None
         } else {
             entry_hop::<F>(value).err()
         },
-        Carrier::Message { add_path } => match reach_in::<F>(value) {
+        AttributeContext::Message { add_path } => match reach_in::<F>(value) {
             Ok(Some((_, keys))) => keys_fault::<F>(keys, add_path),
             Ok(None) => None,
             Err(fault) => Some(fault),
@@ -99,12 +99,12 @@ fn reached_fault<F: Unicast>(carrier: Carrier, value: &[u8]) -> Option<Fault>
 }
 
 /// Returns the fault of MP_UNREACH_NLRI.
-fn unreached_fault<F: Unicast>(carrier: Carrier, value: &[u8]) -> Option<Fault>
+fn unreached_fault<F: Unicast>(carrier: AttributeContext, value: &[u8]) -> Option<Fault>
     ensures { result ≡ attributes.unreached_fault F.family carrier value.now }
 {
     match carrier {
-        Carrier::RibEntry => None,
-        Carrier::Message { add_path } => match unreach_in::<F>(value) {
+        AttributeContext::RibEntry => None,
+        AttributeContext::Message { add_path } => match unreach_in::<F>(value) {
             Ok(Some(keys)) => keys_fault::<F>(keys, add_path),
             Ok(None) => None,
             Err(fault) => Some(fault),
@@ -117,7 +117,7 @@ fn unreached_fault<F: Unicast>(carrier: Carrier, value: &[u8]) -> Option<Fault>
 #[inline(always)]
 #[tactic(auto, unfolding(crate::specs::Attributes::value_fault))]
 pub fn value_fault<F: Unicast>(
-    carrier: Carrier,
+    carrier: AttributeContext,
     width: Width,
     attribute_type: AttributeType,
     value: &[u8],
@@ -140,12 +140,12 @@ pub fn value_fault<F: Unicast>(
 
 /// Whether a second attribute of a type is a fault.
 #[inline(always)]
-pub fn refuses_repeat(carrier: Carrier, attribute_type: AttributeType) -> bool
+pub fn refuses_repeat(carrier: AttributeContext, attribute_type: AttributeType) -> bool
     ensures { result ≡ attributes.refuses_repeat carrier attribute_type }
 {
     match carrier {
-        Carrier::RibEntry => false,
-        Carrier::Message { .. } => match attribute_type {
+        AttributeContext::RibEntry => false,
+        AttributeContext::Message { .. } => match attribute_type {
             AttributeType::MpReachNlri | AttributeType::MpUnreachNlri => true,
             _ => false,
         },

@@ -1,13 +1,13 @@
 //! The attributes of RIB entries and UPDATE messages, decoded into blocks of memory.
 
 ghost use Rattle.std.specs.Prelude.{◌+◌, ◌^◌, ◌<◌, IfOk};
-ghost use Rattle.bgp_update.specs.Answers.{Gives, UnlessMemory};
+ghost use Rattle.bgp_update.specs.Results.{Gives, UnlessMemory};
 ghost use Rattle.bgp_update.specs.Attributes.{route_in};
 ghost use Rattle.bgp_update.specs.Decoded.{AreUpdateSpans, IsGrown, IsRouteAt, IsUpdateAt, route_at, update_at};
 ghost use Rattle.bgp_update.specs.Updates.{update_in};
 
 use crate::attr_error::AttrError;
-use crate::carrier::Carrier;
+use crate::attribute_context::AttributeContext;
 use crate::decoded::{RouteSpan, Span, UpdateSpans};
 use crate::packing::{pack_entry, pack_reached, pack_values};
 use crate::unicast::Unicast;
@@ -32,7 +32,7 @@ pub fn decode_entry<F: Unicast>(
     ensures grown { UnlessMemory result (IsGrown bytes.old.items bytes.new.items) }
 {
     let mut first = FirstValues::new();
-    keep_values::<F>(&mut first, attrs, Carrier::RibEntry, width)?;
+    keep_values::<F>(&mut first, attrs, AttributeContext::RibEntry, width)?;
     let span = pack_entry::<F>(alloc, bytes, &first, width)?;
     Ok(span)
 }

@@ -3,7 +3,7 @@
 ghost use Rattle.std.specs.Prelude.{◌≡◌, ℕ, ◌≤◌, length, Ok, Some, OnOk, IfErr};
 ghost use Rattle.std.specs.Int.{div_ceil};
 ghost use Rattle.mrt_frame.specs.Fields.{Reads};
-ghost use Rattle.bgp_update.specs.Answers.{Fails};
+ghost use Rattle.bgp_update.specs.Results.{Fails};
 ghost use Rattle.bgp_update.specs.Decoded.{Appends, IsGrown};
 ghost use Rattle.bgp_update.specs.Families.{form_of};
 ghost use Rattle.bgp_update.specs.Keys as keys_spec;

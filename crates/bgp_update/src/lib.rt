@@ -33,17 +33,17 @@
 //! - `Route`'s fields are declared in order of size, since the compiler keeps the order: 128 bytes instead of 144.
 #![tactic(auto)]
 
-mod agreement;
 mod attr_error;
 mod attribute;
+mod attribute_context;
 mod attribute_type;
-mod carrier;
 mod decoded;
 mod decoding;
 mod families;
 mod family_mark;
 mod front_bytes;
 mod key;
+mod laws;
 mod merge;
 mod multiprotocol;
 mod next_hop;
@@ -67,12 +67,12 @@ mod values;
 mod width;
 mod written_hop;
 
-pub use agreement::{merging_is_unique, updates_agree_with_their_forms};
 pub use attr_error::AttrError;
 pub use decoded::{HashedRoute, RouteSpan, Span, UpdateSpans};
 pub use decoding::{decode_entry, decode_update};
 pub use family_mark::FamilyMark;
 pub use key::prefix_at;
+pub use laws::{merging_is_unique, updates_agree_with_their_forms};
 pub use next_hop::NextHop;
 pub use packed_path::{PackedSegment, PackedSegments};
 pub use packed_route::PackedRoute;

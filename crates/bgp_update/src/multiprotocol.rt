@@ -2,7 +2,7 @@
 
 ghost use Rattle.std.specs.Prelude.{◌≡◌, ◌≤◌, Some, IfErr, IfOk, OnOk, length, option_map};
 ghost use Rattle.mrt_frame.specs.Fields.{Reads};
-ghost use Rattle.bgp_update.specs.Answers.{Fails};
+ghost use Rattle.bgp_update.specs.Results.{Fails};
 ghost use Rattle.bgp_update.specs.Decoded.{Appends, AppendsReached, IsGrown};
 ghost use Rattle.bgp_update.specs.Multiprotocol as multiprotocol;
 ghost use Rattle.bgp_update.specs.Multiprotocol.{entry_hop_in, reached_keys, unreached_keys};

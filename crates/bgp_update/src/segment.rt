@@ -3,7 +3,7 @@
 ghost use Rattle.std.specs.Prelude.{◌≡◌, ℕ, ◌≤◌, ◌*◌, List, length, drop, Ok, IfOk};
 ghost use Rattle.byteorder.specs.Endian.{big_number};
 ghost use Rattle.mrt_frame.specs.Fields.{Reads};
-ghost use Rattle.bgp_update.specs.Answers.{Gives};
+ghost use Rattle.bgp_update.specs.Results.{Gives};
 ghost use Rattle.bgp_update.specs.Segments as segments_spec;
 ghost use Rattle.bgp_update.specs.Segments.{number_len, numbers_in, segment_count_in, path_in, path_bytes, IsPath};
 ghost use Rattle.bgp_update.specs.Paths.{PathSegment};

@@ -3,7 +3,7 @@
 ghost use Rattle.std.specs.Prelude.{◌≡◌, ◌≤◌, ◌+◌, ◌++◌, Ok, None, IfOk, IfErr, IfSome, OnOk, length};
 ghost use Rattle.mrt_frame.specs.Fields.{Reads};
 ghost use Rattle.bgp_prefix.specs.Prefixes.{IpPrefix};
-ghost use Rattle.bgp_update.specs.Answers.{Fails, Gives};
+ghost use Rattle.bgp_update.specs.Results.{Fails, Gives};
 ghost use Rattle.bgp_update.specs.Attributes as attributes;
 ghost use Rattle.bgp_update.specs.Attributes.{ReadsAsRoute, route_in};
 ghost use Rattle.bgp_update.specs.Decoded.{Appends, AreKeysOf, IsGrown, split_update};
@@ -16,8 +16,8 @@ ghost use Rattle.bgp_update.specs.declared.attribute_type.AttributeType.TheVaria
 ghost use Rattle.bgp_update.specs.declared.width.Width.TheVariants.{Four};
 
 use crate::attr_error::AttrError;
+use crate::attribute_context::AttributeContext;
 use crate::attribute_type::AttributeType;
-use crate::carrier::Carrier;
 use crate::key::append_keys;
 use crate::multiprotocol::{append_reached, append_unreached, entry_hop_value};
 use crate::route::{Route, Update};
@@ -114,7 +114,7 @@ pub(crate) fn read_keys<'a, F: Unicast>(
     keep_values::<F>(
         first,
         fields.attributes,
-        Carrier::Message { add_path },
+        AttributeContext::Message { add_path },
         width,
     )?;
     append_own_keys(keys, fields.announced, add_path)?;
@@ -210,7 +210,7 @@ fn whole_route<F: Unicast>(alloc: Global, bytes: &[u8], width: Width) -> Result<
     ensures { Gives (λ route. route) result (route_in F.family width bytes.now) }
 {
     let mut first = FirstValues::new();
-    keep_values::<F>(&mut first, bytes, Carrier::RibEntry, width)?;
+    keep_values::<F>(&mut first, bytes, AttributeContext::RibEntry, width)?;
     let route = entry_route::<F>(alloc, &first, width)?;
     Ok(route)
 }

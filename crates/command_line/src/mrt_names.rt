@@ -1,7 +1,7 @@
 //! The names of the types and subtypes of MRT records (RFC 6396, 4 and appendix B; RFC 6397; RFC 8050).
 
 use bgp_update::Unicast;
-use mrt_body::{Content, content_of};
+use mrt_body::{BodyKind, body_kind_of};
 use mrt_frame::Header;
 use std::fmt;
 
@@ -31,7 +31,7 @@ impl RecordKind {
 
     /// Whether records of it are counted and not interpreted where the routes of a family are read.
     pub fn is_aside<F: Unicast>(self) -> bool {
-        content_of::<F>(self.kind, self.subtype) == Content::Aside
+        body_kind_of::<F>(self.kind, self.subtype) == BodyKind::Aside
     }
 
     /// The name of the type, if it has one.

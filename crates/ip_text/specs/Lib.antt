@@ -4,5 +4,5 @@ pub mod Ipv6Texts
 pub mod AddressTexts
 pub mod ZeroRuns
 pub mod HexTexts
-pub mod ShortTexts
+pub mod DecimalTable
 pub mod Spellings

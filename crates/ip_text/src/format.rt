@@ -5,7 +5,7 @@ ghost use Rattle.std.specs.Prelude.{◌≡◌, ◌+◌, ◌<◌, ◌≤◌, [], 
 ghost use Rattle.ip_text.specs.Formats.{Formats};
 ghost use Rattle.ip_text.specs.Digits.{decimal_glyph, digits_in, ipv4_text};
 
-use crate::short::ShortTexts;
+use crate::short::DecimalTable;
 
 /// Writes a byte.
 #[inline(always)]
@@ -42,7 +42,7 @@ pub fn format_front(bytes: &mut [u8], at: usize, block: &[u8], count: usize) -> 
 
 /// Writes a number of at most three digits.
 #[inline(always)]
-pub fn format_short(bytes: &mut [u8], at: usize, shorts: &ShortTexts, number: u32) -> usize
+pub fn format_short(bytes: &mut [u8], at: usize, shorts: &DecimalTable, number: u32) -> usize
     requires { (number < 1000) × (at + 4 ≤ length bytes.old) }
     ensures { Formats bytes.old at bytes.new result 3 (decimal number) }
 {
@@ -52,7 +52,7 @@ pub fn format_short(bytes: &mut [u8], at: usize, shorts: &ShortTexts, number: u3
 
 /// Writes the three digits of a number that has no more.
 #[inline(always)]
-pub fn format_three(bytes: &mut [u8], at: usize, shorts: &ShortTexts, number: u32) -> usize
+pub fn format_three(bytes: &mut [u8], at: usize, shorts: &DecimalTable, number: u32) -> usize
     requires { (number < 1000) × (at + 3 ≤ length bytes.old) }
     ensures { Formats bytes.old at bytes.new result 3 (digits_in decimal_glyph 10 3 number) }
 {
@@ -62,7 +62,7 @@ pub fn format_three(bytes: &mut [u8], at: usize, shorts: &ShortTexts, number: u3
 
 /// Writes a number of at most six digits.
 #[inline(always)]
-pub fn format_six(bytes: &mut [u8], at: usize, shorts: &ShortTexts, number: u32) -> usize
+pub fn format_six(bytes: &mut [u8], at: usize, shorts: &DecimalTable, number: u32) -> usize
     requires { (number < 1000000) × (at + 7 ≤ length bytes.old) }
     ensures { Formats bytes.old at bytes.new result 6 (decimal number) }
 {
@@ -75,7 +75,7 @@ pub fn format_six(bytes: &mut [u8], at: usize, shorts: &ShortTexts, number: u32)
 
 /// Writes a number of more than six digits.
 #[inline(never)]
-fn format_long(bytes: &mut [u8], at: usize, shorts: &ShortTexts, number: u32) -> usize
+fn format_long(bytes: &mut [u8], at: usize, shorts: &DecimalTable, number: u32) -> usize
     requires { (1000000 ≤ number) × (at + 13 ≤ length bytes.old) }
     ensures { Formats bytes.old at bytes.new result 12 (decimal number) }
 {
@@ -86,7 +86,7 @@ fn format_long(bytes: &mut [u8], at: usize, shorts: &ShortTexts, number: u32) ->
 
 /// Writes a number in decimal.
 #[inline(always)]
-pub fn format_number(bytes: &mut [u8], at: usize, shorts: &ShortTexts, number: u32) -> usize
+pub fn format_number(bytes: &mut [u8], at: usize, shorts: &DecimalTable, number: u32) -> usize
     requires { at + 13 ≤ length bytes.old }
     ensures { Formats bytes.old at bytes.new result 12 (decimal number) }
 {
@@ -98,7 +98,7 @@ pub fn format_number(bytes: &mut [u8], at: usize, shorts: &ShortTexts, number: u
 
 /// Writes an address in dotted decimal.
 #[inline(always)]
-pub fn format_ipv4(bytes: &mut [u8], at: usize, shorts: &ShortTexts, addr: u32) -> usize
+pub fn format_ipv4(bytes: &mut [u8], at: usize, shorts: &DecimalTable, addr: u32) -> usize
     requires { at + 16 ≤ length bytes.old }
     ensures { Formats bytes.old at bytes.new result 15 (ipv4_text addr) }
 {

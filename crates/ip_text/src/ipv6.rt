@@ -9,7 +9,7 @@ ghost use Rattle.ip_text.specs.Ipv6Texts.{full_ipv6_text, groups_text, hexadecim
 use crate::address_form::AddressForm;
 use crate::format::{format_byte, format_front, format_text};
 use crate::hexadecimal::HexTexts;
-use crate::short::ShortTexts;
+use crate::short::DecimalTable;
 
 // ---- in full
 
@@ -144,7 +144,7 @@ fn format_ipv6_short(bytes: &mut [u8], at: usize, texts: &HexTexts, addr: u128) 
 pub fn format_ipv6(
     bytes: &mut [u8],
     at: usize,
-    shorts: &ShortTexts,
+    shorts: &DecimalTable,
     form: AddressForm,
     addr: u128,
 ) -> usize

@@ -3,7 +3,7 @@
 ghost use Rattle.std.specs.Prelude.{◌≡◌, ℕ, ◌<◌, slice_index_or};
 ghost use Rattle.ip_text.specs.declared.short.ShortText.{ShortText};
 ghost use Rattle.ip_text.specs.Digits.{decimal_glyph, digits_in};
-ghost use Rattle.ip_text.specs.ShortTexts.{IsShortText};
+ghost use Rattle.ip_text.specs.DecimalTable.{IsShortText};
 
 use crate::hexadecimal::HexTexts;
 
@@ -17,7 +17,7 @@ pub(crate) struct ShortText {
 
 /// The decimal text of each number of at most three digits, and the hexadecimal one of each byte.
 #[derive(Drop)]
-pub struct ShortTexts {
+pub struct DecimalTable {
     texts: [ShortText; 1000],
     pub(crate) hexadecimal: HexTexts,
     ghost texts_of_numbers: { (k : ℕ) → k < 1000 → (d : ShortText) → IsShortText k (slice_index_or texts k d) },
@@ -63,14 +63,14 @@ fn short_text(number: u32) -> ShortText
     }
 }
 
-impl ShortTexts {
+impl DecimalTable {
     /// Makes the texts.
-    pub fn new() -> ShortTexts {
+    pub fn new() -> DecimalTable {
         let mut texts = [short_text(0); 1000];
         for i in 0..1000 {
             texts[i] = short_text(i as u32);
         }
-        ShortTexts {
+        DecimalTable {
             texts,
             hexadecimal: HexTexts::new(),
         }

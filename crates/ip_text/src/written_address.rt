@@ -7,7 +7,7 @@ ghost use Rattle.ip_text.specs.Formats.{Formats};
 use crate::address_form::AddressForm;
 use crate::format::format_ipv4;
 use crate::ipv6::format_ipv6;
-use crate::short::ShortTexts;
+use crate::short::DecimalTable;
 use bgp_prefix::Ipv6;
 use bgp_update::Unicast;
 
@@ -21,7 +21,7 @@ pub trait WrittenAddress: Unicast {
     const MOST_BYTES: usize;
 
     /// Writes the address in a form, and returns the position after it.
-    fn format(self, bytes: &mut [u8], at: usize, shorts: &ShortTexts, form: AddressForm) -> usize
+    fn format(self, bytes: &mut [u8], at: usize, shorts: &DecimalTable, form: AddressForm) -> usize
         requires { at + MOST_BYTES < length bytes.old }
         ensures { Formats bytes.old at bytes.new result MOST_BYTES (address_text Self.family form (Self.bits self)) };
 
@@ -36,7 +36,13 @@ impl WrittenAddress for u32 {
     const MOST_BYTES: usize = 15;
 
     #[inline(always)]
-    fn format(self, bytes: &mut [u8], at: usize, shorts: &ShortTexts, _form: AddressForm) -> usize {
+    fn format(
+        self,
+        bytes: &mut [u8],
+        at: usize,
+        shorts: &DecimalTable,
+        _form: AddressForm,
+    ) -> usize {
         format_ipv4(bytes, at, shorts, self)
     }
 
@@ -51,7 +57,13 @@ impl WrittenAddress for Ipv6 {
     const MOST_BYTES: usize = 39;
 
     #[inline(always)]
-    fn format(self, bytes: &mut [u8], at: usize, shorts: &ShortTexts, form: AddressForm) -> usize {
+    fn format(
+        self,
+        bytes: &mut [u8],
+        at: usize,
+        shorts: &DecimalTable,
+        form: AddressForm,
+    ) -> usize {
         format_ipv6(bytes, at, shorts, form, self.number())
     }
 

@@ -19,7 +19,7 @@ use Rattle.bgp_prefix.specs.declared.family.Family.{Ghosts as AddressGhosts}
 use Rattle.bgp_prefix.specs.declared.map.PrefixMap.{Ghosts}
 use Rattle.adj_rib.specs.declared.routes.RouteId.{RouteId}
 use Rattle.lane_deal.specs.Dealers.{Dealer}
-use Rattle.lane_deal.specs.Plain.{Feed, Worker}
+use Rattle.lane_deal.specs.Plain.{LaneSender, Worker}
 use Rattle.lane_deal.specs.declared.seats.Seats.{Seats}
 use Rattle.lane_deal.specs.Collecting.{WorkerState, worker_state, seats_of_workers}
 use Rattle.lane_deal.specs.LaneRings.{AreReady}
@@ -60,7 +60,7 @@ tables_same units refused = refl
 
 -- ---- workers
 
-shown_by : {M A : Type 0} → Feed → WorkerState M A → LaneState
+shown_by : {M A : Type 0} → LaneSender → WorkerState M A → LaneState
 shown_by f w = record {
   ring = record { sent = sent f.producer; free = known_free f.producer; received = received w.consumer; known = known_items w.consumer };
   seats = map seat_of w.seats;
@@ -68,14 +68,14 @@ shown_by f w = record {
 }
 
 module _ {M A : Type 0} {g : Ghosts M RouteId A} {a : AddressGhosts A} where
-  pub seats_shown : (fs : List Feed) (ws : List (Worker (Seats M A g a))) → length ws ≡ length fs → flat_map (λ lane. lane.seats) (lane_states fs ws) ≡ seats_of_workers ws
+  pub seats_shown : (fs : List LaneSender) (ws : List (Worker (Seats M A g a))) → length ws ≡ length fs → flat_map (λ lane. lane.seats) (lane_states fs ws) ≡ seats_of_workers ws
   seats_shown [] [] e = refl
   seats_shown [] (w ∷ ws) e = absurd (omega arith)
   seats_shown (f ∷ fs) [] e = refl
   seats_shown (f ∷ fs) (w ∷ ws) e = ap (λ l. map seat_of w.sessions.seats.items ++ l) (seats_shown fs ws (omega arith))
 
   -- workers that were given back show the same
-  pub lanes_back : (fs : List Feed) (ws ws' : List (Worker (Seats M A g a))) → map worker_state ws' ≡ map worker_state ws → lane_states fs ws' ≡ lane_states fs ws
+  pub lanes_back : (fs : List LaneSender) (ws ws' : List (Worker (Seats M A g a))) → map worker_state ws' ≡ map worker_state ws → lane_states fs ws' ≡ lane_states fs ws
   unfolding shown_by
   lanes_back [] ws ws' e = refl
   lanes_back (f ∷ fs) [] [] e = refl
@@ -92,7 +92,7 @@ module _ {M A : Type 0} {g : Ghosts M RouteId A} {a : AddressGhosts A} where
   count_back (w ∷ ws) [] e = absurd (cc)
   count_back (w ∷ ws) (w' ∷ ws') e = (let n = count_back ws ws' (cc) in omega arith)
 
-  pub ready_back : (capacity : ℕ) (fs : List Feed) (ws ws' : List (Worker (Seats M A g a))) → map worker_state ws' ≡ map worker_state ws → AreReady capacity fs ws → AreReady capacity fs ws'
+  pub ready_back : (capacity : ℕ) (fs : List LaneSender) (ws ws' : List (Worker (Seats M A g a))) → map worker_state ws' ≡ map worker_state ws → AreReady capacity fs ws → AreReady capacity fs ws'
   ready_back capacity fs ws ws' e h = (
     count_back ws ws' e ∙ h.0,
     λ lane d x l.
@@ -104,13 +104,13 @@ module _ {M A : Type 0} {g : Ghosts M RouteId A} {a : AddressGhosts A} where
   )
 
   -- a replayer that was given back shows the same
-  pub state_back : {D : Type 0} (d : Dealer D) (fs : List Feed) (ws ws' : List (Worker (Seats M A g a))) (refused : List Damage) (spent : Bool) → refused ≡ d.refused.items → map worker_state ws' ≡ map worker_state ws
-      → record { lanes = lane_states fs ws'; peers = d.peers; kept = d.kept; refused = refused; dealt = d.dealt; spent = spent } ≡ state_at d fs ws spent
+  pub state_back : {D : Type 0} (d : Dealer D) (fs : List LaneSender) (ws ws' : List (Worker (Seats M A g a))) (refused : List Damage) (spent : Bool) → refused ≡ d.refused.items → map worker_state ws' ≡ map worker_state ws
+      → record { lanes = lane_states fs ws'; peers = d.peers; blocked_unit = d.blocked_unit; refused = refused; dealt = d.dealt; spent = spent } ≡ state_at d fs ws spent
   state_back d fs ws ws' refused spent r e =
-      ap (λ l. record { lanes = l; peers = d.peers; kept = d.kept; refused = refused; dealt = d.dealt; spent = spent }) (lanes_back fs ws ws' e)
-      ∙ ap (λ l. record { lanes = lane_states fs ws; peers = d.peers; kept = d.kept; refused = l; dealt = d.dealt; spent = spent }) r
+      ap (λ l. record { lanes = l; peers = d.peers; blocked_unit = d.blocked_unit; refused = refused; dealt = d.dealt; spent = spent }) (lanes_back fs ws ws' e)
+      ∙ ap (λ l. record { lanes = lane_states fs ws; peers = d.peers; blocked_unit = d.blocked_unit; refused = l; dealt = d.dealt; spent = spent }) r
 
-  module _ {D : Type 0} (dealing : ℕ → ℕ → ℕ) (capacity : ℕ) (d : Dealer D) (fs : List Feed) (ws : List (Worker (Seats M A g a))) (lanes : length ws ≡ length fs) (below : (n : ℕ) → dealing n (length fs) < length fs) where
+  module _ {D : Type 0} (dealing : ℕ → ℕ → ℕ) (capacity : ℕ) (d : Dealer D) (fs : List LaneSender) (ws : List (Worker (Seats M A g a))) (lanes : length ws ≡ length fs) (below : (n : ℕ) → dealing n (length fs) < length fs) where
     below_shown : (spent : Bool) (n : ℕ) → dealing n (length (state_at d fs ws spent).lanes) < length (state_at d fs ws spent).lanes
     below_shown spent = subst (λ m. (n : ℕ) → dealing n m < m) (sym (length-lane_states fs ws lanes)) below
 

@@ -14,7 +14,7 @@ use Rattle.mrt_body.specs.declared.unit.Damage.{Damage}
 use Rattle.mrt_body.specs.Plain.{Found}
 use Rattle.mrt_body.specs.declared.unit.Found.TheVariants as found
 use Rattle.mrt_body.specs.ToCome.{UnitsState, TakesFound, KeepsPlan, NothingToCome, GivesAllBefore, found_to_come, refusals, units_left, Stops}
-use Rattle.lane_deal.specs.Answers.{IfAnswered}
+use Rattle.lane_deal.specs.Results.{IfAnswered}
 use Rattle.lane_deal.specs.Asking.{TakesUnits, StopsReading, StopsBehind, as_refused, GivesFront, GivesAll, Asked, AskedInVain}
 
 abbrev Known : Type 0

@@ -11,13 +11,13 @@ use Rattle.peer_tables.specs.Peers.{peer_eq, peers_of}
 use Rattle.bgp_prefix.specs.declared.family.Family.{Ghosts as AddressGhosts}
 use Rattle.bgp_prefix.specs.declared.map.PrefixMap.{Ghosts}
 use Rattle.adj_rib.specs.declared.routes.RouteId.{RouteId}
-use Rattle.lane_deal.specs.Plain.{Feed, Numbered, Worker}
+use Rattle.lane_deal.specs.Plain.{LaneSender, PeerUnit, Worker}
 use Rattle.lane_deal.specs.declared.seats.Seats.{Seats}
-use Rattle.lane_deal.specs.Feeds.{in_lane}
+use Rattle.lane_deal.specs.LaneSenders.{in_lane}
 use Rattle.lane_deal.specs.LaneRings.{IsReady, LaneStands}
 use Rattle.lane_deal.specs.Lanes.{number_of_peer, lane_units}
 use Rattle.peer_tables.specs.Numbers.{number_in}
-use Rattle.lane_deal.specs.Numbers.{with_number, numbered, units_in}
+use Rattle.lane_deal.specs.Numbers.{with_number, with_numbers, units_in}
 use Rattle.lane_deal.specs.Replayers.{LaneState, LaneStandsFor}
 use Rattle.lane_deal.specs.Seating.{seat_by, seats_by}
 use Rattle.lane_deal.specs.Shown.{lane_state, lane_states, SeatsHold}
@@ -62,38 +62,38 @@ all_both P Q R (x ∷ xs) f h k = (f x h.0 k.0, all_both P Q R xs f h.1 k.1)
 
 -- ---- numbers
 
-pub units_numbered : (keys : List PeerKey) (units : List ReplayUnit) → units_in (numbered keys units) ≡ units
+pub units_numbered : (keys : List PeerKey) (units : List ReplayUnit) → units_in (with_numbers keys units) ≡ units
 units_numbered keys [] = refl
 units_numbered keys (u ∷ units) = ap (λ l. u ∷ l) (units_numbered keys units)
 
-pub numbered_same : (keys others : List PeerKey) (units : List ReplayUnit) → AllByRecursion (λ u. number_in keys u.peer ≡ number_in others u.peer) units → numbered keys units ≡ numbered others units
+pub numbered_same : (keys others : List PeerKey) (units : List ReplayUnit) → AllByRecursion (λ u. number_in keys u.peer ≡ number_in others u.peer) units → with_numbers keys units ≡ with_numbers others units
 numbered_same keys others units h =
     map_alike (with_number keys) (with_number others) units (all_more units (λ u e. ap (λ n. record { number = n; unit = u }) e) h)
 
 -- items that have their peers' numbers
-renumbered : (keys : List PeerKey) (items : List Numbered) → AllByRecursion (λ x. with_number keys x.unit ≡ x) items → numbered keys (units_in items) ≡ items
+renumbered : (keys : List PeerKey) (items : List PeerUnit) → AllByRecursion (λ x. with_number keys x.unit ≡ x) items → with_numbers keys (units_in items) ≡ items
 renumbered keys [] h = refl
-renumbered keys (x ∷ items) h = ap (λ i. i ∷ numbered keys (units_in items)) h.0 ∙ ap (λ l. x ∷ l) (renumbered keys items h.1)
+renumbered keys (x ∷ items) h = ap (λ i. i ∷ with_numbers keys (units_in items)) h.0 ∙ ap (λ l. x ∷ l) (renumbered keys items h.1)
 
 -- the units that were dealt, with their numbers
-abbrev pub dealt_items : List ReplayUnit → List Numbered
-dealt_items units = numbered (peers_of units) units
+abbrev pub dealt_items : List ReplayUnit → List PeerUnit
+dealt_items units = with_numbers (peers_of units) units
 
-pub lane_items : (lane_of : ℕ → ℕ) (units : List ReplayUnit) (lane : ℕ) → in_lane lane_of lane (dealt_items units) ≡ numbered (peers_of units) (lane_units lane_of units lane)
+pub lane_items : (lane_of : ℕ → ℕ) (units : List ReplayUnit) (lane : ℕ) → in_lane lane_of lane (dealt_items units) ≡ with_numbers (peers_of units) (lane_units lane_of units lane)
 lane_items lane_of units lane = filter_mapped (λ item. eqb (lane_of item.number) lane) (with_number (peers_of units)) units
 
 -- more units, with the numbers that they have among still more
-pub dealt_items-append : (units more : List ReplayUnit) (rest : List ReplayUnit) (keys : List PeerKey) → keys ≡ peers_of ((units ++ more) ++ rest) → dealt_items units ++ numbered keys more ≡ dealt_items (units ++ more)
+pub dealt_items-append : (units more : List ReplayUnit) (rest : List ReplayUnit) (keys : List PeerKey) → keys ≡ peers_of ((units ++ more) ++ rest) → dealt_items units ++ with_numbers keys more ≡ dealt_items (units ++ more)
 dealt_items-append units more rest keys e =
     let both = peers_of (units ++ more) in
-    let first : numbered both units ≡ numbered (peers_of units) units = numbered_same both (peers_of units) units (numbers_stay units more) in
-    let second : numbered keys more ≡ numbered both more =
-    ap (λ k. numbered k more) e ∙ numbered_same (peers_of ((units ++ more) ++ rest)) both more (back_of (λ u. number_of_peer ((units ++ more) ++ rest) u.peer ≡ number_of_peer (units ++ more) u.peer) units more (numbers_stay (units ++ more) rest)) in
-    ap (λ l. l ++ numbered keys more) (sym first) ∙ ap (λ l. numbered both units ++ l) second ∙ sym (map-append (with_number both) units more)
+    let first : with_numbers both units ≡ with_numbers (peers_of units) units = numbered_same both (peers_of units) units (numbers_stay units more) in
+    let second : with_numbers keys more ≡ with_numbers both more =
+    ap (λ k. with_numbers k more) e ∙ numbered_same (peers_of ((units ++ more) ++ rest)) both more (back_of (λ u. number_of_peer ((units ++ more) ++ rest) u.peer ≡ number_of_peer (units ++ more) u.peer) units more (numbers_stay (units ++ more) rest)) in
+    ap (λ l. l ++ with_numbers keys more) (sym first) ∙ ap (λ l. with_numbers both units ++ l) second ∙ sym (map-append (with_number both) units more)
 
 -- ---- one lane
 
-module _ {M A : Type 0} {g : Ghosts M RouteId A} {a : AddressGhosts A} (lane_of : ℕ → ℕ) (units more : List ReplayUnit) (lane capacity : ℕ) (f : Feed) (w : Worker (Seats M A g a)) where
+module _ {M A : Type 0} {g : Ghosts M RouteId A} {a : AddressGhosts A} (lane_of : ℕ → ℕ) (units more : List ReplayUnit) (lane capacity : ℕ) (f : LaneSender) (w : Worker (Seats M A g a)) where
   abbrev all : List ReplayUnit
   all = units ++ more
 
@@ -110,7 +110,7 @@ module _ {M A : Type 0} {g : Ghosts M RouteId A} {a : AddressGhosts A} (lane_of 
       let taken_stay = front_of (λ u. number_of_peer all u.peer ≡ number_of_peer units u.peer) h.taken h.waiting stay in
       let waiting_stay = back_of (λ u. number_of_peer all u.peer ≡ number_of_peer units u.peer) h.taken h.waiting stay in
       record {
-        taken = numbered keys h.taken;
+        taken = with_numbers keys h.taken;
         sessions = λ number a.
             let each : AllByRecursion (λ u. number u.peer ≡ number_in keys u.peer) h.taken = all_unmapped (with_number keys) (λ item. number item.unit.peer ≡ item.number) h.taken a.each in
             let same : AllByRecursion (λ u. number u.peer ≡ number_of_peer all u.peer) h.taken =
@@ -120,8 +120,8 @@ module _ {M A : Type 0} {g : Ghosts M RouteId A} {a : AddressGhosts A} (lane_of 
             ∙ map_alike (seat_by number h.taken) (seat_by (number_of_peer all) h.taken) (peers_of h.taken) (all_more (peers_of h.taken) (λ q e. ap (λ n. record (seat_by number h.taken q) { number = n }) e) peers)
             ∙ h.seats;
         whole =
-            ap (λ l. numbered keys h.taken ++ l) (h.ring.sent ∙ numbered_same (peers_of all) keys h.waiting waiting_stay)
-            ∙ sym (map-append (with_number keys) h.taken h.waiting) ∙ ap (numbered keys) h.whole ∙ sym (lane_items lane_of units lane);
+            ap (λ l. with_numbers keys h.taken ++ l) (h.ring.sent ∙ numbered_same (peers_of all) keys h.waiting waiting_stay)
+            ∙ sym (map-append (with_number keys) h.taken h.waiting) ∙ ap (with_numbers keys) h.whole ∙ sym (lane_items lane_of units lane);
         counted = (let n = h.counted in let k = length-map h.taken (with_number keys) in omega arith);
       }
 
@@ -129,7 +129,7 @@ module _ {M A : Type 0} {g : Ghosts M RouteId A} {a : AddressGhosts A} (lane_of 
   stands_out ready h =
       let keys = peers_of units in
       let waits = sent f.producer in
-      let whole : h.taken ++ waits ≡ numbered keys own = h.whole ∙ lane_items lane_of units lane in
+      let whole : h.taken ++ waits ≡ with_numbers keys own = h.whole ∙ lane_items lane_of units lane in
       let proper = subst (AllByRecursion (λ x. with_number keys x.unit ≡ x)) (sym whole) (all_mapped (with_number keys) (λ x. with_number keys x.unit ≡ x) own (all_refl keys own)) in
       let taken_is = renumbered keys h.taken (front_of (λ x. with_number keys x.unit ≡ x) h.taken waits proper) in
       let sent_is = renumbered keys waits (back_of (λ x. with_number keys x.unit ≡ x) h.taken waits proper) in
@@ -137,7 +137,7 @@ module _ {M A : Type 0} {g : Ghosts M RouteId A} {a : AddressGhosts A} (lane_of 
       let stay = subst (AllByRecursion (λ u. number_of_peer all u.peer ≡ number_of_peer units u.peer)) (sym units_whole) own_stay in
       let taken_stay = front_of (λ u. number_of_peer all u.peer ≡ number_of_peer units u.peer) (units_in h.taken) (units_in waits) stay in
       let waiting_stay = back_of (λ u. number_of_peer all u.peer ≡ number_of_peer units u.peer) (units_in h.taken) (units_in waits) stay in
-      let same : waits ≡ numbered (peers_of all) (units_in waits) = sym sent_is ∙ sym (numbered_same (peers_of all) keys (units_in waits) waiting_stay) in
+      let same : waits ≡ with_numbers (peers_of all) (units_in waits) = sym sent_is ∙ sym (numbered_same (peers_of all) keys (units_in waits) waiting_stay) in
       let seen : (q : PeerKey) → is_seen (units_in h.taken) q ≡ true → is_seen all q ≡ true =
       λ q e. seen_more units more q (any_filtered (λ u. peer_eq u.peer q) (λ u. eqb (lane_of (number_of_peer units u.peer)) lane) units (ap (λ l. is_seen l q) (sym units_whole) ∙ seen_more (units_in h.taken) (units_in waits) q e)) in
       record {
@@ -166,27 +166,27 @@ module _ {M A : Type 0} {g : Ghosts M RouteId A} {a : AddressGhosts A} (lane_of 
 -- ---- all lanes
 
 module _ {M A : Type 0} {g : Ghosts M RouteId A} {a : AddressGhosts A} where
-  pub length-lane_states : (fs : List Feed) (ws : List (Worker (Seats M A g a))) → length ws ≡ length fs → length (lane_states fs ws) ≡ length fs
+  pub length-lane_states : (fs : List LaneSender) (ws : List (Worker (Seats M A g a))) → length ws ≡ length fs → length (lane_states fs ws) ≡ length fs
   length-lane_states [] ws e = refl
   length-lane_states (f ∷ fs) [] e = absurd (omega arith)
   length-lane_states (f ∷ fs) (w ∷ ws) e = (let n = length-lane_states fs ws (omega arith) in omega arith)
 
-  pub lane_states-at : (fs : List Feed) (ws : List (Worker (Seats M A g a))) (lane : ℕ) (d : Feed) (e : Worker (Seats M A g a)) → length ws ≡ length fs → lane < length fs → slice_get (lane_states fs ws) lane ≡ Some (lane_state (get_or fs lane d) (get_or ws lane e))
+  pub lane_states-at : (fs : List LaneSender) (ws : List (Worker (Seats M A g a))) (lane : ℕ) (d : LaneSender) (e : Worker (Seats M A g a)) → length ws ≡ length fs → lane < length fs → slice_get (lane_states fs ws) lane ≡ Some (lane_state (get_or fs lane d) (get_or ws lane e))
   lane_states-at [] ws lane d e same l = absurd (omega arith)
   lane_states-at (f ∷ fs) [] lane d e same l = absurd (omega arith)
   lane_states-at (f ∷ fs) (w ∷ ws) zero d e same l = refl
   lane_states-at (f ∷ fs) (w ∷ ws) (suc lane) d e same l = lane_states-at fs ws lane d e (omega arith) (omega arith)
 
-  -- a lane that is shown has a feed and a worker
-  pub record IsLaneAt (fs : List Feed) (ws : List (Worker (Seats M A g a))) (lane : ℕ) (state : LaneState) : Type 0 where
-    pub feed : Feed
+  -- a lane that is shown has a sender and a worker
+  pub record IsLaneAt (fs : List LaneSender) (ws : List (Worker (Seats M A g a))) (lane : ℕ) (state : LaneState) : Type 0 where
+    pub sender : LaneSender
     pub worker : Worker (Seats M A g a)
     pub within : lane < length fs
-    pub state_is : state ≡ lane_state (get_or fs lane feed) (get_or ws lane worker)
+    pub state_is : state ≡ lane_state (get_or fs lane sender) (get_or ws lane worker)
 
-  pub lane_at : (fs : List Feed) (ws : List (Worker (Seats M A g a))) (lane : ℕ) (state : LaneState) → slice_get (lane_states fs ws) lane ≡ Some state → IsLaneAt fs ws lane state
+  pub lane_at : (fs : List LaneSender) (ws : List (Worker (Seats M A g a))) (lane : ℕ) (state : LaneState) → slice_get (lane_states fs ws) lane ≡ Some state → IsLaneAt fs ws lane state
   lane_at [] ws lane state e = absurd (cc)
   lane_at (f ∷ fs) [] lane state e = absurd (cc)
-  lane_at (f ∷ fs) (w ∷ ws) zero state e = record { feed = f; worker = w; within = omega arith; state_is = sym (some_is (lane_state f w) state e) }
+  lane_at (f ∷ fs) (w ∷ ws) zero state e = record { sender = f; worker = w; within = omega arith; state_is = sym (some_is (lane_state f w) state e) }
   lane_at (f ∷ fs) (w ∷ ws) (suc lane) state e =
-      let h = lane_at fs ws lane state e in record { feed = h.feed; worker = h.worker; within = (let l = h.within in omega arith); state_is = h.state_is }
+      let h = lane_at fs ws lane state e in record { sender = h.sender; worker = h.worker; within = (let l = h.within in omega arith); state_is = h.state_is }

@@ -18,15 +18,15 @@ use Rattle.mrt_body.specs.Units.{unit_of, damage_of}
 use Rattle.mrt_body.specs.ToCome.{UnitsState, GivesPending, KeepsPlan, TakesFound, as_found, units_left}
 use Rattle.peer_tables.specs.Peers.{peer_eq, peers_of}
 use Rattle.lane_deal.specs.Dealers.{Dealer}
-use Rattle.lane_deal.specs.Plain.{Numbered}
+use Rattle.lane_deal.specs.Plain.{PeerUnit}
 use Rattle.lane_deal.specs.declared.step.Step.{Step}
 use Rattle.lane_deal.specs.declared.step.Step.TheVariants.{Blocked, FullBatch, End}
 use Rattle.lane_deal.specs.Asking.{TakesUnits, as_refused, Asked, AskedInVain}
 use Rattle.lane_deal.specs.DealerSteps.{Asks, Next, NextInVain, Handles, StopsDealing, Deals, DealsTo}
-use Rattle.lane_deal.specs.Feeds.{in_lane}
-use Rattle.lane_deal.specs.Kept.{to_deal}
+use Rattle.lane_deal.specs.LaneSenders.{in_lane}
+use Rattle.lane_deal.specs.ToDeal.{to_deal}
 use Rattle.peer_tables.specs.Numbers.{NumbersPeer, number_in}
-use Rattle.lane_deal.specs.Numbers.{with_number, numbered}
+use Rattle.lane_deal.specs.Numbers.{with_number, with_numbers}
 use Rattle.lane_deal.proofs.Asking.{TakesUnits-none, TakesUnits-more, front_from_takes, front_more, all_more_given, behind_more}
 use Rattle.lane_deal.proofs.Numbering.{unlisted}
 use Rattle.peer_tables.proofs.PeerPositions.{listed_now, peer_itself, first_position}
@@ -47,18 +47,18 @@ all_damage (d ∷ listed) = ap (λ l. d ∷ l) (all_damage listed)
 
 -- ---- what was to be dealt
 
-to_deal-more : (kept : Option ReplayUnit) (a b : List Found) → to_deal kept (a ++ b) ≡ to_deal kept a ++ b
-to_deal-more kept a b = sym (append_assoc (map (λ u. found.Unit u) (option_to_list kept)) a b)
+to_deal-more : (blocked_unit : Option ReplayUnit) (a b : List Found) → to_deal blocked_unit (a ++ b) ≡ to_deal blocked_unit a ++ b
+to_deal-more blocked_unit a b = sym (append_assoc (map (λ u. found.Unit u) (option_to_list blocked_unit)) a b)
 
 pub in_order : (k₀ k₁ : Option ReplayUnit) (g₁ g₂ d₁ d₂ : List Found) → to_deal k₀ g₁ ≡ d₁ ++ to_deal k₁ [] → to_deal k₁ g₂ ≡ d₂ → to_deal k₀ (g₁ ++ g₂) ≡ d₁ ++ d₂
 in_order k₀ k₁ g₁ g₂ d₁ d₂ p q =
     to_deal-more k₀ g₁ g₂ ∙ ap (λ l. l ++ g₂) p ∙ append_assoc d₁ (to_deal k₁ []) g₂ ∙ ap (λ l. d₁ ++ l) (sym (to_deal-more k₁ [] g₂) ∙ q)
 
--- where refusals alone came, nothing was kept
-pub none_kept : (kept : Option ReplayUnit) (given : List Found) (listed : List Damage) → to_deal kept given ≡ as_refused listed → kept ≡ None
-none_kept None given listed e = refl
-none_kept (Some k) given [] e = absurd (cc)
-none_kept (Some k) given (d ∷ listed) e = absurd (cc)
+-- where refusals alone came, none was blocked
+pub none_blocked : (blocked_unit : Option ReplayUnit) (given : List Found) (listed : List Damage) → to_deal blocked_unit given ≡ as_refused listed → blocked_unit ≡ None
+none_blocked None given listed e = refl
+none_blocked (Some k) given [] e = absurd (cc)
+none_blocked (Some k) given (d ∷ listed) e = absurd (cc)
 
 -- ---- numbers
 
@@ -76,8 +76,8 @@ pub seen_last : (units : List ReplayUnit) (u : ReplayUnit) → is_seen (units ++
 seen_last units u = list_any-append (λ x. peer_eq x.peer u.peer) units (u ∷ []) ∙ ap (λ b. is_seen units u.peer || (b || false)) (peer_itself u.peer) ∙ or-true (is_seen units u.peer)
 
 -- the peer of the next unit is numbered
-pub keys_step : (before : List ReplayUnit) (kept : Option ReplayUnit) (given : List Found) (listed : List Damage) (u : ReplayUnit) (keys keys' : List PeerKey) (n : ℕ) → keys ≡ peers_of (before ++ option_to_list kept)
-    → to_deal kept given ≡ as_refused listed ++ found.Unit u ∷ [] → NumbersPeer keys keys' u.peer n → keys' ≡ peers_of (before ++ u ∷ [])
+pub keys_step : (before : List ReplayUnit) (blocked_unit : Option ReplayUnit) (given : List Found) (listed : List Damage) (u : ReplayUnit) (keys keys' : List PeerKey) (n : ℕ) → keys ≡ peers_of (before ++ option_to_list blocked_unit)
+    → to_deal blocked_unit given ≡ as_refused listed ++ found.Unit u ∷ [] → NumbersPeer keys keys' u.peer n → keys' ≡ peers_of (before ++ u ∷ [])
 keys_step before None given listed u keys keys' n h e p =
     let same : keys ≡ peers_of before = h ∙ ap peers_of (append-nil before) in
     p.keys ∙ ap (λ l. l ++ (if list_any (peer_eq u.peer) l then [] else u.peer ∷ [])) same ∙ sym (peers_push before u)
@@ -100,35 +100,35 @@ all_push P [] ys h k = k
 all_push P (x ∷ xs) ys h k = (h.0, all_push P xs ys h.1 k)
 
 -- numbers stay as more peers come
-pub numbered_stay : (keys more : List PeerKey) (units : List ReplayUnit) → AreListed keys units → numbered (keys ++ more) units ≡ numbered keys units
+pub numbered_stay : (keys more : List PeerKey) (units : List ReplayUnit) → AreListed keys units → with_numbers (keys ++ more) units ≡ with_numbers keys units
 numbered_stay keys more [] h = refl
 numbered_stay keys more (u ∷ units) h =
-    ap (λ n. record { number = n; unit = u } ∷ numbered (keys ++ more) units) (first_position (peer_eq u.peer) keys more h.0)
+    ap (λ n. record { number = n; unit = u } ∷ with_numbers (keys ++ more) units) (first_position (peer_eq u.peer) keys more h.0)
     ∙ ap (λ l. with_number keys u ∷ l) (numbered_stay keys more units h.1)
 
 -- ---- the dealer's steps
 
 module _ {D : Type 0} where
-  -- the dealer without its kept unit
-  abbrev pub emptied : Dealer D → Dealer D
-  emptied d = record { dealing = d.dealing; peers = d.peers; kept = None; refused = d.refused; dealt = d.dealt; small = λ x e. absurd (cc) }
+  -- the dealer without its blocked unit
+  abbrev pub without_unit : Dealer D → Dealer D
+  without_unit d = record { dealing = d.dealing; peers = d.peers; blocked_unit = None; refused = d.refused; dealt = d.dealt; small = λ x e. absurd (cc) }
 
-  -- the unit that was kept and taken out is next
-  pub Next-kept : (old asked : Dealer D) (u u' : UnitsState) (k k' : Known) (unit : ReplayUnit) → old.kept ≡ Some unit → asked.dealing ≡ old.dealing → asked.peers ≡ old.peers → asked.dealt ≡ old.dealt → asked.refused.items ≡ old.refused.items
-      → TakesUnits u k u' k' [] → Next old (emptied asked) u k u' k' (Some unit)
-  Next-kept old asked u u' k k' unit e dealing peers dealt same takes =
+  -- the unit that was blocked and taken out is next
+  pub Next-blocked : (old asked : Dealer D) (u u' : UnitsState) (k k' : Known) (unit : ReplayUnit) → old.blocked_unit ≡ Some unit → asked.dealing ≡ old.dealing → asked.peers ≡ old.peers → asked.dealt ≡ old.dealt → asked.refused.items ≡ old.refused.items
+      → TakesUnits u k u' k' [] → Next old (without_unit asked) u k u' k' (Some unit)
+  Next-blocked old asked u u' k k' unit e dealing peers dealt same takes =
       record {
         given = [];
         listed = [];
         takes = takes;
-        asks = record { dealing = dealing; peers = peers; kept = refl; dealt = dealt };
+        asks = record { dealing = dealing; peers = peers; blocked_unit = refl; dealt = dealt };
         order = ap (λ o. to_deal o []) e;
         refused = same ∙ sym (append-nil old.refused.items);
         ended = λ clash. absurd (cc);
       }
 
   -- the unit that was lent and passed over is next
-  pub Next-lent : (old asked : Dealer D) (u u₁ u' : UnitsState) (k k₁ : Known) (unit : ReplayUnit) → old.kept ≡ None → Asks old asked → Asked old.refused.items asked.refused.items u k u₁ k₁ → u₁.pending ≡ unit ∷ drop 1 u₁.pending → GivesPending u₁ u' (take 1 u₁.pending)
+  pub Next-lent : (old asked : Dealer D) (u u₁ u' : UnitsState) (k k₁ : Known) (unit : ReplayUnit) → old.blocked_unit ≡ None → Asks old asked → Asked old.refused.items asked.refused.items u k u₁ k₁ → u₁.pending ≡ unit ∷ drop 1 u₁.pending → GivesPending u₁ u' (take 1 u₁.pending)
       → ((known : Known) → TakesFound u₁ known u' known (as_found (take 1 u₁.pending))) → units_left u' + length (take 1 u₁.pending) ≡ units_left u₁ → KeepsPlan u₁ u' → u₁.standing ≡ standings.Going → Next old asked u k u' k₁ (Some unit)
   Next-lent old asked u u₁ u' k k₁ unit none asks p lent passes taken units plan going =
       let one : take 1 u₁.pending ≡ unit ∷ [] = ap (take 1) lent in
@@ -152,7 +152,7 @@ module _ {D : Type 0} where
       }
 
   -- nothing is left
-  pub Next-ended : (old asked : Dealer D) (u u' : UnitsState) (k k' : Known) → old.kept ≡ None → Asks old asked → Asked old.refused.items asked.refused.items u k u' k' → u'.pending ≡ [] → Next old asked u k u' k' None
+  pub Next-ended : (old asked : Dealer D) (u u' : UnitsState) (k k' : Known) → old.blocked_unit ≡ None → Asks old asked → Asked old.refused.items asked.refused.items u k u' k' → u'.pending ≡ [] → Next old asked u k u' k' None
   Next-ended old asked u u' k k' none asks p empty =
       record {
         given = as_refused p.listed;
@@ -165,7 +165,7 @@ module _ {D : Type 0} where
       }
 
   -- no more came
-  pub NextInVain-asked : (old asked : Dealer D) (u u' : UnitsState) (k k' : Known) → old.kept ≡ None → Asks old asked → AskedInVain old.refused.items asked.refused.items u k u' k' → NextInVain old asked u k u' k'
+  pub NextInVain-asked : (old asked : Dealer D) (u u' : UnitsState) (k k' : Known) → old.blocked_unit ≡ None → Asks old asked → AskedInVain old.refused.items asked.refused.items u k u' k' → NextInVain old asked u k u' k'
   NextInVain-asked old asked u u' k k' none asks p =
       record {
         given = as_refused p.listed;
@@ -186,8 +186,8 @@ module _ {D : Type 0} where
     pub count_is : length (filter_map unit_of done) ≡ count
 
   -- the units that were dealt so far, with their numbers
-  abbrev pub dealt_so_far : {old new : Dealer D} {u u' : UnitsState} {k k' : Known} {count : ℕ} → SoFar old new u k u' k' count → List Numbered
-  dealt_so_far {old} {new} s = numbered new.peers (filter_map unit_of s.done)
+  abbrev pub dealt_so_far : {old new : Dealer D} {u u' : UnitsState} {k k' : Known} {count : ℕ} → SoFar old new u k u' k' count → List PeerUnit
+  dealt_so_far {old} {new} s = with_numbers new.peers (filter_map unit_of s.done)
 
   pub SoFar-none : (old : Dealer D) (u : UnitsState) (k : Known) → old.dealt ≡ min (old.dealt + 0) (2 ^ 64 - 1) → SoFar old old u k u k 0
   SoFar-none old u k bound =
@@ -202,7 +202,7 @@ module _ {D : Type 0} where
               refused = sym (append-nil old.refused.items);
               counted = bound;
               listed = tt;
-              keys = λ before h. h ∙ ap (λ l. peers_of (l ++ option_to_list old.kept)) (sym (append-nil before));
+              keys = λ before h. h ∙ ap (λ l. peers_of (l ++ option_to_list old.blocked_unit)) (sym (append-nil before));
             };
         count_is = refl;
       }
@@ -220,7 +220,7 @@ module _ {D : Type 0} where
         (ap (λ l. filter_map damage_of done ++ l) (sym (append-nil listed) ∙ ap (λ l. listed ++ l) (sym none) ∙ ap (λ l. l ++ filter_map damage_of rest) (sym (all_damage listed)) ∙ sym (filter_map-append damage_of (as_refused listed) rest))
         ∙ sym (filter_map-append damage_of done (as_refused listed ++ rest)))
 
-    module _ (unit : ReplayUnit) (n : ℕ) (order : to_deal mid.kept more ≡ as_refused listed ++ found.Unit unit ∷ []) (number : NumbersPeer mid.peers new.peers unit.peer n) where
+    module _ (unit : ReplayUnit) (n : ℕ) (order : to_deal mid.blocked_unit more ≡ as_refused listed ++ found.Unit unit ∷ []) (number : NumbersPeer mid.peers new.peers unit.peer n) where
       extra : List PeerKey
       extra = if list_any (peer_eq unit.peer) mid.peers then [] else unit.peer ∷ []
 
@@ -228,33 +228,33 @@ module _ {D : Type 0} where
       unfolding extra
       listed_still = subst (λ l. AreListed l (filter_map unit_of done)) (sym number.keys) (listed_more mid.peers extra (filter_map unit_of done) p.listed)
 
-      numbers_still : numbered new.peers (filter_map unit_of done) ≡ numbered mid.peers (filter_map unit_of done)
+      numbers_still : with_numbers new.peers (filter_map unit_of done) ≡ with_numbers mid.peers (filter_map unit_of done)
       unfolding extra
-      numbers_still = ap (λ l. numbered l (filter_map unit_of done)) number.keys ∙ numbered_stay mid.peers extra (filter_map unit_of done) p.listed
+      numbers_still = ap (λ l. with_numbers l (filter_map unit_of done)) number.keys ∙ numbered_stay mid.peers extra (filter_map unit_of done) p.listed
 
       item_is : record { number = n; unit = unit } ≡ with_number new.peers unit
       item_is = ap (λ m. record { number = m; unit = unit }) number.number_is
 
       -- one item more was dealt
-      pub items_then : numbered new.peers (filter_map unit_of (done ++ (as_refused listed ++ found.Unit unit ∷ []))) ≡ numbered mid.peers (filter_map unit_of done) ++ record { number = n; unit = unit } ∷ []
+      pub items_then : with_numbers new.peers (filter_map unit_of (done ++ (as_refused listed ++ found.Unit unit ∷ []))) ≡ with_numbers mid.peers (filter_map unit_of done) ++ record { number = n; unit = unit } ∷ []
       items_then =
-          ap (numbered new.peers) (units_then (found.Unit unit ∷ []))
+          ap (with_numbers new.peers) (units_then (found.Unit unit ∷ []))
           ∙ (map-append (with_number new.peers) (filter_map unit_of done) (unit ∷ [])
           ∙ (ap (λ l. l ++ with_number new.peers unit ∷ []) numbers_still
-          ∙ ap (λ i. numbered mid.peers (filter_map unit_of done) ++ i ∷ []) (sym item_is)))
+          ∙ ap (λ i. with_numbers mid.peers (filter_map unit_of done) ++ i ∷ []) (sym item_is)))
 
       -- none was
-      pub items_still : numbered new.peers (filter_map unit_of (done ++ (as_refused listed ++ []))) ≡ numbered mid.peers (filter_map unit_of done)
-      items_still = ap (numbered new.peers) (units_then [] ∙ append-nil _) ∙ numbers_still
+      pub items_still : with_numbers new.peers (filter_map unit_of (done ++ (as_refused listed ++ []))) ≡ with_numbers mid.peers (filter_map unit_of done)
+      items_still = ap (with_numbers new.peers) (units_then [] ∙ append-nil _) ∙ numbers_still
 
       -- the unit was dealt
-      pub Handles-dealt : new.kept ≡ None → new.dealt ≡ min (mid.dealt + 1) (2 ^ 64 - 1) → Handles old new (given ++ more) (done ++ (as_refused listed ++ found.Unit unit ∷ []))
+      pub Handles-dealt : new.blocked_unit ≡ None → new.dealt ≡ min (mid.dealt + 1) (2 ^ 64 - 1) → Handles old new (given ++ more) (done ++ (as_refused listed ++ found.Unit unit ∷ []))
       Handles-dealt none counted =
           let units : filter_map unit_of (done ++ (as_refused listed ++ found.Unit unit ∷ [])) ≡ filter_map unit_of done ++ unit ∷ [] = units_then (found.Unit unit ∷ []) in
           record {
             dealing = dealing ∙ p.dealing;
             order =
-                in_order old.kept mid.kept given more done (as_refused listed ++ found.Unit unit ∷ []) p.order order ∙ sym (append-nil _)
+                in_order old.blocked_unit mid.blocked_unit given more done (as_refused listed ++ found.Unit unit ∷ []) p.order order ∙ sym (append-nil _)
                 ∙ append_assoc done (as_refused listed ++ found.Unit unit ∷ []) [] ∙ ap (λ l. done ++ l) (append-nil _)
                 ∙ sym (append-nil _) ∙ ap (λ o. (done ++ (as_refused listed ++ found.Unit unit ∷ [])) ++ to_deal o []) (sym none);
             refused = damage_then (found.Unit unit ∷ []) refl;
@@ -263,50 +263,50 @@ module _ {D : Type 0} where
                 subst (AreListed new.peers) (sym units)
                 (all_push (λ u. list_any (peer_eq u.peer) new.peers ≡ true) (filter_map unit_of done) (unit ∷ []) listed_still (listed_now mid.peers new.peers unit.peer n number, tt));
             keys = λ before h.
-                keys_step (before ++ filter_map unit_of done) mid.kept more listed unit mid.peers new.peers n (p.keys before h) order number
+                keys_step (before ++ filter_map unit_of done) mid.blocked_unit more listed unit mid.peers new.peers n (p.keys before h) order number
                 ∙ ap peers_of (append_assoc before (filter_map unit_of done) (unit ∷ []) ∙ ap (λ l. before ++ l) (sym units) ∙ sym (append-nil _) ∙ ap (λ o. (before ++ filter_map unit_of (done ++ (as_refused listed ++ found.Unit unit ∷ []))) ++ option_to_list o) (sym none));
           }
 
       -- the unit came back
-      pub Handles-blocked : new.kept ≡ Some unit → new.dealt ≡ mid.dealt → Handles old new (given ++ more) (done ++ (as_refused listed ++ []))
-      Handles-blocked kept counted =
+      pub Handles-blocked : new.blocked_unit ≡ Some unit → new.dealt ≡ mid.dealt → Handles old new (given ++ more) (done ++ (as_refused listed ++ []))
+      Handles-blocked blocked_unit counted =
           let units : filter_map unit_of (done ++ (as_refused listed ++ [])) ≡ filter_map unit_of done = units_then [] ∙ append-nil _ in
           record {
             dealing = dealing ∙ p.dealing;
             order =
-                in_order old.kept mid.kept given more done (as_refused listed ++ found.Unit unit ∷ []) p.order order
+                in_order old.blocked_unit mid.blocked_unit given more done (as_refused listed ++ found.Unit unit ∷ []) p.order order
                 ∙ ap (λ l. done ++ (l ++ found.Unit unit ∷ [])) (sym (append-nil (as_refused listed))) ∙ sym (append_assoc done (as_refused listed ++ []) (found.Unit unit ∷ []))
-                ∙ ap (λ o. (done ++ (as_refused listed ++ [])) ++ to_deal o []) (sym kept);
+                ∙ ap (λ o. (done ++ (as_refused listed ++ [])) ++ to_deal o []) (sym blocked_unit);
             refused = damage_then [] refl;
             counted = counted ∙ p.counted ∙ ap (λ l. min (old.dealt + length l) (2 ^ 64 - 1)) (sym units);
             listed = subst (AreListed new.peers) (sym units) listed_still;
             keys = λ before h.
-                keys_step (before ++ filter_map unit_of done) mid.kept more listed unit mid.peers new.peers n (p.keys before h) order number
-                ∙ ap (λ l. peers_of ((before ++ l) ++ unit ∷ [])) (sym units) ∙ ap (λ o. peers_of ((before ++ filter_map unit_of (done ++ (as_refused listed ++ []))) ++ option_to_list o)) (sym kept);
+                keys_step (before ++ filter_map unit_of done) mid.blocked_unit more listed unit mid.peers new.peers n (p.keys before h) order number
+                ∙ ap (λ l. peers_of ((before ++ l) ++ unit ∷ [])) (sym units) ∙ ap (λ o. peers_of ((before ++ filter_map unit_of (done ++ (as_refused listed ++ []))) ++ option_to_list o)) (sym blocked_unit);
           }
 
     -- no unit came
-    pub Handles-none : to_deal mid.kept more ≡ as_refused listed → new.kept ≡ None → new.dealt ≡ mid.dealt → new.peers ≡ mid.peers → Handles old new (given ++ more) (done ++ (as_refused listed ++ []))
+    pub Handles-none : to_deal mid.blocked_unit more ≡ as_refused listed → new.blocked_unit ≡ None → new.dealt ≡ mid.dealt → new.peers ≡ mid.peers → Handles old new (given ++ more) (done ++ (as_refused listed ++ []))
     Handles-none order none counted peers =
         let units : filter_map unit_of (done ++ (as_refused listed ++ [])) ≡ filter_map unit_of done = units_then [] ∙ append-nil _ in
-        let before_none : mid.kept ≡ None = none_kept mid.kept more listed order in
+        let before_none : mid.blocked_unit ≡ None = none_blocked mid.blocked_unit more listed order in
         let keys : new.peers ≡ mid.peers = peers in
         record {
           dealing = dealing ∙ p.dealing;
           order =
-              in_order old.kept mid.kept given more done (as_refused listed) p.order order ∙ ap (λ l. done ++ l) (sym (append-nil (as_refused listed)))
+              in_order old.blocked_unit mid.blocked_unit given more done (as_refused listed) p.order order ∙ ap (λ l. done ++ l) (sym (append-nil (as_refused listed)))
               ∙ sym (append-nil _) ∙ ap (λ o. (done ++ (as_refused listed ++ [])) ++ to_deal o []) (sym none);
           refused = damage_then [] refl;
           counted = counted ∙ p.counted ∙ ap (λ l. min (old.dealt + length l) (2 ^ 64 - 1)) (sym units);
           listed = subst (λ l. AreListed l (filter_map unit_of (done ++ (as_refused listed ++ [])))) (sym keys) (subst (AreListed mid.peers) (sym units) p.listed);
           keys = λ before h.
-              keys ∙ p.keys before h ∙ ap (λ l. peers_of ((before ++ l) ++ option_to_list mid.kept)) (sym units)
+              keys ∙ p.keys before h ∙ ap (λ l. peers_of ((before ++ l) ++ option_to_list mid.blocked_unit)) (sym units)
               ∙ ap (λ o. peers_of ((before ++ filter_map unit_of (done ++ (as_refused listed ++ []))) ++ option_to_list o)) (before_none ∙ sym none);
         }
 
     -- the items that were dealt are the same where no unit came
-    pub items_kept : new.peers ≡ mid.peers → numbered new.peers (filter_map unit_of (done ++ (as_refused listed ++ []))) ≡ numbered mid.peers (filter_map unit_of done)
-    items_kept peers = ap (numbered new.peers) (units_then [] ∙ append-nil _) ∙ ap (λ (l : List PeerKey). numbered l (filter_map unit_of done)) peers
+    pub items_kept : new.peers ≡ mid.peers → with_numbers new.peers (filter_map unit_of (done ++ (as_refused listed ++ []))) ≡ with_numbers mid.peers (filter_map unit_of done)
+    items_kept peers = ap (with_numbers new.peers) (units_then [] ∙ append-nil _) ∙ ap (λ (l : List PeerKey). with_numbers l (filter_map unit_of done)) peers
 
   module _ (old mid asked new : Dealer D) (u u₁ u₂ : UnitsState) (k k₁ k₂ : Known) (count : ℕ) (s : SoFar old mid u k u₁ k₁ count) where
     -- one unit more
@@ -317,31 +317,31 @@ module _ {D : Type 0} where
       listing : new.refused.items ≡ mid.refused.items ++ next.listed
       listing = ap (λ o. o.items) refused ∙ next.refused
 
-      pub SoFar-more : new.kept ≡ asked.kept → new.dealt ≡ min (asked.dealt + 1) (2 ^ 64 - 1) → SoFar old new u k u₂ k₂ (count + 1)
-      SoFar-more kept counted =
+      pub SoFar-more : new.blocked_unit ≡ asked.blocked_unit → new.dealt ≡ min (asked.dealt + 1) (2 ^ 64 - 1) → SoFar old new u k u₂ k₂ (count + 1)
+      SoFar-more blocked_unit counted =
           record {
             given = s.given ++ next.given;
             done = s.done ++ (as_refused next.listed ++ found.Unit unit ∷ []);
             takes = TakesUnits-more u u₁ u₂ k k₁ k₂ s.given next.given s.takes next.takes;
-            handles = Handles-dealt old mid new s.given s.done next.given next.listed s.handles listing (dealing ∙ next.asks.dealing) unit n next.order numbers (kept ∙ next.asks.kept) (counted ∙ ap (λ m. min (m + 1) (2 ^ 64 - 1)) next.asks.dealt);
+            handles = Handles-dealt old mid new s.given s.done next.given next.listed s.handles listing (dealing ∙ next.asks.dealing) unit n next.order numbers (blocked_unit ∙ next.asks.blocked_unit) (counted ∙ ap (λ m. min (m + 1) (2 ^ 64 - 1)) next.asks.dealt);
             count_is =
                 ap length (units_then old mid new s.given s.done next.given next.listed s.handles listing (dealing ∙ next.asks.dealing) (found.Unit unit ∷ []))
                 ∙ length-append (filter_map unit_of s.done) (unit ∷ []) ∙ ap (λ m. m + 1) s.count_is;
           }
 
       -- its items
-      pub items_more : (kept : new.kept ≡ asked.kept) (counted : new.dealt ≡ min (asked.dealt + 1) (2 ^ 64 - 1)) → dealt_so_far (SoFar-more kept counted) ≡ dealt_so_far s ++ record { number = n; unit = unit } ∷ []
+      pub items_more : (blocked_unit : new.blocked_unit ≡ asked.blocked_unit) (counted : new.dealt ≡ min (asked.dealt + 1) (2 ^ 64 - 1)) → dealt_so_far (SoFar-more blocked_unit counted) ≡ dealt_so_far s ++ record { number = n; unit = unit } ∷ []
       unfolding SoFar-more
-      items_more kept counted = items_then old mid new s.given s.done next.given next.listed s.handles listing (dealing ∙ next.asks.dealing) unit n next.order numbers
+      items_more blocked_unit counted = items_then old mid new s.given s.done next.given next.listed s.handles listing (dealing ∙ next.asks.dealing) unit n next.order numbers
 
       -- the unit came back
-      module _ (lane_of room room₁ : ℕ → ℕ) (batch lane : ℕ) (within : count ≤ batch) (back : ReplayUnit) (kept : new.kept ≡ Some back) (same : back ≡ unit) (counted : new.dealt ≡ asked.dealt) (at : lane_of n ≡ lane) (spent : room lane ≤ room₁ lane + length (in_lane lane_of lane (dealt_so_far s))) (full : room₁ lane ≡ 0) where
-        items_before : numbered new.peers (filter_map unit_of (s.done ++ (as_refused next.listed ++ []))) ≡ dealt_so_far s
+      module _ (lane_of room room₁ : ℕ → ℕ) (batch lane : ℕ) (within : count ≤ batch) (back : ReplayUnit) (blocked_unit : new.blocked_unit ≡ Some back) (same : back ≡ unit) (counted : new.dealt ≡ asked.dealt) (at : lane_of n ≡ lane) (spent : room lane ≤ room₁ lane + length (in_lane lane_of lane (dealt_so_far s))) (full : room₁ lane ≡ 0) where
+        items_before : with_numbers new.peers (filter_map unit_of (s.done ++ (as_refused next.listed ++ []))) ≡ dealt_so_far s
         items_before = items_still old mid new s.given s.done next.given next.listed s.handles listing (dealing ∙ next.asks.dealing) unit n next.order numbers
 
         pub Deals-blocked : Deals lane_of batch room old new u k u₂ k₂ (Ok Blocked)
         Deals-blocked =
-            let kept' : new.kept ≡ Some unit = kept ∙ ap (λ v. Some v) same in
+            let blocked' : new.blocked_unit ≡ Some unit = blocked_unit ∙ ap (λ v. Some v) same in
             let takes = TakesUnits-more u u₁ u₂ k k₁ k₂ s.given next.given s.takes next.takes in
             let units : filter_map unit_of (s.done ++ (as_refused next.listed ++ [])) ≡ filter_map unit_of s.done =
             units_then old mid new s.given s.done next.given next.listed s.handles listing (dealing ∙ next.asks.dealing) [] ∙ append-nil _ in
@@ -351,21 +351,21 @@ module _ {D : Type 0} where
               done = s.done ++ (as_refused next.listed ++ []);
               gives = front_from_takes u u₂ k k₂ (s.given ++ next.given) takes;
               takes = takes;
-              handles = Handles-blocked old mid new s.given s.done next.given next.listed s.handles listing (dealing ∙ next.asks.dealing) unit n next.order numbers kept' (counted ∙ next.asks.dealt);
+              handles = Handles-blocked old mid new s.given s.done next.given next.listed s.handles listing (dealing ∙ next.asks.dealing) unit n next.order numbers blocked' (counted ∙ next.asks.dealt);
               few = (let n = ap length units in let m = s.count_is in omega arith);
               stops =
                   record {
                     unit = unit;
-                    kept = kept';
+                    blocked_unit = blocked';
                     full =
-                        subst (λ m. room m ≤ length (in_lane lane_of m (numbered new.peers (filter_map unit_of (s.done ++ (as_refused next.listed ++ [])))))) (sym lane_is)
+                        subst (λ m. room m ≤ length (in_lane lane_of m (with_numbers new.peers (filter_map unit_of (s.done ++ (as_refused next.listed ++ [])))))) (sym lane_is)
                         (subst (λ l. room lane ≤ length (in_lane lane_of lane l)) (sym items_before) (omega (arith, spent, full)));
                   };
               nothing_kept = tt;
               behind = tt;
             }
 
-        pub items_blocked : numbered new.peers (filter_map unit_of Deals-blocked.done) ≡ dealt_so_far s
+        pub items_blocked : with_numbers new.peers (filter_map unit_of Deals-blocked.done) ≡ dealt_so_far s
         unfolding Deals-blocked
         items_blocked = items_before
 
@@ -385,14 +385,14 @@ module _ {D : Type 0} where
             done = s.done ++ (as_refused next.listed ++ []);
             gives = front_from_takes u u₂ k k₂ (s.given ++ next.given) takes;
             takes = takes;
-            handles = Handles-none old mid new s.given s.done next.given next.listed s.handles next.refused next.asks.dealing (next.order ∙ append-nil _) next.asks.kept next.asks.dealt next.asks.peers;
+            handles = Handles-none old mid new s.given s.done next.given next.listed s.handles next.refused next.asks.dealing (next.order ∙ append-nil _) next.asks.blocked_unit next.asks.dealt next.asks.peers;
             few = few_then within next.listed next.given next.refused next.asks.dealing;
-            stops = (next.asks.kept, all_more_given u u₁ k k₁ s.given next.given s.takes (next.ended refl));
+            stops = (next.asks.blocked_unit, all_more_given u u₁ k k₁ s.given next.given s.takes (next.ended refl));
             nothing_kept = tt;
             behind = tt;
           }
 
-      pub items_end : numbered new.peers (filter_map unit_of Deals-end.done) ≡ dealt_so_far s
+      pub items_end : with_numbers new.peers (filter_map unit_of Deals-end.done) ≡ dealt_so_far s
       unfolding Deals-end
       items_end = items_kept old mid new s.given s.done next.given next.listed s.handles next.refused next.asks.dealing next.asks.peers
 
@@ -405,14 +405,14 @@ module _ {D : Type 0} where
             done = s.done ++ (as_refused next.listed ++ []);
             gives = front_more u u₁ k k₁ s.given next.given s.takes next.gives;
             takes = tt;
-            handles = Handles-none old mid new s.given s.done next.given next.listed s.handles next.refused next.asks.dealing next.order next.asks.kept next.asks.dealt next.asks.peers;
+            handles = Handles-none old mid new s.given s.done next.given next.listed s.handles next.refused next.asks.dealing next.order next.asks.blocked_unit next.asks.dealt next.asks.peers;
             few = few_then within next.listed next.given next.refused next.asks.dealing;
             stops = tt;
-            nothing_kept = next.asks.kept;
+            nothing_kept = next.asks.blocked_unit;
             behind = behind_more u u₁ u₂ k k₁ k₂ s.given next.given s.takes next.behind;
           }
 
-      pub items_failed : numbered new.peers (filter_map unit_of Deals-failed.done) ≡ dealt_so_far s
+      pub items_failed : with_numbers new.peers (filter_map unit_of Deals-failed.done) ≡ dealt_so_far s
       unfolding Deals-failed
       items_failed = items_kept old mid new s.given s.done next.given next.listed s.handles next.refused next.asks.dealing next.asks.peers
 
@@ -439,17 +439,17 @@ module _ {D : Type 0} where
       stops : (r : Result Step ReplayError) → IfOk r (StopsDealing lane_of batch (λ _. most) new u k p.given (filter_map unit_of p.done)) → IfOk r (StopsDealing lane_of batch room new u k p.given (filter_map unit_of p.done))
       stops (Ok Blocked) h =
           let lane = lane_of (number_in new.peers h.unit.peer) in
-          let dealt = numbered new.peers (filter_map unit_of p.done) in
+          let dealt = with_numbers new.peers (filter_map unit_of p.done) in
           absurd (let f = h.full in let n = length-filter (λ item. eqb (lane_of item.number) lane) dealt in let c = count_by-le-length (λ item. eqb (lane_of item.number) lane) dealt in let m = length-map (filter_map unit_of p.done) (with_number new.peers) in let few = p.few in omega arith)
       stops (Ok FullBatch) h = h
       stops (Ok End) h = h
       stops (Err e) h = tt
 
   -- the same, told of what is received otherwise
-  pub DealsTo-as : {K L : Type 0} (gets : K → K → List Numbered → Type 0) (gets' : L → L → List Numbered → Type 0) (lane_of room : ℕ → ℕ) (batch : ℕ) (to to' : K) (s s' : L) (old new : Dealer D) (u u' : UnitsState) (k k' : Known) (result : Result Step ReplayError) → ((items : List Numbered) → gets to to' items → gets' s s' items) → DealsTo gets lane_of batch room to to' old new u k u' k' result → DealsTo gets' lane_of batch room s s' old new u k u' k' result
+  pub DealsTo-as : {K L : Type 0} (gets : K → K → List PeerUnit → Type 0) (gets' : L → L → List PeerUnit → Type 0) (lane_of room : ℕ → ℕ) (batch : ℕ) (to to' : K) (s s' : L) (old new : Dealer D) (u u' : UnitsState) (k k' : Known) (result : Result Step ReplayError) → ((items : List PeerUnit) → gets to to' items → gets' s s' items) → DealsTo gets lane_of batch room to to' old new u k u' k' result → DealsTo gets' lane_of batch room s s' old new u k u' k' result
   DealsTo-as gets gets' lane_of room batch to to' s s' old new u u' k k' result f p = record { deals = p.deals; received = f _ p.received }
 
-  module _ {K : Type 0} (gets : K → K → List Numbered → Type 0) where
+  module _ {K : Type 0} (gets : K → K → List PeerUnit → Type 0) where
     -- so far, with what was dealt received
     pub record SoFarTo (to to' : K) (old new : Dealer D) (u : UnitsState) (k : Known) (u' : UnitsState) (k' : Known) (count : ℕ) : Type 0 where
       pub far : SoFar old new u k u' k' count
@@ -459,24 +459,24 @@ module _ {D : Type 0} where
     unfolding SoFar-none
     SoFarTo-none to old u k bound nothing = record { far = SoFar-none old u k bound; received = nothing }
 
-    module _ (joined : (a b c : K) (xs ys : List Numbered) → gets a b xs → gets b c ys → gets a c (xs ++ ys)) (to to₁ to₂ : K) (old mid asked new : Dealer D) (u u₁ u₂ : UnitsState) (k k₁ k₂ : Known) (count : ℕ) (s : SoFarTo to to₁ old mid u k u₁ k₁ count) where
-      pub SoFarTo-more : (unit : ReplayUnit) (n : ℕ) → Next mid asked u₁ k₁ u₂ k₂ (Some unit) → NumbersPeer asked.peers new.peers unit.peer n → new.dealing ≡ asked.dealing → new.kept ≡ asked.kept → new.refused ≡ asked.refused → new.dealt ≡ min (asked.dealt + 1) (2 ^ 64 - 1)
+    module _ (joined : (a b c : K) (xs ys : List PeerUnit) → gets a b xs → gets b c ys → gets a c (xs ++ ys)) (to to₁ to₂ : K) (old mid asked new : Dealer D) (u u₁ u₂ : UnitsState) (k k₁ k₂ : Known) (count : ℕ) (s : SoFarTo to to₁ old mid u k u₁ k₁ count) where
+      pub SoFarTo-more : (unit : ReplayUnit) (n : ℕ) → Next mid asked u₁ k₁ u₂ k₂ (Some unit) → NumbersPeer asked.peers new.peers unit.peer n → new.dealing ≡ asked.dealing → new.blocked_unit ≡ asked.blocked_unit → new.refused ≡ asked.refused → new.dealt ≡ min (asked.dealt + 1) (2 ^ 64 - 1)
           → gets to₁ to₂ (record { number = n; unit = unit } ∷ []) → SoFarTo to to₂ old new u k u₂ k₂ (count + 1)
-      SoFarTo-more unit n next number dealing kept refused counted q =
+      SoFarTo-more unit n next number dealing blocked_unit refused counted q =
           record {
-            far = SoFar-more old mid asked new u u₁ u₂ k k₁ k₂ count s.far unit n next number dealing refused kept counted;
+            far = SoFar-more old mid asked new u u₁ u₂ k k₁ k₂ count s.far unit n next number dealing refused blocked_unit counted;
             received =
-                subst (gets to to₂) (sym (items_more old mid asked new u u₁ u₂ k k₁ k₂ count s.far unit n next number dealing refused kept counted))
+                subst (gets to to₂) (sym (items_more old mid asked new u u₁ u₂ k k₁ k₂ count s.far unit n next number dealing refused blocked_unit counted))
                 (joined to to₁ to₂ (dealt_so_far s.far) (record { number = n; unit = unit } ∷ []) s.received q);
           }
 
-      pub DealsTo-blocked : (lane_of room room₁ : ℕ → ℕ) (batch : ℕ) → count ≤ batch → (unit back : ReplayUnit) (n lane : ℕ) → Next mid asked u₁ k₁ u₂ k₂ (Some unit) → NumbersPeer asked.peers new.peers unit.peer n → new.dealing ≡ asked.dealing → new.kept ≡ Some back → back ≡ unit → new.refused ≡ asked.refused → new.dealt ≡ asked.dealt
+      pub DealsTo-blocked : (lane_of room room₁ : ℕ → ℕ) (batch : ℕ) → count ≤ batch → (unit back : ReplayUnit) (n lane : ℕ) → Next mid asked u₁ k₁ u₂ k₂ (Some unit) → NumbersPeer asked.peers new.peers unit.peer n → new.dealing ≡ asked.dealing → new.blocked_unit ≡ Some back → back ≡ unit → new.refused ≡ asked.refused → new.dealt ≡ asked.dealt
           → lane_of n ≡ lane → room lane ≤ room₁ lane + length (in_lane lane_of lane (dealt_so_far s.far)) → gets to₁ to₂ [] → room₁ lane ≡ 0 → DealsTo gets lane_of batch room to to₂ old new u k u₂ k₂ (Ok Blocked)
-      DealsTo-blocked lane_of room room₁ batch within unit back n lane next number dealing kept same refused counted at spent q full =
+      DealsTo-blocked lane_of room room₁ batch within unit back n lane next number dealing blocked_unit same refused counted at spent q full =
           record {
-            deals = Deals-blocked old mid asked new u u₁ u₂ k k₁ k₂ count s.far unit n next number dealing refused lane_of room room₁ batch lane within back kept same counted at spent full;
+            deals = Deals-blocked old mid asked new u u₁ u₂ k k₁ k₂ count s.far unit n next number dealing refused lane_of room room₁ batch lane within back blocked_unit same counted at spent full;
             received =
-                subst (gets to to₂) (sym (items_blocked old mid asked new u u₁ u₂ k k₁ k₂ count s.far unit n next number dealing refused lane_of room room₁ batch lane within back kept same counted at spent full))
+                subst (gets to to₂) (sym (items_blocked old mid asked new u u₁ u₂ k k₁ k₂ count s.far unit n next number dealing refused lane_of room room₁ batch lane within back blocked_unit same counted at spent full))
                 (subst (gets to to₂) (append-nil (dealt_so_far s.far)) (joined to to₁ to₂ (dealt_so_far s.far) [] s.received q));
           }
 

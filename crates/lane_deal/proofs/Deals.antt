@@ -3,11 +3,11 @@ use Rattle.std.proofs.Common.{◌≡◌, ℕ, zero, suc, ◌+◌, ◌<◌, ◌�
 use Rattle.std.proofs.lemmas.List.{append-nil}
 use Rattle.std.proofs.lemmas.List.Elements.{filter-append}
 use Rattle.lane_deal.specs.UnitRings.{known_free, sent}
-use Rattle.lane_deal.specs.Plain.{Numbered, Feed}
-use Rattle.lane_deal.specs.Feeds.{Pushed, Dealt, in_lane, room_of}
+use Rattle.lane_deal.specs.Plain.{PeerUnit, LaneSender}
+use Rattle.lane_deal.specs.LaneSenders.{Pushed, Dealt, in_lane, room_of}
 use Rattle.lane_deal.proofs.Batches.{some_item}
 
-pub Pushed-append : (a b c : Feed) (xs ys : List Numbered) → Pushed a b xs → Pushed b c ys → Pushed a c (xs ++ ys)
+pub Pushed-append : (a b c : LaneSender) (xs ys : List PeerUnit) → Pushed a b xs → Pushed b c ys → Pushed a c (xs ++ ys)
 Pushed-append a b c xs ys p q =
     record {
       ring = ((q.ring.0.0 ∙ p.ring.0.0, q.ring.0.1 ∙ p.ring.0.1, q.ring.0.2 ∙ p.ring.0.2, q.ring.0.3 ∙ p.ring.0.3), q.ring.1 ∙ p.ring.1);
@@ -16,22 +16,22 @@ Pushed-append a b c xs ys p q =
     }
 
 -- the room of a lane is that of its ring
-pub room_at : (feeds : List Feed) (lane : ℕ) (d : Feed) → lane < length feeds → room_of feeds lane ≡ known_free (slice_index_or feeds lane d).producer
+pub room_at : (senders : List LaneSender) (lane : ℕ) (d : LaneSender) → lane < length senders → room_of senders lane ≡ known_free (slice_index_or senders lane d).producer
 room_at [] lane d l = absurd (omega arith)
-room_at (feed ∷ feeds) zero d l = refl
-room_at (feed ∷ feeds) (suc lane) d l = room_at feeds lane d (omega arith)
+room_at (sender ∷ senders) zero d l = refl
+room_at (sender ∷ senders) (suc lane) d l = room_at senders lane d (omega arith)
 
 -- a lane that is set has the room of its ring
-pub room_set : (feeds : List Feed) (lane : ℕ) (feed : Feed) → lane < length feeds → room_of (set feeds lane feed) lane ≡ known_free feed.producer
-room_set [] lane feed l = absurd (omega arith)
-room_set (first ∷ feeds) zero feed l = refl
-room_set (first ∷ feeds) (suc lane) feed l = room_set feeds lane feed (omega arith)
+pub room_set : (senders : List LaneSender) (lane : ℕ) (sender : LaneSender) → lane < length senders → room_of (set senders lane sender) lane ≡ known_free sender.producer
+room_set [] lane sender l = absurd (omega arith)
+room_set (first ∷ senders) zero sender l = refl
+room_set (first ∷ senders) (suc lane) sender l = room_set senders lane sender (omega arith)
 
 module _ (lane_of : ℕ → ℕ) where
-  pub in_lane-append : (lane : ℕ) (xs ys : List Numbered) → in_lane lane_of lane (xs ++ ys) ≡ in_lane lane_of lane xs ++ in_lane lane_of lane ys
+  pub in_lane-append : (lane : ℕ) (xs ys : List PeerUnit) → in_lane lane_of lane (xs ++ ys) ≡ in_lane lane_of lane xs ++ in_lane lane_of lane ys
   in_lane-append lane xs ys = filter-append _ xs ys
 
-  pub Dealt-append : (a b c : List Feed) (xs ys : List Numbered) → Dealt lane_of a b xs → Dealt lane_of b c ys → Dealt lane_of a c (xs ++ ys)
+  pub Dealt-append : (a b c : List LaneSender) (xs ys : List PeerUnit) → Dealt lane_of a b xs → Dealt lane_of b c ys → Dealt lane_of a c (xs ++ ys)
   Dealt-append a b c xs ys p q =
       record {
         lanes = q.lanes ∙ p.lanes;
@@ -41,11 +41,11 @@ module _ (lane_of : ℕ → ℕ) where
             rw (in_lane-append lane xs ys) (Pushed-append _ _ _ _ _ (p.each lane d l) (q.each lane d l'));
       }
 
-  pub Dealt-none : (a : List Feed) → Dealt lane_of a a []
+  pub Dealt-none : (a : List LaneSender) → Dealt lane_of a a []
   Dealt-none a = record { lanes = refl; each = λ lane d l. record { ring = ((refl, refl, refl, refl), refl); sent = sym (append-nil _); free = omega arith } }
 
   -- what was received took no more room than it counts
-  pub Dealt-room : (a b : List Feed) (xs : List Numbered) (lane : ℕ) → lane < length a → Dealt lane_of a b xs → room_of a lane ≤ room_of b lane + length (in_lane lane_of lane xs)
+  pub Dealt-room : (a b : List LaneSender) (xs : List PeerUnit) (lane : ℕ) → lane < length a → Dealt lane_of a b xs → room_of a lane ≤ room_of b lane + length (in_lane lane_of lane xs)
   Dealt-room a b xs lane l p =
       let d = some_item a lane l in
       let free = (p.each lane d l).free in

@@ -14,7 +14,7 @@ use Rattle.mrt_body.specs.HeldBytes.{BytesMeet, payload_of_held}
 use Rattle.mrt_body.specs.Units.{payload_bytes}
 use Rattle.mrt_body.specs.Plain.{Payload}
 use Rattle.lane_deal.specs.declared.listed_unit.ListedRecord.{ListedRecord}
-use Rattle.lane_deal.specs.Plain.{ListedUnit, UnitList, Numbered}
+use Rattle.lane_deal.specs.Plain.{ListedUnit, UnitList, PeerUnit}
 use Rattle.lane_deal.specs.declared.listed_unit.NumberedPeer.{NumberedPeer}
 use Rattle.lane_deal.specs.ListedUnits.{AreKept, IsListed, IsListedAt, SOME_RECORD, SOME_PEER, unit_in, unit_with}
 use Rattle.lane_deal.specs.UnitLists.{units_of}
@@ -39,7 +39,7 @@ listed_last xs x = let n = length-append xs (x ∷ []) in (omega (arith, n), λ 
 -- ---- units
 
 -- the unit at an index
-pub unit_at : (list : UnitList) (at : ℕ) (u : ListedUnit) (d : Numbered) → at < length (units_of list) → u ≡ slice_index_or list.listed.items at u
+pub unit_at : (list : UnitList) (at : ℕ) (u : ListedUnit) (d : PeerUnit) → at < length (units_of list) → u ≡ slice_index_or list.listed.items at u
     → slice_index_or (units_of list) at d ≡ unit_in list.records.items list.peers.items list.bytes.items u
 unit_at list at u d within is =
     let shown = unit_in list.records.items list.peers.items list.bytes.items in

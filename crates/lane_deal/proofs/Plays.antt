@@ -17,7 +17,7 @@ use Rattle.bgp_prefix.specs.declared.family.Family.{Ghosts as AddressGhosts}
 use Rattle.bgp_prefix.specs.declared.map.PrefixMap.{Ghosts}
 use Rattle.adj_rib.specs.declared.routes.RouteId.{RouteId}
 use Rattle.lane_deal.specs.Dealers.{Dealer}
-use Rattle.lane_deal.specs.Plain.{Feed, Worker}
+use Rattle.lane_deal.specs.Plain.{LaneSender, Worker}
 use Rattle.lane_deal.specs.declared.plan.Plan.{Plan}
 use Rattle.lane_deal.specs.declared.seats.Seats.{Seats}
 use Rattle.lane_deal.specs.declared.state.State.{State}
@@ -25,15 +25,15 @@ use Rattle.lane_deal.specs.declared.state.State.TheVariants.{Spent}
 use Rattle.lane_deal.specs.declared.step.Step.{Step}
 use Rattle.lane_deal.specs.declared.step.Step.TheVariants.{Blocked, FullBatch, End}
 use Rattle.lane_deal.specs.Asking.{GivesAll}
-use Rattle.lane_deal.specs.Answers.{IfAnswered, StateAfter, is_spent, state_of_step, state_of_error}
+use Rattle.lane_deal.specs.Results.{IfAnswered, StateAfter, is_spent, state_of_step, state_of_error}
 use Rattle.lane_deal.specs.DealerSteps.{StopsDealing}
-use Rattle.lane_deal.specs.Feeds.{in_lane, room_of}
-use Rattle.lane_deal.specs.Kept.{to_deal}
+use Rattle.lane_deal.specs.LaneSenders.{in_lane, room_of}
+use Rattle.lane_deal.specs.ToDeal.{to_deal}
 use Rattle.lane_deal.specs.LaneRings.{AreReady, LanesStand, AreFresh, Settled}
 use Rattle.lane_deal.specs.LaneRounds.{PlaysLanes}
 use Rattle.lane_deal.specs.Lanes.{lane_units}
 use Rattle.peer_tables.specs.Numbers.{number_in}
-use Rattle.lane_deal.specs.Numbers.{with_number, numbered}
+use Rattle.lane_deal.specs.Numbers.{with_number, with_numbers}
 use Rattle.lane_deal.specs.Playing.{PlaysOn, IsLeft}
 use Rattle.lane_deal.specs.Replayers.{LaneState, ReplayerState, LaneStandsFor, ReplayerStandsFor, StandsForSome}
 use Rattle.std.proofs.Math.Logic.{∥∥₁_map}
@@ -65,9 +65,9 @@ answered (Err Memory) s h ne p = absurd (ne h)
 answered (Err Records) s h ne p = absurd (ne h)
 answered (Err SpentBefore) s h ne p = absurd (ne h)
 
-pub ready_same : {S : Type 0} (capacity : ℕ) (fs fs' : List Feed) (ws ws' : List (Worker S)) → fs ≡ fs' → ws ≡ ws' → AreReady capacity fs' ws' → AreReady capacity fs ws
+pub ready_same : {S : Type 0} (capacity : ℕ) (fs fs' : List LaneSender) (ws ws' : List (Worker S)) → fs ≡ fs' → ws ≡ ws' → AreReady capacity fs' ws' → AreReady capacity fs ws
 ready_same {S} capacity fs fs' ws ws' e f h =
-    let P : List Feed → Type 0 = λ xs. AreReady capacity xs ws in
+    let P : List LaneSender → Type 0 = λ xs. AreReady capacity xs ws in
     let Q : List (Worker S) → Type 0 = λ xs. AreReady capacity fs' xs in
     subst P (sym e) (subst Q (sym f) h)
 
@@ -77,12 +77,12 @@ no_more given left e = nil_from_length left (let n = ap length e in omega (arith
 -- ---- fresh lanes
 
 module _ {M A : Type 0} {g : Ghosts M RouteId A} {a : AddressGhosts A} where
-  pub ready_fresh : (capacity workers : ℕ) (fs : List Feed) (ws : List (Worker (Seats M A g a))) → AreFresh SeatsHold capacity workers fs ws → AreReady capacity fs ws
-  ready_fresh capacity workers fs ws h = (h.workers_count ∙ sym h.feeds_count, λ lane x y l. (h.each lane x y (let c = h.feeds_count in omega arith)).ready)
+  pub ready_fresh : (capacity workers : ℕ) (fs : List LaneSender) (ws : List (Worker (Seats M A g a))) → AreFresh SeatsHold capacity workers fs ws → AreReady capacity fs ws
+  ready_fresh capacity workers fs ws h = (h.workers_count ∙ sym h.senders_count, λ lane x y l. (h.each lane x y (let c = h.senders_count in omega arith)).ready)
 
-  pub settled_fresh : (capacity workers : ℕ) (fs : List Feed) (ws : List (Worker (Seats M A g a))) → AreFresh SeatsHold capacity workers fs ws → (lane : ℕ) (state : LaneState) → slice_get (lane_states fs ws) lane ≡ Some state → state.ring.sent ≡ []
+  pub settled_fresh : (capacity workers : ℕ) (fs : List LaneSender) (ws : List (Worker (Seats M A g a))) → AreFresh SeatsHold capacity workers fs ws → (lane : ℕ) (state : LaneState) → slice_get (lane_states fs ws) lane ≡ Some state → state.ring.sent ≡ []
   settled_fresh capacity workers fs ws h lane state e =
-      let at = lane_at fs ws lane state e in ap (λ x. x.ring.sent) at.state_is ∙ (h.each lane at.feed at.worker (let l = at.within in let c = h.feeds_count in omega arith)).empty
+      let at = lane_at fs ws lane state e in ap (λ x. x.ring.sent) at.state_is ∙ (h.each lane at.sender at.worker (let l = at.within in let c = h.senders_count in omega arith)).empty
 
 -- ---- a settling keeps that some units and refusals are stood for
 
@@ -92,7 +92,7 @@ some_settled dealing capacity old new s some = ∥∥₁_map some (λ h. record 
 -- ---- a round
 
 module _ {M A D : Type 0} {g : Ghosts M RouteId A} {a : AddressGhosts A} where
-  module _ (dealing : ℕ → ℕ → ℕ) (capacity : ℕ) (fs : List Feed) (ws : List (Worker (Seats M A g a))) (d : Dealer D) (spent : Bool) (ready : AreReady capacity fs ws) where
+  module _ (dealing : ℕ → ℕ → ℕ) (capacity : ℕ) (fs : List LaneSender) (ws : List (Worker (Seats M A g a))) (d : Dealer D) (spent : Bool) (ready : AreReady capacity fs ws) where
     abbrev lane_of : ℕ → ℕ
     lane_of n = dealing n (length fs)
 
@@ -102,26 +102,26 @@ module _ {M A D : Type 0} {g : Ghosts M RouteId A} {a : AddressGhosts A} where
     -- the lanes stand for the units that the replayer stands for
     pub lanes_before : (units : List ReplayUnit) (refused : List Damage) → ReplayerStandsFor dealing capacity units refused (state_at d fs ws spent) → LanesStand SeatsHold lane_of fs ws (dealt_items units)
     lanes_before units refused h lane x y l =
-        stands_in lane_of units (option_to_list d.kept) lane capacity (get_or fs lane x) (get_or ws lane y)
-        (subst (λ n. LaneStandsFor capacity (units ++ option_to_list d.kept) (lane_units (λ m. dealing m n) units lane) (lane_state (get_or fs lane x) (get_or ws lane y))) count
+        stands_in lane_of units (option_to_list d.blocked_unit) lane capacity (get_or fs lane x) (get_or ws lane y)
+        (subst (λ n. LaneStandsFor capacity (units ++ option_to_list d.blocked_unit) (lane_units (λ m. dealing m n) units lane) (lane_state (get_or fs lane x) (get_or ws lane y))) count
         (h.lanes lane (lane_state (get_or fs lane x) (get_or ws lane y)) (lane_states-at fs ws lane x y ready.0 l)))
 
     -- and the other way round
     pub lanes_after : (units : List ReplayUnit) → LanesStand SeatsHold lane_of fs ws (dealt_items units) → (lane : ℕ) (state : LaneState) → slice_get (lane_states fs ws) lane ≡ Some state
-        → LaneStandsFor capacity (units ++ option_to_list d.kept) (lane_units (λ m. dealing m (length (lane_states fs ws))) units lane) state
+        → LaneStandsFor capacity (units ++ option_to_list d.blocked_unit) (lane_units (λ m. dealing m (length (lane_states fs ws))) units lane) state
     lanes_after units h lane state e =
         let at = lane_at fs ws lane state e in
-        subst (λ n. LaneStandsFor capacity (units ++ option_to_list d.kept) (lane_units (λ m. dealing m n) units lane) state) (sym count)
-        (subst (LaneStandsFor capacity (units ++ option_to_list d.kept) (lane_units lane_of units lane)) (sym at.state_is)
-        (stands_out lane_of units (option_to_list d.kept) lane capacity (get_or fs lane at.feed) (get_or ws lane at.worker) (ready.1 lane at.feed at.worker at.within) (h lane at.feed at.worker at.within)))
+        subst (λ n. LaneStandsFor capacity (units ++ option_to_list d.blocked_unit) (lane_units (λ m. dealing m n) units lane) state) (sym count)
+        (subst (LaneStandsFor capacity (units ++ option_to_list d.blocked_unit) (lane_units lane_of units lane)) (sym at.state_is)
+        (stands_out lane_of units (option_to_list d.blocked_unit) lane capacity (get_or fs lane at.sender) (get_or ws lane at.worker) (ready.1 lane at.sender at.worker at.within) (h lane at.sender at.worker at.within)))
 
-    share_is : (n : ℕ) → n ≡ length fs → (lane : ℕ) (units : List ReplayUnit) → length (in_lane lane_of lane (numbered d.peers units)) ≡ count_by (λ u. eqb (dealing (number_in d.peers u.peer) n) lane) units
+    share_is : (n : ℕ) → n ≡ length fs → (lane : ℕ) (units : List ReplayUnit) → length (in_lane lane_of lane (with_numbers d.peers units)) ≡ count_by (λ u. eqb (dealing (number_in d.peers u.peer) n) lane) units
     share_is n e lane units =
         ap length (filter_mapped (λ item. eqb (lane_of item.number) lane) (with_number d.peers) units) ∙ length-map (filter (λ u. eqb (lane_of (number_in d.peers u.peer)) lane) units) (with_number d.peers)
         ∙ length-filter (λ u. eqb (lane_of (number_in d.peers u.peer)) lane) units
         ∙ ap (λ m. count_by (λ u. eqb (dealing (number_in d.peers u.peer) m) lane) units) (sym e)
 
-  module _ (dealing : ℕ → ℕ → ℕ) (plan : Plan) (fs fs' : List Feed) (ws ws' : List (Worker (Seats M A g a))) (old new : Dealer D) (spent spent' : Bool) (u u' : UnitsState) (k k' : List (Option (List ℕ))) (result : Result Step ReplayError) (ready : AreReady plan.ring fs ws) (below : (n : ℕ) → dealing n (length fs) < length fs) (unspent : spent' ≡ false) (p : PlaysLanes SeatsHold (λ n. dealing n (length fs)) plan.ring plan.batch fs ws fs' ws' old new u k u' k' result) where
+  module _ (dealing : ℕ → ℕ → ℕ) (plan : Plan) (fs fs' : List LaneSender) (ws ws' : List (Worker (Seats M A g a))) (old new : Dealer D) (spent spent' : Bool) (u u' : UnitsState) (k k' : List (Option (List ℕ))) (result : Result Step ReplayError) (ready : AreReady plan.ring fs ws) (below : (n : ℕ) → dealing n (length fs) < length fs) (unspent : spent' ≡ false) (p : PlaysLanes SeatsHold (λ n. dealing n (length fs)) plan.ring plan.batch fs ws fs' ws' old new u k u' k' result) where
     abbrev before : ReplayerState
     before = state_at old fs ws spent
 
@@ -138,7 +138,7 @@ module _ {M A D : Type 0} {g : Ghosts M RouteId A} {a : AddressGhosts A} where
     stands_then units refused h =
         let keys = p.deals.handles.keys units h.peers in
         let lanes = p.rounded.stands (dealt_items units) (lanes_before dealing plan.ring fs ws old spent ready units refused h) in
-        let all = subst (LanesStand SeatsHold (λ n. dealing n (length fs)) fs' ws') (dealt_items-append units dealt (option_to_list new.kept) new.peers keys) lanes in
+        let all = subst (LanesStand SeatsHold (λ n. dealing n (length fs)) fs' ws') (dealt_items-append units dealt (option_to_list new.blocked_unit) new.peers keys) lanes in
         record {
           unspent = unspent;
           lanes = lanes_after dealing plan.ring fs' ws' new spent' p.rounded.ready (units ++ dealt) (subst (λ n. LanesStand SeatsHold (λ m. dealing m n) fs' ws' (dealt_items (units ++ dealt))) (sym p.rounded.count) all);
@@ -150,14 +150,14 @@ module _ {M A D : Type 0} {g : Ghosts M RouteId A} {a : AddressGhosts A} where
 
     plays_then : (left : List Found) → PlaysRound dealing plan.ring plan.batch before after (p.deals.given ++ left) left p.deals.done
     plays_then left = record {
-      order = in_order old.kept new.kept p.deals.given left p.deals.done (to_deal new.kept left) p.deals.handles.order refl;
+      order = in_order old.blocked_unit new.blocked_unit p.deals.given left p.deals.done (to_deal new.blocked_unit left) p.deals.handles.order refl;
       few = p.deals.few;
       lanes = lanes_now ∙ sym (length-lane_states fs ws ready.0);
       stands = stands_then;
       taken = λ lane state e.
           let at = lane_at fs' ws' lane state e in
           let within : lane < length fs = (let l = at.within in let n = p.rounded.count in omega arith) in
-          let few = p.rounded.taken at.worker lane at.feed within in
+          let few = p.rounded.taken at.worker lane at.sender within in
           let share = share_is dealing plan.ring fs ws new spent ready (length (lane_states fs' ws')) lanes_now lane dealt in
           let is = ap (λ s. length s.ring.sent) at.state_is in omega (arith, few, share, is);
     }
@@ -176,10 +176,10 @@ module _ {M A D : Type 0} {g : Ghosts M RouteId A} {a : AddressGhosts A} where
         let full = h.full in
         let own = room_at fs lane f within in
         let share = share_is dealing plan.ring fs ws new spent ready n lanes_now lane dealt in
-        subst (λ l. (unit : ReplayUnit) × (s : LaneState) × (new.kept ≡ Some unit) × (slice_get (lane_states fs ws) (lane_in dealing after unit) ≡ Some s) × (plan.ring ≤ length s.ring.sent + share_of dealing after (lane_in dealing after unit) dealt)) {x = lane} {y = lane} refl (
+        subst (λ l. (unit : ReplayUnit) × (s : LaneState) × (new.blocked_unit ≡ Some unit) × (slice_get (lane_states fs ws) (lane_in dealing after unit) ≡ Some s) × (plan.ring ≤ length s.ring.sent + share_of dealing after (lane_in dealing after unit) dealt)) {x = lane} {y = lane} refl (
           h.unit,
           state,
-          h.kept,
+          h.blocked_unit,
           ap (slice_get (lane_states fs ws)) same ∙ lane_states-at fs ws lane f w ready.0 within,
           subst (λ l. plan.ring ≤ length state.ring.sent + share_of dealing after l dealt) (sym same) (omega (arith, room, full, own, share)),
         )
@@ -191,7 +191,7 @@ module _ {M A D : Type 0} {g : Ghosts M RouteId A} {a : AddressGhosts A} where
     stops_all (Ok step) h = stops_then step h
     stops_all (Err e) h = tt
 
-    ended_then : (r : Result Step ReplayError) → IfOk r (StopsDealing (λ n. dealing n (length fs)) plan.batch (room_of fs) new u k p.deals.given dealt) → r ≡ Ok End → (new.kept ≡ None) × GivesAll u k p.deals.given
+    ended_then : (r : Result Step ReplayError) → IfOk r (StopsDealing (λ n. dealing n (length fs)) plan.batch (room_of fs) new u k p.deals.given dealt) → r ≡ Ok End → (new.blocked_unit ≡ None) × GivesAll u k p.deals.given
     ended_then (Ok Blocked) h e = absurd (cc)
     ended_then (Ok FullBatch) h e = absurd (cc)
     ended_then (Ok End) h e = h
@@ -211,7 +211,7 @@ module _ {M A D : Type 0} {g : Ghosts M RouteId A} {a : AddressGhosts A} where
     }
 
   -- the same, where the lists are told by what they equal
-  pub PlaysOn-of : (dealing : ℕ → ℕ → ℕ) (plan : Plan) (batch : ℕ) (fs fs' fs₂ : List Feed) (ws ws' ws₂ : List (Worker (Seats M A g a))) (old new : Dealer D) (spent spent' : Bool) (u u' : UnitsState) (k k' : List (Option (List ℕ))) (result : Result Step ReplayError)
+  pub PlaysOn-of : (dealing : ℕ → ℕ → ℕ) (plan : Plan) (batch : ℕ) (fs fs' fs₂ : List LaneSender) (ws ws' ws₂ : List (Worker (Seats M A g a))) (old new : Dealer D) (spent spent' : Bool) (u u' : UnitsState) (k k' : List (Option (List ℕ))) (result : Result Step ReplayError)
       → AreReady plan.ring fs ws → ((n : ℕ) → dealing n (length fs) < length fs) → fs₂ ≡ fs' → ws₂ ≡ ws' → batch ≡ plan.batch → spent' ≡ false
       → PlaysLanes SeatsHold (λ n. dealing n (length fs)) plan.ring batch fs ws fs' ws' old new u k u' k' result → PlaysOn dealing plan (state_at old fs ws spent) (state_at new fs₂ ws₂ spent') u k u' k' result
   PlaysOn-of dealing plan batch fs fs' fs₂ ws ws' ws₂ old new spent spent' u u' k k' result ready below e f b unspent p =
@@ -221,7 +221,7 @@ module _ {M A D : Type 0} {g : Ghosts M RouteId A} {a : AddressGhosts A} where
       (subst (λ n. PlaysLanes SeatsHold (λ m. dealing m (length fs)) plan.ring n fs ws fs' ws' old new u k u' k' result) b p)))
 
   -- it still stands for some units and refusals
-  pub some_after : (law : D → ℕ → ℕ → ℕ) (plan : Plan) (batch : ℕ) (fs fs' fs₂ : List Feed) (ws ws' ws₂ : List (Worker (Seats M A g a))) (old new : Dealer D) (u u' : UnitsState) (k k' : List (Option (List ℕ))) (result : Result Step ReplayError)
+  pub some_after : (law : D → ℕ → ℕ → ℕ) (plan : Plan) (batch : ℕ) (fs fs' fs₂ : List LaneSender) (ws ws' ws₂ : List (Worker (Seats M A g a))) (old new : Dealer D) (u u' : UnitsState) (k k' : List (Option (List ℕ))) (result : Result Step ReplayError)
       → AreReady plan.ring fs ws → ((n : ℕ) → law old.dealing n (length fs) < length fs) → fs₂ ≡ fs' → ws₂ ≡ ws' → batch ≡ plan.batch
       → PlaysLanes SeatsHold (λ n. law old.dealing n (length fs)) plan.ring batch fs ws fs' ws' old new u k u' k' result
       → ∥ StandsForSome (law old.dealing) plan.ring (state_at old fs ws false) ∥₁ → ∥ StandsForSome (law new.dealing) plan.ring (state_at new fs₂ ws₂ false) ∥₁
@@ -235,15 +235,15 @@ module _ {M A D : Type 0} {g : Ghosts M RouteId A} {a : AddressGhosts A} where
 
   -- ---- a settling
 
-  pub Settles-of : (dealing : ℕ → ℕ → ℕ) (capacity : ℕ) (fs fs' fs₂ : List Feed) (ws ws' ws₂ : List (Worker (Seats M A g a))) (d : Dealer D) (spent : Bool) → AreReady capacity fs ws → fs₂ ≡ fs' → ws₂ ≡ ws'
+  pub Settles-of : (dealing : ℕ → ℕ → ℕ) (capacity : ℕ) (fs fs' fs₂ : List LaneSender) (ws ws' ws₂ : List (Worker (Seats M A g a))) (d : Dealer D) (spent : Bool) → AreReady capacity fs ws → fs₂ ≡ fs' → ws₂ ≡ ws'
       → Settled SeatsHold capacity fs ws fs' ws' → Settles dealing capacity (state_at d fs ws spent) (state_at d fs₂ ws₂ spent)
   Settles-of dealing capacity fs fs' fs₂ ws ws' ws₂ d spent ready e f s =
       let settled : Settles dealing capacity (state_at d fs ws spent) (state_at d fs' ws' spent) = record {
         settled = λ lane state is.
             let at = lane_at fs' ws' lane state is in
             let within : lane < length fs = (let l = at.within in let n = s.count in omega arith) in
-            ap (λ x. x.ring.sent) at.state_is ∙ s.empty at.worker lane at.feed within;
-        kept = refl;
+            ap (λ x. x.ring.sent) at.state_is ∙ s.empty at.worker lane at.sender within;
+        blocked_unit = refl;
         stands = λ units refused h. record {
           unspent = h.unspent;
           lanes = lanes_after dealing capacity fs' ws' d spent s.ready units
@@ -259,30 +259,30 @@ module _ {M A D : Type 0} {g : Ghosts M RouteId A} {a : AddressGhosts A} where
 
   -- ---- a new replayer
 
-  pub stands_fresh : (dealing : ℕ → ℕ → ℕ) (capacity count : ℕ) → 0 < count → (fs : List Feed) (ws : List (Worker (Seats M A g a))) (d : Dealer D) → AreFresh SeatsHold capacity count fs ws → d.peers ≡ [] → d.kept ≡ None → d.refused.items ≡ [] → d.dealt ≡ 0
+  pub stands_fresh : (dealing : ℕ → ℕ → ℕ) (capacity count : ℕ) → 0 < count → (fs : List LaneSender) (ws : List (Worker (Seats M A g a))) (d : Dealer D) → AreFresh SeatsHold capacity count fs ws → d.peers ≡ [] → d.blocked_unit ≡ None → d.refused.items ≡ [] → d.dealt ≡ 0
       → ReplayerStandsFor dealing capacity [] [] (state_at d fs ws false)
   unfolding peers_of
-  stands_fresh dealing capacity count some fs ws d h keys kept refused counted =
+  stands_fresh dealing capacity count some fs ws d h keys blocked_unit refused counted =
       record {
         unspent = refl;
         lanes = lanes_after dealing capacity fs ws d false (ready_fresh capacity count fs ws h) [] (λ lane x y l.
-            let fresh = h.each lane x y (let c = h.feeds_count in omega arith) in record { taken = []; sessions = fresh.sessions; whole = fresh.empty; counted = fresh.untaken });
-        peers = keys ∙ ap (λ o. peers_of (option_to_list o)) (sym kept);
+            let fresh = h.each lane x y (let c = h.senders_count in omega arith) in record { taken = []; sessions = fresh.sessions; whole = fresh.empty; counted = fresh.untaken });
+        peers = keys ∙ ap (λ o. peers_of (option_to_list o)) (sym blocked_unit);
         refused_kept = refused;
-        some_lanes = (let n = length-lane_states fs ws (ready_fresh capacity count fs ws h).0 in let k = h.feeds_count in omega arith);
+        some_lanes = (let n = length-lane_states fs ws (ready_fresh capacity count fs ws h).0 in let k = h.senders_count in omega arith);
         dealt_counted = counted;
       }
 
 -- ---- what waits
 
-module _ {M A : Type 0} {g : Ghosts M RouteId A} {a : AddressGhosts A} (capacity : ℕ) (fs : List Feed) (ws : List (Worker (Seats M A g a))) (ready : AreReady capacity fs ws) where
+module _ {M A : Type 0} {g : Ghosts M RouteId A} {a : AddressGhosts A} (capacity : ℕ) (fs : List LaneSender) (ws : List (Worker (Seats M A g a))) (ready : AreReady capacity fs ws) where
   -- the dealer knows how many units wait
-  pub waits_at : (lane : ℕ) (state : LaneState) → slice_get (lane_states fs ws) lane ≡ Some state → (d : Feed) (n : ℕ) → n + known_free (get_or fs lane d).producer ≡ ring_capacity (get_or fs lane d).producer → n ≡ length state.ring.sent
+  pub waits_at : (lane : ℕ) (state : LaneState) → slice_get (lane_states fs ws) lane ≡ Some state → (d : LaneSender) (n : ℕ) → n + known_free (get_or fs lane d).producer ≡ ring_capacity (get_or fs lane d).producer → n ≡ length state.ring.sent
   waits_at lane state is d n count =
       let at = lane_at fs ws lane state is in
-      let same : get_or fs lane d ≡ get_or fs lane at.feed = get_or_default fs lane d at.feed at.within in
+      let same : get_or fs lane d ≡ get_or fs lane at.sender = get_or_default fs lane d at.sender at.within in
       let counted = subst (λ f. n + known_free f.producer ≡ ring_capacity f.producer) same count in
-      let r = ready.1 lane at.feed at.worker at.within in
+      let r = ready.1 lane at.sender at.worker at.within in
       (let a = r.1 in let b = r.5 in omega arith) ∙ ap length (sym (ap (λ s. s.ring.sent) at.state_is))
 
   pub took_at : (lane : ℕ) (state : LaneState) → slice_get (lane_states fs ws) lane ≡ Some state → (e : Worker (Seats M A g a)) → (get_or ws lane e).taken ≡ state.took
@@ -291,14 +291,14 @@ module _ {M A : Type 0} {g : Ghosts M RouteId A} {a : AddressGhosts A} (capacity
       let same : get_or ws lane e ≡ get_or ws lane at.worker = get_or_default ws lane e at.worker (let l = at.within in let c = ready.0 in omega arith) in
       ap (λ w. w.taken) same ∙ sym (ap (λ s. s.took) at.state_is)
 
-  pub all_free : ((lane : ℕ) (state : LaneState) → slice_get (lane_states fs ws) lane ≡ Some state → state.ring.sent ≡ []) → (lane : ℕ) (d : Feed) (n : ℕ) → lane < length fs → n + known_free (get_or fs lane d).producer ≡ ring_capacity (get_or fs lane d).producer → n ≡ 0
+  pub all_free : ((lane : ℕ) (state : LaneState) → slice_get (lane_states fs ws) lane ≡ Some state → state.ring.sent ≡ []) → (lane : ℕ) (d : LaneSender) (n : ℕ) → lane < length fs → n + known_free (get_or fs lane d).producer ≡ ring_capacity (get_or fs lane d).producer → n ≡ 0
   all_free settled lane d n l count =
       let w = some_item ws lane (let c = ready.0 in omega arith) in
       let is = lane_states-at fs ws lane d w ready.0 l in
       waits_at lane (lane_state (get_or fs lane d) (get_or ws lane w)) is d n count ∙ ap length (settled lane (lane_state (get_or fs lane d) (get_or ws lane w)) is)
 
-  pub settled_free : ((lane : ℕ) (d : Feed) → lane < length fs → known_free (get_or fs lane d).producer ≡ ring_capacity (get_or fs lane d).producer) → (lane : ℕ) (state : LaneState) → slice_get (lane_states fs ws) lane ≡ Some state → state.ring.sent ≡ []
+  pub settled_free : ((lane : ℕ) (d : LaneSender) → lane < length fs → known_free (get_or fs lane d).producer ≡ ring_capacity (get_or fs lane d).producer) → (lane : ℕ) (state : LaneState) → slice_get (lane_states fs ws) lane ≡ Some state → state.ring.sent ≡ []
   settled_free free lane state is =
       let at = lane_at fs ws lane state is in
-      let none = free lane at.feed at.within in
-      nil_from_length state.ring.sent (sym (waits_at lane state is at.feed 0 (omega arith)))
+      let none = free lane at.sender at.within in
+      nil_from_length state.ring.sent (sym (waits_at lane state is at.sender 0 (omega arith)))

@@ -9,11 +9,11 @@ use Rattle.peer_tables.specs.Peers.{peer_eq, peers_of}
 use Rattle.bgp_prefix.specs.declared.family.Family.{Ghosts as AddressGhosts}
 use Rattle.bgp_prefix.specs.declared.map.PrefixMap.{Ghosts}
 use Rattle.adj_rib.specs.declared.routes.RouteId.{RouteId}
-use Rattle.lane_deal.specs.Plain.{Numbered}
+use Rattle.lane_deal.specs.Plain.{PeerUnit}
 use Rattle.lane_deal.specs.declared.schedule.OneLane.{OneLane}
 use Rattle.lane_deal.specs.Lanes.{number_of_peer, lane_of_unit}
 use Rattle.peer_tables.specs.Numbers.{NumbersPeer}
-use Rattle.lane_deal.specs.Numbers.{with_number, numbered}
+use Rattle.lane_deal.specs.Numbers.{with_number, with_numbers}
 use Rattle.lane_deal.specs.Schedules.{LanesState, dealt, took, start}
 use Rattle.lane_deal.specs.Shown.{SeatsHold}
 use Rattle.lane_deal.specs.ShownLanes.{LaneShows, LanesShow}
@@ -22,24 +22,24 @@ use Rattle.lane_deal.proofs.DealerLaws.{numbered_stay, AreListed, listed_more, a
 
 -- ---- numbers
 
-pub record AreGiven (units : List ReplayUnit) (keys : List PeerKey) (items : List Numbered) : Type 0 where
+pub record AreGiven (units : List ReplayUnit) (keys : List PeerKey) (items : List PeerUnit) : Type 0 where
   pub keys_are : keys ≡ peers_of units
-  pub items_are : items ≡ numbered keys units
+  pub items_are : items ≡ with_numbers keys units
   pub listed : AreListed keys units
 
 pub given_none : AreGiven [] [] []
 unfolding peers_of
 given_none = record { keys_are = refl; items_are = refl; listed = tt }
 
-pub given_more : (units : List ReplayUnit) (keys keys' : List PeerKey) (items : List Numbered) (u : ReplayUnit) (n : ℕ) → AreGiven units keys items → NumbersPeer keys keys' u.peer n → AreGiven (units ++ u ∷ []) keys' (items ++ record { number = n; unit = u } ∷ [])
+pub given_more : (units : List ReplayUnit) (keys keys' : List PeerKey) (items : List PeerUnit) (u : ReplayUnit) (n : ℕ) → AreGiven units keys items → NumbersPeer keys keys' u.peer n → AreGiven (units ++ u ∷ []) keys' (items ++ record { number = n; unit = u } ∷ [])
 given_more units keys keys' items u n p number =
     let extra = if list_any (peer_eq u.peer) keys then [] else u.peer ∷ [] in
     let grown : keys' ≡ peers_of (units ++ u ∷ []) = number.keys ∙ ap (λ l. l ++ (if list_any (peer_eq u.peer) l then [] else u.peer ∷ [])) p.keys_are ∙ sym (peers_push units u) in
-    let still : numbered keys' units ≡ numbered keys units = ap (λ l. numbered l units) number.keys ∙ numbered_stay keys extra units p.listed in
+    let still : with_numbers keys' units ≡ with_numbers keys units = ap (λ l. with_numbers l units) number.keys ∙ numbered_stay keys extra units p.listed in
     record {
       keys_are = grown;
       items_are =
-          ap (λ l. l ++ record { number = n; unit = u } ∷ []) (p.items_are ∙ sym still) ∙ ap (λ m. numbered keys' units ++ record { number = m; unit = u } ∷ []) number.number_is
+          ap (λ l. l ++ record { number = n; unit = u } ∷ []) (p.items_are ∙ sym still) ∙ ap (λ m. with_numbers keys' units ++ record { number = m; unit = u } ∷ []) number.number_is
           ∙ sym (map-append (with_number keys') units (u ∷ []));
       listed =
           all_push (λ v. list_any (peer_eq v.peer) keys' ≡ true) units (u ∷ []) (subst (λ l. AreListed l units) (sym number.keys) (listed_more keys extra units p.listed))
@@ -68,20 +68,20 @@ module _ {M A : Type 0} {g : Ghosts M RouteId A} {a : AddressGhosts A} where
         ] refl;
   }
 
-  pub empty_show : (lanes : List (OneLane M A g a)) → AreEmpty lanes → (all units : List ReplayUnit) → LanesShow all (numbered (peers_of all) units) lanes (start units)
+  pub empty_show : (lanes : List (OneLane M A g a)) → AreEmpty lanes → (all units : List ReplayUnit) → LanesShow all (with_numbers (peers_of all) units) lanes (start units)
   empty_show lanes p all units = record { rest = refl; each = λ lane d l. p.each lane d l all; past = λ lane l. (refl, refl) }
 
   -- ---- a unit is dealt
 
-  pub shows_dealt : (lo : ℕ → ℕ) (all : List ReplayUnit) (q q' : List Numbered) (ls : List (OneLane M A g a)) (item : Numbered) (lane : ℕ) (x : OneLane M A g a) (s : LanesState) (us : List ReplayUnit) → s.undealt ≡ us → q ≡ item ∷ q' → lo item.number ≡ lane → lane < length ls
+  pub shows_dealt : (lo : ℕ → ℕ) (all : List ReplayUnit) (q q' : List PeerUnit) (ls : List (OneLane M A g a)) (item : PeerUnit) (lane : ℕ) (x : OneLane M A g a) (s : LanesState) (us : List ReplayUnit) → s.undealt ≡ us → q ≡ item ∷ q' → lo item.number ≡ lane → lane < length ls
       → ((d : OneLane M A g a) → x.ring.items ≡ (get_or ls lane d).ring.items ++ item ∷ []) → ((d : OneLane M A g a) → x.seats ≡ (get_or ls lane d).seats) → ((d : OneLane M A g a) → x.took ≡ (get_or ls lane d).took)
       → LanesShow all q ls s → LanesShow all q' (set ls lane x) (dealt (lane_of_unit lo all) s us)
-  shows_dealt lo all q q' ls item lane x s [] none e at l ring seats count p = absurd (let clash : item ∷ q' ≡ [] = sym e ∙ p.rest ∙ ap (numbered (peers_of all)) none in cc)
+  shows_dealt lo all q q' ls item lane x s [] none e at l ring seats count p = absurd (let clash : item ∷ q' ≡ [] = sym e ∙ p.rest ∙ ap (with_numbers (peers_of all)) none in cc)
   shows_dealt lo all q q' ls item lane x s (u ∷ us) some e at l ring seats count p =
       let keys = peers_of all in
-      let both : item ∷ q' ≡ with_number keys u ∷ numbered keys us = sym e ∙ p.rest ∙ ap (numbered keys) some in
+      let both : item ∷ q' ≡ with_number keys u ∷ with_numbers keys us = sym e ∙ p.rest ∙ ap (with_numbers keys) some in
       let first : item ≡ with_number keys u = cc in
-      let later : q' ≡ numbered keys us = cc in
+      let later : q' ≡ with_numbers keys us = cc in
       let own = lo (number_of_peer all u.peer) in
       let here : own ≡ lane = ap (λ i. lo i.number) (sym first) ∙ at in
       record {
@@ -95,8 +95,8 @@ module _ {M A : Type 0} {g : Ghosts M RouteId A} {a : AddressGhosts A} where
                   subst (λ y. LaneShows all y (s.ring own ++ u ∷ []) (s.taken other)) (sym (ap (λ n. get_or (set ls lane x) n d) (sym is) ∙ get_or-set_same ls lane x d l))
                   (subst (λ n. LaneShows all x (s.ring own ++ u ∷ []) (s.taken n)) is
                   (subst (λ n. LaneShows all x (s.ring n ++ u ∷ []) (s.taken lane)) (sym here) record {
-                    ring = ring d ∙ ap (λ k. k ++ item ∷ []) old.ring ∙ ap (λ i. numbered keys (s.ring lane) ++ i ∷ []) first ∙ sym (map-append (with_number keys) (s.ring lane) (u ∷ []));
-                    seats = subst (λ y. SeatsHold y (numbered keys (s.taken lane))) (sym (seats d)) old.seats;
+                    ring = ring d ∙ ap (λ k. k ++ item ∷ []) old.ring ∙ ap (λ i. with_numbers keys (s.ring lane) ++ i ∷ []) first ∙ sym (map-append (with_number keys) (s.ring lane) (u ∷ []));
+                    seats = subst (λ y. SeatsHold y (with_numbers keys (s.taken lane))) (sym (seats d)) old.seats;
                     took = count d ∙ old.took;
                   }))
               | false ↦ λ t.
@@ -112,28 +112,28 @@ module _ {M A : Type 0} {g : Ghosts M RouteId A} {a : AddressGhosts A} where
             ] refl;
       }
 
-  pub shows_none : (lane_of : ReplayUnit → ℕ) (all : List ReplayUnit) (q : List Numbered) (ls : List (OneLane M A g a)) (s : LanesState) (us : List ReplayUnit) → s.undealt ≡ us → q ≡ [] → LanesShow all q ls s → LanesShow all q ls (dealt lane_of s us)
+  pub shows_none : (lane_of : ReplayUnit → ℕ) (all : List ReplayUnit) (q : List PeerUnit) (ls : List (OneLane M A g a)) (s : LanesState) (us : List ReplayUnit) → s.undealt ≡ us → q ≡ [] → LanesShow all q ls s → LanesShow all q ls (dealt lane_of s us)
   shows_none lane_of all q ls s [] some e p = p
-  shows_none lane_of all q ls s (u ∷ us) some e p = absurd (let clash : [] ≡ numbered (peers_of all) (u ∷ us) = sym e ∙ p.rest ∙ ap (numbered (peers_of all)) some in cc)
+  shows_none lane_of all q ls s (u ∷ us) some e p = absurd (let clash : [] ≡ with_numbers (peers_of all) (u ∷ us) = sym e ∙ p.rest ∙ ap (with_numbers (peers_of all)) some in cc)
 
   -- ---- a unit is taken
 
   -- the first unit that waits in a lane's ring goes to its session
-  pub shows_one : (all : List ReplayUnit) (lane lane' : OneLane M A g a) (item : Numbered) (rest : List Numbered) (waiting taken : List ReplayUnit) → lane.ring.items ≡ item ∷ rest → lane'.ring.items ≡ rest → lane'.took ≡ min (lane.took + 1) (2 ^ 64 - 1)
-      → ((items : List Numbered) → SeatsHold lane.seats items → SeatsHold lane'.seats (items ++ item ∷ [])) → LaneShows all lane waiting taken → LaneShows all lane' (drop 1 waiting) (taken ++ take 1 waiting)
+  pub shows_one : (all : List ReplayUnit) (lane lane' : OneLane M A g a) (item : PeerUnit) (rest : List PeerUnit) (waiting taken : List ReplayUnit) → lane.ring.items ≡ item ∷ rest → lane'.ring.items ≡ rest → lane'.took ≡ min (lane.took + 1) (2 ^ 64 - 1)
+      → ((items : List PeerUnit) → SeatsHold lane.seats items → SeatsHold lane'.seats (items ++ item ∷ [])) → LaneShows all lane waiting taken → LaneShows all lane' (drop 1 waiting) (taken ++ take 1 waiting)
   shows_one all lane lane' item rest [] taken at ring count seats p = absurd (let clash : item ∷ rest ≡ [] = sym at ∙ p.ring in cc)
   shows_one all lane lane' item rest (u ∷ us) taken at ring count seats p =
-      let both : item ∷ rest ≡ with_number (peers_of all) u ∷ numbered (peers_of all) us = sym at ∙ p.ring in
+      let both : item ∷ rest ≡ with_number (peers_of all) u ∷ with_numbers (peers_of all) us = sym at ∙ p.ring in
       let first : item ≡ with_number (peers_of all) u = cc in
-      let others : rest ≡ numbered (peers_of all) us = cc in
+      let others : rest ≡ with_numbers (peers_of all) us = cc in
       record {
         ring = ring ∙ others;
-        seats = subst (SeatsHold lane'.seats) (ap (λ i. numbered (peers_of all) taken ++ i ∷ []) first ∙ sym (map-append (with_number (peers_of all)) taken (u ∷ []))) (seats (numbered (peers_of all) taken) p.seats);
+        seats = subst (SeatsHold lane'.seats) (ap (λ i. with_numbers (peers_of all) taken ++ i ∷ []) first ∙ sym (map-append (with_number (peers_of all)) taken (u ∷ []))) (seats (with_numbers (peers_of all) taken) p.seats);
         took = (let m = p.took in let n = length-append taken (u ∷ []) in omega arith);
       }
 
   -- a lane changed, and the others did not
-  changed_lane : (all : List ReplayUnit) (q : List Numbered) (ls : List (OneLane M A g a)) (lane : ℕ) (x : OneLane M A g a) (s : LanesState) (waiting taken : List ReplayUnit) → lane < length ls → LaneShows all x waiting taken → LanesShow all q ls s
+  changed_lane : (all : List ReplayUnit) (q : List PeerUnit) (ls : List (OneLane M A g a)) (lane : ℕ) (x : OneLane M A g a) (s : LanesState) (waiting taken : List ReplayUnit) → lane < length ls → LaneShows all x waiting taken → LanesShow all q ls s
       → (other : ℕ) (d : OneLane M A g a) → other < length (set ls lane x) → LaneShows all (get_or (set ls lane x) other d) (if eqb lane other then waiting else s.ring other) (if eqb lane other then taken else s.taken other)
   changed_lane all q ls lane x s waiting taken l h p other d m =
       elim (eqb lane other) as (λ b. eqb lane other ≡ b → LaneShows all (get_or (set ls lane x) other d) (if b then waiting else s.ring other) (if b then taken else s.taken other)) [
@@ -144,7 +144,7 @@ module _ {M A : Type 0} {g : Ghosts M RouteId A} {a : AddressGhosts A} where
             subst (λ y. LaneShows all y (s.ring other) (s.taken other)) (sym (get_or-set_other ls lane other x d ne)) (p.each other d inside)
       ] refl
 
-  pub shows_took : (all : List ReplayUnit) (q : List Numbered) (ls : List (OneLane M A g a)) (lane : ℕ) (x : OneLane M A g a) (s : LanesState) (us : List ReplayUnit) → s.ring lane ≡ us → lane < length ls
+  pub shows_took : (all : List ReplayUnit) (q : List PeerUnit) (ls : List (OneLane M A g a)) (lane : ℕ) (x : OneLane M A g a) (s : LanesState) (us : List ReplayUnit) → s.ring lane ≡ us → lane < length ls
       → LaneShows all x (drop 1 us) (s.taken lane ++ take 1 us) → LanesShow all q ls s → LanesShow all q (set ls lane x) (took lane s us)
   shows_took all q ls lane x s [] none l h p = record {
     rest = p.rest;
@@ -166,13 +166,13 @@ module _ {M A : Type 0} {g : Ghosts M RouteId A} {a : AddressGhosts A} where
         ] refl;
   }
 
-  pub shows_past : (all : List ReplayUnit) (q : List Numbered) (ls : List (OneLane M A g a)) (lane : ℕ) (s : LanesState) (us : List ReplayUnit) → s.ring lane ≡ us → us ≡ [] → LanesShow all q ls s → LanesShow all q ls (took lane s us)
+  pub shows_past : (all : List ReplayUnit) (q : List PeerUnit) (ls : List (OneLane M A g a)) (lane : ℕ) (s : LanesState) (us : List ReplayUnit) → s.ring lane ≡ us → us ≡ [] → LanesShow all q ls s → LanesShow all q ls (took lane s us)
   shows_past all q ls lane s [] e none p = p
   shows_past all q ls lane s (u ∷ us) e none p = absurd (cc)
 
   pub took_from : {T E : Type 0} (r : Result T E) (ls : List (OneLane M A g a)) (lane : ℕ) (e x : OneLane M A g a) → lane < length ls
       → OnOk r ((all waiting taken : List ReplayUnit) → LaneShows all (get_or ls lane e) waiting taken → LaneShows all x (drop 1 waiting) (taken ++ take 1 waiting))
-      → OnOk r ((all : List ReplayUnit) (q : List Numbered) (s : LanesState) → LanesShow all q ls s → LanesShow all q (set ls lane x) (took lane s (s.ring lane)))
+      → OnOk r ((all : List ReplayUnit) (q : List PeerUnit) (s : LanesState) → LanesShow all q ls s → LanesShow all q (set ls lane x) (took lane s (s.ring lane)))
   took_from (Ok o) ls lane e x l h = λ all q s p. shows_took all q ls lane x s (s.ring lane) refl l (h all (s.ring lane) (s.taken lane) (p.each lane e l)) p
   took_from (Err o) ls lane e x l h = tt
 

@@ -59,8 +59,8 @@ module _ (lane_of : ℕ → ℕ) (units : List ReplayUnit) where
       flat_map_alike (λ lane. seats_of_lane units (lane_units lane_of units lane)) (λ lane. map own_seat (of_class lane_of_peer (peers_of units) lane)) (range_with_len 0 workers) seats_are
       ∙ map_of_lists own_seat (of_class lane_of_peer (peers_of units)) (range_with_len 0 workers) in
       let shared = IsPermutation-map own_seat _ _ (by_class-IsPermutation lane_of_peer (peers_of units) workers (all_of (peers_of units) (λ q. below (number_of_peer units q)))) in
-      let numbered : map own_seat (peers_of units) ≡ (tables_of units refused).seats = numbered_peers (seat_numbered units) units in
-      subst (λ l. IsPermutation l (tables_of units refused).seats) (sym gathered) (subst (IsPermutation (map own_seat (by_class lane_of_peer (peers_of units) 0 workers))) numbered (IsPermutation-sym _ _ shared))
+      let with_numbers : map own_seat (peers_of units) ≡ (tables_of units refused).seats = numbered_peers (seat_numbered units) units in
+      subst (λ l. IsPermutation l (tables_of units refused).seats) (sym gathered) (subst (IsPermutation (map own_seat (by_class lane_of_peer (peers_of units) 0 workers))) with_numbers (IsPermutation-sym _ _ shared))
 
 -- the numbers of all peers rise
 pub numbers_rise : (units : List ReplayUnit) (refused : List Damage) → IsStrictlyIncreasing (map (λ s. s.number) (tables_of units refused).seats)

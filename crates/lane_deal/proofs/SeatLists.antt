@@ -16,7 +16,7 @@ use Rattle.peer_tables.specs.Peers.{peer_eq, peers_of, units_of_peer}
 use Rattle.peer_tables.specs.Seats.{seat_of}
 use Rattle.peer_tables.specs.Tables.{Seat}
 use Rattle.peer_tables.specs.declared.tables.Seated.{Seated}
-use Rattle.lane_deal.specs.Plain.{Numbered}
+use Rattle.lane_deal.specs.Plain.{PeerUnit}
 use Rattle.peer_tables.specs.Numbers.{AreApart, number_in}
 use Rattle.lane_deal.specs.Numbers.{units_in}
 use Rattle.lane_deal.specs.Seating.{seat_by, seats_by, AreNumbered, HoldsUnits, new_seat, SeatFor, TakenAt}
@@ -142,8 +142,8 @@ number_listed number units (p ∷ ps) zero n q at e =
     let is : p ≡ q = cc in ap (λ b. b || list_any (λ s. eqb s.number n) (map (seat_by number units) ps)) (eq-eqb (number p) n (ap number is ∙ e))
 number_listed number units (p ∷ ps) (suc i) n q at e = ap (λ b. eqb (number p) n || b) (number_listed number units ps i n q at e) ∙ or-true (eqb (number p) n)
 
-module _ (s₀ s₁ s₂ : List Seat) (taken : List Numbered) (n position : ℕ) (u : ReplayUnit) (q : TakenAt s₁ s₂ position u) (h : HoldsUnits s₀ taken) where
-  abbrev item : Numbered
+module _ (s₀ s₁ s₂ : List Seat) (taken : List PeerUnit) (n position : ℕ) (u : ReplayUnit) (q : TakenAt s₁ s₂ position u) (h : HoldsUnits s₀ taken) where
+  abbrev item : PeerUnit
   item = record { number = n; unit = u }
 
   abbrev before : List ReplayUnit
@@ -237,6 +237,6 @@ TakenAt-from (Err e) seats position u x session l h = tt
 
 -- the sessions stand for one unit more, where it was taken
 pub HoldsUnits-taken : {T E : Type 0} (r : Result T E) (s₀ s₁ s₂ s₃ : List Seat) (n position : ℕ) (u : ReplayUnit) → SeatFor s₀ s₁ n u.peer position → s₃ ≡ s₂ → OnOk r (TakenAt s₁ s₂ position u)
-    → OnOk r ((taken : List Numbered) → HoldsUnits s₀ taken → HoldsUnits s₃ (taken ++ record { number = n; unit = u } ∷ []))
+    → OnOk r ((taken : List PeerUnit) → HoldsUnits s₀ taken → HoldsUnits s₃ (taken ++ record { number = n; unit = u } ∷ []))
 HoldsUnits-taken (Ok o) s₀ s₁ s₂ s₃ n position u p e q = λ taken h. rw e (HoldsUnits-more s₀ s₁ s₂ taken n position u q h p)
 HoldsUnits-taken (Err o) s₀ s₁ s₂ s₃ n position u p e q = tt

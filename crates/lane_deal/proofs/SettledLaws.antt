@@ -12,7 +12,7 @@ use Rattle.adj_rib.specs.Sessions.{session_of}
 use Rattle.peer_tables.specs.Peers.{peers_of, units_of_peer}
 use Rattle.peer_tables.specs.Tables.{Seat, tables_of}
 use Rattle.lane_deal.specs.Lanes.{number_of_peer, lane_units, seats_of_lane}
-use Rattle.lane_deal.specs.Numbers.{numbered}
+use Rattle.lane_deal.specs.Numbers.{with_numbers}
 use Rattle.lane_deal.specs.Replayers.{LaneState, ReplayerState, LaneStandsFor, ReplayerStandsFor}
 use Rattle.lane_deal.specs.Rounds.{IsSettled}
 use Rattle.lane_deal.proofs.Peers.{is_seen, new_peers, all_more, numbers_stay, peers_of_chosen}
@@ -62,7 +62,7 @@ seats_together seats (x ∷ lanes) first h =
     (IsPermutation-append_left rest (seats first) x.seats here) (IsPermutation-append_right x.seats rest (flat_map (λ state. state.seats) lanes) others) in
     subst (λ n. IsPermutation (flat_map seats (range_with_len first n)) (x.seats ++ flat_map (λ state. state.seats) lanes)) {x = suc (length lanes)} {y = length (x ∷ lanes)} (omega arith) both
 
-none_numbered : (keys : List PeerKey) (units : List ReplayUnit) → numbered keys units ≡ [] → units ≡ []
+none_numbered : (keys : List PeerKey) (units : List ReplayUnit) → with_numbers keys units ≡ [] → units ≡ []
 none_numbered keys [] e = refl
 none_numbered keys (u ∷ units) e = absurd (cc)
 
@@ -77,7 +77,7 @@ pub settled_seats : (dealing : ℕ → ℕ → ℕ) (capacity : ℕ) (units : Li
     → ReplayerStandsFor dealing capacity units refused r → IsSettled r → IsPermutation (flat_map (λ lane. lane.seats) r.lanes) (tables_of units refused).seats
 settled_seats dealing capacity units refused r below stands settled =
     let lane_of : ℕ → ℕ = λ number. dealing number (length r.lanes) in
-    let more = option_to_list r.kept in
+    let more = option_to_list r.blocked_unit in
     let seats : ℕ → List Seat = λ lane. seats_of_lane units (lane_units lane_of units lane) in
     let each = seats_together seats r.lanes 0 (λ lane state e.
     subst (λ l. IsPermutation l state.seats) (seats_stay lane_of units more lane ∙ ap seats {x = lane} {y = 0 + lane} (omega arith))

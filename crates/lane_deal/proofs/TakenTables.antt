@@ -22,11 +22,11 @@ use Rattle.peer_tables.specs.Tables.{Seat, TablesState, tables_of}
 use Rattle.bgp_prefix.specs.declared.family.Family.{Ghosts as AddressGhosts}
 use Rattle.bgp_prefix.specs.declared.map.PrefixMap.{Ghosts}
 use Rattle.adj_rib.specs.declared.routes.RouteId.{RouteId}
-use Rattle.lane_deal.specs.Plain.{Numbered}
+use Rattle.lane_deal.specs.Plain.{PeerUnit}
 use Rattle.lane_deal.specs.declared.schedule.OneLane.{OneLane}
 use Rattle.lane_deal.specs.Lanes.{number_of_peer, lane_of_unit, seats_of_lane}
 use Rattle.peer_tables.specs.Numbers.{number_in}
-use Rattle.lane_deal.specs.Numbers.{numbered, units_in}
+use Rattle.lane_deal.specs.Numbers.{with_numbers, units_in}
 use Rattle.lane_deal.specs.OneLanes.{OneLaneState, one_lane_state, seats_of_lanes}
 use Rattle.lane_deal.specs.Schedules.{LanesState, IsShared}
 use Rattle.lane_deal.specs.Seating.{seats_by, HoldsUnits}
@@ -186,7 +186,7 @@ module _ (lane_of : ℕ → ℕ) (all : List ReplayUnit) (s : LanesState) (share
 
 -- ---- lanes on one thread
 
-numbers_are : (keys : List PeerKey) (units : List ReplayUnit) → AllByRecursion (λ i. number_in keys i.unit.peer ≡ i.number) (numbered keys units)
+numbers_are : (keys : List PeerKey) (units : List ReplayUnit) → AllByRecursion (λ i. number_in keys i.unit.peer ≡ i.number) (with_numbers keys units)
 numbers_are keys [] = tt
 numbers_are keys (u ∷ units) = (refl, numbers_are keys units)
 
@@ -194,13 +194,13 @@ module _ {M A : Type 0} {g : Ghosts M RouteId A} {a : AddressGhosts A} where
   lane_seats : (all waiting taken : List ReplayUnit) (x : OneLane M A g a) → LaneShows all x waiting taken → ((q : PeerKey) → is_seen taken q ≡ true → is_seen all q ≡ true) → map seat_of x.seats.seats.items ≡ seats_of_lane all taken
   lane_seats all waiting taken x p seen =
       let keys = peers_of all in
-      let same : units_in (numbered keys taken) ≡ taken = units_numbered keys taken in
-      let listed : (q : PeerKey) → is_seen (units_in (numbered keys taken)) q ≡ true → slice_get keys (number_in keys q) ≡ Some q =
+      let same : units_in (with_numbers keys taken) ≡ taken = units_numbered keys taken in
+      let listed : (q : PeerKey) → is_seen (units_in (with_numbers keys taken)) q ≡ true → slice_get keys (number_in keys q) ≡ Some q =
       λ q e. listed_gets keys q (listed_peer all q (seen q (ap (λ l. is_seen l q) (sym same) ∙ e))) in
       sym (p.seats (number_of_peer all) (record { each = numbers_are keys taken; apart = λ a b seen_a seen_b e. some_is a b (sym (listed a seen_a) ∙ ap (slice_get keys) e ∙ listed b seen_b) }))
       ∙ ap (seats_by (number_of_peer all)) same
 
-  module _ (lane_of : ℕ → ℕ) (all : List ReplayUnit) (s : LanesState) (shared : IsShared lane_of all s) (undealt : List Numbered) (ls : List (OneLane M A g a)) (p : LanesShow all undealt ls s) where
+  module _ (lane_of : ℕ → ℕ) (all : List ReplayUnit) (s : LanesState) (shared : IsShared lane_of all s) (undealt : List PeerUnit) (ls : List (OneLane M A g a)) (p : LanesShow all undealt ls s) where
     abbrev count : ℕ
     count = length ls
 
@@ -247,7 +247,7 @@ module _ {M A : Type 0} {g : Ghosts M RouteId A} {a : AddressGhosts A} where
         ∙ flat_map-map (λ (x : OneLaneState M A). map seat_of x.seats) one_lane_state ls in
         subst (λ l. IsDistinct nat_eq (map (λ (x : Seat). x.number) l)) (sym is) h
 
-    pub shown_still : (all : List ReplayUnit) (undealt : List Numbered) (s : LanesState) → LanesShow all undealt ls s → LanesShow all undealt ls' s
+    pub shown_still : (all : List ReplayUnit) (undealt : List PeerUnit) (s : LanesState) → LanesShow all undealt ls s → LanesShow all undealt ls' s
     shown_still all undealt s p =
         record {
           rest = p.rest;
@@ -256,7 +256,7 @@ module _ {M A : Type 0} {g : Ghosts M RouteId A} {a : AddressGhosts A} where
               let is = lane_same lane d in
               record {
                 ring = ap (λ x. x.ring) is ∙ old.ring;
-                seats = subst (λ x. HoldsUnits (map seat_of x) (numbered (peers_of all) (s.taken lane))) (sym (ap (λ x. x.seats) is)) old.seats;
+                seats = subst (λ x. HoldsUnits (map seat_of x) (with_numbers (peers_of all) (s.taken lane))) (sym (ap (λ x. x.seats) is)) old.seats;
                 took = ap (λ x. x.took) is ∙ old.took;
               };
           past = λ lane l. p.past lane (let n = count_same in omega arith);

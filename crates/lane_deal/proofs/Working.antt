@@ -4,7 +4,7 @@ use Rattle.std.proofs.lemmas.List.{append-nil, nil_from_length}
 use Rattle.mrt_body.specs.Events.{event_in}
 use Rattle.rtrb.specs.Ring.{SameConsumer}
 use Rattle.rtrb.specs.Ring.{received as received_lists}
-use Rattle.lane_deal.specs.Plain.{UnitList, Numbered, Worker}
+use Rattle.lane_deal.specs.Plain.{UnitList, PeerUnit, Worker}
 use Rattle.lane_deal.specs.UnitLists.{IsUnitList, units_of, units_of_lists}
 use Rattle.lane_deal.specs.UnitRings.{received, known_items, known_lists}
 use Rattle.lane_deal.proofs.UnitLists.{units_pushed}
@@ -12,7 +12,7 @@ use Rattle.lane_deal.specs.DecodedBatches.{AreDecoded, BatchState, head_of, no_b
 use Rattle.lane_deal.proofs.Batches.{AreDecoded-none, AreDecoded-more}
 use Rattle.lane_deal.specs.LaneWorkers.{Took, TookFront, TookSome, Takes, TakesAhead, Worked}
 
-module _ {S : Type 0} (stands_for : S → List Numbered → Type 0) where
+module _ {S : Type 0} (stands_for : S → List PeerUnit → Type 0) where
   pub Took-nil : (w : Worker S) → w.taken < 2 ^ 64 → Took stands_for w w []
   Took-nil w l =
       record {
@@ -23,7 +23,7 @@ module _ {S : Type 0} (stands_for : S → List Numbered → Type 0) where
         sessions = λ taken h. rw append-nil h;
       }
 
-  pub Took-append : (a b c : Worker S) (xs ys : List Numbered) → Took stands_for a b xs → Took stands_for b c ys → Took stands_for a c (xs ++ ys)
+  pub Took-append : (a b c : Worker S) (xs ys : List PeerUnit) → Took stands_for a b xs → Took stands_for b c ys → Took stands_for a c (xs ++ ys)
   Took-append a b c xs ys p q =
       record {
         lane = q.lane ∙ p.lane;
@@ -55,7 +55,7 @@ module _ {S : Type 0} (stands_for : S → List Numbered → Type 0) where
           ring = subst (SameConsumer a.consumer) (sym q.ring) ring;
           received = ap received q.ring ∙ (ap units_of_lists got ∙ units_pushed (received_lists a.consumer) list);
           counted = q.counted ∙ ap (λ n. min (n + length (units_of list)) (2 ^ 64 - 1)) count;
-          sessions = subst (λ s. (taken : List Numbered) → stands_for s taken → stands_for c.sessions (taken ++ units_of list)) same q.sessions;
+          sessions = subst (λ s. (taken : List PeerUnit) → stands_for s taken → stands_for c.sessions (taken ++ units_of list)) same q.sessions;
         };
         some = some.0;
         left = ap units_of_lists left ∙ ap (λ k. units_of list ++ known_items k) (sym q.ring);
@@ -63,7 +63,7 @@ module _ {S : Type 0} (stands_for : S → List Numbered → Type 0) where
 
   -- the first of the items that were known, and what is left of them
   pub record TookKnown (a b : Worker S) : Type 0 where
-    pub items : List Numbered
+    pub items : List PeerUnit
     pub took : Took stands_for a b items
     pub left : known_items a.consumer ≡ items ++ known_items b.consumer
 
@@ -88,11 +88,11 @@ module _ {S : Type 0} (stands_for : S → List Numbered → Type 0) where
   TookSome-front a b p = record { items = p.items; took = p.took }
 
   -- what is taken, item by item
-  pub Takes-none : (w : Worker S) (s : S) → w.taken < 2 ^ 64 → ((taken : List Numbered) → stands_for w.sessions taken → stands_for s taken) → Takes stands_for w (record w { sessions = s }) []
+  pub Takes-none : (w : Worker S) (s : S) → w.taken < 2 ^ 64 → ((taken : List PeerUnit) → stands_for w.sessions taken → stands_for s taken) → Takes stands_for w (record w { sessions = s }) []
   Takes-none w s l h = record { lane = refl; ring = refl; counted = omega arith; sessions = λ taken g. rw append-nil (h taken g) }
 
-  pub Takes-more : (a b c : Worker S) (items : List Numbered) (item : Numbered) → Takes stands_for a b items → c.lane ≡ b.lane → c.consumer ≡ b.consumer → c.taken ≡ min (b.taken + 1) (2 ^ 64 - 1)
-      → ((taken : List Numbered) → stands_for b.sessions taken → stands_for c.sessions (taken ++ item ∷ [])) → Takes stands_for a c (items ++ item ∷ [])
+  pub Takes-more : (a b c : Worker S) (items : List PeerUnit) (item : PeerUnit) → Takes stands_for a b items → c.lane ≡ b.lane → c.consumer ≡ b.consumer → c.taken ≡ min (b.taken + 1) (2 ^ 64 - 1)
+      → ((taken : List PeerUnit) → stands_for b.sessions taken → stands_for c.sessions (taken ++ item ∷ [])) → Takes stands_for a c (items ++ item ∷ [])
   Takes-more a b c items item p lane ring count h =
       record {
         lane = lane ∙ p.lane;
@@ -112,7 +112,7 @@ module _ {S : Type 0} (stands_for : S → List Numbered → Type 0) where
         whole = refl;
       }
 
-  pub Takes-append : (a b c : Worker S) (xs ys : List Numbered) → Takes stands_for a b xs → Takes stands_for b c ys → Takes stands_for a c (xs ++ ys)
+  pub Takes-append : (a b c : Worker S) (xs ys : List PeerUnit) → Takes stands_for a b xs → Takes stands_for b c ys → Takes stands_for a c (xs ++ ys)
   Takes-append a b c xs ys p q =
       record {
         lane = q.lane ∙ p.lane;
@@ -122,7 +122,7 @@ module _ {S : Type 0} (stands_for : S → List Numbered → Type 0) where
       }
 
   -- one more is decoded
-  pub TakesAhead-more : (a b : Worker S) (batch batch' : BatchState) (items : List Numbered) (item : Numbered) → TakesAhead stands_for a b batch items → batch'.heads ≡ batch.heads ++ head_of item ∷ [] → batch'.events ≡ batch.events ++ event_in item.unit.payload ∷ [] → TakesAhead stands_for a b batch' (items ++ item ∷ [])
+  pub TakesAhead-more : (a b : Worker S) (batch batch' : BatchState) (items : List PeerUnit) (item : PeerUnit) → TakesAhead stands_for a b batch items → batch'.heads ≡ batch.heads ++ head_of item ∷ [] → batch'.events ≡ batch.events ++ event_in item.unit.payload ∷ [] → TakesAhead stands_for a b batch' (items ++ item ∷ [])
   TakesAhead-more a b batch batch' items item p heads events =
       record {
         taken = p.taken;
@@ -133,11 +133,11 @@ module _ {S : Type 0} (stands_for : S → List Numbered → Type 0) where
       }
 
   -- those that were decoded are taken
-  pub TakesAhead-all : (a b c : Worker S) (batch : BatchState) (items : List Numbered) → TakesAhead stands_for a b batch items → ((waiting : List Numbered) → AreDecoded batch waiting → Takes stands_for b c waiting) → Takes stands_for a c items
+  pub TakesAhead-all : (a b c : Worker S) (batch : BatchState) (items : List PeerUnit) → TakesAhead stands_for a b batch items → ((waiting : List PeerUnit) → AreDecoded batch waiting → Takes stands_for b c waiting) → Takes stands_for a c items
   TakesAhead-all a b c batch items p took =
       subst (Takes stands_for a c) (sym p.whole) (Takes-append a b c p.taken p.waiting p.takes (took p.waiting p.decoded))
 
   -- nothing waits
-  pub TakesAhead-from : (a b : Worker S) (batch : BatchState) (items : List Numbered) → Takes stands_for a b items → batch ≡ no_batch → TakesAhead stands_for a b batch items
+  pub TakesAhead-from : (a b : Worker S) (batch : BatchState) (items : List PeerUnit) → Takes stands_for a b items → batch ≡ no_batch → TakesAhead stands_for a b batch items
   TakesAhead-from a b batch items p e =
       record { taken = items; waiting = []; takes = p; decoded = subst (λ b. AreDecoded b []) (sym e) AreDecoded-none; whole = sym (append-nil items) }

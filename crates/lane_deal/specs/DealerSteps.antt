@@ -9,32 +9,32 @@ use Rattle.mrt_body.specs.Units.{unit_of, damage_of}
 use Rattle.mrt_body.specs.ToCome.{UnitsState, as_found}
 use Rattle.peer_tables.specs.Peers.{peer_eq, peers_of}
 use Rattle.lane_deal.specs.Dealers.{Dealer}
-use Rattle.lane_deal.specs.Plain.{Feed, Numbered}
+use Rattle.lane_deal.specs.Plain.{LaneSender, PeerUnit}
 use Rattle.lane_deal.specs.declared.step.Step.{Step}
 use Rattle.lane_deal.specs.declared.step.Step.TheVariants.{Blocked, FullBatch, End}
-use Rattle.lane_deal.specs.Answers.{IfAnswered}
+use Rattle.lane_deal.specs.Results.{IfAnswered}
 use Rattle.lane_deal.specs.Asking.{TakesUnits, ReadsOn, GivesFront, GivesAll, StopsBehind, as_refused}
-use Rattle.lane_deal.specs.Feeds.{Dealt, in_lane, room_of}
+use Rattle.lane_deal.specs.LaneSenders.{Dealt, in_lane, room_of}
 use Rattle.peer_tables.specs.Numbers.{number_in}
-use Rattle.lane_deal.specs.Numbers.{numbered}
-use Rattle.lane_deal.specs.Kept.{to_deal}
+use Rattle.lane_deal.specs.Numbers.{with_numbers}
+use Rattle.lane_deal.specs.ToDeal.{to_deal}
 
 module _ {D : Type 0} where
-  -- only what is kept and what is listed changes, and nothing is kept
+  -- only the blocked unit and what is listed change, and none is blocked
   pub record Asks (old new : Dealer D) : Type 0 where
     pub dealing : new.dealing ≡ old.dealing
     pub peers : new.peers ≡ old.peers
-    pub kept : new.kept ≡ None
+    pub blocked_unit : new.blocked_unit ≡ None
     pub dealt : new.dealt ≡ old.dealt
 
-  -- the kept unit, or what the files gave: refusals, which were listed, and then a unit or the end
+  -- the blocked unit, or what the files gave: refusals, which were listed, and then a unit or the end
   pub record Next (old new : Dealer D) (u : UnitsState) (known : List (Option (List ℕ))) (u' : UnitsState)
       (known' : List (Option (List ℕ))) (next : Option ReplayUnit) : Type 0 where
     pub given : List Found
     pub listed : List Damage
     pub takes : TakesUnits u known u' known' given
     pub asks : Asks old new
-    pub order : to_deal old.kept given ≡ as_refused listed ++ as_found (option_to_list next)
+    pub order : to_deal old.blocked_unit given ≡ as_refused listed ++ as_found (option_to_list next)
     pub refused : new.refused.items ≡ old.refused.items ++ listed
     pub ended : next ≡ None → GivesAll u known given
 
@@ -46,32 +46,32 @@ module _ {D : Type 0} where
     pub gives : GivesFront u known given
     pub behind : StopsBehind u known u' known' given
     pub asks : Asks old new
-    pub order : to_deal old.kept given ≡ as_refused listed
+    pub order : to_deal old.blocked_unit given ≡ as_refused listed
     pub refused : new.refused.items ≡ old.refused.items ++ listed
 
-  -- Of the kept unit and those that the files gave these were dealt or listed, in order, and the next is kept.
+  -- Of the blocked unit and those that the files gave these were dealt or listed, in order, and the next is blocked.
   pub record Handles (old new : Dealer D) (given done : List Found) : Type 0 where
     pub dealing : new.dealing ≡ old.dealing
-    pub order : to_deal old.kept given ≡ done ++ to_deal new.kept []
+    pub order : to_deal old.blocked_unit given ≡ done ++ to_deal new.blocked_unit []
     pub refused : new.refused.items ≡ old.refused.items ++ filter_map damage_of done
     pub counted : new.dealt ≡ min (old.dealt + length (filter_map unit_of done)) (2 ^ 64 - 1)
     pub listed : AllByRecursion (λ u. list_any (peer_eq u.peer) new.peers ≡ true) (filter_map unit_of done)
-    pub keys : (before : List ReplayUnit) → old.peers ≡ peers_of (before ++ option_to_list old.kept) →
-        new.peers ≡ peers_of ((before ++ filter_map unit_of done) ++ option_to_list new.kept)
+    pub keys : (before : List ReplayUnit) → old.peers ≡ peers_of (before ++ option_to_list old.blocked_unit) →
+        new.peers ≡ peers_of ((before ++ filter_map unit_of done) ++ option_to_list new.blocked_unit)
 
-  -- a unit is kept: at least as many as its lane had room for were dealt to it
+  -- a unit is blocked: at least as many as its lane had room for were dealt to it
   pub record IsFull (lane_of room : ℕ → ℕ) (new : Dealer D) (dealt : List ReplayUnit) : Type 0 where
     pub unit : ReplayUnit
-    pub kept : new.kept ≡ Some unit
+    pub blocked_unit : new.blocked_unit ≡ Some unit
     pub full : room (lane_of (number_in new.peers unit.peer)) ≤ length (in_lane lane_of
-        (lane_of (number_in new.peers unit.peer)) (numbered new.peers dealt))
+        (lane_of (number_in new.peers unit.peer)) (with_numbers new.peers dealt))
 
   -- why the dealer stopped
   abbrev pub StopsDealing : (ℕ → ℕ) → ℕ → (ℕ → ℕ) → Dealer D → UnitsState → List (Option (List ℕ)) → List Found →
       List ReplayUnit → Step → Type 0
   StopsDealing lane_of batch room new u known given dealt Blocked = IsFull lane_of room new dealt
   StopsDealing lane_of batch room new u known given dealt FullBatch = length dealt ≡ batch
-  StopsDealing lane_of batch room new u known given dealt End = (new.kept ≡ None) × GivesAll u known given
+  StopsDealing lane_of batch room new u known given dealt End = (new.blocked_unit ≡ None) × GivesAll u known given
 
   -- what the dealer did in a round, at whose beginning each lane had this room
   pub record Deals (lane_of : ℕ → ℕ) (batch : ℕ) (room : ℕ → ℕ) (old new : Dealer D) (u : UnitsState)
@@ -84,22 +84,22 @@ module _ {D : Type 0} where
     pub handles : Handles old new given done
     pub few : length (filter_map unit_of done) ≤ batch
     pub stops : IfOk result (StopsDealing lane_of batch room new u known given (filter_map unit_of done))
-    pub nothing_kept : OnErr result (new.kept ≡ None)
+    pub nothing_kept : OnErr result (new.blocked_unit ≡ None)
     pub behind : OnErr result (StopsBehind u known u' known' given)
 
   -- the same, with what was dealt received
-  pub record DealsTo {K : Type 0} (gets : K → K → List Numbered → Type 0) (lane_of : ℕ → ℕ) (batch : ℕ)
+  pub record DealsTo {K : Type 0} (gets : K → K → List PeerUnit → Type 0) (lane_of : ℕ → ℕ) (batch : ℕ)
       (room : ℕ → ℕ) (to to' : K) (old new : Dealer D) (u : UnitsState) (known : List (Option (List ℕ)))
       (u' : UnitsState) (known' : List (Option (List ℕ))) (result : Result Step ReplayError) : Type 0 where
     pub deals : Deals lane_of batch room old new u known u' known' result
-    pub received : gets to to' (numbered new.peers (filter_map unit_of deals.done))
+    pub received : gets to to' (with_numbers new.peers (filter_map unit_of deals.done))
 
   -- what the dealer did in a round, and what became of the reading
-  pub record DealsOn (lane_of : ℕ → ℕ) (batch : ℕ) (feeds feeds' : List Feed) (old new : Dealer D) (u : UnitsState)
+  pub record DealsOn (lane_of : ℕ → ℕ) (batch : ℕ) (senders senders' : List LaneSender) (old new : Dealer D) (u : UnitsState)
       (known : List (Option (List ℕ))) (before : List ℕ) (u' : UnitsState) (known' : List (Option (List ℕ)))
       (after : List ℕ) (result : Result Step ReplayError) : Type 0 where
     pub count : u'.count ≡ u.count
-    pub lanes : length feeds' ≡ length feeds
+    pub lanes : length senders' ≡ length senders
     pub reads : ReadsOn u known before u' after result
     pub deals : IfAnswered result
-        (DealsTo (Dealt lane_of) lane_of batch (room_of feeds) feeds feeds' old new u known u' known' result)
+        (DealsTo (Dealt lane_of) lane_of batch (room_of senders) senders senders' old new u known u' known' result)

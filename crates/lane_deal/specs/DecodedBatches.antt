@@ -4,7 +4,7 @@ use Rattle.mrt_frame.specs.declared.fault.Fault.{Fault}
 use Rattle.mrt_body.specs.Events.{event_in}
 use Rattle.mrt_body.specs.Plain.{Event}
 use Rattle.lane_deal.specs.declared.unit_head.UnitHead.{UnitHead}
-use Rattle.lane_deal.specs.Plain.{Numbered}
+use Rattle.lane_deal.specs.Plain.{PeerUnit}
 
 -- what there is of them
 pub record BatchState : Type 0 where
@@ -15,19 +15,19 @@ abbrev pub no_batch : BatchState
 no_batch = record { heads = []; events = [] }
 
 -- all of a unit but its payload
-abbrev pub head_of : Numbered → UnitHead
+abbrev pub head_of : PeerUnit → UnitHead
 head_of item = record { number = item.number; peer = item.unit.peer; place = item.unit.place; time = item.unit.time }
 
 -- what each of these units means, or its first fault
-abbrev pub events_of : List Numbered → List (Result Event Fault)
+abbrev pub events_of : List PeerUnit → List (Result Event Fault)
 events_of items = map (λ item. event_in item.unit.payload) items
 
 -- they are these units, in order
-pub record AreDecoded (batch : BatchState) (items : List Numbered) : Type 0 where
+pub record AreDecoded (batch : BatchState) (items : List PeerUnit) : Type 0 where
   pub heads : batch.heads ≡ map head_of items
   pub events : batch.events ≡ events_of items
 
 -- this unit is at an index of them
-pub record IsDecodedAt (batch : BatchState) (at : ℕ) (item : Numbered) : Type 0 where
+pub record IsDecodedAt (batch : BatchState) (at : ℕ) (item : PeerUnit) : Type 0 where
   pub head : (d : UnitHead) → slice_index_or batch.heads at d ≡ head_of item
   pub event : (d : Result Event Fault) → slice_index_or batch.events at d ≡ event_in item.unit.payload

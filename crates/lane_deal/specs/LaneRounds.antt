@@ -6,29 +6,29 @@ use Rattle.mrt_frame.specs.declared.error.ReplayError.{ReplayError}
 use Rattle.mrt_body.specs.Units.{unit_of}
 use Rattle.mrt_body.specs.ToCome.{UnitsState}
 use Rattle.lane_deal.specs.Dealers.{Dealer}
-use Rattle.lane_deal.specs.Plain.{Feed, Numbered, Worker}
+use Rattle.lane_deal.specs.Plain.{LaneSender, PeerUnit, Worker}
 use Rattle.lane_deal.specs.declared.step.Step.{Step}
 use Rattle.lane_deal.specs.DealerSteps.{Deals}
-use Rattle.lane_deal.specs.Feeds.{in_lane, room_of}
+use Rattle.lane_deal.specs.LaneSenders.{in_lane, room_of}
 use Rattle.lane_deal.specs.LaneRings.{AreReady, LanesStand}
-use Rattle.lane_deal.specs.Numbers.{numbered}
+use Rattle.lane_deal.specs.Numbers.{with_numbers}
 
 -- the round dealt these units, and took all that waited before it
-pub record Rounded {S : Type 0} (stands_for : S → List Numbered → Type 0) (lane_of : ℕ → ℕ) (capacity : ℕ)
-    (feeds : List Feed) (workers : List (Worker S)) (feeds' : List Feed) (workers' : List (Worker S))
-    (items : List Numbered) : Type 0 where
-  pub count : length feeds' ≡ length feeds
-  pub ready : AreReady capacity feeds' workers'
-  pub stands : (dealt : List Numbered) → LanesStand stands_for lane_of feeds workers dealt →
-      LanesStand stands_for lane_of feeds' workers' (dealt ++ items)
-  pub taken : Worker S → (lane : ℕ) (d : Feed) → lane < length feeds →
-      length (sent (slice_index_or feeds' lane d).producer) ≤ length (in_lane lane_of lane items)
+pub record Rounded {S : Type 0} (stands_for : S → List PeerUnit → Type 0) (lane_of : ℕ → ℕ) (capacity : ℕ)
+    (senders : List LaneSender) (workers : List (Worker S)) (senders' : List LaneSender) (workers' : List (Worker S))
+    (items : List PeerUnit) : Type 0 where
+  pub count : length senders' ≡ length senders
+  pub ready : AreReady capacity senders' workers'
+  pub stands : (dealt : List PeerUnit) → LanesStand stands_for lane_of senders workers dealt →
+      LanesStand stands_for lane_of senders' workers' (dealt ++ items)
+  pub taken : Worker S → (lane : ℕ) (d : LaneSender) → lane < length senders →
+      length (sent (slice_index_or senders' lane d).producer) ≤ length (in_lane lane_of lane items)
 
 -- what the dealer did in a round, and what came of it in the lanes
-pub record PlaysLanes {S D : Type 0} (stands_for : S → List Numbered → Type 0) (lane_of : ℕ → ℕ) (capacity batch : ℕ)
-    (feeds : List Feed) (workers : List (Worker S)) (feeds' : List Feed) (workers' : List (Worker S))
+pub record PlaysLanes {S D : Type 0} (stands_for : S → List PeerUnit → Type 0) (lane_of : ℕ → ℕ) (capacity batch : ℕ)
+    (senders : List LaneSender) (workers : List (Worker S)) (senders' : List LaneSender) (workers' : List (Worker S))
     (old new : Dealer D) (u : UnitsState) (known : List (Option (List ℕ))) (u' : UnitsState)
     (known' : List (Option (List ℕ))) (result : Result Step ReplayError) : Type 0 where
-  pub deals : Deals lane_of batch (room_of feeds) old new u known u' known' result
-  pub rounded : Rounded stands_for lane_of capacity feeds workers feeds' workers'
-      (numbered new.peers (filter_map unit_of deals.done))
+  pub deals : Deals lane_of batch (room_of senders) old new u known u' known' result
+  pub rounded : Rounded stands_for lane_of capacity senders workers senders' workers'
+      (with_numbers new.peers (filter_map unit_of deals.done))

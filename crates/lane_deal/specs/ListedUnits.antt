@@ -4,7 +4,7 @@ use Rattle.bgp_update.specs.Decoded.{IsWithin, span_of}
 use Rattle.mrt_body.specs.declared.unit.Payload.{Payload}
 use Rattle.mrt_body.specs.declared.unit.PeerAddr.TheVariants.{V4}
 use Rattle.mrt_body.specs.HeldBytes.{BytesMeet, payload_of_held}
-use Rattle.lane_deal.specs.declared.numbered.Numbered.{Numbered}
+use Rattle.lane_deal.specs.declared.peer_unit.PeerUnit.{PeerUnit}
 use Rattle.lane_deal.specs.declared.listed_unit.ListedRecord.{ListedRecord}
 use Rattle.lane_deal.specs.declared.listed_unit.NumberedPeer.{NumberedPeer}
 use Rattle.lane_deal.specs.declared.listed_unit.ListedUnit.{ListedUnit}
@@ -31,7 +31,7 @@ module _ {P K : Type 0} where
   IsListed records peers size u = (u.record < records) × ((u.peer < peers) × BytesMeet (IsWithin size) u.payload)
 
   -- the unit of this record and peer
-  abbrev pub unit_with : ListedRecord → NumberedPeer → Option ℕ → Payload (List ℕ) P K → Numbered (List ℕ) P K
+  abbrev pub unit_with : ListedRecord → NumberedPeer → Option ℕ → Payload (List ℕ) P K → PeerUnit (List ℕ) P K
   unit_with r p entry payload = record {
     number = p.number;
     unit = record {
@@ -43,7 +43,7 @@ module _ {P K : Type 0} where
   }
 
   -- the unit, where these are the records, the peers and the bytes of its list
-  abbrev pub unit_in : List ListedRecord → List NumberedPeer → List ℕ → ListedUnit P K → Numbered (List ℕ) P K
+  abbrev pub unit_in : List ListedRecord → List NumberedPeer → List ℕ → ListedUnit P K → PeerUnit (List ℕ) P K
   unit_in records peers block u =
       unit_with (slice_index_or records u.record SOME_RECORD) (slice_index_or peers u.peer SOME_PEER) u.entry
       (payload_of_held (span_of block) u.payload)

@@ -5,13 +5,13 @@ use Rattle.peer_tables.specs.Tables.{Seat}
 use Rattle.bgp_prefix.specs.declared.family.Family.{Ghosts as AddressGhosts}
 use Rattle.bgp_prefix.specs.declared.map.PrefixMap.{Ghosts}
 use Rattle.adj_rib.specs.declared.routes.RouteId.{RouteId}
-use Rattle.lane_deal.specs.Plain.{Numbered}
+use Rattle.lane_deal.specs.Plain.{PeerUnit}
 use Rattle.lane_deal.specs.declared.schedule.OneLane.{OneLane}
 use Rattle.lane_deal.specs.Collecting.{seats_held}
 
 -- a lane, but for where it looks for its sessions
 pub record OneLaneState (M A : Type 0) : Type 0 where
-  pub ring : List Numbered
+  pub ring : List PeerUnit
   pub seats : List (Seated M A)
   pub took : ℕ
 

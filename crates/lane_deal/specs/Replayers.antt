@@ -8,17 +8,17 @@ use Rattle.mrt_body.specs.declared.unit.PeerKey.{PeerKey}
 use Rattle.mrt_body.specs.Plain.{Unit as ReplayUnit}
 use Rattle.peer_tables.specs.Peers.{peers_of}
 use Rattle.peer_tables.specs.Tables.{Seat, seat_routes}
-use Rattle.lane_deal.specs.Plain.{Numbered}
+use Rattle.lane_deal.specs.Plain.{PeerUnit}
 use Rattle.lane_deal.specs.Lanes.{lane_units, seats_of_lane}
-use Rattle.lane_deal.specs.Numbers.{numbered}
+use Rattle.lane_deal.specs.Numbers.{with_numbers}
 
 -- What the ends of a lane's ring tell: the producer's, what it sent and how many more units may wait; the consumer's,
 -- what it received and what it knows to be waiting. Each unit goes with its peer's number.
 pub record RingState : Type 0 where
-  pub sent : List Numbered
+  pub sent : List PeerUnit
   pub free : ℕ
-  pub received : List Numbered
-  pub known : List Numbered
+  pub received : List PeerUnit
+  pub known : List PeerUnit
 
 -- a lane's ring, the sessions of its worker, and how many units this took
 pub record LaneState : Type 0 where
@@ -30,7 +30,7 @@ pub record LaneState : Type 0 where
 pub record ReplayerState : Type 0 where
   pub lanes : List LaneState
   pub peers : List PeerKey
-  pub kept : Option ReplayUnit
+  pub blocked_unit : Option ReplayUnit
   pub refused : List Damage
   pub dealt : ℕ
   pub spent : Bool
@@ -41,7 +41,7 @@ held_routes r = flat_map (λ lane. seat_routes lane.seats) r.lanes
 
 -- These units wait in a ring of this capacity: all that was sent, none of it received and all of it known to wait. That
 -- as many more may wait as it has room for is known.
-pub record WaitIn (capacity : ℕ) (waiting : List Numbered) (ring : RingState) : Type 0 where
+pub record WaitIn (capacity : ℕ) (waiting : List PeerUnit) (ring : RingState) : Type 0 where
   pub sent : ring.sent ≡ waiting
   pub received : ring.received ≡ []
   pub known : ring.known ≡ waiting
@@ -54,19 +54,19 @@ pub record LaneStandsFor (capacity : ℕ) (all dealt : List ReplayUnit) (lane : 
   pub taken : List ReplayUnit
   pub waiting : List ReplayUnit
   pub whole : taken ++ waiting ≡ dealt
-  pub ring : WaitIn capacity (numbered (peers_of all) waiting) lane.ring
+  pub ring : WaitIn capacity (with_numbers (peers_of all) waiting) lane.ring
   pub seats : seats_of_lane all taken ≡ lane.seats
   pub counted : lane.took ≡ min (length taken) (2 ^ 64 - 1)
 
 -- These units were dealt and these refusals listed, and there are lanes. The dealing gives the lane of a peer's number,
--- of so many lanes; the kept unit's peer has its number already.
+-- of so many lanes; the blocked unit's peer has its number already.
 pub record ReplayerStandsFor (dealing : ℕ → ℕ → ℕ) (capacity : ℕ) (units : List ReplayUnit) (refused : List Damage)
     (r : ReplayerState) : Type 0 where
   pub unspent : r.spent ≡ false
   pub lanes : (lane : ℕ) (state : LaneState) → slice_get r.lanes lane ≡ Some state
-      → LaneStandsFor capacity (units ++ option_to_list r.kept)
+      → LaneStandsFor capacity (units ++ option_to_list r.blocked_unit)
       (lane_units (λ number. dealing number (length r.lanes)) units lane) state
-  pub peers : r.peers ≡ peers_of (units ++ option_to_list r.kept)
+  pub peers : r.peers ≡ peers_of (units ++ option_to_list r.blocked_unit)
   pub refused_kept : r.refused ≡ refused
   pub some_lanes : 0 < length r.lanes
   pub dealt_counted : r.dealt ≡ min (length units) (2 ^ 64 - 1)

@@ -9,7 +9,7 @@ use Rattle.peer_tables.specs.Peers.{peer_eq}
 use Rattle.lane_deal.specs.declared.plan.Plan.{Plan}
 use Rattle.lane_deal.specs.declared.step.Step.{Step}
 use Rattle.lane_deal.specs.declared.step.Step.TheVariants.{Blocked, FullBatch, End}
-use Rattle.lane_deal.specs.Kept.{to_deal}
+use Rattle.lane_deal.specs.ToDeal.{to_deal}
 use Rattle.lane_deal.specs.Replayers.{LaneState, ReplayerState, ReplayerStandsFor}
 
 -- the lane of a unit, by the numbers that a replayer gave
@@ -21,11 +21,11 @@ abbrev pub share_of : (ℕ → ℕ → ℕ) → ReplayerState → ℕ → List R
 share_of dealing r lane units = count_by (λ unit. lane_in dealing r unit == lane) units
 
 -- What a round, or as much of it as a failed read left, did with what was to come: these are, in order, the units that
--- it dealt and the refusals that it listed. The next one is kept or still to come. It dealt at most a batch. What
+-- it dealt and the refusals that it listed. The next one is blocked or still to come. It dealt at most a batch. What
 -- waited in a ring was taken.
 pub record PlaysRound (dealing : ℕ → ℕ → ℕ) (capacity batch : ℕ) (old new : ReplayerState)
     (coming left done : List Found) : Type 0 where
-  pub order : to_deal old.kept coming ≡ done ++ to_deal new.kept left
+  pub order : to_deal old.blocked_unit coming ≡ done ++ to_deal new.blocked_unit left
   pub few : length (filter_map unit_of done) ≤ batch
   pub lanes : length new.lanes ≡ length old.lanes
   pub stands : (units : List ReplayUnit) (refused : List Damage) → ReplayerStandsFor dealing capacity units refused old
@@ -35,19 +35,19 @@ pub record PlaysRound (dealing : ℕ → ℕ → ℕ) (capacity batch : ℕ) (ol
 
 -- ---- why it stopped
 
--- a unit is kept, and those that waited in its lane and those dealt there would fill its ring
+-- a unit is blocked, and those that waited in its lane and those dealt there would fill its ring
 abbrev pub IsBlocked : (ℕ → ℕ → ℕ) → ℕ → ReplayerState → ReplayerState → List ReplayUnit → Type 0
 IsBlocked dealing capacity old new dealt =
-    (unit : ReplayUnit) × (state : LaneState) × (new.kept ≡ Some unit) ×
+    (unit : ReplayUnit) × (state : LaneState) × (new.blocked_unit ≡ Some unit) ×
     (slice_get old.lanes (lane_in dealing new unit) ≡ Some state)
     × (capacity ≤ length state.ring.sent + share_of dealing new (lane_in dealing new unit) dealt)
 
--- what the answer of a round says: a unit came back from a full ring, a batch is dealt, or nothing is kept and nothing
+-- what the answer of a round says: a unit came back from a full ring, a batch is dealt, or none is blocked and nothing
 -- to come
 abbrev pub Stops : (ℕ → ℕ → ℕ) → Plan → ReplayerState → ReplayerState → List Found → List ReplayUnit → Step → Type 0
 Stops dealing plan old new left dealt Blocked = IsBlocked dealing plan.ring old new dealt
 Stops dealing plan old new left dealt FullBatch = length dealt ≡ plan.batch
-Stops dealing plan old new left dealt End = (new.kept ≡ None) × (left ≡ [])
+Stops dealing plan old new left dealt End = (new.blocked_unit ≡ None) × (left ≡ [])
 
 -- ---- rounds, one after the other
 
@@ -79,6 +79,6 @@ IsSettled r = (lane : ℕ) (state : LaneState) → slice_get r.lanes lane ≡ So
 -- A settling takes what waits and changes nothing else.
 pub record Settles (dealing : ℕ → ℕ → ℕ) (capacity : ℕ) (old new : ReplayerState) : Type 0 where
   pub settled : IsSettled new
-  pub kept : new.kept ≡ old.kept
+  pub blocked_unit : new.blocked_unit ≡ old.blocked_unit
   pub stands : (units : List ReplayUnit) (refused : List Damage) →
       ReplayerStandsFor dealing capacity units refused old → ReplayerStandsFor dealing capacity units refused new

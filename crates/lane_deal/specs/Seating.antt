@@ -6,7 +6,7 @@ use Rattle.mrt_body.specs.Plain.{Unit as ReplayUnit}
 use Rattle.adj_rib.specs.Sessions.{session_of}
 use Rattle.peer_tables.specs.Peers.{peer_eq, peers_of, units_of_peer}
 use Rattle.peer_tables.specs.Tables.{Seat}
-use Rattle.lane_deal.specs.Plain.{Numbered}
+use Rattle.lane_deal.specs.Plain.{PeerUnit}
 use Rattle.lane_deal.specs.Numbers.{units_in}
 
 abbrev pub seat_by : (PeerKey → ℕ) → List ReplayUnit → PeerKey → Seat
@@ -17,13 +17,13 @@ abbrev pub seats_by : (PeerKey → ℕ) → List ReplayUnit → List Seat
 seats_by number units = map (seat_by number units) (peers_of units)
 
 -- each unit has its peer's number, and different peers have different ones
-pub record AreNumbered (number : PeerKey → ℕ) (items : List Numbered) : Type 0 where
+pub record AreNumbered (number : PeerKey → ℕ) (items : List PeerUnit) : Type 0 where
   pub each : AllByRecursion (λ item. number item.unit.peer ≡ item.number) items
   pub apart : (p q : PeerKey) → list_any (λ u. peer_eq u.peer p) (units_in items) ≡ true →
       list_any (λ u. peer_eq u.peer q) (units_in items) ≡ true → number p ≡ number q → p ≡ q
 
 -- the sessions stand for these units, where their numbers are those of their peers
-abbrev pub HoldsUnits : List Seat → List Numbered → Type 0
+abbrev pub HoldsUnits : List Seat → List PeerUnit → Type 0
 HoldsUnits seats items = (number : PeerKey → ℕ) → AreNumbered number items → seats_by number (units_in items) ≡ seats
 
 abbrev pub new_seat : ℕ → PeerKey → Seat

@@ -6,10 +6,10 @@ use Rattle.bgp_prefix.specs.declared.family.Family.{Ghosts as AddressGhosts}
 use Rattle.bgp_prefix.specs.declared.map.PrefixMap.{Ghosts}
 use Rattle.bgp_update.specs.declared.unicast.Unicast.{Ghosts as UnicastGhosts}
 use Rattle.adj_rib.specs.declared.routes.RouteId.{RouteId}
-use Rattle.lane_deal.specs.Plain.{Numbered}
+use Rattle.lane_deal.specs.Plain.{PeerUnit}
 use Rattle.lane_deal.specs.declared.schedule.OneLane.{OneLane}
 use Rattle.lane_deal.specs.declared.scheduled.Lanes.{Lanes}
-use Rattle.lane_deal.specs.Numbers.{numbered}
+use Rattle.lane_deal.specs.Numbers.{with_numbers}
 use Rattle.lane_deal.specs.OneLanes.{one_lane_state}
 use Rattle.lane_deal.specs.Schedules.{LanesState, IsShared}
 use Rattle.lane_deal.specs.Shown.{SeatsHold}
@@ -18,13 +18,13 @@ module _ {M A : Type 0} {g : Ghosts M RouteId A} {a : AddressGhosts A} where
   -- the units that wait in the lane and those that it took, of these
   pub record LaneShows (all : List ReplayUnit) (lane : OneLane M A g a) (waiting taken : List ReplayUnit)
       : Type 0 where
-    pub ring : lane.ring.items ≡ numbered (peers_of all) waiting
-    pub seats : SeatsHold lane.seats (numbered (peers_of all) taken)
+    pub ring : lane.ring.items ≡ with_numbers (peers_of all) waiting
+    pub seats : SeatsHold lane.seats (with_numbers (peers_of all) taken)
     pub took : lane.took ≡ min (length taken) (2 ^ 64 - 1)
 
-  pub record LanesShow (all : List ReplayUnit) (undealt : List Numbered) (lanes : List (OneLane M A g a))
+  pub record LanesShow (all : List ReplayUnit) (undealt : List PeerUnit) (lanes : List (OneLane M A g a))
       (s : LanesState) : Type 0 where
-    pub rest : undealt ≡ numbered (peers_of all) s.undealt
+    pub rest : undealt ≡ with_numbers (peers_of all) s.undealt
     pub each : (lane : ℕ) (d : OneLane M A g a) → lane < length lanes →
         LaneShows all (slice_index_or lanes lane d) (s.ring lane) (s.taken lane)
     pub past : (lane : ℕ) → length lanes ≤ lane → (s.ring lane ≡ []) × (s.taken lane ≡ [])

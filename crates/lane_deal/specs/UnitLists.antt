@@ -2,19 +2,19 @@
 use Rattle.std.specs.Prelude.{◌≡◌, ℕ, ◌-◌, ◌<◌, List, length, map, drop}
 use Rattle.std.specs.List.{AllByRecursion, flat_map, sum_by}
 use Rattle.mrt_body.specs.Units.{IsSmallUnit}
-use Rattle.lane_deal.specs.declared.numbered.Numbered.{Numbered}
+use Rattle.lane_deal.specs.declared.peer_unit.PeerUnit.{PeerUnit}
 use Rattle.lane_deal.specs.declared.unit_list.UnitList.{UnitList}
 use Rattle.lane_deal.specs.ListedUnits.{unit_in}
 
 module _ {P K : Type 0} where
-  abbrev pub units_of : UnitList P K → List (Numbered (List ℕ) P K)
+  abbrev pub units_of : UnitList P K → List (PeerUnit (List ℕ) P K)
   units_of list = map (unit_in list.records.items list.peers.items list.bytes.items) list.listed.items
 
   -- the units of these lists, one list after the other
-  abbrev pub units_of_lists : List (UnitList P K) → List (Numbered (List ℕ) P K)
+  abbrev pub units_of_lists : List (UnitList P K) → List (PeerUnit (List ℕ) P K)
   units_of_lists lists = flat_map (λ list. units_of list) lists
 
-  abbrev pub AreSmall : List (Numbered (List ℕ) P K) → Type 0
+  abbrev pub AreSmall : List (PeerUnit (List ℕ) P K) → Type 0
   AreSmall items = AllByRecursion (λ item. IsSmallUnit item.unit) items
 
   -- a list that may pass through a ring

@@ -4,16 +4,16 @@ use Rattle.std.specs.declared.alloc.Global.{Global}
 use Rattle.rtrb.specs.Ends.{SameRing}
 use Rattle.rtrb.specs.Ring.{sent as sent_lists, received as received_lists, known_items as lists_known}
 use Rattle.rtrb.specs.declared.consumer.Consumer.{Consumer}
-use Rattle.lane_deal.specs.Plain.{Numbered, UnitList, UnitProducer}
-use Rattle.lane_deal.specs.declared.numbered.Small.{Small}
+use Rattle.lane_deal.specs.Plain.{PeerUnit, UnitList, UnitProducer}
+use Rattle.lane_deal.specs.declared.peer_unit.NonEmptyLists.{NonEmptyLists}
 use Rattle.lane_deal.specs.UnitLists.{units_of, units_of_lists}
 
 abbrev pub ListConsumer : Type 0
-ListConsumer = Consumer UnitList Global Small
+ListConsumer = Consumer UnitList Global NonEmptyLists
 
 -- every unit dealt to the ring so far: those of the lists that were pushed, and those of the list that is being filled
-abbrev pub sent : UnitProducer → List Numbered
-sent p = units_of_lists (sent_lists p.lists) ++ units_of p.filling
+abbrev pub sent : UnitProducer → List PeerUnit
+sent p = units_of_lists (sent_lists p.lists) ++ units_of p.open_list
 
 -- how many more units the dealer may deal to the ring
 abbrev pub known_free : UnitProducer → ℕ
@@ -24,7 +24,7 @@ abbrev pub ring_capacity : UnitProducer → ℕ
 ring_capacity p = p.capacity
 
 -- every unit of the lists that were popped
-abbrev pub received : ListConsumer → List Numbered
+abbrev pub received : ListConsumer → List PeerUnit
 received c = units_of_lists (received_lists c)
 
 -- the lists that the worker has seen in the ring
@@ -32,7 +32,7 @@ abbrev pub known_lists : ListConsumer → List UnitList
 known_lists c = lists_known c
 
 -- the units of the lists that the worker has seen in the ring
-abbrev pub known_items : ListConsumer → List Numbered
+abbrev pub known_items : ListConsumer → List PeerUnit
 known_items c = units_of_lists (lists_known c)
 
 -- the two ends of one ring

@@ -27,7 +27,7 @@ impl<F: Unicast, S: Sessions<Addr = F>> Alone<S, F> {
     ghost use Rattle.std.specs.Prelude.{◌≡◌, ◌++◌, List, [], OnOk};
     ghost use Rattle.lane_deal.specs.DecodedBatches.{no_batch};
     ghost use Rattle.lane_deal.specs.LaneWorkers.{Takes, TakesAhead};
-    ghost use Rattle.lane_deal.specs.Plain.{Numbered};
+    ghost use Rattle.lane_deal.specs.Plain.{PeerUnit};
 
     /// The worker alone, for whom no unit waits.
     pub fn new(alloc: Global, worker: WorkerOf<S, F>) -> Alone<S, F>
@@ -43,7 +43,7 @@ impl<F: Unicast, S: Sessions<Addr = F>> Alone<S, F> {
     /// Takes the units that wait.
     #[inline(never)]
     fn take_waiting<G: Gate>(&mut self, alloc: Global, gate: &G) -> Result<(), Memory>
-        ensures { OnOk result (((before : _) (items : List Numbered) →
+        ensures { OnOk result (((before : _) (items : List PeerUnit) →
             TakesAhead S.stands_for before self.old.worker self.old.waiting items →
             Takes S.stands_for before self.new.worker items) × (self.new.waiting ≡ no_batch)) }
     {
@@ -58,7 +58,7 @@ impl<F: Unicast, S: Sessions<Addr = F>> Alone<S, F> {
         alloc: Global,
         gate: &G,
     ) -> (WorkerOf<S, F>, Result<(), Memory>)
-        ensures { OnOk result.1 ((before : _) (items : List Numbered) →
+        ensures { OnOk result.1 ((before : _) (items : List PeerUnit) →
             TakesAhead S.stands_for before self.worker self.waiting items →
             Takes S.stands_for before result.0 items) }
     {
@@ -72,7 +72,7 @@ impl<F: Unicast, S: Sessions<Addr = F>> Alone<S, F> {
 impl<F: Unicast, S: Sessions<Addr = F>> Receives for Alone<S, F> {
     ghost use Rattle.std.specs.Prelude.{◌^◌, ◌++◌, List};
     ghost use Rattle.lane_deal.specs.LaneWorkers.{TakesAhead};
-    ghost use Rattle.lane_deal.specs.Plain.{Numbered};
+    ghost use Rattle.lane_deal.specs.Plain.{PeerUnit};
 
     type Addr = F;
 
@@ -80,7 +80,7 @@ impl<F: Unicast, S: Sessions<Addr = F>> Receives for Alone<S, F> {
 
     ghost room = { λ a lane. 2 ^ 64 };
 
-    ghost received = { λ lane_of a b items. (before : _) (given : List Numbered) →
+    ghost received = { λ lane_of a b items. (before : _) (given : List PeerUnit) →
         TakesAhead S.stands_for before a.worker a.waiting given →
         TakesAhead S.stands_for before b.worker b.waiting (given ++ items) };
 

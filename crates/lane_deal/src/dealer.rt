@@ -8,9 +8,9 @@ ghost use Rattle.mrt_frame.specs.declared.error.ReplayError.TheVariants.{Read};
 ghost use Rattle.lane_deal.specs.Asking.{Asked, AskedInVain, StopsReading, TakesUnits};
 
 use crate::dealing::Dealing;
-use crate::feed::FeedOf;
 use crate::gate::Gate;
 use crate::halves::Deals;
+use crate::lane_sender::LaneSenderOf;
 use crate::receives::Receives;
 use crate::step::Step;
 use bgp_prefix::{Memory, Prefix};
@@ -27,11 +27,11 @@ pub struct Dealer<D, P = Prefix, K = FamilyMark> {
     pub dealing: D,
     pub peers: Peers,
     /// The unit whose lane's ring was full. It is the next to be dealt.
-    pub kept: Option<Unit<PayloadBytes, P, K>>,
+    pub blocked_unit: Option<Unit<PayloadBytes, P, K>>,
     pub refused: Vec<Damage>,
     /// The number of units dealt. Saturates at `u64::MAX`.
     pub dealt: u64,
-    ghost small: { ForSome kept IsSmallUnit },
+    ghost small: { ForSome blocked_unit IsSmallUnit },
 }
 
 /// Deals what the files yield to lanes of a family.
@@ -66,19 +66,19 @@ fn list_refusals<F: Unicast, R: Source>(
 
 impl<F: Unicast, D: Dealing> Dealer<D, Prefix<F>, FamilyMark<F>> {
     ghost use Rattle.lane_deal.specs.DealerSteps.{DealsTo};
-    ghost use Rattle.lane_deal.specs.Answers.{IfAnswered};
+    ghost use Rattle.lane_deal.specs.Results.{IfAnswered};
     ghost use Rattle.peer_tables.specs.Numbers.{NumbersPeer};
 
     pub fn new(alloc: Global, dealing: D) -> Result<DealerOf<D, F>, Memory>
     where
         D: Drop,
         ensures { IfOk result (λ dealer. (dealer.dealing ≡ dealing) × (dealer.peers ≡ []) ×
-            (dealer.kept ≡ None) × (dealer.refused.items ≡ []) × (dealer.dealt ≡ 0)) }
+            (dealer.blocked_unit ≡ None) × (dealer.refused.items ≡ []) × (dealer.dealt ≡ 0)) }
     {
         Ok(Dealer {
             dealing,
             peers: Peers::new(alloc)?,
-            kept: None,
+            blocked_unit: None,
             refused: Vec::new(alloc),
             dealt: 0,
         })
@@ -90,7 +90,7 @@ impl<F: Unicast, D: Dealing> Dealer<D, Prefix<F>, FamilyMark<F>> {
         ensures { (number : ℕ) → D.lane_of self.now.dealing number workers < workers }
     {}
 
-    /// Lists what the files refuse, until a unit is to be dealt or they end. A kept unit is to be dealt at once.
+    /// Lists what the files refuse, until a unit is to be dealt or they end. The blocked unit is to be dealt at once.
     #[inline(always)]
     fn ask<R: Source>(
         &mut self,
@@ -105,20 +105,20 @@ impl<F: Unicast, D: Dealing> Dealer<D, Prefix<F>, FamilyMark<F>> {
             (StopsReading units.old (map R.remaining files.old) (map R.failure_count files.old)
             (map R.failure_count files.new)) }
         ensures same { self.new ≡ record self.old { refused = self.new.refused } }
-        ensures waits { IfSome self.old.kept
+        ensures waits { IfSome self.old.blocked_unit
             (λ _. (self.new.refused.items ≡ self.old.refused.items)
             × TakesUnits units.old (map R.remaining files.old) units.new (map R.remaining files.new) []) }
-        ensures going { OnOk result (self.old.kept ≡ None → units.new.standing ≡ standings.Going) }
+        ensures going { OnOk result (self.old.blocked_unit ≡ None → units.new.standing ≡ standings.Going) }
         ensures at_end { OnOk result
-            (self.old.kept ≡ None → units.new.pending ≡ [] → units.new.file ≡ units.new.count) }
-        ensures failed { OnErr result (self.old.kept ≡ None) }
-        ensures asked { self.old.kept ≡ None → MatchResult result
+            (self.old.blocked_unit ≡ None → units.new.pending ≡ [] → units.new.file ≡ units.new.count) }
+        ensures failed { OnErr result (self.old.blocked_unit ≡ None) }
+        ensures asked { self.old.blocked_unit ≡ None → MatchResult result
             (λ _. Asked self.old.refused.items self.new.refused.items units.old (map R.remaining files.old) units.new
             (map R.remaining files.new))
             (λ e. (file : ℕ) → e ≡ Read file → AskedInVain self.old.refused.items self.new.refused.items units.old
             (map R.remaining files.old) units.new (map R.remaining files.new)) }
     {
-        if self.kept.is_some() {
+        if self.blocked_unit.is_some() {
             return Ok(());
         }
         if units.is_lending() {
@@ -127,16 +127,16 @@ impl<F: Unicast, D: Dealing> Dealer<D, Prefix<F>, FamilyMark<F>> {
         list_refusals(alloc, units, files, &mut self.refused)
     }
 
-    /// Lends the next unit of the record that was cut last, unless a unit is kept, which comes before it.
+    /// Lends the next unit of the record that was cut last, unless a unit is blocked, which comes before it.
     #[inline(always)]
     fn lent<'a>(&self, units: &'a Units<F>) -> Option<LentUnitOf<'a, F>>
-        ensures kept { IfSome result (λ _. self.now.kept ≡ None) }
+        ensures blocked_unit { IfSome result (λ _. self.now.blocked_unit ≡ None) }
         ensures lends { IfSome result (λ lent. units.now.pending ≡ lent.unit ∷ drop 1 units.now.pending) }
-        ensures none { result ≡ None → self.now.kept ≡ None → units.now.standing ≡ standings.Going →
+        ensures none { result ≡ None → self.now.blocked_unit ≡ None → units.now.standing ≡ standings.Going →
             units.now.pending ≡ [] }
         ensures small { IfSome result (λ lent. IsSmallUnit lent.unit) }
     {
-        match &self.kept {
+        match &self.blocked_unit {
             Some(_) => None,
             None => units.lend(),
         }
@@ -168,7 +168,7 @@ impl<F: Unicast, D: Dealing> Dealer<D, Prefix<F>, FamilyMark<F>> {
         gate: &G,
         batch: u64,
         looks: u32,
-        over: &AtomicBool,
+        round_over: &AtomicBool,
         units: &mut Units<F>,
         files: &mut [R],
         to: &mut K,
@@ -193,8 +193,8 @@ impl<F: Unicast, D: Dealing> Dealer<D, Prefix<F>, FamilyMark<F>> {
             self.ask(alloc, units, files)?;
             if let Some(lent) = self.lent(units) {
                 let (number, lane) = self.lane_for(&lent.unit.peer, lent.peer_index, to.lanes())?;
-                if !to.has_room(gate, lane, looks, over) {
-                    self.kept = Some(lent.unit.to_unit(alloc)?);
+                if !to.has_room(gate, lane, looks, round_over) {
+                    self.blocked_unit = Some(lent.unit.to_unit(alloc)?);
                     units.pass();
                     return Ok(Step::Blocked);
                 }
@@ -203,12 +203,12 @@ impl<F: Unicast, D: Dealing> Dealer<D, Prefix<F>, FamilyMark<F>> {
                 self.dealt = self.dealt.saturating_add(1);
                 continue;
             }
-            let Some(unit) = self.kept.take() else {
+            let Some(unit) = self.blocked_unit.take() else {
                 return Ok(Step::End);
             };
             let (number, lane) = self.lane_for(&unit.peer, None, to.lanes())?;
-            if !to.has_room(gate, lane, looks, over) {
-                self.kept = Some(unit);
+            if !to.has_room(gate, lane, looks, round_over) {
+                self.blocked_unit = Some(unit);
                 return Ok(Step::Blocked);
             }
             to.receive(alloc, gate, lane, number, &unit.lend())?;
@@ -233,11 +233,11 @@ impl<F: Unicast, D: Dealing> Deals for Dealer<D, Prefix<F>, FamilyMark<F>> {
         gate: &G,
         batch: u64,
         looks: u32,
-        over: &AtomicBool,
+        round_over: &AtomicBool,
         units: &mut Units<F>,
         files: &mut [R],
-        feeds: &mut Vec<FeedOf<F>>,
+        senders: &mut Vec<LaneSenderOf<F>>,
     ) -> Result<Step, ReplayError> {
-        self.deal(alloc, gate, batch, looks, over, units, files, feeds)
+        self.deal(alloc, gate, batch, looks, round_over, units, files, senders)
     }
 }

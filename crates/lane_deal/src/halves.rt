@@ -1,10 +1,10 @@
 //! What a round knows of its two halves. Its two closures have no type parameter in common, since the borrow checker
 //! covers no others.
 
-use crate::feed::FeedOf;
 use crate::gate::Gate;
+use crate::lane_sender::LaneSenderOf;
 use crate::step::Step;
-use crate::worker::Patience;
+use crate::worker::RoundLimits;
 use bgp_prefix::Memory;
 use bgp_update::Unicast;
 use mrt_body::Units;
@@ -37,15 +37,15 @@ pub trait Deals {
         gate: &G,
         batch: u64,
         looks: u32,
-        over: &AtomicBool,
+        round_over: &AtomicBool,
         units: &mut Units<Self::Addr>,
         files: &mut [R],
-        feeds: &mut Vec<FeedOf<Self::Addr>>,
+        senders: &mut Vec<LaneSenderOf<Self::Addr>>,
     ) -> Result<Step, ReplayError>
-        requires lanes { 0 < length feeds.old.items }
+        requires lanes { 0 < length senders.old.items }
         requires files { length files.old ≡ units.old.count }
-        ensures { DealsOn (λ number. lane_of (dealer self.old).dealing number (length feeds.old.items)) batch
-            feeds.old.items feeds.new.items (dealer self.old) (dealer self.new) units.old (map R.remaining files.old)
+        ensures { DealsOn (λ number. lane_of (dealer self.old).dealing number (length senders.old.items)) batch
+            senders.old.items senders.new.items (dealer self.old) (dealer self.new) units.old (map R.remaining files.old)
             (map R.failure_count files.old) units.new (map R.remaining files.new) (map R.failure_count files.new)
             result };
 }
@@ -62,8 +62,8 @@ pub trait Works {
         &mut self,
         alloc: Global,
         gate: &G,
-        over: &AtomicBool,
-        patience: Patience,
+        round_over: &AtomicBool,
+        limits: RoundLimits,
     ) -> Result<(), Memory>
         ensures { OnOk result (worked self.old self.new) };
 }

@@ -2,9 +2,9 @@ ghost use Rattle.std.specs.Prelude.{◌≡◌, ◌≤◌, OnOk, IfOk, length, []
 ghost use Rattle.lane_deal.specs.UnitRings.{IsPair, ring_capacity};
 ghost use Rattle.lane_deal.specs.LaneRings.{Renewed, RenewedAll, IsLane, AreFresh};
 
-use crate::feed::{Feed, FeedOf};
+use crate::lane_sender::{LaneSender, LaneSenderOf};
 use crate::sessions::Sessions;
-use crate::unit_producer::{UnitProducer, emptied_room};
+use crate::unit_producer::{UnitProducer, recycled_room};
 use crate::worker::{Worker, WorkerOf};
 use bgp_prefix::Memory;
 use bgp_update::Unicast;
@@ -15,19 +15,19 @@ use std::alloc::Global;
 pub fn renew<F: Unicast, S>(
     alloc: Global,
     capacity: usize,
-    feed: &mut FeedOf<F>,
+    sender: &mut LaneSenderOf<F>,
     worker: &mut WorkerOf<S, F>,
 ) -> Result<(), Memory>
-    requires pair { IsPair feed.old.producer worker.old.consumer }
-    requires capacity { ring_capacity feed.old.producer ≡ capacity }
-    ensures { OnOk result (Renewed capacity feed.old worker.old feed.new worker.new) }
+    requires pair { IsPair sender.old.producer worker.old.consumer }
+    requires capacity { ring_capacity sender.old.producer ≡ capacity }
+    ensures { OnOk result (Renewed capacity sender.old worker.old sender.new worker.new) }
 {
-    feed.producer.compare(&mut worker.consumer);
+    sender.producer.compare(&mut worker.consumer);
     let (mut producer, mut consumer) = UnitProducer::new(alloc, capacity)?;
     producer.move_lists(&mut worker.consumer)?;
-    producer.move_filling(alloc, &mut feed.producer)?;
+    producer.move_open_list(alloc, &mut sender.producer)?;
     producer.compare(&mut consumer);
-    feed.producer = producer;
+    sender.producer = producer;
     worker.consumer = consumer;
     Ok(())
 }
@@ -36,16 +36,16 @@ pub fn renew<F: Unicast, S>(
 pub fn renew_all<F: Unicast, S>(
     alloc: Global,
     capacity: usize,
-    feeds: &mut [FeedOf<F>],
+    senders: &mut [LaneSenderOf<F>],
     workers: &mut [WorkerOf<S, F>],
 ) -> Result<(), Memory>
-    requires lanes { length workers.old ≡ length feeds.old }
-    requires pairs { (lane : ℕ) (d : _) (e : _) → lane < length feeds.old →
-        IsLane capacity (slice_index_or feeds.old lane d) (slice_index_or workers.old lane e) }
-    ensures { OnOk result (RenewedAll capacity feeds.old workers.old feeds.new workers.new) }
+    requires lanes { length workers.old ≡ length senders.old }
+    requires pairs { (lane : ℕ) (d : _) (e : _) → lane < length senders.old →
+        IsLane capacity (slice_index_or senders.old lane d) (slice_index_or workers.old lane e) }
+    ensures { OnOk result (RenewedAll capacity senders.old workers.old senders.new workers.new) }
 {
-    for lane in 0..feeds.len() {
-        renew(alloc, capacity, &mut feeds[lane], &mut workers[lane])?;
+    for lane in 0..senders.len() {
+        renew(alloc, capacity, &mut senders[lane], &mut workers[lane])?;
     }
     Ok(())
 }
@@ -55,26 +55,26 @@ pub fn make_lanes<F: Unicast, S: Sessions<Addr = F> + Drop>(
     alloc: Global,
     capacity: usize,
     count: usize,
-) -> Result<(Vec<FeedOf<F>>, Vec<WorkerOf<S, F>>), Memory>
+) -> Result<(Vec<LaneSenderOf<F>>, Vec<WorkerOf<S, F>>), Memory>
     ensures { IfOk result (λ made. AreFresh S.stands_for capacity count made.0.items made.1.items) }
 {
-    let mut feeds = Vec::new(alloc);
+    let mut senders = Vec::new(alloc);
     let mut workers = Vec::new(alloc);
     for lane in 0..count {
         let (producer, consumer) = UnitProducer::new(alloc, capacity)?;
-        let (gives_back, emptied) = RingBuffer::new(alloc, emptied_room(capacity))?;
-        feeds.push(Feed {
+        let (gives_back, recycled) = RingBuffer::new(alloc, recycled_room(capacity))?;
+        senders.push(LaneSender {
             producer,
             dealt: 0,
-            emptied,
+            recycled,
         })?;
         workers.push(Worker {
             lane,
             consumer,
             sessions: S::fresh(alloc),
             taken: 0,
-            emptied: gives_back,
+            recycled: gives_back,
         })?;
     }
-    Ok((feeds, workers))
+    Ok((senders, workers))
 }

@@ -14,7 +14,7 @@
 //! - **A single worker that looks once takes what is dealt at once** (`Alone`), in the same thread: a unit is decoded
 //!   from its record, and neither listed nor copied. The dealer deals alike to it and to the rings of lanes (`Receives`),
 //!   and the contract of a round is the same for both.
-//! - **A full ring ends a round.** The unit is kept and dealt first in the next, so no unit overtakes another in its
+//! - **A full ring ends a round.** The unit is blocked, and dealt first in the next, so no unit overtakes another in its
 //!   lane. Before that the dealer looks again, at most 1,000 times. What a worker takes beyond what waited at first
 //!   depends on timing, so the contract says what is dealt and what waits, and not who took how much.
 //! - **Rings are made anew after each round**, with what waits moved over in order: then the producer's end knows how
@@ -45,15 +45,15 @@ mod collecting;
 mod dealer;
 mod dealing;
 mod decoded_batch;
-mod feed;
 mod gate;
 mod halves;
 mod holding;
 mod lane;
-mod lanes;
+mod lane_sender;
+mod laws;
 mod listed_peer;
 mod listed_unit;
-mod numbered;
+mod peer_unit;
 mod plan;
 mod receives;
 mod replayer;
@@ -72,7 +72,7 @@ mod worker;
 
 pub use dealing::{ByBlocks, ByList, ByTurns, Dealing};
 pub use gate::{Gate, NoGate};
-pub use lanes::{
+pub use laws::{
     lanes_make_tables, lanes_share_units, rounds_are_few, schedules_keep_order,
     settled_lanes_make_tables,
 };

@@ -116,15 +116,15 @@ fn find_or_add_peer(
 #[inline(always)]
 pub fn index_of_peer(
     peers: &mut Vec<NumberedPeer>,
-    probable: u16,
+    next_peer_hint: u16,
     number: usize,
     peer: ListedPeer,
 ) -> Result<u16, Memory>
     ensures kept { AreKept peers.old.items peers.new.items }
     ensures found { IfOk result (λ at. IsListedAt peers.new.items at (record { number = number; peer = peer })) }
 {
-    if is_peer_at(peers, probable as usize, number, &peer) {
-        return Ok(probable);
+    if is_peer_at(peers, next_peer_hint as usize, number, &peer) {
+        return Ok(next_peer_hint);
     }
     find_or_add_peer(peers, number, peer)
 }

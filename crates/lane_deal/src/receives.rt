@@ -11,8 +11,8 @@ use std::sync::atomic::AtomicBool;
 pub trait Receives {
     ghost use Rattle.std.specs.Prelude.{◌≡◌, ◌≤◌, ◌<◌, ◌+◌, ℕ, List, [], ◌∷◌, ◌++◌, true, false, OnOk, length};
     ghost use Rattle.mrt_body.specs.Units.{IsSmallUnit};
-    ghost use Rattle.lane_deal.specs.Feeds.{in_lane};
-    ghost use Rattle.lane_deal.specs.Plain.{Numbered};
+    ghost use Rattle.lane_deal.specs.LaneSenders.{in_lane};
+    ghost use Rattle.lane_deal.specs.Plain.{PeerUnit};
 
     /// The family of their prefixes.
     type Addr: Unicast;
@@ -24,14 +24,20 @@ pub trait Receives {
     ghost room: { Self → ℕ → ℕ };
 
     /// These units were received, in order, each by the lane of its peer's number.
-    ghost received: { (ℕ → ℕ) → Self → Self → List Numbered → Type 0 };
+    ghost received: { (ℕ → ℕ) → Self → Self → List PeerUnit → Type 0 };
 
     /// The number of lanes.
     fn lanes(&self) -> usize
         ensures { result ≡ count self.now };
 
     /// Whether there is room for a unit in a lane, at once or at one of this many further looks.
-    fn has_room<G: Gate>(&mut self, gate: &G, lane: usize, looks: u32, over: &AtomicBool) -> bool
+    fn has_room<G: Gate>(
+        &mut self,
+        gate: &G,
+        lane: usize,
+        looks: u32,
+        round_over: &AtomicBool,
+    ) -> bool
         requires { lane < count self.old }
         ensures looked { (lane_of : ℕ → ℕ) → received lane_of self.old self.new [] }
         ensures room { result ≡ true → 0 < room self.new lane }
@@ -57,9 +63,9 @@ pub trait Receives {
     /// What is received adds up. Does nothing.
     fn adds_up(&self)
         ensures nothing { (lane_of : ℕ → ℕ) (a : Self) → received lane_of a a [] }
-        ensures joined { (lane_of : ℕ → ℕ) (a b c : Self) (xs ys : List Numbered) → received lane_of a b xs →
+        ensures joined { (lane_of : ℕ → ℕ) (a b c : Self) (xs ys : List PeerUnit) → received lane_of a b xs →
             received lane_of b c ys → received lane_of a c (xs ++ ys) }
         // It takes no more room than it counts.
-        ensures spent { (lane_of : ℕ → ℕ) (a b : Self) (xs : List Numbered) (lane : ℕ) → lane < count a →
+        ensures spent { (lane_of : ℕ → ℕ) (a b : Self) (xs : List PeerUnit) (lane : ℕ) → lane < count a →
             received lane_of a b xs → room a lane ≤ room b lane + length (in_lane lane_of lane xs) };
 }

@@ -3,22 +3,22 @@
 ghost use Rattle.std.specs.Prelude.{◌≡◌, ◌≢◌, ◌<◌, false, length};
 ghost use Rattle.lane_deal.specs.LaneRings.{AreReady};
 ghost use Rattle.lane_deal.specs.declared.state.State.TheVariants.{Spent};
-ghost use Rattle.lane_deal.specs.Answers.{StateAfter};
+ghost use Rattle.lane_deal.specs.Results.{StateAfter};
 ghost use Rattle.lane_deal.specs.Replayers.{StandsForSome};
 ghost use Rattle.lane_deal.specs.Shown.{state_at};
 
 use crate::collecting::collect_lanes;
 use crate::dealer::{Dealer, DealerOf};
 use crate::dealing::Dealing;
-use crate::feed::FeedOf;
 use crate::gate::Gate;
 use crate::lane::make_lanes;
+use crate::lane_sender::LaneSenderOf;
 use crate::plan::Plan;
 use crate::round::{run_round, settle_lanes};
 use crate::seats::Seats;
 use crate::state::State;
 use crate::step::Step;
-use crate::worker::{Patience, WorkerOf};
+use crate::worker::{RoundLimits, WorkerOf};
 use adj_rib::RouteId;
 use bgp_prefix::{Memory, PrefixMap};
 use bgp_update::Unicast;
@@ -36,14 +36,14 @@ where
 {
     plan: Plan,
     dealer: DealerOf<D, M::Addr>,
-    feeds: Vec<FeedOf<M::Addr>>,
+    senders: Vec<LaneSenderOf<M::Addr>>,
     workers: Vec<WorkerOf<Seats<M>, M::Addr>>,
     rounds: u64,
     state: State,
-    ghost lanes: { 0 < length feeds.items },
-    ghost ready: { state ≢ Spent → AreReady plan.ring feeds.items workers.items },
+    ghost lanes: { 0 < length senders.items },
+    ghost ready: { state ≢ Spent → AreReady plan.ring senders.items workers.items },
     ghost stands: { state ≢ Spent → ∥ StandsForSome (D.lane_of dealer.dealing) plan.ring
-        (state_at dealer feeds.items workers.items false) ∥₁ },
+        (state_at dealer senders.items workers.items false) ∥₁ },
 }
 
 fn state_after(answer: &Result<Step, ReplayError>) -> State
@@ -63,7 +63,7 @@ impl<F: Unicast + Send, M: PrefixMap<RouteId, Addr = F> + Send + Drop, D: Dealin
 > {
     ghost use Rattle.std.specs.Prelude.{◌≡◌, ◌≢◌, ◌<◌, ◌+◌, ◌↔◌, ℕ, IfOk, OnOk, OnErr, IfErr, IsErr, IsTrue, None, length, map, min, ◌^◌, ◌-◌, []};
     ghost use Rattle.lane_deal.specs.declared.state.State.TheVariants.{Running, Spent};
-    ghost use Rattle.lane_deal.specs.Answers.{IfAnswered, Repeats};
+    ghost use Rattle.lane_deal.specs.Results.{IfAnswered, Repeats};
     ghost use Rattle.lane_deal.specs.Asking.{ReadsOn};
     ghost use Rattle.lane_deal.specs.Plans.{IsPlan};
     ghost use Rattle.lane_deal.specs.Playing.{shown, PlaysOn};
@@ -76,28 +76,28 @@ impl<F: Unicast + Send, M: PrefixMap<RouteId, Addr = F> + Send + Drop, D: Dealin
         D: Drop,
         requires { IsPlan plan }
         ensures running { IfOk result (λ replayer. (replayer.state ≡ Running) × (replayer.rounds ≡ 0) ×
-            (replayer.dealer.kept ≡ None)) }
+            (replayer.dealer.blocked_unit ≡ None)) }
         ensures plan { IfOk result (λ replayer. (replayer.plan ≡ plan) × (replayer.dealer.dealing ≡ dealing)) }
         ensures lanes { IfOk result (λ replayer. length (shown replayer).lanes ≡ plan.workers) }
         ensures settled { IfOk result (λ replayer. IsSettled (shown replayer)) }
         ensures stands { IfOk result
             (λ replayer. ReplayerStandsFor (D.lane_of dealing) plan.ring [] [] (shown replayer)) }
     {
-        let (feeds, workers) = make_lanes(alloc, plan.ring, plan.workers)?;
+        let (senders, workers) = make_lanes(alloc, plan.ring, plan.workers)?;
         Ok(Replayer {
             plan,
             dealer: Dealer::new(alloc, dealing)?,
-            feeds,
+            senders,
             workers,
             rounds: 0,
             state: State::Running,
         })
     }
 
-    fn patience(&self) -> Patience
+    fn limits(&self) -> RoundLimits
         ensures { result.batch ≡ self.now.plan.batch }
     {
-        Patience {
+        RoundLimits {
             looks: self.plan.looks,
             batch: self.plan.batch,
         }
@@ -134,19 +134,19 @@ impl<F: Unicast + Send, M: PrefixMap<RouteId, Addr = F> + Send + Drop, D: Dealin
             State::Spent => return Err(ReplayError::Spent),
         }
         self.rounds = self.rounds.saturating_add(1);
-        let patience = self.patience();
-        let lanes = self.feeds.len();
+        let limits = self.limits();
+        let lanes = self.senders.len();
         self.dealer.lanes_are_below(lanes);
         let answer = run_round(
             rt,
             alloc,
             self.plan.ring,
             gate,
-            patience,
+            limits,
             &mut self.dealer,
             units,
             files,
-            &mut self.feeds,
+            &mut self.senders,
             &mut self.workers,
         );
         self.state = state_after(&answer);
@@ -173,14 +173,14 @@ impl<F: Unicast + Send, M: PrefixMap<RouteId, Addr = F> + Send + Drop, D: Dealin
             return Err(ReplayError::Spent);
         }
         self.rounds = self.rounds.saturating_add(1);
-        let patience = self.patience();
+        let limits = self.limits();
         let settled = settle_lanes(
             rt,
             alloc,
             self.plan.ring,
             gate,
-            patience,
-            &mut self.feeds,
+            limits,
+            &mut self.senders,
             &mut self.workers,
         );
         let Ok(()) = settled else {
@@ -216,12 +216,12 @@ impl<F: Unicast, M: PrefixMap<RouteId, Addr = F> + Drop, D: Dealing + Drop> Repl
         if let State::Spent = self.state {
             return Err((self, ReplayError::Spent));
         }
-        let lanes = self.feeds.len();
+        let lanes = self.senders.len();
         self.dealer.lanes_are_below(lanes);
         let Replayer {
             plan,
             dealer,
-            feeds,
+            senders,
             workers,
             rounds,
             state,
@@ -229,7 +229,7 @@ impl<F: Unicast, M: PrefixMap<RouteId, Addr = F> + Drop, D: Dealing + Drop> Repl
         let Dealer {
             dealing,
             peers,
-            kept,
+            blocked_unit,
             refused,
             dealt,
         } = dealer;
@@ -239,14 +239,14 @@ impl<F: Unicast, M: PrefixMap<RouteId, Addr = F> + Drop, D: Dealing + Drop> Repl
                 let dealer = Dealer {
                     dealing,
                     peers,
-                    kept,
+                    blocked_unit,
                     refused,
                     dealt,
                 };
                 let back = Replayer {
                     plan,
                     dealer,
-                    feeds,
+                    senders,
                     workers,
                     rounds,
                     state,
@@ -273,7 +273,7 @@ where
         ensures { (number : ℕ) → D.lane_of self.now.dealer.dealing number
             (length (shown self.now).lanes) < length (shown self.now).lanes }
     {
-        let lanes = self.feeds.len();
+        let lanes = self.senders.len();
         self.dealer.lanes_are_below(lanes);
     }
 
@@ -311,11 +311,11 @@ where
         ensures waiting { self.now.state ≢ Spent → (state : LaneState) →
             slice_get (shown self.now).lanes lane ≡ Some state → result ≡ length state.ring.sent }
     {
-        let feeds = self.feeds.as_slice();
-        if lane >= feeds.len() {
+        let senders = self.senders.as_slice();
+        if lane >= senders.len() {
             return 0;
         }
-        feeds[lane].producer.waiting()
+        senders[lane].producer.waiting()
     }
 
     /// Whether all rings are empty.
@@ -323,8 +323,8 @@ where
         ensures settled { self.now.state ≢ Spent → result ≡ true → IsSettled (shown self.now) }
         ensures waits { self.now.state ≢ Spent → IsSettled (shown self.now) → result ≡ true }
     {
-        for feed in &self.feeds {
-            if feed.producer.waiting() > 0 {
+        for sender in &self.senders {
+            if sender.producer.waiting() > 0 {
                 return false;
             }
         }

@@ -3,7 +3,7 @@
 ghost use Rattle.std.specs.Prelude.{◌≡◌, ◌<◌, ℕ, None, OnOk, length, map};
 ghost use Rattle.std.specs.List.{AllZip};
 ghost use Rattle.std.specs.Thread.{IsSync, IsSend};
-ghost use Rattle.lane_deal.specs.Answers.{IfAnswered};
+ghost use Rattle.lane_deal.specs.Results.{IfAnswered};
 ghost use Rattle.lane_deal.specs.Asking.{ReadsOn};
 ghost use Rattle.lane_deal.specs.DealerSteps.{DealsOn};
 ghost use Rattle.lane_deal.specs.LaneRings.{AreReady, Settled};
@@ -12,13 +12,13 @@ ghost use Rattle.lane_deal.specs.LaneRounds.{PlaysLanes};
 use crate::alone::Alone;
 use crate::dealer::DealerOf;
 use crate::dealing::Dealing;
-use crate::feed::FeedOf;
 use crate::gate::Gate;
 use crate::halves::{Deals, Works};
 use crate::lane::renew_all;
+use crate::lane_sender::LaneSenderOf;
 use crate::sessions::Sessions;
 use crate::step::Step;
-use crate::worker::{Patience, WorkerOf, run_all};
+use crate::worker::{RoundLimits, WorkerOf, run_all};
 use bgp_prefix::Memory;
 use bgp_update::Unicast;
 use mrt_body::Units;
@@ -39,37 +39,37 @@ fn deal_and_work<
     rt: &T,
     alloc: Global,
     gate: &G,
-    over: &AtomicBool,
-    patience: Patience,
+    round_over: &AtomicBool,
+    limits: RoundLimits,
     dealer: &mut L,
     units: &mut Units<F>,
     files: &mut [R],
-    feeds: &mut Vec<FeedOf<F>>,
+    senders: &mut Vec<LaneSenderOf<F>>,
     workers: &mut [W],
 ) -> (Result<Step, ReplayError>, Result<(), Memory>)
-    requires lanes { 0 < length feeds.old.items }
+    requires lanes { 0 < length senders.old.items }
     requires files { length files.old ≡ units.old.count }
-    ensures deals { DealsOn (λ number. L.lane_of (L.dealer dealer.old).dealing number (length feeds.old.items)) patience.batch
-        feeds.old.items feeds.new.items (L.dealer dealer.old) (L.dealer dealer.new) units.old (map R.remaining files.old)
+    ensures deals { DealsOn (λ number. L.lane_of (L.dealer dealer.old).dealing number (length senders.old.items)) limits.batch
+        senders.old.items senders.new.items (L.dealer dealer.old) (L.dealer dealer.new) units.old (map R.remaining files.old)
         (map R.failure_count files.old) units.new (map R.remaining files.new) (map R.failure_count files.new) result.0 }
     ensures worked { OnOk result.1 (AllZip W.worked workers.old workers.new) }
 {
-    let (batch, looks) = (patience.batch, patience.looks);
+    let (batch, looks) = (limits.batch, limits.looks);
     let mut deal = || -> Result<Step, ReplayError>
-        requires { (0 < length feeds.now.items) × (length files.now ≡ units.now.count) }
-        ensures { DealsOn (λ number. L.lane_of (L.dealer dealer.entry.now).dealing number (length feeds.entry.now.items))
-            batch feeds.entry.now.items feeds.exit.now.items (L.dealer dealer.entry.now) (L.dealer dealer.exit.now)
+        requires { (0 < length senders.now.items) × (length files.now ≡ units.now.count) }
+        ensures { DealsOn (λ number. L.lane_of (L.dealer dealer.entry.now).dealing number (length senders.entry.now.items))
+            batch senders.entry.now.items senders.exit.now.items (L.dealer dealer.entry.now) (L.dealer dealer.exit.now)
             units.entry.now (map R.remaining files.entry.now) (map R.failure_count files.entry.now) units.exit.now
             (map R.remaining files.exit.now) (map R.failure_count files.exit.now) result }
     {
-        let step = dealer.deal_on(alloc, gate, batch, looks, over, units, files, feeds);
-        over.store(true, Ordering::SeqCst);
+        let step = dealer.deal_on(alloc, gate, batch, looks, round_over, units, files, senders);
+        round_over.store(true, Ordering::SeqCst);
         step
     };
     let mut work = || -> Result<(), Memory>
         requires { IsSync T.row × IsSync G.row × IsSend W.row }
         ensures { OnOk result (AllZip W.worked workers.entry.now workers.exit.now) }
-    { run_all(rt, alloc, gate, over, patience, workers) };
+    { run_all(rt, alloc, gate, round_over, limits, workers) };
     // If no thread can be started, the workers run last, when the round is over.
     let (worked, step) = join_mut(rt, &mut work, &mut deal);
     (step, worked)
@@ -88,39 +88,39 @@ fn run_alone<
     alloc: Global,
     capacity: usize,
     gate: &G,
-    patience: Patience,
+    limits: RoundLimits,
     dealer: &mut DealerOf<D, F>,
     units: &mut Units<F>,
     files: &mut [R],
-    feeds: &mut Vec<FeedOf<F>>,
+    senders: &mut Vec<LaneSenderOf<F>>,
     workers: &mut Vec<WorkerOf<S, F>>,
 ) -> Result<Step, ReplayError>
-    requires lanes { length feeds.old.items ≡ 1 }
+    requires lanes { length senders.old.items ≡ 1 }
     requires files { length files.old ≡ units.old.count }
-    requires kept { dealer.old.kept ≡ None }
-    requires ready { AreReady capacity feeds.old.items workers.old.items }
-    ensures lanes { length feeds.new.items ≡ length feeds.old.items }
+    requires blocked_unit { dealer.old.blocked_unit ≡ None }
+    requires ready { AreReady capacity senders.old.items workers.old.items }
+    ensures lanes { length senders.new.items ≡ length senders.old.items }
     ensures count { units.new.count ≡ units.old.count }
     ensures reads { ReadsOn units.old (map R.remaining files.old) (map R.failure_count files.old) units.new
         (map R.failure_count files.new) result }
     ensures plays { IfAnswered result
-        (PlaysLanes S.stands_for (λ number. D.lane_of dealer.old.dealing number (length feeds.old.items)) capacity
-        patience.batch feeds.old.items workers.old.items feeds.new.items workers.new.items dealer.old dealer.new
+        (PlaysLanes S.stands_for (λ number. D.lane_of dealer.old.dealing number (length senders.old.items)) capacity
+        limits.batch senders.old.items workers.old.items senders.new.items workers.new.items dealer.old dealer.new
         units.old (map R.remaining files.old) units.new (map R.remaining files.new) result) }
 {
     dealer.lanes_are_below(1);
-    settle_lanes(rt, alloc, capacity, gate, patience, feeds, workers)?;
+    settle_lanes(rt, alloc, capacity, gate, limits, senders, workers)?;
     let Some(worker) = workers.pop() else {
         unreachable!()
     };
     let mut alone = Alone::new(alloc, worker);
-    let over = AtomicBool::new(false);
+    let round_over = AtomicBool::new(false);
     let step = dealer.deal(
         alloc,
         gate,
-        patience.batch,
+        limits.batch,
         0,
-        &over,
+        &round_over,
         units,
         files,
         &mut alone,
@@ -147,47 +147,56 @@ pub fn run_round<
     alloc: Global,
     capacity: usize,
     gate: &G,
-    patience: Patience,
+    limits: RoundLimits,
     dealer: &mut DealerOf<D, F>,
     units: &mut Units<F>,
     files: &mut [R],
-    feeds: &mut Vec<FeedOf<F>>,
+    senders: &mut Vec<LaneSenderOf<F>>,
     workers: &mut Vec<WorkerOf<S, F>>,
 ) -> Result<Step, ReplayError>
-    requires lanes { 0 < length feeds.old.items }
+    requires lanes { 0 < length senders.old.items }
     requires files { length files.old ≡ units.old.count }
-    requires ready { AreReady capacity feeds.old.items workers.old.items }
-    ensures lanes { length feeds.new.items ≡ length feeds.old.items }
+    requires ready { AreReady capacity senders.old.items workers.old.items }
+    ensures lanes { length senders.new.items ≡ length senders.old.items }
     ensures count { units.new.count ≡ units.old.count }
     ensures reads { ReadsOn units.old (map R.remaining files.old) (map R.failure_count files.old) units.new
         (map R.failure_count files.new) result }
     ensures plays { IfAnswered result
-        (PlaysLanes S.stands_for (λ number. D.lane_of dealer.old.dealing number (length feeds.old.items)) capacity
-        patience.batch feeds.old.items workers.old.items feeds.new.items workers.new.items dealer.old dealer.new
+        (PlaysLanes S.stands_for (λ number. D.lane_of dealer.old.dealing number (length senders.old.items)) capacity
+        limits.batch senders.old.items workers.old.items senders.new.items workers.new.items dealer.old dealer.new
         units.old (map R.remaining files.old) units.new (map R.remaining files.new) result) }
 {
-    if workers.len() < 2 && patience.looks == 1 && dealer.kept.is_none() {
+    if workers.len() < 2 && limits.looks == 1 && dealer.blocked_unit.is_none() {
         return run_alone(
-            rt, alloc, capacity, gate, patience, dealer, units, files, feeds, workers,
+            rt, alloc, capacity, gate, limits, dealer, units, files, senders, workers,
         );
     }
-    let over = AtomicBool::new(false);
+    let round_over = AtomicBool::new(false);
     let (step, worked) = deal_and_work(
-        rt, alloc, gate, &over, patience, dealer, units, files, feeds, workers,
+        rt,
+        alloc,
+        gate,
+        &round_over,
+        limits,
+        dealer,
+        units,
+        files,
+        senders,
+        workers,
     );
     let Ok(()) = worked else {
         return Err(ReplayError::Memory);
     };
     match step {
         Ok(step) => {
-            renew_all(alloc, capacity, feeds, workers)?;
+            renew_all(alloc, capacity, senders, workers)?;
             Ok(step)
         }
         Err(error) => {
             let ReplayError::Read { file } = error else {
                 return Err(error);
             };
-            renew_all(alloc, capacity, feeds, workers)?;
+            renew_all(alloc, capacity, senders, workers)?;
             Err(ReplayError::Read { file })
         }
     }
@@ -204,14 +213,14 @@ pub fn settle_lanes<
     alloc: Global,
     capacity: usize,
     gate: &G,
-    patience: Patience,
-    feeds: &mut [FeedOf<F>],
+    limits: RoundLimits,
+    senders: &mut [LaneSenderOf<F>],
     workers: &mut [WorkerOf<S, F>],
 ) -> Result<(), Memory>
-    requires ready { AreReady capacity feeds.old workers.old }
-    ensures { OnOk result (Settled S.stands_for capacity feeds.old workers.old feeds.new workers.new) }
+    requires ready { AreReady capacity senders.old workers.old }
+    ensures { OnOk result (Settled S.stands_for capacity senders.old workers.old senders.new workers.new) }
 {
-    let over = AtomicBool::new(true);
-    run_all(rt, alloc, gate, &over, patience, workers)?;
-    renew_all(alloc, capacity, feeds, workers)
+    let round_over = AtomicBool::new(true);
+    run_all(rt, alloc, gate, &round_over, limits, workers)?;
+    renew_all(alloc, capacity, senders, workers)
 }

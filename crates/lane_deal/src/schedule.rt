@@ -4,14 +4,14 @@ ghost use Rattle.std.specs.Prelude.{◌≡◌, ℕ, ◌<◌, ◌++◌, ◌∷◌
 ghost use Rattle.mrt_body.specs.Plain.{Unit as ReplayUnit};
 ghost use Rattle.peer_tables.specs.Peers.{peers_of};
 ghost use Rattle.lane_deal.specs.Lanes.{lane_of_unit};
-ghost use Rattle.lane_deal.specs.Numbers.{numbered};
+ghost use Rattle.lane_deal.specs.Numbers.{with_numbers};
 ghost use Rattle.lane_deal.specs.Schedules.{LanesState, dealt, took, after_turn, after_turns, start};
 ghost use Rattle.lane_deal.specs.ShownLanes.{LaneShows, LanesShow, Shows};
 
 use crate::dealing::Dealing;
 use crate::decoded_batch::DecodedBatch;
 use crate::holding::{HoldsSeats, exchange_seats};
-use crate::numbered::{Numbered, NumberedOf};
+use crate::peer_unit::{PeerUnit, PeerUnitOf};
 use crate::scheduled::Lanes;
 use crate::seats::Seats;
 use crate::sessions::Sessions;
@@ -30,7 +30,7 @@ pub struct OneLane<M: PrefixMap<RouteId>>
 where
     M::Addr: Unicast,
 {
-    pub ring: VecDeque<NumberedOf<M::Addr>>,
+    pub ring: VecDeque<PeerUnitOf<M::Addr>>,
     pub seats: Seats<M>,
     pub took: usize,
 }
@@ -59,14 +59,14 @@ impl<F: Unicast, M: PrefixMap<RouteId, Addr = F> + Drop> HoldsSeats<M> for OneLa
 fn number_all<F: Unicast>(
     alloc: Global,
     units: Vec<UnitOf<F>>,
-) -> Result<VecDeque<NumberedOf<F>>, Memory>
-    ensures { IfOk result (λ all. all.items ≡ numbered (peers_of units.items) units.items) }
+) -> Result<VecDeque<PeerUnitOf<F>>, Memory>
+    ensures { IfOk result (λ all. all.items ≡ with_numbers (peers_of units.items) units.items) }
 {
     let mut peers = Peers::new(alloc)?;
     let mut all = VecDeque::new(alloc);
     for unit in units {
         let number = peers.number_of(&unit.peer, None)?;
-        all.push_back(Numbered { number, unit })?;
+        all.push_back(PeerUnit { number, unit })?;
     }
     Ok(all)
 }
@@ -77,7 +77,7 @@ fn empty_lanes<F: Unicast, M: PrefixMap<RouteId, Addr = F> + Drop>(
     count: usize,
 ) -> Result<Vec<OneLane<M>>, Memory>
     ensures { IfOk result (λ lanes. (length lanes.items ≡ count) ×
-        ((all units : List ReplayUnit) → LanesShow all (numbered (peers_of all) units) lanes.items (start units))) }
+        ((all units : List ReplayUnit) → LanesShow all (with_numbers (peers_of all) units) lanes.items (start units))) }
 {
     let mut lanes = Vec::new(alloc);
     for made in 0..count {
@@ -92,7 +92,7 @@ fn empty_lanes<F: Unicast, M: PrefixMap<RouteId, Addr = F> + Drop>(
 
 /// Moves the first undealt unit to the end of its lane's ring.
 fn deal<F: Unicast, M: PrefixMap<RouteId, Addr = F> + Drop, D: Dealing>(
-    undealt: &mut VecDeque<NumberedOf<F>>,
+    undealt: &mut VecDeque<PeerUnitOf<F>>,
     lanes: &mut [OneLane<M>],
     dealing: &D,
 ) -> Result<(), Memory>
@@ -145,7 +145,7 @@ fn take_from<F: Unicast, M: PrefixMap<RouteId, Addr = F> + Drop>(
 /// Applies one event.
 fn apply<F: Unicast, M: PrefixMap<RouteId, Addr = F> + Drop, D: Dealing>(
     alloc: Global,
-    undealt: &mut VecDeque<NumberedOf<F>>,
+    undealt: &mut VecDeque<PeerUnitOf<F>>,
     lanes: &mut [OneLane<M>],
     turn: Turn,
     dealing: &D,
@@ -164,7 +164,7 @@ fn apply<F: Unicast, M: PrefixMap<RouteId, Addr = F> + Drop, D: Dealing>(
 /// Applies the events in order to lanes to which nothing was dealt.
 fn apply_all<F: Unicast, M: PrefixMap<RouteId, Addr = F> + Drop, D: Dealing>(
     alloc: Global,
-    undealt: &mut VecDeque<NumberedOf<F>>,
+    undealt: &mut VecDeque<PeerUnitOf<F>>,
     lanes: &mut [OneLane<M>],
     turns: &[Turn],
     dealing: &D,

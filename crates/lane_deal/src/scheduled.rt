@@ -6,7 +6,7 @@ ghost use Rattle.std.proofs.lemmas.Map.Keys.{IsDistinct-prop};
 ghost use Rattle.lane_deal.specs.OneLanes.{seats_of_lanes};
 
 use crate::collecting::collect_lanes;
-use crate::numbered::NumberedOf;
+use crate::peer_unit::PeerUnitOf;
 use crate::schedule::OneLane;
 use adj_rib::RouteId;
 use bgp_prefix::{Memory, PrefixMap};
@@ -21,7 +21,7 @@ pub struct Lanes<M: PrefixMap<RouteId>>
 where
     M::Addr: Unicast,
 {
-    pub(crate) undealt: VecDeque<NumberedOf<M::Addr>>,
+    pub(crate) undealt: VecDeque<PeerUnitOf<M::Addr>>,
     pub(crate) lanes: Vec<OneLane<M>>,
     ghost apart: { IsDistinct nat_eq
         (map (λ seat. seat.number) (seats_of_lanes lanes.items)) } by { IsDistinct-prop nat_eq _ },

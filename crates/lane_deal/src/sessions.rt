@@ -7,20 +7,20 @@ use std::alloc::Global;
 pub trait Sessions {
     ghost use Rattle.std.specs.Prelude.{◌<◌, List, [], ◌∷◌, ◌++◌, OnOk, length};
     ghost use Rattle.lane_deal.specs.DecodedBatches.{IsDecodedAt};
-    ghost use Rattle.lane_deal.specs.Plain.{Numbered};
+    ghost use Rattle.lane_deal.specs.Plain.{PeerUnit};
 
     /// The family of their prefixes, which is that of the units.
     type Addr: Unicast;
 
     /// The sessions are in the state that these units lead to.
-    ghost stands_for: { Self → List Numbered → Type 0 };
+    ghost stands_for: { Self → List PeerUnit → Type 0 };
 
     fn fresh(alloc: Global) -> Self
         ensures { stands_for result [] };
 
     /// Prefetches a little of what the sessions will need to take these units, so that the cache misses overlap.
     fn prefetch(&mut self, batch: &DecodedBatch<Self::Addr>)
-        ensures { (taken : List Numbered) → stands_for self.old taken → stands_for self.new taken };
+        ensures { (taken : List PeerUnit) → stands_for self.old taken → stands_for self.new taken };
 
     /// Takes the next unit, which is at an index of these.
     fn take(
@@ -30,7 +30,7 @@ pub trait Sessions {
         at: usize,
     ) -> Result<(), Memory>
         requires { at < length batch.now.heads }
-        ensures { (item : Numbered) → IsDecodedAt batch.now at item →
-            OnOk result ((taken : List Numbered) → stands_for self.old taken →
+        ensures { (item : PeerUnit) → IsDecodedAt batch.now at item →
+            OnOk result ((taken : List PeerUnit) → stands_for self.old taken →
             stands_for self.new (taken ++ item ∷ [])) };
 }

@@ -10,7 +10,7 @@ ghost use Rattle.lane_deal.specs.ListedUnits.{IsListed};
 
 use crate::listed_peer::ListedPeer;
 use crate::listed_unit::{ListedRecord, ListedUnit, NumberedPeer, index_of_peer, index_of_record};
-use crate::numbered::{Numbered, NumberedRef};
+use crate::peer_unit::{PeerUnit, PeerUnitRef};
 use bgp_prefix::{Memory, Prefix};
 use bgp_update::{FamilyMark, Span, Unicast};
 use mrt_body::{BytesRef, Payload, PayloadRef, Place, Unit, UnitRef};
@@ -26,7 +26,7 @@ pub struct UnitList<P = Prefix, K = FamilyMark> {
     peers: Vec<NumberedPeer>,
     bytes: Vec<u8>,
     /// The index of the peer whose unit probably comes next: peers take turns in RIB records.
-    probable: u16,
+    next_peer_hint: u16,
     ghost within: { AllByRecursion
         (λ unit. IsListed (length records.items) (length peers.items) (length bytes.items) unit)
         listed.items } by { Prim.hlevel (props, meet_prop) },
@@ -83,7 +83,7 @@ impl<F: Unicast> UnitList<Prefix<F>, FamilyMark<F>> {
             records: Vec::new(alloc),
             peers: Vec::new(alloc),
             bytes: Vec::new(alloc),
-            probable: 0,
+            next_peer_hint: 0,
         }
     }
 
@@ -132,7 +132,7 @@ impl<F: Unicast> UnitList<Prefix<F>, FamilyMark<F>> {
         self.listed.reserve(1)?;
         let record = index_of_record(&mut self.records, &unit.place, unit.time)?;
         let peer = ListedPeer::new(&unit.peer);
-        let peer = index_of_peer(&mut self.peers, self.probable, number, peer)?;
+        let peer = index_of_peer(&mut self.peers, self.next_peer_hint, number, peer)?;
         let bytes = unit.payload.as_slice();
         let start = self.bytes.len();
         let place = Span::between(start, start.saturating_add(bytes.len()))?;
@@ -143,7 +143,7 @@ impl<F: Unicast> UnitList<Prefix<F>, FamilyMark<F>> {
             record,
             peer,
         });
-        self.probable = self.after(peer);
+        self.next_peer_hint = self.after(peer);
         Ok(())
     }
 
@@ -159,14 +159,14 @@ impl<F: Unicast> UnitList<Prefix<F>, FamilyMark<F>> {
 
     /// Lends the unit at this index.
     #[inline(always)]
-    pub fn at(&self, at: usize) -> NumberedRef<'_, F>
+    pub fn at(&self, at: usize) -> PeerUnitRef<'_, F>
         requires { at < length (units_of self.now) }
         ensures { (d : _) → slice_index_or (units_of self.now) at d ≡ result }
     {
         let unit = &self.listed[at];
         let record = &self.records[unit.record as usize];
         let source = &self.peers[unit.peer as usize];
-        Numbered {
+        PeerUnit {
             number: source.number,
             unit: Unit {
                 place: Place {

@@ -7,7 +7,7 @@ ghost use Rattle.std.specs.List.{AllByRecursion};
 ghost use Rattle.rtrb.specs.Ring.{known_free as free_slots, sent as sent_lists, producer_capacity};
 ghost use Rattle.lane_deal.specs.UnitLists.{units_of, AreSmall, AreLastLengths, total};
 
-use crate::numbered::Small;
+use crate::peer_unit::NonEmptyLists;
 use crate::unit_list::{UnitList, UnitListOf};
 use bgp_prefix::{Memory, Prefix};
 use bgp_update::{FamilyMark, Unicast};
@@ -23,9 +23,9 @@ const MOST_UNITS: usize = 32;
 /// The dealer's end of a ring.
 #[derive(Drop)]
 pub struct UnitProducer<P = Prefix, K = FamilyMark> {
-    lists: Producer<UnitList<P, K>, Global, Small>,
+    lists: Producer<UnitList<P, K>, Global, NonEmptyLists>,
     /// The list that is being filled.
-    filling: UnitList<P, K>,
+    open_list: UnitList<P, K>,
     /// How many units each list has that isn't known to be popped, the oldest first.
     lengths: VecDeque<usize>,
     /// How many more units may wait.
@@ -37,8 +37,8 @@ pub struct UnitProducer<P = Prefix, K = FamilyMark> {
     ghost slots: { (capacity ≤ length lengths.items + free_slots lists) × (producer_capacity lists ≡ capacity) },
     ghost waiting: { AreLastLengths lengths.items (sent_lists lists) },
     ghost some: { AllByRecursion (λ n. 0 < n) lengths.items } by { Prim.hlevel props },
-    ghost room: { free + total lengths.items + length (units_of filling) ≡ capacity },
-    ghost small: { AreSmall (units_of filling) } by { Prim.hlevel props },
+    ghost room: { free + total lengths.items + length (units_of open_list) ≡ capacity },
+    ghost small: { AreSmall (units_of open_list) } by { Prim.hlevel props },
 }
 
 /// The dealer's end of a ring of units of a family.
@@ -56,7 +56,7 @@ const MOST_EMPTIED: usize = 64;
 
 /// Returns how many emptied lists may wait to be filled again, for a ring of so many units: as many as the ring holds,
 /// and one that is being filled, within bounds.
-pub fn emptied_room(capacity: usize) -> usize {
+pub fn recycled_room(capacity: usize) -> usize {
     (capacity / list_size(capacity))
         .saturating_add(1)
         .min(MOST_EMPTIED)
@@ -89,17 +89,25 @@ impl<F: Unicast> UnitProducer<Prefix<F>, FamilyMark<F>> {
     pub fn new(
         alloc: Global,
         capacity: usize,
-    ) -> Result<(UnitProducerOf<F>, Consumer<UnitListOf<F>, Global, Small>), Memory>
+    ) -> Result<
+        (
+            UnitProducerOf<F>,
+            Consumer<UnitListOf<F>, Global, NonEmptyLists>,
+        ),
+        Memory,
+    >
         ensures pair { IfOk result (λ r. IsPair r.0 r.1) }
         ensures producer { IfOk result (λ r. (sent r.0 ≡ []) × (known_free r.0 ≡ capacity) ×
             (ring_capacity r.0 ≡ capacity)) }
         ensures consumer { IfOk result (λ r. (received r.1 ≡ []) × (known_items r.1 ≡ [])) }
-        ensures filling { IfOk result (λ r. units_of r.0.filling ≡ []) }
+        ensures open_list { IfOk result (λ r. units_of r.0.open_list ≡ []) }
     {
-        let (lists, consumer) = RingBuffer::with_protocol::<Global, Small>(alloc, capacity)?;
+        let (lists, consumer) = RingBuffer::with_protocol::<Global, NonEmptyLists>(
+            alloc, capacity,
+        )?;
         let producer = UnitProducer {
             lists,
-            filling: UnitList::new(alloc),
+            open_list: UnitList::new(alloc),
             lengths: VecDeque::new(alloc),
             free: capacity,
             capacity,
@@ -151,45 +159,45 @@ impl<F: Unicast> UnitProducer<Prefix<F>, FamilyMark<F>> {
     }
 
     /// Takes out the list that is being filled.
-    fn take_filling(&mut self, alloc: Global) -> UnitListOf<F>
+    fn take_open_list(&mut self, alloc: Global) -> UnitListOf<F>
         ensures ring { SameProducer self.old self.new }
         ensures sent { sent self.old ≡ sent self.new ++ units_of result }
         ensures free { known_free self.new ≡ known_free self.old + length (units_of result) }
         ensures small { AreSmall (units_of result) }
-        ensures value { units_of result ≡ units_of self.old.filling }
-        ensures filling { units_of self.new.filling ≡ [] }
+        ensures value { units_of result ≡ units_of self.old.open_list }
+        ensures open_list { units_of self.new.open_list ≡ [] }
     {
-        self.free += self.filling.len();
-        mem::replace(&mut self.filling, UnitList::new(alloc))
+        self.free += self.open_list.len();
+        mem::replace(&mut self.open_list, UnitList::new(alloc))
     }
 
     /// Begins a list, in the memory of one that the worker emptied if there is one: a thread that frees what another
     /// one allocated, and one that allocates meanwhile, wait for each other.
     #[inline(never)]
-    fn begin_list(&mut self, emptied: &mut Consumer<UnitListOf<F>, Global>) -> Result<(), Memory>
-        requires { units_of self.old.filling ≡ [] }
+    fn begin_list(&mut self, recycled: &mut Consumer<UnitListOf<F>, Global>) -> Result<(), Memory>
+        requires { units_of self.old.open_list ≡ [] }
         ensures ring { SameProducer self.old self.new }
         ensures sent { sent self.new ≡ sent self.old }
         ensures free { known_free self.new ≡ known_free self.old }
-        ensures filling { units_of self.new.filling ≡ [] }
+        ensures open_list { units_of self.new.open_list ≡ [] }
     {
-        if let Ok(list) = emptied.pop() {
+        if let Ok(list) = recycled.pop() {
             let mut next = list;
             next.clear();
-            self.filling = next;
+            self.open_list = next;
         }
-        self.filling.reserve(self.size)
+        self.open_list.reserve(self.size)
     }
 
     /// Pushes a list, after which no list is being filled.
     fn push_list(&mut self, list: UnitListOf<F>) -> Result<(), Memory>
         requires list { IsUnitList list }
         requires room { length (units_of list) ≤ known_free self.old }
-        requires filling { units_of self.old.filling ≡ [] }
+        requires open_list { units_of self.old.open_list ≡ [] }
         ensures ring { SameProducer self.old self.new }
         ensures sent { OnOk result (sent self.new ≡ sent self.old ++ units_of list) }
         ensures free { OnOk result (known_free self.old ≡ known_free self.new + length (units_of list)) }
-        ensures filling { units_of self.new.filling ≡ [] }
+        ensures open_list { units_of self.new.open_list ≡ [] }
     {
         let length = list.len();
         self.lengths.push_back(length)?;
@@ -200,13 +208,13 @@ impl<F: Unicast> UnitProducer<Prefix<F>, FamilyMark<F>> {
 
     /// Pushes the list that is being filled.
     #[inline(never)]
-    fn push_filling(&mut self, alloc: Global) -> Result<(), Memory>
-        requires { 0 < length (units_of self.old.filling) }
+    fn push_open_list(&mut self, alloc: Global) -> Result<(), Memory>
+        requires { 0 < length (units_of self.old.open_list) }
         ensures ring { SameProducer self.old self.new }
         ensures sent { OnOk result (sent self.new ≡ sent self.old) }
         ensures free { OnOk result (known_free self.new ≡ known_free self.old) }
     {
-        let list = self.take_filling(alloc);
+        let list = self.take_open_list(alloc);
         self.push_list(list)
     }
 
@@ -216,7 +224,7 @@ impl<F: Unicast> UnitProducer<Prefix<F>, FamilyMark<F>> {
     pub fn push(
         &mut self,
         alloc: Global,
-        emptied: &mut Consumer<UnitListOf<F>, Global>,
+        recycled: &mut Consumer<UnitListOf<F>, Global>,
         number: usize,
         unit: &UnitRef<'_, F>,
     ) -> Result<(), Memory>
@@ -227,27 +235,27 @@ impl<F: Unicast> UnitProducer<Prefix<F>, FamilyMark<F>> {
             (sent self.new ≡ sent self.old ++ record { number = number; unit = unit.now } ∷ []) }
         ensures free { OnOk result (known_free self.old ≡ known_free self.new + 1) }
     {
-        if self.filling.len() == 0 {
-            self.begin_list(emptied)?;
+        if self.open_list.len() == 0 {
+            self.begin_list(recycled)?;
         }
-        self.filling.push(number, unit)?;
+        self.open_list.push(number, unit)?;
         self.free -= 1;
-        if self.filling.len() < self.size {
+        if self.open_list.len() < self.size {
             return Ok(());
         }
-        self.push_filling(alloc)
+        self.push_open_list(alloc)
     }
 
     /// Compares both ends, which are in one thread: the dealer then knows how many units wait, and the worker all lists
     /// that wait.
-    pub fn compare(&mut self, consumer: &mut Consumer<UnitListOf<F>, Global, Small>)
+    pub fn compare(&mut self, consumer: &mut Consumer<UnitListOf<F>, Global, NonEmptyLists>)
         requires { IsPair self.old consumer.old }
         ensures producer { ProducerLooked self.old self.new }
         ensures consumer { ConsumerLooked consumer.old consumer.new }
-        ensures fifo { received consumer.new ++ known_items consumer.new ++ units_of self.new.filling ≡ sent self.new }
-        ensures exact { known_free self.new + length (known_items consumer.new ++ units_of self.new.filling) ≡
+        ensures fifo { received consumer.new ++ known_items consumer.new ++ units_of self.new.open_list ≡ sent self.new }
+        ensures exact { known_free self.new + length (known_items consumer.new ++ units_of self.new.open_list) ≡
             ring_capacity self.new }
-        ensures filling { units_of self.new.filling ≡ units_of self.old.filling }
+        ensures open_list { units_of self.new.open_list ≡ units_of self.old.open_list }
     {
         let waiting = self.capacity - self.lists.slots_beside(consumer);
         let popped = self.lengths.len() - waiting;
@@ -258,14 +266,14 @@ impl<F: Unicast> UnitProducer<Prefix<F>, FamilyMark<F>> {
     /// Moves all lists that the worker knows to wait to this ring.
     pub fn move_lists(
         &mut self,
-        from: &mut Consumer<UnitListOf<F>, Global, Small>,
+        from: &mut Consumer<UnitListOf<F>, Global, NonEmptyLists>,
     ) -> Result<(), Memory>
         requires room { length (known_items from.old) ≤ known_free self.old }
-        requires filling { units_of self.old.filling ≡ [] }
+        requires open_list { units_of self.old.open_list ≡ [] }
         ensures ring { SameProducer self.old self.new }
         ensures sent { OnOk result (sent self.new ≡ sent self.old ++ known_items from.old) }
         ensures free { OnOk result (known_free self.old ≡ known_free self.new + length (known_items from.old)) }
-        ensures filling { units_of self.new.filling ≡ [] }
+        ensures open_list { units_of self.new.open_list ≡ [] }
     {
         for moved in 0..from.cached_slots() {
             self.push_list(from.pop_known())?;
@@ -274,19 +282,19 @@ impl<F: Unicast> UnitProducer<Prefix<F>, FamilyMark<F>> {
     }
 
     /// Moves the units that wait to be pushed to this ring, as a list.
-    pub fn move_filling(
+    pub fn move_open_list(
         &mut self,
         alloc: Global,
         from: &mut UnitProducerOf<F>,
     ) -> Result<(), Memory>
-        requires room { length (units_of from.old.filling) ≤ known_free self.old }
-        requires filling { units_of self.old.filling ≡ [] }
+        requires room { length (units_of from.old.open_list) ≤ known_free self.old }
+        requires open_list { units_of self.old.open_list ≡ [] }
         ensures ring { SameProducer self.old self.new }
-        ensures sent { OnOk result (sent self.new ≡ sent self.old ++ units_of from.old.filling) }
-        ensures free { OnOk result (known_free self.old ≡ known_free self.new + length (units_of from.old.filling)) }
-        ensures filling { units_of self.new.filling ≡ [] }
+        ensures sent { OnOk result (sent self.new ≡ sent self.old ++ units_of from.old.open_list) }
+        ensures free { OnOk result (known_free self.old ≡ known_free self.new + length (units_of from.old.open_list)) }
+        ensures open_list { units_of self.new.open_list ≡ [] }
     {
-        let list = from.take_filling(alloc);
+        let list = from.take_open_list(alloc);
         if list.len() == 0 {
             return Ok(());
         }

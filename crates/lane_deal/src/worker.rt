@@ -2,13 +2,13 @@ ghost use Rattle.std.specs.Prelude.{◌≡◌, Ok, OnOk, List, [], length, ◌<�
 ghost use Rattle.std.specs.List.{AllZip};
 ghost use Rattle.std.specs.Thread.{IsSync, IsSend};
 ghost use Rattle.lane_deal.specs.DecodedBatches.{AreDecoded};
-ghost use Rattle.lane_deal.specs.Plain.{Numbered};
+ghost use Rattle.lane_deal.specs.Plain.{PeerUnit};
 ghost use Rattle.lane_deal.specs.UnitLists.{units_of};
 
 use crate::decoded_batch::DecodedBatch;
 use crate::gate::Gate;
 use crate::halves::Works;
-use crate::numbered::Small;
+use crate::peer_unit::NonEmptyLists;
 use crate::sessions::Sessions;
 use crate::unit_list::{UnitList, UnitListOf};
 use bgp_prefix::{Memory, Prefix};
@@ -22,11 +22,11 @@ use std::thread::{Threads, join_mut};
 #[derive(Drop)]
 pub struct Worker<S, P = Prefix, K = FamilyMark> {
     pub lane: usize,
-    pub consumer: Consumer<UnitList<P, K>, Global, Small>,
+    pub consumer: Consumer<UnitList<P, K>, Global, NonEmptyLists>,
     pub sessions: S,
     pub taken: u64,
     /// Where the lists go whose units were taken: the dealer fills them again.
-    pub emptied: Producer<UnitList<P, K>, Global>,
+    pub recycled: Producer<UnitList<P, K>, Global>,
 }
 
 /// The taking half of a lane of a family.
@@ -34,7 +34,7 @@ pub type WorkerOf<S, F> = Worker<S, Prefix<F>, FamilyMark<F>>;
 
 /// How long a worker keeps looking in one round.
 #[derive(Clone, Copy)]
-pub struct Patience {
+pub struct RoundLimits {
     pub looks: u32,
     pub batch: u64,
 }
@@ -74,12 +74,12 @@ impl<F: Unicast, S: Sessions<Addr = F>> Worker<S, Prefix<F>, FamilyMark<F>> {
         Ok(())
     }
 
-    fn look_again<G: Gate>(
+    fn poll<G: Gate>(
         &mut self,
         alloc: Global,
         gate: &G,
-        over: &AtomicBool,
-        patience: Patience,
+        round_over: &AtomicBool,
+        limits: RoundLimits,
         batch: &mut DecodedBatch<F>,
     ) -> Result<(), Memory>
         ensures { OnOk result (TookSome S.stands_for self.old self.new) }
@@ -88,8 +88,8 @@ impl<F: Unicast, S: Sessions<Addr = F>> Worker<S, Prefix<F>, FamilyMark<F>> {
         // How many of them came since the worker last found a unit.
         let mut in_a_row = 0u32;
         let mut further = 0u64;
-        while empty < patience.looks && further < patience.batch {
-            let last = over.load(Ordering::SeqCst);
+        while empty < limits.looks && further < limits.batch {
+            let last = round_over.load(Ordering::SeqCst);
             if self.take_found(alloc, gate, batch)? {
                 further = further.saturating_add(batch.len() as u64).max(further + 1);
                 in_a_row = 0;
@@ -143,10 +143,10 @@ impl<F: Unicast, S: Sessions<Addr = F>> Worker<S, Prefix<F>, FamilyMark<F>> {
     /// Gives a list whose units were taken back to the dealer. It is freed if its memory is large, or if as many wait
     /// there as may.
     fn give_back(&mut self, list: UnitListOf<F>)
-        ensures { self.new ≡ record self.old { emptied = self.new.emptied } }
+        ensures { self.new ≡ record self.old { recycled = self.new.recycled } }
     {
         if list.is_worth_keeping() {
-            let _ = self.emptied.push(list);
+            let _ = self.recycled.push(list);
         }
     }
 
@@ -157,7 +157,7 @@ impl<F: Unicast, S: Sessions<Addr = F>> Worker<S, Prefix<F>, FamilyMark<F>> {
         gate: &G,
         batch: &DecodedBatch<F>,
     ) -> Result<(), Memory>
-        ensures { OnOk result ((items : List Numbered) → AreDecoded batch.now items →
+        ensures { OnOk result ((items : List PeerUnit) → AreDecoded batch.now items →
             Takes S.stands_for self.old self.new items) }
     {
         self.sessions.prefetch(batch);
@@ -179,12 +179,12 @@ impl<F: Unicast, S: Sessions<Addr = F>> Works for Worker<S, Prefix<F>, FamilyMar
         &mut self,
         alloc: Global,
         gate: &G,
-        over: &AtomicBool,
-        patience: Patience,
+        round_over: &AtomicBool,
+        limits: RoundLimits,
     ) -> Result<(), Memory> {
         let mut batch = DecodedBatch::new(alloc);
         self.take_all_known(alloc, gate, &mut batch)?;
-        self.look_again(alloc, gate, over, patience, &mut batch)
+        self.poll(alloc, gate, round_over, limits, &mut batch)
     }
 }
 
@@ -194,18 +194,18 @@ pub fn run_all<R: Threads + Sync, W: Works + Send, G: Gate + Sync>(
     rt: &R,
     alloc: Global,
     gate: &G,
-    over: &AtomicBool,
-    patience: Patience,
+    round_over: &AtomicBool,
+    limits: RoundLimits,
     workers: &mut [W],
 ) -> Result<(), Memory>
     ensures { OnOk result (AllZip W.worked workers.old workers.new) }
 {
     if workers.len() < 2 {
-        return run_at_most_one(alloc, gate, over, patience, workers);
+        return run_at_most_one(alloc, gate, round_over, limits, workers);
     }
     let half = workers.len() / 2;
     let (front, back) = workers.split_at_mut(half);
-    run_both(rt, alloc, gate, over, patience, front, back)
+    run_both(rt, alloc, gate, round_over, limits, front, back)
 }
 
 #[cycle(halves)]
@@ -213,8 +213,8 @@ fn run_both<R: Threads + Sync, W: Works + Send, G: Gate + Sync>(
     rt: &R,
     alloc: Global,
     gate: &G,
-    over: &AtomicBool,
-    patience: Patience,
+    round_over: &AtomicBool,
+    limits: RoundLimits,
     front: &mut [W],
     back: &mut [W],
 ) -> Result<(), Memory>
@@ -225,11 +225,11 @@ fn run_both<R: Threads + Sync, W: Works + Send, G: Gate + Sync>(
     let mut run_front = || -> Result<(), Memory>
         requires { IsSync R.row × IsSync G.row × IsSend W.row }
         ensures { OnOk result (AllZip W.worked front.entry.now front.exit.now) }
-    { run_all(rt, alloc, gate, over, patience, front) };
+    { run_all(rt, alloc, gate, round_over, limits, front) };
     let mut run_back = || -> Result<(), Memory>
         requires { IsSync R.row × IsSync G.row × IsSend W.row }
         ensures { OnOk result (AllZip W.worked back.entry.now back.exit.now) }
-    { run_all(rt, alloc, gate, over, patience, back) };
+    { run_all(rt, alloc, gate, round_over, limits, back) };
     let (first, second) = join_mut(rt, &mut run_front, &mut run_back);
     first?;
     second
@@ -239,8 +239,8 @@ fn run_both<R: Threads + Sync, W: Works + Send, G: Gate + Sync>(
 pub fn run_at_most_one<W: Works, G: Gate>(
     alloc: Global,
     gate: &G,
-    over: &AtomicBool,
-    patience: Patience,
+    round_over: &AtomicBool,
+    limits: RoundLimits,
     workers: &mut [W],
 ) -> Result<(), Memory>
     requires { length workers.old < 2 }
@@ -249,10 +249,10 @@ pub fn run_at_most_one<W: Works, G: Gate>(
     if workers.is_empty() {
         return Ok(());
     }
-    let ran = workers[0].run(alloc, gate, over, patience);
+    let ran = workers[0].run(alloc, gate, round_over, limits);
     if ran.is_err() {
         // This keeps the dealer from retrying for long to push into this lane.
-        over.store(true, Ordering::SeqCst);
+        round_over.store(true, Ordering::SeqCst);
     }
     ran
 }

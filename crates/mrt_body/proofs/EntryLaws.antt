@@ -10,14 +10,14 @@ use Rattle.mrt_frame.specs.declared.fault.Fault.TheVariants.{ShortRecord, BadPre
 use Rattle.mrt_frame.specs.Fields.{◌>>=◌, byte_at, bytes_at, number_at}
 use Rattle.mrt_frame.proofs.Items.{bind_ok, guard_ok, ok_is}
 use Rattle.mrt_frame.proofs.FieldLaws.{bytes_at-takes, number_at-long}
-use Rattle.bgp_update.specs.Answers.{Fails}
+use Rattle.bgp_update.specs.Results.{Fails}
 use Rattle.bgp_update.specs.declared.attr_error.AttrError.{AttrError}
 use Rattle.bgp_update.specs.declared.attr_error.AttrError.TheVariants as errors
 use Rattle.bgp_update.specs.Keys.{octets_at, prefix_of}
 use Rattle.bgp_update.specs.Families.{FamilyOf}
 use Rattle.mrt_body.specs.declared.unit.PeerKey.{PeerKey}
 use Rattle.mrt_body.specs.Plain.{Unit as ReplayUnit}
-use Rattle.mrt_body.specs.declared.at.RecordAt.{RecordAt}
+use Rattle.mrt_body.specs.declared.record_place.RecordAt.{RecordAt}
 use Rattle.mrt_body.specs.declared.rib.ListedEntry.{ListedEntry}
 use Rattle.mrt_body.specs.Pending.{RibRecord}
 use Rattle.mrt_body.specs.Many.{many}

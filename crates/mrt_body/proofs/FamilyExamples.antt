@@ -24,7 +24,7 @@ use Rattle.mrt_body.specs.Indexes.{index_in, index_head_at, peers_in, written_pe
 use Rattle.mrt_body.specs.RibRecords.{rib_in, rib_head_at, entry_at}
 use Rattle.mrt_body.specs.Bgp4mp.{session_at, session_peer_at, states_in}
 use Rattle.mrt_body.specs.Choices.{UnitSelection, all_of, all_units}
-use Rattle.mrt_body.specs.Units.{found_in, found_at, content_of, message_unit, states_unit, aside_of}
+use Rattle.mrt_body.specs.Units.{found_in, found_at, body_kind_of, message_unit, states_unit, aside_of}
 use Rattle.mrt_body.specs.Events.{event_in}
 use Rattle.mrt_body.proofs.Dumps.{plain_attributes, announcement, peer_table, rib_record}
 
@@ -53,7 +53,7 @@ plain_record = hex (codes "00000003 000D 0004 00000034 00000000 20 20010DB8 0001
 
 found-plain_record : found_in six ((peer_table ++ plain_record) ∷ [])
     ≡ found.Unit (record { place = record { file = 0; offset = 56; entry = Some 1 }; time = 3000000; peer = record { asn = 65000; addr = V6 0x20010DB8000000000000000000000001 }; payload = Entry (documentation 0) alone_hop ipv6 }) ∷ []
-unfolding found_in cuts cuts_within found_at content_of message_unit states_unit session_peer_at session_at states_in index_in index_head_at peers_in written_peer_at rib_in rib_head_at entry_at
+unfolding found_in cuts cuts_within found_at body_kind_of message_unit states_unit session_peer_at session_at states_in index_in index_head_at peers_in written_peer_at rib_in rib_head_at entry_at
 found-plain_record = refl
 
 -- and subtype 10, whose entries have identifiers
@@ -62,31 +62,31 @@ path_record = hex (codes "00000003 000D 000A 00000038 00000000 20 20010DB8 0001 
 
 found-path_record : found_in six ((peer_table ++ path_record) ∷ [])
     ≡ found.Unit (record { place = record { file = 0; offset = 56; entry = Some 1 }; time = 3000000; peer = record { asn = 65000; addr = V6 0x20010DB8000000000000000000000001 }; payload = Entry (documentation 7) alone_hop ipv6 }) ∷ []
-unfolding found_in cuts cuts_within found_at content_of message_unit states_unit session_peer_at session_at states_in index_in index_head_at peers_in written_peer_at rib_in rib_head_at entry_at
+unfolding found_in cuts cuts_within found_at body_kind_of message_unit states_unit session_peer_at session_at states_in index_in index_head_at peers_in written_peer_at rib_in rib_head_at entry_at
 found-path_record = refl
 
 -- each family sets the records of the other one aside
 other_record : found_in six ((peer_table ++ rib_record) ∷ []) ≡ []
-unfolding found_in cuts cuts_within found_at content_of message_unit states_unit session_peer_at session_at states_in index_in index_head_at peers_in written_peer_at rib_in rib_head_at entry_at
+unfolding found_in cuts cuts_within found_at body_kind_of message_unit states_unit session_peer_at session_at states_in index_in index_head_at peers_in written_peer_at rib_in rib_head_at entry_at
 other_record = refl
 
 other_aside : aside_of ipv6 ((peer_table ++ rib_record) ∷ []) ≡ 1
-unfolding cuts cuts_within content_of
+unfolding cuts cuts_within body_kind_of
 other_aside = refl
 
 own_aside : aside_of ipv4 ((peer_table ++ plain_record) ∷ []) ≡ 1
-unfolding cuts cuts_within content_of
+unfolding cuts cuts_within body_kind_of
 own_aside = refl
 
 -- messages are units of either family
 found-announcement : found_in six (announcement ∷ []) ≡ found.Unit (record { place = record { file = 0; offset = 0; entry = None }; time = 1000000; peer = record { asn = 65000; addr = V4 0xC0000201 }; payload = Message (drop 32 announcement) Four false ipv6 }) ∷ []
-unfolding found_in cuts cuts_within found_at content_of message_unit states_unit session_peer_at session_at states_in index_in index_head_at peers_in written_peer_at rib_in rib_head_at entry_at
+unfolding found_in cuts cuts_within found_at body_kind_of message_unit states_unit session_peer_at session_at states_in index_in index_head_at peers_in written_peer_at rib_in rib_head_at entry_at
 found-announcement = refl
 
 -- a prefix of 129 bits
 long_prefix : found_in six ((peer_table ++ hex (codes "00000003 000D 0004 00000018 00000000 81 20010DB8000000000000000000000000 00 0000")) ∷ [])
     ≡ found.Refused (record { place = record { file = 0; offset = 56; entry = None }; fault = BadPrefix }) ∷ []
-unfolding found_in cuts cuts_within found_at content_of message_unit states_unit session_peer_at session_at states_in index_in index_head_at peers_in written_peer_at rib_in rib_head_at entry_at
+unfolding found_in cuts cuts_within found_at body_kind_of message_unit states_unit session_peer_at session_at states_in index_in index_head_at peers_in written_peer_at rib_in rib_head_at entry_at
 long_prefix = refl
 
 -- ---- what entries mean

@@ -12,7 +12,7 @@ use Rattle.mrt_body.specs.Plain.{Found}
 use Rattle.mrt_body.specs.Choices.{UnitSelection}
 use Rattle.mrt_body.specs.declared.unit.PeerKey.{PeerKey}
 use Rattle.mrt_body.specs.RibDumps.{DumpsState}
-use Rattle.mrt_body.specs.Units.{content_of, is_index_content, index_of_body, index_body, index_before, index_after, dumps_after, dumps_behind_cuts, found_at, found_from, found_in_file}
+use Rattle.mrt_body.specs.Units.{body_kind_of, is_index_content, index_of_body, index_body, index_before, index_after, dumps_after, dumps_behind_cuts, found_at, found_from, found_in_file}
 
 last_or-append : {A : Type 0} (o : Option A) (xs ys : List A) → last_or o (xs ++ ys) ≡ last_or (last_or o xs) ys
 last_or-append o [] ys = refl
@@ -23,7 +23,7 @@ with_body true body o = refl
 with_body false body o = refl
 
 index_of_cut : (family : FamilyOf) (cut : Cut) (o : Option (List ℕ)) → option_and_then index_of_body (last_or o (cons_option (index_body family cut) [])) ≡ index_after family (option_and_then index_of_body o) cut
-index_of_cut family (Whole r) o = with_body (is_index_content (content_of family r.kind r.subtype)) r.body o
+index_of_cut family (Whole r) o = with_body (is_index_content (body_kind_of family r.kind r.subtype)) r.body o
 index_of_cut family (Broken offset fault) o = refl
 
 pub index_before-push : (family : FamilyOf) (earlier : List Cut) (cut : Cut) → index_before family (earlier ++ cut ∷ []) ≡ index_after family (index_before family earlier) cut

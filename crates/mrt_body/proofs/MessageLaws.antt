@@ -18,7 +18,7 @@ use Rattle.bgp_update.specs.declared.width.Width.TheVariants.{Four}
 use Rattle.bgp_update.specs.declared.attr_error.AttrError.{AttrError}
 use Rattle.bgp_update.specs.declared.attr_error.AttrError.TheVariants as errors
 use Rattle.bgp_update.specs.declared.route.Route.{Route}
-use Rattle.bgp_update.specs.Answers.{Gives}
+use Rattle.bgp_update.specs.Results.{Gives}
 use Rattle.bgp_update.specs.Attributes.{ReadsAsRoute}
 use Rattle.bgp_update.specs.Updates.{Update, ReadsAsUpdate}
 use Rattle.mrt_body.specs.Plain.{Event}

@@ -6,9 +6,9 @@ use Rattle.mrt_frame.specs.Fields.{◌>>=◌}
 use Rattle.mrt_frame.proofs.FieldLaws.{IsBytes}
 use Rattle.bgp_update.specs.declared.width.Width.{Width}
 use Rattle.bgp_update.specs.Families.{FamilyOf}
-use Rattle.mrt_body.specs.declared.at.RecordAt.{RecordAt}
-use Rattle.mrt_body.specs.declared.content.Content.{Content}
-use Rattle.mrt_body.specs.declared.content.Content.TheVariants as content
+use Rattle.mrt_body.specs.declared.record_place.RecordAt.{RecordAt}
+use Rattle.mrt_body.specs.declared.body_kind.BodyKind.{BodyKind}
+use Rattle.mrt_body.specs.declared.body_kind.BodyKind.TheVariants as content
 use Rattle.mrt_body.specs.declared.state_rule.StateRule.{StateRule}
 use Rattle.mrt_body.specs.declared.unit.PeerKey.{PeerKey}
 use Rattle.mrt_body.specs.Plain.{Unit as ReplayUnit}
@@ -92,7 +92,7 @@ module _ (family : FamilyOf) (rule : StateRule) (at : RecordAt) (extended : Bool
     },
   ))
 
-  refused : (index : Option (List PeerKey)) (c : Content) (body : List ℕ) (fault : Fault) → IsBytes body → units_in family rule at extended index c body ≡ Err fault → HasFault family rule at extended index c body fault ⊎ (fault ≡ ShortRecord)
+  refused : (index : Option (List PeerKey)) (c : BodyKind) (body : List ℕ) (fault : Fault) → IsBytes body → units_in family rule at extended index c body ≡ Err fault → HasFault family rule at extended index c body fault ⊎ (fault ≡ ShortRecord)
   refused index content.IndexTable body fault fine e = index_refused index body fault fine e
   refused index (content.Rib add_path) body fault fine e = rib_is_refused add_path index body fault fine e
   refused index (content.Message width add_path) body fault fine e = message_refused family at extended width add_path body fault fine (alone_err (message_unit family at extended width add_path body) fault e)
@@ -111,7 +111,7 @@ module _ (family : FamilyOf) (rule : StateRule) (at : RecordAt) (extended : Bool
       let read : rib_in family add_path (length peers) body ≡ Err TrailingBytes = ap (rib_in family add_path (length peers)) (m.parts ∙ ap (λ (l : List ℕ). l ++ m.more) front.spelled) ∙ rib_goes_on family add_path (length peers) front.form m.more front.fits m.some in
       rw read (ap (λ (f : Fault). Err f) (sym h.0))
 
-  has_fault : (index : Option (List PeerKey)) (c : Content) (body : List ℕ) (fault : Fault) → HasFault family rule at extended index c body fault → units_in family rule at extended index c body ≡ Err fault
+  has_fault : (index : Option (List PeerKey)) (c : BodyKind) (body : List ℕ) (fault : Fault) → HasFault family rule at extended index c body fault → units_in family rule at extended index c body ≡ Err fault
   has_fault index content.IndexTable body fault h =
       let m = h.1 in
       let read : peers_in body ≡ Err TrailingBytes = ap peers_in m.parts ∙ peers_go_on m.front m.more m.agrees.0.0 m.agrees.0.1 m.some in
@@ -133,7 +133,7 @@ module _ (family : FamilyOf) (rule : StateRule) (at : RecordAt) (extended : Bool
   rib_not_short add_path (Some peers) body (inr (inl h)) = let e : ShortRecord ≡ BadPeerIndex = h.0 in cc
   rib_not_short add_path (Some peers) body (inr (inr h)) = let e : ShortRecord ≡ TrailingBytes = h.0 in cc
 
-  not_short : (index : Option (List PeerKey)) (c : Content) (body : List ℕ) → HasFault family rule at extended index c body ShortRecord → ⊥
+  not_short : (index : Option (List PeerKey)) (c : BodyKind) (body : List ℕ) → HasFault family rule at extended index c body ShortRecord → ⊥
   not_short index content.IndexTable body h = let e : ShortRecord ≡ TrailingBytes = h.0 in cc
   not_short index (content.Rib add_path) body h = rib_not_short add_path index body h
   not_short index (content.Message width add_path) body h = let e : ShortRecord ≡ BadFamily = h.0 in cc
@@ -151,7 +151,7 @@ module _ (family : FamilyOf) (rule : StateRule) (at : RecordAt) (extended : Bool
   same_fault a b (Ok units) e h = absurd cc
   same_fault a b (Err fault) e h = cc
 
-  module _ (index : Option (List PeerKey)) (c : Content) (body : List ℕ) (fault : Fault) where
+  module _ (index : Option (List PeerKey)) (c : BodyKind) (body : List ℕ) (fault : Fault) where
     pub is_refused : IsBytes body → units_in family rule at extended index c body ≡ Err fault → IsRefused family rule at extended index c body fault
     is_refused fine e = by_fault (refused index c body fault fine e)
       where

@@ -11,7 +11,7 @@ use Rattle.mrt_frame.proofs.Items.{bind_ok, guard_ok, ok_is}
 use Rattle.mrt_frame.proofs.FieldLaws.{IsBytes, IsBytes-drop, TakesNumber, byte_at-takes, byte_at-again, number_takes, number_at-again, bytes_at-takes, bytes_at-again}
 use Rattle.bgp_update.specs.Keys.{octets_at}
 use Rattle.bgp_update.specs.Families.{FamilyOf}
-use Rattle.mrt_body.specs.declared.at.RecordAt.{RecordAt}
+use Rattle.mrt_body.specs.declared.record_place.RecordAt.{RecordAt}
 use Rattle.mrt_body.specs.declared.unit.PeerKey.{PeerKey}
 use Rattle.mrt_body.specs.Plain.{Unit as ReplayUnit}
 use Rattle.mrt_body.specs.Many.{many}

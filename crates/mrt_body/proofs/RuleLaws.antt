@@ -14,9 +14,9 @@ use Rattle.bgp_prefix.specs.Prefixes.{IpPrefix}
 use Rattle.bgp_prefix.specs.Keys.{RouteKey}
 use Rattle.bgp_update.specs.declared.width.Width.{Width}
 use Rattle.bgp_update.specs.Families.{FamilyOf}
-use Rattle.mrt_body.specs.declared.at.RecordAt.{RecordAt}
-use Rattle.mrt_body.specs.declared.content.Content.{Content}
-use Rattle.mrt_body.specs.declared.content.Content.TheVariants as content
+use Rattle.mrt_body.specs.declared.record_place.RecordAt.{RecordAt}
+use Rattle.mrt_body.specs.declared.body_kind.BodyKind.{BodyKind}
+use Rattle.mrt_body.specs.declared.body_kind.BodyKind.TheVariants as content
 use Rattle.mrt_body.specs.declared.state_rule.StateRule.{StateRule}
 use Rattle.mrt_body.specs.declared.rib_rule.RibRule.TheVariants.{Add}
 use Rattle.mrt_body.specs.Plain.{Payload}
@@ -32,7 +32,7 @@ use Rattle.mrt_body.specs.Bgp4mp.{session_peer_at, states_in, microseconds_at}
 use Rattle.mrt_body.specs.Selections.{is_selected, is_past}
 use Rattle.mrt_body.specs.States.{IsByRule, AreByRule, IsOfFamily, AreOfFamily}
 use Rattle.mrt_body.specs.RibDumps.{DumpsState, no_dumps, may_begin, replaces}
-use Rattle.mrt_body.specs.Units.{begins, clear_unit, clears_at, clears_if, is_recorded, time_of, dumps_behind_cuts, entry_unit, entry_units, rib_units, message_unit, states_unit, units_in, found_units, at_record, is_extended, content_of, found_at, index_before, found_in_file, found_in_files, found_in, unit_of, units_of, refused_at}
+use Rattle.mrt_body.specs.Units.{begins, clear_unit, clears_at, clears_if, is_recorded, time_of, dumps_behind_cuts, entry_unit, entry_units, rib_units, message_unit, states_unit, units_in, found_units, at_record, is_extended, body_kind_of, found_at, index_before, found_in_file, found_in_files, found_in, unit_of, units_of, refused_at}
 
 module _ {A B : Type 0} (P : B → Type 0) where
   bound : (r : Result A Fault) (f : A → Result B Fault) → ((a : A) → IfOk (f a) P) → IfOk (r >>= f) P
@@ -84,7 +84,7 @@ module _ (family : FamilyOf) (rule : StateRule) (P : Payload → Type 0) (entry 
   alone_by : (unit : ReplayUnit) → OfUnit unit → OfUnits (unit ∷ [])
   alone_by unit h = All-cons OfUnit unit [] h (All-nil OfUnit)
 
-  read_by : (at : RecordAt) (extended : Bool) (index : Option (List PeerKey)) (c : Content) (body : List ℕ) → IfOk (units_in family rule at extended index c body) (OfUnits)
+  read_by : (at : RecordAt) (extended : Bool) (index : Option (List PeerKey)) (c : BodyKind) (body : List ℕ) → IfOk (units_in family rule at extended index c body) (OfUnits)
   read_by at extended index content.IndexTable body = bound (OfUnits) (peers_in body) _ (λ peers. All-nil OfUnit)
   read_by at extended index (content.Rib add_path) body = bound (OfUnits) (rib_beside family add_path index body) _ (λ form. ribs_by at index form)
   read_by at extended index (content.Message width add_path) body = bound_from (OfUnits) OfUnit (message_unit family at extended width add_path body) _ (message_by at extended width add_path body) alone_by
@@ -104,7 +104,7 @@ module _ (family : FamilyOf) (rule : StateRule) (P : Payload → Type 0) (entry 
   given_by (found.Refused damage ∷ fs) h = given_by fs (All-tail OfFound (found.Refused damage) fs h)
 
 module _ (selection : UnitSelection) (P : Payload → Type 0) (entry : (key : RouteKey) (attrs : List ℕ) → P (Entry key attrs selection.family)) (message : (bytes : List ℕ) (width : Width) (add_path : Bool) → P (Message bytes width add_path selection.family)) (state : (from to : ℕ) → P (State from to selection.states))
-    (cleared : (at : RecordAt) (index : Option (List PeerKey)) (dumps : DumpsState) (c : Content) (body : List ℕ) → All (λ (unit : ReplayUnit). P unit.payload) (clears_at selection at index dumps c body)) where
+    (cleared : (at : RecordAt) (index : Option (List PeerKey)) (dumps : DumpsState) (c : BodyKind) (body : List ℕ) → All (λ (unit : ReplayUnit). P unit.payload) (clears_at selection at index dumps c body)) where
   abbrev Of : Found → Type 0
   Of f = OfFound selection.family selection.states P entry message state f
 
@@ -112,7 +112,7 @@ module _ (selection : UnitSelection) (P : Payload → Type 0) (entry : (key : Ro
   unfolding found_at
   cut_by file index dumps (Whole r) =
       let at = at_record file r.offset r.seconds in
-      let c = content_of selection.family r.kind r.subtype in
+      let c = body_kind_of selection.family r.kind r.subtype in
       let read = units_in selection.family selection.states at (is_extended r.kind) index c r.body in
       let clears = clears_at selection at index dumps c r.body in
       All-append Of (map (λ u. found.Unit u) clears) (found_units selection at read)
@@ -152,7 +152,7 @@ pub units_of_family : (selection : UnitSelection) (files : List (List ℕ)) → 
 units_of_family selection files = units_where selection (λ payload. IsOfFamily selection.family payload) (λ key attrs. refl) (λ bytes width add_path. refl) (λ from to. tt) (λ at index dumps c body. clears_of selection.family at (begins selection at index dumps c body) dumps.heard) files
 
 -- where RIB dumps are added, none begins anew
-none_begins : (selection : UnitSelection) (at : RecordAt) (index : Option (List PeerKey)) (dumps : DumpsState) (c : Content) (body : List ℕ) → selection.ribs ≡ Add → begins selection at index dumps c body ≡ false
+none_begins : (selection : UnitSelection) (at : RecordAt) (index : Option (List PeerKey)) (dumps : DumpsState) (c : BodyKind) (body : List ℕ) → selection.ribs ≡ Add → begins selection at index dumps c body ≡ false
 none_begins selection at index dumps content.IndexTable body h = refl
 none_begins selection at index dumps (content.Rib add_path) body h =
     elim (is_ok (rib_beside selection.family add_path index body)) as (λ b. (b && may_begin selection dumps.begun (time_of at 0)) ≡ false) [

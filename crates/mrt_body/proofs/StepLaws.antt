@@ -10,9 +10,9 @@ use Rattle.std.proofs.lemmas.List.Sums.{sum_by-cons}
 use Rattle.mrt_body.specs.Plain.{Unit as ReplayUnit}
 use Rattle.mrt_body.specs.declared.unit.Damage.{Damage}
 use Rattle.mrt_body.specs.Plain.{Found}
-use Rattle.mrt_body.specs.declared.content.Content.{Content}
+use Rattle.mrt_body.specs.declared.body_kind.BodyKind.{BodyKind}
 use Rattle.mrt_body.specs.RibDumps.{DumpsState}
-use Rattle.mrt_body.specs.Units.{begins, clears_at, dumps_behind, dumps_behind_cuts, found_from, found_at, found_units, units_in, content_of, is_extended, index_with, refused_at, at_record, is_whole, is_aside, aside_count}
+use Rattle.mrt_body.specs.Units.{begins, clears_at, dumps_behind, dumps_behind_cuts, found_from, found_at, found_units, units_in, body_kind_of, is_extended, index_with, refused_at, at_record, is_whole, is_aside, aside_count}
 use Rattle.mrt_body.specs.ToCome.{UnitsState, as_found, refusals, CutsOne, TakesRecord, StaysInFile, Steps}
 
 -- at the end of a file nothing comes
@@ -57,8 +57,8 @@ module _ (old : UnitsState) (file : ℕ) (r : Record) where
   abbrev whole : Cut
   whole = Whole r
 
-  abbrev held : Content
-  held = content_of old.selection.family r.kind r.subtype
+  abbrev held : BodyKind
+  held = body_kind_of old.selection.family r.kind r.subtype
 
   abbrev mid_of : Position → UnitsState
   mid_of frames = record old { frames = frames; records = old.records + 1 }

@@ -4,9 +4,9 @@ use Rattle.std.specs.Prelude.{◌≡◌, ℕ, ◌^◌, ◌<◌, Bool, List, [], 
 use Rattle.byteorder.specs.Endian.{big_bytes}
 use Rattle.bgp_update.specs.Families.{FamilyOf}
 use Rattle.bgp_update.specs.declared.width.Width.{Width}
-use Rattle.mrt_body.specs.declared.at.RecordAt.{RecordAt}
-use Rattle.mrt_body.specs.declared.content.Content.{Content}
-use Rattle.mrt_body.specs.declared.content.Content.TheVariants as content
+use Rattle.mrt_body.specs.declared.record_place.RecordAt.{RecordAt}
+use Rattle.mrt_body.specs.declared.body_kind.BodyKind.{BodyKind}
+use Rattle.mrt_body.specs.declared.body_kind.BodyKind.TheVariants as content
 use Rattle.mrt_body.specs.declared.state_rule.StateRule.{StateRule}
 use Rattle.mrt_body.specs.declared.unit.PeerKey.{PeerKey}
 use Rattle.mrt_body.specs.declared.unit.Payload.TheVariants.{State, Message}
@@ -68,7 +68,7 @@ pub record IsStatesBody
   pub said : unit ≡ session_unit at microseconds (session_peer session) (State from to rule)
 
 -- a record with this content agrees with its form beside the index in force, and these are its units
-abbrev pub Agrees : FamilyOf → StateRule → RecordAt → Bool → Option (List PeerKey) → Content → List ℕ → List ReplayUnit → Type 0
+abbrev pub Agrees : FamilyOf → StateRule → RecordAt → Bool → Option (List PeerKey) → BodyKind → List ℕ → List ReplayUnit → Type 0
 Agrees family rule at extended index content.IndexTable body units =
     ((peers : List PeerKey) × IsIndexBody body peers) × (units ≡ [])
 Agrees family rule at extended index (content.Rib add_path) body units = IsRibBodyBeside family at add_path index body units

@@ -3,7 +3,7 @@ use Rattle.std.specs.Prelude.{◌≤◌, ℕ, List, [], map, drop, length, Optio
 use Rattle.std.specs.List.{All}
 use Rattle.bgp_prefix.specs.Prefixes.{IpPrefix}
 use Rattle.bgp_update.specs.Families.{FamilyOf}
-use Rattle.mrt_body.specs.declared.at.RecordAt.{RecordAt}
+use Rattle.mrt_body.specs.declared.record_place.RecordAt.{RecordAt}
 use Rattle.mrt_body.specs.declared.unit.PeerKey.{PeerKey}
 use Rattle.mrt_body.specs.Plain.{Unit as ReplayUnit}
 use Rattle.mrt_body.specs.declared.rib.ListedEntry.{ListedEntry}

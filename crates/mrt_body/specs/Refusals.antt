@@ -8,9 +8,9 @@ use Rattle.mrt_frame.specs.declared.fault.Fault.TheVariants.{ShortRecord, Traili
 use Rattle.bgp_update.specs.Families.{FamilyOf}
 use Rattle.bgp_update.specs.declared.width.Width.{Width}
 use Rattle.bgp_update.specs.Segments.{number_len}
-use Rattle.mrt_body.specs.declared.at.RecordAt.{RecordAt}
-use Rattle.mrt_body.specs.declared.content.Content.{Content}
-use Rattle.mrt_body.specs.declared.content.Content.TheVariants as content
+use Rattle.mrt_body.specs.declared.record_place.RecordAt.{RecordAt}
+use Rattle.mrt_body.specs.declared.body_kind.BodyKind.{BodyKind}
+use Rattle.mrt_body.specs.declared.body_kind.BodyKind.TheVariants as content
 use Rattle.mrt_body.specs.declared.state_rule.StateRule.{StateRule}
 use Rattle.mrt_body.specs.declared.unit.PeerKey.{PeerKey}
 use Rattle.mrt_body.specs.Plain.{Unit as ReplayUnit}
@@ -21,7 +21,7 @@ use Rattle.mrt_body.specs.Agreement.{Agrees}
 
 -- bytes stand behind a body that agrees
 pub record HasMore
-    (family : FamilyOf) (rule : StateRule) (at : RecordAt) (extended : Bool) (index : Option (List PeerKey)) (c : Content) (body : List ℕ)
+    (family : FamilyOf) (rule : StateRule) (at : RecordAt) (extended : Bool) (index : Option (List PeerKey)) (c : BodyKind) (body : List ℕ)
     : Type 0 where
   pub front : List ℕ
   pub more : List ℕ
@@ -86,7 +86,7 @@ HasRibFault family rule at extended add_path (Some peers) body fault =
     ⊎ ((fault ≡ TrailingBytes) × HasMore family rule at extended (Some peers) (content.Rib add_path) body))
 
 -- what is wrong with a body, other than a field that runs past it
-abbrev pub HasFault : FamilyOf → StateRule → RecordAt → Bool → Option (List PeerKey) → Content → List ℕ → Fault → Type 0
+abbrev pub HasFault : FamilyOf → StateRule → RecordAt → Bool → Option (List PeerKey) → BodyKind → List ℕ → Fault → Type 0
 HasFault family rule at extended index content.IndexTable body fault =
     (fault ≡ TrailingBytes) × HasMore family rule at extended index content.IndexTable body
 HasFault family rule at extended index (content.Rib add_path) body fault = HasRibFault family rule at extended add_path index body fault
@@ -99,7 +99,7 @@ HasFault family rule at extended index content.Aside body fault = ⊥
 
 -- A body that doesn't agree is refused for what is wrong with it, and where nothing else is, for a field that runs
 -- past it.
-abbrev pub IsRefused : FamilyOf → StateRule → RecordAt → Bool → Option (List PeerKey) → Content → List ℕ → Fault → Type 0
+abbrev pub IsRefused : FamilyOf → StateRule → RecordAt → Bool → Option (List PeerKey) → BodyKind → List ℕ → Fault → Type 0
 IsRefused family rule at extended index c body fault =
     HasFault family rule at extended index c body fault
     ⊎ ((fault ≡ ShortRecord)

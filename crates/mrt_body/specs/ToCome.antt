@@ -10,8 +10,8 @@ use Rattle.mrt_frame.specs.declared.cut.Cut.TheVariants.{Whole, Broken}
 use Rattle.mrt_frame.specs.declared.error.ReplayError.{ReplayError}
 use Rattle.mrt_frame.specs.declared.error.ReplayError.TheVariants as errors
 use Rattle.mrt_frame.specs.declared.phase.Phase.TheVariants.{Reading}
-use Rattle.mrt_body.specs.declared.at.RecordAt.{RecordAt}
-use Rattle.mrt_body.specs.declared.content.Content.{Content}
+use Rattle.mrt_body.specs.declared.record_place.RecordAt.{RecordAt}
+use Rattle.mrt_body.specs.declared.body_kind.BodyKind.{BodyKind}
 use Rattle.mrt_body.specs.Choices.{UnitSelection}
 use Rattle.mrt_body.specs.declared.standing.Standing.{Standing}
 use Rattle.mrt_body.specs.declared.standing.Standing.TheVariants.{Going, Failed as FailedRead, Spent as SpentAll}
@@ -190,7 +190,7 @@ CutsOne old known new left (Some (Whole r)) =
 
 -- what comes of a whole record: its refusal, if it is refused, and what pends
 pub record TakesRecord
-    (old : UnitsState) (at : RecordAt) (extended : Bool) (content : Content) (body : List ℕ)
+    (old : UnitsState) (at : RecordAt) (extended : Bool) (content : BodyKind) (body : List ℕ)
     (new : UnitsState) (refused : Option Damage)
     : Type 0 where
   pub state : new ≡ record old {

@@ -13,9 +13,9 @@ use Rattle.mrt_frame.specs.Cuts.{cuts}
 use Rattle.bgp_update.specs.Families.{FamilyOf}
 use Rattle.bgp_update.specs.declared.width.Width.{Width}
 use Rattle.bgp_update.specs.declared.width.Width.TheVariants.{Two, Four}
-use Rattle.mrt_body.specs.declared.at.RecordAt.{RecordAt}
-use Rattle.mrt_body.specs.declared.content.Content.{Content}
-use Rattle.mrt_body.specs.declared.content.Content.TheVariants as content
+use Rattle.mrt_body.specs.declared.record_place.RecordAt.{RecordAt}
+use Rattle.mrt_body.specs.declared.body_kind.BodyKind.{BodyKind}
+use Rattle.mrt_body.specs.declared.body_kind.BodyKind.TheVariants as content
 use Rattle.mrt_body.specs.declared.state_rule.StateRule.{StateRule}
 use Rattle.mrt_body.specs.declared.unit.PeerAddr.TheVariants.{V4}
 use Rattle.mrt_body.specs.declared.unit.PeerKey.{PeerKey}
@@ -39,15 +39,15 @@ use Rattle.std.specs.Result.{is_ok}
 -- ---- kinds of record
 
 -- TABLE_DUMP_V2 (RFC 6396, 4.3; RFC 8050, 4); RIB records of another family are aside
-abbrev pub dump_content : FamilyOf → ℕ → Content
-dump_content family subtype =
+abbrev pub dump_kind : FamilyOf → ℕ → BodyKind
+dump_kind family subtype =
     if subtype == 1 then content.IndexTable else
     (if subtype == family.rib then content.Rib false else
     (if subtype == family.rib_add_path then content.Rib true else content.Aside))
 
 -- BGP4MP, and BGP4MP_ET (RFC 6396, 4.4; RFC 8050, 3)
-abbrev pub session_content : ℕ → Content
-session_content subtype =
+abbrev pub session_kind : ℕ → BodyKind
+session_kind subtype =
     if subtype == 0 then content.States Two else
     (if subtype == 1 then content.Message Two false else
     (if subtype == 4 then content.Message Four false else
@@ -55,16 +55,16 @@ session_content subtype =
     (if subtype == 8 then content.Message Two true else
     (if subtype == 9 then content.Message Four true else content.Aside)))))
 
-unfoldable pub content_of : FamilyOf → ℕ → ℕ → Content
-content_of family kind subtype =
-    if kind == 13 then dump_content family subtype else
-    (if kind == 16 || kind == 17 then session_content subtype else content.Aside)
+unfoldable pub body_kind_of : FamilyOf → ℕ → ℕ → BodyKind
+body_kind_of family kind subtype =
+    if kind == 13 then dump_kind family subtype else
+    (if kind == 16 || kind == 17 then session_kind subtype else content.Aside)
 
 -- the type with extended timestamps
 abbrev pub is_extended : ℕ → Bool
 is_extended kind = kind == 17
 
-abbrev pub is_index_content : Content → Bool
+abbrev pub is_index_content : BodyKind → Bool
 is_index_content content.IndexTable = true
 is_index_content (content.Rib add_path) = false
 is_index_content (content.Message width add_path) = false
@@ -136,7 +136,7 @@ alone read = read >>= λ unit. Ok (unit ∷ [])
 
 -- The units of a whole record, or its fault; index tables and records aside give none. Messages and entries have the
 -- family and state changes the rule that are asked for.
-abbrev pub units_in : FamilyOf → StateRule → RecordAt → Bool → Option (List PeerKey) → Content → List ℕ → Result (List ReplayUnit) Fault
+abbrev pub units_in : FamilyOf → StateRule → RecordAt → Bool → Option (List PeerKey) → BodyKind → List ℕ → Result (List ReplayUnit) Fault
 units_in family rule at extended index content.IndexTable body = peers_in body >>= λ peers. Ok []
 units_in family rule at extended index (content.Rib add_path) body = rib_units_in family at add_path index body
 units_in family rule at extended index (content.Message width add_path) body = alone (message_unit family at extended width add_path body)
@@ -170,7 +170,7 @@ abbrev pub clear_unit : RecordAt → PeerKey → ReplayUnit
 clear_unit at peer = record { place = place_of at None; time = time_of at 0; peer = peer; payload = Clear }
 
 -- Whether a record begins one, beside the index in force and the dumps before it. A refused record doesn't.
-abbrev pub begins : UnitSelection → RecordAt → Option (List PeerKey) → DumpsState → Content → List ℕ → Bool
+abbrev pub begins : UnitSelection → RecordAt → Option (List PeerKey) → DumpsState → BodyKind → List ℕ → Bool
 begins selection at index dumps (content.Rib add_path) body =
     is_ok (rib_beside selection.family add_path index body) && may_begin selection dumps.begun (time_of at 0)
 begins selection at index dumps content.IndexTable body = false
@@ -183,7 +183,7 @@ abbrev pub clears_if : Bool → RecordAt → List PeerKey → List ReplayUnit
 clears_if begun at heard = if begun then map (clear_unit at) heard else []
 
 -- those of all peers that gave a unit since the last one: nothing else has a route
-abbrev pub clears_at : UnitSelection → RecordAt → Option (List PeerKey) → DumpsState → Content → List ℕ → List ReplayUnit
+abbrev pub clears_at : UnitSelection → RecordAt → Option (List PeerKey) → DumpsState → BodyKind → List ℕ → List ReplayUnit
 clears_at selection at index dumps content body =
     clears_if (begins selection at index dumps content body) at dumps.heard
 
@@ -193,7 +193,7 @@ units_or_none (Ok units) = units
 units_or_none (Err fault) = []
 
 -- the dumps behind a record, where it begins one or doesn't; an index table begins none
-abbrev pub dumps_behind : UnitSelection → Bool → DumpsState → Content → Result (List ReplayUnit) Fault → DumpsState
+abbrev pub dumps_behind : UnitSelection → Bool → DumpsState → BodyKind → Result (List ReplayUnit) Fault → DumpsState
 dumps_behind selection begun dumps content read =
     let with = dumps_with selection.ribs begun dumps (units_or_none (selected_units selection read)) in
     if is_index_content content then record with { begun = false } else with
@@ -204,7 +204,7 @@ dumps_behind selection begun dumps content read =
 unfoldable pub found_at : ℕ → UnitSelection → Option (List PeerKey) → DumpsState → Cut → List Found
 found_at file selection index dumps (Whole r) =
     let at = at_record file r.offset r.seconds in
-    let content = content_of selection.family r.kind r.subtype in
+    let content = body_kind_of selection.family r.kind r.subtype in
     map (λ u. found.Unit u) (clears_at selection at index dumps content r.body)
     ++ found_units selection at (units_in selection.family selection.states at (is_extended r.kind) index content r.body)
 found_at file selection index dumps (Broken offset fault) = refused_at (at_record file offset 0) fault ∷ []
@@ -213,7 +213,7 @@ found_at file selection index dumps (Broken offset fault) = refused_at (at_recor
 abbrev pub dumps_after : ℕ → UnitSelection → Option (List PeerKey) → DumpsState → Cut → DumpsState
 dumps_after file selection index dumps (Whole r) =
     let at = at_record file r.offset r.seconds in
-    let content = content_of selection.family r.kind r.subtype in
+    let content = body_kind_of selection.family r.kind r.subtype in
     dumps_behind selection (begins selection at index dumps content r.body) dumps content
     (units_in selection.family selection.states at (is_extended r.kind) index content r.body)
 dumps_after file selection index dumps (Broken offset fault) = dumps
@@ -229,17 +229,17 @@ abbrev pub index_of_body : List ℕ → Option (List PeerKey)
 index_of_body body = if_read (peers_in body)
 
 -- the index in force after a whole record
-abbrev pub index_with : Option (List PeerKey) → Content → List ℕ → Option (List PeerKey)
+abbrev pub index_with : Option (List PeerKey) → BodyKind → List ℕ → Option (List PeerKey)
 index_with index content body = if is_index_content content then index_of_body body else index
 
 -- the index in force after a cut
 abbrev pub index_after : FamilyOf → Option (List PeerKey) → Cut → Option (List PeerKey)
-index_after family index (Whole r) = index_with index (content_of family r.kind r.subtype) r.body
+index_after family index (Whole r) = index_with index (body_kind_of family r.kind r.subtype) r.body
 index_after family index (Broken offset fault) = index
 
 -- the bodies of index tables
 abbrev pub index_body : FamilyOf → Cut → Option (List ℕ)
-index_body family (Whole r) = if is_index_content (content_of family r.kind r.subtype) then Some r.body else None
+index_body family (Whole r) = if is_index_content (body_kind_of family r.kind r.subtype) then Some r.body else None
 index_body family (Broken offset fault) = None
 
 -- ---- what files give
@@ -329,7 +329,7 @@ abbrev pub is_whole : Cut → Bool
 is_whole (Whole r) = true
 is_whole (Broken offset fault) = false
 
-abbrev pub is_aside_content : Content → Bool
+abbrev pub is_aside_content : BodyKind → Bool
 is_aside_content content.Aside = true
 is_aside_content content.IndexTable = false
 is_aside_content (content.Rib add_path) = false
@@ -337,11 +337,11 @@ is_aside_content (content.Message width add_path) = false
 is_aside_content (content.States width) = false
 
 -- one for a record aside
-abbrev pub aside_count : Content → ℕ
+abbrev pub aside_count : BodyKind → ℕ
 aside_count content = if is_aside_content content then 1 else 0
 
 abbrev pub is_aside : FamilyOf → Cut → Bool
-is_aside family (Whole r) = is_aside_content (content_of family r.kind r.subtype)
+is_aside family (Whole r) = is_aside_content (body_kind_of family r.kind r.subtype)
 is_aside family (Broken offset fault) = false
 
 abbrev pub all_cuts : List (List ℕ) → List Cut

@@ -1,7 +1,7 @@
 //! The entries of a RIB record that are still to be returned.
 
 ghost use Rattle.std.specs.Prelude.{◌≡◌, ◌≤◌, ◌+◌, ◌/◌, ◌∷◌, [], length, take, drop, max, vec_capacity, false, ◌↔◌, Some, None, IfOk, IfSome, OnOk, slice_index_or};
-ghost use Rattle.bgp_update.specs.Answers.{Gives};
+ghost use Rattle.bgp_update.specs.Results.{Gives};
 ghost use Rattle.mrt_body.specs.Units.{IsSmallUnit, no_peer, rib_units_in};
 ghost use Rattle.mrt_body.specs.Pending.{AreListed, units_left};
 ghost use Rattle.mrt_body.specs.Selections.{is_selected, takes_peer};
@@ -9,8 +9,8 @@ ghost use Rattle.std.specs.List.{filter};
 ghost use Rattle.mrt_body.specs.RibDumps.{heard_of};
 ghost use Rattle.mrt_body.specs.declared.rib_rule.RibRule.TheVariants.{Replace};
 
-use crate::at::RecordAt;
 use crate::lent::{BytesRef, LentUnit, LentUnitOf};
+use crate::record_place::RecordAt;
 use crate::rib::{ListedEntry, list_entries, rib_head_at};
 use crate::rib_dumps::RibDumps;
 use crate::selection::Selection;

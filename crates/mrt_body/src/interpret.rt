@@ -2,7 +2,7 @@
 
 ghost use Rattle.std.specs.Prelude.{◌≡◌, IfOk, Ok};
 ghost use Rattle.bgp_prefix.specs.Prefixes.{IpPrefix};
-ghost use Rattle.bgp_update.specs.Answers.{Gives};
+ghost use Rattle.bgp_update.specs.Results.{Gives};
 ghost use Rattle.mrt_body.specs.Events.{IsEvent, IsMessageEvent, IsWritableEvent, event_in, message_event_in};
 
 use crate::lent::PayloadRef;

@@ -13,7 +13,7 @@
 //!   the same as to select late is a law of `adj_rib`, `early_is_late`. Refusals, index tables and the counts of
 //!   records don't depend on the selection.
 //! - **Routes are those of one family** (`Unicast`), IPv4 where none is named. Messages and state changes are units of
-//!   either family; RIB records of another one are set aside (`content_of`). A payload carries its family, as a state
+//!   either family; RIB records of another one are set aside (`body_kind_of`). A payload carries its family, as a state
 //!   change carries its rule: a message and an entry have a mark of no size (`FamilyMark`), by which `event_in` reads
 //!   them. So no definition over units, sessions or lanes has a family as a further argument, and specs see each enum
 //!   at `IpPrefix` and `FamilyOf` (specs/Plain.antt).
@@ -40,29 +40,28 @@
 //!   refuses two names in one module that differ only in case.
 #![tactic(auto)]
 
-mod agreement;
-mod at;
+mod bgp4mp;
+mod body_kind;
 mod choice;
 mod chosen_prefixes;
-mod content;
 mod decoded_events;
 mod entries;
 mod event_ref;
-mod in_force;
-mod index;
 mod interpret;
+mod laws;
 mod lent;
 mod meaning;
 mod message;
 mod payload;
 mod payload_bytes;
-mod reading;
+mod peer_index;
+mod record_place;
 mod remarks;
 mod rib;
 mod rib_dumps;
+mod rib_reader;
 mod rib_rule;
 mod selection;
-mod session;
 mod session_unit;
 mod share;
 mod standing;
@@ -71,22 +70,20 @@ mod unit;
 mod units;
 mod waiting;
 
-pub use agreement::{
-    bodies_agree_with_their_forms, clears_are_told, events_agree_with_their_payloads,
-};
+pub use body_kind::{BodyKind, body_kind_of};
 pub use choice::{PeerChoice, PrefixChoice, Reach};
 pub use chosen_prefixes::ChosenPrefixes;
-pub use content::{Content, content_of};
 pub use decoded_events::DecodedEvents;
 pub use event_ref::EventRef;
 pub use interpret::event;
+pub use laws::{
+    added_dumps_clear_nothing, bodies_agree_with_their_forms, clears_are_told,
+    events_agree_with_their_payloads, readings_give_all_found, units_have_their_family,
+    units_have_their_rule,
+};
 pub use lent::{BytesRef, LentUnit, LentUnitOf, PayloadRef, UnitRef};
 pub use meaning::Event;
 pub use payload_bytes::PayloadBytes;
-pub use reading::{
-    added_dumps_clear_nothing, readings_give_all_found, units_have_their_family,
-    units_have_their_rule,
-};
 pub use remarks::{Marked, Remarks};
 pub use rib_rule::RibRule;
 pub use selection::Selection;

@@ -5,8 +5,8 @@ ghost use Rattle.mrt_frame.specs.Fields.{Reads};
 ghost use Rattle.mrt_body.specs.Units as units_spec;
 ghost use Rattle.mrt_body.specs.Units.{payload_bytes};
 
-use crate::at::RecordAt;
-use crate::session::{microseconds_at, session_peer_at, states_in};
+use crate::bgp4mp::{microseconds_at, session_peer_at, states_in};
+use crate::record_place::RecordAt;
 use crate::session_unit::SessionUnit;
 use crate::state_rule::StateRule;
 use crate::unit::{Payload, Unit};

@@ -3,7 +3,7 @@
 ghost use Rattle.std.specs.Prelude.{◌≡◌, ◌≤◌, ◌+◌, ◌-◌, ◌/◌, IfOk, length, drop, map, max, vec_capacity};
 ghost use Rattle.std.specs.List.{All};
 ghost use Rattle.mrt_frame.specs.Fields.{Reads};
-ghost use Rattle.bgp_update.specs.Answers.{Gives};
+ghost use Rattle.bgp_update.specs.Results.{Gives};
 ghost use Rattle.mrt_body.specs.Listed.{AreNumbered, IsListed, read_listed};
 ghost use Rattle.mrt_body.specs.Many.{many};
 ghost use Rattle.mrt_body.specs.RibRecords as ribs;

@@ -8,13 +8,13 @@ ghost use Rattle.mrt_frame.specs.Frames.{StandsAt, KeepsUnlessRead};
 ghost use Rattle.mrt_body.specs.ToCome.{UnitsState, GivesPending, CutsOne, TakesFound, NothingToCome, HasEnded, FailsInRecord, GivesAllBefore, Steps, StopsAt, Stops, KeepsPlan, as_found, answers_left, refusals, units_left, unit_count, cuts_to_come, found_to_come, steps_left, fresh_units, standing_after};
 ghost use Rattle.mrt_body.specs.declared.standing.Standing.TheVariants as standings;
 
-use crate::at::RecordAt;
-use crate::content::{content_of, is_extended};
+use crate::body_kind::{body_kind_of, is_extended};
 use crate::decoded_events::DecodedEvents;
-use crate::in_force::Index;
 use crate::lent::LentUnitOf;
+use crate::record_place::RecordAt;
 use crate::remarks::{Remarker, Remarks};
 use crate::rib_dumps::RibDumps;
+use crate::rib_reader::Index;
 use crate::selection::Selection;
 use crate::standing::Standing;
 use crate::unit::{Damage, Found, FoundOf, UnitOf};
@@ -456,7 +456,7 @@ impl<F: Unicast> Units<F> {
                     offset: record.offset,
                     seconds: record.seconds,
                 };
-                let content = content_of::<F>(record.kind, record.subtype);
+                let content = body_kind_of::<F>(record.kind, record.subtype);
                 self.take(alloc, at, is_extended(record.kind), content, record.body)
             }
         }

@@ -3,8 +3,8 @@
 ghost use Rattle.std.specs.Prelude.{◌≡◌, ◌∷◌, ◌++◌, ◌↔◌, [], IfOk, IfSome, None, Ok, drop, false, map, option_to_list};
 ghost use Rattle.mrt_body.specs.Units.{IsSmallUnit, clear_unit};
 
-use crate::at::RecordAt;
 use crate::lent::LentUnitOf;
+use crate::record_place::RecordAt;
 use crate::session_unit::SessionUnit;
 use crate::unit::{Payload, PeerKey, Unit, UnitOf};
 use bgp_prefix::{Memory, Sequence};

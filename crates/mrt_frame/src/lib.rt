@@ -23,7 +23,6 @@
 #![tactic(auto)]
 
 mod cut;
-mod cutting;
 mod device;
 mod error;
 mod fault;
@@ -31,16 +30,17 @@ mod field;
 mod filling;
 mod frame_reader;
 mod header;
+mod laws;
 mod phase;
 mod writing;
 
 pub use cut::{Cut, Record};
-pub use cutting::{cutting_is_unique, readings_give_all_cuts};
 pub use device::{Counted, Failed, Failures, Sink, Source};
 pub use error::ReplayError;
 pub use fault::Fault;
 pub use field::{byte_at, bytes_at, u16_at, u32_at, u128_at};
 pub use frame_reader::FrameReader;
 pub use header::{HEADER_SIZE, Header, is_within_limits};
+pub use laws::{cutting_is_unique, readings_give_all_cuts};
 pub use phase::Phase;
 pub use writing::write_full;

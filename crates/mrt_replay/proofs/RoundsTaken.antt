@@ -19,9 +19,9 @@ use Rattle.lane_deal.specs.declared.plan.Plan.{Plan}
 use Rattle.lane_deal.specs.declared.step.Step.{Step}
 use Rattle.lane_deal.specs.declared.step.Step.TheVariants.{Blocked, FullBatch, End}
 use Rattle.lane_deal.specs.declared.state.State.TheVariants.{Running}
-use Rattle.lane_deal.specs.Answers.{state_of_step}
+use Rattle.lane_deal.specs.Results.{state_of_step}
 use Rattle.lane_deal.specs.Asking.{TakesUnits, StopsReading}
-use Rattle.lane_deal.specs.Kept.{to_deal}
+use Rattle.lane_deal.specs.ToDeal.{to_deal}
 use Rattle.lane_deal.specs.Plans.{IsPlan}
 use Rattle.lane_deal.specs.Playing.{PlaysOn}
 use Rattle.lane_deal.specs.Replayers.{ReplayerState}
@@ -37,7 +37,7 @@ Known = List (Option (List ℕ))
 
 -- how much is left of units that can come
 abbrev pub left_over : ReplayerState → UnitsState → ℕ
-left_over r u = 2 * (length (option_to_list r.kept) + units_left u) + waiting_in r
+left_over r u = 2 * (length (option_to_list r.blocked_unit) + units_left u) + waiting_in r
 
 -- rounds so far
 pub record SoFar (dealing : ℕ → ℕ → ℕ) (plan : Plan) (first r : ReplayerState) (start now : UnitsState) (told left : Known) (n₀ m n : ℕ) : Type 0 where
@@ -48,7 +48,7 @@ pub record SoFar (dealing : ℕ → ℕ → ℕ) (plan : Plan) (first r : Replay
   pub dealt : ℕ
   pub blocked : ℕ
   pub full : ℕ
-  pub all : dealt + length (option_to_list r.kept) ≡ length (option_to_list first.kept) + length (filter_map unit_of items)
+  pub all : dealt + length (option_to_list r.blocked_unit) ≡ length (option_to_list first.blocked_unit) + length (filter_map unit_of items)
   pub rounds : n ≤ n₀ + (blocked + full)
   pub rings : blocked * plan.ring + waiting_in r ≤ waiting_in first + 2 * dealt
   pub batches : full * plan.batch ≤ dealt
@@ -82,13 +82,13 @@ module _ (dealing : ℕ → ℕ → ℕ) (plan : Plan) where
     played : PlaysRound dealing plan.ring plan.batch r r' p.given [] p.done
     played = subst (λ l. PlaysRound dealing plan.ring plan.batch r r' l [] p.done) (append-nil p.given) (p.plays [])
 
-    counts : many + length (option_to_list r'.kept) ≡ length (option_to_list r.kept) + length (filter_map unit_of p.given)
+    counts : many + length (option_to_list r'.blocked_unit) ≡ length (option_to_list r.blocked_unit) + length (filter_map unit_of p.given)
     counts =
-        let units : option_to_list r.kept ++ filter_map unit_of p.given ≡ filter_map unit_of p.done ++ option_to_list r'.kept =
-        sym (units_to_deal r.kept p.given) ∙ ap (filter_map unit_of) played.order ∙ filter_map-append unit_of p.done (to_deal r'.kept [])
-        ∙ ap (λ l. filter_map unit_of p.done ++ l) (units_to_deal r'.kept [] ∙ append-nil (option_to_list r'.kept)) in
+        let units : option_to_list r.blocked_unit ++ filter_map unit_of p.given ≡ filter_map unit_of p.done ++ option_to_list r'.blocked_unit =
+        sym (units_to_deal r.blocked_unit p.given) ∙ ap (filter_map unit_of) played.order ∙ filter_map-append unit_of p.done (to_deal r'.blocked_unit [])
+        ∙ ap (λ l. filter_map unit_of p.done ++ l) (units_to_deal r'.blocked_unit [] ∙ append-nil (option_to_list r'.blocked_unit)) in
         let size = ap length units in
-        omega (arith, length-append (option_to_list r.kept) (filter_map unit_of p.given), length-append (filter_map unit_of p.done) (option_to_list r'.kept))
+        omega (arith, length-append (option_to_list r.blocked_unit) (filter_map unit_of p.given), length-append (filter_map unit_of p.done) (option_to_list r'.blocked_unit))
 
     few : waiting_in r' ≤ many
     few = waits_after dealing plan.ring plan.batch r r' p.given [] p.done (subst (λ m. (k : ℕ) → dealing k m < m) (sym played.lanes) below) played
@@ -177,13 +177,13 @@ module _ (dealing : ℕ → ℕ → ℕ) (plan : Plan) where
           some = omega arith;
           counted = last.counted;
           batches = λ nothing.
-              let before : length (option_to_list first.kept) ≡ 0 = ap (λ k. length (option_to_list k)) nothing in
-              let after : length (option_to_list r'.kept) ≡ 0 = ap (λ k. length (option_to_list k)) ended.0 in
+              let before : length (option_to_list first.blocked_unit) ≡ 0 = ap (λ k. length (option_to_list k)) nothing in
+              let after : length (option_to_list r'.blocked_unit) ≡ 0 = ap (λ k. length (option_to_list k)) ended.0 in
               omega (arith, last.all, before, after, last.batched);
           few = λ settled nothing.
               let idle = none_waits first.lanes settled in
-              let before : length (option_to_list first.kept) ≡ 0 = ap (λ k. length (option_to_list k)) nothing in
-              let after : length (option_to_list r'.kept) ≡ 0 = ap (λ k. length (option_to_list k)) ended.0 in
+              let before : length (option_to_list first.blocked_unit) ≡ 0 = ap (λ k. length (option_to_list k)) nothing in
+              let after : length (option_to_list r'.blocked_unit) ≡ 0 = ap (λ k. length (option_to_list k)) ended.0 in
               let total = length (filter_map unit_of (s.items ++ p.given)) in
               let same : last.dealt ≡ total = omega (arith, last.all, before, after) in
               let blocked = le-div last.blocked (2 * total) plan.ring (omega (arith, ranges.ring)) (omega (arith, last.rings, idle, same)) in

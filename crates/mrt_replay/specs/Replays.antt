@@ -52,24 +52,24 @@ StopsFiles start told before after errors.Spent = ⊥
 
 -- ---- rounds
 
--- These units came: a replayer dealt all but the one that it keeps.
+-- These units came: a replayer dealt all but the one that is blocked.
 pub record DealtAll (dealing : ℕ → ℕ → ℕ) (capacity : ℕ) (r : ReplayerState) (units : List ReplayUnit)
     (refused : List Damage) : Type 0 where
   pub dealt : List ReplayUnit
-  pub whole : units ≡ dealt ++ option_to_list r.kept
+  pub whole : units ≡ dealt ++ option_to_list r.blocked_unit
   pub stands : ReplayerStandsFor dealing capacity dealt refused r
 
--- Rounds to the end: the replayer took all that was to come and keeps no unit. There were few of them, but enough to
+-- Rounds to the end: the replayer took all that was to come, and no unit is blocked. There were few of them, but enough to
 -- deal each unit in a batch; they are counted, up to the greatest count.
 pub record HasPlayed (dealing : ℕ → ℕ → ℕ) (plan : Plan) (before after : ReplayerState) (start now : UnitsState)
     (told : List (Option (List ℕ))) (rounds rounds' : ℕ) : Type 0 where
   pub taken : HasTakenFiles (DealtAll dealing plan.ring) start now told before after
-  pub none : after.kept ≡ None
+  pub none : after.blocked_unit ≡ None
   pub played : ℕ
   pub some : 0 < played
   pub counted : min (rounds + played) (2 ^ 64 - 1) ≤ rounds'
-  pub batches : before.kept ≡ None → length (filter_map unit_of taken.items) ≤ played * plan.batch
-  pub few : IsSettled before → before.kept ≡ None →
+  pub batches : before.blocked_unit ≡ None → length (filter_map unit_of taken.items) ≤ played * plan.batch
+  pub few : IsSettled before → before.blocked_unit ≡ None →
       rounds' ≤ (rounds + 1)
       + (2 * length (filter_map unit_of taken.items) / plan.ring + length (filter_map unit_of taken.items) / plan.batch)
 

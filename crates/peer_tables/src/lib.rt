@@ -24,20 +24,19 @@
 //! needs no other name.
 #![tactic(auto)]
 
-mod histories;
 mod history;
+mod laws;
 mod peer_numbers;
 mod shared_peer;
-mod shares;
-mod standing;
 mod tables;
 mod watches;
 
-pub use histories::histories_are_of_peers;
 pub use history::{By, HistoryRow, Listed, Listing};
+pub use laws::{
+    collected_stand_for_units, histories_are_of_peers, lanes_make_no_difference, shares_keep_peers,
+    tables_are_of_units,
+};
 pub use peer_numbers::Peers;
 pub use shared_peer::SharedPeer;
-pub use shares::shares_keep_peers;
-pub use standing::{collected_stand_for_units, lanes_make_no_difference, tables_are_of_units};
 pub use tables::{Gathered, Seated, Tables, collect, count_routes};
 pub use watches::{Watched, Watches};

@@ -1,8 +1,8 @@
 pub mod TextLaws
 pub mod JoinLaws
 pub mod RowLines
-pub mod PieceLaws
-pub mod PieceLists
+pub mod LineBlockLaws
+pub mod LineBlockLists
 pub mod RunLaws
 pub mod StableSort
 pub mod ListedLaws

@@ -7,8 +7,8 @@ pub mod Merges
 pub mod Rows
 pub mod Reports
 pub mod Listings
-pub mod Pieces
-pub mod Nowhere
+pub mod LineBlocks
+pub mod NullSink
 pub mod Lines
 pub mod LineParts
 pub mod UnitReports

@@ -12,7 +12,7 @@ use crate::numbers::format_numbers;
 use crate::route_line::{END_BYTES, beginning_bytes, format_beginning, format_end};
 use bgp_prefix::{Prefix, RouteKey};
 use bgp_update::{PackedSegment, RouteRef, Unicast};
-use ip_text::{ShortTexts, WrittenAddress};
+use ip_text::{DecimalTable, WrittenAddress};
 use mrt_frame::{Failed, Sink, write_full};
 use std::marker::Model;
 
@@ -25,7 +25,7 @@ pub(crate) struct TextBuffer {
     bytes: [u8; CAPACITY],
     len: usize,
     failed: bool,
-    shorts: ShortTexts,
+    shorts: DecimalTable,
 }
 
 impl Model for TextBuffer {
@@ -48,7 +48,7 @@ impl TextBuffer {
             bytes: [0; CAPACITY],
             len: 0,
             failed: false,
-            shorts: ShortTexts::new(),
+            shorts: DecimalTable::new(),
         }
     }
 
@@ -135,7 +135,7 @@ impl TextBuffer {
         self.len = field.format(&mut self.bytes, self.len, &self.shorts);
     }
 
-    /// Makes a peer's text, which `put_beginning` then adds to many lines.
+    /// Makes a peer's text, which `put_peer_and_key` then adds to many lines.
     pub(crate) fn peer_text<F: Unicast>(&self, peer: &ShownPeerOf<F>) -> PeerText<F>
         ensures { result ≡ peer.now }
     {
@@ -144,7 +144,7 @@ impl TextBuffer {
 
     /// Adds what a line begins with: a peer, a bar and a key.
     #[inline(always)]
-    pub(crate) fn put_beginning<W: Sink, F: WrittenAddress>(
+    pub(crate) fn put_peer_and_key<W: Sink, F: WrittenAddress>(
         &mut self,
         out: &mut W,
         peer: &PeerText<F>,
@@ -159,7 +159,7 @@ impl TextBuffer {
 
     /// Adds what a line has after the path of its route.
     #[inline(always)]
-    pub(crate) fn put_end<W: Sink, F: Unicast>(
+    pub(crate) fn put_attributes<W: Sink, F: Unicast>(
         &mut self,
         out: &mut W,
         forms: AddressFormsOf<F>,

@@ -11,7 +11,7 @@ use crate::forms::{AddressForms, AddressFormsOf, ShownPeer, ShownPeerOf};
 use bgp_prefix::{Prefix, RouteKey};
 use bgp_update::{Aggregator, FamilyMark, NextHop, Origin, Unicast};
 use ip_text::{
-    AddressForm, ShortTexts, WrittenAddress, format_byte, format_front, format_ipv4, format_ipv6,
+    AddressForm, DecimalTable, WrittenAddress, format_byte, format_front, format_ipv4, format_ipv6,
     format_number, format_short, format_six, format_text, format_three,
 };
 use itoa::Buffer;
@@ -32,7 +32,7 @@ pub(crate) trait Field: Copy {
 
     /// Writes the text, and returns the position after it. There has to be room for one byte more than the longest
     /// text.
-    fn format(self, bytes: &mut [u8], at: usize, shorts: &ShortTexts) -> usize
+    fn format(self, bytes: &mut [u8], at: usize, shorts: &DecimalTable) -> usize
         requires { at + longest < length bytes.old }
         ensures { Formats bytes.old at bytes.new result longest (text_of self) };
 }
@@ -51,7 +51,7 @@ impl Field for Byte {
     }
 
     #[inline(always)]
-    fn format(self, bytes: &mut [u8], at: usize, _shorts: &ShortTexts) -> usize {
+    fn format(self, bytes: &mut [u8], at: usize, _shorts: &DecimalTable) -> usize {
         format_byte(bytes, at, self.0)
     }
 }
@@ -70,7 +70,7 @@ impl<A: Field, B: Field> Field for (A, B) {
 
     #[inline(always)]
     #[tactic(auto, using(ip_text::proofs::FormatLaws::Formats_trans))]
-    fn format(self, bytes: &mut [u8], at: usize, shorts: &ShortTexts) -> usize {
+    fn format(self, bytes: &mut [u8], at: usize, shorts: &DecimalTable) -> usize {
         let at = self.0.format(bytes, at, shorts);
         let at = format_byte(bytes, at, b'|');
         self.1.format(bytes, at, shorts)
@@ -79,9 +79,9 @@ impl<A: Field, B: Field> Field for (A, B) {
 
 /// The last fields of a line, and its end.
 #[derive(Clone, Copy)]
-pub(crate) struct Ended<F>(pub(crate) F);
+pub(crate) struct WithNewline<F>(pub(crate) F);
 
-impl<F: Field> Field for Ended<F> {
+impl<F: Field> Field for WithNewline<F> {
     ghost text_of = { λ e. F.text_of e.0 ++ 10 ∷ [] };
 
     ghost longest = { F.longest + 1 };
@@ -92,7 +92,7 @@ impl<F: Field> Field for Ended<F> {
 
     #[inline(always)]
     #[tactic(auto, using(ip_text::proofs::FormatLaws::Formats_trans))]
-    fn format(self, bytes: &mut [u8], at: usize, shorts: &ShortTexts) -> usize {
+    fn format(self, bytes: &mut [u8], at: usize, shorts: &DecimalTable) -> usize {
         let at = self.0.format(bytes, at, shorts);
         format_byte(bytes, at, b'\n')
     }
@@ -109,7 +109,7 @@ impl<F: Field> Field for Option<F> {
     }
 
     #[inline(always)]
-    fn format(self, bytes: &mut [u8], at: usize, shorts: &ShortTexts) -> usize {
+    fn format(self, bytes: &mut [u8], at: usize, shorts: &DecimalTable) -> usize {
         match self {
             Some(value) => value.format(bytes, at, shorts),
             None => format_byte(bytes, at, b'-'),
@@ -129,7 +129,7 @@ impl Field for u32 {
     }
 
     #[inline(always)]
-    fn format(self, bytes: &mut [u8], at: usize, shorts: &ShortTexts) -> usize {
+    fn format(self, bytes: &mut [u8], at: usize, shorts: &DecimalTable) -> usize {
         format_number(bytes, at, shorts, self)
     }
 }
@@ -143,7 +143,7 @@ impl Field for u128 {
         39
     }
 
-    fn format(self, bytes: &mut [u8], at: usize, shorts: &ShortTexts) -> usize {
+    fn format(self, bytes: &mut [u8], at: usize, shorts: &DecimalTable) -> usize {
         if self < 1_000_000 {
             return format_six(bytes, at, shorts, self as u32);
         }
@@ -154,9 +154,9 @@ impl Field for u128 {
 
 /// A byte and a number.
 #[derive(Clone, Copy)]
-pub(crate) struct Behind(pub(crate) u8, pub(crate) u32);
+pub(crate) struct Prefixed(pub(crate) u8, pub(crate) u32);
 
-impl Field for Behind {
+impl Field for Prefixed {
     ghost text_of = { λ b. b.0 ∷ decimal b.1 };
 
     ghost longest = { 13 };
@@ -167,7 +167,7 @@ impl Field for Behind {
 
     #[inline(always)]
     #[tactic(auto, using(ip_text::proofs::FormatLaws::Formats_trans))]
-    fn format(self, bytes: &mut [u8], at: usize, shorts: &ShortTexts) -> usize {
+    fn format(self, bytes: &mut [u8], at: usize, shorts: &DecimalTable) -> usize {
         let at = format_byte(bytes, at, self.0);
         format_number(bytes, at, shorts, self.1)
     }
@@ -186,7 +186,7 @@ impl Field for Microseconds {
         46
     }
 
-    fn format(self, bytes: &mut [u8], at: usize, shorts: &ShortTexts) -> usize {
+    fn format(self, bytes: &mut [u8], at: usize, shorts: &DecimalTable) -> usize {
         let seconds = (self.0 / 1_000_000) as u128;
         let rest = (self.0 % 1_000_000) as u32;
         let at = seconds.format(bytes, at, shorts);
@@ -223,7 +223,7 @@ pub(crate) fn entry_field(entry: Option<u16>) -> Option<u32>
 fn format_addr(
     bytes: &mut [u8],
     at: usize,
-    shorts: &ShortTexts,
+    shorts: &DecimalTable,
     form: AddressForm,
     addr: PeerAddr,
 ) -> usize
@@ -247,7 +247,7 @@ impl<F: Unicast> Field for ShownPeer<FamilyMark<F>> {
 
     #[inline(never)]
     #[tactic(auto, using(ip_text::proofs::FormatLaws::Formats_trans))]
-    fn format(self, bytes: &mut [u8], at: usize, shorts: &ShortTexts) -> usize {
+    fn format(self, bytes: &mut [u8], at: usize, shorts: &DecimalTable) -> usize {
         let at = format_number(bytes, at, shorts, self.key.asn);
         let at = format_byte(bytes, at, b' ');
         format_addr(bytes, at, shorts, self.forms.peers, self.key.addr)
@@ -267,7 +267,7 @@ impl Field for SessionUp {
         4
     }
 
-    fn format(self, bytes: &mut [u8], at: usize, _shorts: &ShortTexts) -> usize {
+    fn format(self, bytes: &mut [u8], at: usize, _shorts: &DecimalTable) -> usize {
         if self.0 {
             format_text(bytes, at, b"up")
         } else {
@@ -306,7 +306,7 @@ impl<F: Unicast> Model for PeerText<F> {
 
 impl<F: Unicast> PeerText<F> {
     #[tactic(auto, using(ip_text::proofs::FormatLaws::Formats_trans))]
-    pub(crate) fn new(peer: &ShownPeerOf<F>, shorts: &ShortTexts) -> PeerText<F>
+    pub(crate) fn new(peer: &ShownPeerOf<F>, shorts: &DecimalTable) -> PeerText<F>
         ensures { result ≡ peer.now }
     {
         let mut bytes = [0; PEER_BYTES];
@@ -357,7 +357,7 @@ impl<F: WrittenAddress> Field for ShownPrefix<Prefix<F>, FamilyMark<F>> {
 
     #[inline(always)]
     #[tactic(auto, using(ip_text::proofs::FormatLaws::Formats_trans))]
-    fn format(self, bytes: &mut [u8], at: usize, shorts: &ShortTexts) -> usize {
+    fn format(self, bytes: &mut [u8], at: usize, shorts: &DecimalTable) -> usize {
         self.forms.family.is_known();
         let addr = self.prefix.addr();
         let at = addr.format(bytes, at, shorts, self.forms.routes);
@@ -368,12 +368,12 @@ impl<F: WrittenAddress> Field for ShownPrefix<Prefix<F>, FamilyMark<F>> {
 
 /// Writes `#` and the identifier, where there is one.
 #[inline(always)]
-fn format_identifier(bytes: &mut [u8], at: usize, shorts: &ShortTexts, id: u32) -> usize
+fn format_identifier(bytes: &mut [u8], at: usize, shorts: &DecimalTable, id: u32) -> usize
     requires { at + 13 < length bytes.old }
     ensures { Formats bytes.old at bytes.new result 13 (identifier_text id) }
 {
     if id != 0 {
-        Behind(b'#', id).format(bytes, at, shorts)
+        Prefixed(b'#', id).format(bytes, at, shorts)
     } else {
         at
     }
@@ -397,7 +397,7 @@ impl<F: WrittenAddress> Field for ShownKey<Prefix<F>, FamilyMark<F>> {
 
     #[inline(always)]
     #[tactic(auto, using(ip_text::proofs::FormatLaws::Formats_trans))]
-    fn format(self, bytes: &mut [u8], at: usize, shorts: &ShortTexts) -> usize {
+    fn format(self, bytes: &mut [u8], at: usize, shorts: &DecimalTable) -> usize {
         let ShownKey { key, forms } = self;
         let RouteKey { prefix, id } = key;
         let at = ShownPrefix { prefix, forms }.format(bytes, at, shorts);
@@ -413,7 +413,7 @@ impl<F: WrittenAddress> Field for ShownKey<Prefix<F>, FamilyMark<F>> {
 fn format_ipv6_pair(
     bytes: &mut [u8],
     at: usize,
-    shorts: &ShortTexts,
+    shorts: &DecimalTable,
     form: AddressForm,
     global: u128,
     local: u128,
@@ -431,7 +431,7 @@ fn format_ipv6_pair(
 pub(crate) fn format_next_hop<F: Unicast>(
     bytes: &mut [u8],
     at: usize,
-    shorts: &ShortTexts,
+    shorts: &DecimalTable,
     forms: AddressFormsOf<F>,
     hop: Option<NextHop>,
 ) -> usize
@@ -459,7 +459,7 @@ impl Field for Origin {
 
     /// The short texts are arrays made here, which are known not to overlap with `bytes`.
     #[inline(always)]
-    fn format(self, bytes: &mut [u8], at: usize, _shorts: &ShortTexts) -> usize {
+    fn format(self, bytes: &mut [u8], at: usize, _shorts: &DecimalTable) -> usize {
         match self {
             Origin::Igp => format_text(bytes, at, &[b'I', b'G', b'P']),
             Origin::Egp => format_text(bytes, at, &[b'E', b'G', b'P']),
@@ -479,7 +479,7 @@ impl Field for Aggregator {
 
     #[inline(never)]
     #[tactic(auto, using(ip_text::proofs::FormatLaws::Formats_trans))]
-    fn format(self, bytes: &mut [u8], at: usize, shorts: &ShortTexts) -> usize {
+    fn format(self, bytes: &mut [u8], at: usize, shorts: &DecimalTable) -> usize {
         let at = format_number(bytes, at, shorts, self.asn);
         let at = format_byte(bytes, at, b' ');
         format_ipv4(bytes, at, shorts, self.addr)
@@ -500,7 +500,7 @@ impl Field for Atomic {
     }
 
     #[inline(always)]
-    fn format(self, bytes: &mut [u8], at: usize, _shorts: &ShortTexts) -> usize {
+    fn format(self, bytes: &mut [u8], at: usize, _shorts: &DecimalTable) -> usize {
         if self.0 {
             format_text(bytes, at, b"atomic")
         } else {

@@ -10,11 +10,11 @@
 //!   whatever the number of peers. So the map of `run` is `Sync`.
 //! - `list_tables` writes the lines of `tables` without a list of rows (80 bytes a route): one list with room for the
 //!   largest table is allocated before the first write, and the peers' tables are listed into it in turn.
-//! - The lines of a table of 16,384 entries and more are made by several threads (`reports/tables/side_by_side.rt`) in
+//! - The lines of a table of 16,384 entries and more are made by several threads (`reports/tables/parallel.rt`) in
 //!   buffers that are allocated before the first byte is written. The calling thread starts them all itself, since each
 //!   level of halves would add two wake-ups to a round, and writes the filled buffers in order: only it has the writer.
 //!   A thread stops before a line for which there may be no room; the calling thread makes those that are left. To a
-//!   thread, its buffer is text on its way to a writer that takes nothing (`nowhere.rt`), so all lines are made by the
+//!   thread, its buffer is text on its way to a writer that takes nothing (`null_sink.rt`), so all lines are made by the
 //!   same code.
 //! - A line is made of fields (`field.rt`), values whose text has a limited length. A pair of fields is a field, with a
 //!   bar between the two, and so is an `Option`; so consecutive fields are one value, placed after one check for room.
@@ -34,28 +34,27 @@
 #![tactic(auto)]
 
 mod buffer;
-mod defined;
 mod field;
 mod forms;
+mod laws;
 mod line;
 mod merge;
-mod nowhere;
+mod null_sink;
 mod numbers;
 mod reports;
 mod request;
 mod route_line;
-mod standing;
 mod write;
 
-pub use defined::{
-    counts_are_sums_over_shares, faults_of_shares, faults_stand_by_place,
-    origins_are_of_all_routes, origins_are_of_seen_rows, rows_of_shares, seen_counts_peers,
-    visibility_counts_peers,
-};
 pub use forms::{AddressForms, AddressFormsOf};
 pub use ip_text::{
     AddressForm, WrittenAddress, one_address_to_a_text, runs_are_first_and_longest,
     written_texts_spell_their_addresses,
+};
+pub use laws::{
+    counts_are_sums_over_shares, faults_of_shares, faults_stand_by_place,
+    origins_are_of_all_routes, origins_are_of_seen_rows, recorded_peers_are_shown_as_they_are,
+    reports_are_of_units, rows_of_shares, seen_counts_peers, visibility_counts_peers,
 };
 pub use peer_tables::{
     By, Gathered, HistoryRow, Listed, Listing, Seated, Tables, collect, collected_stand_for_units,
@@ -73,4 +72,3 @@ pub use reports::visibility::{
     VisibilityRow, visibility, visibility_with_threads, write_visibility,
 };
 pub use request::{Layout, LayoutOf, Request};
-pub use standing::{recorded_peers_are_shown_as_they_are, reports_are_of_units};

@@ -7,9 +7,9 @@ ghost use Rattle.ip_text.specs.Formats.{Formats};
 ghost use Rattle.rib_report.specs.Fields.{numbers_text};
 
 use crate::buffer::TextBuffer;
-use crate::field::{Behind, Field};
+use crate::field::{Field, Prefixed};
 use bgp_update::PackedSegment;
-use ip_text::ShortTexts;
+use ip_text::DecimalTable;
 use mrt_frame::Sink;
 
 /// How many numbers get room at once. A segment of a packed route has no more.
@@ -21,7 +21,7 @@ const NUMBERS_AT_ONCE: usize = 255;
 pub(crate) fn format_numbers(
     bytes: &mut [u8],
     at: usize,
-    shorts: &ShortTexts,
+    shorts: &DecimalTable,
     before: u8,
     separator: u8,
     segment: &PackedSegment<'_>,
@@ -32,9 +32,9 @@ pub(crate) fn format_numbers(
     ensures { Formats bytes.old at bytes.new result (13 * (to - from))
         (before ∷ numbers_text separator (between from to segment.now.numbers)) }
 {
-    let mut end = Behind(before, segment.number(from)).format(bytes, at, shorts);
+    let mut end = Prefixed(before, segment.number(from)).format(bytes, at, shorts);
     for i in from + 1..to {
-        end = Behind(separator, segment.number(i)).format(bytes, end, shorts);
+        end = Prefixed(separator, segment.number(i)).format(bytes, end, shorts);
     }
     end
 }
@@ -50,7 +50,7 @@ impl TextBuffer {
         };
         self.put(out, *first);
         for number in rest {
-            self.put(out, Behind(separator, *number));
+            self.put(out, Prefixed(separator, *number));
         }
     }
 

@@ -12,7 +12,7 @@ use crate::field::{Atomic, Field, PeerText, ShownKey, format_next_hop};
 use crate::forms::AddressFormsOf;
 use bgp_prefix::{Prefix, RouteKey};
 use bgp_update::{PackedSegment, PackedSegments, RouteRef, SegmentKind, Unicast};
-use ip_text::{ShortTexts, WrittenAddress, format_byte};
+use ip_text::{DecimalTable, WrittenAddress, format_byte};
 use mrt_frame::Sink;
 
 /// Returns the most bytes of what a line begins with, and one more.
@@ -30,7 +30,7 @@ pub(crate) fn beginning_bytes<F: WrittenAddress>() -> usize
 pub(crate) fn format_beginning<F: WrittenAddress>(
     bytes: &mut [u8],
     at: usize,
-    shorts: &ShortTexts,
+    shorts: &DecimalTable,
     peer: &PeerText<F>,
     key: &RouteKey<Prefix<F>>,
 ) -> usize
@@ -54,7 +54,7 @@ pub(crate) const END_BYTES: usize = 160;
 pub(crate) fn format_end<F: Unicast>(
     bytes: &mut [u8],
     at: usize,
-    shorts: &ShortTexts,
+    shorts: &DecimalTable,
     forms: AddressFormsOf<F>,
     route: &RouteRef<'_>,
 ) -> usize
@@ -156,7 +156,7 @@ pub(crate) fn put_route<W: Sink, F: Unicast>(
         ((124 ∷ field path_text route.now.path) ++ line_end forms route.now) }
 {
     put_path(text, out, route.path());
-    text.put_end(out, forms, route);
+    text.put_attributes(out, forms, route);
 }
 
 /// Adds the line of a route.
@@ -170,7 +170,7 @@ pub(crate) fn put_row<W: Sink, F: WrittenAddress>(
     ensures { Writes W.contents W.failure_count out.old text.old out.new text.new
         (route_line peer.now.forms (record { peer = peer.now.key; key = key.now; route = route.now })) }
 {
-    text.put_beginning(out, peer, key);
+    text.put_peer_and_key(out, peer, key);
     put_path(text, out, route.path());
-    text.put_end(out, peer.forms(), route);
+    text.put_attributes(out, peer.forms(), route);
 }

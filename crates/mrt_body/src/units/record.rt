@@ -6,16 +6,16 @@ ghost use Rattle.mrt_body.specs.Units.{IsSmallUnit, alone, clears_if, found_unit
 ghost use Rattle.mrt_body.specs.RibDumps.{dumps_with, heard_of, may_begin};
 ghost use Rattle.mrt_body.specs.Selections.{is_selected};
 ghost use Rattle.mrt_body.specs.ToCome.{TakesRecord, KeepsPlan, as_found, refusals};
-ghost use Rattle.mrt_body.specs.declared.content.Content.TheVariants as content_spec;
+ghost use Rattle.mrt_body.specs.declared.body_kind.BodyKind.TheVariants as content_spec;
 ghost use Rattle.mrt_body.specs.declared.standing.Standing.TheVariants as standings;
 
 use super::Units;
-use crate::at::RecordAt;
-use crate::content::Content;
-use crate::in_force::Index;
-use crate::index::peers_in;
+use crate::body_kind::BodyKind;
 use crate::payload::{message_unit, states_unit};
+use crate::peer_index::peers_in;
+use crate::record_place::RecordAt;
 use crate::rib_dumps::RibDumps;
+use crate::rib_reader::Index;
 use crate::rib_rule::RibRule;
 use crate::selection::Selection;
 use crate::session_unit::SessionUnit;
@@ -34,7 +34,7 @@ impl<F: Unicast> Units<F> {
         alloc: Global,
         at: RecordAt,
         is_extended: bool,
-        content: Content,
+        content: BodyKind,
         body: Sequence<u8>,
     ) -> Result<Option<Damage>, ReplayError>
         requires given { self.old.pending ≡ [] }
@@ -50,17 +50,17 @@ impl<F: Unicast> Units<F> {
     {
         self.is_known();
         match content {
-            Content::IndexTable => self.take_index(alloc, at, body.as_slice()),
-            Content::Rib { add_path } => self.take_rib(alloc, at, add_path, body),
-            Content::Message { width, add_path } => {
+            BodyKind::IndexTable => self.take_index(alloc, at, body.as_slice()),
+            BodyKind::Rib { add_path } => self.take_rib(alloc, at, add_path, body),
+            BodyKind::Message { width, add_path } => {
                 let unit = message_unit(at, is_extended, width, add_path, body);
                 self.found(alloc, at, unit)
             }
-            Content::States { width } => {
+            BodyKind::States { width } => {
                 let unit = states_unit(self.selection.states(), at, is_extended, width, body);
                 self.found(alloc, at, unit)
             }
-            Content::Aside => {
+            BodyKind::Aside => {
                 self.aside += 1;
                 Ok(None)
             }

@@ -10,7 +10,7 @@ ghost use Rattle.rib_report.specs.Lines.{churn_line};
 ghost use Rattle.rib_report.specs.Texts.{IsOutput, Writes};
 
 use crate::buffer::TextBuffer;
-use crate::field::{Ended, time_field};
+use crate::field::{WithNewline, time_field};
 use crate::forms::{AddressFormsOf, ShownPeer};
 use crate::line::Line;
 use crate::write::write_lines;
@@ -91,7 +91,7 @@ impl<F: Unicast> Line<F> for ChurnRow {
             key: self.peer,
             forms: *forms,
         };
-        text.put(out, Ended((peer, counts)));
+        text.put(out, WithNewline((peer, counts)));
     }
 }
 

@@ -13,7 +13,7 @@ use crate::line::Line;
 use crate::route_line::put_route;
 use crate::write::write_lines;
 use adj_rib::What;
-use ip_text::{ShortTexts, WrittenAddress, format_text};
+use ip_text::{DecimalTable, WrittenAddress, format_text};
 use mrt_frame::{ReplayError, Sink};
 use peer_tables::{By, HistoryRow};
 
@@ -26,7 +26,7 @@ impl Field for What {
         7
     }
 
-    fn format(self, bytes: &mut [u8], at: usize, _shorts: &ShortTexts) -> usize {
+    fn format(self, bytes: &mut [u8], at: usize, _shorts: &DecimalTable) -> usize {
         match self {
             What::New => format_text(bytes, at, b"new"),
             What::Changed => format_text(bytes, at, b"changed"),
@@ -47,7 +47,7 @@ impl Field for By {
         6
     }
 
-    fn format(self, bytes: &mut [u8], at: usize, _shorts: &ShortTexts) -> usize {
+    fn format(self, bytes: &mut [u8], at: usize, _shorts: &DecimalTable) -> usize {
         match self {
             By::Rib => format_text(bytes, at, b"rib"),
             By::Update => format_text(bytes, at, b"update"),

@@ -11,7 +11,7 @@ ghost use Rattle.rib_report.specs.Lines.{entry_of, file_of, offset_of, peer_line
 ghost use Rattle.rib_report.specs.Texts.{IsOutput, Writes};
 
 use crate::buffer::TextBuffer;
-use crate::field::{Ended, SessionUp, entry_field, time_field};
+use crate::field::{SessionUp, WithNewline, entry_field, time_field};
 use crate::forms::{AddressFormsOf, ShownPeer};
 use crate::line::Line;
 use crate::write::write_lines;
@@ -122,7 +122,10 @@ impl<F: Unicast> Line<F> for PeerRow {
             key: self.peer,
             forms: *forms,
         };
-        text.put(out, Ended((peer, (SessionUp(self.is_established), counts))));
+        text.put(
+            out,
+            WithNewline((peer, (SessionUp(self.is_established), counts))),
+        );
     }
 }
 

@@ -12,7 +12,7 @@ ghost use Rattle.rib_report.specs.Texts.{IsOutput, Writes};
 ghost use Rattle.peer_tables.specs.Seats.{seat_of};
 
 use crate::buffer::TextBuffer;
-use crate::field::{Ended, ShownPrefix};
+use crate::field::{ShownPrefix, WithNewline};
 use crate::forms::AddressFormsOf;
 use crate::line::Line;
 use crate::merge::{Listed, Mergeable, list_peers, list_peers_by_few};
@@ -211,7 +211,10 @@ impl<F: WrittenAddress> Line<F> for SeenRow<Prefix<F>> {
             prefix: self.prefix,
             forms: *forms,
         };
-        text.put(out, Ended((prefix, (self.origin, self.peers as u128))));
+        text.put(
+            out,
+            WithNewline((prefix, (self.origin, self.peers as u128))),
+        );
     }
 }
 

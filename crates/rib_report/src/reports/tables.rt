@@ -1,8 +1,8 @@
 //! The report `tables`: every entry of every peer's table. A line holds a peer, a key and its route: path, next hop,
 //! origin, MED, LOCAL_PREF, whether it is an atomic aggregate, and its aggregator.
 
-mod piece;
-mod side_by_side;
+mod line_block;
+mod parallel;
 
 ghost use Rattle.std.specs.Prelude.{◌≡◌, ◌<◌, ◌≤◌, ◌⊎◌, ◌++◌, IfOk, IfErr, OnOk, OnErr, Err, length, map, vec_capacity};
 ghost use Rattle.std.specs.List.{flat_map};
@@ -29,8 +29,8 @@ use bgp_update::{RouteRef, Unicast};
 use ip_text::WrittenAddress;
 use mrt_body::PeerKey;
 use mrt_frame::{Failed, ReplayError, Sink};
+use parallel::{LineBlocks, put_all_entries};
 use peer_tables::{Seated, Tables};
-use side_by_side::{Pieces, put_all_entries};
 use std::alloc::Global;
 use std::marker::Sync;
 use std::thread::Threads;
@@ -149,7 +149,7 @@ fn put_table<
     W: Sink,
 >(
     rt: &T,
-    pieces: &mut Pieces,
+    line_blocks: &mut LineBlocks,
     text: &mut TextBuffer,
     out: &mut W,
     forms: &AddressFormsOf<F>,
@@ -169,7 +169,7 @@ fn put_table<
         key: seat.key,
         forms: *forms,
     };
-    put_all_entries(rt, pieces, text, out, &peer, all.as_slice());
+    put_all_entries(rt, line_blocks, text, out, &peer, all.as_slice());
 }
 
 /// Adds the lines of every table, in order, by way of two lists that have room for the entries of any of them.
@@ -181,7 +181,7 @@ fn put_tables<
     W: Sink,
 >(
     rt: &T,
-    pieces: &mut Pieces,
+    line_blocks: &mut LineBlocks,
     text: &mut TextBuffer,
     out: &mut W,
     forms: &AddressFormsOf<F>,
@@ -195,7 +195,7 @@ fn put_tables<
         (flat_map (seat_lines forms.now) (map seat_of seats.now)) }
 {
     for seat in seats {
-        put_table(rt, pieces, text, out, forms, &mut ids, &mut all, seat);
+        put_table(rt, line_blocks, text, out, forms, &mut ids, &mut all, seat);
     }
 }
 
@@ -229,9 +229,18 @@ pub fn list_tables<
     let most = max_entries(seats);
     let ids = Vec::with_capacity(alloc, most)?;
     let all = Vec::with_capacity(alloc, most)?;
-    let mut pieces = Pieces::new(alloc, threads, most)?;
+    let mut line_blocks = LineBlocks::new(alloc, threads, most)?;
     let mut text = TextBuffer::new();
-    put_tables(rt, &mut pieces, &mut text, out, &forms, ids, all, seats);
+    put_tables(
+        rt,
+        &mut line_blocks,
+        &mut text,
+        out,
+        &forms,
+        ids,
+        all,
+        seats,
+    );
     match text.finish(out) {
         Ok(()) => Ok(()),
         Err(Failed) => Err(ReplayError::Write),

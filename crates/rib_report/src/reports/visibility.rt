@@ -12,7 +12,7 @@ ghost use Rattle.rib_report.specs.Lines.{visibility_line};
 ghost use Rattle.rib_report.specs.Texts.{IsOutput, Writes};
 
 use crate::buffer::TextBuffer;
-use crate::field::{Ended, ShownPrefix};
+use crate::field::{ShownPrefix, WithNewline};
 use crate::forms::AddressFormsOf;
 use crate::line::Line;
 use crate::merge::{Listed, Mergeable, list_peers, list_peers_by_few};
@@ -154,7 +154,7 @@ impl<F: WrittenAddress> Line<F> for VisibilityRow<Prefix<F>> {
             prefix: self.prefix,
             forms: *forms,
         };
-        text.put(out, Ended((prefix, self.peers as u128)));
+        text.put(out, WithNewline((prefix, self.peers as u128)));
     }
 }
 

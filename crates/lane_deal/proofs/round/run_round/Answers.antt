@@ -17,7 +17,7 @@ returns-in-Ok-step-clause-plays g c =
     let worked = rw (c.in-Ok.is, c.deref_mut.ensures.value) at c.deal_and_work-step.ensures.worked in
     let deals = rw c.in-Ok-step.is at c.deal_and_work-step.ensures.deals.deals in
     let renewed = rw (c.deref_mut-in-Ok-step.ensures.value, c.deref_mut-in-Ok-step-2.ensures.value ∙ kept) at c.in_ok-renew_all-in-Ok-step.ensures in
-    PlaysLanes-as g.S.Sessions.stands_for _ c.args.capacity c.args.patience.batch c.args.feeds.now.items c.renew_all.new.feeds _ c.args.workers.now.items c.renew_all.new.workers _ _ _ _ _ _ _ _ (written _ _ _ (omega arith)) (written _ _ _ (omega arith))
+    PlaysLanes-as g.S.Sessions.stands_for _ c.args.capacity c.args.limits.batch c.args.senders.now.items c.renew_all.new.senders _ c.args.workers.now.items c.renew_all.new.workers _ _ _ _ _ _ _ _ (written _ _ _ (omega arith)) (written _ _ _ (omega arith))
     (record {
       deals = deals.deals;
       rounded = lanes_rounded g.S.Sessions.stands_for c.args.capacity _ _ _ _ _ _ c.requires.ready deals.received worked _ _ renewed;
@@ -38,7 +38,7 @@ returns-clause-plays g c = λ file e.
     let deals = rw c.in-Err.is at c.deal_and_work-step.ensures.deals.deals in
     let renewed = rw (c.deref_mut-in-Err.ensures.value, c.deref_mut-in-Err-2.ensures.value ∙ kept) at c.in_ok-renew_all-in-Err.ensures in
     rw (← c.in-Read.is)
-    (PlaysLanes-as g.S.Sessions.stands_for _ c.args.capacity c.args.patience.batch c.args.feeds.now.items c.renew_all-in-Err.new.feeds _ c.args.workers.now.items c.renew_all-in-Err.new.workers _ _ _ _ _ _ _ _ (written _ _ _ (omega arith)) (written _ _ _ (omega arith))
+    (PlaysLanes-as g.S.Sessions.stands_for _ c.args.capacity c.args.limits.batch c.args.senders.now.items c.renew_all-in-Err.new.senders _ c.args.workers.now.items c.renew_all-in-Err.new.workers _ _ _ _ _ _ _ _ (written _ _ _ (omega arith)) (written _ _ _ (omega arith))
     (record {
       deals = (deals c.in-Read.file c.in-Read.is).deals;
       rounded = lanes_rounded g.S.Sessions.stands_for c.args.capacity _ _ _ _ _ _ c.requires.ready (deals c.in-Read.file c.in-Read.is).received worked _ _ renewed;

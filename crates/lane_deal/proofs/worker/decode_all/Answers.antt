@@ -1,7 +1,7 @@
 use Rattle.std.proofs.Common.{◌≡◌, ◌+◌, [], ◌∷◌, ◌++◌, take, ap, ◌∙◌, arith}
 use Rattle.std.proofs.lemmas.List.{take_more}
 use Rattle.lane_deal.specs.UnitLists.{units_of}
-use Rattle.lane_deal.specs.Plain.{Numbered}
+use Rattle.lane_deal.specs.Plain.{PeerUnit}
 use Rattle.lane_deal.proofs.Batches.{AreDecoded-none, AreDecoded-more}
 use Rattle.lane_deal.proofs.worker.decode_all.Goals as goal
 
@@ -12,6 +12,6 @@ pub loop-at-preserved : goal.loop-at-preserved
 loop-at-preserved g c =
     let items = units_of c.args.items.now in
     let at = c.loop-at.at in
-    let item : Numbered = c.at-item.result in
+    let item : PeerUnit = c.at-item.result in
     let more : take (at + 1) items ≡ take at items ++ item ∷ [] = take_more items at item (omega arith) ∙ ap (λ x. take at items ++ x ∷ []) (c.at-item.ensures item) in
     rw more (AreDecoded-more c.loop-at.batch c.push.new.self (take at items) item c.loop-at.invariant c.in_ok-push.ensures.heads c.in_ok-push.ensures.events)

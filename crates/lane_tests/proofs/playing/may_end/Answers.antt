@@ -1,7 +1,7 @@
 use Rattle.std.proofs.Common.{◌≡◌, true, refl, sym, ◌∙◌}
 use Rattle.lane_deal.specs.declared.state.State.{State}
 use Rattle.lane_deal.specs.declared.state.State.TheVariants.{Running, Ended, Failed, Spent}
-use Rattle.lane_deal.specs.Answers.{is_spent}
+use Rattle.lane_deal.specs.Results.{is_spent}
 use Rattle.lane_tests.proofs.playing.may_end.Goals as goal
 
 spent_is : (s : State) → is_spent s ≡ true → s ≡ Spent

@@ -1,6 +1,6 @@
 use Rattle.std.proofs.Common.{◌≡◌, ℕ, [], ◌∷◌, ◌∙◌, refl, sym, ap, arith}
 use Rattle.std.proofs.lemmas.Result.{err_from_is_err_and}
-use Rattle.lane_deal.proofs.DealerLaws.{emptied, Next-lent, Next-kept, Next-ended, NextInVain-asked, SoFarTo-none, SoFarTo-more, DealsTo-blocked, DealsTo-end, DealsTo-failed, DealsTo-full}
+use Rattle.lane_deal.proofs.DealerLaws.{without_unit, Next-lent, Next-blocked, Next-ended, NextInVain-asked, SoFarTo-none, SoFarTo-more, DealsTo-blocked, DealsTo-end, DealsTo-failed, DealsTo-full}
 use Rattle.lane_deal.proofs.Asking.{stops_later}
 use Rattle.lane_deal.proofs.dealer.Dealer+D+Prefix+F+FamilyMark+F.deal.Goals as goal
 
@@ -28,7 +28,7 @@ returns-in_err-ask-clause-deals g c =
     let same = c.ask.ensures.same in
     let none = c.in_err-ask.ensures.failed in
     rw (p.1, p.2) (λ file e. DealsTo-failed _ (c.adds_up.ensures.joined lane_of) _ c.loop-dealt.to c.loop-dealt.to _ _ c.ask.new.self c.ask.new.self _ _ _ _ _ _ _ c.loop-dealt.invariant.far lane_of _ _ _ (let t = c.loop-dealt-test.true in omega arith)
-    (NextInVain-asked _ _ _ _ _ _ none (record { dealing = ap (λ o. o.dealing) same; peers = ap (λ o. o.peers) same; kept = ap (λ o. o.kept) same ∙ none; dealt = ap (λ o. o.dealt) same }) (c.in_err-ask.ensures.asked none file e)))
+    (NextInVain-asked _ _ _ _ _ _ none (record { dealing = ap (λ o. o.dealing) same; peers = ap (λ o. o.peers) same; blocked_unit = ap (λ o. o.blocked_unit) same ∙ none; dealt = ap (λ o. o.dealt) same }) (c.in_err-ask.ensures.asked none file e)))
 
 pub returns-in_default-take-clause-sound : goal.returns-in_default-take-clause-sound
 returns-in_default-take-clause-sound g c = c.in_ok-ask.ensures.sound ∙ c.loop-dealt.invariant.sound
@@ -38,11 +38,11 @@ returns-in_default-take-clause-deals g c =
     let lane_of : ℕ → ℕ = λ number. g.D.Dealing.lane_of c.args.self.now.dealing number (g.K.Receives.count c.args.to.now) in
     let i = c.loop-dealt.invariant in
     let same = c.ask.ensures.same in
-    let kept = sym c.take.ensures.value ∙ c.in_default-take.is in
-    let none = sym (ap (λ o. o.kept) same) ∙ kept in
-    let empty = c.in_default.ensures.none refl kept (c.in_ok-ask.ensures.going none) in
+    let blocked_unit = sym c.take.ensures.value ∙ c.in_default-take.is in
+    let none = sym (ap (λ o. o.blocked_unit) same) ∙ blocked_unit in
+    let empty = c.in_default.ensures.none refl blocked_unit (c.in_ok-ask.ensures.going none) in
     let next =
-    Next-ended _ _ _ _ _ _ none (record { dealing = ap (λ o. o.dealing) same; peers = ap (λ o. o.peers) same; kept = c.take.ensures.after; dealt = ap (λ o. o.dealt) same }) (c.in_ok-ask.ensures.asked none) empty in
+    Next-ended _ _ _ _ _ _ none (record { dealing = ap (λ o. o.dealing) same; peers = ap (λ o. o.peers) same; blocked_unit = c.take.ensures.after; dealt = ap (λ o. o.dealt) same }) (c.in_ok-ask.ensures.asked none) empty in
     DealsTo-end _ (c.adds_up.ensures.joined lane_of) _ c.loop-dealt.to c.loop-dealt.to _ _ c.ask.new.self _ _ _ _ _ _ _ _ i.far lane_of _ _ (let t = c.loop-dealt-test.true in omega arith) next
 
 -- ---- a unit that was lent
@@ -75,11 +75,11 @@ returns-then-not-has_room-clause-deals g c =
     let i = c.loop-dealt.invariant in
     let unit = c.in-Some.lent.unit in
     let asked = c.ask.ensures.same in
-    let kept = c.in-Some.ensures.kept in
-    let none = sym (ap (λ o. o.kept) asked) ∙ kept in
+    let blocked_unit = c.in-Some.ensures.blocked_unit in
+    let none = sym (ap (λ o. o.blocked_unit) asked) ∙ blocked_unit in
     let same = c.lane_for.ensures.same in
     let next =
-    Next-lent c.loop-dealt.self c.ask.new.self c.loop-dealt.units c.ask.new.units c.pass.new.self _ _ unit none (record { dealing = ap (λ o. o.dealing) asked; peers = ap (λ o. o.peers) asked; kept = kept; dealt = ap (λ o. o.dealt) asked }) (c.in_ok-ask.ensures.asked none) c.in-Some.ensures.lends
+    Next-lent c.loop-dealt.self c.ask.new.self c.loop-dealt.units c.ask.new.units c.pass.new.self _ _ unit none (record { dealing = ap (λ o. o.dealing) asked; peers = ap (λ o. o.peers) asked; blocked_unit = blocked_unit; dealt = ap (λ o. o.dealt) asked }) (c.in_ok-ask.ensures.asked none) c.in-Some.ensures.lends
     c.pass.ensures.passes c.pass.ensures.found c.pass.ensures.units c.pass.ensures.plan (c.in_ok-ask.ensures.going none) in
     let alike = i.lanes in
     let lane : lane_of c.in_ok-number.number ≡ c.in_ok-number.lane = (let e = ap (λ o. o.dealing) asked in let d = i.far.far.handles.dealing in let l = c.in_ok-number.ensures.lane in let n = c.lanes.ensures in cc) in
@@ -94,18 +94,18 @@ loop-dealt-preserved-in-Some g c =
     let i = c.loop-dealt.invariant in
     let unit = c.in-Some.lent.unit in
     let asked = c.ask.ensures.same in
-    let kept = c.in-Some.ensures.kept in
-    let none = sym (ap (λ o. o.kept) asked) ∙ kept in
+    let blocked_unit = c.in-Some.ensures.blocked_unit in
+    let none = sym (ap (λ o. o.blocked_unit) asked) ∙ blocked_unit in
     let same = c.lane_for.ensures.same in
     let next =
-    Next-lent c.loop-dealt.self c.ask.new.self c.loop-dealt.units c.ask.new.units c.pass-in-Some.new.self _ _ unit none (record { dealing = ap (λ o. o.dealing) asked; peers = ap (λ o. o.peers) asked; kept = kept; dealt = ap (λ o. o.dealt) asked }) (c.in_ok-ask.ensures.asked none)
+    Next-lent c.loop-dealt.self c.ask.new.self c.loop-dealt.units c.ask.new.units c.pass-in-Some.new.self _ _ unit none (record { dealing = ap (λ o. o.dealing) asked; peers = ap (λ o. o.peers) asked; blocked_unit = blocked_unit; dealt = ap (λ o. o.dealt) asked }) (c.in_ok-ask.ensures.asked none)
     c.in-Some.ensures.lends c.pass-in-Some.ensures.passes c.pass-in-Some.ensures.found c.pass-in-Some.ensures.units c.pass-in-Some.ensures.plan (c.in_ok-ask.ensures.going none) in
     let alike = i.lanes in
     let lane : lane_of c.in_ok-number.number ≡ c.in_ok-number.lane = (let e = ap (λ o. o.dealing) asked in let d = i.far.far.handles.dealing in let l = c.in_ok-number.ensures.lane in let n = c.lanes.ensures in cc) in record {
       count = c.pass-in-Some.ensures.plan.0 ∙ c.ask.ensures.count ∙ i.count;
       lanes = c.receive.ensures.lanes ∙ c.has_room.ensures.lanes ∙ i.lanes;
       sound = c.in_ok-ask.ensures.sound ∙ i.sound;
-      far = SoFarTo-more _ (c.adds_up.ensures.joined lane_of) _ c.loop-dealt.to c.receive.new.self _ _ c.ask.new.self _ _ _ _ _ _ _ _ i.far unit c.in_ok-number.number next c.in_ok-number.ensures.numbers (ap (λ o. o.dealing) same) (ap (λ o. o.kept) same) (ap (λ o. o.refused) same) (let n = ap (λ o. o.dealt) same in omega arith)
+      far = SoFarTo-more _ (c.adds_up.ensures.joined lane_of) _ c.loop-dealt.to c.receive.new.self _ _ c.ask.new.self _ _ _ _ _ _ _ _ i.far unit c.in_ok-number.number next c.in_ok-number.ensures.numbers (ap (λ o. o.dealing) same) (ap (λ o. o.blocked_unit) same) (ap (λ o. o.refused) same) (let n = ap (λ o. o.dealt) same in omega arith)
           (c.adds_up.ensures.joined lane_of c.loop-dealt.to c.has_room.new.self c.receive.new.self [] (record { number = c.in_ok-number.number; unit = unit } ∷ []) (c.if-not-has_room.ensures.looked lane_of) (c.in_ok-receive.ensures.received lane_of lane));
     }
 
@@ -120,11 +120,11 @@ returns-then-not-has_room-2-clause-deals g c =
     let i = c.loop-dealt.invariant in
     let unit = c.in-Some-take.unit in
     let asking = c.ask.ensures.same in
-    let kept = sym (ap (λ o. o.kept) asking) ∙ sym c.take.ensures.value ∙ c.in-Some-take.is in
-    let waits = rw kept at c.ask.ensures.waits in
+    let blocked_unit = sym (ap (λ o. o.blocked_unit) asking) ∙ sym c.take.ensures.value ∙ c.in-Some-take.is in
+    let waits = rw blocked_unit at c.ask.ensures.waits in
     let same = c.lane_for-in-loop-dealt.ensures.same in
-    let asked = emptied c.ask.new.self in
-    let next = Next-kept c.loop-dealt.self c.ask.new.self _ _ _ _ unit kept (ap (λ o. o.dealing) asking) (ap (λ o. o.peers) asking) (ap (λ o. o.dealt) asking) waits.0 waits.1 in
+    let asked = without_unit c.ask.new.self in
+    let next = Next-blocked c.loop-dealt.self c.ask.new.self _ _ _ _ unit blocked_unit (ap (λ o. o.dealing) asking) (ap (λ o. o.peers) asking) (ap (λ o. o.dealt) asking) waits.0 waits.1 in
     let alike = i.lanes in
     let lane : lane_of c.in_ok-number-2.number ≡ c.in_ok-number-2.lane = (let e = ap (λ o. o.dealing) asking in let d = i.far.far.handles.dealing in let l = c.in_ok-number-2.ensures.lane in let n = c.lanes-in-loop-dealt.ensures in cc) in
     let below = g.met.D.Dealing.is_below c.args.self.now.dealing c.in_ok-number-2.number (g.K.Receives.count c.args.to.now) c.requires.lanes in
@@ -138,16 +138,16 @@ loop-dealt-preserved g c =
     let i = c.loop-dealt.invariant in
     let unit = c.in-Some-take.unit in
     let asking = c.ask.ensures.same in
-    let kept = sym (ap (λ o. o.kept) asking) ∙ sym c.take.ensures.value ∙ c.in-Some-take.is in
-    let waits = rw kept at c.ask.ensures.waits in
+    let blocked_unit = sym (ap (λ o. o.blocked_unit) asking) ∙ sym c.take.ensures.value ∙ c.in-Some-take.is in
+    let waits = rw blocked_unit at c.ask.ensures.waits in
     let same = c.lane_for-in-loop-dealt.ensures.same in
-    let asked = emptied c.ask.new.self in
-    let next = Next-kept c.loop-dealt.self c.ask.new.self _ _ _ _ unit kept (ap (λ o. o.dealing) asking) (ap (λ o. o.peers) asking) (ap (λ o. o.dealt) asking) waits.0 waits.1 in
+    let asked = without_unit c.ask.new.self in
+    let next = Next-blocked c.loop-dealt.self c.ask.new.self _ _ _ _ unit blocked_unit (ap (λ o. o.dealing) asking) (ap (λ o. o.peers) asking) (ap (λ o. o.dealt) asking) waits.0 waits.1 in
     let alike = i.lanes in
     let lane : lane_of c.in_ok-number-2.number ≡ c.in_ok-number-2.lane = (let e = ap (λ o. o.dealing) asking in let d = i.far.far.handles.dealing in let l = c.in_ok-number-2.ensures.lane in let n = c.lanes-in-loop-dealt.ensures in cc) in record {
       count = c.ask.ensures.count ∙ i.count;
       lanes = c.receive-in-loop-dealt.ensures.lanes ∙ c.has_room-in-loop-dealt.ensures.lanes ∙ i.lanes;
       sound = c.in_ok-ask.ensures.sound ∙ i.sound;
-      far = SoFarTo-more _ (c.adds_up.ensures.joined lane_of) _ c.loop-dealt.to c.receive-in-loop-dealt.new.self _ _ asked _ _ _ _ _ _ _ _ i.far unit c.in_ok-number-2.number next c.in_ok-number-2.ensures.numbers (ap (λ o. o.dealing) same) (ap (λ o. o.kept) same ∙ c.take.ensures.after) (ap (λ o. o.refused) same) (let n = ap (λ o. o.dealt) same in omega arith)
+      far = SoFarTo-more _ (c.adds_up.ensures.joined lane_of) _ c.loop-dealt.to c.receive-in-loop-dealt.new.self _ _ asked _ _ _ _ _ _ _ _ i.far unit c.in_ok-number-2.number next c.in_ok-number-2.ensures.numbers (ap (λ o. o.dealing) same) (ap (λ o. o.blocked_unit) same ∙ c.take.ensures.after) (ap (λ o. o.refused) same) (let n = ap (λ o. o.dealt) same in omega arith)
           (c.adds_up.ensures.joined lane_of c.loop-dealt.to c.has_room-in-loop-dealt.new.self c.receive-in-loop-dealt.new.self [] (record { number = c.in_ok-number-2.number; unit = unit } ∷ []) (c.if-not-has_room-2.ensures.looked lane_of) (rw c.lend.ensures at (c.in_ok-receive-2.ensures.received lane_of lane)));
     }

@@ -5,8 +5,8 @@ use Rattle.lane_deal.proofs.replayer.Replayer.new.Goals as goal
 
 pub invariant_of-result : goal.invariant_of-result
 invariant_of-result g c =
-    let made = c.in_ok-feeds.ensures in
-    let feeds = made.feeds_count in
+    let made = c.in_ok-senders.ensures in
+    let senders = made.senders_count in
     let some = c.requires.workers in
     let d = c.in_ok-new.ensures in
     record {
@@ -17,11 +17,11 @@ invariant_of-result g c =
 
 pub returns-clause-lanes : goal.returns-clause-lanes
 returns-clause-lanes g c =
-    let made = c.in_ok-feeds.ensures in length-lane_states _ _ (made.workers_count ∙ sym made.feeds_count) ∙ made.feeds_count
+    let made = c.in_ok-senders.ensures in length-lane_states _ _ (made.workers_count ∙ sym made.senders_count) ∙ made.senders_count
 
 pub returns-clause-settled : goal.returns-clause-settled
-returns-clause-settled g c = settled_fresh _ _ _ _ c.in_ok-feeds.ensures
+returns-clause-settled g c = settled_fresh _ _ _ _ c.in_ok-senders.ensures
 
 pub returns-clause-stands : goal.returns-clause-stands
 returns-clause-stands g c =
-    let d = c.in_ok-new.ensures in let some = c.requires.workers in stands_fresh _ _ c.args.plan.workers (omega arith) _ _ c.in_ok-new.field-0 c.in_ok-feeds.ensures d.1 d.2 d.3 d.4
+    let d = c.in_ok-new.ensures in let some = c.requires.workers in stands_fresh _ _ c.args.plan.workers (omega arith) _ _ c.in_ok-new.field-0 c.in_ok-senders.ensures d.1 d.2 d.3 d.4

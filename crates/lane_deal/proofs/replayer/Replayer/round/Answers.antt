@@ -10,26 +10,26 @@ pub invariant_of-self-2 : goal.invariant_of-self-2
 invariant_of-self-2 g c =
     let plays = c.run_round-answer.ensures.plays in
     let some = c.args.self.now.lanes in
-    let lanes : c.len-lanes.result ≡ length c.args.self.now.feeds.items = omega arith in
-    let below : (n : ℕ) → g.D.Dealing.lane_of c.args.self.now.dealer.dealing n (length c.args.self.now.feeds.items) < length c.args.self.now.feeds.items =
+    let lanes : c.len-lanes.result ≡ length c.args.self.now.senders.items = omega arith in
+    let below : (n : ℕ) → g.D.Dealing.lane_of c.args.self.now.dealer.dealing n (length c.args.self.now.senders.items) < length c.args.self.now.senders.items =
     λ n. subst (λ m. g.D.Dealing.lane_of c.args.self.now.dealer.dealing n m < m) lanes (c.lanes_are_below.ensures n) in
     let running : c.args.self.now.state ≢ Spent = λ e. (let is = c.in-Running.is in cc) in
     record {
       lanes = (let same = c.run_round-answer.ensures.lanes in omega (arith, some, same));
       ready = λ ne. (answered _ _ c.state_after-self.ensures ne plays).rounded.ready;
       stands = λ ne.
-          some_after g.D.Dealing.lane_of c.args.self.now.plan _ _ _ _ _ _ _ _ _ _ _ _ _ _ (c.args.self.now.ready running) below refl refl c.patience-patience.ensures
+          some_after g.D.Dealing.lane_of c.args.self.now.plan _ _ _ _ _ _ _ _ _ _ _ _ _ _ (c.args.self.now.ready running) below refl refl c.limits-limits.ensures
           (answered _ _ c.state_after-self.ensures ne plays) (c.args.self.now.stands running);
     }
 
 pub returns-clause-played : goal.returns-clause-played
 returns-clause-played g c running =
     let plays = c.run_round-answer.ensures.plays in
-    let lanes : c.len-lanes.result ≡ length c.args.self.now.feeds.items = omega arith in
-    let below : (n : ℕ) → g.D.Dealing.lane_of c.args.self.now.dealer.dealing n (length c.args.self.now.feeds.items) < length c.args.self.now.feeds.items =
+    let lanes : c.len-lanes.result ≡ length c.args.self.now.senders.items = omega arith in
+    let below : (n : ℕ) → g.D.Dealing.lane_of c.args.self.now.dealer.dealing n (length c.args.self.now.senders.items) < length c.args.self.now.senders.items =
     λ n. subst (λ m. g.D.Dealing.lane_of c.args.self.now.dealer.dealing n m < m) lanes (c.lanes_are_below.ensures n) in
     answers_follow _ _ c.state_after-self.ensures
     (λ unspent p.
     PlaysOn-of (g.D.Dealing.lane_of c.args.self.now.dealer.dealing) c.args.self.now.plan _ _ _ _ _ _ _ _ _ _ _ _ _ _ _ _ (c.args.self.now.ready (λ e. let is = c.in-Running.is in cc))
-    below refl refl c.patience-patience.ensures unspent p)
+    below refl refl c.limits-limits.ensures unspent p)
     plays

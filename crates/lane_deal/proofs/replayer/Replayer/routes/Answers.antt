@@ -19,4 +19,4 @@ pub returns : goal.returns
 returns g c unspent =
     let replayer = c.args.self.now in
     let all = ap (flat_map worker_routes) (take_all c.loop-worker.worker-index c.deref-worker-items.result.now c.loop-worker-test.false ∙ c.deref-worker-items.ensures.value) in
-    c.loop-worker.invariant ∙ ap (λ routes. min (length routes) (2 ^ 64 - 1)) (all ∙ sym (routes_of_lanes replayer.feeds.items replayer.workers.items (replayer.ready unspent).0))
+    c.loop-worker.invariant ∙ ap (λ routes. min (length routes) (2 ^ 64 - 1)) (all ∙ sym (routes_of_lanes replayer.senders.items replayer.workers.items (replayer.ready unspent).0))

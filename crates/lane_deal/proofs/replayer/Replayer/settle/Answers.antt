@@ -9,7 +9,7 @@ settle_lanes-settled-requires-clause-ready g c κs within =
 
 pub invariant_of-self-in-Ok : goal.invariant_of-self-in-Ok
 invariant_of-self-in-Ok g c =
-    let fe = with_items_is c.args.self.now.feeds c.settle_lanes-settled.new.feeds (omega arith) in
+    let fe = with_items_is c.args.self.now.senders c.settle_lanes-settled.new.senders (omega arith) in
     let we = with_items_is c.args.self.now.workers c.settle_lanes-settled.new.workers (omega arith) in
     let settled = rw (c.deref_mut.ensures.value, c.deref_mut-2.ensures.value) at c.in-Ok.ensures in
     let some = c.args.self.now.lanes in
@@ -24,7 +24,7 @@ invariant_of-self-in-Ok g c =
 
 pub returns : goal.returns
 returns g c =
-    let fe = with_items_is c.args.self.now.feeds c.settle_lanes-settled.new.feeds (omega arith) in
+    let fe = with_items_is c.args.self.now.senders c.settle_lanes-settled.new.senders (omega arith) in
     let we = with_items_is c.args.self.now.workers c.settle_lanes-settled.new.workers (omega arith) in
     let settled = rw (c.deref_mut.ensures.value, c.deref_mut-2.ensures.value) at c.in-Ok.ensures in
     record {

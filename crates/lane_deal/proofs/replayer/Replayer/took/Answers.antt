@@ -5,11 +5,11 @@ use Rattle.lane_deal.proofs.replayer.Replayer.took.Goals as goal
 
 pub returns-clause-took : goal.returns-clause-took
 returns-clause-took g c unspent state is =
-    rw (← c.as_slice-workers.ensures.value) at (took_at c.args.self.now.plan.ring c.args.self.now.feeds.items c.args.self.now.workers.items (c.args.self.now.ready unspent) c.args.lane state is c.index-workers-lane.result)
+    rw (← c.as_slice-workers.ensures.value) at (took_at c.args.self.now.plan.ring c.args.self.now.senders.items c.args.self.now.workers.items (c.args.self.now.ready unspent) c.args.lane state is c.index-workers-lane.result)
 
 pub returns-clause-past : goal.returns-clause-past
 returns-clause-past g c unspent past =
-    let count = length-lane_states c.args.self.now.feeds.items c.args.self.now.workers.items (c.args.self.now.ready unspent).0 in
+    let count = length-lane_states c.args.self.now.senders.items c.args.self.now.workers.items (c.args.self.now.ready unspent).0 in
     let same = ap length c.as_slice-workers.ensures.value in
     let ready = (c.args.self.now.ready unspent).0 in
     absurd (omega arith)

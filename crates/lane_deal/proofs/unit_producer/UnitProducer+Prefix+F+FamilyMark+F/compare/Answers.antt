@@ -35,7 +35,7 @@ returns-clause-consumer g c = looked_twice c.args.consumer.now c.slots_beside.ne
 pub returns-clause-fifo : goal.returns-clause-fifo
 returns-clause-fifo g c =
     let consumer = c.slots_beside-2.new.self in
-    ap (λ l. l ++ units_of c.args.self.now.filling) (sym (units_appended (received_lists consumer) (known_lists consumer)) ∙ ap units_of_lists c.slots_beside-2.ensures.fifo)
+    ap (λ l. l ++ units_of c.args.self.now.open_list) (sym (units_appended (received_lists consumer) (known_lists consumer)) ∙ ap units_of_lists c.slots_beside-2.ensures.fifo)
 
 pub returns-clause-exact : goal.returns-clause-exact
 returns-clause-exact g c =
@@ -56,7 +56,7 @@ returns-clause-exact g c =
     let most = c.slots_beside.new.self.counts in
     let s = self.slots.0 in
     let waits : length (known_items consumer) ≡ total (drop popped ls) = waiting_total (drop popped ls) sent (received_lists consumer) (known_lists consumer) kept last.fifo (let all = first.all_free in omega arith) in
-    let both = length-append (known_items consumer) (units_of self.filling) in
+    let both = length-append (known_items consumer) (units_of self.open_list) in
     let t = c.take_sum.ensures.sum in
     let r = self.room in
     let same = ap total left in

@@ -17,4 +17,4 @@ loop-moved-preserved g c =
     let k = c.loop-moved.moved in
     let at = c.loop-moved.invariant in
     let rest = sym c.pop_known.ensures.received.1 ∙ at.1 in
-    (MovedLists-next _ _ _ known _ c.pop_known.result k rest at.0 c.push_list.ensures.ring c.in_ok-push_list.ensures.sent c.in_ok-push_list.ensures.free c.push_list.ensures.filling, ap (drop 1) rest ∙ drop-drop 1 k known)
+    (MovedLists-next _ _ _ known _ c.pop_known.result k rest at.0 c.push_list.ensures.ring c.in_ok-push_list.ensures.sent c.in_ok-push_list.ensures.free c.push_list.ensures.open_list, ap (drop 1) rest ∙ drop-drop 1 k known)

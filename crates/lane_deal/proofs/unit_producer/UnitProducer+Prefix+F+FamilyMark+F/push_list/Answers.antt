@@ -8,7 +8,7 @@ use Rattle.lane_deal.proofs.unit_producer.UnitProducer+Prefix+F+FamilyMark+F.pus
 pub push_reserved-requires : goal.push_reserved-requires
 push_reserved-requires g c =
     let self = c.args.self.now in
-    let none = ap length c.requires.filling in
+    let none = ap length c.requires.open_list in
     (slot_for self.lengths.items self.free _ self.capacity _ self.some self.slots.0 (let r = self.room in omega arith) c.requires.list.0 c.requires.room, c.requires.list)
 
 -- no length was added

@@ -1,7 +1,7 @@
 use Rattle.std.proofs.Common.{◌≡◌, ◌+◌, [], ◌∷◌, ◌++◌, length, take, refl, ap, ◌∙◌, arith, slice_index_or}
 use Rattle.std.proofs.lemmas.List.{take_more}
 use Rattle.std.proofs.Math.Seq.{take-length}
-use Rattle.lane_deal.specs.Plain.{Numbered}
+use Rattle.lane_deal.specs.Plain.{PeerUnit}
 use Rattle.lane_deal.proofs.Batches.{decoded_at, decoded_count, some_item}
 use Rattle.lane_deal.proofs.Working.{Takes-more}
 use Rattle.lane_deal.proofs.worker.Worker+S+Prefix+F+FamilyMark+F.take_decoded.Goals as goal
@@ -10,7 +10,7 @@ pub loop-at-preserved : goal.loop-at-preserved
 loop-at-preserved g c = λ items decoded.
     let at = c.loop-at.at in
     let some = some_item items at (omega (arith, decoded_count c.args.batch.now items decoded)) in
-    let item : Numbered = slice_index_or items at some in
+    let item : PeerUnit = slice_index_or items at some in
     let more : take (at + 1) items ≡ take at items ++ item ∷ [] = take_more items at some (omega (arith, decoded_count c.args.batch.now items decoded)) in
     rw more (Takes-more g.S.Sessions.stands_for _ _ _ (take at items) item (c.loop-at.invariant items decoded) refl refl c.saturating_add-self.ensures (c.in_ok-take.ensures item (decoded_at c.args.batch.now items at some decoded (omega arith))))
 

@@ -9,7 +9,7 @@ returns g c =
     let self = c.args.self.now in
     let pop = c.pop_known-items.ensures in
     let popped : Worker g.row.S.Denot = record self { consumer = c.pop_known-items.new.self } in
-    let after : Worker g.row.S.Denot = record c.take_decoded.new.self { emptied = c.give_back.new.self.emptied } in
+    let after : Worker g.row.S.Denot = record c.take_decoded.new.self { recycled = c.give_back.new.self.recycled } in
     let took = c.in_ok-take_decoded.ensures _ c.in_ok-decode_all.ensures in
     subst (TookFront g.S.Sessions.stands_for self) (sym c.give_back.ensures)
     (TookFront-from g.S.Sessions.stands_for self popped after c.pop_known-items.result refl refl refl pop.allowed pop.ring pop.received.0 pop.received.1

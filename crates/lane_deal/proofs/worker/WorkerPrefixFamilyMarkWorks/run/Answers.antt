@@ -3,4 +3,4 @@ use Rattle.lane_deal.proofs.Working.{Worked-both}
 use Rattle.lane_deal.proofs.worker.WorkerPrefixFamilyMarkWorks.run.Goals as goal
 
 pub returns : goal.returns
-returns g c = on_ok_weaker _ (λ some. Worked-both g.S.Sessions.stands_for _ _ _ c.in_ok-take_all_known.ensures some) c.look_again.ensures
+returns g c = on_ok_weaker _ (λ some. Worked-both g.S.Sessions.stands_for _ _ _ c.in_ok-take_all_known.ensures some) c.poll.ensures

@@ -1,7 +1,7 @@
 use Rattle.std.proofs.Common.{Some, sym, ap, ◌∙◌}
 use Rattle.mrt_frame.specs.declared.cut.Cut.{Cut}
 use Rattle.bgp_update.specs.Families.{FamilyOf}
-use Rattle.mrt_body.specs.Units.{content_of}
+use Rattle.mrt_body.specs.Units.{body_kind_of}
 use Rattle.mrt_body.specs.ToCome.{UnitsState}
 use Rattle.mrt_body.proofs.StepLaws.{step_broken, step_records}
 use Rattle.mrt_body.proofs.units.Units.step.Goals as goal
@@ -19,4 +19,4 @@ returns-in-Some-Whole-clause-steps g c =
     (ap (λ (u : UnitsState). u.file) c.self.view_is)
     (c.in-Some-Whole.is ∙ ap (λ (x : Cut). Some x) c.in-Some-Whole.field-0-is)
     (rw c.reuse_record.ensures at c.in_ok-cut.ensures.cuts)
-    (rw (c.is_extended.ensures, c.content_of-content.ensures ∙ ap (λ (family : FamilyOf). content_of family c.in-Some-Whole.record.kind c.in-Some-Whole.record.subtype) (sym c.is_known.ensures)) at c.take.ensures.takes)
+    (rw (c.is_extended.ensures, c.body_kind_of-content.ensures ∙ ap (λ (family : FamilyOf). body_kind_of family c.in-Some-Whole.record.kind c.in-Some-Whole.record.subtype) (sym c.is_known.ensures)) at c.take.ensures.takes)

@@ -2,7 +2,7 @@ use Rattle.std.proofs.Common.{◌∙◌, ap}
 use Rattle.std.specs.List.{flat_map}
 use Rattle.rib_report.specs.Listings.{seat_lines}
 use Rattle.rib_report.proofs.TextLaws.{Adds_as, text_begun}
-use Rattle.rib_report.proofs.PieceLaws.{lines_of_seats}
+use Rattle.rib_report.proofs.LineBlockLaws.{lines_of_seats}
 use Rattle.rib_report.proofs.reports.tables.list_tables.Goals as goal
 
 pub returns-in-Ok-clause-ok : goal.returns-in-Ok-clause-ok

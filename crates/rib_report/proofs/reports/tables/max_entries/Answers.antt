@@ -2,7 +2,7 @@ use Rattle.std.proofs.Common.{◌∙◌, sym, ap, map, take, take_all, max, leng
 use Rattle.std.specs.FinMap as finite
 use Rattle.peer_tables.specs.Seats.{seat_of}
 use Rattle.rib_report.specs.Listings.{most_entries}
-use Rattle.rib_report.proofs.PieceLaws.{most_more}
+use Rattle.rib_report.proofs.LineBlockLaws.{most_more}
 use Rattle.rib_report.proofs.reports.tables.max_entries.Goals as goal
 
 pub loop-seat-preserved : goal.loop-seat-preserved

@@ -3,7 +3,7 @@ use Rattle.std.specs.FinMap as finite
 use Rattle.peer_tables.specs.Seats.{seat_of}
 use Rattle.rib_report.specs.Listings.{reached_lines}
 use Rattle.rib_report.proofs.TextLaws.{Adds_as}
-use Rattle.rib_report.proofs.PieceLaws.{lines_of_seat}
+use Rattle.rib_report.proofs.LineBlockLaws.{lines_of_seat}
 use Rattle.rib_report.proofs.reports.tables.put_table.Goals as goal
 
 pub list-requires-clause-ids : goal.list-requires-clause-ids

@@ -4,7 +4,7 @@ use Rattle.peer_tables.proofs.RowLaws.{flat_map_twice}
 use Rattle.rib_report.specs.Listings.{seat_lines}
 use Rattle.rib_report.proofs.TextLaws.{Adds_as}
 use Rattle.rib_report.proofs.JoinLaws.{Adds_item, Adds_items}
-use Rattle.rib_report.proofs.PieceLaws.{most_at}
+use Rattle.rib_report.proofs.LineBlockLaws.{most_at}
 use Rattle.rib_report.proofs.reports.tables.put_tables.Goals as goal
 
 pub put_table-requires : goal.put_table-requires

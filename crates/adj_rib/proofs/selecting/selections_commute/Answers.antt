@@ -1,5 +1,0 @@
-use Rattle.adj_rib.proofs.Selected.{table_of-selected, outcomes_of-selected}
-use Rattle.adj_rib.proofs.selecting.selections_commute.Goals as goal
-
-pub returns : goal.returns
-returns c = record { tables = table_of-selected; outcomes = outcomes_of-selected }

@@ -1,0 +1,60 @@
+//! The BGP4MP records (RFC 6396, 4.4), with extended timestamps (RFC 6396, 3).
+
+ghost use Rattle.std.specs.Prelude.{◌≡◌};
+ghost use Rattle.mrt_frame.specs.Fields.{Reads};
+ghost use Rattle.mrt_body.specs.Bgp4mp as bgp4mp;
+
+use crate::peer_index::{addr_at, asn_at};
+use crate::unit::PeerKey;
+use bgp_update::Width;
+use mrt_frame::{Fault, u16_at, u32_at};
+
+/// Whether the address family is IPv6.
+fn family_at(bytes: &[u8]) -> Result<(bool, &[u8]), Fault>
+    ensures { Reads (λ x. (x.0, x.1.now)) result (bgp4mp.family_at bytes.now) }
+{
+    let (family, rest) = u16_at(bytes, Fault::ShortRecord)?;
+    match family {
+        1 => Ok((false, rest)),
+        2 => Ok((true, rest)),
+        _ => Err(Fault::BadFamily),
+    }
+}
+
+/// Returns the microseconds of an extended timestamp, 0 for any other, and the bytes after them.
+pub(crate) fn microseconds_at(body: &[u8], is_extended: bool) -> Result<(u32, &[u8]), Fault>
+    ensures { Reads (λ x. (x.0, x.1.now)) result (bgp4mp.microseconds_at is_extended body.now) }
+{
+    if is_extended {
+        u32_at(body, Fault::ShortRecord)
+    } else {
+        Ok((0, body))
+    }
+}
+
+/// Returns the peer of a session, and the bytes after the session's fields.
+#[tactic(auto, unfolding(crate::specs::Bgp4mp::session_peer_at, crate::specs::Bgp4mp::session_at))]
+pub(crate) fn session_peer_at(bytes: &[u8], width: Width) -> Result<(PeerKey, &[u8]), Fault>
+    ensures { Reads (λ x. (x.0, x.1.now)) result (bgp4mp.session_peer_at width bytes.now) }
+{
+    let (asn, rest) = asn_at(bytes, width)?;
+    let (_, rest) = asn_at(rest, width)?;
+    let (_, rest) = u16_at(rest, Fault::ShortRecord)?;
+    let (is_ipv6, rest) = family_at(rest)?;
+    let (addr, rest) = addr_at(rest, is_ipv6)?;
+    let (_, rest) = addr_at(rest, is_ipv6)?;
+    Ok((PeerKey { asn, addr }, rest))
+}
+
+/// Returns the old and the new state that the bytes encode.
+#[tactic(auto, unfolding(crate::specs::Bgp4mp::states_in))]
+pub(crate) fn states_in(bytes: &[u8]) -> Result<(u16, u16), Fault>
+    ensures { Reads (λ s. s) result (bgp4mp.states_in bytes.now) }
+{
+    let (old, rest) = u16_at(bytes, Fault::ShortRecord)?;
+    let (new, rest) = u16_at(rest, Fault::ShortRecord)?;
+    if !rest.is_empty() {
+        return Err(Fault::TrailingBytes);
+    }
+    Ok((old, new))
+}

@@ -1,0 +1,97 @@
+//! The laws of bodies and of payloads, and of whole readings. Nothing is computed.
+
+ghost use Rattle.std.specs.Prelude.{◌≡◌, ◌↔◌, ℕ, Bool, List, Option, Ok, Err, ◌++◌, Some, length, map, true};
+ghost use Rattle.mrt_frame.specs.Bytes.{AreBytes};
+ghost use Rattle.mrt_frame.specs.declared.fault.Fault.{Fault};
+ghost use Rattle.bgp_update.specs.Families.{FamilyOf};
+ghost use Rattle.mrt_body.specs.declared.record_place.RecordAt.{RecordAt};
+ghost use Rattle.mrt_body.specs.declared.body_kind.BodyKind.{BodyKind};
+ghost use Rattle.mrt_body.specs.Plain.{Event, Payload, Unit as ReplayUnit, Found};
+ghost use Rattle.mrt_body.specs.declared.state_rule.StateRule.{StateRule};
+ghost use Rattle.mrt_body.specs.declared.unit.PeerKey.{PeerKey};
+ghost use Rattle.mrt_body.specs.Indexes.{peers_in};
+ghost use Rattle.mrt_body.specs.Events.{IsEvent, event_in};
+ghost use Rattle.mrt_body.specs.DecodedEvents.{is_recorded_event};
+ghost use Rattle.mrt_body.specs.Units.{is_recorded, payload_bytes, units_in, aside_of, found_in, records_of, units_of};
+ghost use Rattle.mrt_body.specs.Agreement.{IsIndexBody, Agrees};
+ghost use Rattle.mrt_body.specs.Refusals.{IsRefused};
+ghost use Rattle.std.specs.List.{All};
+ghost use Rattle.mrt_frame.specs.declared.error.ReplayError.TheVariants.{Read};
+ghost use Rattle.mrt_body.specs.Choices.{UnitSelection};
+ghost use Rattle.mrt_body.specs.ToCome.{UnitsState, FailsBehind, GivesAllBefore, HasEnded, TakesFound, fresh_units};
+ghost use Rattle.mrt_body.specs.States.{AreByRule, AreOfFamily};
+ghost use Rattle.mrt_body.specs.declared.rib_rule.RibRule.TheVariants.{Add};
+
+/// A record yields units exactly if its body agrees with its form (RFC 6396, 4.3 and 4.4; RFC 8050),
+/// and only these units: the bytes can be read in no other way. Any other record is refused for the
+/// first of its fields that is broken.
+pub fn bodies_agree_with_their_forms()
+    ensures peers { (body : List ℕ) (peers : List PeerKey) → AreBytes body →
+        (peers_in body ≡ Ok peers) ↔ IsIndexBody body peers }
+    ensures units { (family : FamilyOf) (rule : StateRule) (at : RecordAt) (extended : Bool) (index : Option (List PeerKey))
+        (content : BodyKind) (body : List ℕ) (units : List ReplayUnit) → AreBytes body →
+        (units_in family rule at extended index content body ≡ Ok units) ↔ Agrees family rule at extended index content body units }
+    ensures only { (family : FamilyOf) (rule : StateRule) (at : RecordAt) (extended : Bool) (index : Option (List PeerKey))
+        (content : BodyKind) (body : List ℕ) (units others : List ReplayUnit) →
+        Agrees family rule at extended index content body units →
+        Agrees family rule at extended index content body others → units ≡ others }
+    ensures refused { (family : FamilyOf) (rule : StateRule) (at : RecordAt) (extended : Bool) (index : Option (List PeerKey))
+        (content : BodyKind) (body : List ℕ) (fault : Fault) → AreBytes body →
+        (units_in family rule at extended index content body ≡ Err fault) ↔ IsRefused family rule at extended index content body fault }
+{}
+
+/// A payload has an event exactly if reading it yields one, and no event but this one
+/// (RFC 4271, 4.1 to 4.3). It is read by the family that it has.
+pub fn events_agree_with_their_payloads()
+    ensures events { (payload : Payload) (e : Event) → AreBytes (payload_bytes payload) →
+        (event_in payload ≡ Ok e) ↔ IsEvent payload e }
+    ensures one_event { (payload : Payload) (e other : Event) → IsEvent payload e → IsEvent payload other → e ≡ other }
+{}
+
+/// What a payload means tells whether a record has it of the peer: nothing but a clear means a clear.
+pub fn clears_are_told()
+    ensures { (payload : Payload) → is_recorded_event (event_in payload) ≡ is_recorded payload }
+{}
+
+/// What calls of `Units::next` returned joins, in order. What was returned from `Units::new` on is a front
+/// of what the files hold, even if a call then returns an error, as no later call returns more.
+/// From `Units::new` to `None` it is everything, and all records were counted. Up to `Read` it is everything
+/// before the record whose read failed.
+pub fn readings_give_all_found()
+    ensures joined { (first second third : UnitsState)
+        (old mid new : List (Option (List ℕ))) (given more : List Found) →
+        TakesFound first old second mid given → TakesFound second mid third new more →
+        TakesFound first old third new (given ++ more) }
+    ensures front { (count max_records : ℕ) (selection : UnitSelection) (last : UnitsState)
+        (contents : List (List ℕ)) (left : List (Option (List ℕ))) (given : List Found) →
+        TakesFound (fresh_units count max_records selection) (map (λ bytes. Some bytes) contents) last left given →
+        (rest : List Found) × (found_in selection contents ≡ given ++ rest) }
+    ensures whole { (count max_records : ℕ) (selection : UnitSelection) (last : UnitsState)
+        (contents : List (List ℕ)) (left : List (Option (List ℕ))) (given : List Found) →
+        TakesFound (fresh_units count max_records selection) (map (λ bytes. Some bytes) contents) last left given →
+        HasEnded last → length left ≡ last.count →
+        (given ≡ found_in selection contents) × (last.records ≡ records_of contents) × (last.aside ≡ aside_of selection.family contents) }
+    ensures failed { (count max_records file : ℕ) (selection : UnitSelection) (last stopped : UnitsState)
+        (contents : List (List ℕ)) (left after : List (Option (List ℕ))) (given : List Found) →
+        TakesFound (fresh_units count max_records selection) (map (λ bytes. Some bytes) contents) last left given →
+        GivesAllBefore last left stopped after (Read file) →
+        FailsBehind (fresh_units count max_records selection) contents stopped after given }
+{}
+
+/// Each state change has the rule that the selection asks for.
+pub fn units_have_their_rule()
+    ensures { (selection : UnitSelection) (files : List (List ℕ)) →
+        AreByRule selection.states (units_of selection files) }
+{}
+
+/// Each message and each entry has the family that the selection asks for.
+pub fn units_have_their_family()
+    ensures { (selection : UnitSelection) (files : List (List ℕ)) →
+        AreOfFamily selection.family (units_of selection files) }
+{}
+
+/// Where RIB dumps are added, no unit is a clear.
+pub fn added_dumps_clear_nothing()
+    ensures { (selection : UnitSelection) (files : List (List ℕ)) → selection.ribs ≡ Add →
+        All (λ unit. is_recorded unit.payload ≡ true) (units_of selection files) }
+{}

@@ -1,0 +1,159 @@
+//! The index in force, and what it is still needed for.
+
+ghost use Rattle.std.specs.Prelude.{◌≡◌, ◌≤◌, ◌∷◌, ◌++◌, [], drop, length, true, false, ◌↔◌, Some, None, Ok, OnErr, OnOk, IfOk, IfSome, option_to_list};
+ghost use Rattle.bgp_update.specs.Results.{Gives};
+ghost use Rattle.mrt_body.specs.Units.{IsSmallUnit, rib_units_in, selected_units};
+ghost use Rattle.mrt_body.specs.Pending.{without_pending};
+ghost use Rattle.mrt_body.specs.RibDumps.{heard_of};
+ghost use Rattle.mrt_body.specs.declared.rib_rule.RibRule.TheVariants.{Replace};
+
+use crate::entries::RibRecord;
+use crate::lent::LentUnitOf;
+use crate::record_place::RecordAt;
+use crate::rib::ListedEntry;
+use crate::rib_dumps::RibDumps;
+use crate::selection::Selection;
+use crate::unit::{PeerKey, UnitOf};
+use bgp_prefix::{Memory, Prefix, Sequence};
+use bgp_update::{AttrError, Unicast};
+use std::alloc::Global;
+use std::marker::Model;
+
+/// The peers of an index table, and the entries of the last RIB record read against it that are still to
+/// be returned.
+#[derive(Drop)]
+pub(crate) struct Index<F: Unicast> {
+    peers: Vec<PeerKey>,
+    /// The entries of the last record. The list is kept from one record to the next, to reuse its memory.
+    list: Vec<ListedEntry>,
+    last: Option<RibRecord<Prefix<F>>>,
+}
+
+impl<F: Unicast> Model for Index<F> {
+    ghost use Rattle.mrt_body.specs.Pending.{IndexState, ArePending, pending_of};
+
+    ghost Value = { IndexState };
+
+    ghost view = { λ i. record { peers = i.peers.items; pending = pending_of F.family i.peers.items i.list.items i.last } };
+
+    ghost invariant = { λ i. ArePending i.peers.items i.list.items i.last };
+}
+
+impl<F: Unicast> Index<F> {
+    pub(crate) fn new(alloc: Global, peers: Vec<PeerKey>) -> Index<F>
+        ensures { result ≡ record { peers = peers.items; pending = [] } }
+    {
+        Index {
+            peers,
+            list: Vec::new(alloc),
+            last: None,
+        }
+    }
+
+    /// Reads a RIB record against this index. Its entries that are selected are then to be returned.
+    pub(crate) fn read(
+        &mut self,
+        at: RecordAt,
+        add_path: bool,
+        body: Sequence<u8>,
+        selection: &Selection<F>,
+    ) -> Result<(), AttrError>
+        requires { length body ≤ 16777216 }
+        ensures units { Gives (λ _. self.new.pending) result
+            (selected_units selection.now (rib_units_in F.family at add_path (Some self.old.peers) body)) }
+        ensures peers { self.new.peers ≡ self.old.peers }
+        ensures few { length self.new.pending ≤ 65535 }
+        ensures none { OnErr result (self.new.pending ≡ []) }
+    {
+        self.last = None;
+        let record = RibRecord::read(at, body, add_path, self.peers.as_slice(), &mut self.list)?;
+        record.select(selection, self.peers.as_slice(), &mut self.list);
+        self.last = Some(record);
+        Ok(())
+    }
+
+    /// How many peers the index table has, and the entries of the last record that are selected.
+    pub(crate) fn listed(&self) -> (usize, &[ListedEntry]) {
+        (self.peers.len(), self.list.as_slice())
+    }
+
+    /// Takes note of the peers of the units that are still to be returned.
+    pub(crate) fn hear(&self, dumps: &mut RibDumps) -> Result<(), Memory>
+        ensures { OnOk result (dumps.new ≡ record dumps.old { heard = heard_of Replace dumps.old.heard self.now.pending }) }
+    {
+        match &self.last {
+            Some(record) => record.hear(self.peers.as_slice(), self.list.as_slice(), dumps),
+            None => Ok(()),
+        }
+    }
+
+    /// Skips what is still to be returned.
+    fn leave_out(&mut self)
+        ensures { self.new ≡ without_pending self.old }
+    {
+        self.last = None;
+    }
+
+    /// Takes out the memory of the last record, and skips what is still to be returned of it.
+    pub(crate) fn take_block(&mut self) -> Option<Vec<u8>>
+        ensures { self.new ≡ without_pending self.old }
+    {
+        match self.last.take() {
+            Some(record) => Some(record.into_block()),
+            None => None,
+        }
+    }
+
+    /// Whether an entry is to be returned.
+    #[inline(always)]
+    pub(crate) fn is_pending(&self) -> bool
+        ensures { result ≡ false ↔ (self.now.pending ≡ []) }
+    {
+        match &self.last {
+            Some(record) => record.is_pending(self.peers.as_slice(), self.list.as_slice()),
+            None => false,
+        }
+    }
+
+    /// Lends the unit of the next entry, or returns `None` at the end.
+    #[inline(always)]
+    pub(crate) fn lend(&self) -> Option<LentUnitOf<'_, F>>
+        ensures lends { IfSome result (λ lent. self.now.pending ≡ lent.unit ∷ drop 1 self.now.pending) }
+        ensures none { (result ≡ None → self.now.pending ≡ []) × (self.now.pending ≡ [] → result ≡ None) }
+        ensures small { IfSome result (λ lent. IsSmallUnit lent.unit) }
+    {
+        match &self.last {
+            Some(record) => record.lend(self.peers.as_slice(), self.list.as_slice()),
+            None => None,
+        }
+    }
+
+    /// Passes over the next entry, which was returned.
+    #[inline(always)]
+    pub(crate) fn pass(&mut self)
+        ensures { self.new ≡ record { peers = self.old.peers; pending = drop 1 self.old.pending } }
+    {
+        if let Some(record) = &mut self.last {
+            record.pass(self.peers.as_slice(), self.list.as_slice());
+        }
+    }
+
+    /// Returns the unit of the next entry, or `None` at the end.
+    pub(crate) fn next(&mut self, alloc: Global) -> Result<Option<UnitOf<F>>, Memory>
+        ensures gives { IfOk result (λ unit. self.old.pending ≡ option_to_list unit ++ self.new.pending) }
+        ensures ended { IfOk result (λ unit. unit ≡ None → self.old.pending ≡ []) }
+        // At the end no memory is needed.
+        ensures none { self.old.pending ≡ [] → result ≡ Ok None }
+        ensures peers { self.new.peers ≡ self.old.peers }
+        ensures small { IfOk result (λ unit. IfSome unit IsSmallUnit) }
+    {
+        let Some(lent) = self.lend() else {
+            // The record's body is freed before the next one is read.
+            self.leave_out();
+            return Ok(None);
+        };
+        let unit = lent.unit.to_unit(alloc)?;
+        self.pass();
+        Ok(Some(unit))
+    }
+}

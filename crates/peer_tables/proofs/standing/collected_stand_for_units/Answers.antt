@@ -1,5 +1,0 @@
-use Rattle.peer_tables.proofs.StandingLaws.{StandFor-collected}
-use Rattle.peer_tables.proofs.standing.collected_stand_for_units.Goals as goal
-
-pub returns : goal.returns
-returns c = StandFor-collected

@@ -1,0 +1,17 @@
+-- the lines so far
+use Rattle.std.proofs.Common.{◌<◌, ◌≤◌, ◌-◌}
+use Rattle.rib_report.specs.Texts.{Writes}
+use Rattle.rib_report.specs.NullSink.{null_sink_contents, null_sink_failures}
+use Rattle.rib_report.specs.LineBlocks.{lines_between}
+use Rattle.rib_report.proofs.reports.tables.line_block.put_while_fitting.Given as goal
+
+abbrev pub invariant-loop-done : goal.invariant-loop-done
+invariant-loop-done g l = record {
+  from : l.start ≤ l.done;
+  to : l.done ≤ l.end;
+  goes_on : 0 < l.writing;
+  written : Writes null_sink_contents null_sink_failures l.initial.null_sink l.initial.text l.null_sink l.text (lines_between l.peer l.start l.done l.entries);
+}
+
+abbrev pub decreases-loop-done : goal.decreases-loop-done
+decreases-loop-done g l = l.end - l.done
