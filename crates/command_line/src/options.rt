@@ -243,15 +243,44 @@ pub static OPTIONS: [OptionRow; 19] = [
     },
 ];
 
+const PEER: ColumnRow = ColumnRow {
+    name: "peer",
+    meaning: "the peer's AS, a space, its address",
+};
+
+const KEY: ColumnRow = ColumnRow {
+    name: "prefix",
+    meaning: "ADDRESS/LENGTH, and #ID behind it where the route has a path identifier (ADD-PATH)",
+};
+
+const ORIGIN: ColumnRow = ColumnRow {
+    name: "origin",
+    meaning: "IGP, EGP or INCOMPLETE",
+};
+
+const MED: ColumnRow = ColumnRow {
+    name: "med",
+    meaning: "MULTI_EXIT_DISC",
+};
+
+const LOCAL_PREF: ColumnRow = ColumnRow {
+    name: "local_pref",
+    meaning: "LOCAL_PREF",
+};
+
+const ATOMIC: ColumnRow = ColumnRow {
+    name: "atomic",
+    meaning: "`atomic` where the route has ATOMIC_AGGREGATE",
+};
+
+const AGGREGATOR: ColumnRow = ColumnRow {
+    name: "aggregator",
+    meaning: "its AS, a space, its address",
+};
+
 const ROUTE_COLUMNS: &[ColumnRow] = &[
-    ColumnRow {
-        name: "peer",
-        meaning: "the peer's AS, a space, its address",
-    },
-    ColumnRow {
-        name: "prefix",
-        meaning: "ADDRESS/LENGTH, and #ID behind it where the route has a path identifier (ADD-PATH)",
-    },
+    PEER,
+    KEY,
     ColumnRow {
         name: "as_path",
         meaning: "AS numbers; a set is {1,2}, a confederation's sequence (1 2) and its set [1,2]",
@@ -260,26 +289,11 @@ const ROUTE_COLUMNS: &[ColumnRow] = &[
         name: "next_hop",
         meaning: "an IPv4 or IPv6 address, or a global and a link-local IPv6 address",
     },
-    ColumnRow {
-        name: "origin",
-        meaning: "IGP, EGP or INCOMPLETE",
-    },
-    ColumnRow {
-        name: "med",
-        meaning: "MULTI_EXIT_DISC",
-    },
-    ColumnRow {
-        name: "local_pref",
-        meaning: "LOCAL_PREF",
-    },
-    ColumnRow {
-        name: "atomic",
-        meaning: "`atomic` where the route has ATOMIC_AGGREGATE",
-    },
-    ColumnRow {
-        name: "aggregator",
-        meaning: "its AS, a space, its address",
-    },
+    ORIGIN,
+    MED,
+    LOCAL_PREF,
+    ATOMIC,
+    AGGREGATOR,
 ];
 
 const VISIBILITY_COLUMNS: &[ColumnRow] = &[
@@ -320,10 +334,7 @@ const SEEN_COLUMNS: &[ColumnRow] = &[
 ];
 
 const CHURN_COLUMNS: &[ColumnRow] = &[
-    ColumnRow {
-        name: "peer",
-        meaning: "the peer's AS, a space, its address",
-    },
+    PEER,
     ColumnRow {
         name: "new",
         meaning: "announcements of what the table didn't have",
@@ -367,10 +378,7 @@ const CHURN_COLUMNS: &[ColumnRow] = &[
 ];
 
 const PEERS_COLUMNS: &[ColumnRow] = &[
-    ColumnRow {
-        name: "peer",
-        meaning: "the peer's AS, a space, its address",
-    },
+    PEER,
     ColumnRow {
         name: "state",
         meaning: "`up`, or `down` where the last recorded change of the session's state led out of Established",
@@ -410,10 +418,7 @@ const HISTORY_COLUMNS: &[ColumnRow] = &[
         name: "time",
         meaning: "seconds since 1970 UTC, with six digits behind the point",
     },
-    ColumnRow {
-        name: "peer",
-        meaning: "the peer's AS, a space, its address",
-    },
+    PEER,
     ColumnRow {
         name: "what",
         meaning: "`new`, `changed` or `same`: announced, where the table had no route, another one or this one; `gone` or `void`: withdrawn, where it had a route or none; `lost`: taken by a change of the session's state, or by a RIB dump under --rib replace",
@@ -422,10 +427,7 @@ const HISTORY_COLUMNS: &[ColumnRow] = &[
         name: "by",
         meaning: "`rib`: an entry of a table, or, of what is lost, a RIB dump; `update`: a message; `state`: a change of the session's state",
     },
-    ColumnRow {
-        name: "prefix",
-        meaning: "ADDRESS/LENGTH, and #ID behind it where the route has a path identifier (ADD-PATH)",
-    },
+    KEY,
     ColumnRow {
         name: "as_path",
         meaning: "that of the route after it, or, where it is gone or lost, of the route before; the columns behind are of the same route",
@@ -434,26 +436,11 @@ const HISTORY_COLUMNS: &[ColumnRow] = &[
         name: "next_hop",
         meaning: "as of tables",
     },
-    ColumnRow {
-        name: "origin",
-        meaning: "IGP, EGP or INCOMPLETE",
-    },
-    ColumnRow {
-        name: "med",
-        meaning: "MULTI_EXIT_DISC",
-    },
-    ColumnRow {
-        name: "local_pref",
-        meaning: "LOCAL_PREF",
-    },
-    ColumnRow {
-        name: "atomic",
-        meaning: "`atomic` where the route has ATOMIC_AGGREGATE",
-    },
-    ColumnRow {
-        name: "aggregator",
-        meaning: "its AS, a space, its address",
-    },
+    ORIGIN,
+    MED,
+    LOCAL_PREF,
+    ATOMIC,
+    AGGREGATOR,
 ];
 
 const FAULTS_COLUMNS: &[ColumnRow] = &[

@@ -4,7 +4,7 @@ use crate::plans::{PLAN, full};
 use adj_rib::{RouteId, SharedRoute};
 use bgp_prefix::Radix;
 use fixtures::{THREE_PEERS, bytes_of};
-use lane_deal::{ByTurns, Gate, Plan};
+use lane_deal::{ByTurns, Gate, Idle, Plan};
 use mrt_body::Selection;
 use mrt_frame::{Counted, ReplayError};
 use mrt_replay::{Summary, run};
@@ -71,6 +71,8 @@ fn meet(own: &AtomicBool, other: &AtomicBool, saw: &AtomicBool) {
     saw.store(comes(other), Ordering::SeqCst);
 }
 
+impl Idle for Meeting {}
+
 impl Gate for Meeting {
     fn before(&self, worker: usize, number: u64) {
         match (worker, number) {
@@ -114,6 +116,8 @@ struct Waiting {
     worker: AtomicBool,
     dealer_saw: AtomicBool,
 }
+
+impl Idle for Waiting {}
 
 impl Gate for Waiting {
     fn before(&self, worker: usize, number: u64) {
@@ -170,6 +174,8 @@ impl Counting {
         }
     }
 }
+
+impl Idle for Counting {}
 
 impl Gate for Counting {
     fn before(&self, worker: usize, number: u64) {
@@ -255,6 +261,8 @@ fn gates_are_told_each_number_of_a_single_worker(rt: HostRuntime) -> Result<(), 
 struct Digits {
     told: AtomicU64,
 }
+
+impl Idle for Digits {}
 
 impl Gate for Digits {
     fn before(&self, _worker: usize, _number: u64) {}

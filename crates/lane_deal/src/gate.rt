@@ -1,18 +1,12 @@
-//! Gates, which are notified of a replay's progress.
+//! Gates, which are notified of a replay's progress, and how its threads wait.
 
 use mrt_body::Damage;
 use std::thread::yield_now;
 
-/// Is notified when units are dealt and taken, and returns. Numbers count from 0 in each lane.
-pub trait Gate {
-    /// Called by a worker just before it takes the unit with this number of its lane.
-    fn before(&self, worker: usize, number: u64);
-
-    /// Called by the dealer just after its push of the unit with this number to a lane.
-    fn dealt(&self, lane: usize, number: u64);
-
+/// How a thread of a round waits that finds nothing to do.
+pub trait Idle {
     /// Called by a worker that finds no unit, before it looks again: it has looked in vain this many times in a row.
-    /// Lets other threads run. A gate that has a clock may sleep here.
+    /// Lets other threads run. One that has a clock may sleep here.
     fn pause(&self, _looks: u32) {
         yield_now();
     }
@@ -21,6 +15,15 @@ pub trait Gate {
     fn wait_for_room(&self, looks: u32) {
         self.pause(looks);
     }
+}
+
+/// Is notified when units are dealt and taken, and returns. Numbers count from 0 in each lane.
+pub trait Gate: Idle {
+    /// Called by a worker just before it takes the unit with this number of its lane.
+    fn before(&self, worker: usize, number: u64);
+
+    /// Called by the dealer just after its push of the unit with this number to a lane.
+    fn dealt(&self, lane: usize, number: u64);
 
     /// Whether it wants to be notified of the current number of routes. Asked after each round of a replay.
     fn is_counting(&self) -> bool {
@@ -34,9 +37,11 @@ pub trait Gate {
     fn listed(&self, _damage: &Damage, _is_refused: bool) {}
 }
 
-/// A gate that does nothing.
+/// A gate that does nothing, whose threads let others run.
 #[derive(Clone, Copy, Debug)]
 pub struct NoGate;
+
+impl Idle for NoGate {}
 
 impl Gate for NoGate {
     fn before(&self, _worker: usize, _number: u64) {}

@@ -19,7 +19,7 @@
 //!   depends on timing, so the contract says what is dealt and what waits, and not who took how much.
 //! - **Rings are made anew after each round**, with what waits moved over in order: then the producer's end knows how
 //!   much more may wait, and the consumer's all that waits. No claim rests on the round-over flag, on how often a
-//!   thread looks, or on how it pauses, which is up to the gate (`Gate::pause`, `Gate::wait_for_room`).
+//!   thread looks, or on how it pauses, which is up to the gate (`Idle::pause`, `Idle::wait_for_room`).
 //! - **A ring's item is a list of up to 32 units** whose bytes are in one block, so that a ring's position is exchanged
 //!   once for them all and no unit is an allocation. The producer counts units (`UnitProducer`): a round is blocked by
 //!   units, not lists, and contracts see a ring of units. A listed unit of IPv4 has 32 bytes: the records and peers of
@@ -71,7 +71,7 @@ mod unit_producer;
 mod worker;
 
 pub use dealing::{ByBlocks, ByList, ByTurns, Dealing};
-pub use gate::{Gate, NoGate};
+pub use gate::{Gate, Idle, NoGate};
 pub use laws::{
     lanes_make_tables, lanes_share_units, rounds_are_few, schedules_keep_order,
     settled_lanes_make_tables,

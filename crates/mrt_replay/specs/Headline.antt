@@ -1,5 +1,5 @@
 -- The headline: what a run that completes has done, and why one doesn't. The contract of `run` names these.
-use Rattle.std.specs.Prelude.{◌≡◌, ℕ, ◌<◌, Bool, true, List, Option, Result, IfOk, IfErr, OnOk, length, slice_index}
+use Rattle.std.specs.Prelude.{◌≡◌, ℕ, ◌<◌, Bool, true, List, Option, Result, IfOk, IfErr, OnOk, length, map, slice_index}
 use Rattle.std.specs.Io.KnownBytes.{Appends, Keeps}
 use Rattle.mrt_frame.specs.Devices.{HasFailed}
 use Rattle.mrt_frame.specs.Writes.{WritesFront}
@@ -28,6 +28,26 @@ pub record RunState : Type 0 where
   pub writer_after : ℕ
   pub flushed_after : Bool
   pub result : Result Summary ReplayError
+
+-- a run on these readers and this writer, seen by what each tells before it and after
+module _ {R W : Type 0} (remaining : R → Option (List ℕ)) (read_failures : R → ℕ)
+    (contents : W → Option (List ℕ)) (write_failures : W → ℕ) (is_flushed : W → Bool) where
+  abbrev pub run_on : Request → Layout → UnitSelection → Plan → List R → List R → W → W → Result Summary ReplayError → RunState
+  run_on request layout selection plan files files' out out' result = record {
+    request = request;
+    layout = layout;
+    selection = selection;
+    plan = plan;
+    told = map remaining files;
+    held = contents out;
+    held_after = contents out';
+    readers = map read_failures files;
+    readers_after = map read_failures files';
+    writer = write_failures out;
+    writer_after = write_failures out';
+    flushed_after = is_flushed out';
+    result = result;
+  }
 
 -- ---- a run that completes
 

@@ -6,7 +6,7 @@ ghost use Rattle.mrt_frame.specs.Devices.{HasFailed};
 ghost use Rattle.mrt_frame.specs.Writes.{WritesFront};
 ghost use Rattle.mrt_frame.specs.declared.error.ReplayError.TheVariants as errors;
 ghost use Rattle.lane_deal.specs.Plans.{IsPlan};
-ghost use Rattle.mrt_replay.specs.Headline.{IsPromised};
+ghost use Rattle.mrt_replay.specs.Headline.{IsPromised, run_on};
 ghost use Rattle.mrt_replay.specs.Reports.{counting_of, lines_of, listed_by, listing_of, told_lines};
 ghost use Rattle.rib_report.specs.Requests.{request_of};
 
@@ -87,7 +87,7 @@ where
             alloc, files, request, layout, listing, selection, plan, gate, out,
         ),
         None => run_on_tables::<F, M, T, R, W, D, G>(
-            rt, alloc, files, request, layout, selection, plan, dealing, gate, out,
+            rt, alloc, plan, dealing, gate, files, selection, request, layout, out,
         ),
     }
 }
@@ -136,13 +136,13 @@ fn listing_of<F: Family>(request: &Request<F>, chosen: &ChosenPrefixes<F>) -> Op
 fn run_on_tables<F, M, T, R, W, D, G>(
     rt: &T,
     alloc: Global,
-    files: &mut [R],
-    request: &Request<F>,
-    layout: LayoutOf<F>,
-    selection: Selection<F>,
     plan: &Plan,
     dealing: &D,
     gate: &G,
+    files: &mut [R],
+    selection: Selection<F>,
+    request: &Request<F>,
+    layout: LayoutOf<F>,
     out: &mut W,
 ) -> Result<Summary, ReplayError>
 where
@@ -155,21 +155,8 @@ where
     G: Gate + Sync,
     requires plan { IsPlan plan.now }
     requires tables { listing_of (request_of F.bits request.now) selection.prefixes ≡ None }
-    ensures promised { IsPromised (record {
-      request = request_of F.bits request.now;
-      layout = layout;
-      selection = selection;
-      plan = plan.now;
-      told = map R.remaining files.old;
-      held = W.contents out.old;
-      held_after = W.contents out.new;
-      readers = map R.failure_count files.old;
-      readers_after = map R.failure_count files.new;
-      writer = W.failure_count out.old;
-      writer_after = W.failure_count out.new;
-      flushed_after = W.is_flushed out.new;
-      result = result;
-    }) }
+    ensures promised { IsPromised (run_on R.remaining R.failure_count W.contents W.failure_count W.is_flushed
+        (request_of F.bits request.now) layout selection plan.now files.old files.new out.old out.new result) }
     ensures untouched { IfErr result (λ e. (e ≡ errors.Write → ⊥) → out.new ≡ out.old) }
 {
     let replayed = match replay::<F, M, T, R, D, G>(
@@ -222,21 +209,8 @@ where
     G: Gate + Sync,
     requires plan { IsPlan plan.now }
     requires history { listing_of (request_of F.bits request.now) selection.prefixes ≡ Some listing }
-    ensures promised { IsPromised (record {
-      request = request_of F.bits request.now;
-      layout = layout;
-      selection = selection;
-      plan = plan.now;
-      told = map R.remaining files.old;
-      held = W.contents writer.old;
-      held_after = W.contents writer.new;
-      readers = map R.failure_count files.old;
-      readers_after = map R.failure_count files.new;
-      writer = W.failure_count writer.old;
-      writer_after = W.failure_count writer.new;
-      flushed_after = W.is_flushed writer.new;
-      result = result;
-    }) }
+    ensures promised { IsPromised (run_on R.remaining R.failure_count W.contents W.failure_count W.is_flushed
+        (request_of F.bits request.now) layout selection plan.now files.old files.new writer.old writer.new result) }
     ensures untouched { IfErr result (λ e. (e ≡ errors.Write → ⊥) → writer.new ≡ writer.old) }
 {
     let history = match list_history::<F, M, R>(

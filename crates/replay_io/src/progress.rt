@@ -2,7 +2,7 @@
 
 use crate::counts::Counts;
 use command_line::{FileName, read_width};
-use lane_deal::Gate;
+use lane_deal::{Gate, Idle};
 use mrt_body::Damage;
 use std::alloc::{AllocError, Global};
 use std::sync::atomic::{AtomicU64, Ordering};
@@ -165,15 +165,7 @@ pub struct Counter<'a> {
     pub counts: Option<&'a Counts>,
 }
 
-impl Gate for Counter<'_> {
-    fn before(&self, _worker: usize, _number: u64) {}
-
-    fn dealt(&self, _lane: usize, _number: u64) {
-        if let Some(counts) = self.counts {
-            counts.add_unit();
-        }
-    }
-
+impl Idle for Counter<'_> {
     fn pause(&self, looks: u32) {
         if looks <= YIELDS {
             yield_now();
@@ -184,6 +176,16 @@ impl Gate for Counter<'_> {
 
     fn wait_for_room(&self, looks: u32) {
         sleep(&self.rt, Duration::from_micros(dealer_nap_micros(looks)));
+    }
+}
+
+impl Gate for Counter<'_> {
+    fn before(&self, _worker: usize, _number: u64) {}
+
+    fn dealt(&self, _lane: usize, _number: u64) {
+        if let Some(counts) = self.counts {
+            counts.add_unit();
+        }
     }
 
     fn is_counting(&self) -> bool {

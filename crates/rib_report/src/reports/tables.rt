@@ -139,40 +139,8 @@ pub(crate) fn put_entries<W: Sink, F: WrittenAddress>(
     }
 }
 
-/// Adds the lines of one peer's table. Its entries replace the contents of a list that has room for them, by way of a
-/// list of their numbers.
-fn put_table<
-    'a,
-    F: WrittenAddress + Sync,
-    M: PrefixMap<RouteId, Addr = F>,
-    T: Threads + Sync,
-    W: Sink,
->(
-    rt: &T,
-    line_blocks: &mut LineBlocks,
-    text: &mut TextBuffer,
-    out: &mut W,
-    forms: &AddressFormsOf<F>,
-    ids: &mut Vec<(RouteKey<Prefix<F>>, &'a RouteId)>,
-    all: &mut Vec<(RouteKey<Prefix<F>>, RouteRef<'a>)>,
-    seat: &'a Seated<M>,
-)
-    requires ids { length (seat_of seat.now).session.table ≤ vec_capacity ids.old }
-    requires all { length (seat_of seat.now).session.table ≤ vec_capacity all.old }
-    ensures lines { Writes W.contents W.failure_count out.old text.old out.new text.new
-        (seat_lines forms.now (seat_of seat.now)) }
-    ensures ids { vec_capacity ids.new ≡ vec_capacity ids.old }
-    ensures all { vec_capacity all.new ≡ vec_capacity all.old }
-{
-    seat.session.table().list(ids, all);
-    let peer = ShownPeer {
-        key: seat.key,
-        forms: *forms,
-    };
-    put_all_entries(rt, line_blocks, text, out, &peer, all.as_slice());
-}
-
-/// Adds the lines of every table, in order, by way of two lists that have room for the entries of any of them.
+/// Adds the lines of every table, in order. The entries of each replace the contents of a list, by way of one of their
+/// numbers; both have room for the entries of any table.
 fn put_tables<
     'a,
     F: WrittenAddress + Sync,
@@ -195,7 +163,12 @@ fn put_tables<
         (flat_map (seat_lines forms.now) (map seat_of seats.now)) }
 {
     for seat in seats {
-        put_table(rt, line_blocks, text, out, forms, &mut ids, &mut all, seat);
+        seat.session.table().list(&mut ids, &mut all);
+        let peer = ShownPeer {
+            key: seat.key,
+            forms: *forms,
+        };
+        put_all_entries(rt, line_blocks, text, out, &peer, all.as_slice());
     }
 }
 

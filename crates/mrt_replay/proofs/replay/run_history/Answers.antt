@@ -7,7 +7,7 @@ use Rattle.mrt_frame.specs.Writes.{WritesFront}
 use Rattle.mrt_frame.specs.declared.error.ReplayError.TheVariants as errors
 use Rattle.peer_tables.specs.Histories.{watches_of}
 use Rattle.peer_tables.specs.Watching.{watch_in}
-use Rattle.mrt_replay.specs.Headline.{RunState}
+use Rattle.mrt_replay.specs.Headline.{run_on}
 use Rattle.mrt_replay.specs.Reports.{told_lines}
 use Rattle.rib_report.specs.Requests.{request_of}
 use Rattle.mrt_replay.proofs.HeadlineLaws.{stopped}
@@ -20,21 +20,9 @@ returns-in-Err-write_told-clause-promised g c =
     let error = c.in-Err-write_told.error in
     let told = c.in-Ok.history.told in
     let h = c.in-Err-write_told.ensures in
-    let run : RunState = record {
-      request = request_of g.F.Family.bits c.args.request.now;
-      layout = c.args.layout;
-      selection = c.args.selection;
-      plan = c.args.plan.now;
-      told = map g.R.Source.remaining c.args.files.now;
-      held = g.W.Sink.contents c.args.writer.now;
-      held_after = g.W.Sink.contents c.write_told.new.out;
-      readers = map g.R.Failures.failure_count c.args.files.now;
-      readers_after = map g.R.Failures.failure_count c.list_history.new.files;
-      writer = g.W.Failures.failure_count c.args.writer.now;
-      writer_after = g.W.Failures.failure_count c.write_told.new.out;
-      flushed_after = g.W.Sink.is_flushed c.write_told.new.out;
-      result = Err error;
-    } in
+    let run =
+    run_on g.R.Source.remaining g.R.Failures.failure_count g.W.Sink.contents g.W.Failures.failure_count g.W.Sink.is_flushed (request_of g.F.Family.bits c.args.request.now) c.args.layout c.args.selection c.args.plan.now
+    c.args.files.now c.list_history.new.files c.args.writer.now c.write_told.new.out (Err error) in
     stopped run error refl (stops_writing run error h.errors
     (λ s. subst (λ o. Keeps (g.W.Sink.contents c.args.writer.now) (g.W.Sink.contents o)) (sym (h.untouched (ap (λ x. Err x) s))) (Keeps-refl (g.W.Sink.contents c.args.writer.now)))
     (λ s. h.risen (ap (λ x. Err x) s))
@@ -47,21 +35,9 @@ pub returns-then-is_err-clause-promised : goal.returns-then-is_err-clause-promis
 returns-then-is_err-clause-promised g c =
     let told = c.in-Ok.history.told in
     let wrote = Appends-kept (g.W.Sink.contents c.args.writer.now) (g.W.Sink.contents c.write_told.new.out) (g.W.Sink.contents c.flush_all.new.self) (told_lines c.args.layout c.args.listing.listed told.rows.items told.watches) c.in_default.ensures.ok c.flush_all.ensures.bytes in
-    let run : RunState = record {
-      request = request_of g.F.Family.bits c.args.request.now;
-      layout = c.args.layout;
-      selection = c.args.selection;
-      plan = c.args.plan.now;
-      told = map g.R.Source.remaining c.args.files.now;
-      held = g.W.Sink.contents c.args.writer.now;
-      held_after = g.W.Sink.contents c.flush_all.new.self;
-      readers = map g.R.Failures.failure_count c.args.files.now;
-      readers_after = map g.R.Failures.failure_count c.list_history.new.files;
-      writer = g.W.Failures.failure_count c.args.writer.now;
-      writer_after = g.W.Failures.failure_count c.flush_all.new.self;
-      flushed_after = g.W.Sink.is_flushed c.flush_all.new.self;
-      result = Err errors.Write;
-    } in
+    let run =
+    run_on g.R.Source.remaining g.R.Failures.failure_count g.W.Sink.contents g.W.Failures.failure_count g.W.Sink.is_flushed (request_of g.F.Family.bits c.args.request.now) c.args.layout c.args.selection c.args.plan.now
+    c.args.files.now c.list_history.new.files c.args.writer.now c.flush_all.new.self (Err errors.Write) in
     stopped run errors.Write refl (
       flush_failed c.flush_all.result _ _ _ c.in_default.ensures.sound (sym c.is_err.ensures.value ∙ c.if-is_err.true) c.flush_all.ensures.counted,
       λ files honest.

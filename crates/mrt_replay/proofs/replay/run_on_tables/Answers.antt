@@ -1,10 +1,10 @@
-use Rattle.std.proofs.Common.{sym, ap, ◌∙◌, subst, Err, map, refl}
+use Rattle.std.proofs.Common.{sym, ap, ◌∙◌, subst, Err, refl}
 use Rattle.std.proofs.KnownBytes.{Keeps-refl, Appends-kept}
 use Rattle.std.specs.Io.KnownBytes.{Appends, Keeps}
 use Rattle.mrt_body.specs.Units.{units_of, refused_of}
 use Rattle.mrt_frame.specs.Writes.{WritesFront}
 use Rattle.mrt_frame.specs.declared.error.ReplayError.TheVariants as errors
-use Rattle.mrt_replay.specs.Headline.{RunState}
+use Rattle.mrt_replay.specs.Headline.{run_on}
 use Rattle.mrt_replay.proofs.HeadlineLaws.{stopped}
 use Rattle.mrt_replay.proofs.HistoryLaws.{rounds_of_tables}
 use Rattle.mrt_replay.specs.Reports.{lines_of}
@@ -14,21 +14,9 @@ use Rattle.mrt_replay.proofs.replay.run_on_tables.Goals as goal
 
 pub returns-in-Err-clause-promised : goal.returns-in-Err-clause-promised
 returns-in-Err-clause-promised g c =
-    let run : RunState = record {
-      request = request_of g.F.Family.bits c.args.request.now;
-      layout = c.args.layout;
-      selection = c.args.selection;
-      plan = c.args.plan.now;
-      told = map g.R.Source.remaining c.args.files.now;
-      held = g.W.Sink.contents c.args.out.now;
-      held_after = g.W.Sink.contents c.args.out.now;
-      readers = map g.R.Failures.failure_count c.args.files.now;
-      readers_after = map g.R.Failures.failure_count c.replay.new.files;
-      writer = g.W.Failures.failure_count c.args.out.now;
-      writer_after = g.W.Failures.failure_count c.args.out.now;
-      flushed_after = g.W.Sink.is_flushed c.args.out.now;
-      result = Err c.in-Err.error;
-    } in
+    let run =
+    run_on g.R.Source.remaining g.R.Failures.failure_count g.W.Sink.contents g.W.Failures.failure_count g.W.Sink.is_flushed (request_of g.F.Family.bits c.args.request.now) c.args.layout c.args.selection c.args.plan.now
+    c.args.files.now c.replay.new.files c.args.out.now c.args.out.now (Err c.in-Err.error) in
     stopped run c.in-Err.error refl (stops_reading run c.in-Err.error refl c.in-Err.ensures.cause)
 
 pub returns-in-Err-write_report-clause-promised : goal.returns-in-Err-write_report-clause-promised
@@ -37,21 +25,9 @@ returns-in-Err-write_report-clause-promised g c =
     let tables = c.in-Ok.replayed.tables in
     let error = c.in-Err-write_report.error in
     let h = c.in-Err-write_report.ensures in
-    let run : RunState = record {
-      request = request;
-      layout = c.args.layout;
-      selection = c.args.selection;
-      plan = c.args.plan.now;
-      told = map g.R.Source.remaining c.args.files.now;
-      held = g.W.Sink.contents c.args.out.now;
-      held_after = g.W.Sink.contents c.write_report.new.out;
-      readers = map g.R.Failures.failure_count c.args.files.now;
-      readers_after = map g.R.Failures.failure_count c.replay.new.files;
-      writer = g.W.Failures.failure_count c.args.out.now;
-      writer_after = g.W.Failures.failure_count c.write_report.new.out;
-      flushed_after = g.W.Sink.is_flushed c.write_report.new.out;
-      result = Err error;
-    } in
+    let run =
+    run_on g.R.Source.remaining g.R.Failures.failure_count g.W.Sink.contents g.W.Failures.failure_count g.W.Sink.is_flushed request c.args.layout c.args.selection c.args.plan.now
+    c.args.files.now c.replay.new.files c.args.out.now c.write_report.new.out (Err error) in
     stopped run error refl (stops_writing run error h.errors
     (λ s. subst (λ o. Keeps (g.W.Sink.contents c.args.out.now) (g.W.Sink.contents o)) (sym (h.untouched (ap (λ x. Err x) s))) (Keeps-refl (g.W.Sink.contents c.args.out.now)))
     (λ s. h.risen (ap (λ x. Err x) s))
@@ -60,21 +36,9 @@ returns-in-Err-write_report-clause-promised g c =
 pub returns-then-is_err-clause-promised : goal.returns-then-is_err-clause-promised
 returns-then-is_err-clause-promised g c =
     let wrote = Appends-kept (g.W.Sink.contents c.args.out.now) (g.W.Sink.contents c.write_report.new.out) (g.W.Sink.contents c.flush_all.new.self) (lines_of (request_of g.F.Family.bits c.args.request.now) c.args.layout c.in-Ok.replayed.tables) c.in_default.ensures.ok c.flush_all.ensures.bytes in
-    let run : RunState = record {
-      request = request_of g.F.Family.bits c.args.request.now;
-      layout = c.args.layout;
-      selection = c.args.selection;
-      plan = c.args.plan.now;
-      told = map g.R.Source.remaining c.args.files.now;
-      held = g.W.Sink.contents c.args.out.now;
-      held_after = g.W.Sink.contents c.flush_all.new.self;
-      readers = map g.R.Failures.failure_count c.args.files.now;
-      readers_after = map g.R.Failures.failure_count c.replay.new.files;
-      writer = g.W.Failures.failure_count c.args.out.now;
-      writer_after = g.W.Failures.failure_count c.flush_all.new.self;
-      flushed_after = g.W.Sink.is_flushed c.flush_all.new.self;
-      result = Err errors.Write;
-    } in
+    let run =
+    run_on g.R.Source.remaining g.R.Failures.failure_count g.W.Sink.contents g.W.Failures.failure_count g.W.Sink.is_flushed (request_of g.F.Family.bits c.args.request.now) c.args.layout c.args.selection c.args.plan.now
+    c.args.files.now c.replay.new.files c.args.out.now c.flush_all.new.self (Err errors.Write) in
     stopped run errors.Write refl (
       flush_failed c.flush_all.result _ _ _ c.in_default.ensures.sound (sym c.is_err.ensures.value ∙ c.if-is_err.true) c.flush_all.ensures.counted,
       λ files honest. front_whole _ _ _ (subst (Appends (g.W.Sink.contents c.args.out.now) (g.W.Sink.contents c.flush_all.new.self)) (lines_are_report (request_of g.F.Family.bits c.args.request.now) c.args.layout c.args.selection files c.in-Ok.replayed.tables c.requires.tables (c.in-Ok.ensures.replayed files honest.readers_tell).stands) wrote),

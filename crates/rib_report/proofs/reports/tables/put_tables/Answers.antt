@@ -1,23 +1,36 @@
-use Rattle.std.proofs.Common.{arith}
+use Rattle.std.proofs.Common.{◌∙◌, ap, arith, length}
+use Rattle.std.specs.FinMap as finite
 use Rattle.peer_tables.specs.Seats.{seat_of}
 use Rattle.peer_tables.proofs.RowLaws.{flat_map_twice}
-use Rattle.rib_report.specs.Listings.{seat_lines}
+use Rattle.rib_report.specs.Listings.{reached_lines, seat_lines}
 use Rattle.rib_report.proofs.TextLaws.{Adds_as}
 use Rattle.rib_report.proofs.JoinLaws.{Adds_item, Adds_items}
-use Rattle.rib_report.proofs.LineBlockLaws.{most_at}
+use Rattle.rib_report.proofs.LineBlockLaws.{lines_of_seat, most_at}
 use Rattle.rib_report.proofs.reports.tables.put_tables.Goals as goal
 
-pub put_table-requires : goal.put_table-requires
-put_table-requires g c =
+pub list-requires-clause-ids : goal.list-requires-clause-ids
+list-requires-clause-ids g c =
     let most = most_at c.args.seats.now c.loop-seat.seat-index c.seat-item.result c.loop-seat-test.true c.seat-item.is in
-    (c.type_bounds.sync-F, (c.type_bounds.sync-T, (omega (arith, most, c.loop-seat.invariant.ids), omega (arith, most, c.loop-seat.invariant.all))))
+    let listed = finite.len-entries c.table.result.now ∙ ap length c.table.ensures in
+    omega (arith, listed, most, c.loop-seat.invariant.ids)
+
+pub list-requires-clause-all : goal.list-requires-clause-all
+list-requires-clause-all g c =
+    let most = most_at c.args.seats.now c.loop-seat.seat-index c.seat-item.result c.loop-seat-test.true c.seat-item.is in
+    let listed = finite.len-entries c.table.result.now ∙ ap length c.table.ensures in
+    omega (arith, listed, most, c.loop-seat.invariant.all)
 
 pub loop-seat-preserved : goal.loop-seat-preserved
-loop-seat-preserved g c = record {
-  ids = omega (arith, c.loop-seat.invariant.ids, c.put_table.ensures.ids);
-  all = omega (arith, c.loop-seat.invariant.all, c.put_table.ensures.all);
-  written = Adds_item (λ s. seat_lines c.args.forms.now (seat_of s)) c.args.seats.now c.loop-seat.seat-index c.seat-item.result c.loop-seat-test.true c.seat-item.is c.loop-seat.invariant.written c.put_table.ensures.lines;
-}
+loop-seat-preserved g c =
+    let seat = seat_of c.seat-item.result in
+    let forms = c.args.forms.now in
+    let whole = c.list.ensures.entries ∙ c.table.ensures in
+    let own = ap (reached_lines (record { key = seat.key; forms = forms })) c.as_slice.ensures.value ∙ lines_of_seat forms seat c.list.new.all.items whole in
+    record {
+      ids = omega (arith, c.loop-seat.invariant.ids, c.list.ensures.ids);
+      all = omega (arith, c.loop-seat.invariant.all, c.list.ensures.all);
+      written = Adds_item (λ s. seat_lines forms (seat_of s)) c.args.seats.now c.loop-seat.seat-index c.seat-item.result c.loop-seat-test.true c.seat-item.is c.loop-seat.invariant.written (Adds_as own c.put_all_entries.ensures);
+    }
 
 pub returns : goal.returns
 returns g c =
