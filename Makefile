@@ -137,7 +137,7 @@ growths:
 
 # Drawn calls of the prefix maps. The two crates are proved first, if they aren't yet.
 maps:
-	for crate in bgp_prefix prefix_shelf; do (cd crates/$$crate && rt check) || exit 1; done
+	for crate in bgp_prefix chunked_map; do (cd crates/$$crate && rt check) || exit 1; done
 	tests/maps.sh
 
 same: $(BINARY)

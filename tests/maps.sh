@@ -1,5 +1,5 @@
 #!/usr/bin/env bash
-# Makes drawn calls of the prefix maps `Radix`, `Flat` and `Shelf`, each of IPv4 and of IPv6, beside a plain sorted list, and compares every
+# Makes drawn calls of the prefix maps `Radix`, `Flat` and `ChunkedMap`, each of IPv4 and of IPv6, beside a plain sorted list, and compares every
 # answer: inserts, removals, gets, longest matches, the paths of a prefix, lengths, now and then the whole table in order, and clearing.
 # map_calls.rattle says which keys are drawn.
 #   tests/maps.sh [CALLS] [SEED..]     CALLS (200000) of each map and family for each of six kinds of draw and each SEED (1 2 3): 21.6 million
@@ -13,9 +13,9 @@ top=$(dirname "$(dirname "$(realpath "$0")")"); work=$(mktemp -d); trap 'rm -rf 
 calls=${1:-200000}; [ $# = 0 ] || shift; [ $# -gt 0 ] || set -- 1 2 3
 wanted=36; out=$(dirname "$work")/bgp_replay_bench/map_calls
 [ -z "${UNPROVED:-}" ] || out=$work/copy
-mkdir -p "$out/crates/map_calls/src" && rm -rf "$out/crates/bgp_prefix" "$out/crates/prefix_shelf" &&
-  cp -a "$top/crates/bgp_prefix" "$top/crates/prefix_shelf" "$out/crates/" && cp "$top/HANDLES" "$out/" || exit 2
-printf 'bgp_prefix:\nprefix_shelf: bgp_prefix\nmap_calls: bgp_prefix prefix_shelf\n' > "$out/crates.txt"
+mkdir -p "$out/crates/map_calls/src" && rm -rf "$out/crates/bgp_prefix" "$out/crates/chunked_map" &&
+  cp -a "$top/crates/bgp_prefix" "$top/crates/chunked_map" "$out/crates/" && cp "$top/HANDLES" "$out/" || exit 2
+printf 'bgp_prefix:\nprefix_shelf: bgp_prefix\nmap_calls: bgp_prefix chunked_map\n' > "$out/crates.txt"
 cp "$top/tests/map_calls.rattle" "$out/crates/map_calls/src/main.rt" && cd "$out/crates/map_calls" || exit 2
 if [ -n "${UNPROVED:-}" ]; then
   rt try --steps 1 --seconds 600 -- "$calls" "$@" > "$work/lines" 2> "$work/log"

@@ -14,5 +14,6 @@ pub mod Refolded
 mod Examples
 pub mod Selected
 pub mod RetainLaws
+pub mod NotingLaws
 pub mod WatchLaws
 pub mod WindowLaws

@@ -1,6 +1,6 @@
 -- Maps of numbers of routes, as they change and as routes are added.
 use Rattle.std.proofs.Common.{◌≡◌, ℕ, Bool, true, false, cond, List, Option, Some, None, refl, sym, ap, subst, ◌∙◌}
-use Rattle.std.specs.Prelude.{is_some}
+use Rattle.std.specs.Prelude.{is_some, if◌then◌else◌}
 use Rattle.std.specs.Option.{option_map, IfSome}
 use Rattle.std.specs.Ordering.{eq_by_cmp}
 use Rattle.std.specs.FinMap as finite
@@ -13,9 +13,15 @@ use Rattle.adj_rib.specs.declared.outcome.Outcome.{Outcome}
 use Rattle.adj_rib.specs.declared.routes.RouteId.{RouteId}
 use Rattle.bgp_update.specs.Decoded.{IsGrown}
 use Rattle.adj_rib.specs.Routes.{IsNamed, route_at, named_routes, AreNamed}
-use Rattle.adj_rib.specs.Steps.{announce}
+use Rattle.bgp_update.specs.Equality.{route_eq}
+use Rattle.adj_rib.specs.declared.outcome.Outcome.TheVariants.{Same, Changed, Gone, Void}
+use Rattle.adj_rib.specs.declared.note.What.TheVariants as whats
+use Rattle.adj_rib.specs.Plain.{Note}
+use Rattle.adj_rib.specs.Histories.{announced_note, withdrawn_note, what_over, what_without}
+use Rattle.adj_rib.specs.Noting.{applied_noting, what_of}
+use Rattle.adj_rib.specs.Steps.{announce, withdraw}
 use Rattle.adj_rib.specs.Churns.{announced_over}
-use Rattle.adj_rib.specs.Applied.{RouteMap, applied, counted}
+use Rattle.adj_rib.specs.Applied.{RouteMap, counted}
 use Rattle.adj_rib.proofs.RouteBlocks.{IsNamed-grown, route_at-grown}
 use Rattle.adj_rib.proofs.MappedValues.{get-map_values, map_values-empty, map_values-insert, map_values-remove, map_values-same, len-map_values}
 
@@ -74,23 +80,49 @@ get-named_routes bytes ids key = get-map_values (by_id bytes) ids key
 pub len-named_routes : (bytes : List ℕ) (ids : finite.FinMap key_cmp RouteId) → finite.len (named_routes bytes ids) ≡ finite.len ids
 len-named_routes bytes ids = len-map_values (by_id bytes) ids
 
--- a number is put at a key, and the outcome is counted
-pub announced : (bytes : List ℕ) (before after : finite.FinMap key_cmp RouteId) (key : RouteKey) (id : RouteId) (old : Option RouteId) (outcome : Outcome) (c d : Churn) →
-    old ≡ finite.get before key → after ≡ finite.insert before key id → outcome ≡ announced_over (option_map (by_id bytes) old) (route_at bytes id.at) → d ≡ counted outcome c →
-    (named_routes bytes after, d) ≡ applied (named_routes bytes before, c) (announce key (route_at bytes id.at))
-announced bytes before after key id old outcome c d was is by count =
-    let table : named_routes bytes after ≡ finite.insert (named_routes bytes before) key (route_at bytes id.at) = ap (named_routes bytes) is ∙ map_values-insert (by_id bytes) before key id in
-    let over : outcome ≡ announced_over (finite.get (named_routes bytes before) key) (route_at bytes id.at) =
-    by ∙ ap (λ (o : Option Route). announced_over o (route_at bytes id.at)) (ap (option_map (by_id bytes)) was ∙ sym (get-named_routes bytes before key)) in
-    let churn : d ≡ counted (announced_over (finite.get (named_routes bytes before) key) (route_at bytes id.at)) c = count ∙ ap (λ (o : Outcome). counted o c) over in
-    λ i. (table i, churn i)
-
 mapped_is : {A B : Type 0} (f : A → B) (o : Option A) → is_some o ≡ is_some (option_map f o)
 mapped_is f None = refl
 mapped_is f (Some x) = refl
 
 pub had_route : (bytes : List ℕ) (ids : finite.FinMap key_cmp RouteId) (key : RouteKey) → is_some (finite.get ids key) ≡ is_some (finite.get (named_routes bytes ids) key)
 had_route bytes ids key = mapped_is (by_id bytes) (finite.get ids key) ∙ ap is_some (sym (get-named_routes bytes ids key))
+
+what_announced : (old : Option Route) (route : Route) → what_of (announced_over old route) ≡ what_over old route
+what_announced None route = refl
+what_announced (Some old) route = elim (route_eq old route) as (λ b. what_of (if b then Same else Changed) ≡ (if b then whats.Same else whats.Changed)) [ true ↦ refl | false ↦ refl ]
+
+what_withdrawn : (old : Option Route) → what_of (if is_some old then Gone else Void) ≡ what_without old
+what_withdrawn None = refl
+what_withdrawn (Some old) = refl
+
+-- a table of numbers after a change, with what is counted and noted of it
+module _ {K : Type 0} (keep : K → Note → K) (bytes : List ℕ) (before after : finite.FinMap key_cmp RouteId) (key : RouteKey) (old : Option RouteId) (was : old ≡ finite.get before key) (outcome : Outcome) (c d : Churn) (count : d ≡ counted outcome c) (kept now : K) where
+  abbrev was_named : RouteMap
+  was_named = named_routes bytes before
+
+  had : option_map (by_id bytes) old ≡ finite.get was_named key
+  had = ap (option_map (by_id bytes)) was ∙ sym (get-named_routes bytes before key)
+
+  pub announced : (id : RouteId) → after ≡ finite.insert before key id → outcome ≡ announced_over (option_map (by_id bytes) old) (route_at bytes id.at) → now ≡ keep kept (record { what = what_of outcome; key = key; route = Some (route_at bytes id.at) }) →
+      ((named_routes bytes after, d), now) ≡ applied_noting keep ((was_named, c), kept) (announce key (route_at bytes id.at))
+  announced id is by noted =
+      let route = route_at bytes id.at in
+      let grown : named_routes bytes after ≡ finite.insert was_named key route = ap (named_routes bytes) is ∙ map_values-insert (by_id bytes) before key id in
+      let over : outcome ≡ announced_over (finite.get was_named key) route = by ∙ ap (λ (o : Option Route). announced_over o route) had in
+      let churn : d ≡ counted (announced_over (finite.get was_named key) route) c = count ∙ ap (λ (o : Outcome). counted o c) over in
+      let what = ap what_of over ∙ what_announced (finite.get was_named key) route in
+      let told : now ≡ keep kept (announced_note (finite.get was_named key) key route) = noted ∙ ap (λ w. keep kept (record { what = w; key = key; route = Some route })) what in
+      λ i. ((grown i, churn i), told i)
+
+  pub withdrawn : after ≡ finite.remove before key → outcome ≡ (if is_some old then Gone else Void) → now ≡ keep kept (record { what = what_of outcome; key = key; route = option_map (by_id bytes) old }) →
+      ((named_routes bytes after, d), now) ≡ applied_noting keep ((was_named, c), kept) (withdraw key)
+  withdrawn is by noted =
+      let less : named_routes bytes after ≡ finite.remove was_named key = named_routes-remove bytes before after key is in
+      let over : outcome ≡ (if is_some (finite.get was_named key) then Gone else Void) = by ∙ ap (λ b. if b then Gone else Void) (mapped_is (by_id bytes) old ∙ ap is_some had) in
+      let churn : d ≡ counted (if is_some (finite.get was_named key) then Gone else Void) c = count ∙ ap (λ (o : Outcome). counted o c) over in
+      let what = ap what_of over ∙ what_withdrawn (finite.get was_named key) in
+      let told : now ≡ keep kept (withdrawn_note (finite.get was_named key) key) = noted ∙ (λ i. keep kept (record { what = what i; key = key; route = had i })) in
+      λ i. ((less i, churn i), told i)
 
 -- before an announcement: what is there stays as routes are added
 pub stays : (before after : List ℕ) (ids : finite.FinMap key_cmp RouteId) (table : RouteMap) → IsGrown before after → AreNamed before ids → named_routes before ids ≡ table → named_routes after ids ≡ table

@@ -79,9 +79,6 @@ AreSlots-grown before after slots g h = All-weaker (IsSlot before) (IsSlot after
 
 -- ---- growth
 
-pub grown_same : (before after : List ℕ) → after ≡ before → IsGrown before after
-grown_same before after e = record { more = []; parts = e ∙ sym (append-nil before) }
-
 pub grown_by : (before after more : List ℕ) → after ≡ before ++ more → IsGrown before after
 grown_by before after more e = record { more = more; parts = e }
 

@@ -36,7 +36,7 @@ use Rattle.adj_rib.specs.Tables.{IsTable, table_of}
 use Rattle.adj_rib.specs.Churns.{outcomes_of, is_routing, reading_of, idle_flags, damage_in, damaged_of, first_of, stopped, recorded_times, first_time, last_time, churn_of}
 use Rattle.adj_rib.specs.Arrived.{recorded_places, arrivals_of, no_arrivals, arrived, arrived_by}
 use Rattle.adj_rib.specs.Sessions.{SessionState, session_of}
-use Rattle.adj_rib.specs.Applied.{counted_if, RouteMap, applied, timed, timed_by, noted, up_after, established_after, RibState, START, followed, listed, taken, read_as, refused}
+use Rattle.adj_rib.specs.Applied.{counted_if, RouteMap, applied, timed, timed_by, noted, up_after, established_after, RibState, START, followed, listed, taken}
 use Rattle.adj_rib.proofs.TableLaws.{last_or-append, find-table_of, entries-IsTable, IsTable_start}
 use Rattle.adj_rib.proofs.After.{steps_of-push}
 use Rattle.adj_rib.proofs.Stepping.{stopped_more, stopped-count_by-push, AreCounts, AreAfter, AreAfter-steps, AgreeBeside, beside_steps}
@@ -252,27 +252,11 @@ Stands-taken units unit k h =
     let same : k ≡ record { up = is_up units; established = is_established units; table = k.table; churn = churn_of units; faults = damaged_of units } = λ i. record { up = h.up i; established = h.established i; table = k.table; churn = h.churn i; faults = h.faults i } in
     rw same (taken_stands units unit k.table h.table)
 
--- a unit is taken as its reading says
-pub taken_as : (k : RibState) (unit : ReplayUnit) → read_as (record k { churn = timed_by unit k.churn }) unit.place (reading_of unit) ≡ taken k unit
-unfolding taken followed refused
-taken_as k unit = elim (reading_of unit) as (λ r. read_as (record k { churn = timed_by unit k.churn }) unit.place r ≡ record (followed (record k { churn = timed_by unit k.churn }) r) { faults = listed k.faults (damage_in unit r) }) [
-  | Ok e ↦ refl
-  | Err fault ↦ refl
-]
-
--- and as it is told to
-timed_told : (unit : ReplayUnit) (place : Place) (time : ℕ) (event : Result Event Fault) → Means unit place time event → is_recorded_event (event_in unit.payload) ≡ is_recorded unit.payload → (c : Churn) → (if is_recorded_event event then timed time c else c) ≡ timed_by unit c
+-- the times of a unit, as it is told to be
+pub timed_told : (unit : ReplayUnit) (place : Place) (time : ℕ) (event : Result Event Fault) → Means unit place time event → is_recorded_event (event_in unit.payload) ≡ is_recorded unit.payload → (c : Churn) → (if is_recorded_event event then timed time c else c) ≡ timed_by unit c
 timed_told unit place time event m told c =
     ap (λ t. if is_recorded_event event then timed t c else c) (sym m.time_is)
     ∙ ap (λ b. if b then timed unit.time c else c) (ap is_recorded_event (sym m.event_is) ∙ told)
-
-pub taken_by : (k : RibState) (unit : ReplayUnit) (place : Place) (time : ℕ) (event : Result Event Fault) → Means unit place time event → is_recorded_event (event_in unit.payload) ≡ is_recorded unit.payload
-    → read_as (record k { churn = if is_recorded_event event then timed time k.churn else k.churn }) place event ≡ taken k unit
-taken_by k unit place time event m told =
-    ap (λ c. read_as (record k { churn = c }) place event) (timed_told unit place time event m told k.churn)
-    ∙ (ap (λ p. read_as (record k { churn = timed_by unit k.churn }) p event) (sym m.place_is)
-    ∙ (ap (read_as (record k { churn = timed_by unit k.churn }) unit.place) (sym m.event_is)
-    ∙ taken_as k unit))
 
 -- ---- how many units came
 

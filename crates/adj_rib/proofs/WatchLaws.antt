@@ -1,5 +1,5 @@
 -- A watch on chosen prefixes has their routes, and notes what the definitions say of them.
-use Rattle.std.proofs.Common.{◌≡◌, ℕ, Option, Bool, true, false, cond, List, [], ◌∷◌, ◌++◌, map, Ok, Err, refl, sym, ap, subst, ◌∙◌, append_assoc, append-nil}
+use Rattle.std.proofs.Common.{◌≡◌, ℕ, Option, Bool, true, false, cond, List, [], ◌∷◌, ◌++◌, map, refl, sym, ap, ◌∙◌, append_assoc, append-nil, if◌then◌else◌}
 use Rattle.std.specs.List.{filter, fold}
 use Rattle.std.specs.FinMap as finite
 use Rattle.std.proofs.lemmas.List.Elements.{filter-append}
@@ -7,44 +7,23 @@ use Rattle.bgp_prefix.specs.Keys.{RouteKey}
 use Rattle.bgp_update.specs.declared.route.Route.{Route}
 use Rattle.mrt_body.specs.Plain.{PrefixChoice}
 use Rattle.mrt_body.specs.Plain.{Unit as ReplayUnit}
+use Rattle.mrt_body.specs.Selections.{concerns}
 use Rattle.adj_rib.specs.declared.churn.Churn.{Churn}
 use Rattle.adj_rib.specs.Plain.{Note}
-use Rattle.adj_rib.specs.declared.outcome.UnitKind.{UnitKind}
 use Rattle.adj_rib.specs.Steps.{Step, break, clear, announce, withdraw, is_up, unit_steps, reading_steps, steps_of}
 use Rattle.adj_rib.specs.Tables.{IsTable, route_at, table_of}
 use Rattle.adj_rib.specs.Churns.{damage_in, damaged_of, reading_of}
-use Rattle.adj_rib.specs.Applied.{RouteMap, listed, no_churn, up_after}
-use Rattle.adj_rib.specs.Counting.{counted_within, kind_of}
-use Rattle.adj_rib.specs.Selecting.{keeps, selected_steps, selected_entries, chooses}
-use Rattle.adj_rib.specs.Histories.{announced_note, withdrawn_note, lost_note, noted_after, noted_behind, unit_notes, chosen_notes, churn_within, idle_within, notes_within, WatchState, WatchesFor, watch_of}
-use Rattle.adj_rib.specs.Watching.{Watching, noted_on, watched, watch_after, watch_read}
+use Rattle.adj_rib.specs.Applied.{RibState, RouteMap, START, applied, listed, noted, timed_by, up_after}
+use Rattle.adj_rib.specs.Selecting.{concerned, keeps, selected_steps, selected_entries, chooses}
+use Rattle.adj_rib.specs.Histories.{announced_note, withdrawn_note, lost_note, noted_after, noted_behind, unit_notes, chosen_notes, churn_within, idle_within, notes_within, is_before, WatchState, WatchesFor, watch_of}
+use Rattle.adj_rib.specs.Noting.{followed_noting, taken_noting}
 use Rattle.adj_rib.proofs.TableLaws.{entries-IsTable, IsTable_start}
-use Rattle.adj_rib.proofs.Stepping.{table_step}
+use Rattle.adj_rib.proofs.Stepping.{table_after_steps}
 use Rattle.adj_rib.proofs.After.{steps_of-push}
+use Rattle.adj_rib.proofs.NotingLaws.{kept_behind, rib_beside}
 use Rattle.adj_rib.proofs.Taking.{damaged_of-push, is_up-push, table_from_entries}
-use Rattle.adj_rib.proofs.WindowLaws.{churn_within-push}
-use Rattle.mrt_body.specs.Selections.{concerns}
-use Rattle.adj_rib.specs.Selecting.{concerned}
+use Rattle.adj_rib.proofs.WindowLaws.{churn_within-push, counted_note, reading_counts, unit_counted}
 use Rattle.adj_rib.proofs.Selected.{route_at-selected, table_of-selected, is_up-concerned, steps_of-concerned, quiet_unit}
-
--- ---- one step at a time
-
-noted_on-is : (steps : List Step) (table : RouteMap) (step : Step) → IsTable steps table → noted_on table step ≡ noted_after steps step
-noted_on-is steps table break h = ap (map lost_note) (entries-IsTable steps table h)
-noted_on-is steps table clear h = ap (map lost_note) (entries-IsTable steps table h)
-noted_on-is steps table (announce k route) h = ap (λ old. announced_note old k route ∷ []) (h k)
-noted_on-is steps table (withdraw k) h = ap (λ old. withdrawn_note old k ∷ []) (h k)
-
-watched-table : (steps more : List Step) (seen : RouteMap × List Note) → IsTable steps seen.0 → IsTable (steps ++ more) (fold watched seen more).0
-watched-table steps [] seen h = rw (append-nil steps) h
-watched-table steps (step ∷ more) seen h = rw (← append_assoc steps (step ∷ []) more) (watched-table (steps ++ step ∷ []) more (watched seen step) (table_step steps seen.0 step h))
-
-watched-notes : (steps more : List Step) (seen : RouteMap × List Note) → IsTable steps seen.0 → (fold watched seen more).1 ≡ seen.1 ++ noted_behind steps more
-watched-notes steps [] seen h = sym (append-nil seen.1)
-watched-notes steps (step ∷ more) seen h =
-    watched-notes (steps ++ step ∷ []) more (watched seen step) (table_step steps seen.0 step h)
-    ∙ append_assoc seen.1 (noted_on seen.0 step) (noted_behind (steps ++ step ∷ []) more)
-    ∙ ap (λ l. seen.1 ++ (l ++ noted_behind (steps ++ step ∷ []) more)) (noted_on-is steps seen.0 step h)
 
 -- ---- notes of selected keys
 
@@ -93,100 +72,98 @@ module _ (selects : RouteKey → Bool) where
 
 -- ---- a watch
 
--- a watch on chosen prefixes stands for these units
-pub record Watches (choices : List PrefixChoice) (units : List ReplayUnit) (watch : Watching) : Type 0 where
-  pub up : watch.up ≡ is_up units
-  pub table : IsTable (selected_steps (chooses choices) (steps_of units)) watch.table
-  pub faults : watch.faults ≡ damaged_of units
+-- what is kept beside whether the session is established stands for these units, counted from a second on
+pub record Watches (since : Option ℕ) (choices : List PrefixChoice) (units : List ReplayUnit) (k : RibState) : Type 0 where
+  pub up : k.up ≡ is_up units
+  pub table : IsTable (selected_steps (chooses choices) (steps_of units)) k.table
+  pub churn : k.churn ≡ churn_within since choices units
+  pub faults : k.faults ≡ damaged_of units
 
--- what contracts see of a watch with its counts
-abbrev pub seen_as : Churn → Watching → WatchState
-seen_as churn watch = record { up = watch.up; table = finite.entries watch.table; churn = churn; faults = watch.faults }
+-- what contracts see of a watch
+abbrev pub seen_as : RibState → WatchState
+seen_as k = record { up = k.up; table = finite.entries k.table; churn = k.churn; faults = k.faults }
 
-from_seen : (since : Option ℕ) (choices : List PrefixChoice) (units : List ReplayUnit) (churn : Churn) (watch : Watching) → WatchesFor since choices units (seen_as churn watch) → Watches choices units watch
-unfolding watch_of
-from_seen since choices units churn watch h = record {
-  up = ap (λ (w : WatchState). w.up) h;
-  table = table_from_entries (selected_steps (chooses choices) (steps_of units)) watch.table (ap (λ (w : WatchState). w.table) h ∙ sym (table_of-selected (chooses choices) (steps_of units)));
-  faults = ap (λ (w : WatchState). w.faults) h;
-}
-
-churn_seen : (since : Option ℕ) (choices : List PrefixChoice) (units : List ReplayUnit) (churn : Churn) (watch : Watching) → WatchesFor since choices units (seen_as churn watch) → churn ≡ churn_within since choices units
-unfolding watch_of
-churn_seen since choices units churn watch h = ap (λ (w : WatchState). w.churn) h
-
-to_seen : (since : Option ℕ) (choices : List PrefixChoice) (units : List ReplayUnit) (churn : Churn) (watch : Watching) → churn ≡ churn_within since choices units → Watches choices units watch → WatchesFor since choices units (seen_as churn watch)
-unfolding watch_of
-to_seen since choices units churn watch counts h =
-    let table = entries-IsTable (selected_steps (chooses choices) (steps_of units)) watch.table h.table ∙ table_of-selected (chooses choices) (steps_of units) in
-    λ i. record { up = h.up i; table = table i; churn = counts i; faults = h.faults i }
-
-module _ (choices : List PrefixChoice) (before : List ReplayUnit) (unit : ReplayUnit) (watch : Watching) (notes : List Note) (h : Watches choices before watch) where
-  abbrev more_now : Bool → List Step
-  more_now up = selected_steps (chooses choices) (reading_steps up (reading_of unit))
-
-  abbrev seen_now : Watching × List Note
-  seen_now = (watch, notes)
-
-  steps_then : selected_steps (chooses choices) (steps_of (before ++ unit ∷ [])) ≡ selected_steps (chooses choices) (steps_of before) ++ more_now (is_up before)
-  unfolding unit_steps
-  steps_then = ap (selected_steps (chooses choices)) (steps_of-push before unit) ∙ filter-append (keeps (chooses choices)) (steps_of before) (unit_steps (is_up before) unit)
-
-  -- by the steps of its reading, with the faults after it
-  abbrev followed_then : Watching × List Note
-  followed_then = (record (watch_after choices seen_now (reading_of unit)).0 { faults = listed watch.faults (damage_in unit (reading_of unit)) }, (watch_after choices seen_now (reading_of unit)).1)
-
-  read_as_followed : watch_read choices seen_now unit.place (reading_of unit) ≡ followed_then
-  unfolding watch_after
-  read_as_followed = elim (reading_of unit) as (λ r. watch_read choices seen_now unit.place r ≡ (record (watch_after choices seen_now r).0 { faults = listed watch.faults (damage_in unit r) }, (watch_after choices seen_now r).1)) [
-    | Ok e ↦ refl
-    | Err fault ↦ refl
-  ]
-
-  watches_then : Watches choices (before ++ unit ∷ []) followed_then.0
-  unfolding watch_after
-  watches_then = record {
-    up = sym (is_up-push before unit ∙ ap (λ up. up_after up (reading_of unit)) (sym h.up));
-    table = rw (steps_then, ← h.up) (watched-table (selected_steps (chooses choices) (steps_of before)) (more_now watch.up) (watch.table, notes) h.table);
-    faults = ap (λ faults. listed faults (damage_in unit (reading_of unit))) h.faults ∙ sym (damaged_of-push before unit);
+module _ (since : Option ℕ) (choices : List PrefixChoice) where
+  from_seen : (units : List ReplayUnit) (k : RibState) → WatchesFor since choices units (seen_as k) → Watches since choices units k
+  unfolding watch_of
+  from_seen units k h = record {
+    up = ap (λ (w : WatchState). w.up) h;
+    table = table_from_entries (selected_steps (chooses choices) (steps_of units)) k.table (ap (λ (w : WatchState). w.table) h ∙ sym (table_of-selected (chooses choices) (steps_of units)));
+    churn = ap (λ (w : WatchState). w.churn) h;
+    faults = ap (λ (w : WatchState). w.faults) h;
   }
 
-  notes_then : followed_then.1 ≡ notes ++ chosen_notes choices (unit_notes before unit)
-  unfolding watch_after unit_notes unit_steps
-  notes_then =
-      watched-notes (selected_steps (chooses choices) (steps_of before)) (more_now watch.up) (watch.table, notes) h.table
-      ∙ ap (λ l. notes ++ l) (noted-selected (chooses choices) (steps_of before) (reading_steps watch.up (reading_of unit)))
-      ∙ ap (λ up. notes ++ chosen_notes choices (noted_behind (steps_of before) (reading_steps up (reading_of unit)))) h.up
+  to_seen : (units : List ReplayUnit) (k : RibState) → Watches since choices units k → WatchesFor since choices units (seen_as k)
+  unfolding watch_of
+  to_seen units k h =
+      let table = entries-IsTable (selected_steps (chooses choices) (steps_of units)) k.table h.table ∙ table_of-selected (chooses choices) (steps_of units) in
+      λ i. record { up = h.up i; table = table i; churn = h.churn i; faults = h.faults i }
 
--- a watch on no unit yet
-no_churn_yet : (since : Option ℕ) (choices : List PrefixChoice) → no_churn ≡ churn_within since choices []
-unfolding churn_within notes_within idle_within
-no_churn_yet since choices = refl
+  pub watch_at_start : WatchesFor since choices [] (seen_as START)
+  unfolding steps_of
+  watch_at_start = to_seen [] START (record { up = refl; table = IsTable_start; churn = (unfold churn_within notes_within idle_within in refl); faults = (unfold damaged_of in refl) })
 
-pub watch_at_start : (since : Option ℕ) (choices : List PrefixChoice) → WatchesFor since choices [] (seen_as no_churn (record { up = true; table = finite.empty; faults = [] }))
-watch_at_start since choices =
-    to_seen since choices [] no_churn (record { up = true; table = finite.empty; faults = [] }) (no_churn_yet since choices)
-    (record { up = refl; table = (unfold steps_of in IsTable_start); faults = (unfold damaged_of in refl) })
+  -- a watch that took the next unit, and noted what it did
+  module _ {K : Type 0} (keep : K → Note → K) (before : List ReplayUnit) (unit : ReplayUnit) (k now : RibState) (kept told : K) (e : (now, told) ≡ taken_noting keep (chooses choices) (k, kept) unit) (seen : WatchesFor since choices before (seen_as k)) where
+    abbrev stood : Watches since choices before k
+    stood = from_seen before k seen
 
--- a watch that took the next unit
-module _ (since : Option ℕ) (choices : List PrefixChoice) (before : List ReplayUnit) (unit : ReplayUnit) (watch now : Watching) (churn : Churn) (notes told : List Note) (none : notes ≡ []) (e : (now, told) ≡ watch_read choices (watch, notes) unit.place (reading_of unit)) (h : WatchesFor since choices before (seen_as churn watch)) where
-  abbrev stood : Watches choices before watch
-  stood = from_seen since choices before churn watch h
+    abbrev done : List Step
+    done = selected_steps (chooses choices) (steps_of before)
 
-  abbrev both : (now, told) ≡ followed_then choices before unit watch notes stood
-  both = e ∙ read_as_followed choices before unit watch notes stood
+    abbrev more : List Step
+    more = selected_steps (chooses choices) (reading_steps k.up (reading_of unit))
 
-  pub watch_notes : told ≡ chosen_notes choices (unit_notes before unit)
-  watch_notes = ap (λ (s : Watching × List Note). s.1) both ∙ notes_then choices before unit watch notes stood ∙ ap (λ l. l ++ chosen_notes choices (unit_notes before unit)) none
+    abbrev rib : RouteMap × Churn
+    rib = (k.table, noted k.up (reading_of unit) (timed_by unit k.churn))
 
-  pub watch_stands : (counts : Churn) (kind : UnitKind) (seen : List Note) → kind ≡ kind_of watch.up (reading_of unit) → seen ≡ told → counts ≡ counted_within since unit kind seen churn → WatchesFor since choices (before ++ unit ∷ []) (seen_as counts now)
-  watch_stands counts kind seen is same counted =
-      let counts_are : counts ≡ churn_within since choices (before ++ unit ∷ []) =
-      counted
-      ∙ (λ i. counted_within since unit (is i) (same i) (churn_seen since choices before churn watch h i))
-      ∙ (λ i. counted_within since unit (kind_of (stood.up i) (reading_of unit)) (watch_notes i) (churn_within since choices before))
-      ∙ sym (churn_within-push since choices before unit) in
-      to_seen since choices (before ++ unit ∷ []) counts now counts_are (subst (Watches choices (before ++ unit ∷ [])) (sym (ap (λ (s : Watching × List Note). s.0) both)) (watches_then choices before unit watch notes stood))
+    steps_then : selected_steps (chooses choices) (steps_of (before ++ unit ∷ [])) ≡ done ++ more
+    unfolding unit_steps
+    steps_then =
+        ap (selected_steps (chooses choices)) (steps_of-push before unit) ∙ filter-append (keeps (chooses choices)) (steps_of before) (unit_steps (is_up before) unit)
+        ∙ ap (λ up. done ++ selected_steps (chooses choices) (reading_steps up (reading_of unit))) (sym stood.up)
+
+    notes_then : noted_behind done more ≡ chosen_notes choices (unit_notes before unit)
+    unfolding unit_notes unit_steps
+    notes_then =
+        ap (λ up. noted_behind done (selected_steps (chooses choices) (reading_steps up (reading_of unit)))) stood.up
+        ∙ noted-selected (chooses choices) (steps_of before) (unit_steps (is_up before) unit)
+
+    pub watch_notes : told ≡ fold keep kept (chosen_notes choices (unit_notes before unit))
+    unfolding taken_noting followed_noting
+    watch_notes = ap (λ (s : RibState × K). s.1) e ∙ kept_behind keep done more rib kept stood.table ∙ ap (fold keep kept) notes_then
+
+    rib_then : (now.table, now.churn) ≡ fold applied rib more
+    unfolding taken_noting followed_noting
+    rib_then = ap (λ (s : RibState × K). (s.0.table, s.0.churn)) e ∙ rib_beside keep more rib kept
+
+    up_then : now.up ≡ is_up (before ++ unit ∷ [])
+    unfolding taken_noting followed_noting
+    up_then = ap (λ (s : RibState × K). s.0.up) e ∙ ap (λ up. up_after up (reading_of unit)) stood.up ∙ sym (is_up-push before unit)
+
+    faults_then : now.faults ≡ damaged_of (before ++ unit ∷ [])
+    unfolding taken_noting
+    faults_then = ap (λ (s : RibState × K). s.0.faults) e ∙ ap (λ faults. listed faults (damage_in unit (reading_of unit))) stood.faults ∙ sym (damaged_of-push before unit)
+
+    table_then : IsTable (selected_steps (chooses choices) (steps_of (before ++ unit ∷ []))) now.table
+    table_then = rw (steps_then, ap (λ (r : RouteMap × Churn). r.0) rib_then) (table_after_steps done more rib stood.table)
+
+    -- what the unit is counted as, where it is counted
+    counted_then : now.churn ≡ fold counted_note (unit_counted (is_up before) (reading_of unit) (timed_by unit (churn_within since choices before))) (chosen_notes choices (unit_notes before unit))
+    counted_then =
+        ap (λ (r : RouteMap × Churn). r.1) rib_then
+        ∙ reading_counts (chooses choices) k.up (reading_of unit) done k.table (timed_by unit k.churn) stood.table
+        ∙ (λ i. fold counted_note (unit_counted (stood.up i) (reading_of unit) (timed_by unit (stood.churn i))) (notes_then i))
+
+    -- the counts stay those before where the unit is before the second
+    pub watch_stands : WatchesFor since choices (before ++ unit ∷ []) (seen_as (record now { churn = if is_before since unit.time then k.churn else now.churn }))
+    watch_stands =
+        to_seen (before ++ unit ∷ []) (record now { churn = if is_before since unit.time then k.churn else now.churn }) (record {
+          up = up_then;
+          table = table_then;
+          churn = (λ i. if is_before since unit.time then stood.churn i else counted_then i) ∙ sym (churn_within-push since choices before unit);
+          faults = faults_then;
+        })
 
 -- ---- early and late
 

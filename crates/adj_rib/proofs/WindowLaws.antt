@@ -1,11 +1,13 @@
 -- What is counted within a time, of one more unit; and without a second and prefixes it is what is counted of all
 -- units.
 use Rattle.std.proofs.Common.{◌≡◌, ℕ, ◌+◌, ◌&&◌, ◌||◌, not, Bool, true, false, cond, List, [], ◌∷◌, ◌++◌, map, Option, Some, None, Result, Ok, Err, refl, sym, ap, ◌∙◌, append_assoc, if◌then◌else◌}
-use Rattle.std.specs.Prelude.{is_err, unwrap_or}
-use Rattle.std.specs.List.{count_by, filter, fold}
+use Rattle.std.specs.Prelude.{is_err, is_some, unwrap_or}
+use Rattle.std.specs.List.{count_by, filter, fold, list_all}
 use Rattle.std.proofs.lemmas.List.{append-nil}
 use Rattle.std.proofs.lemmas.List.Elements.{filter-append}
-use Rattle.std.proofs.lemmas.List.Sums.{sum_by-append}
+use Rattle.std.proofs.lemmas.List.Sums.{fold-append, sum_by-append}
+use Rattle.std.proofs.lemmas.List.Folds.{list_all-append}
+use Rattle.std.proofs.lemmas.Bool.{and_parts}
 use Rattle.bgp_prefix.specs.Keys.{RouteKey}
 use Rattle.bgp_prefix.specs.Keys.{among}
 use Rattle.mrt_frame.specs.Positions.{flat_map_after}
@@ -25,20 +27,28 @@ use Rattle.adj_rib.specs.declared.note.What.{What}
 use Rattle.adj_rib.specs.declared.note.What.TheVariants.{New, Changed, Same, Gone, Void, Lost}
 use Rattle.adj_rib.specs.declared.outcome.Outcome.{Outcome}
 use Rattle.adj_rib.specs.declared.outcome.Outcome.TheVariants as outcome
-use Rattle.adj_rib.specs.declared.outcome.UnitKind.TheVariants.{Break, Other}
 use Rattle.mrt_body.specs.States.{breaks}
 use Rattle.mrt_body.specs.Units.{is_recorded}
 use Rattle.adj_rib.specs.Steps.{Step, break, clear, announce, withdraw, is_up, withdrawals, announcements, reachings, update_steps, reading_steps, unit_steps, steps_of}
-use Rattle.adj_rib.specs.Tables.{route_at, table_of}
+use Rattle.adj_rib.specs.Tables.{IsTable, route_at, table_of}
+use Rattle.adj_rib.specs.Selecting.{keeps, selected_steps}
 use Rattle.adj_rib.specs.Churns.{announced_over, outcome_of, outcomes_of, is_outcome, count_of, is_break, is_routing, reading_of, first_time, last_time, stopped, churn_of}
-use Rattle.adj_rib.specs.Applied.{counted, counted_if, timed, timed_by}
+use Rattle.adj_rib.specs.Applied.{RouteMap, applied, counted, counted_if, noted, outcome_on, timed, timed_by}
 use Rattle.adj_rib.specs.Histories.{announced_note, withdrawn_note, lost_note, noted_after, noted_behind, unit_notes, chosen_notes, is_before, units_within, notes_within, idle_within, outcome_noted, is_this, has_outcome, churn_by, churn_within}
-use Rattle.adj_rib.specs.Counting.{kind_of, counted_unit, counted_this, counted_note, counted_within}
 use Rattle.adj_rib.proofs.After.{steps_of-push}
-use Rattle.adj_rib.proofs.Stepping.{stopped-count_by-push}
+use Rattle.adj_rib.proofs.Stepping.{stopped-count_by-push, table_step}
 use Rattle.adj_rib.proofs.Taking.{first_time-push, last_time-push}
 
 -- ---- one note more
+
+-- after one more outcome, if there is one
+abbrev counted_this : Option Outcome → Churn → Churn
+counted_this None c = c
+counted_this (Some o) c = counted o c
+
+-- after one more note
+abbrev pub counted_note : Churn → Note → Churn
+counted_note c note = counted_this (outcome_noted note.what) c
 
 -- the counts of churn with one more of what a note says
 by_what : (what : What) (c : Churn) → record c {
@@ -77,25 +87,13 @@ module _ (flags : List Bool) (units : List ReplayUnit) where
 
 -- ---- one unit more
 
--- the counts with one more of what a reading is counted as
-by_kind : (up : Bool) (r : Result Event Fault) (c : Churn) → record c {
+-- the counts with one more of what a reading is counted as, beside what it does to keys
+abbrev pub unit_counted : Bool → Result Event Fault → Churn → Churn
+unit_counted up r c = record c {
   resets = counted_if (is_break r) c.resets;
   idle = counted_if (is_routing r && not up) c.idle;
   refused = counted_if (is_err r) c.refused;
-} ≡ counted_unit (kind_of up r) c
-unfolding counted_unit
-by_kind up (Ok (event.State old new rule)) c =
-    elim (breaks rule old new) as (λ b. record c { resets = counted_if b c.resets } ≡ counted_unit (if b then Break else Other) c) [
-      | true ↦ refl
-      | false ↦ refl
-    ]
-by_kind true (Ok (event.Change update)) c = refl
-by_kind false (Ok (event.Change update)) c = refl
-by_kind true (Ok (event.Rib key route)) c = refl
-by_kind false (Ok (event.Rib key route)) c = refl
-by_kind up (Ok event.Other) c = refl
-by_kind up (Ok event.Clear) c = refl
-by_kind up (Err fault) c = refl
+}
 
 kept_apart : (b : Bool) (time : ℕ) (broken idle refused : Bool) (c : Churn) → record (if b then timed time c else c) { resets = counted_if broken c.resets; idle = counted_if idle c.idle; refused = counted_if refused c.refused } ≡ record (if b then timed time c else c) { resets = counted_if broken (if b then timed time c else c).resets; idle = counted_if idle (if b then timed time c else c).idle; refused = counted_if refused (if b then timed time c else c).refused }
 unfolding timed
@@ -107,7 +105,7 @@ unfolding timed
 times_more true first last time c f l = λ i. record c { first = Some (unwrap_or (sym f i) time); last = Some time }
 times_more false first last time c f l = λ i. record c { first = sym f i; last = sym l i }
 
-unit_more : (notes : List Note) (flags : List Bool) (units : List ReplayUnit) (up : Bool) (u : ReplayUnit) → churn_by notes (flags ++ (is_routing (reading_of u) && not up) ∷ []) (units ++ u ∷ []) ≡ counted_unit (kind_of up (reading_of u)) (timed_by u (churn_by notes flags units))
+unit_more : (notes : List Note) (flags : List Bool) (units : List ReplayUnit) (up : Bool) (u : ReplayUnit) → churn_by notes (flags ++ (is_routing (reading_of u) && not up) ∷ []) (units ++ u ∷ []) ≡ unit_counted up (reading_of u) (timed_by u (churn_by notes flags units))
 unit_more notes flags units up u =
     (λ i. record (churn_by notes flags units) {
       resets = stopped-count_by-push (λ (v : ReplayUnit). is_break (reading_of v)) units u i;
@@ -122,7 +120,6 @@ unit_more notes flags units up u =
       refused = counted_if (is_err (reading_of u)) (stopped (count_by (λ (v : ReplayUnit). is_err (reading_of v)) units));
     })
     ∙ kept_apart (is_recorded u.payload) u.time (is_break (reading_of u)) (is_routing (reading_of u) && not up) (is_err (reading_of u)) (churn_by notes flags units)
-    ∙ by_kind up (reading_of u) (timed_by u (churn_by notes flags units))
 
 module _ (since : Option ℕ) (choices : List PrefixChoice) (before : List ReplayUnit) (u : ReplayUnit) where
   abbrev own : List Note
@@ -143,20 +140,99 @@ module _ (since : Option ℕ) (choices : List PrefixChoice) (before : List Repla
   units_then = filter-append (λ (v : ReplayUnit). not (is_before since v.time)) before (u ∷ [])
 
   -- what is counted of one more unit
-  pub churn_within-push : churn_within since choices (before ++ u ∷ []) ≡ counted_within since u (kind_of (is_up before) (reading_of u)) own (churn_within since choices before)
+  pub churn_within-push : churn_within since choices (before ++ u ∷ []) ≡ (if is_before since u.time then churn_within since choices before else fold counted_note (unit_counted (is_up before) (reading_of u) (timed_by u (churn_within since choices before))) own)
   unfolding churn_within
   churn_within-push =
       let notes = notes_within since choices before in
       let flags = idle_within since before in
       let units = units_within since before in
-      let kind = kind_of (is_up before) (reading_of u) in
       (λ i. churn_by (notes_then i) (idle_then i) (units_then i))
-      ∙ elim (is_before since u.time) as (λ b. churn_by (notes ++ (if b then [] else own)) (flags ++ (if b then [] else is_idle ∷ [])) (units ++ cond (not b) (u ∷ []) []) ≡ (if b then churn_by notes flags units else fold counted_note (counted_unit kind (timed_by u (churn_by notes flags units))) own)) [
+      ∙ elim (is_before since u.time) as (λ b. churn_by (notes ++ (if b then [] else own)) (flags ++ (if b then [] else is_idle ∷ [])) (units ++ cond (not b) (u ∷ []) []) ≡ (if b then churn_by notes flags units else fold counted_note (unit_counted (is_up before) (reading_of u) (timed_by u (churn_by notes flags units))) own)) [
         | true ↦ λ i. churn_by (append-nil notes i) (append-nil flags i) (append-nil units i)
         | false ↦
             notes_more (flags ++ is_idle ∷ []) (units ++ u ∷ []) notes own
             ∙ ap (λ c. fold counted_note c own) (unit_more notes flags units (is_up before) u)
       ]
+
+-- ---- the steps of one unit
+
+-- a step that isn't a break
+abbrev is_quiet : Step → Bool
+is_quiet break = false
+is_quiet clear = true
+is_quiet (announce k route) = true
+is_quiet (withdraw k) = true
+
+lost_uncounted : (table : List (RouteKey × Route)) (c : Churn) → fold counted_note c (map lost_note table) ≡ c
+lost_uncounted [] c = refl
+lost_uncounted (e ∷ table) c = lost_uncounted table c
+
+announced_counts : (old : Option Route) (k : RouteKey) (route : Route) (c : Churn) → counted (announced_over old route) c ≡ counted_note c (announced_note old k route)
+announced_counts None k route c = refl
+announced_counts (Some old) k route c = elim (route_eq old route) as (λ b. counted (if b then outcome.Same else outcome.Changed) c ≡ counted_this (outcome_noted (if b then Same else Changed)) c) [ true ↦ refl | false ↦ refl ]
+
+withdrawn_counts : (old : Option Route) (k : RouteKey) (c : Churn) → counted (if is_some old then outcome.Gone else outcome.Void) c ≡ counted_note c (withdrawn_note old k)
+withdrawn_counts None k c = refl
+withdrawn_counts (Some old) k c = refl
+
+step_counted : (steps : List Step) (rib : RouteMap × Churn) (step : Step) → IsTable steps rib.0 → is_quiet step ≡ true → (applied rib step).1 ≡ fold counted_note rib.1 (noted_after steps step)
+unfolding counted
+step_counted steps rib break h q = cc
+step_counted steps rib clear h q = sym (lost_uncounted (table_of steps) rib.1)
+step_counted steps rib (announce k route) h q = ap (λ old. counted (announced_over old route) rib.1) (h k) ∙ announced_counts (route_at steps k) k route rib.1
+step_counted steps rib (withdraw k) h q = ap (λ (old : Option Route). counted (if is_some old then outcome.Gone else outcome.Void) rib.1) (h k) ∙ withdrawn_counts (route_at steps k) k rib.1
+
+steps_counted : (steps more : List Step) (rib : RouteMap × Churn) → IsTable steps rib.0 → list_all is_quiet more ≡ true → (fold applied rib more).1 ≡ fold counted_note rib.1 (noted_behind steps more)
+steps_counted steps [] rib h q = refl
+steps_counted steps (step ∷ more) rib h q =
+    let parts = and_parts _ _ q in
+    steps_counted (steps ++ step ∷ []) more (applied rib step) (table_step steps rib.0 step h) parts.1
+    ∙ ap (λ c. fold counted_note c (noted_behind (steps ++ step ∷ []) more)) (step_counted steps rib step h parts.0)
+    ∙ sym (fold-append counted_note rib.1 (noted_after steps step) (noted_behind (steps ++ step ∷ []) more))
+
+quiet_announced : (route : Route) (keys : List RouteKey) → list_all is_quiet (map (λ key. announce key route) keys) ≡ true
+quiet_announced route [] = refl
+quiet_announced route (k ∷ keys) = quiet_announced route keys
+
+quiet_withdrawn : (keys : List RouteKey) → list_all is_quiet (map withdraw keys) ≡ true
+quiet_withdrawn [] = refl
+quiet_withdrawn (k ∷ keys) = quiet_withdrawn keys
+
+quiet_both : (xs ys : List Step) → list_all is_quiet xs ≡ true → list_all is_quiet ys ≡ true → list_all is_quiet (xs ++ ys) ≡ true
+quiet_both xs ys h g = list_all-append is_quiet xs ys ∙ (λ i. h i && g i)
+
+quiet_update : (u : Update) → list_all is_quiet (update_steps u) ≡ true
+quiet_update u =
+    quiet_both (withdrawals u ++ announcements u) (reachings u)
+    (quiet_both (withdrawals u) (announcements u) (quiet_withdrawn (filter (λ key. not (among u.announced key || among u.reached key)) u.withdrawn)) (quiet_announced u.route u.announced))
+    (quiet_announced (by_hop u.route u.reached_hop) u.reached)
+
+module _ (selects : RouteKey → Bool) where
+  quiet_selected : (steps : List Step) → list_all is_quiet steps ≡ true → list_all is_quiet (selected_steps selects steps) ≡ true
+  quiet_selected [] h = refl
+  quiet_selected (step ∷ steps) h =
+      let parts = and_parts _ _ h in
+      let rest = quiet_selected steps parts.1 in
+      elim (keeps selects step) as (λ b. list_all is_quiet (cond b (step ∷ selected_steps selects steps) (selected_steps selects steps)) ≡ true) [
+        | true ↦ (λ i. parts.0 i && rest i)
+        | false ↦ rest
+      ]
+
+  -- a unit's selected steps count what its notes do, beside what the unit is counted as
+  pub reading_counts : (up : Bool) (r : Result Event Fault) (steps : List Step) (table : RouteMap) (c : Churn) → IsTable steps table → (fold applied (table, noted up r c) (selected_steps selects (reading_steps up r))).1 ≡ fold counted_note (unit_counted up r c) (noted_behind steps (selected_steps selects (reading_steps up r)))
+  unfolding noted counted
+  reading_counts up (Ok (event.State old new rule)) steps table c h =
+      elim (breaks rule old new) as (λ b. (fold applied (table, noted up (Ok (event.State old new rule)) c) (selected_steps selects (if b then break ∷ [] else []))).1 ≡ fold counted_note (record c { resets = counted_if b c.resets }) (noted_behind steps (selected_steps selects (if b then break ∷ [] else [])))) [
+        | true ↦ sym (ap (fold counted_note (record c { resets = counted_if true c.resets })) (append-nil (map lost_note (table_of steps))) ∙ lost_uncounted (table_of steps) (record c { resets = counted_if true c.resets }))
+        | false ↦ refl
+      ]
+  reading_counts true (Ok (event.Change update)) steps table c h = steps_counted steps (selected_steps selects (update_steps update)) (table, c) h (quiet_selected (update_steps update) (quiet_update update))
+  reading_counts false (Ok (event.Change update)) steps table c h = refl
+  reading_counts true (Ok (event.Rib key route)) steps table c h = steps_counted steps (selected_steps selects (announce key route ∷ [])) (table, c) h (quiet_selected (announce key route ∷ []) refl)
+  reading_counts false (Ok (event.Rib key route)) steps table c h = refl
+  reading_counts up (Ok event.Other) steps table c h = refl
+  reading_counts up (Ok event.Clear) steps table c h = steps_counted steps (clear ∷ []) (table, c) h refl
+  reading_counts up (Err fault) steps table c h = refl
 
 -- ---- without a second and prefixes
 

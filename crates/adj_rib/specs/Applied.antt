@@ -136,11 +136,6 @@ listed faults (Some damage) = faults ++ damage ∷ []
 unfoldable pub refused : RibState → Damage → RibState
 refused k damage = record (followed k (Err damage.fault)) { faults = k.faults ++ damage ∷ [] }
 
--- after a unit at a place, by its reading
-abbrev pub read_as : RibState → Place → Result Event Fault → RibState
-read_as k place (Ok e) = followed k (Ok e)
-read_as k place (Err fault) = refused k (record { place = place; fault = fault })
-
 -- after one more unit
 unfoldable pub taken : RibState → ReplayUnit → RibState
 taken k unit =

@@ -1,7 +1,12 @@
 -- What happened to keys of either family.
-use Rattle.bgp_prefix.specs.Prefixes.{IpPrefix}
-use Rattle.adj_rib.specs.declared.note.Note.{Note as NoteOf}
+use Rattle.std.specs.Prelude.{Option}
+use Rattle.bgp_prefix.specs.Keys.{RouteKey}
+use Rattle.bgp_update.specs.declared.route.Route.{Route}
+use Rattle.adj_rib.specs.declared.note.What.{What}
 
--- one thing that happened to a key
-abbrev pub Note : Type 0
-Note = NoteOf IpPrefix
+-- one thing that happened to a key: the route is the one that the key has from then on, or the one that went; there is
+-- none where a key without a route is withdrawn
+pub record Note : Type 0 where
+  pub what : What
+  pub key : RouteKey
+  pub route : Option Route

@@ -49,6 +49,11 @@ pub record Names (bytes : List ℕ) (id : RouteId) (route : Route) : Type 0 wher
   pub named : IsNamed bytes id.at
   pub is : route_at bytes id.at ≡ route
 
+-- What a number named before, it names still.
+abbrev pub StaysNamed : List ℕ → List ℕ → Type 0
+StaysNamed before after =
+    (at : ℕ) → IsNamed before at → IsNamed after at × (route_at after at ≡ route_at before at)
+
 -- A slot names a route, or none by 0.
 abbrev pub IsSlot : List ℕ → IndexSlot → Type 0
 IsSlot bytes slot = slot.at ≢ 0 → IsNamed bytes slot.at

@@ -3,11 +3,7 @@
 ghost use Rattle.std.specs.Prelude.{◌≡◌};
 ghost use Rattle.adj_rib.specs.Histories.{is_before};
 
-use crate::note::{Note, What};
-use crate::outcome::{Outcome, UnitKind};
-use bgp_prefix::Prefix;
-use bgp_update::Unicast;
-use mrt_body::UnitRef;
+use crate::outcome::Outcome;
 
 /// Whether a time, in microseconds since 1970 UTC, is before this second.
 pub fn is_before(since: Option<u64>, time: u64) -> bool
@@ -47,10 +43,7 @@ pub struct Churn {
 
 impl Churn {
     ghost use Rattle.std.specs.Prelude.{◌≡◌, None, if◌then◌else◌};
-    ghost use Rattle.std.specs.List.{fold};
     ghost use Rattle.adj_rib.specs.Applied.{counted, no_churn, timed};
-    ghost use Rattle.adj_rib.specs.Counting.{counted_note, counted_this, counted_unit, counted_within};
-    ghost use Rattle.adj_rib.specs.Histories.{outcome_noted};
 
     /// Returns the churn of no unit.
     pub(crate) fn new() -> Churn
@@ -71,6 +64,7 @@ impl Churn {
     }
 
     /// Counts what a step did.
+    #[inline(always)]
     #[tactic(auto, unfolding(crate::specs::Applied::counted))]
     pub(crate) fn count(&mut self, outcome: Outcome)
         ensures { self.new ≡ counted outcome self.old }
@@ -86,6 +80,13 @@ impl Churn {
         }
     }
 
+    /// How many steps met a key that had a route.
+    pub(crate) fn renewals(&self) -> u64 {
+        self.changed
+            .saturating_add(self.same)
+            .saturating_add(self.gone)
+    }
+
     /// Notes the time of a unit, if it is recorded.
     #[inline(always)]
     #[tactic(auto, unfolding(crate::specs::Applied::timed))]
@@ -96,59 +97,5 @@ impl Churn {
             self.first = Some(self.first.unwrap_or(time));
             self.last = Some(time);
         }
-    }
-
-    /// Counts what happened to a key. A route that a state change or a clear ended isn't counted: the state change is.
-    fn count_what(&mut self, what: What)
-        ensures { self.new ≡ counted_this (outcome_noted what) self.old }
-    {
-        match what {
-            What::New => self.count(Outcome::Added),
-            What::Changed => self.count(Outcome::Changed),
-            What::Same => self.count(Outcome::Same),
-            What::Gone => self.count(Outcome::Gone),
-            What::Void => self.count(Outcome::Void),
-            What::Lost => {}
-        }
-    }
-
-    /// Counts what happened to keys.
-    fn count_notes<F: Unicast>(&mut self, notes: &[Note<Prefix<F>>])
-        ensures { self.new ≡ fold counted_note self.old notes.now }
-    {
-        for note in notes {
-            self.count_what(note.what);
-        }
-    }
-
-    /// Counts a unit as what it is, beside what it does to keys.
-    #[tactic(auto, unfolding(crate::specs::Counting::counted_unit))]
-    fn count_unit(&mut self, kind: UnitKind)
-        ensures { self.new ≡ counted_unit kind self.old }
-    {
-        match kind {
-            UnitKind::Break => self.resets = self.resets.saturating_add(1),
-            UnitKind::Idle => self.idle = self.idle.saturating_add(1),
-            UnitKind::Damaged => self.refused = self.refused.saturating_add(1),
-            UnitKind::Other => {}
-        }
-    }
-
-    /// Counts a unit and what it did to keys, unless it is before this second.
-    pub(crate) fn count_within<F: Unicast>(
-        &mut self,
-        since: Option<u64>,
-        unit: &UnitRef<'_, F>,
-        kind: UnitKind,
-        notes: &[Note<Prefix<F>>],
-    )
-        ensures { self.new ≡ counted_within since unit.now kind notes.now self.old }
-    {
-        if is_before(since, unit.time) {
-            return;
-        }
-        self.note_unit(unit.payload.is_recorded(), unit.time);
-        self.count_unit(kind);
-        self.count_notes(notes);
     }
 }

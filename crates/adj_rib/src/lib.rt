@@ -22,27 +22,21 @@
 //! - An entry of a peer that isn't up is read too, since a damaged one is listed.
 //! - `retain` takes the routes of other prefixes out of a table before a report. It is the last step, since the session
 //!   then no longer stands for its units.
-//! - A `Watch` takes units as a session does, and notes what each does to the keys of chosen prefixes, in the order of
-//!   its steps. It keeps their routes alone. Since a note outlives the table's entry, both own the same `SharedRoute`,
-//!   an `Arc<PackedRoute>` that contracts see as the `Route` itself, and a set finds it again (`route_set.rt`). `share`
-//!   allocates nothing, unless no further owner can be counted: then it makes an equal route. It counts these notes,
-//!   and what each unit is beside them (`UnitKind`), from a second on (`churn_within`).
+//! - A `Watch` takes units as a session does, keeps the routes of chosen keys alone (`Chooses`), and tells `Notes` what
+//!   each unit does to them, in the order of its steps, with the route itself and not its number: what the table no
+//!   longer names is given back. A session chooses every key and notes nothing, which costs it nothing.
 #![tactic(auto)]
 
 mod arrivals;
 mod churn;
 mod laws;
 mod note;
-mod noting;
 mod outcome;
 mod retaining;
 mod rib_in;
-mod route_set;
 mod route_table;
 mod routes;
 mod session;
-mod shared_route;
-mod table;
 mod update;
 mod watch;
 
@@ -52,9 +46,8 @@ pub use laws::{
     counts_are_of_all_units, early_is_late, established_sessions_decide, notes_are_of_concerned,
     recorded_states_decide, routes_come_while_up, selections_commute, table_has_what_holds,
 };
-pub use note::{Note, What};
+pub use note::{Chooses, Notes, What};
 pub use route_table::RouteTable;
-pub use routes::RouteId;
+pub use routes::{RouteId, Routes};
 pub use session::Session;
-pub use shared_route::SharedRoute;
 pub use watch::Watch;

@@ -2,7 +2,8 @@
 
 ghost use Rattle.std.specs.Prelude.{◌≡◌};
 
-use crate::churn::Churn;
+use crate::churn::{Churn, is_before};
+use crate::note::{Chooses, Notes};
 use crate::outcome::Outcome;
 use crate::route_table::RouteTable;
 use crate::routes::RouteId;
@@ -24,11 +25,14 @@ pub(crate) struct RibIn<M: PrefixMap<RouteId>> {
 }
 
 impl<F: Unicast, M: PrefixMap<RouteId, Addr = F> + Drop> RibIn<M> {
-    ghost use Rattle.std.specs.Prelude.{◌≡◌, true, Ok, OnOk};
+    ghost use Rattle.std.specs.Prelude.{◌≡◌, Bool, true, Ok, OnOk, if◌then◌else◌};
     ghost use Rattle.mrt_body.specs.DecodedEvents.{event_of, Means};
     ghost use Rattle.mrt_body.specs.Plain.{Unit as ReplayUnit};
     ghost use Rattle.mrt_body.specs.declared.meaning.Event.TheVariants as events;
-    ghost use Rattle.adj_rib.specs.Applied.{START, counted_if, followed, refused, read_as, taken};
+    ghost use Rattle.bgp_prefix.specs.Keys.{RouteKey as Key};
+    ghost use Rattle.adj_rib.specs.Applied.{START, counted_if, refused};
+    ghost use Rattle.adj_rib.specs.Histories.{is_before};
+    ghost use Rattle.adj_rib.specs.Noting.{followed_noting, read_noting, taken_noting};
     ghost use Rattle.adj_rib.specs.Keeping.{rib_state_in};
     ghost use Rattle.bgp_update.specs.Decoded.{plain_update};
 
@@ -45,27 +49,37 @@ impl<F: Unicast, M: PrefixMap<RouteId, Addr = F> + Drop> RibIn<M> {
         }
     }
 
-    /// Takes the steps of a state change.
-    #[tactic(auto, unfolding(crate::specs::Applied::followed, crate::specs::Applied::noted))]
-    fn change_state(&mut self, old: u16, new: u16, rule: StateRule)
-        ensures { rib_state_in self.new ≡ followed (rib_state_in self.old) (Ok (events.State old new rule)) }
+    /// Takes the steps of a state change, whatever keys are chosen: it ends the routes of all.
+    #[tactic(auto, unfolding(crate::specs::Noting::followed_noting, crate::specs::Applied::noted))]
+    fn change_state<N: Notes<F>>(
+        &mut self,
+        alloc: Global,
+        notes: &mut N,
+        old: u16,
+        new: u16,
+        rule: StateRule,
+    ) -> Result<(), Memory>
+        ensures { (selects : Key → Bool) → OnOk result ((rib_state_in self.new, N.kept notes.new)
+            ≡ followed_noting N.keep selects (rib_state_in self.old, N.kept notes.old) (Ok (events.State old new rule))) }
     {
         if rule.breaks(old, new) {
-            self.table.clear();
+            self.table.lose_all(alloc, notes)?;
             self.churn.count(Outcome::Reset);
         }
         self.up = rule.stays_up(new);
         if let Some(established) = rule.established_by(old, new) {
             self.established = established;
         }
+        Ok(())
     }
 
-    /// Takes the step of a clear.
-    #[tactic(auto, unfolding(crate::specs::Applied::followed, crate::specs::Applied::noted, crate::specs::Applied::counted))]
-    fn clear(&mut self)
-        ensures { rib_state_in self.new ≡ followed (rib_state_in self.old) (Ok events.Clear) }
+    /// Takes the step of a clear, whatever keys are chosen.
+    #[tactic(auto, unfolding(crate::specs::Noting::followed_noting, crate::specs::Applied::noted, crate::specs::Applied::counted))]
+    fn clear<N: Notes<F>>(&mut self, alloc: Global, notes: &mut N) -> Result<(), Memory>
+        ensures { (selects : Key → Bool) → OnOk result ((rib_state_in self.new, N.kept notes.new)
+            ≡ followed_noting N.keep selects (rib_state_in self.old, N.kept notes.old) (Ok events.Clear)) }
     {
-        self.table.clear();
+        self.table.lose_all(alloc, notes)
     }
 
     /// Counts an UPDATE or a RIB entry of a peer that isn't up.
@@ -76,21 +90,32 @@ impl<F: Unicast, M: PrefixMap<RouteId, Addr = F> + Drop> RibIn<M> {
         self.churn.idle = self.churn.idle.saturating_add(1);
     }
 
-    /// Takes the steps of an UPDATE.
-    #[tactic(auto, unfolding(crate::specs::Applied::followed, crate::specs::Applied::noted))]
-    fn take_update(
+    /// Takes the steps of an UPDATE on chosen keys.
+    #[inline(always)]
+    #[tactic(auto, unfolding(crate::specs::Noting::followed_noting, crate::specs::Applied::noted))]
+    fn take_update<C: Chooses<F>, N: Notes<F>>(
         &mut self,
         alloc: Global,
+        chosen: &C,
+        notes: &mut N,
         update: &UpdateRef<'_, Prefix<F>>,
     ) -> Result<(), Memory>
-        ensures { OnOk result (rib_state_in self.new
-            ≡ followed (rib_state_in self.old) (Ok (events.Change (plain_update update.now)))) }
+        ensures { OnOk result ((rib_state_in self.new, N.kept notes.new)
+            ≡ followed_noting N.keep (C.is_chosen chosen.now) (rib_state_in self.old, N.kept notes.old)
+            (Ok (events.Change (plain_update update.now)))) }
     {
         if !self.up {
             self.count_idle();
             return Ok(());
         }
-        apply_update(alloc, &mut self.table, &mut self.churn, update)
+        apply_update(
+            alloc,
+            &mut self.table,
+            &mut self.churn,
+            chosen,
+            notes,
+            update,
+        )
     }
 
     /// Lists a damaged unit.
@@ -103,49 +128,68 @@ impl<F: Unicast, M: PrefixMap<RouteId, Addr = F> + Drop> RibIn<M> {
         Ok(())
     }
 
-    /// Takes the step of a RIB entry.
+    /// Takes the step of a RIB entry, if its key is chosen.
     #[inline(always)]
-    #[tactic(auto, unfolding(crate::specs::Applied::followed, crate::specs::Applied::noted))]
-    fn announce_entry(
+    #[tactic(auto, unfolding(crate::specs::Noting::followed_noting, crate::specs::Applied::noted))]
+    fn announce_entry<C: Chooses<F>, N: Notes<F>>(
         &mut self,
         alloc: Global,
+        chosen: &C,
+        notes: &mut N,
         key: RouteKey<Prefix<F>>,
         hashed: &HashedRoute<'_>,
     ) -> Result<(), Memory>
-        ensures { OnOk result (rib_state_in self.new
-            ≡ followed (rib_state_in self.old) (Ok (events.Rib key hashed.now.route))) }
+        ensures { OnOk result ((rib_state_in self.new, N.kept notes.new)
+            ≡ followed_noting N.keep (C.is_chosen chosen.now) (rib_state_in self.old, N.kept notes.old)
+            (Ok (events.Rib key hashed.now.route))) }
     {
-        if self.up {
-            return self.table.announce(alloc, &mut self.churn, key, hashed);
+        if !self.up {
+            self.count_idle();
+            return Ok(());
         }
-        self.count_idle();
+        if chosen.chooses(&key) {
+            return self
+                .table
+                .announce(alloc, &mut self.churn, notes, key, hashed);
+        }
         Ok(())
     }
 
     /// Follows what the unit at a place means.
     #[inline(always)]
-    #[tactic(auto, unfolding(crate::specs::Applied::followed, crate::specs::Applied::noted))]
-    fn follow(
+    #[tactic(auto, unfolding(crate::specs::Noting::followed_noting, crate::specs::Applied::noted))]
+    fn follow<C: Chooses<F>, N: Notes<F>>(
         &mut self,
         alloc: Global,
+        chosen: &C,
+        notes: &mut N,
         place: Place,
         event: EventRef<'_, Prefix<F>>,
     ) -> Result<(), Memory>
-        ensures { OnOk result (rib_state_in self.new ≡ read_as (rib_state_in self.old) place (event_of event.entry)) }
+        ensures { OnOk result ((rib_state_in self.new, N.kept notes.new)
+            ≡ read_noting N.keep (C.is_chosen chosen.now) (rib_state_in self.old, N.kept notes.old) place
+            (event_of event.entry)) }
     {
         match event {
-            EventRef::Rib(key, route) => self.announce_entry(alloc, key, &route),
-            EventRef::Change(update) => self.take_update(alloc, &update),
-            EventRef::State(old, new, rule) => {
-                self.change_state(old, new, rule);
-                Ok(())
-            }
+            EventRef::Rib(key, route) => self.announce_entry(alloc, chosen, notes, key, &route),
+            EventRef::Change(update) => self.take_update(alloc, chosen, notes, &update),
+            EventRef::State(old, new, rule) => self.change_state(alloc, notes, old, new, rule),
             EventRef::Other => Ok(()),
-            EventRef::Clear => {
-                self.clear();
-                Ok(())
-            }
+            EventRef::Clear => self.clear(alloc, notes),
             EventRef::Damaged(fault) => self.list_damage(Damage { place, fault }),
+        }
+    }
+
+    /// Puts the counts back that were there before a unit of this time, if it is before this second.
+    pub(crate) fn count_within(&mut self, since: Option<u64>, time: u64, before: Churn)
+        ensures { rib_state_in self.new ≡ record (rib_state_in self.old) {
+          churn = if is_before since time then before else self.old.churn;
+        } }
+    {
+        if is_before(since, time) {
+            self.table
+                .note_renewals(self.churn.renewals() != before.renewals());
+            self.churn = before;
         }
     }
 
@@ -159,21 +203,25 @@ impl<F: Unicast, M: PrefixMap<RouteId, Addr = F> + Drop> RibIn<M> {
         self.table.prefetch_route(route)
     }
 
-    /// Takes the next unit, which stands at this place, has this time and means this.
+    /// Takes the next unit, which stands at this place, has this time and means this, and notes what it does to chosen
+    /// keys. The routes of others aren't kept.
     #[inline(always)]
-    pub(crate) fn take(
+    pub(crate) fn take<C: Chooses<F>, N: Notes<F>>(
         &mut self,
         alloc: Global,
+        chosen: &C,
+        notes: &mut N,
         place: Place,
         time: u64,
         event: EventRef<'_, Prefix<F>>,
     ) -> Result<(), Memory>
         ensures { (unit : ReplayUnit) → Means unit place time (event_of event.entry) →
-            OnOk result (rib_state_in self.new ≡ taken (rib_state_in self.old) unit) }
+            OnOk result ((rib_state_in self.new, N.kept notes.new)
+            ≡ taken_noting N.keep (C.is_chosen chosen.now) (rib_state_in self.old, N.kept notes.old) unit) }
     {
         clears_are_told();
-        self.table.give_back(alloc)?;
+        self.table.give_back(alloc, &self.churn)?;
         self.churn.note_unit(event.is_recorded(), time);
-        self.follow(alloc, place, event)
+        self.follow(alloc, chosen, notes, place, event)
     }
 }

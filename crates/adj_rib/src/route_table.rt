@@ -1,6 +1,6 @@
 //! A peer's table, whose keys have numbers of routes.
 
-ghost use Rattle.std.specs.Prelude.{◌≡◌, ◌≤◌, ◌+◌, ◌++◌, length, map, vec_len, vec_capacity, IfOk, IfSome, IfNone, OnOk, is_some};
+ghost use Rattle.std.specs.Prelude.{◌≡◌, ◌≤◌, ◌+◌, ◌++◌, length, map, vec_len, vec_capacity, IfOk, IfSome, IfNone, OnOk, is_some, if◌then◌else◌};
 ghost use Rattle.std.specs.List.{All, fold};
 ghost use Rattle.bgp_prefix.specs.Maps.{IsLongestMatch, HasNoMatch, paths_of};
 ghost use Rattle.std.specs.Option.{option_map};
@@ -9,11 +9,15 @@ ghost use Rattle.bgp_update.specs.Packing.{unpacked};
 ghost use Rattle.adj_rib.specs.declared.routes.RouteId.{RouteId as Id};
 ghost use Rattle.adj_rib.specs.Routes.{AreNamed, IsNamed, named_routes, route_at, routes_now};
 ghost use Rattle.adj_rib.specs.MappedValues.{put_entry};
-ghost use Rattle.adj_rib.specs.Steps.{announce};
+ghost use Rattle.adj_rib.specs.declared.outcome.Outcome.TheVariants.{Gone, Void};
+ghost use Rattle.adj_rib.specs.Steps.{announce, withdraw};
+ghost use Rattle.adj_rib.specs.Selecting.{selected_steps};
+ghost use Rattle.adj_rib.specs.Histories.{lost_note};
+ghost use Rattle.adj_rib.specs.Noting.{applied_noting};
 ghost use Rattle.adj_rib.specs.Churns.{announced_over};
-ghost use Rattle.adj_rib.specs.Applied.{applied};
 
 use crate::churn::Churn;
+use crate::note::{Chooses, Notes, What, what_of};
 use crate::outcome::Outcome;
 use crate::routes::{RouteId, Routes};
 use bgp_prefix::{Memory, Prefix, PrefixMap, RouteKey};
@@ -38,45 +42,90 @@ fn outcome_over(routes: &Routes, old: Option<RouteId>, id: RouteId) -> Outcome
     }
 }
 
-/// Puts a number at a key, and counts the effect.
+/// What a withdrawal does, given the number of the route, if any, that was there.
 #[inline(always)]
-fn put_route<F: Unicast, M: PrefixMap<RouteId, Addr = F>>(
+fn outcome_without(old: Option<RouteId>) -> Outcome
+    ensures { result ≡ (if is_some old then Gone else Void) }
+{
+    match old {
+        Some(_) => Outcome::Gone,
+        None => Outcome::Void,
+    }
+}
+
+/// The route of a number, if there is one.
+#[inline(always)]
+fn route_of(routes: &Routes, id: Option<RouteId>) -> Option<RouteRef<'_>>
+    requires { IfSome id (λ (o : Id). IsNamed routes.now o.at) }
+    ensures { result ≡ option_map (λ (o : Id). route_at routes.now o.at) id }
+{
+    match id {
+        Some(id) => Some(routes.route(id)),
+        None => None,
+    }
+}
+
+/// Puts a number at a key, counts the effect, and notes it.
+#[inline(always)]
+fn put_route<F: Unicast, M: PrefixMap<RouteId, Addr = F>, N: Notes<F>>(
     alloc: Global,
     routes: &Routes,
     table: &mut M,
     churn: &mut Churn,
+    notes: &mut N,
     key: RouteKey<Prefix<F>>,
     id: RouteId,
 ) -> Result<(), Memory>
     requires id { IsNamed routes.now id.at }
     requires all { AreNamed routes.now (M.contents table.old) }
-    ensures ok { OnOk result ((named_routes routes.now (M.contents table.new), churn.new)
-        ≡ applied (named_routes routes.now (M.contents table.old), churn.old) (announce key (route_at routes.now id.at))) }
+    ensures ok { OnOk result (((named_routes routes.now (M.contents table.new), churn.new), N.kept notes.new)
+        ≡ applied_noting N.keep ((named_routes routes.now (M.contents table.old), churn.old), N.kept notes.old)
+        (announce key (route_at routes.now id.at))) }
     ensures all { AreNamed routes.now (M.contents table.new) }
 {
     let old = table.insert(alloc, &key, id)?;
-    churn.count(outcome_over(routes, old, id));
+    let outcome = outcome_over(routes, old, id);
+    churn.count(outcome);
+    notes.note(alloc, what_of(outcome), &key, &Some(routes.route(id)))?;
     Ok(())
 }
 
-/// Puts a number at each key, and counts the effects.
-fn put_all<F: Unicast, M: PrefixMap<RouteId, Addr = F>>(
+/// Puts a number at each chosen key, counts the effects, and notes them.
+fn put_chosen<F: Unicast, M: PrefixMap<RouteId, Addr = F>, C: Chooses<F>, N: Notes<F>>(
     alloc: Global,
     routes: &Routes,
     table: &mut M,
     churn: &mut Churn,
+    chosen: &C,
+    notes: &mut N,
     keys: &[RouteKey<Prefix<F>>],
     id: RouteId,
 ) -> Result<(), Memory>
     requires id { IsNamed routes.now id.at }
     requires all { AreNamed routes.now (M.contents table.old) }
-    ensures ok { OnOk result ((named_routes routes.now (M.contents table.new), churn.new)
-        ≡ fold applied (named_routes routes.now (M.contents table.old), churn.old)
-        (map (λ key. announce key (route_at routes.now id.at)) keys.now)) }
+    ensures ok { OnOk result (((named_routes routes.now (M.contents table.new), churn.new), N.kept notes.new)
+        ≡ fold (applied_noting N.keep) ((named_routes routes.now (M.contents table.old), churn.old), N.kept notes.old)
+        (selected_steps (C.is_chosen chosen.now) (map (λ key. announce key (route_at routes.now id.at)) keys.now))) }
     ensures all { AreNamed routes.now (M.contents table.new) }
 {
     for key in keys {
-        put_route(alloc, routes, table, churn, *key, id)?;
+        if chosen.chooses(key) {
+            put_route(alloc, routes, table, churn, notes, *key, id)?;
+        }
+    }
+    Ok(())
+}
+
+/// Notes that each of these routes was lost.
+fn note_lost<F: Unicast, N: Notes<F>>(
+    alloc: Global,
+    entries: &[(RouteKey<Prefix<F>>, RouteRef<'_>)],
+    notes: &mut N,
+) -> Result<(), Memory>
+    ensures { OnOk result (N.kept notes.new ≡ fold N.keep (N.kept notes.old) (map lost_note entries.now)) }
+{
+    for (key, route) in entries {
+        notes.note(alloc, What::Lost, key, &Some(route.same()))?;
     }
     Ok(())
 }
@@ -155,6 +204,8 @@ pub struct RouteTable<M: PrefixMap<RouteId>> {
     routes: Routes,
     /// How many bytes of routes there may be before those that the table doesn't name are given back.
     limit: usize,
+    /// How many steps had met a key with a route when that was done last.
+    renewals: u64,
 }
 
 impl<M: PrefixMap<RouteId>> Model for RouteTable<M> {
@@ -182,38 +233,73 @@ impl<F: Unicast, M: PrefixMap<RouteId, Addr = F>> RouteTable<M> {
             map: M::new(alloc),
             routes: Routes::new(alloc),
             limit: FIRST_LIMIT,
+            renewals: 0,
         }
     }
 
-    /// Announces a key with a route, and counts the effect.
+    /// Announces a key with a route, counts the effect, and notes it.
     #[inline(always)]
-    pub(crate) fn announce(
+    pub(crate) fn announce<N: Notes<F>>(
         &mut self,
         alloc: Global,
         churn: &mut Churn,
+        notes: &mut N,
         key: RouteKey<Prefix<F>>,
         hashed: &HashedRoute<'_>,
     ) -> Result<(), Memory>
-        ensures { OnOk result ((self.new, churn.new) ≡ applied (self.old, churn.old) (announce key hashed.now.route)) }
+        ensures { OnOk result (((self.new, churn.new), N.kept notes.new)
+            ≡ applied_noting N.keep ((self.old, churn.old), N.kept notes.old) (announce key hashed.now.route)) }
     {
         let id = self.routes.intern(alloc, hashed)?;
-        put_route(alloc, &self.routes, &mut self.map, churn, key, id)?;
+        put_route(alloc, &self.routes, &mut self.map, churn, notes, key, id)?;
         Ok(())
     }
 
-    /// Announces each key with a route, and counts the effects.
-    pub(crate) fn announce_all(
+    /// Announces each chosen key with a route, counts the effects, and notes them.
+    pub(crate) fn announce_chosen<C: Chooses<F>, N: Notes<F>>(
         &mut self,
         alloc: Global,
         churn: &mut Churn,
+        chosen: &C,
+        notes: &mut N,
         keys: &[RouteKey<Prefix<F>>],
         hashed: &HashedRoute<'_>,
     ) -> Result<(), Memory>
-        ensures { OnOk result ((self.new, churn.new)
-            ≡ fold applied (self.old, churn.old) (map (λ key. announce key hashed.now.route) keys.now)) }
+        ensures { OnOk result (((self.new, churn.new), N.kept notes.new)
+            ≡ fold (applied_noting N.keep) ((self.old, churn.old), N.kept notes.old)
+            (selected_steps (C.is_chosen chosen.now) (map (λ key. announce key hashed.now.route) keys.now))) }
     {
         let id = self.routes.intern(alloc, hashed)?;
-        put_all(alloc, &self.routes, &mut self.map, churn, keys, id)?;
+        put_chosen(
+            alloc,
+            &self.routes,
+            &mut self.map,
+            churn,
+            chosen,
+            notes,
+            keys,
+            id,
+        )?;
+        Ok(())
+    }
+
+    /// Withdraws a key, counts the effect, and notes it.
+    #[inline(always)]
+    pub(crate) fn withdraw<N: Notes<F>>(
+        &mut self,
+        alloc: Global,
+        churn: &mut Churn,
+        notes: &mut N,
+        key: &RouteKey<Prefix<F>>,
+    ) -> Result<(), Memory>
+        ensures { OnOk result (((self.new, churn.new), N.kept notes.new)
+            ≡ applied_noting N.keep ((self.old, churn.old), N.kept notes.old) (withdraw key.now)) }
+    {
+        let old = self.map.remove(key);
+        let outcome = outcome_without(old);
+        churn.count(outcome);
+        let route = route_of(&self.routes, old);
+        notes.note(alloc, what_of(outcome), key, &route)?;
         Ok(())
     }
 
@@ -227,12 +313,39 @@ impl<F: Unicast, M: PrefixMap<RouteId, Addr = F>> RouteTable<M> {
     }
 
     /// Removes every key.
-    pub(crate) fn clear(&mut self)
+    fn clear(&mut self)
         ensures { self.new ≡ finite.empty }
     {
         self.map.clear();
         self.routes.clear();
         self.limit = FIRST_LIMIT;
+    }
+
+    /// Notes that each route is lost, where anything is kept of notes.
+    fn note_all<N: Notes<F>>(&self, alloc: Global, notes: &mut N) -> Result<(), Memory>
+        ensures { OnOk result (N.kept notes.new
+            ≡ fold N.keep (N.kept notes.old) (map lost_note (finite.entries self.now))) }
+    {
+        if !notes.keeps() {
+            return Ok(());
+        }
+        let entries = self.entries(alloc)?;
+        note_lost(alloc, entries.as_slice(), notes)
+    }
+
+    /// Removes every key, and notes each route that is lost.
+    pub(crate) fn lose_all<N: Notes<F>>(
+        &mut self,
+        alloc: Global,
+        notes: &mut N,
+    ) -> Result<(), Memory>
+        ensures lost { OnOk result (N.kept notes.new
+            ≡ fold N.keep (N.kept notes.old) (map lost_note (finite.entries self.old))) }
+        ensures empty { OnOk result (self.new ≡ finite.empty) }
+    {
+        self.note_all(alloc, notes)?;
+        self.clear();
+        Ok(())
     }
 
     /// The number of keys.
@@ -289,13 +402,13 @@ impl<F: Unicast, M: PrefixMap<RouteId, Addr = F>> RouteTable<M> {
         with_routes(alloc, &self.routes, listed.as_slice())
     }
 
-    /// Prefetches the slot where a route with this hash would be. The number means nothing.
+    /// Prefetches the slot where a route with this hash would be. The result only keeps the read alive.
     #[inline(always)]
     pub(crate) fn prefetch_slot(&self, route: RouteSpan) -> usize {
         self.routes.prefetch_slot(route)
     }
 
-    /// Prefetches the route with this hash. The number means nothing.
+    /// Prefetches the route with this hash. The result only keeps the read alive.
     #[inline(always)]
     pub(crate) fn prefetch_route(&self, route: RouteSpan) -> usize {
         self.routes.prefetch_route(route)
@@ -304,14 +417,25 @@ impl<F: Unicast, M: PrefixMap<RouteId, Addr = F>> RouteTable<M> {
 
 impl<F: Unicast, M: PrefixMap<RouteId, Addr = F> + Drop> RouteTable<M> {
     /// Gives back the routes that the table doesn't name, once as many bytes were added as routes and 16 bytes for each
-    /// key took when that was done last: so what is added pays for the copy of as much. An `Err` changes nothing.
-    pub(crate) fn give_back(&mut self, alloc: Global) -> Result<(), Memory>
+    /// key took when that was done last: so what is added pays for the copy of as much. Where each step since then gave
+    /// a new key its route, as a RIB dump does, the table names them all. An `Err` changes nothing.
+    pub(crate) fn give_back(&mut self, alloc: Global, churn: &Churn) -> Result<(), Memory>
         ensures { self.new ≡ self.old }
     {
-        if self.routes.len() > self.limit {
+        if self.routes.len() > self.limit && churn.renewals() != self.renewals {
             self.compact(alloc)?;
+            self.renewals = churn.renewals();
         }
         Ok(())
+    }
+
+    /// Takes note that keys met their routes again, if some did, by steps that are no longer counted.
+    pub(crate) fn note_renewals(&mut self, some: bool)
+        ensures { self.new ≡ self.old }
+    {
+        if some {
+            self.renewals = u64::MAX;
+        }
     }
 
     /// Keeps the routes that the table names, and no others. An `Err` changes nothing.

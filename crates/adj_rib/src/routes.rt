@@ -6,7 +6,7 @@ ghost use Rattle.std.specs.List.{All};
 ghost use Rattle.bgp_update.specs.Packing.{IsPacked, unpacked};
 ghost use Rattle.bgp_update.specs.Equality.{route_eq};
 ghost use Rattle.bgp_update.specs.Decoded.{IsGrown};
-ghost use Rattle.adj_rib.specs.Routes.{AreSlots, IsFront, IsNamed, Names};
+ghost use Rattle.adj_rib.specs.Routes.{AreSlots, IsFront, IsNamed, Names, StaysNamed};
 ghost use Rattle.adj_rib.specs.Routes as routes;
 
 use bgp_prefix::Memory;
@@ -177,11 +177,11 @@ fn with_buckets(
     Ok(moved)
 }
 
-/// The routes of a peer, which contracts see as a block of bytes (`specs/Routes.antt`). They are found by the hash of
+/// Routes, which contracts see as a block of bytes (`specs/Routes.antt`). They are found by the hash of
 /// their bytes (open addressing): at most three in four buckets have one, and if all slots of a bucket are taken, a
 /// later route evicts the first, whose number still names it.
 #[derive(Drop)]
-pub(crate) struct Routes {
+pub struct Routes {
     bytes: Vec<u8>,
     /// One for each bucket, and those after the last bucket.
     slots: Vec<IndexSlot>,
@@ -203,7 +203,7 @@ impl Model for Routes {
 
 impl Routes {
     /// Returns a block without routes. Allocates nothing.
-    pub(crate) fn new(alloc: Global) -> Routes
+    pub fn new(alloc: Global) -> Routes
         ensures { result ≡ [] }
     {
         Routes {
@@ -297,20 +297,17 @@ impl Routes {
 
     /// Returns the number of a route, which is added if no slot has it. What numbers name stays.
     #[inline(always)]
-    pub(crate) fn intern(
-        &mut self,
-        alloc: Global,
-        hashed: &HashedRoute<'_>,
-    ) -> Result<RouteId, Memory>
+    pub fn intern(&mut self, alloc: Global, hashed: &HashedRoute<'_>) -> Result<RouteId, Memory>
         ensures names { IfOk result (λ id. Names self.new id hashed.now.route) }
         ensures grows { IsGrown self.old self.new }
+        ensures stays { StaysNamed self.old self.new }
     {
         self.intern_bytes(alloc, hashed.hash, hashed.route.as_bytes())
     }
 
     /// The route of a number.
     #[inline(always)]
-    pub(crate) fn route(&self, id: RouteId) -> RouteRef<'_>
+    pub fn route(&self, id: RouteId) -> RouteRef<'_>
         requires { IsNamed self.now id.at }
         ensures { result ≡ routes.route_at self.now id.at }
     {
@@ -327,7 +324,7 @@ impl Routes {
         self.route(one).is_same(&self.route(other))
     }
 
-    /// Prefetches the slot where this route would be. The number means nothing.
+    /// Prefetches the slot where this route would be. The result only keeps the read alive.
     #[inline(always)]
     pub(crate) fn prefetch_slot(&self, route: RouteSpan) -> usize {
         let slots = self.slots.as_slice();
@@ -337,28 +334,24 @@ impl Routes {
         }
     }
 
-    /// Prefetches the route with this hash, if a slot has one: its first and its last byte may be in different cache
-    /// lines. The number means nothing.
+    /// Prefetches the route with this hash, if the slot of its bucket has it or the next one: its first and its last
+    /// byte may be in different cache lines. The result only keeps the read alive.
     #[inline(always)]
     pub(crate) fn prefetch_route(&self, route: RouteSpan) -> usize {
         let slots = self.slots.as_slice();
         let bytes = self.bytes.as_slice();
         let bucket = bucket_of(slots, route.hash());
-        for at in bucket..bucket.saturating_add(PROBED_SLOTS) {
-            match slots.get(at) {
-                Some(slot) => {
-                    if slot.at == 0 {
-                        return 0;
-                    }
-                    if slot.hash == route.hash() {
-                        let first = slot.at as usize;
-                        let last = first.saturating_add(route.len());
-                        return byte_at(bytes, first).saturating_add(byte_at(bytes, last));
-                    }
-                }
-                None => return 0,
+        // Nothing branches on which slot it is: a branch that is guessed wrong ends the reads of the routes after it.
+        let next = match slots.get(bucket) {
+            Some(slot) => (slot.hash != route.hash()) as usize,
+            None => 0,
+        };
+        match slots.get(bucket.saturating_add(next)) {
+            Some(slot) => {
+                let first = slot.at as usize;
+                byte_at(bytes, first) ^ byte_at(bytes, first.saturating_add(route.len()))
             }
+            None => 0,
         }
-        0
     }
 }

@@ -8,6 +8,7 @@ ghost use Rattle.mrt_body.specs.Plain.{Unit as ReplayUnit};
 
 use crate::arrivals::Arrivals;
 use crate::churn::Churn;
+use crate::note::{EveryKey, NoNotes};
 use crate::retaining::retain_chosen;
 use crate::rib_in::RibIn;
 use crate::route_table::RouteTable;
@@ -64,7 +65,7 @@ impl<F: Unicast, M: PrefixMap<RouteId, Addr = F> + Drop> Session<M> {
         ensures spent { self.new.spent ≡ is_err result }
         ensures stays_spent { IsTrue self.old.spent → IsErr result }
     {
-        let unit = unit.lend();
+        let unit = unit.as_ref();
         let mut events = DecodedEvents::new(alloc);
         let Ok(()) = events.push(alloc, &unit.payload) else {
             self.spent = true;
@@ -93,7 +94,10 @@ impl<F: Unicast, M: PrefixMap<RouteId, Addr = F> + Drop> Session<M> {
         }
         clears_are_told();
         self.arrivals.note(event.is_recorded(), place);
-        match self.rib.take(alloc, place, time, event) {
+        match self
+            .rib
+            .take(alloc, &EveryKey {}, &mut NoNotes {}, place, time, event)
+        {
             Ok(()) => Ok(()),
             Err(memory) => {
                 self.spent = true;
@@ -102,14 +106,14 @@ impl<F: Unicast, M: PrefixMap<RouteId, Addr = F> + Drop> Session<M> {
         }
     }
 
-    /// Prefetches the slot of the peer's routes where `take_event` will look for this route. Slots and routes are far
-    /// apart in memory: a caller that does this for several units first, and then `prefetch_route` for all of them,
-    /// lets these cache misses overlap. The number means nothing.
+    /// Touches the slot of the peer's routes that `take_event` will probe for this route, so that its cache miss
+    /// overlaps with others: a caller does this for several units first, and then `prefetch_route` for all of them. The
+    /// result only keeps the read alive.
     pub fn prefetch_slot(&self, route: RouteSpan) -> usize {
         self.rib.prefetch_slot(route)
     }
 
-    /// Prefetches the route that `take_event` will find. The number means nothing.
+    /// Touches the route that `take_event` will find. The result only keeps the read alive.
     pub fn prefetch_route(&self, route: RouteSpan) -> usize {
         self.rib.prefetch_route(route)
     }

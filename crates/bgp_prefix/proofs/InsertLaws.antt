@@ -1,5 +1,5 @@
 -- What an insert leaves in the trie.
-use Rattle.std.proofs.Common.{◌≡◌, ◌≢◌, ℕ, ◌+◌, ◌-◌, ◌*◌, ◌/◌, ◌^◌, ◌<◌, ◌≤◌, Bool, true, false, cond, not, ◌||◌, ◌&&◌, List, [], ◌∷◌, ◌++◌, Some, None, refl, sym, ap, ◌∙◌, T, arith, subst, Box, inl, inr, add-zero}
+use Rattle.std.proofs.Common.{◌≡◌, ◌≢◌, ℕ, ◌+◌, ◌-◌, ◌*◌, ◌/◌, ◌<◌, ◌≤◌, Bool, true, false, cond, not, ◌||◌, ◌&&◌, List, [], ◌∷◌, ◌++◌, Some, None, refl, sym, ap, ◌∙◌, T, arith, subst, Box, inl, inr, add-zero}
 use Rattle.std.specs.declared.alloc.Global.{Global}
 use Rattle.std.specs.List.{All}
 use Rattle.std.specs.Ordering.{eq_by_cmp}
@@ -10,13 +10,12 @@ use Rattle.std.proofs.lemmas.Bool.{cases_lt}
 use Rattle.std.proofs.lemmas.List.{append-nil}
 use Rattle.std.proofs.lemmas.List.Elements.{All-cons, All-nil}
 use Rattle.bgp_prefix.specs.Prefixes.{IpPrefix, IsIpPrefix, network_of, leading_bits, Starts}
-use Rattle.bgp_prefix.specs.Keys.{key_cmp, Changes, is_nil}
+use Rattle.bgp_prefix.specs.Keys.{key_cmp, Changes, is_nil, RouteKey}
 use Rattle.bgp_prefix.specs.Tries.{routes, IsTrie, IsUnder, IsRoot, IsRoutes, IsRoutesOf, IsForkOf, IsInserted, branch_of, is_empty}
-use Rattle.bgp_prefix.specs.Keys.{RouteKey}
 use Rattle.bgp_prefix.specs.declared.radix.node.Branch.{Branch}
 use Rattle.bgp_prefix.specs.declared.radix.node.Branch.TheVariants.{Empty, Leaf, Fork, Fork'}
 use Rattle.bgp_prefix.specs.declared.radix.node.Fork.{Fork as ForkOf}
-use Rattle.bgp_prefix.proofs.Bits.{fewer_bits, share_fewer, network_bits, IsIpPrefix-network}
+use Rattle.bgp_prefix.proofs.Bits.{share_fewer, network_bits, IsIpPrefix-network, half}
 use Rattle.bgp_prefix.proofs.KeyLaws.{key_cmp_total}
 use Rattle.bgp_prefix.proofs.MapLaws.{Changes-put}
 use Rattle.bgp_prefix.proofs.OrderLaws.{All-parts, sorted_parts}
@@ -86,12 +85,6 @@ pub record IsSharedLen (p q : IpPrefix) (n : ℕ) : Type 0 where
   pub in_q : n ≤ q.len
   pub shared : leading_bits n p.addr ≡ leading_bits n q.addr
   pub longest : n < p.len → n < q.len → leading_bits (n + 1) p.addr ≢ leading_bits (n + 1) q.addr
-
-half : (a n : ℕ) → n < 128 → leading_bits (n + 1) a / 2 ≡ leading_bits n a
-half a n h = ap (λ (k : ℕ). leading_bits (n + 1) a / 2 ^ k) (sym one) ∙ fewer_bits n (n + 1) a (omega arith) (omega arith)
-  where
-    one : n + 1 - n ≡ 1
-    one = omega arith
 
 other_bit : (x y t r : ℕ) → x ≡ 2 * t + r → r < 2 → y / 2 ≡ t → x ≢ y → y ≡ 2 * t + (1 - r)
 other_bit x y t r e h half_y apart = omega (arith, e, half_y, apart)

@@ -13,32 +13,18 @@ use Rattle.std.specs.declared.cmp.Ordering.TheVariants.{Less, Equal, Greater}
 use Rattle.std.specs.FinMap as finite
 use Rattle.std.specs.FinMap.{is_sorted}
 use Rattle.bgp_prefix.specs.Prefixes.{IpPrefix, IsIpPrefix, leading_bits, network_of, block_size, contains, prefix_cmp, prefix_eq}
-use Rattle.bgp_prefix.specs.Keys.{key_cmp}
+use Rattle.bgp_prefix.specs.Keys.{key_cmp, RouteKey}
 use Rattle.bgp_prefix.specs.Maps.{IsLongestMatch, HasNoMatch}
-use Rattle.bgp_prefix.specs.Keys.{RouteKey}
 use Rattle.bgp_prefix.proofs.Bits.{share_fewer, network_bits}
 use Rattle.bgp_prefix.proofs.KeyLaws.{same_prefix}
 use Rattle.bgp_prefix.proofs.NetworkLaws.{network, network_is, contains_network, longest_of, none_of, same_itself}
-use Rattle.bgp_prefix.proofs.SplitLaws.{IsUpTo, rise, below_network, share_between}
+use Rattle.bgp_prefix.proofs.SplitLaws.{IsUpTo, rise, below_network, share_between, up_to_of}
 
 -- the order of prefixes
 pub le_is : (a b : Ordering) → is_le (ordering_then a b) ≡ is_some_and is_le (partial_ordering_then (Some a) (Some b))
 le_is Less b = refl
 le_is Equal b = refl
 le_is Greater b = refl
-
-up_to_of : (p q : IpPrefix) → is_le (prefix_cmp p q) ≡ true → IsUpTo p q
-up_to_of p q le = elim (nat_cmp p.addr q.addr) as (λ r. nat_cmp p.addr q.addr ≡ r → is_le (ordering_then r (nat_cmp p.len q.len)) ≡ true → IsUpTo p q) [
-  | Less ↦ λ e h. let lt : p.addr < q.addr = ranked p.addr q.addr Less (sym e) in record { low = omega arith; short = λ same. absurd (omega arith) }
-  | Equal ↦ λ e h.
-      let same : p.addr ≡ q.addr = ranked p.addr q.addr Equal (sym e) in
-      elim (nat_cmp p.len q.len) as (λ r. nat_cmp p.len q.len ≡ r → is_le r ≡ true → IsUpTo p q) [
-        | Less ↦ λ f k. let lt : p.len < q.len = ranked p.len q.len Less (sym f) in record { low = omega arith; short = λ _. omega arith }
-        | Equal ↦ λ f k. let eq : p.len ≡ q.len = ranked p.len q.len Equal (sym f) in record { low = omega arith; short = λ _. omega arith }
-        | Greater ↦ λ f k. cc
-      ] refl h
-  | Greater ↦ λ e h. cc
-] refl le
 
 le_of : (p q : IpPrefix) → IsUpTo p q → is_le (prefix_cmp p q) ≡ true
 le_of p q up = elim (nat_cmp p.addr q.addr) as (λ r. nat_cmp p.addr q.addr ≡ r → is_le (ordering_then r (nat_cmp p.len q.len)) ≡ true) [

@@ -10,8 +10,7 @@ use Rattle.std.proofs.lemmas.Bool.{ltb-true, eqb-true, eq-eqb, and_parts}
 use Rattle.std.proofs.lemmas.Cmp.{on_total, then_total, nat_cmp_total}
 use Rattle.std.proofs.lemmas.Map.Lookups.{exact_pairs, exact_unsigned}
 use Rattle.bgp_prefix.specs.Prefixes.{IpPrefix, prefix_cmp, prefix_eq}
-use Rattle.bgp_prefix.specs.Keys.{key_cmp, Changes}
-use Rattle.bgp_prefix.specs.Keys.{RouteKey}
+use Rattle.bgp_prefix.specs.Keys.{key_cmp, Changes, RouteKey}
 
 pub prefix_cmp_total : IsTotalOrder prefix_cmp
 prefix_cmp_total = then_total (on_total (λ (p : IpPrefix). p.addr) nat_cmp_total) (on_total (λ (p : IpPrefix). p.len) nat_cmp_total)
@@ -31,14 +30,14 @@ find-parts q [] fs = refl
 find-parts q (e ∷ es) fs =
     elim (eq_by_cmp key_cmp q e.0) as (λ b. cond b (Some e.1) (find key_cmp q (es ++ fs)) ≡ option_or (cond b (Some e.1) (find key_cmp q es)) (find key_cmp q fs)) [ true ↦ refl | false ↦ find-parts q es fs ]
 
-not_tied : (b : Bool) → (b ≡ true → ⊥) → false ≡ b
-not_tied true h = absurd (h refl)
-not_tied false h = refl
+pub not_true : (b : Bool) → (b ≡ true → ⊥) → false ≡ b
+not_true true h = absurd (h refl)
+not_true false h = refl
 
 number_tied : (a b : ℕ) → is_eq (nat_cmp a b) ≡ eqb a b
 number_tied a b =
     elim (ltb a b) as (λ v. ltb a b ≡ v → is_eq (cond v Less (cond (eqb a b) Equal Greater)) ≡ eqb a b) [
-      | true ↦ λ e. let lt : a < b = ltb-true a b e in not_tied (eqb a b) (λ same. let is : a ≡ b = eqb-true a b same in omega (arith, lt, is))
+      | true ↦ λ e. let lt : a < b = ltb-true a b e in not_true (eqb a b) (λ same. let is : a ≡ b = eqb-true a b same in omega (arith, lt, is))
       | false ↦ λ e. elim (eqb a b) as (λ v. is_eq (cond v Equal Greater) ≡ v) [ true ↦ refl | false ↦ refl ]
     ] refl
 

@@ -1,5 +1,5 @@
 -- The keys that tie are equal, and a binary search among keys in order finds exactly those that are among them.
-use Rattle.std.proofs.Common.{◌≡◌, ℕ, Bool, true, false, List, length, Result, Ok, Err, get_or, ltb, refl, sym, ap, ◌∙◌, arith}
+use Rattle.std.proofs.Common.{◌≡◌, ℕ, true, false, List, length, Result, Ok, Err, get_or, ltb, refl, sym, ap, ◌∙◌, arith}
 use Rattle.std.specs.Prelude.{is_ok}
 use Rattle.std.specs.List.Sorted.{IsSorted, IsSearchInRange, IsBinarySearchResult}
 use Rattle.std.specs.Ordering.{is_eq, eq_by_cmp}
@@ -7,9 +7,8 @@ use Rattle.std.specs.Cmp.{eq_by_cmp_equiv}
 use Rattle.std.proofs.lemmas.List.Sorted.{searchable_from_sorted}
 use Rattle.std.proofs.lemmas.List.Folds.{list_any_at, list_any_none}
 use Rattle.std.proofs.lemmas.Bool.{ltb-true, ltb-false, eqb-true, eq-eqb, and_parts, and_from}
-use Rattle.bgp_prefix.specs.Keys.{key_cmp, key_eq, among}
-use Rattle.bgp_prefix.specs.Keys.{RouteKey}
-use Rattle.bgp_prefix.proofs.KeyLaws.{key_cmp_total, tied_same, same_prefix}
+use Rattle.bgp_prefix.specs.Keys.{key_cmp, key_eq, among, RouteKey}
+use Rattle.bgp_prefix.proofs.KeyLaws.{key_cmp_total, tied_same, same_prefix, not_true}
 
 pub key_itself : (k : RouteKey) → key_eq k k ≡ true
 key_itself k = and_from _ _ (and_from _ _ (eq-eqb k.prefix.addr k.prefix.addr refl) (eq-eqb k.prefix.len k.prefix.len refl)) (eq-eqb k.id k.id refl)
@@ -20,10 +19,6 @@ same_key j k e =
     let prefixes : j.prefix ≡ k.prefix = same_prefix _ _ parts.0 in
     let ids : j.id ≡ k.id = eqb-true _ _ parts.1 in
     λ i. record { prefix = prefixes i; id = ids i }
-
-not_true : (b : Bool) → (b ≡ true → ⊥) → false ≡ b
-not_true true h = absurd (h refl)
-not_true false h = refl
 
 -- the keys that tie are those whose fields are equal
 pub key_tied : (j k : RouteKey) → eq_by_cmp key_cmp j k ≡ key_eq j k

@@ -4,10 +4,9 @@ use Rattle.std.specs.List.{filter}
 use Rattle.std.proofs.lemmas.List.{append-nil, map-append}
 use Rattle.std.proofs.lemmas.List.Elements.{filter-append}
 use Rattle.bgp_prefix.specs.Prefixes.{IpPrefix, leading_bits, prefix_eq, Starts}
-use Rattle.bgp_prefix.specs.Keys.{entries_now}
+use Rattle.bgp_prefix.specs.Keys.{entries_now, RouteKey}
 use Rattle.bgp_prefix.specs.Maps.{paths_of}
 use Rattle.bgp_prefix.specs.Tries.{routes, IsTrie, IsUnder, IsRoutesOf}
-use Rattle.bgp_prefix.specs.Keys.{RouteKey}
 use Rattle.bgp_prefix.specs.declared.radix.node.Branch.{Branch}
 use Rattle.bgp_prefix.specs.declared.radix.node.Fork.{Fork}
 use Rattle.bgp_prefix.proofs.KeyLaws.{same_prefix}
@@ -23,7 +22,7 @@ untied : (p q : IpPrefix) → (p ≡ q → ⊥) → prefix_eq p q ≡ false
 untied p q other = elim (prefix_eq p q) as (λ b. prefix_eq p q ≡ b → b ≡ false) [ true ↦ λ e. absurd (other (same_prefix p q e)) | false ↦ λ e. refl ] refl
 
 module _ {V : Type 0} (p : IpPrefix) where
-  paths_of-append : (es fs : List (RouteKey × V)) → paths_of p (es ++ fs) ≡ paths_of p es ++ paths_of p fs
+  pub paths_of-append : (es fs : List (RouteKey × V)) → paths_of p (es ++ fs) ≡ paths_of p es ++ paths_of p fs
   paths_of-append es fs = ap (map (λ e. (e.0.id, e.1))) (filter-append (λ e. prefix_eq p e.0.prefix) es fs) ∙ map-append _ _ _
 
   paths_of-none : (es : List (RouteKey × V)) → AllKeys (λ k. prefix_eq p k.prefix ≡ false) es → paths_of p es ≡ []

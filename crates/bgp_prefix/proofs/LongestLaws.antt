@@ -1,32 +1,26 @@
 -- The last prefix, in the order of the keys, that contains an address is the longest.
 use Rattle.std.proofs.Common.{◌≡◌, ℕ, ◌<◌, ◌≤◌, Bool, true, false, cond, List, [], ◌∷◌, Option, Some, None, is_some, refl, sym, ap, ◌∙◌, subst, T, arith, inl, inr}
 use Rattle.std.specs.Prelude.{IsTrue, IfSome, IfNone}
-use Rattle.std.specs.declared.cmp.Ordering.{Ordering}
-use Rattle.std.specs.declared.cmp.Ordering.TheVariants.{Less, Equal, Greater}
-use Rattle.std.specs.Ordering.{is_lt, eq_by_cmp, ordering_reverse}
+use Rattle.std.specs.declared.cmp.Ordering.TheVariants.{Less, Greater}
+use Rattle.std.specs.Ordering.{eq_by_cmp, ordering_reverse}
 use Rattle.std.specs.Option.{option_or}
 use Rattle.std.specs.FinMap as finite
 use Rattle.std.specs.FinMap.{find, is_sorted}
 use Rattle.std.specs.FinMap.Entries.{below_all}
 use Rattle.std.proofs.lemmas.Bool.{cases_lt, eqb-true}
 use Rattle.std.proofs.lemmas.Cmp.{tied_itself}
+use Rattle.std.proofs.lemmas.Option.{cond_some}
+use borrow.Author.Tests.{both_ways}
 use Rattle.bgp_prefix.specs.Prefixes.{IpPrefix, IsIpPrefix, leading_bits, contains, prefix_eq}
-use Rattle.bgp_prefix.specs.Keys.{key_cmp, last_match}
+use Rattle.bgp_prefix.specs.Keys.{key_cmp, last_match, RouteKey}
 use Rattle.bgp_prefix.specs.Maps.{IsLongestMatch, HasNoMatch}
-use Rattle.bgp_prefix.specs.Keys.{RouteKey}
 use Rattle.bgp_prefix.proofs.Bits.{share_fewer}
 use Rattle.bgp_prefix.proofs.KeyLaws.{key_cmp_total, tied_same, same_prefix, other_prefix}
 use Rattle.bgp_prefix.proofs.MapLaws.{found}
 use Rattle.bgp_prefix.proofs.NetworkLaws.{network_is, shorter_than_network}
-use Rattle.bgp_prefix.proofs.OrderLaws.{AllKeys, AllKeys-weaker, first, second, less_by_len, network_below}
-
-less : (r : Ordering) → T (is_lt r) → r ≡ Less
-less Less p = refl
-less Equal p = absurd p
-less Greater p = absurd p
-
-same_Some : {A : Type 0} (x y : A) → Some x ≡ Some y → x ≡ y
-same_Some x y e = cc
+use Rattle.bgp_prefix.proofs.OrderLaws.{AllKeys, AllKeys-weaker, less_by_len, network_below}
+use Rattle.bgp_prefix.proofs.SearchLaws.{first, second, less}
+use Rattle.bgp_prefix.proofs.SortedMaps.{found_here}
 
 neither : {A : Type 0} (x y : Option A) → option_or x y ≡ None → (x ≡ None) × (y ≡ None)
 neither None y e = (refl, e)
@@ -36,22 +30,11 @@ not_taken : {A : Type 0} (b : Bool) (x : A) → cond b (Some x) None ≡ None �
 not_taken true x e = cc
 not_taken false x e = refl
 
-taken : {A : Type 0} (b : Bool) (x y : A) → cond b (Some x) None ≡ Some y → (b ≡ true) × (x ≡ y)
-taken true x y e = (refl, same_Some x y e)
-taken false x y e = cc
-
-not_both : (b : Bool) → b ≡ false → b ≡ true → ⊥
-not_both b e f = let clash : false ≡ true = sym e ∙ f in cc
-
 not_mutual : (j k : RouteKey) → key_cmp j k ≡ Less → key_cmp k j ≡ Less → ⊥
 not_mutual j k a b = let clash : Less ≡ Greater = sym a ∙ key_cmp_total.antisymm j k ∙ ap ordering_reverse b in cc
 
 is_some_first : {A : Type 0} (b : Bool) (x : A) (o : Option A) → b ≡ true → is_some (cond b (Some x) o) ≡ true
 is_some_first b x o e = rw e refl
-
-is_some_later : {A : Type 0} (b : Bool) (x : A) (o : Option A) → is_some o ≡ true → is_some (cond b (Some x) o) ≡ true
-is_some_later true x o h = refl
-is_some_later false x o h = h
 
 module _ {V : Type 0} where
   below_keys : (k : RouteKey) (es : List (RouteKey × V)) → T (below_all key_cmp k es) → AllKeys (λ j. key_cmp k j ≡ Less) es
@@ -92,7 +75,7 @@ module _ {V : Type 0} (addr : ℕ) where
     id = e.0.id;
     held = is_some_first (eq_by_cmp key_cmp (record { prefix = p; id = e.0.id }) e.0) e.1 (find key_cmp (record { prefix = p; id = e.0.id }) es) (rw (← here.1) (tied_itself_key e.0));
     matches = subst (λ (q : IpPrefix). contains q addr ≡ true) here.1 here.0;
-    longest = (λ _. rw here.1 (omega arith), AllKeys-weaker (λ k. contains k.prefix addr ≡ false) (λ k. contains k.prefix addr ≡ true → k.prefix.len ≤ p.len) es (λ k out within. absurd (not_both _ out within)) (none_match es none));
+    longest = (λ _. rw here.1 (omega arith), AllKeys-weaker (λ k. contains k.prefix addr ≡ false) (λ k. contains k.prefix addr ≡ true → k.prefix.len ≤ p.len) es (λ k out within. absurd (both_ways _ out within)) (none_match es none));
   }
     where
       tied_itself_key : (k : RouteKey) → eq_by_cmp key_cmp k k ≡ true
@@ -109,7 +92,7 @@ module _ {V : Type 0} (addr : ℕ) where
       ] in
       record {
         id = rest.id;
-        held = is_some_later (eq_by_cmp key_cmp k e.0) e.1 (find key_cmp k es) rest.held;
+        held = found_here (eq_by_cmp key_cmp k e.0) e.1 (find key_cmp k es) rest.held;
         matches = rest.matches;
         longest = (short, rest.longest);
       }
@@ -118,7 +101,7 @@ module _ {V : Type 0} (addr : ℕ) where
   last_is_longest [] p h known is = cc
   last_is_longest (e ∷ es) p h known is =
       elim (last_match es addr) as (λ o. last_match es addr ≡ o → option_or o (cond (contains e.0.prefix addr) (Some e.0.prefix) None) ≡ Some p → IsLongestOf (e ∷ es) p) [
-        | None ↦ λ none here. last_is_first e es p none (taken _ _ _ here)
+        | None ↦ λ none here. last_is_first e es p none (cond_some _ _ _ here)
         | Some q ↦ λ some there. last_is_later e es p (first _ _ h) known.0 known.1 (last_is_longest es p (second _ _ h) known.1 (some ∙ there))
       ] refl is
 
@@ -142,7 +125,7 @@ module _ {V : Type 0} (addr : ℕ) where
 
     pub longest_none : (o : Option IpPrefix) → o ≡ last_match es addr → IfNone o (HasNoMatch (finite.from_entries {R = key_cmp} es) addr)
     longest_none (Some p) is = tt
-    longest_none None is = λ k there within. not_both _ (held_key (λ j. contains j.prefix addr ≡ false) k es (none_match es (sym is)) (in_list k there)) within
+    longest_none None is = λ k there within. both_ways _ (held_key (λ j. contains j.prefix addr ≡ false) k es (none_match es (sym is)) (in_list k there)) within
 
     -- and the longest is the last match
     pub last_is : (o : Option IpPrefix) → IfSome o (IsLongestMatch (finite.from_entries {R = key_cmp} es) addr) → IfNone o (HasNoMatch (finite.from_entries {R = key_cmp} es) addr) → o ≡ last_match es addr

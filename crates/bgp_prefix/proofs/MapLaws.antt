@@ -5,8 +5,7 @@ use Rattle.std.specs.FinMap.Entries.{find-put, find-where_key, where_key}
 use Rattle.std.specs.Ordering.{eq_by_cmp, is_eq}
 use Rattle.std.specs.FinMap as finite
 use Rattle.std.specs.FinMap.{get-from_entries, get-insert, get-remove, same_map, find, put}
-use Rattle.bgp_prefix.specs.Keys.{key_cmp, Changes}
-use Rattle.bgp_prefix.specs.Keys.{RouteKey}
+use Rattle.bgp_prefix.specs.Keys.{key_cmp, Changes, RouteKey}
 use Rattle.bgp_prefix.proofs.KeyLaws.{key_cmp_total, key_cmp_exact}
 
 pub found : {V : Type 0} (es : List (RouteKey × V)) (key : RouteKey) → finite.get (finite.from_entries {R = key_cmp} es) key ≡ find key_cmp key es

@@ -1,23 +1,24 @@
 -- The longest match in a branch of the trie, and the nodes that are looked at.
-use Rattle.std.proofs.Common.{◌≡◌, ℕ, ◌+◌, ◌*◌, ◌/◌, ◌^◌, ◌<◌, ◌≤◌, Bool, true, false, cond, not, ◌&&◌, List, [], ◌∷◌, ◌++◌, Option, Some, None, refl, sym, ap, ◌∙◌, arith, add-zero, get_or, length, take, drop, suc, ◌⊎◌, inl, inr}
+use Rattle.std.proofs.Common.{◌≡◌, ℕ, ◌+◌, ◌*◌, ◌/◌, ◌^◌, ◌<◌, ◌≤◌, Bool, true, false, cond, not, ◌&&◌, List, [], ◌∷◌, ◌++◌, Option, Some, None, refl, sym, ap, ◌∙◌, arith, add-zero, get_or, length, take, drop, suc, ◌⊎◌, inl, inr, Box, subst}
 use Rattle.std.specs.List.{All}
 use Rattle.std.specs.Option.{option_or}
+use Rattle.std.specs.declared.alloc.Global.{Global}
 use Rattle.std.proofs.lemmas.Bool.{eqb-true, ne_eqb, eq-eqb}
 use Rattle.std.proofs.lemmas.List.Elements.{All-weaker}
 use Rattle.std.proofs.lemmas.List.{take-append-drop}
 use Rattle.std.proofs.lemmas.Nat.{div_below}
 use Rattle.std.proofs.Math.Seq.{drop-cons}
 use Rattle.bgp_prefix.specs.Prefixes.{IpPrefix, IsIpPrefix, leading_bits, contains, prefix_eq, Starts}
-use Rattle.bgp_prefix.specs.Keys.{is_nil, last_match, matching_prefixes, begins_with}
+use Rattle.bgp_prefix.specs.Keys.{is_nil, last_match, matching_prefixes, begins_with, RouteKey}
 use Rattle.bgp_prefix.specs.Tries.{routes, IsTrie, IsUnder}
-use Rattle.bgp_prefix.specs.Keys.{RouteKey}
 use Rattle.bgp_prefix.specs.declared.radix.node.Branch.{Branch}
-use Rattle.bgp_prefix.specs.declared.radix.node.Branch.TheVariants.{Empty, Leaf, Fork'}
+use Rattle.bgp_prefix.specs.declared.radix.node.Branch.TheVariants.{Empty, Leaf, Fork as ForkAt, Fork'}
 use Rattle.bgp_prefix.specs.declared.radix.node.Fork.{Fork}
 use Rattle.bgp_prefix.proofs.Bits.{share_fewer}
 use Rattle.bgp_prefix.proofs.KeyLaws.{or_none}
 use Rattle.bgp_prefix.proofs.OrderLaws.{AllKeys, AllKeys-both, own_keys, keys_known, keys_start}
 use Rattle.bgp_prefix.proofs.TrieLaws.{IsFork, fork_routes, starts_as_parent, starts_itself}
+use Rattle.bgp_prefix.proofs.NetworkLaws.{same_itself}
 
 or_assoc : {A : Type 0} (x y z : Option A) → option_or (option_or x y) z ≡ option_or x (option_or y z)
 or_assoc None y z = refl
@@ -27,9 +28,6 @@ one_run : (b c : Bool) → cond (b && not c) 1 0 ≤ cond (b && not false) 1 0
 one_run true true = omega arith
 one_run true false = omega arith
 one_run false c = omega arith
-
-same_run : (p : IpPrefix) → prefix_eq p p ≡ true
-same_run p = rw (eq-eqb p.addr p.addr refl, eq-eqb p.len p.len refl)
 
 no_run : (b c : Bool) → b ≡ false → ◌≡◌ {A = ℕ} (cond (b && c) 1 0) 0
 no_run b c e = ap (λ d. let n : ℕ = cond (d && c) 1 0 in n) e
@@ -86,7 +84,7 @@ module _ {V : Type 0} (addr : ℕ) where
   matching_own p (e ∷ []) h = elim (contains e.0.prefix addr) as (λ b. cond (b && true) 1 0 + 0 ≤ 1) [ true ↦ omega arith | false ↦ omega arith ]
   matching_own p (e ∷ f ∷ es) h =
       let rest = matching_own p (f ∷ es) h.1 in
-      let same : prefix_eq e.0.prefix f.0.prefix ≡ true = ap (prefix_eq e.0.prefix) (h.1.0 ∙ sym h.0) ∙ same_run e.0.prefix in
+      let same : prefix_eq e.0.prefix f.0.prefix ≡ true = ap (prefix_eq e.0.prefix) (h.1.0 ∙ sym h.0) ∙ same_itself e.0.prefix in
       let none = not_last (contains e.0.prefix addr) (prefix_eq e.0.prefix f.0.prefix) same in
       omega (arith, none, rest)
 
@@ -166,6 +164,12 @@ module _ {F V : Type 0} (addr : ℕ) (f : Fork F V) (ok : IsFork f) where
     elim is_high as (λ b. IsTrie (cond b f.high f.low)) [ true ↦ ok.6 | false ↦ ok.5 ],
   )
 
+-- no prefix of a fork that doesn't contain the address does
+pub missed_fork : {F V : Type 0} (addr : ℕ) (b : Branch F V) (fork : Box (Fork F V) Global) → b ≡ ForkAt fork → IsTrie b → contains fork.value.prefix addr ≡ false → (last_match (routes b) addr ≡ None) × (matching_prefixes (routes b) addr ≡ 0)
+missed_fork addr b fork is ok out =
+    let p = fork.value.prefix in
+    rw is (no_match addr (ForkAt fork) (subst IsTrie is ok) p.len (leading_bits p.len p.addr) (starts_itself p) (missed addr p out))
+
 -- the match so far, or the fork's own where there is one
 pub match_kept : {A : Type 0} (below own longest longer whole : Option A) → option_or (option_or below own) longest ≡ whole → option_or own longest ≡ longer → option_or below longer ≡ whole
 match_kept below own longest longer whole e is = ap (option_or below) (sym is) ∙ sym (or_assoc below own longest) ∙ e
@@ -201,6 +205,3 @@ module _ {V : Type 0} (addr : ℕ) (es : List (RouteKey × V)) (k : ℕ) (e : Ro
   last_at in_e =
       let here : last_match (drop k es) addr ≡ Some e.0.prefix = from_here ∙ ap (λ b. cond b (Some e.0.prefix) None) in_e in
       sym (ap (λ (xs : List (RouteKey × V)). last_match xs addr) (sym (take-append-drop k es)) ∙ last_match-append addr (take k es) (drop k es) ∙ ap (λ o. option_or o (last_match (take k es) addr)) here)
-
-  pub none_at : contains e.0.prefix addr ≡ false → last_match (drop k es) addr ≡ None
-  none_at out = from_here ∙ ap (λ b. cond b (Some e.0.prefix) None) out

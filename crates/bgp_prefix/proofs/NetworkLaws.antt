@@ -7,9 +7,8 @@ use Rattle.std.specs.Option.{is_some}
 use Rattle.std.specs.FinMap as finite
 use Rattle.std.specs.FinMap.{find}
 use Rattle.bgp_prefix.specs.Prefixes.{IpPrefix, IsIpPrefix, network_of, leading_bits, block_size, contains, prefix_eq}
-use Rattle.bgp_prefix.specs.Keys.{key_cmp}
+use Rattle.bgp_prefix.specs.Keys.{key_cmp, RouteKey}
 use Rattle.bgp_prefix.specs.Maps.{IsLongestMatch, HasNoMatch}
-use Rattle.bgp_prefix.specs.Keys.{RouteKey}
 use Rattle.bgp_prefix.proofs.Bits.{network_bits}
 use Rattle.bgp_prefix.proofs.MapLaws.{found}
 use Rattle.bgp_prefix.proofs.SortedMaps.{of_found, found_of_any}

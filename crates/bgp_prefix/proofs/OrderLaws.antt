@@ -1,5 +1,5 @@
 -- The routes of a branch stand in the order of their keys.
-use Rattle.std.proofs.Common.{◌≡◌, ℕ, ◌+◌, ◌*◌, ◌-◌, ◌<◌, ◌≤◌, Bool, true, false, ◌&&◌, List, [], ◌∷◌, ◌++◌, refl, sym, ap, ◌∙◌, subst, T, arith, add-zero, inl, inr}
+use Rattle.std.proofs.Common.{◌≡◌, ℕ, ◌+◌, ◌*◌, ◌-◌, ◌<◌, ◌≤◌, List, [], ◌∷◌, ◌++◌, refl, sym, ap, ◌∙◌, subst, T, arith, add-zero, inl, inr}
 use Rattle.std.specs.declared.cmp.Ordering.TheVariants.{Less, Equal}
 use Rattle.std.specs.Ordering.{nat_cmp, is_lt, ordering_then}
 use Rattle.std.specs.FinMap.{is_sorted}
@@ -11,12 +11,12 @@ use Rattle.std.proofs.lemmas.List.Elements.{All-nil, All-cons, All-head, All-tai
 use Rattle.std.proofs.lemmas.Nat.{le-div, pow_pos}
 use Rattle.std.proofs.Math.Nat.{div-mul-le_self}
 use Rattle.bgp_prefix.specs.Prefixes.{IpPrefix, IsIpPrefix, leading_bits, block_size, Starts}
-use Rattle.bgp_prefix.specs.Keys.{key_cmp}
+use Rattle.bgp_prefix.specs.Keys.{key_cmp, RouteKey}
 use Rattle.bgp_prefix.specs.Tries.{routes, IsTrie, IsUnder, IsRoutesOf}
-use Rattle.bgp_prefix.specs.Keys.{RouteKey}
 use Rattle.bgp_prefix.specs.declared.radix.node.Branch.{Branch}
 use Rattle.bgp_prefix.specs.declared.radix.node.Branch.TheVariants.{Empty, Leaf, Fork'}
 use Rattle.bgp_prefix.proofs.TrieLaws.{starts_as_parent}
+use Rattle.bgp_prefix.proofs.SearchLaws.{both, first, second}
 
 -- what holds of each key of a list
 abbrev pub AllKeys : {V : Type 0} → (RouteKey → Type 0) → List (RouteKey × V) → Type 0
@@ -44,18 +44,6 @@ AllKeys-both P Q R (e ∷ es) f a b = (f e.0 a.0 b.0, AllKeys-both P Q R es f a.
 pub All-parts : {X : Type 0} (P : X → Type 0) (xs ys : List X) → All P (xs ++ ys) → All P xs × All P ys
 All-parts P [] ys h = (All-nil P, h)
 All-parts P (x ∷ xs) ys h = let rest = All-parts P xs ys (All-tail P x (xs ++ ys) h) in (All-cons P x xs (All-head P x (xs ++ ys) h) rest.0, rest.1)
-
-both : (a b : Bool) → T a → T b → T (a && b)
-both true b p q = q
-both false b p q = p
-
-pub first : (a b : Bool) → T (a && b) → T a
-first true b p = tt
-first false b p = p
-
-pub second : (a b : Bool) → T (a && b) → T b
-second true b p = p
-second false b p = absurd p
 
 -- of two addresses the one with the lower leading bits is lower
 addr_rises : (n a b : ℕ) → leading_bits n a < leading_bits n b → a < b

@@ -3,8 +3,7 @@ use Rattle.std.proofs.Common.{◌≡◌, ℕ, ◌+◌, true, false, cond, not, L
 use Rattle.std.specs.Ordering.{eq_by_cmp}
 use Rattle.std.specs.FinMap.{find, put, is_sorted}
 use Rattle.std.specs.FinMap.Entries.{where_key, same_entries, is_sorted-put, is_sorted-where_key, length-put, length_without}
-use Rattle.bgp_prefix.specs.Keys.{key_cmp, Changes}
-use Rattle.bgp_prefix.specs.Keys.{RouteKey}
+use Rattle.bgp_prefix.specs.Keys.{key_cmp, Changes, RouteKey}
 use Rattle.bgp_prefix.proofs.KeyLaws.{key_cmp_total, key_cmp_exact}
 use Rattle.bgp_prefix.proofs.MapLaws.{Changes-put, Changes-without}
 

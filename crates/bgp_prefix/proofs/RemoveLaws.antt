@@ -1,22 +1,20 @@
 -- What a removal leaves in the trie.
-use Rattle.std.proofs.Common.{◌≡◌, ℕ, ◌+◌, ◌*◌, ◌<◌, Bool, true, false, cond, if◌then◌else◌, not, ◌||◌, ◌&&◌, List, [], ◌∷◌, ◌++◌, Option, Some, None, refl, sym, ap, ◌∙◌, T, arith, subst, add-zero, Box}
+use Rattle.std.proofs.Common.{◌≡◌, ℕ, ◌+◌, ◌*◌, ◌<◌, Bool, true, false, cond, if◌then◌else◌, not, List, ◌++◌, Option, Some, None, refl, sym, ap, ◌∙◌, T, arith, subst, add-zero, Box}
 use Rattle.std.specs.declared.alloc.Global.{Global}
 use Rattle.std.specs.List.{All}
 use Rattle.std.specs.Ordering.{eq_by_cmp}
 use Rattle.std.specs.FinMap.{find, put, is_sorted}
 use Rattle.std.specs.FinMap.Entries.{where_key, same_entries, is_sorted-put, is_sorted-where_key}
-use Rattle.std.proofs.lemmas.List.{append-nil}
 use Rattle.std.proofs.lemmas.List.Elements.{All-weaker, All-filter}
 use Rattle.bgp_prefix.specs.Prefixes.{IpPrefix, IsIpPrefix, leading_bits, Starts}
-use Rattle.bgp_prefix.specs.Keys.{key_cmp, Changes, is_nil}
-use Rattle.bgp_prefix.specs.Tries.{routes, IsTrie, IsUnder, IsRoutes, IsRoutesOf, IsUnpruned, IsRemoved, is_empty, is_redundant, only_child}
-use Rattle.bgp_prefix.specs.Keys.{RouteKey}
+use Rattle.bgp_prefix.specs.Keys.{key_cmp, Changes, is_nil, RouteKey}
+use Rattle.bgp_prefix.specs.Tries.{routes, IsTrie, IsUnder, IsRoutes, IsRoutesOf, IsUnpruned, IsRemoved, is_empty, only_child}
 use Rattle.bgp_prefix.specs.declared.radix.node.Branch.{Branch}
 use Rattle.bgp_prefix.specs.declared.radix.node.Branch.TheVariants.{Empty, Leaf, Fork, Fork'}
 use Rattle.bgp_prefix.specs.declared.radix.node.Fork.{Fork as ForkOf}
 use Rattle.bgp_prefix.proofs.KeyLaws.{key_cmp_total, key_cmp_exact, tied_same}
 use Rattle.bgp_prefix.proofs.MapLaws.{Changes-put, Changes-without}
-use Rattle.bgp_prefix.proofs.TrieLaws.{IsFork, fork_routes, no_branch, starts_as_parent, Changes_here, Changes_low_half, Changes_high_half}
+use Rattle.bgp_prefix.proofs.TrieLaws.{IsFork, fork_routes, starts_as_parent, Changes_here, Changes_low_half, Changes_high_half}
 use Rattle.bgp_prefix.proofs.InsertLaws.{or_first, low_useful, high_useful}
 
 -- a child lies where its parent does
@@ -78,30 +76,9 @@ module _ {V : Type 0} (key : RouteKey) where
       same_entries key_cmp key_cmp_total key_cmp_exact (without key there) es (sorted_without there (is_sorted-put key_cmp key_cmp_total key value es sorted)) sorted
       (λ q. without_changes there q ∙ ap (cond (eq_by_cmp key_cmp q key) None) (Changes-put es there key value refl q) ∙ twice (eq_by_cmp key_cmp q key) (Some value) (find key_cmp q es) (λ t. rw (tied_same q key t) none))
 
-busy : (a b c : Bool) → (a && (b || c)) ≡ false → T (not a || (not b && not c))
-busy true true c e = cc
-busy true false true e = cc
-busy true false false e = tt
-busy false b c e = tt
-
 held : (a : Bool) → a ≡ false → T (not a)
 held true e = cc
 held false e = tt
-
--- a root that is not redundant
-pub kept_root_trie : {F V : Type 0} (b : Branch F V) → IsUnpruned b → is_redundant b ≡ false → IsTrie b
-kept_root_trie Empty ok e = tt
-kept_root_trie (Leaf l) ok e = (ok, held (is_nil l) e)
-kept_root_trie (Fork' p prefix low high here) ok e = (ok.0, ok.1, ok.2, ok.3, ok.4, ok.5, ok.6, busy (is_nil here) (is_empty low) (is_empty high) e)
-
-no_routes : {V : Type 0} (es : List (RouteKey × V)) → is_nil es ≡ true → es ≡ []
-no_routes [] e = refl
-no_routes (x ∷ xs) e = cc
-
-pub only_child_trie : {F V : Type 0} (b : Branch F V) → IsUnpruned b → IsTrie (only_child b)
-only_child_trie Empty ok = tt
-only_child_trie (Leaf l) ok = tt
-only_child_trie (Fork' p prefix low high here) ok = elim (is_empty low) as (λ b. IsTrie (if b then high else low)) [ true ↦ ok.6 | false ↦ ok.5 ]
 
 pub only_child_under : {F V : Type 0} (b : Branch F V) → IsUnpruned b → (len bits : ℕ) → IsUnder len bits b → IsUnder len bits (only_child b)
 only_child_under Empty ok len bits u = tt
@@ -111,29 +88,6 @@ only_child_under (Fork' p prefix low high here) ok len bits u =
       | true ↦ child_under high prefix 1 len bits ok.1 (omega arith) ok.4 u
       | false ↦ child_under low prefix 0 len bits ok.1 (omega arith) (subst (λ (t : ℕ). IsUnder (prefix.len + 1) t low) (sym (add-zero _)) ok.3) u
     ]
-
-first_true : (a b : Bool) → (a && b) ≡ true → a ≡ true
-first_true true b e = refl
-first_true false b e = e
-
-second_true : (a b : Bool) → (a && b) ≡ true → b ≡ true
-second_true true b e = e
-second_true false b e = cc
-
-other_true : (a b : Bool) → a ≡ false → (a || b) ≡ true → b ≡ true
-other_true true b n e = cc
-other_true false b n e = e
-
-pub only_child_routes : {F V : Type 0} (b : Branch F V) → is_redundant b ≡ true → routes (only_child b) ≡ routes b
-only_child_routes Empty e = refl
-only_child_routes (Leaf l) e = sym (no_routes l e)
-only_child_routes (Fork' p prefix low high here) e =
-    let none = no_routes here (first_true _ _ e) in
-    let child = second_true (is_nil here) _ e in
-    elim (is_empty low) as (λ b. is_empty low ≡ b → routes (if b then high else low) ≡ here ++ (routes low ++ routes high)) [
-      | true ↦ λ n. rw (none, no_branch low n) refl
-      | false ↦ λ n. rw (none, no_branch high (other_true _ _ n child)) (sym (append-nil (routes low)))
-    ] refl
 
 module _ {V : Type 0} (key : RouteKey) where
   -- what is left, where it is something

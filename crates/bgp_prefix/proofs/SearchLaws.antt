@@ -11,6 +11,10 @@ use Rattle.std.specs.FinMap.Entries.{below_all, where_key, by_order}
 use Rattle.std.proofs.lemmas.Bool.{cases_order}
 use Rattle.bgp_prefix.specs.Searches.{IsAt, IsGap}
 
+pub both : (a b : Bool) → T a → T b → T (a && b)
+both true b p q = q
+both false b p q = p
+
 pub first : (a b : Bool) → T (a && b) → T a
 first true b p = tt
 first false b p = p
@@ -19,7 +23,7 @@ pub second : (a b : Bool) → T (a && b) → T b
 second true b p = p
 second false b p = absurd p
 
-less : (o : Ordering) → T (is_lt o) → o ≡ Less
+pub less : (o : Ordering) → T (is_lt o) → o ≡ Less
 less Less p = refl
 less Equal p = absurd p
 less Greater p = absurd p
@@ -39,14 +43,11 @@ module _ {K : Type 0} (cmp : K → K → Ordering) (o : IsTotalOrder cmp) where
         rw later (omega arith)
   ] refl
 
-  tied_less : (a k : K) → cmp a k ≡ Less → eq_by_cmp cmp k a ≡ false
+  pub tied_less : (a k : K) → cmp a k ≡ Less → eq_by_cmp cmp k a ≡ false
   tied_less a k e = ap is_eq (turn a k Less e)
 
-  tied_greater : (a k : K) → cmp a k ≡ Greater → eq_by_cmp cmp k a ≡ false
+  pub tied_greater : (a k : K) → cmp a k ≡ Greater → eq_by_cmp cmp k a ≡ false
   tied_greater a k e = ap is_eq (turn a k Greater e)
-
-  tied : (a k : K) → cmp a k ≡ Equal → cmp k a ≡ Equal
-  tied a k e = turn a k Equal e
 
 module _ {K V : Type 0} (cmp : K → K → Ordering) (o : IsTotalOrder cmp) where
   below_at : (x : K) (es : List (K × V)) (j : ℕ) (d : K × V) → T (below_all cmp x es) → j < length es → cmp x (get_or es j d).0 ≡ Less
@@ -116,12 +117,12 @@ module _ {K V : Type 0} (cmp : K → K → Ordering) (o : IsTotalOrder cmp) wher
 
   pub at_put : (es : List (K × V)) (k : K) (v : V) (i : ℕ) (d : K × V) → T (is_sorted cmp es) → IsAt cmp es k i → put cmp k v es ≡ set es i ((get_or es i d).0, v)
   at_put [] k v i d h at = absurd (omega (arith, at.in_range))
-  at_put (e ∷ es) k v zero d h at = ap (λ r. by_order r ((k, v) ∷ e ∷ es) ((e.0, v) ∷ es) (e ∷ put cmp k v es)) (tied cmp o e.0 k (at.has_key e))
+  at_put (e ∷ es) k v zero d h at = ap (λ r. by_order r ((k, v) ∷ e ∷ es) ((e.0, v) ∷ es) (e ∷ put cmp k v es)) (turn cmp o e.0 k Equal (at.has_key e))
   at_put (e ∷ es) k v (suc i) d h at = ap (λ r. by_order r ((k, v) ∷ e ∷ es) ((e.0, v) ∷ es) (e ∷ put cmp k v es)) (first_below e es k i h at) ∙ ap (λ t. e ∷ t) (at_put es k v i d (second _ _ h) (at_tail e es k i at))
 
   pub at_find : (es : List (K × V)) (k : K) (i : ℕ) (d : K × V) → T (is_sorted cmp es) → IsAt cmp es k i → find cmp k es ≡ Some (get_or es i d).1
   at_find [] k i d h at = absurd (omega (arith, at.in_range))
-  at_find (e ∷ es) k zero d h at = ap (λ r. cond (is_eq r) (Some e.1) (find cmp k es)) (tied cmp o e.0 k (at.has_key e))
+  at_find (e ∷ es) k zero d h at = ap (λ r. cond (is_eq r) (Some e.1) (find cmp k es)) (turn cmp o e.0 k Equal (at.has_key e))
   at_find (e ∷ es) k (suc i) d h at = ap (λ r. cond (is_eq r) (Some e.1) (find cmp k es)) (first_below e es k i h at) ∙ at_find es k i d (second _ _ h) (at_tail e es k i at)
 
   all_above : (x k : K) (es : List (K × V)) → cmp x k ≡ Equal → T (below_all cmp x es) → (j : ℕ) (d : K × V) → j < length es → cmp (get_or es j d).0 k ≡ Greater
@@ -130,7 +131,7 @@ module _ {K V : Type 0} (cmp : K → K → Ordering) (o : IsTotalOrder cmp) wher
   pub at_without : (es : List (K × V)) (k : K) (i : ℕ) → T (is_sorted cmp es) → IsAt cmp es k i → where_key cmp (λ x. not (eq_by_cmp cmp k x)) es ≡ remove es i
   at_without [] k i h at = absurd (omega (arith, at.in_range))
   at_without (e ∷ es) k zero h at =
-      ap (λ r. cond (not (is_eq r)) (e ∷ where_key cmp (λ x. not (eq_by_cmp cmp k x)) es) (where_key cmp (λ x. not (eq_by_cmp cmp k x)) es)) (tied cmp o e.0 k (at.has_key e))
+      ap (λ r. cond (not (is_eq r)) (e ∷ where_key cmp (λ x. not (eq_by_cmp cmp k x)) es) (where_key cmp (λ x. not (eq_by_cmp cmp k x)) es)) (turn cmp o e.0 k Equal (at.has_key e))
       ∙ (none_after es k (all_above e.0 k es (at.has_key e) (first _ _ h))).1
   at_without (e ∷ es) k (suc i) h at =
       ap (λ r. cond (not (is_eq r)) (e ∷ where_key cmp (λ x. not (eq_by_cmp cmp k x)) es) (where_key cmp (λ x. not (eq_by_cmp cmp k x)) es)) (first_below e es k i h at)

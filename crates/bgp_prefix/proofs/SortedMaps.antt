@@ -14,10 +14,9 @@ use Rattle.std.specs.FinMap as finite
 use Rattle.std.specs.FinMap.{find, put, get-entries, get-from_entries, len-entries, is_sorted}
 use Rattle.std.specs.FinMap.Entries.{same_entries, by_order}
 use Rattle.bgp_prefix.specs.Prefixes.{IpPrefix, prefix_cmp, prefix_eq}
-use Rattle.bgp_prefix.specs.Keys.{key_cmp}
+use Rattle.bgp_prefix.specs.Keys.{key_cmp, RouteKey}
 use Rattle.bgp_prefix.specs.Searches.{IsAt, IsGap}
 use Rattle.bgp_prefix.specs.Maps.{paths_of}
-use Rattle.bgp_prefix.specs.Keys.{RouteKey}
 use Rattle.bgp_prefix.proofs.KeyLaws.{key_cmp_total, key_cmp_exact, prefix_cmp_total, prefix_cmp_exact, prefix_tied, tied_same, same_prefix}
 use Rattle.bgp_prefix.proofs.SearchLaws.{sorted_at, index_le, turn}
 
@@ -53,7 +52,7 @@ of_put {V} P k v (e ∷ es) one all =
       | Greater ↦ All-cons Q e (put key_cmp k v es) (All-head Q e es all) (of_put P k v es one rest)
     ]
 
-found_here : {V : Type 0} (b : Bool) (v : V) (o : Option V) → is_some o ≡ true → is_some (cond b (Some v) o) ≡ true
+pub found_here : {V : Type 0} (b : Bool) (v : V) (o : Option V) → is_some o ≡ true → is_some (cond b (Some v) o) ≡ true
 found_here true v o h = refl
 found_here false v o h = h
 
@@ -111,7 +110,7 @@ filter_none test (x ∷ xs) none =
     ap (λ b. cond b (x ∷ filter test xs) (filter test xs)) (All-head (λ y. test y ≡ false) x xs none)
     ∙ filter_none test xs (All-tail (λ y. test y ≡ false) x xs none)
 
-less_of : (r : Ordering) → is_lt r ≡ true → r ≡ Less
+pub less_of : (r : Ordering) → is_lt r ≡ true → r ≡ Less
 less_of Less e = refl
 less_of Equal e = cc
 less_of Greater e = cc
@@ -149,9 +148,6 @@ scanned_past {V} es k i e sorted in_range below read greater = record {
         | inr (inr earlier) ↦ absurd (omega (arith, le, earlier))
       ];
 }
-
-pub scanned_whole : {V : Type 0} (es : List (RouteKey × V)) (k : RouteKey) (i : ℕ) → i ≤ length es → length es ≤ i → ((j : ℕ) (d : RouteKey × V) → j < i → key_cmp (get_or es j d).0 k ≡ Less) → IsGap key_cmp es k i
-scanned_whole es k i inside past below = record { in_range = inside; before = below; after = λ j d le lt. absurd (omega (arith, past, le, lt)) }
 
 -- one key more below
 pub scanned_more : {V : Type 0} (es : List (RouteKey × V)) (k : RouteKey) (i : ℕ) (e : RouteKey × V) → i < length es → ((j : ℕ) (d : RouteKey × V) → j < i → key_cmp (get_or es j d).0 k ≡ Less) → e ≡ get_or es i e → key_cmp e.0 k ≡ Less → (j : ℕ) (d : RouteKey × V) → j < i + 1 → key_cmp (get_or es j d).0 k ≡ Less

@@ -7,23 +7,19 @@ use Rattle.std.proofs.Math.Nat.{div-mul-le_self}
 use Rattle.std.specs.List.{All, Any}
 use Rattle.std.specs.List.Sorted.{IsPartitionPoint, IsPartitionedBy}
 use Rattle.std.proofs.lemmas.List.Sorted.{IsPartitionedBy-ltb}
-use Rattle.std.specs.Ordering.{nat_cmp, ordering_then}
+use Rattle.std.specs.Ordering.{nat_cmp, ordering_then, is_le}
 use Rattle.std.specs.declared.cmp.Ordering.TheVariants.{Less, Equal, Greater}
 use Rattle.std.specs.Cmp.{ranked}
 use Rattle.std.specs.FinMap.{is_sorted}
-use Rattle.std.specs.FinMap.Entries.{below_all}
-use Rattle.bgp_prefix.specs.Prefixes.{IpPrefix, IsIpPrefix, leading_bits, network_of, block_size, covers, prefix_eq, Starts}
-use Rattle.bgp_prefix.specs.Keys.{key_cmp, is_nil}
+use Rattle.std.specs.declared.cmp.Ordering.{Ordering}
+use Rattle.bgp_prefix.specs.Prefixes.{IpPrefix, IsIpPrefix, leading_bits, network_of, block_size, covers, prefix_eq, Starts, prefix_cmp}
+use Rattle.bgp_prefix.specs.Keys.{key_cmp, is_nil, RouteKey}
 use Rattle.bgp_prefix.specs.Splits.{upper_half, IsCover, IsSplit, IsOfOnePrefix}
-use Rattle.bgp_prefix.specs.Keys.{RouteKey}
-use Rattle.bgp_prefix.proofs.Bits.{fewer_bits, share_fewer, network_bits, IsIpPrefix-network}
+use Rattle.bgp_prefix.proofs.Bits.{share_fewer, network_bits, IsIpPrefix-network, half}
 use Rattle.bgp_prefix.proofs.KeyLaws.{key_cmp_total, same_prefix, other_prefix}
 use Rattle.bgp_prefix.proofs.NetworkLaws.{network, network_is, same_itself}
-use Rattle.bgp_prefix.proofs.SearchLaws.{sorted_at, first, second}
-
-both : (a b : Bool) → T a → T b → T (a && b)
-both true b p q = q
-both false b p q = p
+use Rattle.bgp_prefix.proofs.SearchLaws.{sorted_at}
+use Rattle.bgp_prefix.proofs.OrderLaws.{network_below, sorted_parts}
 
 -- p comes before q in the order of prefixes, or is q
 pub record IsUpTo (p q : IpPrefix) : Type 0 where
@@ -33,21 +29,26 @@ pub record IsUpTo (p q : IpPrefix) : Type 0 where
 up_to_itself : (p : IpPrefix) → IsUpTo p p
 up_to_itself p = record { low = omega arith; short = λ same. omega arith }
 
+pub up_to_of : (p q : IpPrefix) → is_le (prefix_cmp p q) ≡ true → IsUpTo p q
+up_to_of p q le = elim (nat_cmp p.addr q.addr) as (λ r. nat_cmp p.addr q.addr ≡ r → is_le (ordering_then r (nat_cmp p.len q.len)) ≡ true → IsUpTo p q) [
+  | Less ↦ λ e h. let lt : p.addr < q.addr = ranked p.addr q.addr Less (sym e) in record { low = omega arith; short = λ same. absurd (omega arith) }
+  | Equal ↦ λ e h.
+      let same : p.addr ≡ q.addr = ranked p.addr q.addr Equal (sym e) in
+      elim (nat_cmp p.len q.len) as (λ r. nat_cmp p.len q.len ≡ r → is_le r ≡ true → IsUpTo p q) [
+        | Less ↦ λ f k. let lt : p.len < q.len = ranked p.len q.len Less (sym f) in record { low = omega arith; short = λ _. omega arith }
+        | Equal ↦ λ f k. let eq : p.len ≡ q.len = ranked p.len q.len Equal (sym f) in record { low = omega arith; short = λ _. omega arith }
+        | Greater ↦ λ f k. cc
+      ] refl h
+  | Greater ↦ λ e h. cc
+] refl le
+
+le_then : (r o : Ordering) → ordering_then r o ≡ Less → is_le r ≡ true
+le_then Less o e = refl
+le_then Equal o e = refl
+le_then Greater o e = cc
+
 up_to_less : (j k : RouteKey) → key_cmp j k ≡ Less → IsUpTo j.prefix k.prefix
-up_to_less j k less =
-    let p = j.prefix in
-    let q = k.prefix in
-    elim (nat_cmp p.addr q.addr) as (λ r. nat_cmp p.addr q.addr ≡ r → ordering_then (ordering_then r (nat_cmp p.len q.len)) (nat_cmp j.id k.id) ≡ Less → IsUpTo p q) [
-      | Less ↦ λ e h. let lt : p.addr < q.addr = ranked p.addr q.addr Less (sym e) in record { low = omega arith; short = λ same. absurd (omega arith) }
-      | Equal ↦ λ e h.
-          let same : p.addr ≡ q.addr = ranked p.addr q.addr Equal (sym e) in
-          elim (nat_cmp p.len q.len) as (λ r. nat_cmp p.len q.len ≡ r → ordering_then r (nat_cmp j.id k.id) ≡ Less → IsUpTo p q) [
-            | Less ↦ λ f g. let lt : p.len < q.len = ranked p.len q.len Less (sym f) in record { low = omega arith; short = λ _. omega arith }
-            | Equal ↦ λ f g. let eq : p.len ≡ q.len = ranked p.len q.len Equal (sym f) in record { low = omega arith; short = λ _. omega arith }
-            | Greater ↦ λ f g. cc
-          ] refl h
-      | Greater ↦ λ e h. cc
-    ] refl less
+up_to_less j k less = up_to_of j.prefix k.prefix (le_then (prefix_cmp j.prefix k.prefix) (nat_cmp j.id k.id) less)
 
 -- the prefixes of a list in order
 pub rise : {V : Type 0} (es : List (RouteKey × V)) (i j : ℕ) (d : RouteKey × V) → T (is_sorted key_cmp es) → i ≤ j → j < length es → IsUpTo (get_or es i d).0.prefix (get_or es j d).0.prefix
@@ -64,15 +65,11 @@ bits_rise n a b le = le-div (leading_bits n a) b (block_size n) (pow_pos (128 - 
 pub share_between : (n a b c : ℕ) → a ≤ b → b ≤ c → leading_bits n a ≡ leading_bits n c → leading_bits n b ≡ leading_bits n a
 share_between n a b c low high same = omega (arith, same, bits_rise n a b low, bits_rise n b c high)
 
-two_below : (x t : ℕ) → x / 2 ≡ t → (x ≡ 2 * t) ⊎ (x ≡ 2 * t + 1)
-two_below x t e = elim (cases_lt x (2 * t + 1)) [ inl lt ↦ inl (omega (arith, lt, e)) | inr ge ↦ inr (omega (arith, ge, e)) ]
-
 -- the next bit is one of two
 pub next_of : (n a : ℕ) → n < 128 → (leading_bits (n + 1) a ≡ 2 * leading_bits n a) ⊎ (leading_bits (n + 1) a ≡ 2 * leading_bits n a + 1)
 next_of n a short =
-    let one : n + 1 - n ≡ 1 = omega arith in
-    let up : leading_bits (n + 1) a / 2 ^ (n + 1 - n) ≡ leading_bits n a = fewer_bits n (n + 1) a (omega arith) (omega (arith, short)) in
-    two_below (leading_bits (n + 1) a) (leading_bits n a) (ap (λ (k : ℕ). leading_bits (n + 1) a / 2 ^ k) (sym one) ∙ up)
+    let up = half a n short in
+    elim (cases_lt (leading_bits (n + 1) a) (2 * leading_bits n a + 1)) [ inl lt ↦ inl (omega (arith, lt, up)) | inr ge ↦ inr (omega (arith, ge, up)) ]
 
 -- the prefix of an address of its own
 own_network : (p : IpPrefix) → IsIpPrefix p → p ≡ network p.addr p.len
@@ -80,10 +77,7 @@ own_network p known = network_is p.addr p known (eq-eqb (leading_bits p.len p.ad
 
 -- a prefix whose bits another address has is no higher
 pub below_network : (p : IpPrefix) (n a : ℕ) → IsIpPrefix p → p.len ≤ n → n ≤ 128 → leading_bits n p.addr ≡ leading_bits n a → p.addr ≤ a
-below_network p n a known shorter short same =
-    let bits : leading_bits p.len p.addr ≡ leading_bits p.len a = share_fewer p.len n p.addr a shorter short same in
-    let at : leading_bits p.len a * block_size p.len ≡ p.addr = ap (λ (t : ℕ). t * block_size p.len) (sym bits) ∙ known.cleared in
-    omega (arith, at, div-mul-le_self a (block_size p.len))
+below_network p n a known shorter short same = network_below p a known (sym (share_fewer p.len n p.addr a shorter short same))
 
 -- the first and the last prefix of a list in order, which share n bits and no more
 module _ (f l : IpPrefix) (n : ℕ) (known_f : IsIpPrefix f) (known_l : IsIpPrefix l) (in_f : n ≤ f.len) (in_l : n ≤ l.len) (shared : leading_bits n f.addr ≡ leading_bits n l.addr) (longest : n < f.len → n < l.len → leading_bits (n + 1) f.addr ≢ leading_bits (n + 1) l.addr) (order : IsUpTo f l) (apart : f ≢ l) where
@@ -216,64 +210,47 @@ module _ (at p : IpPrefix) (known_at : IsIpPrefix at) (short : at.len < 128) (kn
   one_more : leading_bits (at.len + 1) p.addr ≡ p.addr / 2 ^ (127 - at.len)
   one_more = ap (λ (k : ℕ). p.addr / 2 ^ k) (omega arith)
 
-  pub starts_low : prefix_eq p at ≡ false → p.addr < upper_half at → Starts (at.len + 1) (2 * leading_bits at.len at.addr) p
-  starts_low other below =
+  -- the next bit of an address below the half, and of one that isn't
+  low_bit : p.addr < upper_half at → leading_bits (at.len + 1) p.addr ≡ 2 * leading_bits at.len at.addr
+  low_bit below =
       let lt : p.addr / 2 ^ (127 - at.len) < 2 * leading_bits at.len at.addr + 1 = div_below p.addr (2 ^ (127 - at.len)) (2 * leading_bits at.len at.addr + 1) (pow_pos (127 - at.len)) (omega (arith, below, half_is)) in
-      record {
-        long = omega (arith, longer other);
-        shared = elim (next_of at.len p.addr short) [
-          | inl low ↦ low ∙ ap (λ (t : ℕ). 2 * t) same_bits
-          | inr high ↦ absurd (omega (arith, lt, one_more, high, same_bits))
-        ];
-      }
+      elim (next_of at.len p.addr short) [
+        | inl low ↦ low ∙ ap (λ (t : ℕ). 2 * t) same_bits
+        | inr high ↦ absurd (omega (arith, lt, one_more, high, same_bits))
+      ]
+
+  high_bit : upper_half at ≤ p.addr → leading_bits (at.len + 1) p.addr ≡ 2 * leading_bits at.len at.addr + 1
+  high_bit above =
+      let le : 2 * leading_bits at.len at.addr + 1 ≤ p.addr / 2 ^ (127 - at.len) = le-div (2 * leading_bits at.len at.addr + 1) p.addr (2 ^ (127 - at.len)) (pow_pos (127 - at.len)) (omega (arith, above, half_is)) in
+      elim (next_of at.len p.addr short) [
+        | inl low ↦ absurd (omega (arith, le, one_more, low, same_bits))
+        | inr high ↦ high ∙ ap (λ (t : ℕ). 2 * t + 1) same_bits
+      ]
+
+  pub starts_low : prefix_eq p at ≡ false → p.addr < upper_half at → Starts (at.len + 1) (2 * leading_bits at.len at.addr) p
+  starts_low other below = record { long = omega (arith, longer other); shared = low_bit below }
 
   pub starts_high : upper_half at ≤ p.addr → Starts (at.len + 1) (2 * leading_bits at.len at.addr + 1) p
   starts_high above =
-      let le : 2 * leading_bits at.len at.addr + 1 ≤ p.addr / 2 ^ (127 - at.len) = le-div (2 * leading_bits at.len at.addr + 1) p.addr (2 ^ (127 - at.len)) (pow_pos (127 - at.len)) (omega (arith, above, half_is)) in
       let some : 0 < 2 ^ (127 - at.len) = pow_pos (127 - at.len) in
       record {
         long = elim (cases_lt at.len p.len) [
           | inl lt ↦ omega (arith, lt)
           | inr ge ↦ absurd (let same : p.addr ≡ at.addr = ap (λ (q : IpPrefix). q.addr) (of_own_length ge) in omega (arith, same, above, some))
         ];
-        shared = elim (next_of at.len p.addr short) [
-          | inl low ↦ absurd (omega (arith, le, one_more, low, same_bits))
-          | inr high ↦ high ∙ ap (λ (t : ℕ). 2 * t + 1) same_bits
-        ];
+        shared = high_bit above;
       }
 
   -- the next bit tells on which side of the half the address lies
   pub bit_is : eqb (leading_bits (at.len + 1) p.addr) (2 * leading_bits at.len p.addr) ≡ ltb p.addr (upper_half at)
   bit_is = elim (cases_lt p.addr (upper_half at)) [
-    | inl below ↦
-        let lt : p.addr / 2 ^ (127 - at.len) < 2 * leading_bits at.len at.addr + 1 = div_below p.addr (2 ^ (127 - at.len)) (2 * leading_bits at.len at.addr + 1) (pow_pos (127 - at.len)) (omega (arith, below, half_is)) in
-        let low : leading_bits (at.len + 1) p.addr ≡ 2 * leading_bits at.len p.addr = elim (next_of at.len p.addr short) [
-          | inl low ↦ low
-          | inr high ↦ absurd (omega (arith, lt, one_more, high, same_bits))
-        ] in
-        eq-eqb _ _ low ∙ sym (lt-ltb _ _ below)
-    | inr above ↦
-        let le : 2 * leading_bits at.len at.addr + 1 ≤ p.addr / 2 ^ (127 - at.len) = le-div (2 * leading_bits at.len at.addr + 1) p.addr (2 ^ (127 - at.len)) (pow_pos (127 - at.len)) (omega (arith, above, half_is)) in
-        let high : leading_bits (at.len + 1) p.addr ≡ 2 * leading_bits at.len p.addr + 1 = elim (next_of at.len p.addr short) [
-          | inl low ↦ absurd (omega (arith, le, one_more, low, same_bits))
-          | inr high ↦ high
-        ] in
-        ne_eqb _ _ (λ e. omega (arith, e, high)) ∙ sym (le-ltb _ _ above)
+    | inl below ↦ eq-eqb _ _ (low_bit below ∙ ap (λ (t : ℕ). 2 * t) (sym same_bits)) ∙ sym (lt-ltb _ _ below)
+    | inr above ↦ ne_eqb _ _ (λ e. omega (arith, e, high_bit above, same_bits)) ∙ sym (le-ltb _ _ above)
   ]
 
 pub by_bit : (r : Bool) (x y : ℕ) → x ≡ 2 * y + (if r then 0 else 1) → r ≡ eqb x (2 * y)
 by_bit true x y e = sym (eq-eqb _ _ (omega (arith, e)))
 by_bit false x y e = sym (ne_eqb _ _ (λ same. omega (arith, e, same)))
-
-parts_sorted : {V : Type 0} (es fs : List (RouteKey × V)) → T (is_sorted key_cmp (es ++ fs)) → T (is_sorted key_cmp es) × T (is_sorted key_cmp fs)
-parts_sorted [] fs h = (tt, h)
-parts_sorted {V} (e ∷ es) fs h =
-    let rest = parts_sorted es fs (second _ _ h) in
-    (both _ _ (below es (first _ _ h)) rest.0, rest.1)
-  where
-    below : (ds : List (RouteKey × V)) → T (below_all key_cmp e.0 (ds ++ fs)) → T (below_all key_cmp e.0 ds)
-    below [] k = tt
-    below (d ∷ ds) k = both _ _ (first _ _ k) (below ds (second _ _ k))
 
 one_of_some : {X : Type 0} (xs : List X) → 0 < length xs → X
 one_of_some [] h = absurd (omega (arith, h))
@@ -406,13 +383,13 @@ module _ {V : Type 0} (es : List (RouteKey × V)) (at : IpPrefix) (sorted : T (i
 
     -- each part is in order
     pub sorted_here : T (is_sorted key_cmp (take own es))
-    sorted_here = (parts_sorted (take own es) _ (subst (λ (xs : List (RouteKey × V)). T (is_sorted key_cmp xs)) (sym in_parts) sorted)).0
+    sorted_here = (sorted_parts (take own es) _ (subst (λ (xs : List (RouteKey × V)). T (is_sorted key_cmp xs)) (sym in_parts) sorted)).0
 
     sorted_rest : T (is_sorted key_cmp (drop own (take lower es) ++ drop lower es))
-    sorted_rest = (parts_sorted (take own es) _ (subst (λ (xs : List (RouteKey × V)). T (is_sorted key_cmp xs)) (sym in_parts) sorted)).1
+    sorted_rest = (sorted_parts (take own es) _ (subst (λ (xs : List (RouteKey × V)). T (is_sorted key_cmp xs)) (sym in_parts) sorted)).1
 
     pub sorted_low : T (is_sorted key_cmp (drop own (take lower es)))
-    sorted_low = (parts_sorted (drop own (take lower es)) (drop lower es) sorted_rest).0
+    sorted_low = (sorted_parts (drop own (take lower es)) (drop lower es) sorted_rest).0
 
     pub sorted_high : T (is_sorted key_cmp (drop lower es))
-    sorted_high = (parts_sorted (drop own (take lower es)) (drop lower es) sorted_rest).1
+    sorted_high = (sorted_parts (drop own (take lower es)) (drop lower es) sorted_rest).1

@@ -1,16 +1,15 @@
 -- Lookups in a branch of the trie.
-use Rattle.std.proofs.Common.{◌≡◌, ℕ, ◌+◌, ◌-◌, ◌*◌, ◌/◌, ◌^◌, ◌<◌, ◌≤◌, true, not, ◌||◌, ◌&&◌, List, [], ◌++◌, Option, Some, None, refl, sym, ap, add-zero, ◌∙◌, T, arith, subst}
+use Rattle.std.proofs.Common.{◌≡◌, ℕ, ◌+◌, ◌*◌, ◌/◌, ◌<◌, ◌≤◌, not, ◌||◌, ◌&&◌, List, ◌++◌, Option, Some, None, refl, sym, ap, add-zero, ◌∙◌, T, arith, subst}
 use Rattle.std.specs.List.{All}
 use Rattle.std.specs.Option.{option_or, is_some}
 use Rattle.std.specs.FinMap.{find}
 use Rattle.bgp_prefix.specs.Prefixes.{IpPrefix, IsIpPrefix, leading_bits, Starts}
-use Rattle.bgp_prefix.specs.Keys.{key_cmp, Changes, is_nil}
+use Rattle.bgp_prefix.specs.Keys.{key_cmp, Changes, is_nil, RouteKey}
 use Rattle.bgp_prefix.specs.Tries.{routes, IsTrie, IsUnder, IsRoutesOf, is_empty}
-use Rattle.bgp_prefix.specs.Keys.{RouteKey}
 use Rattle.bgp_prefix.specs.declared.radix.node.Branch.{Branch}
 use Rattle.bgp_prefix.specs.declared.radix.node.Branch.TheVariants.{Empty, Leaf, Fork'}
 use Rattle.bgp_prefix.specs.declared.radix.node.Fork.{Fork}
-use Rattle.bgp_prefix.proofs.Bits.{fewer_bits, share_fewer}
+use Rattle.bgp_prefix.proofs.Bits.{share_fewer, half}
 use Rattle.bgp_prefix.proofs.KeyLaws.{find-parts, Changes-front, Changes-back, or_none}
 use Rattle.bgp_prefix.proofs.SortedMaps.{of_found}
 
@@ -20,9 +19,7 @@ half_of t r x e h = omega (arith, e)
 -- what starts as a child of p does starts as p does
 pub starts_as_parent : (len bits : ℕ) (p q : IpPrefix) (r : ℕ) → p.len < 128 → Starts len bits p → r < 2 → Starts (p.len + 1) (2 * leading_bits p.len p.addr + r) q → Starts len bits q
 starts_as_parent len bits p q r short sp h sq =
-    let one : p.len + 1 - p.len ≡ 1 = omega arith in
-    let up : leading_bits (p.len + 1) q.addr / 2 ^ (p.len + 1 - p.len) ≡ leading_bits p.len q.addr = fewer_bits p.len (p.len + 1) q.addr (omega arith) (omega arith) in
-    let same : leading_bits p.len q.addr ≡ leading_bits p.len p.addr = sym up ∙ ap (λ (k : ℕ). leading_bits (p.len + 1) q.addr / 2 ^ k) one ∙ half_of _ r _ sq.shared h in
+    let same : leading_bits p.len q.addr ≡ leading_bits p.len p.addr = sym (half q.addr p.len short) ∙ half_of _ r _ sq.shared h in
     record {
       long = omega (arith, sp.long, sq.long);
       shared = share_fewer len p.len q.addr p.addr sp.long (omega arith) same ∙ sp.shared;
@@ -47,11 +44,6 @@ module _ {V : Type 0} where
       ∙ find-parts q (routes low) (routes high)
       ∙ ap (λ o. option_or o (find key_cmp q (routes high))) (find_outside low ok.5 (prefix.len + 1) (2 * leading_bits prefix.len prefix.addr) ok.3 q (λ s. out (starts_as_parent len bits prefix q.prefix 0 ok.1 under (omega arith) (record { long = s.long; shared = s.shared ∙ sym (add-zero _) }))))
       ∙ find_outside high ok.6 (prefix.len + 1) (2 * leading_bits prefix.len prefix.addr + 1) ok.4 q (λ s. out (starts_as_parent len bits prefix q.prefix 1 ok.1 under (omega arith) s))
-
-  pub no_branch : {F : Type 0} → (b : Branch F V) → is_empty b ≡ true → routes b ≡ []
-  no_branch Empty e = refl
-  no_branch (Leaf l) e = cc
-  no_branch (Fork' p prefix low high here) e = cc
 
   -- what holds of a fork
   abbrev pub IsFork : {F : Type 0} → Fork F V → Type 0

@@ -7,29 +7,17 @@ use Rattle.std.proofs.Math.ListN.{drop_of_length-le}
 use Rattle.std.specs.List.{All, AllWithin}
 use Rattle.std.specs.Option.{option_or}
 use Rattle.std.specs.FinMap.{is_sorted}
-use Rattle.bgp_prefix.specs.Prefixes.{IpPrefix, IsIpPrefix, leading_bits, network_of, contains, prefix_eq}
-use Rattle.bgp_prefix.specs.Keys.{key_cmp, last_match, matching_prefixes, begins_with}
-use Rattle.bgp_prefix.specs.Keys.{RouteKey}
-use Rattle.bgp_prefix.proofs.KeyLaws.{same_prefix}
+use borrow.Author.Tests.{both_ways}
+use Rattle.bgp_prefix.specs.Prefixes.{IpPrefix, IsIpPrefix, leading_bits, contains, prefix_eq}
+use Rattle.bgp_prefix.specs.Keys.{key_cmp, last_match, matching_prefixes, begins_with, RouteKey}
+use Rattle.bgp_prefix.proofs.KeyLaws.{same_prefix, or_none}
 use Rattle.bgp_prefix.proofs.NetworkLaws.{network, network_is, same_itself}
-use Rattle.bgp_prefix.proofs.OrderLaws.{AllKeys}
 use Rattle.bgp_prefix.proofs.SplitLaws.{IsUpTo, rise, below_network}
 use Rattle.bgp_prefix.proofs.JumpLaws.{no_longer, no_longer_than_shared}
-
-pub keys_of_all : {V : Type 0} (P : RouteKey → Type 0) (es : List (RouteKey × V)) → All (λ e. P e.0) es → AllKeys P es
-keys_of_all P [] all = tt
-keys_of_all P (e ∷ es) all = (all 0 e (omega arith), keys_of_all P es (λ k d lt. all (suc k) d (omega (arith, lt))))
-
-clash : (b : Bool) → b ≡ true → b ≡ false → ⊥
-clash b t f = let e : true ≡ false = sym t ∙ f in cc
 
 some_first : {A : Type 0} (o p : Option A) → is_some o ≡ true → option_or o p ≡ o
 some_first None p h = cc
 some_first (Some x) p h = refl
-
-none_second : {A : Type 0} (o : Option A) → option_or o None ≡ o
-none_second None = refl
-none_second (Some x) = refl
 
 some_either : {A : Type 0} (o : Option A) (x : A) → is_some (option_or o (Some x)) ≡ true
 some_either None x = refl
@@ -52,7 +40,7 @@ module _ {V : Type 0} (addr : ℕ) where
   no_match (e ∷ es) none =
       let out = none 0 e (omega arith) in
       let rest = no_match es (λ k d lt. none (suc k) d (omega (arith, lt))) in (
-        ap (λ t. option_or (last_match es addr) (cond t (Some e.0.prefix) None)) out ∙ none_second _ ∙ rest.0,
+        ap (λ t. option_or (last_match es addr) (cond t (Some e.0.prefix) None)) out ∙ or_none _ ∙ rest.0,
         ap (λ t. cond (t && not (begins_with e.0.prefix es)) 1 0 + matching_prefixes es addr) out ∙ omega (arith, rest.1),
       )
 
@@ -146,7 +134,7 @@ module _ {V : Type 0} {w : ℕ} (es : List (RouteKey × V)) (addr k limit steps 
         let a : q.addr ≡ p.addr = omega (arith, low.low, up.low) in
         let l : q.len ≡ p.len = omega (arith, low.short a, up.short (sym a)) in
         λ i. record { addr = a i; len = l i }
-    | inr past ↦ absurd (clash _ begins (ap (begins_with (get_or es j d).0.prefix) (drop_of_length-le es past)))
+    | inr past ↦ absurd (both_ways _ (ap (begins_with (get_or es j d).0.prefix) (drop_of_length-le es past)) begins)
   ]
 
   begins_itself : (q : IpPrefix) → q ≡ p → begins_with q (drop k es) ≡ true
@@ -163,7 +151,7 @@ module _ {V : Type 0} {w : ℕ} (es : List (RouteKey × V)) (addr k limit steps 
         | inl short ↦ absurd (omega (arith, short, long))
         | inr again ↦ sym (some_first longest _ (ap is_some walk.found ∙ match_at_front addr p rest again t)) ∙ found_more
       ]
-      | inr f ↦ sym (ap (λ b. option_or longest (cond b (Some p) None)) f ∙ none_second longest) ∙ found_more
+      | inr f ↦ sym (ap (λ b. option_or longest (cond b (Some p) None)) f ∙ or_none longest) ∙ found_more
     ];
     enough = elim (cases_Bool (contains p addr)) [
       | inl t ↦ elim (left_p t) [
@@ -212,14 +200,14 @@ module _ {V : Type 0} {w : ℕ} (es : List (RouteKey × V)) (addr k limit steps 
         | inr ge ↦
             let whole : shared ≡ p.len = omega (arith, ge, in_p) in
             let all : leading_bits p.len p.addr ≡ leading_bits p.len addr = subst (λ (n : ℕ). leading_bits n p.addr ≡ leading_bits n addr) whole same in
-            absurd (clash (contains p addr) (eq-eqb _ _ (sym all)) out)
+            absurd (both_ways _ out (eq-eqb _ _ (sym all)))
       ] in
       record {
         sorted = walk.sorted;
         known = walk.known;
         inside = omega (arith, walk.inside);
         front = λ j d z h. walk.front j d z (omega (arith, h));
-        found = sym (ap (λ b. option_or longest (cond b (Some p) None)) out ∙ none_second longest) ∙ found_more;
+        found = sym (ap (λ b. option_or longest (cond b (Some p) None)) out ∙ or_none longest) ∙ found_more;
         enough =
             let none : counted ≡ 0 = ap (λ b. cond (b && not (begins_with p rest)) 1 0) out in
             omega (arith, none, count_more, walk.enough);

@@ -3,8 +3,7 @@ use Rattle.std.specs.Prelude.{◌≢◌, ℕ, ◌<◌, IsTrue, List, map}
 use Rattle.std.specs.List.{filter}
 use Rattle.std.specs.FinMap as finite
 use Rattle.bgp_prefix.specs.Prefixes.{IpPrefix, contains, prefix_eq}
-use Rattle.bgp_prefix.specs.Keys.{key_cmp}
-use Rattle.bgp_prefix.specs.Keys.{RouteKey}
+use Rattle.bgp_prefix.specs.Keys.{key_cmp, RouteKey}
 
 -- p is the prefix of a held key and contains the address, and every other held key's prefix that contains it is shorter
 pub record IsLongestMatch {V : Type 0} (held : finite.FinMap key_cmp V) (addr : ℕ) (p : IpPrefix) : Type 0 where

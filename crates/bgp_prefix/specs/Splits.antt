@@ -2,8 +2,7 @@
 use Rattle.std.specs.Prelude.{◌≡◌, ℕ, ◌+◌, ◌-◌, ◌*◌, ◌^◌, ◌<◌, ◌||◌, ◌&&◌, not, true, T, List, ◌++◌, ◌⊎◌}
 use Rattle.std.specs.List.{All, Any}
 use Rattle.bgp_prefix.specs.Prefixes.{IpPrefix, IsIpPrefix, leading_bits, covers, Starts}
-use Rattle.bgp_prefix.specs.Keys.{is_nil}
-use Rattle.bgp_prefix.specs.Keys.{RouteKey}
+use Rattle.bgp_prefix.specs.Keys.{is_nil, RouteKey}
 
 -- a list of routes around a prefix: those of the prefix itself, and those of the longer ones by their next bit
 pub record IsSplit {V : Type 0} (old : List (RouteKey × V)) (at : IpPrefix)

@@ -3,8 +3,7 @@ use Rattle.std.specs.Prelude.{◌≡◌, ℕ, ◌+◌, ◌*◌, ◌<◌, Bool, i
 use Rattle.std.specs.List.{All}
 use Rattle.std.specs.FinMap.{is_sorted}
 use Rattle.bgp_prefix.specs.Prefixes.{IpPrefix, IsIpPrefix, leading_bits, Starts}
-use Rattle.bgp_prefix.specs.Keys.{key_cmp, is_nil, Changes}
-use Rattle.bgp_prefix.specs.Keys.{RouteKey}
+use Rattle.bgp_prefix.specs.Keys.{key_cmp, is_nil, Changes, RouteKey}
 use Rattle.bgp_prefix.specs.declared.radix.node.Branch.{Branch}
 use Rattle.bgp_prefix.specs.declared.radix.node.Branch.TheVariants.{Empty, Leaf, Fork'}
 use Rattle.bgp_prefix.specs.declared.radix.node.Fork.{Fork}

@@ -8,7 +8,7 @@
 //!
 //! `PrefixMap` is a trait whose one ghost member, `contents`, is its meaning: a finite map from keys. Everything above
 //! is generic over it and proved once. `Flat` is a sorted list, for few keys. `Radix` is a path-compressed trie, for a
-//! counted longest-prefix match (RFC 1812, 5.2.4.3). `Shelf`, in `prefix_shelf`, is the map of the program.
+//! counted longest-prefix match (RFC 1812, 5.2.4.3). `ChunkedMap`, in `chunked_map`, is the map of the program.
 //!
 //! - A map takes the allocator at each call that allocates, and an `insert` that fails leaves it as it was.
 //! - A leaf of the trie is a sorted list of the routes of several prefixes, and becomes a fork once it has more than

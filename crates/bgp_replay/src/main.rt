@@ -27,9 +27,10 @@ mod lists;
 mod notes;
 mod telling;
 
-use adj_rib::{RouteId, SharedRoute};
+use adj_rib::RouteId;
 use bgp_prefix::{Ipv6, Memory, Prefix};
 use bgp_update::Unicast;
+use chunked_map::ChunkedMap;
 use command_line::{
     AddressFamily, AddressText, Asked, Job, Usage, read_words, standard_input_fault, wrapped,
 };
@@ -40,7 +41,6 @@ use mrt_frame::{Counted, ReplayError};
 use mrt_replay::{Summary, run, status};
 use notes::tell_notes;
 use packed_io::PackedFiles;
-use prefix_shelf::Shelf;
 use replay_io::{
     Board, Counter, Counts, Device, Files, Input, Naps, OpenError, Output, Report, Watched,
     columns, inputs_of, packed_files_of, terminal_width,
@@ -380,7 +380,7 @@ fn replay<F: Replayed, R: Threads + Sync>(
     inputs: &mut [Input<'_, '_>],
     out: &mut Output<'_>,
 ) -> Result<Summary, ReplayError> {
-    run::<F, Shelf<F, RouteId>, Shelf<F, SharedRoute>, _, _, _, _, _>(
+    run::<F, ChunkedMap<F, RouteId>, _, _, _, _, _>(
         threads,
         rt.alloc(),
         inputs,

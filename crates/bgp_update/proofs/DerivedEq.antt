@@ -13,14 +13,9 @@ use Rattle.bgp_update.specs.Equality.{origin_number, aggregator_eq, hop_eq}
 
 same_one : (a b : Origin) → origin_impl.eq-value.it a b ≡ nat_eq (origin_number a) (origin_number b)
 same_one Igp Igp = refl
-same_one Igp Egp = refl
-same_one Igp Incomplete = refl
 same_one Egp Igp = refl
-same_one Egp Egp = refl
-same_one Egp Incomplete = refl
 same_one Incomplete Igp = refl
-same_one Incomplete Egp = refl
-same_one Incomplete Incomplete = refl
+same_one a b = refl
 
 pub same_origin : (a b : Option Origin) → option_eq origin_impl.eq-value.it a b ≡ option_eq (λ x y. nat_eq (origin_number x) (origin_number y)) a b
 same_origin None None = refl
@@ -36,14 +31,9 @@ same_aggregator (Some a) (Some b) = refl
 
 same_next_hop : (a b : NextHop) → hop_impl.eq-value.it a b ≡ hop_eq a b
 same_next_hop (V4 a) (V4 b) = refl
-same_next_hop (V4 a) (V6 b) = refl
-same_next_hop (V4 a) (V6Pair b link) = refl
 same_next_hop (V6 a) (V4 b) = refl
-same_next_hop (V6 a) (V6 b) = refl
-same_next_hop (V6 a) (V6Pair b link) = refl
 same_next_hop (V6Pair a link) (V4 b) = refl
-same_next_hop (V6Pair a link) (V6 b) = refl
-same_next_hop (V6Pair a link) (V6Pair b other) = refl
+same_next_hop a b = refl
 
 pub same_hop : (a b : Option NextHop) → option_eq hop_impl.eq-value.it a b ≡ option_eq hop_eq a b
 same_hop None None = refl

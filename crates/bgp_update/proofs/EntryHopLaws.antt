@@ -1,7 +1,9 @@
 -- A RIB entry's MP_REACH_NLRI is read as it is written, and what is read was written so.
 use Rattle.std.proofs.Common.{◌≡◌, ℕ, ◌≤◌, Bool, true, false, ◌&&◌, cond, eqb, ltb, List, [], ◌∷◌, ◌++◌, length, slice_index, drop, Option, Some, None, Result, Ok, Err, refl, sym, ap, subst, ◌∙◌, append-nil, arith, inl, inr}
 use Rattle.std.specs.Prelude.{IfSome}
-use Rattle.std.proofs.lemmas.Bool.{eqb-true, ltb-false, le-ltb}
+use Rattle.std.proofs.lemmas.Bool.{eqb-true, ltb-false, le-ltb, and_parts, eq-eqb}
+use Rattle.std.proofs.lemmas.List.{nil_from_length}
+use borrow.Author.Tests.{both_ways}
 use Rattle.byteorder.specs.Endian.{big_number}
 use Rattle.mrt_frame.specs.declared.fault.Fault.{Fault}
 use Rattle.mrt_frame.specs.Fields.{◌>>=◌, byte_at}
@@ -14,7 +16,7 @@ use Rattle.bgp_update.specs.Families.{FamilyOf}
 use Rattle.bgp_update.specs.AttributeTypes.{bad_attribute}
 use Rattle.bgp_update.specs.Multiprotocol.{hop_bytes, hop_part, IsEntryHop, SaysEntryHop, is_unicast, hop_at, entry_hop_in, hop_or_none, entry_hop}
 use Rattle.bgp_update.specs.Attributes.{HoldsEntryHop}
-use Rattle.bgp_update.proofs.MultiprotocolLaws.{both, not_both, test_ok, same_number, hop_takes, hop_part_again}
+use Rattle.bgp_update.proofs.MultiprotocolLaws.{test_ok, hop_takes, hop_part_again}
 
 abbrev bad : Fault
 bad = bad_attribute MpReachNlri
@@ -47,27 +49,23 @@ whole_takes family tail o fine e = by_tests (ltb (length (0 ∷ tail)) 3) (is_un
           afi = big_number 2 (0 ∷ tail);
           safi = slice_index (0 ∷ tail) 2;
           others = drop 3 (0 ∷ tail);
-          other = λ same. not_both (is_unicast family (0 ∷ tail)) u (rw (same.0, same.1) (ap (λ (b : Bool). b && true) (same_number family.afi)));
+          other = λ same. both_ways (is_unicast family (0 ∷ tail)) u (rw (same.0, same.1) (ap (λ (b : Bool). b && true) (eq-eqb family.afi family.afi refl)));
           spelled = parts_are tail (ltb-false _ _ s);
         })
     by_tests false true s u h =
         let r = bind_ok (hop_at (drop 3 (0 ∷ tail))) (λ hop. Ok (Some hop.0)) o h in
-        let tests = both (eqb (big_number 2 (0 ∷ tail)) family.afi) (eqb (slice_index (0 ∷ tail) 2) 1) u in
+        let tests = and_parts (eqb (big_number 2 (0 ∷ tail)) family.afi) (eqb (slice_index (0 ∷ tail) 2) 1) u in
         let k = hop_takes (drop 3 (0 ∷ tail)) r.0 (IsBytes-drop 3 (0 ∷ tail) fine) r.1 in
         let spelled : 0 ∷ tail ≡ 0 ∷ family.afi ∷ 1 ∷ (hop_part r.0.0 ++ r.0.1) =
         parts_are tail (ltb-false _ _ s) ∙ ap (λ (n : ℕ). 0 ∷ n ∷ slice_index (0 ∷ tail) 2 ∷ drop 3 (0 ∷ tail)) (eqb-true (big_number 2 (0 ∷ tail)) family.afi tests.0) ∙ ap (λ (n : ℕ). 0 ∷ family.afi ∷ n ∷ drop 3 (0 ∷ tail)) (eqb-true (slice_index (0 ∷ tail) 2) 1 tests.1) ∙ ap (λ (t : List ℕ). 0 ∷ family.afi ∷ 1 ∷ t) k.parts in
         subst (IsEntryHop family (0 ∷ tail)) (ok_is (Some r.0.0) o r.2) (inr (record { rest = r.0.1; fits = k.fits; spelled = spelled }))
-
-no_bytes : (rest : List ℕ) → length rest ≡ 0 → rest ≡ []
-no_bytes [] h = refl
-no_bytes (x ∷ rest) h = absurd (omega (arith, h))
 
 alone_takes : (family : FamilyOf) (value : List ℕ) (o : Option NextHop) → IsBytes value → alone value ≡ Ok o → IsEntryHop family value o
 alone_takes family value o fine e =
     let r = bind_ok (hop_at value) (λ hop. cond (eqb (length hop.1) 0) (Ok (Some hop.0)) (Err bad)) o e in
     let test = test_ok (eqb (length r.0.1) 0) bad (Ok (Some r.0.0)) o r.2 in
     let k = hop_takes value r.0 fine r.1 in
-    let none : r.0.1 ≡ [] = no_bytes r.0.1 (eqb-true (length r.0.1) 0 test.0) in
+    let none : r.0.1 ≡ [] = nil_from_length r.0.1 (eqb-true (length r.0.1) 0 test.0) in
     subst (IsEntryHop family value) (ok_is (Some r.0.0) o test.1) (inl (record { fits = k.fits; spelled = k.parts ∙ ap (λ (t : List ℕ). hop_part r.0.0 ++ t) none ∙ append-nil (hop_part r.0.0) }))
 
 pub entry_hop_in-is : (family : FamilyOf) (value : List ℕ) (o : Option NextHop) → IsBytes value → entry_hop_in family value ≡ Ok o → IsEntryHop family value o
@@ -96,11 +94,11 @@ other_again family afi safi others other = by_test (is_unicast family (0 ∷ afi
     by_test : (b : Bool) → is_unicast family (0 ∷ afi ∷ safi ∷ others) ≡ b → b ≡ false
     by_test false e = refl
     by_test true e =
-        let tests = both (eqb (big_number 2 (0 ∷ afi ∷ safi ∷ others)) family.afi) (eqb safi 1) e in
+        let tests = and_parts (eqb (big_number 2 (0 ∷ afi ∷ safi ∷ others)) family.afi) (eqb safi 1) e in
         absurd (other (sym (second_is afi (safi ∷ others)) ∙ eqb-true (big_number 2 (0 ∷ afi ∷ safi ∷ others)) family.afi tests.0, eqb-true safi 1 tests.1))
 
 own_here : (family : FamilyOf) (rest : List ℕ) → is_unicast family (0 ∷ family.afi ∷ 1 ∷ rest) ≡ true
-own_here family rest = ap (λ (n : ℕ). eqb n family.afi && true) (second_is family.afi (1 ∷ rest)) ∙ ap (λ (b : Bool). b && true) (same_number family.afi)
+own_here family rest = ap (λ (n : ℕ). eqb n family.afi && true) (second_is family.afi (1 ∷ rest)) ∙ ap (λ (b : Bool). b && true) (eq-eqb family.afi family.afi refl)
 
 pub entry_hop_in-said : (family : FamilyOf) (value : List ℕ) (o : Option NextHop) → IsEntryHop family value o → entry_hop_in family value ≡ Ok o
 unfolding entry_hop_in

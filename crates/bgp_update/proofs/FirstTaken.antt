@@ -1,7 +1,7 @@
 -- An attribute is taken: it has no fault beside what is kept, and its value is kept if it is the first of its type.
-use Rattle.std.proofs.Common.{◌≡◌, ℕ, Bool, true, false, cond, eqb, List, [], ◌∷◌, length, Option, Some, None, refl, sym, ap, ◌∙◌, arith}
+use Rattle.std.proofs.Common.{◌≡◌, ℕ, Bool, true, false, cond, eqb, List, [], length, Option, Some, None, refl, sym, ap, ◌∙◌, arith}
 use Rattle.std.proofs.lemmas.Bool.{eqb-true}
-use Rattle.mrt_frame.specs.declared.fault.Fault.{Fault}
+use Rattle.std.proofs.lemmas.List.{nil_from_length}
 use Rattle.bgp_update.specs.Families.{FamilyOf}
 use Rattle.bgp_update.specs.declared.attribute_type.AttributeType.{AttributeType}
 use Rattle.bgp_update.specs.declared.attribute_type.AttributeType.TheVariants as types
@@ -11,7 +11,8 @@ use Rattle.bgp_update.specs.declared.values.FirstValues.{FirstValues}
 use Rattle.bgp_update.specs.AttributeTypes.{type_of, bad_attribute}
 use Rattle.bgp_update.specs.Attributes.{WrittenAttribute, value_fault, refuses_repeat, fault_unless, fault_of_type, fault_beside}
 use Rattle.bgp_update.specs.Values.{kept_value, value_count, value_index, or_value, Takes}
-use Rattle.bgp_update.proofs.TypeLaws.{value_index_decides, no_type, equal_value_indices}
+use Rattle.bgp_update.proofs.TypeLaws.{value_index_decides, equal_value_indices}
+use Rattle.bgp_update.proofs.FormedValues.{no_fault}
 
 abbrev Values : Type 0
 Values = AttributeType → Option (List ℕ)
@@ -23,14 +24,6 @@ beside family carrier width value_at a t o e h = rw e (ap (λ (x : Option (List 
 or_none : (o : Option (List ℕ)) → o ≡ or_value o None
 or_none None = refl
 or_none (Some value) = refl
-
--- of a type that isn't looked at
-pub takes_other : (family : FamilyOf) (carrier : AttributeContext) (width : Width) (first : FirstValues) (a : WrittenAttribute) → type_of a.code ≡ None → Takes family carrier width first a first
-takes_other family carrier width first a e =
-    record {
-      passes = rw e refl;
-      kept = λ t. or_none (kept_value first t) ∙ ap (λ (b : Bool). or_value (kept_value first t) (cond b (Some a.value) None)) (sym (no_type a.code t e));
-    }
 
 -- the first of its type
 pub takes_first : (family : FamilyOf) (carrier : AttributeContext) (width : Width) (first later : FirstValues) (a : WrittenAttribute) (t : AttributeType) → type_of a.code ≡ Some t → kept_value first t ≡ None → value_fault family carrier width t a.value ≡ None
@@ -60,15 +53,7 @@ takes_again family carrier width first a t value e some allowed =
         sym held ∙ ap (λ (o : Option (List ℕ)). or_value o (Some a.value)) held
 
 -- ATOMIC_AGGREGATE has an empty value
-no_bytes : (value : List ℕ) → length value ≡ 0 → value ≡ []
-no_bytes [] h = refl
-no_bytes (x ∷ value) h = absurd (omega (arith, h))
-
-no_fault : (b : Bool) (fault : Fault) → fault_unless b fault ≡ None → b ≡ true
-no_fault true fault e = refl
-no_fault false fault e = absurd cc
-
 pub atomic_is_empty : (family : FamilyOf) (carrier : AttributeContext) (width : Width) (t : AttributeType) (value : List ℕ) → value_index t ≡ value_count → value_fault family carrier width t value ≡ None → value ≡ []
 unfolding value_fault
-atomic_is_empty family carrier width types.AtomicAggregate value h e = no_bytes value (eqb-true (length value) 0 (no_fault (eqb (length value) 0) (bad_attribute types.AtomicAggregate) e))
+atomic_is_empty family carrier width types.AtomicAggregate value h e = nil_from_length value (eqb-true (length value) 0 (no_fault (eqb (length value) 0) (bad_attribute types.AtomicAggregate) e))
 atomic_is_empty family carrier width t value h e = absurd (omega (arith, h))

@@ -1,7 +1,7 @@
 -- A value has no fault where it has the form of its type, and the other way round.
 use Rattle.std.proofs.Common.{◌≡◌, ℕ, Bool, true, false, ◌||◌, cond, eqb, List, [], ◌∷◌, length, Some, None, Result, Ok, Err, refl, ap, ◌∙◌, arith, inl, inr, ◌⊎◌}
 use Rattle.std.specs.Prelude.{is_some}
-use Rattle.std.proofs.lemmas.Bool.{eqb-true, ne_eqb}
+use Rattle.std.proofs.lemmas.Bool.{eqb-true, ne_eqb, eq-eqb}
 use Rattle.mrt_frame.specs.declared.fault.Fault.{Fault}
 use Rattle.mrt_frame.proofs.FieldLaws.{IsBytes}
 use Rattle.bgp_update.specs.Families.{FamilyOf}
@@ -23,7 +23,7 @@ use Rattle.bgp_update.proofs.SegmentLaws.{path_in-bytes, path_in-is}
 use Rattle.bgp_update.proofs.MultiprotocolLaws.{reached_in-is, reached_in-bytes, unreached_in-is, unreached_in-bytes}
 
 -- a test without a fault
-no_fault : (b : Bool) (fault : Fault) → fault_unless b fault ≡ None → b ≡ true
+pub no_fault : (b : Bool) (fault : Fault) → fault_unless b fault ≡ None → b ≡ true
 no_fault true fault e = refl
 no_fault false fault e = absurd cc
 
@@ -36,9 +36,6 @@ one_of : (a b : Bool) → (a || b) ≡ true → (a ≡ true) ⊎ (b ≡ true)
 one_of true b e = inl refl
 one_of false b e = inr e
 
-same_test : (n : ℕ) → eqb n n ≡ true
-same_test n = grind arith
-
 -- ---- ORIGIN
 
 is_origin : (value : List ℕ) → is_some (origin_of value) ≡ true → (origin : Origin) × (value ≡ origin_number origin ∷ [])
@@ -49,11 +46,7 @@ is_origin (a ∷ b ∷ rest) e = absurd (too_long e)
     long = ne_eqb (length (a ∷ b ∷ rest)) 1 (λ h. absurd (omega (arith, h)))
 
     too_long : is_some (origin_of (a ∷ b ∷ rest)) ≡ true → ⊥
-    too_long h = let none : is_some (origin_of (a ∷ b ∷ rest)) ≡ false = rw long refl in absurd (differ (is_some (origin_of (a ∷ b ∷ rest))) none h)
-      where
-        differ : (t : Bool) → t ≡ false → t ≡ true → ⊥
-        differ true x y = absurd cc
-        differ false x y = absurd cc
+    too_long h = let none : is_some (origin_of (a ∷ b ∷ rest)) ≡ false = rw long refl in cc
 is_origin (a ∷ []) e = by_tests (eqb a 0) (eqb a 1) (eqb a 2) refl refl refl e
   where
     by_tests : (zero' one' two' : Bool) → eqb a 0 ≡ zero' → eqb a 1 ≡ one' → eqb a 2 ≡ two' → is_some (cond zero' (Some Igp) (cond one' (Some Egp) (cond two' (Some Incomplete) None))) ≡ true
@@ -74,7 +67,7 @@ has_length : (value : List ℕ) (n : ℕ) (fault : Fault) → fault_unless (eqb 
 has_length value n fault e = eqb-true (length value) n (no_fault (eqb (length value) n) fault e)
 
 length_passes : (value : List ℕ) (n : ℕ) (fault : Fault) → length value ≡ n → fault_unless (eqb (length value) n) fault ≡ None
-length_passes value n fault e = ap (λ (m : ℕ). fault_unless (eqb m n) fault) e ∙ ap (λ (b : Bool). fault_unless b fault) (same_test n)
+length_passes value n fault e = ap (λ (m : ℕ). fault_unless (eqb m n) fault) e ∙ ap (λ (b : Bool). fault_unless b fault) (eq-eqb n n refl)
 
 either_length : (value : List ℕ) (fault : Fault) → fault_unless (eqb (length value) 6 || eqb (length value) 8) fault ≡ None → (length value ≡ 6) ⊎ (length value ≡ 8)
 either_length value fault e =

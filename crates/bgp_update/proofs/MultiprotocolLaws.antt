@@ -1,8 +1,8 @@
 -- MP_REACH_NLRI and MP_UNREACH_NLRI are read as they are written, and what is read was written so.
 use Rattle.std.proofs.Common.{◌≡◌, ℕ, ◌^◌, ◌<◌, ◌≤◌, Bool, true, false, ◌&&◌, ◌||◌, cond, eqb, ltb, List, [], ◌∷◌, ◌++◌, length, slice_index, take, drop, Option, Some, None, Result, Ok, Err, refl, sym, ap, subst, ◌∙◌, append-nil, arith, inl, inr}
-use Rattle.std.specs.Prelude.{IfOk}
-use Rattle.std.proofs.lemmas.Bool.{eqb-true, ltb-false, le-ltb}
+use Rattle.std.proofs.lemmas.Bool.{eqb-true, ltb-false, le-ltb, and_parts, eq-eqb}
 use Rattle.std.proofs.lemmas.List.{take_all, drop_at, take-append-drop, length-drop}
+use borrow.Author.Tests.{both_ways}
 use Rattle.byteorder.specs.Endian.{big_number, big_bytes}
 use Rattle.byteorder.specs.Numbers.{big_number-reads_back, length-bytes_high_first, big_from-lt}
 use Rattle.mrt_frame.specs.declared.fault.Fault.{Fault}
@@ -12,22 +12,12 @@ use Rattle.mrt_frame.proofs.FieldLaws.{IsBytes, IsBytes-front, IsBytes-drop, big
 use Rattle.bgp_prefix.specs.Keys.{RouteKey}
 use Rattle.bgp_update.specs.Families.{FamilyOf, form_of}
 use Rattle.bgp_update.specs.declared.attribute_type.AttributeType.TheVariants.{MpReachNlri, MpUnreachNlri}
-use Rattle.bgp_update.specs.declared.attr_error.AttrError.{AttrError}
 use Rattle.bgp_update.specs.declared.next_hop.NextHop.{NextHop}
 use Rattle.bgp_update.specs.declared.next_hop.NextHop.TheVariants.{V4, V6, V6Pair}
-use Rattle.bgp_update.specs.Results.{Gives}
 use Rattle.bgp_update.specs.AttributeTypes.{bad_attribute}
-use Rattle.bgp_update.specs.Keys.{WrittenKey, keys_bytes, keys_of, with_keys}
+use Rattle.bgp_update.specs.Keys.{WrittenKey, keys_bytes, with_keys}
 use Rattle.bgp_update.specs.Multiprotocol.{family_bytes, hop_bytes, hop_part, FitsHop, IsOfAnotherFamily, IsReach, IsUnreach, SaysReach, SaysUnreach, is_unicast, is_hop_len, next_hop_of, hop_at, reach_at, reach_in, unreach_in, keys_beside, field_of, hop_of, reached_in, unreached_in, reached_keys, unreached_keys}
 use Rattle.bgp_update.proofs.KeyLaws.{keys_in-bytes, keys_in-is}
-
-pub both : (a b : Bool) → (a && b) ≡ true → (a ≡ true) × (b ≡ true)
-both true b e = (refl, e)
-both false b e = absurd cc
-
-pub not_both : (b : Bool) → b ≡ false → b ≡ true → ⊥
-not_both true e h = absurd cc
-not_both false e h = absurd cc
 
 -- a test that passed
 pub test_ok : {A : Type 0} (b : Bool) (fault : Fault) (r : Result A Fault) (y : A) → cond b r (Err fault) ≡ Ok y → (b ≡ true) × (r ≡ Ok y)
@@ -90,14 +80,11 @@ family_is (a ∷ b ∷ c ∷ rest) long fine =
 -- bytes for unicast routes of the family
 is_own : (family : FamilyOf) (value : List ℕ) → 3 ≤ length value → IsBytes value → is_unicast family value ≡ true → value ≡ family_bytes family.afi 1 ++ drop 3 value
 is_own family value long fine e =
-    let tests = both (eqb (big_number 2 value) family.afi) (eqb (slice_index value 2) 1) e in
+    let tests = and_parts (eqb (big_number 2 value) family.afi) (eqb (slice_index value 2) 1) e in
     family_is value long fine ∙ ap (λ (afi : ℕ). family_bytes afi (slice_index value 2) ++ drop 3 value) (eqb-true (big_number 2 value) family.afi tests.0) ∙ ap (λ (safi : ℕ). family_bytes family.afi safi ++ drop 3 value) (eqb-true (slice_index value 2) 1 tests.1)
 
-pub same_number : (n : ℕ) → eqb n n ≡ true
-same_number n = grind arith
-
 own_again : (family : FamilyOf) (rest : List ℕ) → is_unicast family (family_bytes family.afi 1 ++ rest) ≡ true
-own_again family rest = ap (λ (n : ℕ). eqb n family.afi && true) (big_number-reads_back 2 family.afi (1 ∷ rest) family.afi_fits) ∙ ap (λ (b : Bool). b && true) (same_number family.afi)
+own_again family rest = ap (λ (n : ℕ). eqb n family.afi && true) (big_number-reads_back 2 family.afi (1 ∷ rest) family.afi_fits) ∙ ap (λ (b : Bool). b && true) (eq-eqb family.afi family.afi refl)
 
 is_another : (family : FamilyOf) (value : List ℕ) → 3 ≤ length value → IsBytes value → is_unicast family value ≡ false → IsOfAnotherFamily family value
 is_another family value long fine e =
@@ -106,7 +93,7 @@ is_another family value long fine e =
       safi = slice_index value 2;
       others = drop 3 value;
       fits = big_from-lt 0 2 value fine;
-      other = λ same. not_both (is_unicast family value) e (rw (same.0, same.1) (ap (λ (b : Bool). b && true) (same_number family.afi)));
+      other = λ same. both_ways (is_unicast family value) e (rw (same.0, same.1) (ap (λ (b : Bool). b && true) (eq-eqb family.afi family.afi refl)));
       spelled = family_is value long fine;
     }
 
@@ -121,7 +108,7 @@ another_again family value h =
     by_test : (b : Bool) → is_unicast family (family_bytes h.afi h.safi ++ h.others) ≡ b → b ≡ false
     by_test false e = refl
     by_test true e =
-        let tests = both (eqb (big_number 2 (family_bytes h.afi h.safi ++ h.others)) family.afi) (eqb h.safi 1) e in
+        let tests = and_parts (eqb (big_number 2 (family_bytes h.afi h.safi ++ h.others)) family.afi) (eqb h.safi 1) e in
         absurd (h.other (sym afi_is ∙ eqb-true _ family.afi tests.0, eqb-true h.safi 1 tests.1))
 
 -- ---- next hops after their lengths
@@ -258,25 +245,9 @@ unreached_in-bytes family add_path value keys (inl h) =
 
 -- ---- the same as keys of routes
 
-pub reach_is_found : {X : Type 0} (view : X → Option NextHop × List RouteKey) (family : FamilyOf) (add_path : Bool) (value : List ℕ) (r : Result X AttrError) → IsBytes value → Gives view r (reached_keys family add_path (Some value)) → IfOk r (λ x. SaysReach family add_path value (view x).0 (view x).1)
-unfolding reached_keys
-reach_is_found view family add_path value (Err error) fine e = tt
-reach_is_found view family add_path value (Ok x) fine e =
-    let b = bind_ok (reached_in family add_path value) (λ reached. Ok (reached.0, keys_of reached.1)) (view x) e in
-    subst (λ (y : Option NextHop × List RouteKey). SaysReach family add_path value y.0 y.1) (ok_is (b.0.0, keys_of b.0.1) (view x) b.2) (b.0.1, reached_in-is family add_path value b.0 fine b.1, refl)
-
 pub reach_again_said : (family : FamilyOf) (add_path : Bool) (value : List ℕ) (hop : Option NextHop) (keys : List RouteKey) → SaysReach family add_path value hop keys → reached_keys family add_path (Some value) ≡ Ok (hop, keys)
 unfolding reached_keys
 reach_again_said family add_path value hop keys h = rw (reached_in-bytes family add_path value hop h.0 h.1) (ap (λ (ks : List RouteKey). Ok (hop, ks)) (sym h.2))
-
-pub unreach_is_found : {X : Type 0} (view : X → List RouteKey) (family : FamilyOf) (add_path : Bool) (front : List RouteKey) (value : List ℕ) (r : Result X AttrError) → IsBytes value → Gives view r (with_keys front (unreached_keys family add_path (Some value)))
-    → IfOk r (λ x. (keys : List RouteKey) × SaysUnreach family add_path value keys × (view x ≡ front ++ keys))
-unfolding unreached_keys
-unreach_is_found view family add_path front value (Err error) fine e = tt
-unreach_is_found view family add_path front value (Ok x) fine e =
-    let a = bind_ok (unreached_keys family add_path (Some value)) (λ keys. Ok (front ++ keys)) (view x) e in
-    let b = bind_ok (unreached_in family add_path value) (λ keys. Ok (keys_of keys)) a.0 a.1 in
-    (a.0, (b.0, unreached_in-is family add_path value b.0 fine b.1, sym (ok_is (keys_of b.0) a.0 b.2)), sym (ok_is (front ++ a.0) (view x) a.2))
 
 pub unreach_again_said : (family : FamilyOf) (add_path : Bool) (front : List RouteKey) (value : List ℕ) (keys : List RouteKey) → SaysUnreach family add_path value keys → with_keys front (unreached_keys family add_path (Some value)) ≡ Ok (front ++ keys)
 unfolding unreached_keys

@@ -8,7 +8,7 @@ use Rattle.bgp_update.specs.declared.width.Width.TheVariants.{Four}
 use Rattle.bgp_update.specs.declared.next_hop.NextHop.{NextHop}
 use Rattle.bgp_update.specs.declared.next_hop.NextHop.TheVariants.{V4, V6, V6Pair}
 use Rattle.bgp_update.specs.declared.route.Origin.{Origin}
-use Rattle.bgp_update.specs.declared.route.Origin.TheVariants.{Igp, Egp, Incomplete}
+use Rattle.bgp_update.specs.declared.route.Origin.TheVariants.{Igp}
 use Rattle.bgp_update.specs.declared.route.Aggregator.{Aggregator}
 use Rattle.bgp_update.specs.declared.route.Route.{Route}
 use Rattle.bgp_update.specs.Paths.{PathSegment}
@@ -42,16 +42,12 @@ flag-lt true = omega arith
 flag-lt false = omega arith
 
 origin_code-lt : (origin : Option Origin) → origin_code origin < 4
-origin_code-lt None = omega arith
 origin_code-lt (Some Igp) = omega arith
-origin_code-lt (Some Egp) = omega arith
-origin_code-lt (Some Incomplete) = omega arith
+origin_code-lt origin = omega arith
 
 hop_code-lt : (hop : Option NextHop) → hop_code hop < 4
-hop_code-lt None = omega arith
 hop_code-lt (Some (V4 a)) = omega arith
-hop_code-lt (Some (V6 a)) = omega arith
-hop_code-lt (Some (V6Pair a link)) = omega arith
+hop_code-lt hop = omega arith
 
 flags_are : (r : Route) → AreFlags (field_flags r) (origin_code r.origin) (flag r.atomic) (hop_code r.next_hop) (flag (is_some r.med)) (flag (is_some r.local_pref)) (flag (is_some r.aggregator))
 flags_are r =
@@ -61,10 +57,8 @@ flags_are r =
 -- ---- fields
 
 origin_again : (origin : Option Origin) → origin_by (origin_code origin) ≡ origin
-origin_again None = refl
 origin_again (Some Igp) = refl
-origin_again (Some Egp) = refl
-origin_again (Some Incomplete) = refl
+origin_again origin = refl
 
 atomic_again : (b : Bool) → eqb (flag b) 1 ≡ b
 atomic_again true = refl
@@ -200,10 +194,6 @@ unpacked-bytes r h = unpacked-laid (route_bytes r) r h (are_laid r)
 -- the bytes of a route are packed
 pub packed-bytes : (r : Route) (bytes : List ℕ) → CanPack r → bytes ≡ route_bytes r → IsPacked bytes
 packed-bytes r bytes h e = subst IsPacked (sym e) (record { fits = subst CanPack (sym (unpacked-bytes r h)) h; written = ap route_bytes (sym (unpacked-bytes r h)) })
-
--- equal bytes, equal routes
-pub same_bytes : (a b : Route) → CanPack a → CanPack b → route_bytes a ≡ route_bytes b → a ≡ b
-same_bytes a b ha hb e = sym (unpacked-bytes a ha) ∙ ap unpacked e ∙ unpacked-bytes b hb
 
 pub same_packed : (a b : List ℕ) → IsPacked a → IsPacked b → unpacked a ≡ unpacked b → a ≡ b
 same_packed a b ha hb e = ha.written ∙ ap route_bytes e ∙ sym hb.written

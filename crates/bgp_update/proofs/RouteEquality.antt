@@ -55,9 +55,7 @@ kind_of_number n = cond (nat_eq n 1) AsSet (cond (nat_eq n 2) AsSequence (cond (
 
 kind_back : (x : SegmentKind) → kind_of_number (kind_number x) ≡ x
 kind_back AsSet = refl
-kind_back AsSequence = refl
-kind_back ConfedSequence = refl
-kind_back ConfedSet = refl
+kind_back kind = refl
 
 same_aggregator : (x y : Aggregator) → aggregator_eq x y ≡ true → x ≡ y
 same_aggregator x y h =
@@ -69,16 +67,11 @@ aggregators_decide = record { same = same_aggregator; itself = λ x. and_from (n
 
 same_hop : (x y : NextHop) → hop_eq x y ≡ true → x ≡ y
 same_hop (V4 a) (V4 b) h = ap (λ n. V4 n) (eqb-true a b h)
-same_hop (V4 a) (V6 b) h = absurd cc
-same_hop (V4 a) (V6Pair b link) h = absurd cc
-same_hop (V6 a) (V4 b) h = absurd cc
 same_hop (V6 a) (V6 b) h = ap (λ n. V6 n) (eqb-true a b h)
-same_hop (V6 a) (V6Pair b link) h = absurd cc
-same_hop (V6Pair a link) (V4 b) h = absurd cc
-same_hop (V6Pair a link) (V6 b) h = absurd cc
 same_hop (V6Pair a link) (V6Pair b other) h =
     let parts = and_parts (nat_eq a b) (nat_eq link other) h in
     λ i. V6Pair (eqb-true a b parts.0 i) (eqb-true link other parts.1 i)
+same_hop x y h = absurd cc
 
 hop_itself : (x : NextHop) → hop_eq x x ≡ true
 hop_itself (V4 a) = eq-eqb a a refl

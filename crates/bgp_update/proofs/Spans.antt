@@ -1,5 +1,5 @@
 -- What spans have of lists stays when items come behind these; and the spans of an update that was decoded.
-use Rattle.std.proofs.Common.{◌≡◌, ℕ, ◌+◌, ◌≤◌, Bool, true, false, List, [], ◌∷◌, ◌++◌, length, take, drop, Option, Some, None, Result, Ok, Err, refl, sym, ap, subst, ◌∙◌, arith, append_assoc, length-append, length-drop}
+use Rattle.std.proofs.Common.{◌≡◌, ℕ, ◌+◌, ◌≤◌, List, [], ◌++◌, length, take, drop, Option, Some, None, Result, Ok, refl, sym, ap, subst, ◌∙◌, arith, append_assoc, length-append, length-drop}
 use Rattle.std.specs.Prelude.{IfSome, is_some}
 use Rattle.std.proofs.lemmas.List.{append-nil, drop-append-le, take-append-le}
 use Rattle.std.proofs.Math.Seq.{drop-append_seam, take-append_seam}
@@ -104,48 +104,31 @@ span_mid {A} front mid back all s parts start len =
     let dropped : drop s.start all ≡ mid ++ back = ap (drop s.start) parts ∙ ap (λ (k : ℕ). drop k (front ++ (mid ++ back))) start ∙ drop-append_seam front (mid ++ back) in
     (ap (take s.len) dropped ∙ ap (λ (k : ℕ). take k (mid ++ back)) len ∙ take-append_seam mid back, omega (arith, n, m, start, len, ap length parts))
 
--- the spans have these keys
-pub record HaveKeys (all : List RouteKey) (s : UpdateSpans) (withdrawn announced unreached reached : List RouteKey) : Type 0 where
-  pub withdrawn_are : span_of all s.withdrawn ≡ withdrawn
-  pub announced_are : span_of all s.announced ≡ announced
-  pub unreached_are : span_of all s.unreached ≡ unreached
-  pub reached_are : span_of all s.reached ≡ reached
-  pub withdrawn_within : IsWithin (length all) s.withdrawn
-  pub announced_within : IsWithin (length all) s.announced
-  pub unreached_within : IsWithin (length all) s.unreached
-  pub reached_within : IsWithin (length all) s.reached
+-- the span has these keys
+abbrev pub HasKeys : List RouteKey → Span → List RouteKey → Type 0
+HasKeys all s keys = (span_of all s ≡ keys) × IsWithin (length all) s
 
-have_keys : (before after : List RouteKey) (n : AppendedKeys) (route : Route) (read : Result Update Fault) (r : RouteSpan) (rr : Option RouteSpan) (s : UpdateSpans)
-    → (k : AreKeysOf before after n route read) → AreUpdateSpans (length before) n r rr s → HaveKeys after s k.withdrawn k.announced k.unreached k.reached
-have_keys before after n route read r rr s k spans =
-    let w = k.withdrawn in
-    let a = k.announced in
-    let u = k.unreached in
-    let z = k.reached in
-    let lw = k.withdrawn_len in
-    let la = k.announced_len in
-    let lu = k.unreached_len in
-    let lz = k.reached_len in
-    let n1 = length-append before w in
-    let n2 = length-append (before ++ w) a in
-    let n3 = length-append ((before ++ w) ++ a) u in
-    let second : after ≡ (before ++ w) ++ (a ++ (u ++ z)) = k.parts ∙ sym (append_assoc before w (a ++ (u ++ z))) in
-    let third : after ≡ ((before ++ w) ++ a) ++ (u ++ z) = second ∙ sym (append_assoc (before ++ w) a (u ++ z)) in
-    let fourth : after ≡ (((before ++ w) ++ a) ++ u) ++ (z ++ []) = third ∙ sym (append_assoc ((before ++ w) ++ a) u z) ∙ ap (λ (t : List RouteKey). (((before ++ w) ++ a) ++ u) ++ t) (sym (append-nil z)) in
-    let one = span_mid before w (a ++ (u ++ z)) after s.withdrawn k.parts (ap (λ (p : Span). p.start) spans.withdrawn) (ap (λ (p : Span). p.len) spans.withdrawn ∙ sym lw) in
-    let two = span_mid (before ++ w) a (u ++ z) after s.announced second (omega (arith, ap (λ (p : Span). p.start) spans.announced, lw, n1)) (ap (λ (p : Span). p.len) spans.announced ∙ sym la) in
-    let three = span_mid ((before ++ w) ++ a) u z after s.unreached third (omega (arith, ap (λ (p : Span). p.start) spans.unreached, lw, la, n1, n2)) (ap (λ (p : Span). p.len) spans.unreached ∙ sym lu) in
-    let four = span_mid (((before ++ w) ++ a) ++ u) z [] after s.reached fourth (omega (arith, ap (λ (p : Span). p.start) spans.reached, lw, la, lu, n1, n2, n3)) (ap (λ (p : Span). p.len) spans.reached ∙ sym lz) in
-    record {
-      withdrawn_are = one.0;
-      announced_are = two.0;
-      unreached_are = three.0;
-      reached_are = four.0;
-      withdrawn_within = one.1;
-      announced_within = two.1;
-      unreached_within = three.1;
-      reached_within = four.1;
-    }
+have_keys : (before after : List RouteKey) (n : AppendedKeys) (route : Route) (read : Result Update Fault) (k : AreKeysOf before after n route read) (w a u z : Span)
+    → w ≡ record { start = length before; len = n.withdrawn } → a ≡ record { start = length before + n.withdrawn; len = n.announced }
+    → u ≡ record { start = length before + n.withdrawn + n.announced; len = n.unreached } → z ≡ record { start = length before + n.withdrawn + n.announced + n.unreached; len = n.reached }
+    → HasKeys after w k.withdrawn × HasKeys after a k.announced × HasKeys after u k.unreached × HasKeys after z k.reached
+have_keys before after n route read k w a u z of_w of_a of_u of_z =
+    let kw = k.withdrawn in
+    let ka = k.announced in
+    let ku = k.unreached in
+    let kz = k.reached in
+    let n1 = length-append before kw in
+    let n2 = length-append (before ++ kw) ka in
+    let n3 = length-append ((before ++ kw) ++ ka) ku in
+    let second : after ≡ (before ++ kw) ++ (ka ++ (ku ++ kz)) = k.parts ∙ sym (append_assoc before kw (ka ++ (ku ++ kz))) in
+    let third : after ≡ ((before ++ kw) ++ ka) ++ (ku ++ kz) = second ∙ sym (append_assoc (before ++ kw) ka (ku ++ kz)) in
+    let fourth : after ≡ (((before ++ kw) ++ ka) ++ ku) ++ (kz ++ []) = third ∙ sym (append_assoc ((before ++ kw) ++ ka) ku kz) ∙ ap (λ (t : List RouteKey). (((before ++ kw) ++ ka) ++ ku) ++ t) (sym (append-nil kz)) in
+    let lens : (length kw ≡ n.withdrawn) × (length ka ≡ n.announced) × (length ku ≡ n.unreached) = (k.withdrawn_len, k.announced_len, k.unreached_len) in (
+      span_mid before kw (ka ++ (ku ++ kz)) after w k.parts (ap (λ (p : Span). p.start) of_w) (ap (λ (p : Span). p.len) of_w ∙ sym k.withdrawn_len),
+      span_mid (before ++ kw) ka (ku ++ kz) after a second (omega (arith, ap (λ (p : Span). p.start) of_a, n1)) (ap (λ (p : Span). p.len) of_a ∙ sym k.announced_len),
+      span_mid ((before ++ kw) ++ ka) ku kz after u third (omega (arith, ap (λ (p : Span). p.start) of_u, n1, n2)) (ap (λ (p : Span). p.len) of_u ∙ sym k.unreached_len),
+      span_mid (((before ++ kw) ++ ka) ++ ku) kz [] after z fourth (omega (arith, ap (λ (p : Span). p.start) of_z, n1, n2, n3)) (ap (λ (p : Span). p.len) of_z ∙ sym k.reached_len),
+    )
 
 -- ---- the update that was decoded
 
@@ -172,19 +155,19 @@ pub decoded_update : (before after : List RouteKey) (mid bytes : List ℕ) (n : 
     → IfSome rr (λ (t : RouteSpan). route_at bytes t ≡ by_hop route n.reached_hop) → IfSome rr (IsRouteAt bytes) → is_some rr ≡ is_some n.reached_hop
     → (read ≡ Ok (update_at after bytes s)) × IsUpdateAt after bytes s
 decoded_update before after mid bytes n route read r rr s k spans is there grown by reached_there both =
-    let keys = have_keys before after n route read r rr s k spans in
+    let keys = have_keys before after n route read k s.withdrawn s.announced s.unreached s.reached spans.withdrawn spans.announced spans.unreached spans.reached in
     let own : route_at bytes s.route ≡ route = ap (route_at bytes) spans.route ∙ route_at-grown mid bytes r grown there ∙ is in
     let own_there : IsRouteAt bytes s.route = subst (IsRouteAt bytes) (sym spans.route) (IsRouteAt-grown mid bytes r grown there) in
     let by_own : IfSome s.reached_route (λ (t : RouteSpan). route_at bytes t ≡ by_hop route n.reached_hop) = subst (λ (o : Option RouteSpan). IfSome o (λ (t : RouteSpan). route_at bytes t ≡ by_hop route n.reached_hop)) (sym spans.reached_route) by in
     let some_there : IfSome s.reached_route (IsRouteAt bytes) = subst (λ (o : Option RouteSpan). IfSome o (IsRouteAt bytes)) (sym spans.reached_route) reached_there in
     let same : is_some s.reached_route ≡ is_some n.reached_hop = ap is_some spans.reached_route ∙ both in
     let hop : hop_at bytes s.reached_route ≡ n.reached_hop = hop_is bytes route s.reached_route n.reached_hop by_own same in (
-      k.is ∙ ap (λ (u : Update). Ok u) (rw (keys.withdrawn_are, keys.announced_are, keys.unreached_are, keys.reached_are, own, hop) refl),
+      k.is ∙ ap (λ (u : Update). Ok u) (rw (keys.0.0, keys.1.0, keys.2.0, keys.3.0, own, hop) refl),
       record {
-        withdrawn = keys.withdrawn_within;
-        announced = keys.announced_within;
-        unreached = keys.unreached_within;
-        reached = keys.reached_within;
+        withdrawn = keys.0.1;
+        announced = keys.1.1;
+        unreached = keys.2.1;
+        reached = keys.3.1;
         route = own_there;
         reached_route = reached_is bytes s.route route s.reached_route n.reached_hop own by_own some_there;
         none = λ e. ap (λ (p : Span). p.len) spans.reached ∙ sym k.reached_len ∙ ap length (k.none (none_is s.reached_route n.reached_hop same e));
@@ -195,24 +178,9 @@ decoded_update before after mid bytes n route read r rr s k spans is there grown
 
 pub split_is : (after : List RouteKey) (n : AppendedKeys) (route : Route) (read : Result Update Fault) → AreKeysOf [] after n route read → read ≡ Ok (split_update after n route)
 split_is after n route read k =
-    let w = k.withdrawn in
-    let a = k.announced in
-    let u = k.unreached in
-    let z = k.reached in
-    let lw = k.withdrawn_len in
-    let la = k.announced_len in
-    let lu = k.unreached_len in
-    let lz = k.reached_len in
-    let n1 = length-append w a in
-    let n2 = length-append (w ++ a) u in
-    let second : after ≡ w ++ (a ++ (u ++ z)) = k.parts in
-    let third : after ≡ (w ++ a) ++ (u ++ z) = second ∙ sym (append_assoc w a (u ++ z)) in
-    let fourth : after ≡ ((w ++ a) ++ u) ++ (z ++ []) = third ∙ sym (append_assoc (w ++ a) u z) ∙ ap (λ (t : List RouteKey). ((w ++ a) ++ u) ++ t) (sym (append-nil z)) in
-    let first : take n.withdrawn after ≡ w = ap (take n.withdrawn) second ∙ ap (λ (m : ℕ). take m (w ++ (a ++ (u ++ z)))) (sym lw) ∙ take-append_seam w (a ++ (u ++ z)) in
-    let two = (span_mid w a (u ++ z) after (record { start = n.withdrawn; len = n.announced }) second (sym lw) (sym la)).0 in
-    let three = (span_mid (w ++ a) u z after (record { start = n.withdrawn + n.announced; len = n.unreached }) third (omega (arith, lw, la, n1)) (sym lu)).0 in
-    let four = (span_mid ((w ++ a) ++ u) z [] after (record { start = n.withdrawn + n.announced + n.unreached; len = n.reached }) fourth (omega (arith, lw, la, lu, n1, n2)) (sym lz)).0 in
-    k.is ∙ (λ i. Ok (record { withdrawn = sym first i ++ sym three i; announced = sym two i; reached = sym four i; route = route; reached_hop = n.reached_hop }))
+    let keys = have_keys [] after n route read k (record { start = 0; len = n.withdrawn }) (record { start = n.withdrawn; len = n.announced }) (record { start = n.withdrawn + n.announced; len = n.unreached }) (record { start = n.withdrawn + n.announced + n.unreached; len = n.reached })
+    refl (ap (λ (m : ℕ). record { start = m; len = n.announced }) (omega arith)) (ap (λ (m : ℕ). record { start = m; len = n.unreached }) (omega arith)) (ap (λ (m : ℕ). record { start = m; len = n.reached }) (omega arith)) in
+    k.is ∙ (λ i. Ok (record { withdrawn = sym keys.0.0 i ++ sym keys.2.0 i; announced = sym keys.1.0 i; reached = sym keys.3.0 i; route = route; reached_hop = n.reached_hop }))
 
 -- ---- a route that was packed behind other bytes
 

@@ -1,6 +1,7 @@
 -- Each type has a code, and an index for its value, of its own.
-use Rattle.std.proofs.Common.{◌≡◌, ℕ, Bool, true, false, cond, eqb, Option, Some, None, refl, sym, ap, ◌∙◌, arith}
-use Rattle.std.proofs.lemmas.Bool.{eqb-true}
+use Rattle.std.proofs.Common.{◌≡◌, ℕ, Bool, true, false, cond, eqb, Option, Some, None, refl, sym, ap, ◌∙◌}
+use Rattle.std.proofs.lemmas.Bool.{eqb-true, eq-eqb}
+use borrow.Author.Tests.{both_ways}
 use Rattle.bgp_update.specs.declared.attribute_type.AttributeType.{AttributeType}
 use Rattle.bgp_update.specs.declared.attribute_type.AttributeType.TheVariants as types
 use Rattle.bgp_update.specs.AttributeTypes.{type_code, type_of}
@@ -21,10 +22,6 @@ some_is t u e = ap (type_or t) e
 
 some_not : (t : AttributeType) → None ≡ Some t → ⊥
 some_not t e = cc
-
-no_and_yes : (b : Bool) → b ≡ false → b ≡ true → ⊥
-no_and_yes true f y = absurd cc
-no_and_yes false f y = absurd cc
 
 found : (code : ℕ) (t own : AttributeType) (others : Option AttributeType) → (others ≡ Some t → code ≡ type_code t) → cond (eqb code (type_code own)) (Some own) others ≡ Some t → code ≡ type_code t
 found code t own others more = by_test (eqb code (type_code own)) refl
@@ -69,33 +66,22 @@ type_at_value_index t = refl
 same_value_index : (t u : AttributeType) → value_index t ≡ value_index u → t ≡ u
 same_value_index t u e = sym (type_at_value_index t) ∙ ap type_at e ∙ type_at_value_index u
 
-same_test : (n : ℕ) → eqb n n ≡ true
-same_test n = grind arith
-
 -- the codes of a type and of another are equal where the indices of their values are
 pub value_index_decides : (code : ℕ) (t u : AttributeType) → type_of code ≡ Some t → eqb code (type_code u) ≡ eqb (value_index u) (value_index t)
 value_index_decides code t u e = by_test (eqb (value_index u) (value_index t)) refl
   where
     same : u ≡ t → eqb code (type_code u) ≡ true
-    same h = ap (λ (c : ℕ). eqb c (type_code u)) (type_is code t e ∙ ap type_code (sym h)) ∙ same_test (type_code u)
+    same h = ap (λ (c : ℕ). eqb c (type_code u)) (type_is code t e ∙ ap type_code (sym h)) ∙ eq-eqb (type_code u) (type_code u) refl
 
     is_other : eqb (value_index u) (value_index t) ≡ false → (b : Bool) → eqb code (type_code u) ≡ b → b ≡ false
     is_other h false k = refl
     is_other h true k =
         let same_types : t ≡ u = some_is t u (sym e ∙ ap type_of (eqb-true code (type_code u) k) ∙ type_again u) in
-        absurd (no_and_yes (eqb (value_index u) (value_index t)) h (ap (λ (x : AttributeType). eqb (value_index u) (value_index x)) same_types ∙ same_test (value_index u)))
+        absurd (both_ways (eqb (value_index u) (value_index t)) h (ap (λ (x : AttributeType). eqb (value_index u) (value_index x)) same_types ∙ eq-eqb (value_index u) (value_index u) refl))
 
     by_test : (b : Bool) → eqb (value_index u) (value_index t) ≡ b → eqb code (type_code u) ≡ b
     by_test true h = same (same_value_index u t (eqb-true (value_index u) (value_index t) h))
     by_test false h = is_other h (eqb code (type_code u)) refl
-
--- a code of no type that is looked at is that of none
-pub no_type : (code : ℕ) (t : AttributeType) → type_of code ≡ None → eqb code (type_code t) ≡ false
-no_type code t e = by_test (eqb code (type_code t)) refl
-  where
-    by_test : (b : Bool) → eqb code (type_code t) ≡ b → b ≡ false
-    by_test false h = refl
-    by_test true h = absurd (some_not t (sym e ∙ ap type_of (eqb-true code (type_code t) h) ∙ type_again t))
 
 pub equal_value_indices : (t u : AttributeType) → eqb (value_index t) (value_index u) ≡ true → t ≡ u
 equal_value_indices t u h = same_value_index t u (eqb-true (value_index t) (value_index u) h)

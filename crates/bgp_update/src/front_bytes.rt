@@ -1,7 +1,8 @@
 //! A few bytes, written one after another.
 
-ghost use Rattle.std.specs.Prelude.{◌≡◌, ◌+◌, ◌≤◌, [], ◌++◌, length};
+ghost use Rattle.std.specs.Prelude.{◌≡◌, ◌+◌, ◌≤◌, [], ◌++◌, OnOk, length};
 
+use bgp_prefix::Memory;
 use std::marker::Model;
 
 /// Up to 50 bytes: as many as a packed route has in front of its path.
@@ -44,11 +45,13 @@ impl FrontBytes {
         self.len = end;
     }
 
-    /// All bytes.
+    /// Appends all bytes to other ones. As many are copied each time, which takes no call.
     #[inline(always)]
-    pub fn as_slice(&self) -> &[u8]
-        ensures { result.now ≡ self.now }
+    pub fn append_to(&self, out: &mut Vec<u8>) -> Result<(), Memory>
+        ensures { OnOk result (out.new.items ≡ out.old.items ++ self.now) }
     {
-        &self.bytes[..self.len]
+        out.extend_from_slice(&self.bytes)?;
+        out.truncate(out.len() - (self.bytes.len() - self.len));
+        Ok(())
     }
 }

@@ -38,7 +38,7 @@ fn push_four(
     let path = first.value(AttributeType::AsPath);
     let mut front = FrontBytes::new();
     push_front(&mut front, fields_of(first), hop, path.is_some());
-    out.extend_from_slice(front.as_slice())?;
+    front.append_to(out)?;
     match path {
         Some(path) => {
             out.extend_from_slice(path)?;
@@ -130,9 +130,27 @@ pub(crate) fn pack_values(
     pack_by_hop(alloc, out, first, width, &hop)
 }
 
-/// Packs the route of these values by the next hop of MP_REACH_NLRI, if there is one. It isn't inlined, since most
-/// messages of IPv4 have none.
+/// The same apart from the code around it, since most messages of IPv4 have no such next hop.
 #[inline(never)]
+fn pack_apart(
+    alloc: Global,
+    out: &mut Vec<u8>,
+    first: &FirstValues<'_>,
+    width: Width,
+    hop: &Option<WrittenHop<'_>>,
+) -> Result<RouteSpan, Memory>
+    requires four { width ≡ Four → IfSome (kept_value first.now AsPath) IsSpelled }
+    requires writable { IsWritable (attributes.route_from width (kept_value first.now)).path }
+    ensures route { IfOk result (λ span. route_at out.new.items span
+        ≡ by_hop (attributes.route_from width (kept_value first.now)) hop.now) }
+    ensures there { IfOk result (IsRouteAt out.new.items) }
+    ensures grown { OnOk result (IsGrown out.old.items out.new.items) }
+{
+    pack_by_hop(alloc, out, first, width, hop)
+}
+
+/// Packs the route of these values by the next hop of MP_REACH_NLRI, if there is one.
+#[inline(always)]
 pub(crate) fn pack_reached(
     alloc: Global,
     out: &mut Vec<u8>,
@@ -151,7 +169,7 @@ pub(crate) fn pack_reached(
     if hop.is_none() {
         return Ok(None);
     }
-    let span = pack_by_hop(alloc, out, first, width, hop)?;
+    let span = pack_apart(alloc, out, first, width, hop)?;
     Ok(Some(span))
 }
 

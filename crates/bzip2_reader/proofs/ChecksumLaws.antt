@@ -3,6 +3,7 @@ use Rattle.std.proofs.Common.{◌≡◌, ℕ, ◌+◌, ◌-◌, ◌*◌, ◌/◌
 use Rattle.std.specs.Int.Bits.{bit_xor, xor_assoc, xor_zero_l, xor_zero_r}
 use Rattle.std.proofs.lemmas.Nat.{xor_comm, xor_shr, xor_mod, xor_block}
 use Rattle.std.proofs.lemmas.Grind.{common_steps}
+use Rattle.std.proofs.Math.Seq.{take-add}
 use Rattle.byteorder.specs.Endian.{big_from}
 use Rattle.bzip2_reader.specs.Checksums.{crc_bit, crc_bits, crc, IsTable}
 
@@ -190,15 +191,7 @@ crc_eight r u v (a ∷ b ∷ c ∷ d ∷ e ∷ f ∷ g ∷ h ∷ []) long small 
     ∙ ap (λ (n : ℕ). crc_bits 32 (bit_xor n v)) first
     ∙ bits_linear 32 (crc_bits 32 (bit_xor r u)) v
     ∙ ap (λ (n : ℕ). bit_xor n (crc_bits 32 v)) (sym (bits_more 32 32 (bit_xor r u)))
-crc_eight r u v [] long small p q = absurd (omega arith)
-crc_eight r u v (a ∷ []) long small p q = absurd (omega arith)
-crc_eight r u v (a ∷ b ∷ []) long small p q = absurd (omega arith)
-crc_eight r u v (a ∷ b ∷ c ∷ []) long small p q = absurd (omega arith)
-crc_eight r u v (a ∷ b ∷ c ∷ d ∷ []) long small p q = absurd (omega arith)
-crc_eight r u v (a ∷ b ∷ c ∷ d ∷ e ∷ []) long small p q = absurd (omega arith)
-crc_eight r u v (a ∷ b ∷ c ∷ d ∷ e ∷ f ∷ []) long small p q = absurd (omega arith)
-crc_eight r u v (a ∷ b ∷ c ∷ d ∷ e ∷ f ∷ g ∷ []) long small p q = absurd (omega arith)
-crc_eight r u v (a ∷ b ∷ c ∷ d ∷ e ∷ f ∷ g ∷ h ∷ i ∷ rest) long small p q = absurd (omega arith)
+crc_eight r u v bs long small p q = absurd (omega arith)
 
 pub table_more : (t : List ℕ) (i v : ℕ) → i < length t → IsTable i t → v ≡ crc_bits (8 * (i / 256) + 8) (i % 256 * 2 ^ 24) → IsTable (i + 1) (slice_set t i v)
 table_more t i v inside is e k below = grind (arith, common_steps, is k)
@@ -221,15 +214,10 @@ table_next t i before v low high is e p =
     ∙ sym (bits_more (8 * ((i - 256) / 256) + 8) 8 ((i - 256) % 256 * 2 ^ 24))
     ∙ ap (λ (n : ℕ). crc_bits n ((i - 256) % 256 * 2 ^ 24)) row ∙ ap (λ (n : ℕ). crc_bits (8 * (i / 256) + 8) (n * 2 ^ 24)) column
 
-pub take_two : (m n : ℕ) (bs : List ℕ) → take (m + n) bs ≡ take m bs ++ take n (drop m bs)
-take_two zero n bs = let e : 0 + n ≡ n = omega arith in rw e refl
-take_two (suc m) n [] = grind (arith, common_steps)
-take_two (suc m) n (b ∷ bs) = let e : suc m + n ≡ suc (m + n) = omega arith in rw e (ap (λ (l : List ℕ). b ∷ l) (take_two m n bs))
-
 pub crc_more : (r v u at n : ℕ) (bs : List ℕ) → v ≡ crc r (take at bs) → u ≡ crc v (take n (drop at bs)) → u ≡ crc r (take (at + n) bs)
 crc_more r v u at n bs p q =
     q ∙ ap (λ (x : ℕ). crc x (take n (drop at bs))) p ∙ sym (crc_append r (take at bs) (take n (drop at bs)))
-    ∙ ap (crc r) (sym (take_two at n bs))
+    ∙ ap (crc r) (sym (take-add at n bs))
 
 pub crc_one : (r v u at : ℕ) (bs : List ℕ) → at < length bs → v ≡ crc r (take at bs) → u ≡ crc_bits 8 (bit_xor v (slice_index bs at * 2 ^ 24)) → u ≡ crc r (take (at + 1) bs)
 unfolding crc

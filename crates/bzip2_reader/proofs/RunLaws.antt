@@ -10,11 +10,8 @@ use Rattle.bzip2_reader.specs.Runs.{IsWithin, count_written, left, written, writ
 -- ---- a text
 
 not_four : (n : ℕ) → n < 4 → (n == 4) ≡ false
-not_four zero h = refl
-not_four (suc zero) h = refl
-not_four (suc (suc zero)) h = refl
-not_four (suc (suc (suc zero))) h = refl
 not_four (suc (suc (suc (suc n)))) h = absurd (omega arith)
+not_four n h = refl
 
 drop_one : (text : List ℕ) (at : ℕ) → at < length text → drop at text ≡ slice_index text at ∷ drop (at + 1) text
 drop_one text at more = let next : suc at ≡ at + 1 = omega arith in drop-cons text at 0 more ∙ ap (λ n. slice_index text at ∷ drop n text) next
@@ -113,16 +110,6 @@ module _ (text piece : List ℕ) (old new : Runs) (was : IsWithin text old) (gav
 
   split : drop before whole ≡ piece ++ left text new
   split = sym was ∙ gave
-
-  sizes : length whole ≡ before + length (left text old)
-  sizes =
-      let all = ap length (sym (take-append-drop before whole)) ∙ length-append (take before whole) (drop before whole) in
-      let rest = ap length was in
-      let front = length-take-le before whole (omega arith) in
-      omega (arith, all, rest, front)
-
-  pub count_more : count_written text new ≡ before + length piece
-  count_more = let parts = ap length gave ∙ length-append piece (left text new) in omega (arith, parts, sizes)
 
   pub within_more : IsWithin text new
   within_more =

@@ -1,14 +1,14 @@
 //! Rows on dealings: whichever lane a peer has, the reports are the same.
 
 use crate::plans::{PLAN, full};
-use adj_rib::{RouteId, SharedRoute};
+use adj_rib::RouteId;
 use bgp_prefix::{Flat, PrefixMap, Radix};
+use chunked_map::ChunkedMap;
 use fixtures::{THREE_PEERS, THREE_ROUTES, bytes_of, message_of};
 use lane_deal::{ByBlocks, ByList, ByTurns, Dealing, NoGate, Plan};
 use mrt_body::Selection;
 use mrt_frame::Counted;
 use mrt_replay::run;
-use prefix_shelf::Shelf;
 use rib_report::Request;
 use std::alloc::Global;
 use std::marker::Sync;
@@ -36,7 +36,7 @@ fn check_dealing<M: PrefixMap<RouteId, Addr = u32> + Send + Sync + Drop, D: Deal
     assert!(rt; plan.check());
     let mut readers = [Counted::new(file.bytes.as_slice())];
     let mut out = Counted::new(Vec::<u8>::new(alloc));
-    let summary = run::<_, M, Shelf<u32, SharedRoute>, _, _, _, _, _>(
+    let summary = run::<_, M, _, _, _, _, _>(
         rt,
         alloc,
         &mut readers,
@@ -116,7 +116,7 @@ fn three_peers_have_the_same_tables_by_every_dealing(rt: HostRuntime) -> Result<
     let workers = [(1, 0), (1, 1), (2, 0), (3, 0), (3, 1), (64, 0)];
     check_plans::<Radix<u32, RouteId>>(&rt, alloc, &file, &workers, &rings, &list)?;
     check_plans::<Flat<u32, RouteId>>(&rt, alloc, &file, &workers, &rings, &list)?;
-    check_plans::<Shelf<u32, RouteId>>(&rt, alloc, &file, &workers, &rings, &list)
+    check_plans::<ChunkedMap<u32, RouteId>>(&rt, alloc, &file, &workers, &rings, &list)
 }
 
 /// 300 announcements, each by a peer of another address, 198.18.0.0 to 198.18.1.43.
@@ -176,7 +176,7 @@ fn three_hundred_peers_have_the_same_tables_in_tries(rt: HostRuntime) -> Result<
 
 #[test]
 fn three_hundred_peers_have_the_same_tables_in_shelves(rt: HostRuntime) -> Result<(), Fail> {
-    check_three_hundred::<Shelf<u32, RouteId>>(&rt, rt.alloc())
+    check_three_hundred::<ChunkedMap<u32, RouteId>>(&rt, rt.alloc())
 }
 
 #[test]

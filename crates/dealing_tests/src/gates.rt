@@ -1,7 +1,7 @@
 //! Gates of the tests: who runs beside whom, and what gates are told.
 
 use crate::plans::{PLAN, full};
-use adj_rib::{RouteId, SharedRoute};
+use adj_rib::RouteId;
 use bgp_prefix::Radix;
 use fixtures::{THREE_PEERS, bytes_of};
 use lane_deal::{ByTurns, Gate, Idle, Plan};
@@ -43,7 +43,7 @@ fn run_with<G: Gate + Sync>(
     let bytes = bytes_of(alloc, words)?;
     let mut readers = [Counted::new(bytes.as_slice())];
     let mut out = Counted::new(Vec::<u8>::new(alloc));
-    Ok(run::<_, Radix<u32, RouteId>, Radix<u32, SharedRoute>, _, _, _, _, _>(
+    Ok(run::<_, Radix<u32, RouteId>, _, _, _, _, _>(
         rt,
         alloc,
         &mut readers,

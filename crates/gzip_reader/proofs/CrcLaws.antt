@@ -3,6 +3,7 @@ use Rattle.std.proofs.Common.{◌≡◌, ℕ, ◌+◌, ◌-◌, ◌*◌, ◌/◌
 use Rattle.std.specs.Int.Bits.{bit_xor, xor_assoc, xor_zero_l, xor_zero_r}
 use Rattle.std.proofs.lemmas.Nat.{xor_comm, xor_shr, xor_mod, xor_block}
 use Rattle.std.proofs.lemmas.Grind.{common_steps}
+use Rattle.std.proofs.Math.Seq.{take-add}
 use Rattle.byteorder.specs.Endian.{little_from}
 use Rattle.gzip_reader.specs.Crc.{crc_bit, crc_bits, crc, IsTable}
 
@@ -215,15 +216,10 @@ eight_look_ups t bs r w is fits long small e =
     ∙ sym (bits_eight w _ _ _ _ _ _ _ refl refl refl refl refl refl refl)
     ∙ sym (crc_eight r w bs long small e)
 
-pub take_two : (m n : ℕ) (bs : List ℕ) → take (m + n) bs ≡ take m bs ++ take n (drop m bs)
-take_two zero n bs = let e : 0 + n ≡ n = omega arith in rw e refl
-take_two (suc m) n [] = grind (arith, common_steps)
-take_two (suc m) n (b ∷ bs) = let e : suc m + n ≡ suc (m + n) = omega arith in rw e (ap (λ (l : List ℕ). b ∷ l) (take_two m n bs))
-
 pub crc_more : (r v u at n : ℕ) (bs : List ℕ) → v ≡ crc r (take at bs) → u ≡ crc v (take n (drop at bs)) → u ≡ crc r (take (at + n) bs)
 crc_more r v u at n bs p q =
     q ∙ ap (λ (x : ℕ). crc x (take n (drop at bs))) p ∙ sym (crc_append r (take at bs) (take n (drop at bs)))
-    ∙ ap (crc r) (sym (take_two at n bs))
+    ∙ ap (crc r) (sym (take-add at n bs))
 
 pub crc_one : (r v u at : ℕ) (bs : List ℕ) → at < length bs → v ≡ crc r (take at bs) → u ≡ crc_bits 8 (bit_xor v (slice_index bs at)) → u ≡ crc r (take (at + 1) bs)
 unfolding crc

@@ -51,9 +51,6 @@ spelled_have_no b past colon text groups h = elim h [
 pub spelled_have_none : (text groups : List ℕ) → Spells text groups → HasNoPoint text
 spelled_have_none = spelled_have_no 46 (lit≤ tt) (λ e. absurd (omega arith))
 
-pub spelled_have_no_slash : (text groups : List ℕ) → Spells text groups → HasNo 47 text
-spelled_have_no_slash = spelled_have_no 47 (lit≤ tt) (λ e. absurd (omega arith))
-
 dotted_have_one : (text octets : List ℕ) → IsDotted text octets → HasNoPoint text → ⊥
 dotted_have_one text octets d h =
     let spelled = subst HasNoPoint d.spelled h in

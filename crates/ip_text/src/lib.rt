@@ -5,9 +5,9 @@
 //! - IPv6 addresses are written in full or short (RFC 5952, 4). The short text is defined by the longest run of zero
 //!   groups (`short_ipv6_text`) and spells its address, as RFC 4291, 2.2 reads it (`IsIpv6Text`); a text spells one
 //!   address.
-//! - Texts of small numbers (`DecimalTable`), those of groups in hexadecimal and the run of zeros of each pattern of zero
-//!   groups are made once, so that a short address takes no longer than a full one. Numbers of up to three digits are
-//!   copied from a table, four bytes at once, since how many digits a number has is hard to predict.
+//! - Texts of small numbers (`DecimalTable`), those of groups in hexadecimal and the run of zeros of each pattern of
+//!   zero groups are made once, so that a short address takes no longer than a full one. Numbers of up to three digits
+//!   are copied from a table, four bytes at once, since how many digits a number has is hard to predict.
 //! - Addresses of a family are written by their type (`WrittenAddress`), and in definitions by the family
 //!   (`address_text`).
 #![tactic(auto)]

@@ -1,19 +1,19 @@
 -- What the files gave, step by step.
-use Rattle.std.proofs.Common.{◌≡◌, ℕ, ◌≤◌, List, [], ◌∷◌, ◌++◌, length, Option, Some, None, Result, Ok, Err, refl, sym, ap, ◌∙◌, subst, append_assoc, length-append, arith, inl, inr}
+use Rattle.std.proofs.Common.{◌≡◌, ℕ, List, [], ◌∷◌, ◌++◌, length, map, Option, Result, Ok, Err, refl, sym, ap, ◌∙◌, subst, append_assoc, length-append, arith, inl, inr}
 use Rattle.std.specs.Prelude.{slice_index}
 use Rattle.std.specs.List.{filter_map}
 use Rattle.std.proofs.lemmas.List.Elements.{filter_map-append}
 use Rattle.mrt_frame.specs.Devices.{HasFailed}
 use Rattle.mrt_frame.specs.declared.error.ReplayError.{ReplayError}
 use Rattle.mrt_frame.specs.declared.error.ReplayError.TheVariants as errors
-use Rattle.mrt_body.specs.declared.standing.Standing.{Standing}
-use Rattle.mrt_body.specs.declared.standing.Standing.TheVariants as standings
+use Rattle.mrt_frame.specs.declared.read_state.ReadState.TheVariants as states
 use Rattle.mrt_body.specs.Units.{unit_of}
 use Rattle.std.proofs.lemmas.List.{append-nil, map-append}
 use Rattle.mrt_body.specs.declared.unit.Damage.{Damage}
 use Rattle.mrt_body.specs.Plain.{Found}
 use Rattle.mrt_body.specs.declared.unit.Found.TheVariants as found
-use Rattle.mrt_body.specs.ToCome.{UnitsState, TakesFound, KeepsPlan, NothingToCome, GivesAllBefore, found_to_come, refusals, units_left, Stops}
+use Rattle.mrt_body.specs.ToCome.{UnitsState, KeepsPlan, NothingToCome, HasEnded, GivesAllBefore, found_to_come, HasCause}
+use Rattle.mrt_body.specs.Readings.{Gives}
 use Rattle.lane_deal.specs.Results.{IfAnswered}
 use Rattle.lane_deal.specs.Asking.{TakesUnits, StopsReading, StopsBehind, as_refused, GivesFront, GivesAll, Asked, AskedInVain}
 
@@ -25,8 +25,7 @@ TakesUnits-none u k = record {
   found = λ contents h. (contents, h, record { found = refl; records = refl; aside = refl });
   few = omega arith;
   plan = (refl, refl, refl);
-  failed = λ e. e;
-  spent = λ e. e;
+  state = refl;
   idle = λ e. (refl, refl);
 }
 
@@ -47,31 +46,26 @@ TakesUnits-more a b c first second third taken more p q =
           );
       few = (let n = ap length (filter_map-append unit_of taken more) ∙ length-append (filter_map unit_of taken) (filter_map unit_of more) in let x = p.few in let y = q.few in omega arith);
       plan = (q.plan.0 ∙ p.plan.0, q.plan.1 ∙ p.plan.1, q.plan.2 ∙ p.plan.2);
-      failed = λ e. p.failed (q.failed e);
-      spent = λ e. p.spent (q.spent e);
+      state = q.state ∙ p.state;
       idle = λ e.
           let x = p.idle e in
-          let y = q.idle (subst (λ (v : UnitsState). v.standing ≡ standings.Failed) (sym x.0) e) in (y.0 ∙ x.0, ap (λ l. l ++ more) x.1 ∙ y.1);
+          let y = q.idle (subst (λ (v : UnitsState). v.state ≡ states.Failed) (sym x.0) e) in (y.0 ∙ x.0, ap (λ l. l ++ more) x.1 ∙ y.1);
     }
 
-no_unit : (refused : Option Damage) → filter_map unit_of (refusals refused) ≡ []
-no_unit None = refl
-no_unit (Some damage) = refl
-
--- the refusal that came, if one did
-pub TakesUnits-refused : (u u' : UnitsState) (k k' : Known) (refused : Option Damage) → TakesFound u k u' k' (refusals refused) → units_left u' ≤ units_left u → KeepsPlan u u' → u'.standing ≡ standings.Going → (u.standing ≡ standings.Failed → ⊥) → TakesUnits u k u' k' (refusals refused)
-TakesUnits-refused u u' k k' refused f few plan going whole = record {
-  found = f;
-  few = (let n = ap length (no_unit refused) in omega arith);
+-- what came of one call of the reading
+pub TakesUnits-one : {R : Type 0} (remaining : R → Option (List ℕ)) (failures : R → ℕ) (u u' : UnitsState) (files files' : List R) (given : List Found) → Gives remaining failures u files u' files' given → KeepsPlan u u'
+    → TakesUnits u (map remaining files) u' (map remaining files') given
+TakesUnits-one remaining failures u u' files files' given gives plan = record {
+  found = gives.found;
+  few = gives.few;
   plan = plan;
-  failed = λ e. absurd (cc);
-  spent = λ e. absurd (cc);
-  idle = λ e. absurd (whole e);
+  state = gives.state ∙ sym gives.reading;
+  idle = λ failed. let reading = gives.reading in absurd (cc);
 }
 
 -- what stops a reading later stops it
 pub stops_later : (u u' : UnitsState) (k k' : Known) (given : List Found) (before now after : List ℕ) (e : ReplayError) → TakesUnits u k u' k' given → now ≡ before → StopsReading u' k' now after e → StopsReading u k before after e
-stops_later u u' k k' given before now after (errors.Read file) p same (inl h) = inl (p.failed h.0, h.1 ∙ ap (λ (v : UnitsState). v.file) (p.idle (p.failed h.0)).0)
+stops_later u u' k k' given before now after (errors.Read file) p same (inl h) = let failed = sym p.state ∙ h.0 in inl (failed, h.1 ∙ ap (λ (v : UnitsState). v.file) (p.idle failed).0)
 stops_later u u' k k' given before now after (errors.Read file) p same (inr h) = inr (subst (λ l. HasFailed (slice_index l file) (slice_index after file)) same h)
 stops_later u u' k k' given before now after errors.Write p same h = h
 stops_later u u' k k' given before now after errors.Memory p same h = tt
@@ -81,10 +75,10 @@ stops_later u u' k k' given before now after errors.Records p same h = λ conten
     let limit = p.plan.1 in
     let records = x.2.records in
     omega arith
-stops_later u u' k k' given before now after errors.Spent p same h = p.spent h
+stops_later u u' k k' given before now after errors.Spent p same h = sym p.state ∙ h
 
 -- why one call of the reading stops it
-pub stops_one : (u u' : UnitsState) (k : Known) (before after : List ℕ) (e : ReplayError) → (u.standing ≡ standings.Failed → u' ≡ u) → Stops u k u' before after e → StopsReading u k before after e
+pub stops_one : (u u' : UnitsState) (k : Known) (before after : List ℕ) (e : ReplayError) → (u.state ≡ states.Failed → u' ≡ u) → HasCause u k u' before after e → StopsReading u k before after e
 stops_one u u' k before after (errors.Read file) same h = elim h.2 [ inl f ↦ inl (f, sym h.0 ∙ ap (λ (v : UnitsState). v.file) (same f)) | inr rose ↦ inr rose ]
 stops_one u u' k before after errors.Write same h = h
 stops_one u u' k before after errors.Memory same h = tt
@@ -93,17 +87,8 @@ stops_one u u' k before after errors.Spent same h = h.0
 
 -- ---- what stands before a failed read
 
-going_at : (s : Standing) → (s ≡ standings.Failed → ⊥) → (s ≡ standings.Spent → ⊥) → s ≡ standings.Going
-going_at standings.Going f g = refl
-going_at standings.Failed f g = absurd (f refl)
-going_at standings.Spent f g = absurd (g refl)
-
--- a reading goes on as it did
-pub going_still : (u u' : UnitsState) (k k' : Known) (given : List Found) → TakesUnits u k u' k' given → u.standing ≡ standings.Going → u'.standing ≡ standings.Going
-going_still u u' k k' given p going = going_at u'.standing (λ e. let f = p.failed e in cc) (λ e. let f = p.spent e in cc)
-
 -- one call of the reading whose read failed
-pub behind_one : (u u' : UnitsState) (k k' : Known) (file : ℕ) → (u.standing ≡ standings.Going → GivesAllBefore u k u' k' (errors.Read file)) → StopsBehind u k u' k' []
+pub behind_one : (u u' : UnitsState) (k k' : Known) (file : ℕ) → (u.state ≡ states.Reading → GivesAllBefore u k u' k' (errors.Read file)) → StopsBehind u k u' k' []
 behind_one u u' k k' file before = record { going = before; failed = λ _. refl }
 
 pub behind_more : (a b c : UnitsState) (first second third : Known) (given more : List Found) → TakesUnits a first b second given → StopsBehind b second c third more → StopsBehind a first c third (given ++ more)
@@ -111,7 +96,7 @@ behind_more a b c first second third given more p q =
     record {
       going = λ going contents h.
           let x = p.found contents h in
-          let f = q.going (going_still a b first second given p going) x.0 x.1 in
+          let f = q.going (p.state ∙ going) x.0 x.1 in
           record {
             part = f.part;
             fault = f.fault;
@@ -127,7 +112,7 @@ behind_more a b c first second third given more p q =
           };
       failed = λ e.
           let x = p.idle e in
-          let y = q.failed (subst (λ (v : UnitsState). v.standing ≡ standings.Failed) (sym x.0) e) in ap (λ l. l ++ more) x.1 ∙ y;
+          let y = q.failed (subst (λ (v : UnitsState). v.state ≡ states.Failed) (sym x.0) e) in ap (λ l. l ++ more) x.1 ∙ y;
     }
 
 pub front_from_takes : (a b : UnitsState) (k k' : Known) (given : List Found) → TakesUnits a k b k' given → GivesFront a k given
@@ -163,16 +148,18 @@ Listed-more r r' r'' a b c k k' k'' damage p q e =
       takes = subst (TakesUnits a k c k'') (sym (map-append (λ d. found.Refused d) p.listed (damage ∷ []))) (TakesUnits-more a b c k k' k'' (as_refused p.listed) (found.Refused damage ∷ []) p.takes q);
     }
 
-pub Asked-listed : (r r' : List Damage) (a b c : UnitsState) (k k' k'' : Known) → Listed r r' a k b k' → TakesUnits b k' c k'' [] → (c.pending ≡ [] → NothingToCome b k') → Asked r r' a k c k''
-Asked-listed r r' a b c k k' k'' p q none =
+pub Asked-listed : (r r' : List Damage) (a b c : UnitsState) (k k' k'' : Known) → Listed r r' a k b k' → TakesUnits b k' c k'' [] → c.state ≡ states.Reading → (c.pending ≡ [] → NothingToCome b k') → (c.pending ≡ [] → HasEnded c) → Asked r r' a k c k''
+Asked-listed r r' a b c k k' k'' p q reading none ended =
     record {
       listed = p.listed;
       refused = p.refused;
       takes = subst (TakesUnits a k c k'') (append-nil (as_refused p.listed)) (TakesUnits-more a b c k k' k'' _ _ p.takes q);
+      state = reading;
       ended = λ e. all_given a b k k' _ p.takes (none e);
+      at_end = λ e. (ended e).1;
     }
 
-pub AskedInVain-from : (r r' : List Damage) (a b c : UnitsState) (k k' k'' : Known) (file : ℕ) → Listed r r' a k b k' → (b.standing ≡ standings.Going → GivesAllBefore b k' c k'' (errors.Read file)) → AskedInVain r r' a k c k''
+pub AskedInVain-from : (r r' : List Damage) (a b c : UnitsState) (k k' k'' : Known) (file : ℕ) → Listed r r' a k b k' → (b.state ≡ states.Reading → GivesAllBefore b k' c k'' (errors.Read file)) → AskedInVain r r' a k c k''
 AskedInVain-from r r' a b c k k' k'' file p before =
     record {
       listed = p.listed;

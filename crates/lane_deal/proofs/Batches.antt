@@ -3,7 +3,7 @@ use Rattle.std.proofs.Common.{◌≡◌, ℕ, ◌<◌, List, [], ◌∷◌, ◌+
 use Rattle.std.proofs.lemmas.List.{get_or-map, length-map, map-append}
 use Rattle.mrt_body.specs.Events.{event_in}
 use Rattle.lane_deal.specs.Plain.{PeerUnit}
-use Rattle.lane_deal.specs.DecodedBatches.{AreDecoded, BatchState, IsDecodedAt, head_of, no_batch}
+use Rattle.lane_deal.specs.DecodedUnitLists.{AreDecoded, BatchState, IsDecodedAt, head_of, no_batch}
 
 pub AreDecoded-none : AreDecoded no_batch []
 AreDecoded-none = record { heads = refl; events = refl }

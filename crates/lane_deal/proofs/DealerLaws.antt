@@ -8,7 +8,6 @@ use Rattle.std.proofs.lemmas.List.Sums.{length-filter, count_by-le-length}
 use Rattle.std.proofs.lemmas.List.Folds.{list_any-append}
 use Rattle.std.proofs.Math.Bool.{or-true}
 use Rattle.mrt_frame.specs.declared.error.ReplayError.{ReplayError}
-use Rattle.mrt_body.specs.declared.standing.Standing.TheVariants as standings
 use Rattle.mrt_body.specs.declared.unit.Damage.{Damage}
 use Rattle.mrt_body.specs.Plain.{Found}
 use Rattle.mrt_body.specs.declared.unit.Found.TheVariants as found
@@ -127,12 +126,12 @@ module _ {D : Type 0} where
         ended = λ clash. absurd (cc);
       }
 
-  -- the unit that was lent and passed over is next
-  pub Next-lent : (old asked : Dealer D) (u u₁ u' : UnitsState) (k k₁ : Known) (unit : ReplayUnit) → old.blocked_unit ≡ None → Asks old asked → Asked old.refused.items asked.refused.items u k u₁ k₁ → u₁.pending ≡ unit ∷ drop 1 u₁.pending → GivesPending u₁ u' (take 1 u₁.pending)
-      → ((known : Known) → TakesFound u₁ known u' known (as_found (take 1 u₁.pending))) → units_left u' + length (take 1 u₁.pending) ≡ units_left u₁ → KeepsPlan u₁ u' → u₁.standing ≡ standings.Going → Next old asked u k u' k₁ (Some unit)
-  Next-lent old asked u u₁ u' k k₁ unit none asks p lent passes taken units plan going =
-      let one : take 1 u₁.pending ≡ unit ∷ [] = ap (take 1) lent in
-      let standing = ap (λ (v : UnitsState). v.standing) passes.0 in
+  -- the unit that was looked at and consumed is next
+  pub Next-peeked : (old asked : Dealer D) (u u₁ u' : UnitsState) (k k₁ : Known) (unit : ReplayUnit) → old.blocked_unit ≡ None → Asks old asked → Asked old.refused.items asked.refused.items u k u₁ k₁ → u₁.pending ≡ unit ∷ drop 1 u₁.pending → GivesPending u₁ u' (take 1 u₁.pending)
+      → ((known : Known) → TakesFound u₁ known u' known (as_found (take 1 u₁.pending))) → units_left u' + length (take 1 u₁.pending) ≡ units_left u₁ → KeepsPlan u₁ u' → Next old asked u k u' k₁ (Some unit)
+  Next-peeked old asked u u₁ u' k k₁ unit none asks p peeks consumes taken units plan =
+      let one : take 1 u₁.pending ≡ unit ∷ [] = ap (take 1) peeks in
+      let state = ap (λ (v : UnitsState). v.state) consumes.0 in
       let given = as_refused p.listed ++ found.Unit unit ∷ [] in
       record {
         given = given;
@@ -141,9 +140,8 @@ module _ {D : Type 0} where
           found = subst (λ l. TakesFound u₁ k₁ u' k₁ (as_found l)) one (taken k₁);
           few = (let n = ap length one in omega arith);
           plan = plan;
-          failed = λ e. sym standing ∙ e;
-          spent = λ e. sym standing ∙ e;
-          idle = λ e. absurd (cc);
+          state = state;
+          idle = λ e. let reading = p.state in absurd (cc);
         };
         asks = asks;
         order = ap (λ o. to_deal o given) none;

@@ -69,6 +69,6 @@ module _ {L S X : Type 0} (state : L → S) (held : S → List X) (with_held : S
       let same : get_or ws' k d ≡ get_or ws' k x = get_or_default ws' k d x b in
       two.got ∙ ap (with_held (state (get_or ws' k d))) one.given ∙ ap (λ s. with_held s (held (state (get_or ws k x)))) (ap state same ∙ one.got) ∙ back (state (get_or ws k x)) (get_or ls k []))
 
--- the items of a list after a call that was lent them
+-- the items of a list after a call that was given them
 pub items_now : {X : Type 0} (n : ℕ) (xs ys : List X) → length xs ≡ n → take n (xs ++ drop (length xs) ys) ≡ xs
 items_now n xs ys e = ap (λ m. take m (xs ++ drop (length xs) ys)) (sym e) ∙ take-append_seam xs (drop (length xs) ys)

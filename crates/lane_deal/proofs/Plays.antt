@@ -20,12 +20,13 @@ use Rattle.lane_deal.specs.Dealers.{Dealer}
 use Rattle.lane_deal.specs.Plain.{LaneSender, Worker}
 use Rattle.lane_deal.specs.declared.plan.Plan.{Plan}
 use Rattle.lane_deal.specs.declared.seats.Seats.{Seats}
-use Rattle.lane_deal.specs.declared.state.State.{State}
-use Rattle.lane_deal.specs.declared.state.State.TheVariants.{Spent}
+use Rattle.mrt_frame.specs.declared.read_state.ReadState.{ReadState}
+use Rattle.mrt_frame.specs.declared.read_state.ReadState.TheVariants.{Spent}
 use Rattle.lane_deal.specs.declared.step.Step.{Step}
 use Rattle.lane_deal.specs.declared.step.Step.TheVariants.{Blocked, FullBatch, End}
 use Rattle.lane_deal.specs.Asking.{GivesAll}
-use Rattle.lane_deal.specs.Results.{IfAnswered, StateAfter, is_spent, state_of_step, state_of_error}
+use Rattle.lane_deal.specs.Results.{IfAnswered, StateAfter, is_spent, state_of_step}
+use Rattle.mrt_frame.specs.Frames.{state_of_error}
 use Rattle.lane_deal.specs.DealerSteps.{StopsDealing}
 use Rattle.lane_deal.specs.LaneSenders.{in_lane, room_of}
 use Rattle.lane_deal.specs.ToDeal.{to_deal}
@@ -52,12 +53,12 @@ unspent_step FullBatch = refl
 unspent_step End = refl
 
 -- what follows of a round that answered
-pub answers_follow : {P Q : Type 0} (r : Result Step ReplayError) (s : State) → StateAfter r s → (is_spent s ≡ false → P → Q) → IfAnswered r P → IfAnswered r Q
+pub answers_follow : {P Q : Type 0} (r : Result Step ReplayError) (s : ReadState) → StateAfter r s → (is_spent s ≡ false → P → Q) → IfAnswered r P → IfAnswered r Q
 answers_follow (Ok x) s h f p = f (ap is_spent h ∙ unspent_step x) p
 answers_follow (Err e) s h f p = λ file same. f (ap is_spent (h ∙ ap state_of_error same)) (p file same)
 
 -- what holds of a round that answered holds where the replayer is not spent
-pub answered : {P : Type 0} (r : Result Step ReplayError) (s : State) → StateAfter r s → s ≢ Spent → IfAnswered r P → P
+pub answered : {P : Type 0} (r : Result Step ReplayError) (s : ReadState) → StateAfter r s → s ≢ Spent → IfAnswered r P → P
 answered (Ok x) s h ne p = p
 answered (Err (Read file)) s h ne p = p file refl
 answered (Err Write) s h ne p = absurd (ne h)

@@ -8,7 +8,7 @@ use Rattle.lane_deal.specs.Plain.{UnitList, PeerUnit, Worker}
 use Rattle.lane_deal.specs.UnitLists.{IsUnitList, units_of, units_of_lists}
 use Rattle.lane_deal.specs.UnitRings.{received, known_items, known_lists}
 use Rattle.lane_deal.proofs.UnitLists.{units_pushed}
-use Rattle.lane_deal.specs.DecodedBatches.{AreDecoded, BatchState, head_of, no_batch}
+use Rattle.lane_deal.specs.DecodedUnitLists.{AreDecoded, BatchState, head_of, no_batch}
 use Rattle.lane_deal.proofs.Batches.{AreDecoded-none, AreDecoded-more}
 use Rattle.lane_deal.specs.LaneWorkers.{Took, TookFront, TookSome, Takes, TakesAhead, Worked}
 

@@ -1,12 +1,10 @@
 -- What is asked of the files: refusals, which are listed, and then units.
-use Rattle.std.specs.Prelude.{◌≡◌, ◌⊎◌, ℕ, ◌+◌, ◌≤◌, ⊤, List, [], ◌++◌, map, drop, length, Option, Some, slice_index, Result, Ok, OnOk, IfErr}
-use Rattle.lane_deal.specs.declared.step.Step.{Step}
-use Rattle.lane_deal.specs.declared.step.Step.TheVariants.{End}
+use Rattle.std.specs.Prelude.{◌≡◌, ◌⊎◌, ℕ, ◌+◌, ◌≤◌, ⊤, List, [], ◌++◌, map, drop, length, Option, Some, slice_index, Result, OnOk, IfErr, MatchResult}
 use Rattle.std.specs.List.{filter_map}
 use Rattle.mrt_frame.specs.Devices.{HasFailed}
 use Rattle.mrt_frame.specs.declared.error.ReplayError.{ReplayError}
 use Rattle.mrt_frame.specs.declared.error.ReplayError.TheVariants as errors
-use Rattle.mrt_body.specs.declared.standing.Standing.TheVariants as standings
+use Rattle.mrt_frame.specs.declared.read_state.ReadState.TheVariants as states
 use Rattle.mrt_body.specs.Units.{unit_of}
 use Rattle.mrt_body.specs.declared.unit.Damage.{Damage}
 use Rattle.mrt_body.specs.Plain.{Found}
@@ -30,9 +28,9 @@ GivesAll u known given = (contents : List (List ℕ)) → drop u.file known ≡ 
 -- failed; where one had, nothing came.
 pub record StopsBehind (u : UnitsState) (known : List (Option (List ℕ))) (u' : UnitsState)
     (known' : List (Option (List ℕ))) (given : List Found) : Type 0 where
-  pub going : u.standing ≡ standings.Going → (contents : List (List ℕ)) →
+  pub going : u.state ≡ states.Reading → (contents : List (List ℕ)) →
       drop u.file known ≡ map (λ bytes. Some bytes) contents → FailsBehind u contents u' known' given
-  pub failed : u.standing ≡ standings.Failed → given ≡ []
+  pub failed : u.state ≡ states.Failed → given ≡ []
 
 -- These were given by the files. The reading goes on as it did, and no more units can come than before.
 pub record TakesUnits (u : UnitsState) (known : List (Option (List ℕ))) (u' : UnitsState)
@@ -40,34 +38,35 @@ pub record TakesUnits (u : UnitsState) (known : List (Option (List ℕ))) (u' : 
   pub found : TakesFound u known u' known' given
   pub few : length (filter_map unit_of given) + units_left u' ≤ units_left u
   pub plan : KeepsPlan u u'
-  pub failed : u'.standing ≡ standings.Failed → u.standing ≡ standings.Failed
-  pub spent : u'.standing ≡ standings.Spent → u.standing ≡ standings.Spent
-  pub idle : u.standing ≡ standings.Failed → (u' ≡ u) × (given ≡ [])
+  pub state : u'.state ≡ u.state
+  pub idle : u.state ≡ states.Failed → (u' ≡ u) × (given ≡ [])
 
 -- Why a reading stops: the reader of this file failed in this call, or it is the one at which the reading failed
 -- before; memory ran out, there are more records than the limit, or the reading was spent.
 abbrev pub StopsReading : UnitsState → List (Option (List ℕ)) → List ℕ → List ℕ → ReplayError → Type 0
-StopsReading u known before after (errors.Read file) = ((u.standing ≡ standings.Failed) × (file ≡ u.file)) ⊎
+StopsReading u known before after (errors.Read file) = ((u.state ≡ states.Failed) × (file ≡ u.file)) ⊎
     HasFailed (slice_index before file) (slice_index after file)
 StopsReading u known before after errors.Write = ⊥
 StopsReading u known before after errors.Memory = ⊤
 StopsReading u known before after errors.Records = HasMoreRecords u known
-StopsReading u known before after errors.Spent = u.standing ≡ standings.Spent
+StopsReading u known before after errors.Spent = u.state ≡ states.Spent
 
--- An answer leaves the readers' failures as they were, an error has its cause, and the end is that of the last file.
-pub record ReadsOn (u : UnitsState) (known : List (Option (List ℕ))) (before : List ℕ) (u' : UnitsState)
-    (after : List ℕ) (result : Result Step ReplayError) : Type 0 where
+-- The number of files stays, an answer leaves the readers' failures as they were, and an error has its cause.
+pub record ReadsOn {A : Type 0} (u : UnitsState) (known : List (Option (List ℕ))) (before : List ℕ) (u' : UnitsState)
+    (after : List ℕ) (result : Result A ReplayError) : Type 0 where
+  pub count : u'.count ≡ u.count
   pub sound : OnOk result (after ≡ before)
   pub cause : IfErr result (StopsReading u known before after)
-  pub at_end : result ≡ Ok End → u'.file ≡ u'.count
 
--- These refusals were listed. Where no unit pends then, they were all that was to come.
+-- These refusals were listed, and the reading goes on. Where no unit pends then, they were all that was to come.
 pub record Asked (r r' : List Damage) (u : UnitsState) (known : List (Option (List ℕ))) (u' : UnitsState)
     (known' : List (Option (List ℕ))) : Type 0 where
   pub listed : List Damage
   pub refused : r' ≡ r ++ listed
   pub takes : TakesUnits u known u' known' (as_refused listed)
+  pub state : u'.state ≡ states.Reading
   pub ended : u'.pending ≡ [] → GivesAll u known (as_refused listed)
+  pub at_end : u'.pending ≡ [] → u'.file ≡ u'.count
 
 -- these refusals were listed, and a read failed behind them
 pub record AskedInVain (r r' : List Damage) (u : UnitsState) (known : List (Option (List ℕ))) (u' : UnitsState)
@@ -76,3 +75,10 @@ pub record AskedInVain (r r' : List Damage) (u : UnitsState) (known : List (Opti
   pub refused : r' ≡ r ++ listed
   pub gives : GivesFront u known (as_refused listed)
   pub behind : StopsBehind u known u' known' (as_refused listed)
+
+-- what was listed by a call that answered, or whose read failed
+abbrev pub Lists : {A : Type 0} → List Damage → List Damage → UnitsState → List (Option (List ℕ)) → UnitsState →
+    List (Option (List ℕ)) → Result A ReplayError → Type 0
+Lists r r' u known u' known' result =
+    MatchResult result (λ _. Asked r r' u known u' known')
+    (λ e. (file : ℕ) → e ≡ errors.Read file → AskedInVain r r' u known u' known')

@@ -1,5 +1,5 @@
 -- What the dealer does in a round.
-use Rattle.std.specs.Prelude.{◌≡◌, ℕ, ◌+◌, ◌-◌, ◌^◌, ◌≤◌, min, List, [], ◌++◌, length, Option, Some, None, option_to_list, Result, IfOk, OnOk, OnErr, true}
+use Rattle.std.specs.Prelude.{◌≡◌, ℕ, ◌+◌, ◌-◌, ◌^◌, ◌≤◌, min, List, [], ◌++◌, length, Option, Some, None, option_to_list, Result, Ok, IfOk, OnOk, OnErr, true}
 use Rattle.std.specs.List.{AllByRecursion, filter_map, list_any}
 use Rattle.mrt_frame.specs.declared.error.ReplayError.{ReplayError}
 use Rattle.mrt_body.specs.declared.unit.Damage.{Damage}
@@ -98,8 +98,8 @@ module _ {D : Type 0} where
   pub record DealsOn (lane_of : ℕ → ℕ) (batch : ℕ) (senders senders' : List LaneSender) (old new : Dealer D) (u : UnitsState)
       (known : List (Option (List ℕ))) (before : List ℕ) (u' : UnitsState) (known' : List (Option (List ℕ)))
       (after : List ℕ) (result : Result Step ReplayError) : Type 0 where
-    pub count : u'.count ≡ u.count
     pub lanes : length senders' ≡ length senders
     pub reads : ReadsOn u known before u' after result
+    pub at_end : result ≡ Ok End → u'.file ≡ u'.count
     pub deals : IfAnswered result
         (DealsTo (Dealt lane_of) lane_of batch (room_of senders) senders senders' old new u known u' known' result)

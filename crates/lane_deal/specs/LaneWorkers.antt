@@ -2,7 +2,7 @@
 use Rattle.std.specs.Prelude.{◌≡◌, ◌+◌, ◌-◌, ◌^◌, ◌<◌, min, List, ◌++◌, length}
 use mathlib.Core.List.{IsPrefix}
 use Rattle.rtrb.specs.Ring.{SameConsumer}
-use Rattle.lane_deal.specs.DecodedBatches.{AreDecoded, BatchState}
+use Rattle.lane_deal.specs.DecodedUnitLists.{AreDecoded, BatchState}
 use Rattle.lane_deal.specs.Plain.{PeerUnit, Worker}
 use Rattle.lane_deal.specs.UnitRings.{received, known_items}
 

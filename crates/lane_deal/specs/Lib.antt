@@ -17,7 +17,7 @@ pub mod LaneWorkers
 pub mod Asking
 pub mod ToDeal
 pub mod Dealers
-pub mod DecodedBatches
+pub mod DecodedUnitLists
 pub mod DealerSteps
 pub mod Seating
 pub mod LaneRounds

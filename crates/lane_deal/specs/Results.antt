@@ -1,9 +1,10 @@
 -- What rounds answer.
-use Rattle.std.specs.Prelude.{◌≡◌, ℕ, Bool, true, false, Result, Ok, Err, MatchResult, ⊤}
+use Rattle.std.specs.Prelude.{◌≡◌, ℕ, Bool, true, false, Result, MatchResult}
+use Rattle.mrt_frame.specs.Frames.{state_of_error}
 use Rattle.mrt_frame.specs.declared.error.ReplayError.{ReplayError}
 use Rattle.mrt_frame.specs.declared.error.ReplayError.TheVariants as errors
-use Rattle.lane_deal.specs.declared.state.State.{State}
-use Rattle.lane_deal.specs.declared.state.State.TheVariants.{Running, Ended, Failed, Spent}
+use Rattle.mrt_frame.specs.declared.read_state.ReadState.{ReadState}
+use Rattle.mrt_frame.specs.declared.read_state.ReadState.TheVariants.{Reading, Ended, Failed, Spent}
 use Rattle.lane_deal.specs.declared.step.Step.{Step}
 use Rattle.lane_deal.specs.declared.step.Step.TheVariants.{Blocked, FullBatch, End}
 
@@ -11,31 +12,17 @@ use Rattle.lane_deal.specs.declared.step.Step.TheVariants.{Blocked, FullBatch, E
 abbrev pub IfAnswered : {A : Type 0} → Result A ReplayError → Type 0 → Type 0
 IfAnswered result P = MatchResult result (λ _. P) (λ e. (file : ℕ) → e ≡ errors.Read file → P)
 
-abbrev pub is_spent : State → Bool
-is_spent Running = false
+abbrev pub is_spent : ReadState → Bool
+is_spent Reading = false
 is_spent Ended = false
-is_spent (Failed file) = false
+is_spent Failed = false
 is_spent Spent = true
 
 -- what a replayer can still do after this answer
-abbrev pub state_of_step : Step → State
-state_of_step Blocked = Running
-state_of_step FullBatch = Running
+abbrev pub state_of_step : Step → ReadState
+state_of_step Blocked = Reading
+state_of_step FullBatch = Reading
 state_of_step End = Ended
 
-abbrev pub state_of_error : ReplayError → State
-state_of_error (errors.Read file) = Failed file
-state_of_error errors.Write = Spent
-state_of_error errors.Memory = Spent
-state_of_error errors.Records = Spent
-state_of_error errors.Spent = Spent
-
-abbrev pub StateAfter : Result Step ReplayError → State → Type 0
+abbrev pub StateAfter : Result Step ReplayError → ReadState → Type 0
 StateAfter result state = MatchResult result (λ step. state ≡ state_of_step step) (λ e. state ≡ state_of_error e)
-
--- what a replayer answers that no longer deals
-abbrev pub Repeats : State → Result Step ReplayError → Type 0
-Repeats Running result = ⊤
-Repeats Ended result = result ≡ Ok End
-Repeats (Failed file) result = result ≡ Err (errors.Read file)
-Repeats Spent result = result ≡ Err errors.Spent

@@ -1,7 +1,7 @@
-//! A single worker that takes units as they are dealt, in the thread that deals: they are decoded from their records, and
-//! pass no ring.
+//! A single worker that takes units as they are dealt, in the thread that deals: they are decoded from their records,
+//! and pass no ring.
 
-use crate::decoded_batch::DecodedBatch;
+use crate::decoded_units::DecodedUnits;
 use crate::gate::Gate;
 use crate::receives::Receives;
 use crate::sessions::Sessions;
@@ -20,12 +20,12 @@ const MOST_DECODED: usize = 32;
 #[derive(Drop)]
 pub struct Alone<S, F: Unicast> {
     worker: WorkerOf<S, F>,
-    waiting: DecodedBatch<F>,
+    waiting: DecodedUnits<F>,
 }
 
 impl<F: Unicast, S: Sessions<Addr = F>> Alone<S, F> {
     ghost use Rattle.std.specs.Prelude.{◌≡◌, ◌++◌, List, [], OnOk};
-    ghost use Rattle.lane_deal.specs.DecodedBatches.{no_batch};
+    ghost use Rattle.lane_deal.specs.DecodedUnitLists.{no_batch};
     ghost use Rattle.lane_deal.specs.LaneWorkers.{Takes, TakesAhead};
     ghost use Rattle.lane_deal.specs.Plain.{PeerUnit};
 
@@ -36,7 +36,7 @@ impl<F: Unicast, S: Sessions<Addr = F>> Alone<S, F> {
     {
         Alone {
             worker,
-            waiting: DecodedBatch::new(alloc),
+            waiting: DecodedUnits::new(alloc),
         }
     }
 

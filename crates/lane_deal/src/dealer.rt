@@ -1,11 +1,10 @@
 //! The dealing of what files give to the lanes.
 
-ghost use Rattle.std.specs.Prelude.{◌≡◌, ℕ, ◌<◌, ◌∷◌, [], length, map, drop, true, false, IfErr, IfSome, IfOk, MatchResult, OnErr, OnOk, None};
+ghost use Rattle.std.specs.Prelude.{◌≡◌, ℕ, ◌<◌, ◌∷◌, [], length, map, drop, IfSome, IfOk, OnErr, None};
 ghost use Rattle.std.specs.Option.{ForSome};
 ghost use Rattle.mrt_body.specs.Units.{IsSmallUnit};
-ghost use Rattle.mrt_body.specs.declared.standing.Standing.TheVariants as standings;
-ghost use Rattle.mrt_frame.specs.declared.error.ReplayError.TheVariants.{Read};
-ghost use Rattle.lane_deal.specs.Asking.{Asked, AskedInVain, StopsReading, TakesUnits};
+ghost use Rattle.mrt_frame.specs.declared.read_state.ReadState.TheVariants as states;
+ghost use Rattle.lane_deal.specs.Asking.{Lists, ReadsOn, TakesUnits};
 
 use crate::dealing::Dealing;
 use crate::gate::Gate;
@@ -15,7 +14,7 @@ use crate::receives::Receives;
 use crate::step::Step;
 use bgp_prefix::{Memory, Prefix};
 use bgp_update::{FamilyMark, Unicast};
-use mrt_body::{Damage, LentUnitOf, PayloadBytes, PeerKey, Unit, Units};
+use mrt_body::{Damage, PayloadBytes, PeekedUnitOf, PeerKey, Unit, Units};
 use mrt_frame::{ReplayError, Source};
 use peer_tables::Peers;
 use std::alloc::Global;
@@ -45,18 +44,10 @@ fn list_refusals<F: Unicast, R: Source>(
     refused: &mut Vec<Damage>,
 ) -> Result<(), ReplayError>
     requires { length files.old ≡ units.old.count }
-    ensures count { units.new.count ≡ units.old.count }
-    ensures going { OnOk result (units.new.standing ≡ standings.Going) }
-    ensures at_end { OnOk result (units.new.pending ≡ [] → units.new.file ≡ units.new.count) }
-    ensures sound { OnOk result (map R.failure_count files.new ≡ map R.failure_count files.old) }
-    ensures cause { IfErr result
-        (StopsReading units.old (map R.remaining files.old) (map R.failure_count files.old)
-        (map R.failure_count files.new)) }
-    ensures asked { MatchResult result
-        (λ _. Asked refused.old.items refused.new.items units.old (map R.remaining files.old) units.new
-        (map R.remaining files.new))
-        (λ e. (file : ℕ) → e ≡ Read file → AskedInVain refused.old.items refused.new.items units.old
-        (map R.remaining files.old) units.new (map R.remaining files.new)) }
+    ensures reads { ReadsOn units.old (map R.remaining files.old) (map R.failure_count files.old) units.new
+        (map R.failure_count files.new) result }
+    ensures asked { Lists refused.old.items refused.new.items units.old (map R.remaining files.old) units.new
+        (map R.remaining files.new) result }
 {
     while let Some(damage) = units.advance(alloc, files)? {
         refused.push(damage)?;
@@ -99,29 +90,20 @@ impl<F: Unicast, D: Dealing> Dealer<D, Prefix<F>, FamilyMark<F>> {
         files: &mut [R],
     ) -> Result<(), ReplayError>
         requires { length files.old ≡ units.old.count }
-        ensures count { units.new.count ≡ units.old.count }
-        ensures sound { OnOk result (map R.failure_count files.new ≡ map R.failure_count files.old) }
-        ensures cause { IfErr result
-            (StopsReading units.old (map R.remaining files.old) (map R.failure_count files.old)
-            (map R.failure_count files.new)) }
+        ensures reads { ReadsOn units.old (map R.remaining files.old) (map R.failure_count files.old) units.new
+            (map R.failure_count files.new) result }
         ensures same { self.new ≡ record self.old { refused = self.new.refused } }
         ensures waits { IfSome self.old.blocked_unit
             (λ _. (self.new.refused.items ≡ self.old.refused.items)
             × TakesUnits units.old (map R.remaining files.old) units.new (map R.remaining files.new) []) }
-        ensures going { OnOk result (self.old.blocked_unit ≡ None → units.new.standing ≡ standings.Going) }
-        ensures at_end { OnOk result
-            (self.old.blocked_unit ≡ None → units.new.pending ≡ [] → units.new.file ≡ units.new.count) }
         ensures failed { OnErr result (self.old.blocked_unit ≡ None) }
-        ensures asked { self.old.blocked_unit ≡ None → MatchResult result
-            (λ _. Asked self.old.refused.items self.new.refused.items units.old (map R.remaining files.old) units.new
-            (map R.remaining files.new))
-            (λ e. (file : ℕ) → e ≡ Read file → AskedInVain self.old.refused.items self.new.refused.items units.old
-            (map R.remaining files.old) units.new (map R.remaining files.new)) }
+        ensures asked { self.old.blocked_unit ≡ None → Lists self.old.refused.items self.new.refused.items units.old
+            (map R.remaining files.old) units.new (map R.remaining files.new) result }
     {
         if self.blocked_unit.is_some() {
             return Ok(());
         }
-        if units.is_lending() {
+        if units.has_next() {
             return Ok(());
         }
         list_refusals(alloc, units, files, &mut self.refused)
@@ -129,16 +111,16 @@ impl<F: Unicast, D: Dealing> Dealer<D, Prefix<F>, FamilyMark<F>> {
 
     /// Lends the next unit of the record that was cut last, unless a unit is blocked, which comes before it.
     #[inline(always)]
-    fn lent<'a>(&self, units: &'a Units<F>) -> Option<LentUnitOf<'a, F>>
+    fn peek<'a>(&self, units: &'a Units<F>) -> Option<PeekedUnitOf<'a, F>>
         ensures blocked_unit { IfSome result (λ _. self.now.blocked_unit ≡ None) }
-        ensures lends { IfSome result (λ lent. units.now.pending ≡ lent.unit ∷ drop 1 units.now.pending) }
-        ensures none { result ≡ None → self.now.blocked_unit ≡ None → units.now.standing ≡ standings.Going →
+        ensures peeks { IfSome result (λ peeked. units.now.pending ≡ peeked.unit ∷ drop 1 units.now.pending) }
+        ensures none { result ≡ None → self.now.blocked_unit ≡ None → units.now.state ≡ states.Reading →
             units.now.pending ≡ [] }
-        ensures small { IfSome result (λ lent. IsSmallUnit lent.unit) }
+        ensures small { IfSome result (λ peeked. IsSmallUnit peeked.unit) }
     {
         match &self.blocked_unit {
             Some(_) => None,
-            None => units.lend(),
+            None => units.peek(),
         }
     }
 
@@ -175,12 +157,9 @@ impl<F: Unicast, D: Dealing> Dealer<D, Prefix<F>, FamilyMark<F>> {
     ) -> Result<Step, ReplayError>
         requires lanes { 0 < K.count to.old }
         requires files { length files.old ≡ units.old.count }
-        ensures count { units.new.count ≡ units.old.count }
+        ensures reads { ReadsOn units.old (map R.remaining files.old) (map R.failure_count files.old) units.new
+            (map R.failure_count files.new) result }
         ensures lanes { K.count to.new ≡ K.count to.old }
-        ensures sound { OnOk result (map R.failure_count files.new ≡ map R.failure_count files.old) }
-        ensures cause { IfErr result
-            (StopsReading units.old (map R.remaining files.old) (map R.failure_count files.old)
-            (map R.failure_count files.new)) }
         ensures at_end { result ≡ Ok Step.End → units.new.file ≡ units.new.count }
         ensures deals { IfAnswered result
             (DealsTo (K.received (λ number. D.lane_of self.old.dealing number (K.count to.old)))
@@ -191,15 +170,19 @@ impl<F: Unicast, D: Dealing> Dealer<D, Prefix<F>, FamilyMark<F>> {
         let _dealt = self.dealt;
         for dealt in 0..batch {
             self.ask(alloc, units, files)?;
-            if let Some(lent) = self.lent(units) {
-                let (number, lane) = self.lane_for(&lent.unit.peer, lent.peer_index, to.lanes())?;
+            if let Some(peeked) = self.peek(units) {
+                let (number, lane) = self.lane_for(
+                    &peeked.unit.peer,
+                    peeked.peer_index,
+                    to.lanes(),
+                )?;
                 if !to.has_room(gate, lane, looks, round_over) {
-                    self.blocked_unit = Some(lent.unit.to_unit(alloc)?);
-                    units.pass();
+                    self.blocked_unit = Some(peeked.unit.to_unit(alloc)?);
+                    units.consume();
                     return Ok(Step::Blocked);
                 }
-                to.receive(alloc, gate, lane, number, &lent.unit)?;
-                units.pass();
+                to.receive(alloc, gate, lane, number, &peeked.unit)?;
+                units.consume();
                 self.dealt = self.dealt.saturating_add(1);
                 continue;
             }
@@ -211,7 +194,7 @@ impl<F: Unicast, D: Dealing> Dealer<D, Prefix<F>, FamilyMark<F>> {
                 self.blocked_unit = Some(unit);
                 return Ok(Step::Blocked);
             }
-            to.receive(alloc, gate, lane, number, &unit.lend())?;
+            to.receive(alloc, gate, lane, number, &unit.as_ref())?;
             self.dealt = self.dealt.saturating_add(1);
         }
         Ok(Step::FullBatch)

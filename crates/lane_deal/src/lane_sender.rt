@@ -15,8 +15,7 @@ use std::sync::atomic::{AtomicBool, Ordering};
 /// The maximum number of further looks for room: a round's end costs no more than these.
 const MOST_LOOKS: u32 = 1_000;
 
-/// Once a ring was full, a dealer waits for room for no more than this number of units and one. It then deals as many
-/// before it waits again, and doesn't give up its processor for each of them.
+/// After a full ring, a dealer waits for more than this many free slots, so that it doesn't sleep after every unit.
 const MOST_ROOM: usize = 64;
 
 /// The dealing half of a lane.

@@ -12,10 +12,10 @@
 //! - **The dealer runs in the caller's thread.** If no thread can be started, `join_mut` makes both calls in sequence,
 //!   dealing first.
 //! - **A single worker that looks once takes what is dealt at once** (`Alone`), in the same thread: a unit is decoded
-//!   from its record, and neither listed nor copied. The dealer deals alike to it and to the rings of lanes (`Receives`),
-//!   and the contract of a round is the same for both.
-//! - **A full ring ends a round.** The unit is blocked, and dealt first in the next, so no unit overtakes another in its
-//!   lane. Before that the dealer looks again, at most 1,000 times. What a worker takes beyond what waited at first
+//!   from its record, and neither listed nor copied. The dealer deals alike to it and to the rings of lanes
+//!   (`Receives`), and the contract of a round is the same for both.
+//! - **A full ring ends a round.** The unit is blocked, and dealt first in the next, so no unit overtakes another in
+//!   its lane. Before that the dealer looks again, at most 1,000 times. What a worker takes beyond what waited at first
 //!   depends on timing, so the contract says what is dealt and what waits, and not who took how much.
 //! - **Rings are made anew after each round**, with what waits moved over in order: then the producer's end knows how
 //!   much more may wait, and the consumer's all that waits. No claim rests on the round-over flag, on how often a
@@ -29,7 +29,7 @@
 //!   in the prefix and the mark, and contracts see the prefixes of either family alike.
 //! - **A round's two closures have no type parameter in common** (`Deals`, `Works`), since the borrow checker covers no
 //!   others.
-//! - **Units are lent to the dealer**, which asks whether another one may wait before it deals it. Its loop is one
+//! - **Units are shown to the dealer**, which asks whether another one may wait before it deals it. Its loop is one
 //!   function, in which what is seldom needed isn't inlined.
 //! - **Peers are numbered by their first unit.** `Dealing` has a law, that the lane of a number is below the number of
 //!   lanes and depends on nothing else, so a peer keeps its lane in every file and round. Positions and recent numbers
@@ -44,7 +44,7 @@ mod alone;
 mod collecting;
 mod dealer;
 mod dealing;
-mod decoded_batch;
+mod decoded_units;
 mod gate;
 mod halves;
 mod holding;
@@ -62,7 +62,6 @@ mod schedule;
 mod scheduled;
 mod seats;
 mod sessions;
-mod state;
 mod step;
 mod turn;
 mod unit_head;

@@ -1,8 +1,8 @@
 //! The replay of files by workers in lanes, round by round.
 
-ghost use Rattle.std.specs.Prelude.{◌≡◌, ◌≢◌, ◌<◌, false, length};
+ghost use Rattle.std.specs.Prelude.{◌≡◌, ◌≢◌, ◌<◌, ℕ, IfErr, false, length};
 ghost use Rattle.lane_deal.specs.LaneRings.{AreReady};
-ghost use Rattle.lane_deal.specs.declared.state.State.TheVariants.{Spent};
+ghost use Rattle.mrt_frame.specs.declared.read_state.ReadState.TheVariants.{Spent};
 ghost use Rattle.lane_deal.specs.Results.{StateAfter};
 ghost use Rattle.lane_deal.specs.Replayers.{StandsForSome};
 ghost use Rattle.lane_deal.specs.Shown.{state_at};
@@ -16,14 +16,13 @@ use crate::lane_sender::LaneSenderOf;
 use crate::plan::Plan;
 use crate::round::{run_round, settle_lanes};
 use crate::seats::Seats;
-use crate::state::State;
 use crate::step::Step;
 use crate::worker::{RoundLimits, WorkerOf};
 use adj_rib::RouteId;
 use bgp_prefix::{Memory, PrefixMap};
 use bgp_update::Unicast;
 use mrt_body::Units;
-use mrt_frame::{ReplayError, Source};
+use mrt_frame::{ReadState, ReplayError, Source};
 use peer_tables::{Tables, count_routes};
 use std::alloc::Global;
 use std::thread::Threads;
@@ -39,21 +38,32 @@ where
     senders: Vec<LaneSenderOf<M::Addr>>,
     workers: Vec<WorkerOf<Seats<M>, M::Addr>>,
     rounds: u64,
-    state: State,
+    state: ReadState,
+    /// The file at which a read failed, where the state says so.
+    failed_file: usize,
     ghost lanes: { 0 < length senders.items },
     ghost ready: { state ≢ Spent → AreReady plan.ring senders.items workers.items },
     ghost stands: { state ≢ Spent → ∥ StandsForSome (D.lane_of dealer.dealing) plan.ring
         (state_at dealer senders.items workers.items false) ∥₁ },
 }
 
-fn state_after(answer: &Result<Step, ReplayError>) -> State
+fn state_after(answer: &Result<Step, ReplayError>) -> ReadState
     ensures { StateAfter answer.now result }
 {
     match answer {
-        Ok(Step::End) => State::Ended,
-        Ok(_) => State::Running,
-        Err(ReplayError::Read { file }) => State::Failed(*file),
-        Err(_) => State::Spent,
+        Ok(Step::End) => ReadState::Ended,
+        Ok(_) => ReadState::Reading,
+        Err(error) => ReadState::after(*error),
+    }
+}
+
+/// Returns the file at which a read failed, or 0.
+fn failed_file(answer: &Result<Step, ReplayError>) -> usize
+    ensures { IfErr answer.now (λ e. (file : ℕ) → e ≡ ReplayError.Read file → result ≡ file) }
+{
+    match answer {
+        Err(ReplayError::Read { file }) => *file,
+        _ => 0,
     }
 }
 
@@ -61,9 +71,10 @@ impl<F: Unicast + Send, M: PrefixMap<RouteId, Addr = F> + Send + Drop, D: Dealin
     M,
     D,
 > {
-    ghost use Rattle.std.specs.Prelude.{◌≡◌, ◌≢◌, ◌<◌, ◌+◌, ◌↔◌, ℕ, IfOk, OnOk, OnErr, IfErr, IsErr, IsTrue, None, length, map, min, ◌^◌, ◌-◌, []};
-    ghost use Rattle.lane_deal.specs.declared.state.State.TheVariants.{Running, Spent};
-    ghost use Rattle.lane_deal.specs.Results.{IfAnswered, Repeats};
+    ghost use Rattle.std.specs.Prelude.{◌≡◌, ◌≢◌, ◌<◌, ◌+◌, ℕ, IfOk, Ok, OnOk, OnErr, IfErr, None, length, map, min, ◌^◌, ◌-◌, []};
+    ghost use Rattle.mrt_frame.specs.Frames.{Repeats};
+    ghost use Rattle.mrt_frame.specs.declared.read_state.ReadState.TheVariants.{Reading, Spent};
+    ghost use Rattle.lane_deal.specs.Results.{IfAnswered};
     ghost use Rattle.lane_deal.specs.Asking.{ReadsOn};
     ghost use Rattle.lane_deal.specs.Plans.{IsPlan};
     ghost use Rattle.lane_deal.specs.Playing.{shown, PlaysOn};
@@ -75,7 +86,7 @@ impl<F: Unicast + Send, M: PrefixMap<RouteId, Addr = F> + Send + Drop, D: Dealin
     where
         D: Drop,
         requires { IsPlan plan }
-        ensures running { IfOk result (λ replayer. (replayer.state ≡ Running) × (replayer.rounds ≡ 0) ×
+        ensures reading { IfOk result (λ replayer. (replayer.state ≡ Reading) × (replayer.rounds ≡ 0) ×
             (replayer.dealer.blocked_unit ≡ None)) }
         ensures plan { IfOk result (λ replayer. (replayer.plan ≡ plan) × (replayer.dealer.dealing ≡ dealing)) }
         ensures lanes { IfOk result (λ replayer. length (shown replayer).lanes ≡ plan.workers) }
@@ -90,7 +101,8 @@ impl<F: Unicast + Send, M: PrefixMap<RouteId, Addr = F> + Send + Drop, D: Dealin
             senders,
             workers,
             rounds: 0,
-            state: State::Running,
+            state: ReadState::Reading,
+            failed_file: 0,
         })
     }
 
@@ -114,24 +126,31 @@ impl<F: Unicast + Send, M: PrefixMap<RouteId, Addr = F> + Send + Drop, D: Dealin
     ) -> Result<Step, ReplayError>
         requires { length files.old ≡ units.old.count }
         ensures count { units.new.count ≡ units.old.count }
-        ensures reads { self.old.state ≡ Running → ReadsOn units.old (map R.remaining files.old)
+        ensures reads { self.old.state ≡ Reading → ReadsOn units.old (map R.remaining files.old)
             (map R.failure_count files.old) units.new (map R.failure_count files.new) result }
-        ensures forks { self.old.state ≡ Running → self.new.rounds ≡ min (self.old.rounds + 1) (2 ^ 64 - 1) }
-        ensures played { self.old.state ≡ Running → IfAnswered result
+        ensures at_end { self.old.state ≡ Reading → result ≡ Ok Step.End → units.new.file ≡ units.new.count }
+        ensures forks { self.old.state ≡ Reading → self.new.rounds ≡ min (self.old.rounds + 1) (2 ^ 64 - 1) }
+        ensures played { self.old.state ≡ Reading → IfAnswered result
             (PlaysOn (D.lane_of self.old.dealer.dealing) self.old.plan (shown self.old) (shown self.new) units.old
             (map R.remaining files.old) units.new (map R.remaining files.new) result) }
-        ensures kept { (self.new.plan ≡ self.old.plan) × (self.old.state ≡ Running → IfAnswered result
+        ensures kept { (self.new.plan ≡ self.old.plan) × (self.old.state ≡ Reading → IfAnswered result
             (self.new.dealer.dealing ≡ self.old.dealer.dealing)) }
-        ensures idle { self.old.state ≢ Running → (self.new ≡ self.old) × (units.new ≡ units.old) ×
+        ensures idle { self.old.state ≢ Reading → (self.new ≡ self.old) × (units.new ≡ units.old) ×
             (files.new ≡ files.old) }
-        ensures repeats { Repeats self.old.state result }
-        ensures state { self.old.state ≡ Running → StateAfter result self.new.state }
+        ensures repeats { Repeats Step.End self.old.state self.old.failed_file result }
+        ensures state { self.old.state ≡ Reading → StateAfter result self.new.state }
+        ensures failed { self.old.state ≡ Reading → IfErr result
+            (λ e. (file : ℕ) → e ≡ ReplayError.Read file → self.new.failed_file ≡ file) }
     {
         match self.state {
-            State::Running => {}
-            State::Ended => return Ok(Step::End),
-            State::Failed(file) => return Err(ReplayError::Read { file }),
-            State::Spent => return Err(ReplayError::Spent),
+            ReadState::Reading => {}
+            ReadState::Ended => return Ok(Step::End),
+            ReadState::Failed => {
+                return Err(ReplayError::Read {
+                    file: self.failed_file,
+                });
+            }
+            ReadState::Spent => return Err(ReplayError::Spent),
         }
         self.rounds = self.rounds.saturating_add(1);
         let limits = self.limits();
@@ -150,6 +169,7 @@ impl<F: Unicast + Send, M: PrefixMap<RouteId, Addr = F> + Send + Drop, D: Dealin
             &mut self.workers,
         );
         self.state = state_after(&answer);
+        self.failed_file = failed_file(&answer);
         answer
     }
 
@@ -169,7 +189,7 @@ impl<F: Unicast + Send, M: PrefixMap<RouteId, Addr = F> + Send + Drop, D: Dealin
         ensures spent { OnErr result (self.new.state ≡ Spent) }
         ensures idle { self.old.state ≡ Spent → (self.new ≡ self.old) × (result ≡ Err ReplayError.Spent) }
     {
-        if let State::Spent = self.state {
+        if let ReadState::Spent = self.state {
             return Err(ReplayError::Spent);
         }
         self.rounds = self.rounds.saturating_add(1);
@@ -184,7 +204,7 @@ impl<F: Unicast + Send, M: PrefixMap<RouteId, Addr = F> + Send + Drop, D: Dealin
             &mut self.workers,
         );
         let Ok(()) = settled else {
-            self.state = State::Spent;
+            self.state = ReadState::Spent;
             return Err(ReplayError::Memory);
         };
         Ok(())
@@ -192,11 +212,11 @@ impl<F: Unicast + Send, M: PrefixMap<RouteId, Addr = F> + Send + Drop, D: Dealin
 }
 
 impl<F: Unicast, M: PrefixMap<RouteId, Addr = F> + Drop, D: Dealing + Drop> Replayer<M, D> {
-    ghost use Rattle.std.specs.Prelude.{◌≡◌, ◌≢◌, List, IfOk, IfErr, IsErr};
+    ghost use Rattle.std.specs.Prelude.{◌≡◌, ◌≢◌, List, IfOk, IfErr};
     ghost use Rattle.mrt_body.specs.declared.unit.Damage.{Damage};
     ghost use Rattle.mrt_body.specs.Plain.{Unit as ReplayUnit};
     ghost use Rattle.peer_tables.specs.Tables.{tables_of};
-    ghost use Rattle.lane_deal.specs.declared.state.State.TheVariants.{Spent};
+    ghost use Rattle.mrt_frame.specs.declared.read_state.ReadState.TheVariants.{Spent};
     ghost use Rattle.lane_deal.specs.Playing.{shown};
     ghost use Rattle.lane_deal.specs.Replayers.{ReplayerStandsFor};
     ghost use Rattle.lane_deal.specs.Rounds.{IsSettled};
@@ -209,11 +229,11 @@ impl<F: Unicast, M: PrefixMap<RouteId, Addr = F> + Drop, D: Dealing + Drop> Repl
             IfOk result (λ tables. tables ≡ tables_of units refused) }
         ensures back { IfErr result (λ back. (shown back.0 ≡ shown self) × (back.0.plan ≡ self.plan) ×
             (back.0.dealer.dealing ≡ self.dealer.dealing) × (back.0.rounds ≡ self.rounds) ×
-            (back.0.state ≡ self.state)) }
+            (back.0.state ≡ self.state) × (back.0.failed_file ≡ self.failed_file)) }
         ensures memory { self.state ≢ Spent → IfErr result (λ back. back.1 ≡ ReplayError.Memory) }
         ensures spent { self.state ≡ Spent → result ≡ Err (self, ReplayError.Spent) }
     {
-        if let State::Spent = self.state {
+        if let ReadState::Spent = self.state {
             return Err((self, ReplayError::Spent));
         }
         let lanes = self.senders.len();
@@ -225,6 +245,7 @@ impl<F: Unicast, M: PrefixMap<RouteId, Addr = F> + Drop, D: Dealing + Drop> Repl
             workers,
             rounds,
             state,
+            failed_file,
         } = self;
         let Dealer {
             dealing,
@@ -250,6 +271,7 @@ impl<F: Unicast, M: PrefixMap<RouteId, Addr = F> + Drop, D: Dealing + Drop> Repl
                     workers,
                     rounds,
                     state,
+                    failed_file,
                 };
                 Err((back, ReplayError::Memory))
             }
@@ -265,7 +287,7 @@ where
     ghost use Rattle.lane_deal.specs.Replayers.{LaneState, held_routes};
     ghost use Rattle.lane_deal.specs.Playing.{shown};
     ghost use Rattle.lane_deal.specs.Rounds.{IsSettled};
-    ghost use Rattle.lane_deal.specs.declared.state.State.TheVariants.{Spent};
+    ghost use Rattle.mrt_frame.specs.declared.read_state.ReadState.TheVariants.{Spent};
 
     /// Each peer's lane is one of the lanes.
     pub fn lanes_are_below(&self)
@@ -300,7 +322,7 @@ where
         ensures { result ≡ (shown self.now).spent }
     {
         match self.state {
-            State::Spent => true,
+            ReadState::Spent => true,
             _ => false,
         }
     }

@@ -1,6 +1,6 @@
 //! One round over all lanes.
 
-ghost use Rattle.std.specs.Prelude.{◌≡◌, ◌<◌, ℕ, None, OnOk, length, map};
+ghost use Rattle.std.specs.Prelude.{◌≡◌, ◌<◌, None, Ok, OnOk, length, map};
 ghost use Rattle.std.specs.List.{AllZip};
 ghost use Rattle.std.specs.Thread.{IsSync, IsSend};
 ghost use Rattle.lane_deal.specs.Results.{IfAnswered};
@@ -100,9 +100,9 @@ fn run_alone<
     requires blocked_unit { dealer.old.blocked_unit ≡ None }
     requires ready { AreReady capacity senders.old.items workers.old.items }
     ensures lanes { length senders.new.items ≡ length senders.old.items }
-    ensures count { units.new.count ≡ units.old.count }
     ensures reads { ReadsOn units.old (map R.remaining files.old) (map R.failure_count files.old) units.new
         (map R.failure_count files.new) result }
+    ensures at_end { result ≡ Ok Step.End → units.new.file ≡ units.new.count }
     ensures plays { IfAnswered result
         (PlaysLanes S.stands_for (λ number. D.lane_of dealer.old.dealing number (length senders.old.items)) capacity
         limits.batch senders.old.items workers.old.items senders.new.items workers.new.items dealer.old dealer.new
@@ -133,8 +133,9 @@ fn run_alone<
     step
 }
 
-/// Runs one round over all lanes, whose rings are made anew at its end. A single worker that looks once at an empty ring
-/// would gain little from a thread of its own: the calling thread deals to it directly, and nothing waits in its ring.
+/// Runs one round over all lanes, whose rings are made anew at its end. A single worker that looks once at an empty
+/// ring would gain little from a thread of its own: the calling thread deals to it directly, and nothing waits in its
+/// ring.
 pub fn run_round<
     T: Threads + Sync,
     F: Unicast + Send,
@@ -158,9 +159,9 @@ pub fn run_round<
     requires files { length files.old ≡ units.old.count }
     requires ready { AreReady capacity senders.old.items workers.old.items }
     ensures lanes { length senders.new.items ≡ length senders.old.items }
-    ensures count { units.new.count ≡ units.old.count }
     ensures reads { ReadsOn units.old (map R.remaining files.old) (map R.failure_count files.old) units.new
         (map R.failure_count files.new) result }
+    ensures at_end { result ≡ Ok Step.End → units.new.file ≡ units.new.count }
     ensures plays { IfAnswered result
         (PlaysLanes S.stands_for (λ number. D.lane_of dealer.old.dealing number (length senders.old.items)) capacity
         limits.batch senders.old.items workers.old.items senders.new.items workers.new.items dealer.old dealer.new

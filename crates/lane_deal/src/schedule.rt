@@ -9,7 +9,7 @@ ghost use Rattle.lane_deal.specs.Schedules.{LanesState, dealt, took, after_turn,
 ghost use Rattle.lane_deal.specs.ShownLanes.{LaneShows, LanesShow, Shows};
 
 use crate::dealing::Dealing;
-use crate::decoded_batch::DecodedBatch;
+use crate::decoded_units::DecodedUnits;
 use crate::holding::{HoldsSeats, exchange_seats};
 use crate::peer_unit::{PeerUnit, PeerUnitOf};
 use crate::scheduled::Lanes;
@@ -120,8 +120,8 @@ fn take_one<F: Unicast, M: PrefixMap<RouteId, Addr = F> + Drop>(
     let Some(item) = lane.ring.pop_front() else {
         return Ok(());
     };
-    let mut batch = DecodedBatch::new(alloc);
-    batch.push(alloc, item.number, &item.unit.lend())?;
+    let mut batch = DecodedUnits::new(alloc);
+    batch.push(alloc, item.number, &item.unit.as_ref())?;
     lane.seats.take(alloc, &batch, 0)?;
     lane.took = lane.took.saturating_add(1);
     Ok(())

@@ -7,7 +7,7 @@ ghost use Rattle.mrt_body.specs.Plain.{Unit as ReplayUnit};
 ghost use Rattle.peer_tables.specs.Seats.{seat_of};
 ghost use Rattle.lane_deal.specs.Seating.{AreIndexed, SeatFor, TakenAt};
 
-use crate::decoded_batch::DecodedBatch;
+use crate::decoded_units::DecodedUnits;
 use crate::sessions::Sessions;
 use crate::unit_head::UnitHead;
 use adj_rib::{RouteId, Session};
@@ -78,7 +78,7 @@ fn remember(positions: &mut Vec<Option<usize>>, number: usize, at: usize) -> Res
 
 /// Passes the unit to the session at that position.
 #[inline(always)]
-fn take_at<F: Unicast, M: PrefixMap<RouteId, Addr = F> + Drop>(
+fn take_there<F: Unicast, M: PrefixMap<RouteId, Addr = F> + Drop>(
     alloc: Global,
     seats: &mut [Seated<M>],
     at: usize,
@@ -93,6 +93,29 @@ fn take_at<F: Unicast, M: PrefixMap<RouteId, Addr = F> + Drop>(
     seats[at]
         .session
         .take_event(alloc, head.place, head.time, event)
+}
+
+/// The same, by code of its own for entries: in common with the other kinds their keys would be moved in pieces, for
+/// which the processor waits when it reads them as a whole.
+#[inline(always)]
+fn take_at<F: Unicast, M: PrefixMap<RouteId, Addr = F> + Drop>(
+    alloc: Global,
+    seats: &mut [Seated<M>],
+    at: usize,
+    head: &UnitHead,
+    event: EventRef<'_, Prefix<F>>,
+) -> Result<(), Memory>
+    requires within { at < length seats.old }
+    ensures taken { (unit : ReplayUnit) → Means unit head.now.place head.now.time (event_of event.entry) →
+        OnOk result (TakenAt (map seat_of seats.old) (map seat_of seats.new) at unit) }
+    ensures numbers { map (λ seat. seat.number) seats.new ≡ map (λ seat. seat.number) seats.old }
+{
+    match event {
+        EventRef::Rib(key, route) => {
+            take_there(alloc, seats, at, head, EventRef::Rib(key, route))
+        }
+        event => take_there(alloc, seats, at, head, event),
+    }
 }
 
 impl<M: PrefixMap<RouteId>> Seats<M> {
@@ -200,7 +223,7 @@ impl<F: Unicast, M: PrefixMap<RouteId, Addr = F> + Drop> Seats<M> {
 
     /// Prefetches the slots where the routes of the first units would be, and then these routes. The returned number
     /// has no meaning.
-    fn touch(&self, batch: &DecodedBatch<F>) -> usize {
+    fn touch(&self, batch: &DecodedUnits<F>) -> usize {
         let count = batch.len().min(MOST_NEAR);
         let mut near = [0usize; MOST_NEAR];
         let mut touched = 0usize;
@@ -209,14 +232,14 @@ impl<F: Unicast, M: PrefixMap<RouteId, Addr = F> + Drop> Seats<M> {
             near[at] = position;
             if let Some(route) = batch.first_route(at) {
                 if let Some(seat) = self.seat_at(position) {
-                    touched = touched.saturating_add(seat.session.prefetch_slot(route));
+                    touched ^= seat.session.prefetch_slot(route);
                 }
             }
         }
         for at in 0..count {
             if let Some(route) = batch.first_route(at) {
                 if let Some(seat) = self.seat_at(near[at]) {
-                    touched = touched.saturating_add(seat.session.prefetch_route(route));
+                    touched ^= seat.session.prefetch_route(route);
                 }
             }
         }
@@ -242,12 +265,12 @@ impl<F: Unicast, M: PrefixMap<RouteId, Addr = F> + Drop> Sessions for Seats<M> {
         }
     }
 
-    fn prefetch(&mut self, batch: &DecodedBatch<F>) {
+    fn prefetch(&mut self, batch: &DecodedUnits<F>) {
         self.prefetched = self.touch(batch);
     }
 
     #[inline(always)]
-    fn take(&mut self, alloc: Global, batch: &DecodedBatch<F>, at: usize) -> Result<(), Memory> {
+    fn take(&mut self, alloc: Global, batch: &DecodedUnits<F>, at: usize) -> Result<(), Memory> {
         let head = batch.head(at);
         let position = self.position_for(alloc, head.number, &head.peer)?;
         take_at(alloc, &mut self.seats, position, head, batch.event(at))

@@ -1,4 +1,4 @@
-use crate::decoded_batch::DecodedBatch;
+use crate::decoded_units::DecodedUnits;
 use bgp_prefix::Memory;
 use bgp_update::Unicast;
 use std::alloc::Global;
@@ -6,7 +6,7 @@ use std::alloc::Global;
 /// The sessions of one lane.
 pub trait Sessions {
     ghost use Rattle.std.specs.Prelude.{◌<◌, List, [], ◌∷◌, ◌++◌, OnOk, length};
-    ghost use Rattle.lane_deal.specs.DecodedBatches.{IsDecodedAt};
+    ghost use Rattle.lane_deal.specs.DecodedUnitLists.{IsDecodedAt};
     ghost use Rattle.lane_deal.specs.Plain.{PeerUnit};
 
     /// The family of their prefixes, which is that of the units.
@@ -19,14 +19,14 @@ pub trait Sessions {
         ensures { stands_for result [] };
 
     /// Prefetches a little of what the sessions will need to take these units, so that the cache misses overlap.
-    fn prefetch(&mut self, batch: &DecodedBatch<Self::Addr>)
+    fn prefetch(&mut self, batch: &DecodedUnits<Self::Addr>)
         ensures { (taken : List PeerUnit) → stands_for self.old taken → stands_for self.new taken };
 
     /// Takes the next unit, which is at an index of these.
     fn take(
         &mut self,
         alloc: Global,
-        batch: &DecodedBatch<Self::Addr>,
+        batch: &DecodedUnits<Self::Addr>,
         at: usize,
     ) -> Result<(), Memory>
         requires { at < length batch.now.heads }

@@ -47,7 +47,7 @@ const MOST_PEERS: usize = 24;
 
 /// Lends a payload whose bytes are in this block.
 #[inline(always)]
-fn lent_from<'a, F: Unicast>(
+fn borrowed_from<'a, F: Unicast>(
     payload: &Payload<Span, Prefix<F>, FamilyMark<F>>,
     block: &'a [u8],
 ) -> PayloadRef<'a, F>
@@ -176,7 +176,7 @@ impl<F: Unicast> UnitList<Prefix<F>, FamilyMark<F>> {
                 },
                 time: record.time,
                 peer: source.peer.key(),
-                payload: lent_from(&unit.payload, self.bytes.as_slice()),
+                payload: borrowed_from(&unit.payload, self.bytes.as_slice()),
             },
         }
     }

@@ -1,11 +1,11 @@
 ghost use Rattle.std.specs.Prelude.{◌≡◌, Ok, OnOk, List, [], length, ◌<◌, true, false};
 ghost use Rattle.std.specs.List.{AllZip};
 ghost use Rattle.std.specs.Thread.{IsSync, IsSend};
-ghost use Rattle.lane_deal.specs.DecodedBatches.{AreDecoded};
+ghost use Rattle.lane_deal.specs.DecodedUnitLists.{AreDecoded};
 ghost use Rattle.lane_deal.specs.Plain.{PeerUnit};
 ghost use Rattle.lane_deal.specs.UnitLists.{units_of};
 
-use crate::decoded_batch::DecodedBatch;
+use crate::decoded_units::DecodedUnits;
 use crate::gate::Gate;
 use crate::halves::Works;
 use crate::peer_unit::NonEmptyLists;
@@ -43,7 +43,7 @@ pub struct RoundLimits {
 fn decode_all<F: Unicast>(
     alloc: Global,
     items: &UnitListOf<F>,
-    batch: &mut DecodedBatch<F>,
+    batch: &mut DecodedUnits<F>,
 ) -> Result<(), Memory>
     ensures { OnOk result (AreDecoded batch.new (units_of items.now)) }
 {
@@ -63,7 +63,7 @@ impl<F: Unicast, S: Sessions<Addr = F>> Worker<S, Prefix<F>, FamilyMark<F>> {
         &mut self,
         alloc: Global,
         gate: &G,
-        batch: &mut DecodedBatch<F>,
+        batch: &mut DecodedUnits<F>,
     ) -> Result<(), Memory>
         ensures { OnOk result (Took S.stands_for self.old self.new (known_items self.old.consumer)) }
     {
@@ -80,7 +80,7 @@ impl<F: Unicast, S: Sessions<Addr = F>> Worker<S, Prefix<F>, FamilyMark<F>> {
         gate: &G,
         round_over: &AtomicBool,
         limits: RoundLimits,
-        batch: &mut DecodedBatch<F>,
+        batch: &mut DecodedUnits<F>,
     ) -> Result<(), Memory>
         ensures { OnOk result (TookSome S.stands_for self.old self.new) }
     {
@@ -109,7 +109,7 @@ impl<F: Unicast, S: Sessions<Addr = F>> Worker<S, Prefix<F>, FamilyMark<F>> {
         &mut self,
         alloc: Global,
         gate: &G,
-        batch: &mut DecodedBatch<F>,
+        batch: &mut DecodedUnits<F>,
     ) -> Result<bool, Memory>
         ensures took { OnOk result (TookSome S.stands_for self.old self.new) }
         ensures none { result ≡ Ok false → received self.new.consumer ≡ received self.old.consumer }
@@ -128,7 +128,7 @@ impl<F: Unicast, S: Sessions<Addr = F>> Worker<S, Prefix<F>, FamilyMark<F>> {
         &mut self,
         alloc: Global,
         gate: &G,
-        batch: &mut DecodedBatch<F>,
+        batch: &mut DecodedUnits<F>,
     ) -> Result<(), Memory>
         requires { 0 < length (known_lists self.old.consumer) }
         ensures { OnOk result (TookFront S.stands_for self.old self.new) }
@@ -155,7 +155,7 @@ impl<F: Unicast, S: Sessions<Addr = F>> Worker<S, Prefix<F>, FamilyMark<F>> {
         &mut self,
         alloc: Global,
         gate: &G,
-        batch: &DecodedBatch<F>,
+        batch: &DecodedUnits<F>,
     ) -> Result<(), Memory>
         ensures { OnOk result ((items : List PeerUnit) → AreDecoded batch.now items →
             Takes S.stands_for self.old self.new items) }
@@ -182,7 +182,7 @@ impl<F: Unicast, S: Sessions<Addr = F>> Works for Worker<S, Prefix<F>, FamilyMar
         round_over: &AtomicBool,
         limits: RoundLimits,
     ) -> Result<(), Memory> {
-        let mut batch = DecodedBatch::new(alloc);
+        let mut batch = DecodedUnits::new(alloc);
         self.take_all_known(alloc, gate, &mut batch)?;
         self.poll(alloc, gate, round_over, limits, &mut batch)
     }

@@ -5,10 +5,10 @@
 use crate::playing::{PLAN, Play};
 use adj_rib::RouteId;
 use bgp_prefix::{Memory, PrefixMap, Radix};
+use chunked_map::ChunkedMap;
 use fixtures::{THREE_PEERS, bytes_of};
 use lane_deal::Plan;
 use mrt_frame::{Counted, ReplayError};
-use prefix_shelf::Shelf;
 use std::alloc::Global;
 use std::marker::Sync;
 use std::process::Abort;
@@ -86,12 +86,12 @@ fn rounds_give_the_tables_or_spend_the_replayer(rt: HostRuntime) -> Result<(), F
         batch: 2,
         ..PLAN
     };
-    play_to_the_end::<Shelf<u32, RouteId>>(&rt, alloc, small)?;
+    play_to_the_end::<ChunkedMap<u32, RouteId>>(&rt, alloc, small)?;
     let alone = Plan {
         workers: 1,
         looks: 1,
         ..PLAN
     };
-    play_to_the_end::<Shelf<u32, RouteId>>(&rt, alloc, alone)?;
+    play_to_the_end::<ChunkedMap<u32, RouteId>>(&rt, alloc, alone)?;
     play_to_the_end::<Radix<u32, RouteId>>(&rt, alloc, PLAN)
 }

@@ -5,7 +5,7 @@ pub mod rows;
 ghost use Rattle.std.specs.Prelude.{◌≡◌, ◌≢◌, true};
 ghost use Rattle.lane_deal.specs.Playing.{shown};
 ghost use Rattle.lane_deal.specs.Rounds.{IsSettled};
-ghost use Rattle.lane_deal.specs.declared.state.State.TheVariants.{Spent};
+ghost use Rattle.mrt_frame.specs.declared.read_state.ReadState.TheVariants.{Spent};
 
 use adj_rib::RouteId;
 use bgp_prefix::{Memory, PrefixMap};

@@ -4,7 +4,7 @@
 use crate::playing::rows::play_rows;
 use adj_rib::RouteId;
 use bgp_prefix::{Flat, Radix};
-use prefix_shelf::Shelf;
+use chunked_map::ChunkedMap;
 use std::alloc::Global;
 use std::marker::Sync;
 use std::process::Abort;
@@ -160,7 +160,7 @@ into_tables Spent
 fn play_each(rt: &(impl Threads + Abort + Sync), alloc: Global, table: &str, rows: usize) {
     assert!(rt; play_rows::<Radix<u32, RouteId>>(rt, alloc, table) == rows);
     assert!(rt; play_rows::<Flat<u32, RouteId>>(rt, alloc, table) == rows);
-    assert!(rt; play_rows::<Shelf<u32, RouteId>>(rt, alloc, table) == rows);
+    assert!(rt; play_rows::<ChunkedMap<u32, RouteId>>(rt, alloc, table) == rows);
 }
 
 #[test]

@@ -3,10 +3,10 @@
 use crate::layers::found_in;
 use adj_rib::RouteId;
 use bgp_prefix::{Flat, Memory, PrefixMap, Radix};
+use chunked_map::ChunkedMap;
 use fixtures::THREE_PEERS;
 use lane_deal::{ByTurns, Lanes, Turn, run_schedule};
 use mrt_body::{Found, PeerAddr, Unit};
-use prefix_shelf::Shelf;
 use rib_report::{Tables, table_rows};
 use std::alloc::Global;
 use std::process::Abort;
@@ -116,6 +116,6 @@ fn check_turns<M: PrefixMap<RouteId, Addr = u32> + Drop>(
 #[test]
 fn turns_that_find_nothing_change_nothing(rt: HostRuntime) -> Result<(), Fail> {
     check_turns::<Radix<u32, RouteId>>(&rt, rt.alloc())?;
-    check_turns::<Shelf<u32, RouteId>>(&rt, rt.alloc())?;
+    check_turns::<ChunkedMap<u32, RouteId>>(&rt, rt.alloc())?;
     check_turns::<Flat<u32, RouteId>>(&rt, rt.alloc())
 }

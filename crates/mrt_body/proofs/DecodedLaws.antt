@@ -1,5 +1,5 @@
 -- Events that are decoded stay what they are when others are decoded behind them.
-use Rattle.std.proofs.Common.{◌≡◌, ℕ, zero, suc, ◌<◌, List, [], ◌∷◌, ◌++◌, length, Result, Ok, refl, sym, ap, ◌∙◌, arith, slice_index_or}
+use Rattle.std.proofs.Common.{◌≡◌, ℕ, zero, suc, ◌<◌, List, [], ◌∷◌, ◌++◌, length, Result, Ok, Err, OnOk, OnErr, refl, sym, ap, ◌∙◌, arith, slice_index_or}
 use Rattle.std.proofs.lemmas.List.{map-append, get_or-map, length-map}
 use Rattle.mrt_frame.specs.declared.fault.Fault.{Fault}
 use Rattle.bgp_prefix.specs.Keys.{RouteKey}
@@ -10,7 +10,7 @@ use Rattle.bgp_update.proofs.Spans.{IsRouteAt-grown, IsUpdateAt-grown, route_at-
 use Rattle.mrt_body.specs.Plain.{DecodedEvent, Event}
 use Rattle.mrt_body.specs.declared.decoded_events.DecodedEvent.TheVariants as decoded
 use Rattle.mrt_body.specs.declared.meaning.Event.TheVariants as events
-use Rattle.mrt_body.specs.DecodedEvents.{event_at, IsEventAt, events_at, AreEventsAt}
+use Rattle.mrt_body.specs.DecodedEvents.{event_at, IsEventAt, IsOneMore, events_at, AreEventsAt}
 
 event_at-grown : (keys more_keys : List RouteKey) (bytes more_bytes : List ℕ) (e : DecodedEvent) → IsGrown keys more_keys → IsGrown bytes more_bytes → IsEventAt keys bytes e → event_at more_keys more_bytes e ≡ event_at keys bytes e
 event_at-grown keys more_keys bytes more_bytes decoded.Other k b h = refl
@@ -47,6 +47,19 @@ pub events_more : (keys more_keys : List RouteKey) (bytes more_bytes : List ℕ)
 events_more keys more_keys bytes more_bytes es e is k b h own =
     map-append (event_at more_keys more_bytes) es (e ∷ [])
     ∙ (λ i. events_at-grown keys more_keys bytes more_bytes es k b h i ++ own i ∷ [])
+
+pub one_more : (keys more_keys : List RouteKey) (bytes more_bytes : List ℕ) (es more : List DecodedEvent) (e : DecodedEvent) (is : Result Event Fault) → IsGrown keys more_keys → IsGrown bytes more_bytes
+    → event_at more_keys more_bytes e ≡ is → IsEventAt more_keys more_bytes e → more ≡ es ++ e ∷ [] → IsOneMore keys bytes es more_keys more_bytes more is
+one_more keys more_keys bytes more_bytes es more e is k b own there added = λ before. (
+  rw added (AreEventsAt-push more_keys more_bytes es e (AreEventsAt-grown keys more_keys bytes more_bytes es k b before) there),
+  ap (events_at more_keys more_bytes) added ∙ events_more keys more_keys bytes more_bytes es e is k b before own,
+)
+
+-- one more event, or none is left
+pub more_or_none : {X Y : Type 0} (r : Result X Y) (keys more_keys : List RouteKey) (bytes more_bytes : List ℕ) (es more : List DecodedEvent) (is : Result Event Fault) → AreEventsAt keys bytes es
+    → OnOk r (IsOneMore keys bytes es more_keys more_bytes more is) → OnErr r (more ≡ []) → AreEventsAt more_keys more_bytes more
+more_or_none (Ok x) keys more_keys bytes more_bytes es more is before kept none = (kept before).0
+more_or_none (Err y) keys more_keys bytes more_bytes es more is before kept none = rw none tt
 
 -- the event at an index
 pub event_by_index : (keys : List RouteKey) (bytes : List ℕ) (es : List DecodedEvent) (at : ℕ) (e : DecodedEvent) (d : Result Event Fault) → at < length (events_at keys bytes es) → e ≡ slice_index_or es at e

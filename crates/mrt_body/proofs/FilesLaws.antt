@@ -1,26 +1,29 @@
 -- Steps of a reading of files, one after the other.
-use Rattle.std.proofs.Common.{suc, ◌≡◌, inl, inr, ℕ, ◌+◌, ◌<◌, Bool, cond, List, [], ◌∷◌, ◌++◌, length, map, drop, get_or, set, Option, Some, None, refl, sym, ap, subst, ◌∙◌, arith, append_assoc, add-one, ◌≤◌, ◌*◌, ◌-◌}
-use Rattle.std.specs.List.{count_by}
+use Rattle.std.proofs.Common.{suc, ◌≡◌, inl, inr, ℕ, ◌+◌, ◌<◌, Bool, cond, List, [], ◌∷◌, ◌++◌, length, map, drop, get_or, set, Option, Some, None, refl, sym, ap, subst, ◌∙◌, arith, append_assoc, add-one, ◌≤◌, ◌-◌}
+use Rattle.std.specs.Prelude.{option_to_list}
+use Rattle.std.specs.List.{count_by, filter_map}
 use Rattle.std.proofs.Math.Seq.{drop-cons, map-set_same}
-use Rattle.std.proofs.lemmas.List.{map-set, map-append, drop-drop, drop-set, drop-set-lt, length-map, get_or-map, get_or-set_same}
+use Rattle.std.proofs.lemmas.List.{length-append, map-set, map-append, drop-drop, drop-set, drop-set-lt, length-map, get_or-map, get_or-set_same}
 use Rattle.std.proofs.lemmas.List.Sums.{sum_by-append}
 use Rattle.mrt_frame.specs.declared.cut.Cut.{Cut}
 use Rattle.mrt_frame.specs.Devices.{HasFailed}
 use Rattle.mrt_frame.specs.declared.error.ReplayError.{ReplayError}
 use Rattle.mrt_frame.specs.declared.error.ReplayError.TheVariants as errors
-use Rattle.mrt_body.specs.declared.standing.Standing.TheVariants.{Going}
+use Rattle.mrt_frame.specs.declared.read_state.ReadState.TheVariants.{Reading}
 use Rattle.std.specs.Io.KnownBytes.{Consumes}
 use Rattle.mrt_frame.specs.Frames.{Position, to_come, KeepsUnlessRead}
 use Rattle.mrt_frame.specs.declared.fault.Fault.{Fault}
 use Rattle.mrt_body.specs.Choices.{UnitSelection}
 use Rattle.mrt_body.specs.declared.unit.PeerKey.{PeerKey}
+use Rattle.mrt_body.specs.declared.unit.Damage.{Damage}
 use Rattle.mrt_body.specs.Plain.{Unit as ReplayUnit}
 use Rattle.mrt_body.specs.Plain.{Found}
 use Rattle.mrt_body.specs.declared.unit.Found.TheVariants as found
 use Rattle.mrt_frame.specs.Cuts.{cuts, fault_at}
 use Rattle.mrt_body.specs.RibDumps.{DumpsState, no_dumps}
-use Rattle.mrt_body.specs.Units.{dumps_behind_cuts, found_in, found_in_files, all_cuts, is_whole, is_aside}
-use Rattle.mrt_body.specs.ToCome.{UnitsState, in_next_file, as_found, dumps_here, found_here, found_left, found_to_come, cuts_to_come, Passes, TakesFound, GivesPending, StaysInFile, LeavesFile, Steps, HasRecord, HasMoreRecords, StopsAt, Stops, before_failure, FailsInRecord, FailsBehind, GivesAllBefore, answers_left, units_left, fresh_units}
+use Rattle.mrt_body.specs.Units.{dumps_behind_cuts, found_in, found_in_files, all_cuts, is_whole, is_aside, unit_of}
+use Rattle.mrt_body.specs.ToCome.{UnitsState, in_next_file, as_found, refusals, units_left, dumps_here, found_here, found_left, found_to_come, cuts_to_come, Passes, TakesFound, GivesPending, StaysInFile, LeavesFile, Steps, HasRecord, HasMoreRecords, HasCause, HasCauseInFile, before_failure, FailsInRecord, FailsBehind, GivesAllBefore, fresh_units}
+use Rattle.mrt_body.specs.Readings.{Gives, Lowers, Stops, StopsInFile, IsBounded, GoesOn}
 use Rattle.mrt_body.proofs.IndexLaws.{found_in_file-is}
 
 abbrev Bytes : Type 0
@@ -70,6 +73,34 @@ module _ (old : UnitsState) (pending : List ReplayUnit) where
 
 pub gives_found : (old new : UnitsState) (files : List (Option Bytes)) (given : List ReplayUnit) → GivesPending old new given → TakesFound old files new files (as_found given)
 gives_found old new files given h = subst (λ (n : UnitsState). TakesFound old files n files (as_found given)) (sym h.0) (gave_found old new.pending files given h.1)
+
+-- a refusal is one answer and no unit, and each unit is one
+one_refusal : (refused : Option Damage) → length (refusals refused) ≡ length (option_to_list refused)
+one_refusal None = refl
+one_refusal (Some damage) = refl
+
+no_unit : (refused : Option Damage) → filter_map unit_of (refusals refused) ≡ []
+no_unit None = refl
+no_unit (Some damage) = refl
+
+each_unit : (units : List ReplayUnit) → length (filter_map unit_of (as_found units)) ≡ length units
+each_unit [] = refl
+each_unit (unit ∷ units) = ap suc (each_unit units)
+
+-- units that were pending, behind what was read
+pub gives_pending : {R : Type 0} (remaining : R → Option Bytes) (fails : R → ℕ) (a b c : UnitsState) (start files : List R) (given : List ReplayUnit) → Gives remaining fails a start b files [] → GivesPending b c given → Gives remaining fails a start c files (as_found given)
+gives_pending remaining fails a b c start files given before gives =
+    let size = ap length gives.1 ∙ length-append given c.pending in
+    let units = ap units_left gives.0 in
+    let answers : length (as_found given) ≡ length given = length-map given (λ u. found.Unit u) in
+    record {
+      found = TakesFound-more a b c (map remaining start) (map remaining files) (map remaining files) [] (as_found given) before.found (gives_found b c (map remaining files) given gives);
+      fewer = omega (arith, before.fewer, size, units, ap (λ (u : UnitsState). u.count - u.file) gives.0, answers);
+      few = omega (arith, before.few, size, units, each_unit given);
+      reading = before.reading;
+      state = ap (λ (u : UnitsState). u.state) gives.0 ∙ before.state;
+      counted = before.counted;
+    }
 
 counted_on : (p : Cut → Bool) (a b : ℕ) (xs ys others : List Cut) → a + count_by p xs ≡ b + count_by p ys → a + count_by p (xs ++ others) ≡ b + count_by p (ys ++ others)
 counted_on p a b xs ys others h = omega (arith, h, sum_by-append (λ (c : Cut). cond (p c) 1 0) xs others, sum_by-append (λ (c : Cut). cond (p c) 1 0) ys others)
@@ -150,101 +181,99 @@ module _ (old new : UnitsState) (before : List (Option Bytes)) (known left : Opt
       let parts : drop i before ≡ known ∷ drop (i + 1) before = drop-cons before i known within ∙ ap (λ (n : ℕ). get_or before i known ∷ drop n before) (sym (add-one i)) ∙ ap (λ (o : Option Bytes). o ∷ drop (i + 1) before) at in
       in_reader none within at steps contents (sym parts ∙ h)
 
--- after a reading with nothing pending, a step in the file of this number
-module _ {R : Type 0} (remaining : R → Option Bytes) (a b u v : UnitsState) (start files : List R) (i : ℕ) (d next : R) (taken : List Found) where
-  pub one_more_step : TakesFound a (map remaining start) b (map remaining files) [] → GivesPending b u [] → b.pending ≡ [] → i ≡ u.file → i < length files → Steps u (remaining (get_or files i d)) v (remaining next) taken
-      → TakesFound a (map remaining start) v (map remaining (set files i next)) taken
-  one_more_step before gives none same within steps =
-      let reader = get_or files i d in
-      let pending : u.pending ≡ [] = sym gives.1 ∙ none in
-      let inside : i < length (map remaining files) = omega (arith, length-map files remaining) in
-      let at : get_or (map remaining files) i (remaining reader) ≡ remaining reader = get_or-map remaining files i d (remaining reader) within in
-      let to_u = TakesFound-more a b u (map remaining start) (map remaining files) (map remaining files) [] [] before (gives_found b u (map remaining files) [] gives) in
-      let step = step_found u v (map remaining files) (remaining reader) (remaining next) taken pending (subst (λ (n : ℕ). n < length (map remaining files)) same inside) (subst (λ (n : ℕ). get_or (map remaining files) n (remaining reader) ≡ remaining reader) same at) steps in
-      let put : map remaining (set files i next) ≡ set (map remaining files) u.file (remaining next) = map-set remaining files i next ∙ ap (λ (n : ℕ). set (map remaining files) n (remaining next)) same in
-      subst (λ (l : List (Option Bytes)). TakesFound a (map remaining start) v l taken) (sym put)
-      (TakesFound-more a u v (map remaining start) (map remaining files) (set (map remaining files) u.file (remaining next)) [] taken to_u step)
-
--- ---- why a reading stops
-
-module _ {R : Type 0} (fails : R → ℕ) (a b u v : UnitsState) (start files : List R) (i : ℕ) (d next : R) where
-  pub still_sound : map fails files ≡ map fails start → fails next ≡ fails (get_or files i d) → map fails (set files i next) ≡ map fails start
-  still_sound same sound = map-set_same fails files i next d sound ∙ same
-
-  pub still_unfailed : (e : ReplayError) → map fails files ≡ map fails start → KeepsUnlessRead (fails (get_or files i d)) (fails next) e → KeepsUnlessRead (map fails start) (map fails (set files i next)) e
-  still_unfailed (errors.Read file) same h = tt
-  still_unfailed errors.Write same h = still_sound same h
-  still_unfailed errors.Memory same h = still_sound same h
-  still_unfailed errors.Records same h = still_sound same h
-  still_unfailed errors.Spent same h = still_sound same h
-
-  failed_in : (file : ℕ) → map fails files ≡ map fails start → i ≡ file → i < length files → HasFailed (fails (get_or files i d)) (fails next) → HasFailed (get_or (map fails start) file 0) (get_or (map fails (set files i next)) file 0)
-  failed_in file same at within h =
-      let before : fails (get_or files i d) ≡ get_or (map fails start) file 0 = sym (get_or-map fails files i d 0 within) ∙ ap (λ (l : List ℕ). get_or l i 0) same ∙ ap (λ (n : ℕ). get_or (map fails start) n 0) at in
-      let inside : i < length (map fails files) = omega (arith, length-map files fails) in
-      let after : fails next ≡ get_or (map fails (set files i next)) file 0 = sym (get_or-set_same (map fails files) i (fails next) 0 inside) ∙ ap (λ (l : List ℕ). get_or l i 0) (sym (map-set fails files i next)) ∙ ap (λ (n : ℕ). get_or (map fails (set files i next)) n 0) at in
-      subst (λ (n : ℕ). HasFailed n (get_or (map fails (set files i next)) file 0)) before (subst (λ (n : ℕ). HasFailed (fails (get_or files i d)) n) after h)
-
-  known_first : (remaining : R → Option Bytes) (contents : List Bytes) → i < length files → drop i (map remaining files) ≡ known_all contents → (bytes : Bytes) × (later : List Bytes) × (remaining (get_or files i d) ≡ Some bytes) × (contents ≡ bytes ∷ later)
-  known_first remaining contents within h = by_contents contents (sym parts ∙ h)
-    where
-      inside : i < length (map remaining files)
-      inside = omega (arith, length-map files remaining)
-
-      parts : drop i (map remaining files) ≡ remaining (get_or files i d) ∷ drop (suc i) (map remaining files)
-      parts = drop-cons (map remaining files) i (remaining d) inside ∙ ap (λ (o : Option Bytes). o ∷ drop (suc i) (map remaining files)) (get_or-map remaining files i d (remaining d) within)
-
-      by_contents : (cs : List Bytes) → remaining (get_or files i d) ∷ drop (suc i) (map remaining files) ≡ known_all cs → (bytes : Bytes) × (later : List Bytes) × (remaining (get_or files i d) ≡ Some bytes) × (cs ≡ bytes ∷ later)
-      by_contents [] e = absurd cc
-      by_contents (bytes ∷ later) e = (bytes, later, cc, refl)
-
-  more_in : (remaining : R → Option Bytes) → b.max_records ≡ a.max_records → TakesFound a (map remaining start) b (map remaining files) [] → GivesPending b u [] → i ≡ u.file → i < length files → HasRecord u (remaining (get_or files i d)) → HasMoreRecords a (map remaining start)
-  more_in remaining limit before gives at within h contents known =
-      let to_u = TakesFound-more a b u (map remaining start) (map remaining files) (map remaining files) [] [] before (gives_found b u (map remaining files) [] gives) contents known in
-      let k = known_first remaining to_u.0 within (ap (λ (n : ℕ). drop n (map remaining files)) at ∙ to_u.1) in
-      let more : 0 < count_by is_whole (to_come u.frames k.0) = h.1 k.0 k.2 in
-      let most : u.max_records ≡ a.max_records = ap (λ (s : UnitsState). s.max_records) gives.0 ∙ limit in
-      let all : count_by is_whole (cuts_to_come u to_u.0) ≡ count_by is_whole (to_come u.frames k.0) + count_by is_whole (all_cuts k.1) = ap (λ (cs : List Bytes). count_by is_whole (cuts_to_come u cs)) k.3 ∙ sum_by-append (λ (c : Cut). cond (is_whole c) 1 0) (to_come u.frames k.0) (all_cuts k.1) in
-      omega (arith, more, most, all, h.0, to_u.2.records)
-
-  pub stops_in : (remaining : R → Option Bytes) (e : ReplayError) → map fails files ≡ map fails start → a.standing ≡ Going → b.max_records ≡ a.max_records → TakesFound a (map remaining start) b (map remaining files) [] → GivesPending b u [] → i ≡ u.file → i < length files
-      → StopsAt u (remaining (get_or files i d)) v (fails (get_or files i d)) (fails next) e → Stops a (map remaining start) v (map fails start) (map fails (set files i next)) e
-  stops_in remaining (errors.Read file) same going limit before gives at within h =
-      (ap (λ (s : UnitsState). s.file) h.1 ∙ sym h.0, ap (λ (s : UnitsState). s.standing) h.1, inr (failed_in file same (at ∙ sym h.0) within h.2))
-  stops_in remaining errors.Write same going limit before gives at within h = absurd h
-  stops_in remaining errors.Memory same going limit before gives at within h = (going, h)
-  stops_in remaining errors.Records same going limit before gives at within h = (going, h.0, h.1, more_in remaining limit before gives at within h.2)
-  stops_in remaining errors.Spent same going limit before gives at within h = absurd h
-
--- ---- files that are not read yet
-
--- a step in the current file leaves those behind it
-pub later_left : {R : Type 0} (start files : List R) (i n m : ℕ) (next : R) → drop (n + 1) files ≡ drop (n + 1) start → i ≡ n → n ≤ m → drop (m + 1) (set files i next) ≡ drop (m + 1) start
-later_left start files i n m next same at onward =
-    let more : (n + 1) + (m - n) ≡ m + 1 = omega (arith, onward) in
-    let below : i < m + 1 = omega (arith, at, onward) in
-    drop-set-lt (m + 1) files i next below ∙ ap (λ k. drop k files) (sym more) ∙ sym (drop-drop (m - n) (n + 1) files) ∙ ap (drop (m - n)) same ∙ drop-drop (m - n) (n + 1) start ∙ ap (λ k. drop k start) more
-
--- ---- a read that failed
-
 -- the bytes that a reader gave, and those that it gives still
 consumed : (known left : Option Bytes) (bytes part : Bytes) → known ≡ Some bytes → Consumes known left part → (rest : Bytes) × (left ≡ Some rest) × (bytes ≡ part ++ rest)
 consumed None left bytes part is gave = absurd cc
 consumed (Some known) None bytes part is gave = absurd gave
 consumed (Some known) (Some rest) bytes part is gave = let same : bytes ≡ known = cc in (rest, refl, same ∙ gave)
 
-module _ {R : Type 0} (remaining : R → Option Bytes) (a b u v : UnitsState) (start files : List R) (i : ℕ) (d next : R) where
-  fails_behind : TakesFound a (map remaining start) b (map remaining files) [] → GivesPending b u [] → i ≡ u.file → i < length files
-      → before_failure v ≡ u → (part : Bytes) (fault : Fault) → fault_at u.frames.offset part ≡ Some fault → Consumes (remaining (get_or files i d)) (remaining next) part
-      → (contents : List Bytes) → drop a.file (map remaining start) ≡ known_all contents → FailsBehind a contents v (map remaining (set files i next)) []
-  fails_behind before gives at within same part fault broken gave contents known =
-      let to_u = TakesFound-more a b u (map remaining start) (map remaining files) (map remaining files) [] [] before (gives_found b u (map remaining files) [] gives) contents known in
-      let k = known_first (λ (r : R). 0) a b u v start files i d next remaining to_u.0 within (ap (λ (n : ℕ). drop n (map remaining files)) at ∙ to_u.1) in
-      let c = consumed (remaining (get_or files i d)) (remaining next) k.0 part k.2 gave in
+-- ---- a step in the file of this number, after a reading with nothing pending
+
+module _ {R : Type 0} (remaining : R → Option Bytes) (fails : R → ℕ) (a b v : UnitsState) (start files : List R) (i : ℕ) (d next : R) where
+  abbrev reader : R
+  reader = get_or files i d
+
+  one_more_step : (taken : List Found) → TakesFound a (map remaining start) b (map remaining files) [] → b.pending ≡ [] → i ≡ b.file → i < length files → Steps b (remaining reader) v (remaining next) taken
+      → TakesFound a (map remaining start) v (map remaining (set files i next)) taken
+  one_more_step taken before none same within steps =
       let inside : i < length (map remaining files) = omega (arith, length-map files remaining) in
-      let split : drop i (map remaining files) ≡ remaining (get_or files i d) ∷ drop (i + 1) (map remaining files) =
-      drop-cons (map remaining files) i (remaining d) inside ∙ ap (λ (n : ℕ). get_or (map remaining files) i (remaining d) ∷ drop n (map remaining files)) (sym (add-one i)) ∙ ap (λ (o : Option Bytes). o ∷ drop (i + 1) (map remaining files)) (get_or-map remaining files i d (remaining d) within) in
-      let others : drop (i + 1) (map remaining files) ≡ known_all k.1 = tail_of (remaining (get_or files i d)) (Some k.0) (drop (i + 1) (map remaining files)) (known_all k.1) (sym split ∙ ap (λ (n : ℕ). drop n (map remaining files)) at ∙ to_u.1 ∙ ap known_all k.3) in
+      let at : get_or (map remaining files) i (remaining reader) ≡ remaining reader = get_or-map remaining files i d (remaining reader) within in
+      let step = step_found b v (map remaining files) (remaining reader) (remaining next) taken none (subst (λ (n : ℕ). n < length (map remaining files)) same inside) (subst (λ (n : ℕ). get_or (map remaining files) n (remaining reader) ≡ remaining reader) same at) steps in
+      let put : map remaining (set files i next) ≡ set (map remaining files) b.file (remaining next) = map-set remaining files i next ∙ ap (λ (n : ℕ). set (map remaining files) n (remaining next)) same in
+      subst (λ (l : List (Option Bytes)). TakesFound a (map remaining start) v l taken) (sym put)
+      (TakesFound-more a b v (map remaining start) (map remaining files) (set (map remaining files) b.file (remaining next)) [] taken before step)
+
+  still_sound : map fails files ≡ map fails start → fails next ≡ fails reader → map fails (set files i next) ≡ map fails start
+  still_sound same sound = map-set_same fails files i next d sound ∙ same
+
+  pub gives_more : (refused : Option Damage) → Gives remaining fails a start b files [] → b.pending ≡ [] → i ≡ b.file → i < length files → Steps b (remaining reader) v (remaining next) (refusals refused) → Lowers fails b reader v next refused
+      → Gives remaining fails a start v (set files i next) (refusals refused)
+  gives_more refused before none same within steps lowers = record {
+    found = one_more_step (refusals refused) before.found none same within steps;
+    fewer = omega (arith, before.fewer, lowers.fewer, one_refusal refused);
+    few = omega (arith, before.few, lowers.few, ap length (no_unit refused));
+    reading = before.reading;
+    state = lowers.state;
+    counted = still_sound before.counted lowers.counted;
+  }
+
+  -- ---- why a reading stops
+
+  still_unfailed : (e : ReplayError) → map fails files ≡ map fails start → KeepsUnlessRead (fails reader) (fails next) e → KeepsUnlessRead (map fails start) (map fails (set files i next)) e
+  still_unfailed (errors.Read file) same h = tt
+  still_unfailed errors.Write same h = still_sound same h
+  still_unfailed errors.Memory same h = still_sound same h
+  still_unfailed errors.Records same h = still_sound same h
+  still_unfailed errors.Spent same h = still_sound same h
+
+  failed_in : (file : ℕ) → map fails files ≡ map fails start → i ≡ file → i < length files → HasFailed (fails reader) (fails next) → HasFailed (get_or (map fails start) file 0) (get_or (map fails (set files i next)) file 0)
+  failed_in file same at within h =
+      let before : fails reader ≡ get_or (map fails start) file 0 = sym (get_or-map fails files i d 0 within) ∙ ap (λ (l : List ℕ). get_or l i 0) same ∙ ap (λ (n : ℕ). get_or (map fails start) n 0) at in
+      let inside : i < length (map fails files) = omega (arith, length-map files fails) in
+      let after : fails next ≡ get_or (map fails (set files i next)) file 0 = sym (get_or-set_same (map fails files) i (fails next) 0 inside) ∙ ap (λ (l : List ℕ). get_or l i 0) (sym (map-set fails files i next)) ∙ ap (λ (n : ℕ). get_or (map fails (set files i next)) n 0) at in
+      subst (λ (n : ℕ). HasFailed n (get_or (map fails (set files i next)) file 0)) before (subst (λ (n : ℕ). HasFailed (fails reader) n) after h)
+
+  known_first : (contents : List Bytes) → i < length files → drop i (map remaining files) ≡ known_all contents
+      → (bytes : Bytes) × (later : List Bytes) × (remaining reader ≡ Some bytes) × (contents ≡ bytes ∷ later) × (drop (i + 1) (map remaining files) ≡ known_all later)
+  known_first contents within h = by_contents contents (sym parts ∙ h)
+    where
+      inside : i < length (map remaining files)
+      inside = omega (arith, length-map files remaining)
+
+      parts : drop i (map remaining files) ≡ remaining reader ∷ drop (i + 1) (map remaining files)
+      parts = drop-cons (map remaining files) i (remaining d) inside ∙ ap (λ (n : ℕ). get_or (map remaining files) i (remaining d) ∷ drop n (map remaining files)) (sym (add-one i))
+          ∙ ap (λ (o : Option Bytes). o ∷ drop (i + 1) (map remaining files)) (get_or-map remaining files i d (remaining d) within)
+
+      by_contents : (cs : List Bytes) → remaining reader ∷ drop (i + 1) (map remaining files) ≡ known_all cs
+          → (bytes : Bytes) × (later : List Bytes) × (remaining reader ≡ Some bytes) × (cs ≡ bytes ∷ later) × (drop (i + 1) (map remaining files) ≡ known_all later)
+      by_contents [] e = absurd cc
+      by_contents (bytes ∷ later) e = (bytes, later, cc, refl, cc)
+
+  more_in : b.max_records ≡ a.max_records → TakesFound a (map remaining start) b (map remaining files) [] → i ≡ b.file → i < length files → HasRecord b (remaining reader) → HasMoreRecords a (map remaining start)
+  more_in most before at within h contents known =
+      let to_b = before contents known in
+      let k = known_first to_b.0 within (ap (λ (n : ℕ). drop n (map remaining files)) at ∙ to_b.1) in
+      let more : 0 < count_by is_whole (to_come b.frames k.0) = h.1 k.0 k.2 in
+      let all : count_by is_whole (cuts_to_come b to_b.0) ≡ count_by is_whole (to_come b.frames k.0) + count_by is_whole (all_cuts k.1) = ap (λ (cs : List Bytes). count_by is_whole (cuts_to_come b cs)) k.3 ∙ sum_by-append (λ (c : Cut). cond (is_whole c) 1 0) (to_come b.frames k.0) (all_cuts k.1) in
+      omega (arith, more, most, all, h.0, to_b.2.records)
+
+  stops_in : (e : ReplayError) → map fails files ≡ map fails start → a.state ≡ Reading → b.max_records ≡ a.max_records → TakesFound a (map remaining start) b (map remaining files) [] → i ≡ b.file → i < length files
+      → HasCauseInFile b (remaining reader) v (fails reader) (fails next) e → HasCause a (map remaining start) v (map fails start) (map fails (set files i next)) e
+  stops_in (errors.Read file) same reading limit before at within h =
+      (ap (λ (s : UnitsState). s.file) h.1 ∙ sym h.0, ap (λ (s : UnitsState). s.state) h.1, inr (failed_in file same (at ∙ sym h.0) within h.2))
+  stops_in errors.Write same reading limit before at within h = absurd h
+  stops_in errors.Memory same reading limit before at within h = (reading, h)
+  stops_in errors.Records same reading limit before at within h = (reading, h.0, h.1, more_in limit before at within h.2)
+  stops_in errors.Spent same reading limit before at within h = absurd h
+
+  fails_behind : TakesFound a (map remaining start) b (map remaining files) [] → i ≡ b.file → i < length files
+      → before_failure v ≡ b → (part : Bytes) (fault : Fault) → fault_at b.frames.offset part ≡ Some fault → Consumes (remaining reader) (remaining next) part
+      → (contents : List Bytes) → drop a.file (map remaining start) ≡ known_all contents → FailsBehind a contents v (map remaining (set files i next)) []
+  fails_behind before at within same part fault broken gave contents known =
+      let to_b = before contents known in
+      let k = known_first to_b.0 within (ap (λ (n : ℕ). drop n (map remaining files)) at ∙ to_b.1) in
+      let c = consumed (remaining reader) (remaining next) k.0 part k.2 gave in
+      let inside : i < length (map remaining files) = omega (arith, length-map files remaining) in
       let file : v.file ≡ i = ap (λ (s : UnitsState). s.file) same ∙ sym at in
       let put : drop i (map remaining (set files i next)) ≡ remaining next ∷ drop (i + 1) (map remaining files) =
       ap (drop i) (map-set remaining files i next) ∙ drop-set (map remaining files) i (remaining next) inside in
@@ -254,37 +283,40 @@ module _ {R : Type 0} (remaining : R → Option Bytes) (a b u v : UnitsState) (s
         bytes = c.0;
         later = k.1;
         broken = ap (λ (s : UnitsState). fault_at s.frames.offset part) same ∙ broken;
-        left = ap (λ (n : ℕ). drop n (map remaining (set files i next))) file ∙ put ∙ ap (λ (o : Option Bytes). o ∷ drop (i + 1) (map remaining files)) c.1 ∙ ap (λ (l : List (Option Bytes)). Some c.0 ∷ l) others;
-        passes = subst (λ (s : UnitsState). Passes a contents s ((part ++ c.0) ∷ k.1) []) (sym same) (subst (λ (l : List Bytes). Passes a contents u l []) (k.3 ∙ ap (λ (bytes : Bytes). bytes ∷ k.1) c.2) to_u.2);
+        left = ap (λ (n : ℕ). drop n (map remaining (set files i next))) file ∙ put ∙ ap (λ (o : Option Bytes). o ∷ drop (i + 1) (map remaining files)) c.1 ∙ ap (λ (l : List (Option Bytes)). Some c.0 ∷ l) k.4;
+        passes = subst (λ (s : UnitsState). Passes a contents s ((part ++ c.0) ∷ k.1) []) (sym same) (subst (λ (l : List Bytes). Passes a contents b l []) (k.3 ∙ ap (λ (bytes : Bytes). bytes ∷ k.1) c.2) to_b.2);
       }
-    where
-      tail_of : (x y : Option Bytes) (xs ys : List (Option Bytes)) → x ∷ xs ≡ y ∷ ys → xs ≡ ys
-      tail_of x y xs ys e = cc
 
-  pub gives_before : (e : ReplayError) → TakesFound a (map remaining start) b (map remaining files) [] → GivesPending b u [] → i ≡ u.file → i < length files
-      → FailsInRecord u (remaining (get_or files i d)) v (remaining next) e → GivesAllBefore a (map remaining start) v (map remaining (set files i next)) e
-  gives_before (errors.Read file) before gives at within h = fails_behind before gives at within h.0 h.1.0 h.1.1 h.1.2 h.1.3
-  gives_before errors.Write before gives at within h = tt
-  gives_before errors.Memory before gives at within h = tt
-  gives_before errors.Records before gives at within h = tt
-  gives_before errors.Spent before gives at within h = tt
+  gives_before : (e : ReplayError) → TakesFound a (map remaining start) b (map remaining files) [] → i ≡ b.file → i < length files
+      → FailsInRecord b (remaining reader) v (remaining next) e → GivesAllBefore a (map remaining start) v (map remaining (set files i next)) e
+  gives_before (errors.Read file) before at within h = fails_behind before at within h.0 h.1.0 h.1.1 h.1.2 h.1.3
+  gives_before errors.Write before at within h = tt
+  gives_before errors.Memory before at within h = tt
+  gives_before errors.Records before at within h = tt
+  gives_before errors.Spent before at within h = tt
 
--- ---- a reading that has ended
+  pub stops_then : (e : ReplayError) → Gives remaining fails a start b files [] → b.max_records ≡ a.max_records → i ≡ b.file → i < length files → StopsInFile remaining fails b reader v next e
+      → Stops remaining fails a start v (set files i next) e
+  stops_then e before limit at within stops = record {
+    cause = stops_in e before.counted before.reading limit before.found at within stops.cause;
+    before = λ _. gives_before e before.found at within stops.before;
+    unfailed = still_unfailed e before.counted stops.unfailed;
+  }
 
-pub gives_nothing : (old new : UnitsState) → GivesPending old new [] → new ≡ old
-gives_nothing old new h = h.0 ∙ ap (λ (l : List ReplayUnit). record old { pending = l }) (sym h.1)
+-- ---- what a step keeps
 
--- ---- how many answers can still come
+-- a step in the current file leaves those behind it
+later_left : {R : Type 0} (start files : List R) (i n m : ℕ) (next : R) → drop (n + 1) files ≡ drop (n + 1) start → i ≡ n → n ≤ m → drop (m + 1) (set files i next) ≡ drop (m + 1) start
+later_left start files i n m next same at onward =
+    let more : (n + 1) + (m - n) ≡ m + 1 = omega (arith, onward) in
+    let below : i < m + 1 = omega (arith, at, onward) in
+    drop-set-lt (m + 1) files i next below ∙ ap (λ k. drop k files) (sym more) ∙ sym (drop-drop (m - n) (n + 1) files) ∙ ap (drop (m - n)) same ∙ drop-drop (m - n) (n + 1) start ∙ ap (λ k. drop k start) more
 
-pub fewer_than : (a b u v : UnitsState) → answers_left b ≤ answers_left a → GivesPending b u [] → answers_left v + 0 ≤ answers_left u → answers_left v ≤ answers_left a
-fewer_than a b u v h gives step =
-    let same : answers_left u ≡ answers_left b = ap answers_left gives.0 ∙ ap (λ (l : List ReplayUnit). ((b.max_records - b.records) * 131070 + (length l + length b.dumps.heard)) + (b.count - b.file)) (sym gives.1) in
-    omega (arith, h, same, step)
-
-pub units_than : (a b u v : UnitsState) → units_left b ≤ units_left a → GivesPending b u [] → units_left v ≤ units_left u → units_left v ≤ units_left a
-units_than a b u v h gives step =
-    let same : units_left u ≡ units_left b = ap units_left gives.0 ∙ ap (λ (l : List ReplayUnit). (b.max_records - b.records) * 131070 + (length l + length b.dumps.heard)) (sym gives.1) in
-    omega (arith, h, same, step)
+pub bounded_still : {R : Type 0} (a b v : UnitsState) (start files : List R) (i : ℕ) (next : R) → IsBounded a start b files → i ≡ b.file → GoesOn b v → IsBounded a start v (set files i next)
+bounded_still a b v start files i next before at step = record {
+  later = later_left start files i b.file v.file next before.later at step.onward;
+  plan = (step.plan.0 ∙ before.plan.0, step.plan.1 ∙ before.plan.1, step.plan.2 ∙ before.plan.2);
+}
 
 -- ---- a reading that begins
 

@@ -1,5 +1,5 @@
 -- What payloads mean, where their keys and the packed bytes of their routes are among others.
-use Rattle.std.specs.Prelude.{◌≡◌, ⊤, ℕ, Bool, true, false, List, map, Result, Ok, Err}
+use Rattle.std.specs.Prelude.{◌≡◌, ⊤, ℕ, Bool, true, false, List, [], ◌∷◌, ◌++◌, map, Result, Ok, Err}
 use Rattle.std.specs.List.{AllByRecursion}
 use Rattle.mrt_frame.specs.declared.fault.Fault.{Fault}
 use Rattle.bgp_prefix.specs.Keys.{RouteKey}
@@ -34,6 +34,11 @@ events_at keys bytes es = map (event_at keys bytes) es
 
 abbrev pub AreEventsAt : List RouteKey → List ℕ → List DecodedEvent → Type 0
 AreEventsAt keys bytes es = AllByRecursion (IsEventAt keys bytes) es
+
+-- one more event is behind others, and what it has behind theirs
+abbrev pub IsOneMore : List RouteKey → List ℕ → List DecodedEvent → List RouteKey → List ℕ → List DecodedEvent → Result Event Fault → Type 0
+IsOneMore keys bytes es more_keys more_bytes more is = AreEventsAt keys bytes es →
+    AreEventsAt more_keys more_bytes more × (events_at more_keys more_bytes more ≡ events_at keys bytes es ++ is ∷ [])
 
 -- the same with keys and routes that are borrowed
 abbrev pub event_of : EventRef → Result Event Fault

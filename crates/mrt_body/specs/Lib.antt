@@ -17,3 +17,4 @@ pub mod Refusals
 pub mod Listed
 pub mod Pending
 pub mod ToCome
+pub mod Readings

@@ -1,5 +1,5 @@
 -- What files still give, from where a reading of them stands.
-use Rattle.std.specs.Prelude.{◌<◌, ◌≡◌, ◌⊎◌, ℕ, ◌+◌, ◌-◌, ◌*◌, ◌≤◌, ◌^◌, Bool, List, [], ◌∷◌, ◌++◌, map, drop, length, Option, Some, None, option_to_list, slice_index, ⊤}
+use Rattle.std.specs.Prelude.{◌<◌, ◌≡◌, ◌⊎◌, ℕ, ◌≢◌, ◌+◌, ◌-◌, ◌*◌, ◌≤◌, ◌^◌, Bool, List, [], ◌∷◌, ◌++◌, map, drop, length, Option, Some, None, option_to_list, slice_index, ⊤}
 use Rattle.std.specs.List.{count_by}
 use Rattle.mrt_frame.specs.Devices.{HasFailed}
 use Rattle.mrt_frame.specs.Cuts.{fault_at}
@@ -9,12 +9,11 @@ use Rattle.mrt_frame.specs.declared.cut.Cut.{Cut}
 use Rattle.mrt_frame.specs.declared.cut.Cut.TheVariants.{Whole, Broken}
 use Rattle.mrt_frame.specs.declared.error.ReplayError.{ReplayError}
 use Rattle.mrt_frame.specs.declared.error.ReplayError.TheVariants as errors
-use Rattle.mrt_frame.specs.declared.phase.Phase.TheVariants.{Reading}
+use Rattle.mrt_frame.specs.declared.read_state.ReadState.{ReadState}
+use Rattle.mrt_frame.specs.declared.read_state.ReadState.TheVariants.{Reading, Ended, Failed, Spent}
 use Rattle.mrt_body.specs.declared.record_place.RecordAt.{RecordAt}
 use Rattle.mrt_body.specs.declared.body_kind.BodyKind.{BodyKind}
 use Rattle.mrt_body.specs.Choices.{UnitSelection}
-use Rattle.mrt_body.specs.declared.standing.Standing.{Standing}
-use Rattle.mrt_body.specs.declared.standing.Standing.TheVariants.{Going, Failed as FailedRead, Spent as SpentAll}
 use Rattle.mrt_body.specs.declared.unit.PeerKey.{PeerKey}
 use Rattle.mrt_body.specs.Plain.{Unit as ReplayUnit}
 use Rattle.mrt_body.specs.declared.unit.Damage.{Damage}
@@ -37,7 +36,7 @@ pub record UnitsState : Type 0 where
   pub max_records : ℕ
   pub records : ℕ
   pub aside : ℕ
-  pub standing : Standing
+  pub state : ReadState
 
 abbrev pub fresh_units : ℕ → ℕ → UnitSelection → UnitsState
 fresh_units count max_records selection = record {
@@ -51,7 +50,7 @@ fresh_units count max_records selection = record {
   max_records = max_records;
   records = 0;
   aside = 0;
-  standing = Going;
+  state = Reading;
 }
 
 -- at the start of the next file
@@ -117,45 +116,35 @@ NothingToCome u known =
 
 -- the last file has ended, and nothing of it pends
 abbrev pub HasEnded : UnitsState → Type 0
-HasEnded u = (u.standing ≡ Going) × (u.file ≡ u.count) × (u.pending ≡ [])
+HasEnded u = (u.state ≡ Reading) × (u.file ≡ u.count) × (u.pending ≡ [])
 
 -- at most so many records and file ends are still to come
 abbrev pub steps_left : UnitsState → ℕ
 steps_left u = (u.max_records - u.records) + (u.count - u.file)
 
--- at most so many units can still come, whatever the readers give: those that pend, 65,535 of each record, and for each
--- of these a clear, if its peer wasn't heard yet
+-- at most so many units come of a record: 65,535, and for each of these a clear, if its peer wasn't heard yet
+abbrev pub unit_limit : ℕ
+unit_limit = 131070
+
+-- at most so many units can still come, whatever the readers give: those that pend, and those of each record
 abbrev pub units_left : UnitsState → ℕ
-units_left u = (u.max_records - u.records) * 131070 + (length u.pending + length u.dumps.heard)
+units_left u = (u.max_records - u.records) * unit_limit + (length u.pending + length u.dumps.heard)
 
 -- at most so many answers can still come: the units, and for each file a rest
 abbrev pub answers_left : UnitsState → ℕ
 answers_left u = units_left u + (u.count - u.file)
 
--- one for a unit, none for a refusal
-abbrev pub unit_count : Option Found → ℕ
-unit_count None = 0
-unit_count (Some (found.Unit unit)) = 1
-unit_count (Some (found.Refused damage)) = 0
-
--- how a reading stands after an error
-abbrev pub standing_after : ReplayError → Standing
-standing_after (errors.Read file) = FailedRead
-standing_after errors.Write = SpentAll
-standing_after errors.Memory = SpentAll
-standing_after errors.Records = SpentAll
-standing_after errors.Spent = SpentAll
-
 -- what always holds
 pub record StandsWithin
-    (count file : ℕ) (frames : Position) (max_records records aside : ℕ) (standing : Standing)
+    (count file : ℕ) (frames : Position) (max_records records aside : ℕ) (state : ReadState)
     : Type 0 where
   pub file_in : file ≤ count
   pub frames_of : frames.file ≡ file
   pub records_in : records ≤ max_records
   pub aside_in : aside ≤ records
   pub limit : max_records ≤ 2 ^ 47
-  pub going : standing ≡ Going → frames.phase ≡ Reading
+  pub not_ended : state ≢ Ended
+  pub reading : state ≡ Reading → frames.state ≡ Reading
 
 abbrev pub index_peers : Option IndexState → Option (List PeerKey)
 index_peers None = None
@@ -185,7 +174,7 @@ CutsOne old known new left (Some (Broken offset fault)) =
     (offset ≡ old.frames.offset) × EndsFile old known new left (Broken offset fault ∷ [])
 CutsOne old known new left (Some (Whole r)) =
     (new ≡ record old { frames = new.frames; records = old.records + 1 })
-    × (new.frames.phase ≡ Reading)
+    × (new.frames.state ≡ Reading)
     × TakesCuts old.frames known new.frames left (Whole r ∷ [])
 
 -- what comes of a whole record: its refusal, if it is refused, and what pends
@@ -248,8 +237,8 @@ KeepsPlan old new = (new.count ≡ old.count) × (new.max_records ≡ old.max_re
 -- as it stood before the record at which the read failed
 abbrev pub before_failure : UnitsState → UnitsState
 before_failure u = record u {
-  frames = record { file = u.frames.file; offset = u.frames.offset; phase = Reading };
-  standing = Going;
+  frames = record { file = u.frames.file; offset = u.frames.offset; state = Reading };
+  state = Reading;
 }
 
 -- at one file: the read failed at the record that is next, and took no whole record
@@ -301,29 +290,29 @@ HasMoreRecords u known =
     u.max_records < u.records + count_by is_whole (cuts_to_come u contents)
 
 -- at one file, whose count of failures was this before and is that after
-abbrev pub StopsAt : UnitsState → Option (List ℕ) → UnitsState → ℕ → ℕ → ReplayError → Type 0
-StopsAt old known new before after (errors.Read file) =
+abbrev pub HasCauseInFile : UnitsState → Option (List ℕ) → UnitsState → ℕ → ℕ → ReplayError → Type 0
+HasCauseInFile old known new before after (errors.Read file) =
     (file ≡ old.file)
-    × (new ≡ record old { frames = new.frames; standing = FailedRead })
+    × (new ≡ record old { frames = new.frames; state = Failed })
     × HasFailed before after
-StopsAt old known new before after errors.Write = ⊥
-StopsAt old known new before after errors.Memory = new.standing ≡ SpentAll
-StopsAt old known new before after errors.Records =
-    (new.standing ≡ SpentAll) × (new.records ≡ new.max_records) × HasRecord old known
-StopsAt old known new before after errors.Spent = ⊥
+HasCauseInFile old known new before after errors.Write = ⊥
+HasCauseInFile old known new before after errors.Memory = new.state ≡ Spent
+HasCauseInFile old known new before after errors.Records =
+    (new.state ≡ Spent) × (new.records ≡ new.max_records) × HasRecord old known
+HasCauseInFile old known new before after errors.Spent = ⊥
 
 -- The reader of this file failed in this call or in an earlier one; or a growth was refused, or the greatest number of
 -- records was cut, and each later call answers Spent.
-abbrev pub Stops : UnitsState → List (Option (List ℕ)) → UnitsState → List ℕ → List ℕ → ReplayError → Type 0
-Stops old known new before after (errors.Read file) =
+abbrev pub HasCause : UnitsState → List (Option (List ℕ)) → UnitsState → List ℕ → List ℕ → ReplayError → Type 0
+HasCause old known new before after (errors.Read file) =
     (new.file ≡ file)
-    × (new.standing ≡ FailedRead)
-    × ((old.standing ≡ FailedRead) ⊎ HasFailed (slice_index before file) (slice_index after file))
-Stops old known new before after errors.Write = ⊥
-Stops old known new before after errors.Memory = (old.standing ≡ Going) × (new.standing ≡ SpentAll)
-Stops old known new before after errors.Records =
-    (old.standing ≡ Going)
-    × (new.standing ≡ SpentAll)
+    × (new.state ≡ Failed)
+    × ((old.state ≡ Failed) ⊎ HasFailed (slice_index before file) (slice_index after file))
+HasCause old known new before after errors.Write = ⊥
+HasCause old known new before after errors.Memory = (old.state ≡ Reading) × (new.state ≡ Spent)
+HasCause old known new before after errors.Records =
+    (old.state ≡ Reading)
+    × (new.state ≡ Spent)
     × (new.records ≡ new.max_records)
     × HasMoreRecords old known
-Stops old known new before after errors.Spent = (old.standing ≡ SpentAll) × (new ≡ old)
+HasCause old known new before after errors.Spent = (old.state ≡ Spent) × (new ≡ old)

@@ -9,7 +9,7 @@ use Rattle.mrt_frame.specs.declared.fault.Fault.{Fault}
 use Rattle.mrt_frame.specs.declared.cut.Cut.{Cut}
 use Rattle.mrt_frame.specs.declared.cut.Cut.TheVariants.{Whole, Broken}
 use Rattle.mrt_frame.specs.Fields.{◌>>=◌}
-use Rattle.mrt_frame.specs.Cuts.{cuts}
+use Rattle.mrt_frame.specs.Cuts.{body_limit, cuts}
 use Rattle.bgp_update.specs.Families.{FamilyOf}
 use Rattle.bgp_update.specs.declared.width.Width.{Width}
 use Rattle.bgp_update.specs.declared.width.Width.TheVariants.{Two, Four}
@@ -317,7 +317,7 @@ module _ {P K : Type 0} where
 
   -- no more than the greatest body of a record
   abbrev pub IsSmallUnit : UnitOf (List ℕ) P K → Type 0
-  IsSmallUnit unit = length (payload_bytes unit.payload) ≤ 16777216
+  IsSmallUnit unit = length (payload_bytes unit.payload) ≤ body_limit
 
 abbrev pub IsSmall : Found → Type 0
 IsSmall (found.Unit unit) = IsSmallUnit unit

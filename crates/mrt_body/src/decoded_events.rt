@@ -1,17 +1,17 @@
 //! What payloads mean, decoded one after another into blocks of memory that are used again.
 
-ghost use Rattle.std.specs.Prelude.{◌≡◌, List, IfOk, OnOk};
+ghost use Rattle.std.specs.Prelude.{◌≡◌, [], ◌∷◌, ◌++◌, List, IfOk, OnErr, OnOk};
 ghost use Rattle.bgp_prefix.specs.Keys.{RouteKey as Key};
 ghost use Rattle.bgp_update.specs.Decoded.{IsGrown};
-ghost use Rattle.mrt_body.specs.DecodedEvents.{IsEventAt, event_at};
+ghost use Rattle.mrt_body.specs.DecodedEvents.{IsEventAt, IsOneMore, event_at};
 ghost use Rattle.mrt_body.specs.Events.{entry_event_in, event_in, message_event_in};
 
 use crate::event_ref::EventRef;
 use crate::interpret::UPDATE;
-use crate::lent::PayloadRef;
 use crate::message::message_in;
 use crate::state_rule::StateRule;
 use crate::unit::Payload;
+use crate::unit_ref::PayloadRef;
 use bgp_prefix::{Memory, Prefix, RouteKey};
 use bgp_update::{AttrError, RouteSpan, Unicast, UpdateSpans, Width, decode_entry, decode_update};
 use mrt_frame::Fault;
@@ -59,47 +59,62 @@ fn decode_message<F: Unicast>(
     }
 }
 
-/// Decodes the attributes of a RIB entry (RFC 6396, 4.3.4), likewise.
+/// Keeps one more event, or none at all without memory for it.
 #[inline(always)]
-fn decode_rib<F: Unicast>(
+fn keep<P: Drop>(events: &mut Vec<DecodedEvent<P>>, event: DecodedEvent<P>) -> Result<(), Memory>
+    ensures kept { OnOk result (events.new.items ≡ events.old.items ++ event ∷ []) }
+    ensures none { OnErr result (events.new.items ≡ []) }
+{
+    if let Ok(()) = events.push(event) {
+        return Ok(());
+    }
+    events.clear();
+    Err(Memory)
+}
+
+/// Decodes the attributes of a RIB entry (RFC 6396, 4.3.4), and keeps what it means behind other events.
+#[inline(always)]
+fn keep_entry<F: Unicast>(
     alloc: Global,
+    events: &mut Vec<DecodedEvent<Prefix<F>>>,
     bytes: &mut Vec<u8>,
     key: RouteKey<Prefix<F>>,
     attrs: &[u8],
-) -> Result<DecodedEvent<Prefix<F>>, Memory>
-    ensures means { IfOk result (λ event. (keys : List Key) → event_at keys bytes.new.items event
-        ≡ entry_event_in F.family key attrs.now) }
-    ensures there { IfOk result (λ event. (keys : List Key) → IsEventAt keys bytes.new.items event) }
-    ensures bytes { OnOk result (IsGrown bytes.old.items bytes.new.items) }
+) -> Result<(), Memory>
+    ensures kept { OnOk result ((keys : List Key) → IsOneMore keys bytes.old.items events.old.items
+        keys bytes.new.items events.new.items (entry_event_in F.family key attrs.now)) }
+    ensures none { OnErr result (events.new.items ≡ []) }
 {
     match decode_entry::<F>(alloc, bytes, attrs, Width::Four) {
-        Ok(route) => Ok(DecodedEvent::Rib { key, route }),
-        Err(AttrError::Bad(fault)) => Ok(DecodedEvent::Damaged(fault)),
-        Err(AttrError::Memory) => Err(Memory),
+        Ok(route) => keep(events, DecodedEvent::Rib { key, route }),
+        Err(AttrError::Bad(fault)) => keep(events, DecodedEvent::Damaged(fault)),
+        Err(AttrError::Memory) => {
+            events.clear();
+            Err(Memory)
+        }
     }
 }
 
-/// Decodes a payload, likewise.
+/// Decodes a payload, and keeps what it means behind other events. Each kind is kept by itself, since in common with
+/// the others all fields of all kinds would be moved.
 #[inline(always)]
 #[tactic(auto, unfolding(crate::specs::Events::event_in))]
-fn decode<F: Unicast>(
+fn keep_decoded<F: Unicast>(
     alloc: Global,
+    events: &mut Vec<DecodedEvent<Prefix<F>>>,
     keys: &mut Vec<RouteKey<Prefix<F>>>,
     bytes: &mut Vec<u8>,
     payload: &PayloadRef<'_, F>,
-) -> Result<DecodedEvent<Prefix<F>>, Memory>
-    ensures means { IfOk result (λ event. event_at keys.new.items bytes.new.items event
-        ≡ event_in payload.now) }
-    ensures there { IfOk result (IsEventAt keys.new.items bytes.new.items) }
-    ensures keys { OnOk result (IsGrown keys.old.items keys.new.items) }
-    ensures bytes { OnOk result (IsGrown bytes.old.items bytes.new.items) }
+) -> Result<(), Memory>
+    ensures kept { OnOk result (IsOneMore keys.old.items bytes.old.items events.old.items
+        keys.new.items bytes.new.items events.new.items (event_in payload.now)) }
+    ensures none { OnErr result (events.new.items ≡ []) }
 {
     match payload {
-        Payload::State { from, to, rule } => Ok(DecodedEvent::State {
-            rule: *rule,
-            from: *from,
-            to: *to,
-        }),
+        Payload::State { from, to, rule } => {
+            let (rule, from, to) = (*rule, *from, *to);
+            keep(events, DecodedEvent::State { rule, from, to })
+        }
         Payload::Message {
             bytes: message,
             width,
@@ -107,13 +122,19 @@ fn decode<F: Unicast>(
             family,
         } => {
             family.is_known();
-            decode_message(alloc, keys, bytes, message.as_slice(), *width, *add_path)
+            match decode_message(alloc, keys, bytes, message.as_slice(), *width, *add_path) {
+                Ok(event) => keep(events, event),
+                Err(memory) => {
+                    events.clear();
+                    Err(memory)
+                }
+            }
         }
         Payload::Entry { key, attrs, family } => {
             family.is_known();
-            decode_rib(alloc, bytes, *key, attrs.as_slice())
+            keep_entry(alloc, events, bytes, *key, attrs.as_slice())
         }
-        Payload::Clear => Ok(DecodedEvent::Clear),
+        Payload::Clear => keep(events, DecodedEvent::Clear),
     }
 }
 
@@ -177,16 +198,13 @@ impl<F: Unicast> DecodedEvents<F> {
     pub fn push(&mut self, alloc: Global, payload: &PayloadRef<'_, F>) -> Result<(), Memory>
         ensures { OnOk result (self.new ≡ self.old ++ event_in payload.now ∷ []) }
     {
-        match decode(alloc, &mut self.keys, &mut self.bytes, payload) {
-            Ok(event) => {
-                self.events.push(event)?;
-                Ok(())
-            }
-            Err(memory) => {
-                self.events.clear();
-                Err(memory)
-            }
-        }
+        keep_decoded(
+            alloc,
+            &mut self.events,
+            &mut self.keys,
+            &mut self.bytes,
+            payload,
+        )
     }
 
     /// What the payload at an index means.

@@ -2,6 +2,7 @@
 
 ghost use Rattle.std.specs.Prelude.{◌≡◌, ◌≤◌, ◌+◌, ◌/◌, ◌∷◌, [], length, take, drop, max, vec_capacity, false, ◌↔◌, Some, None, IfOk, IfSome, OnOk, slice_index_or};
 ghost use Rattle.bgp_update.specs.Results.{Gives};
+ghost use Rattle.mrt_frame.specs.Cuts.{body_limit};
 ghost use Rattle.mrt_body.specs.Units.{IsSmallUnit, no_peer, rib_units_in};
 ghost use Rattle.mrt_body.specs.Pending.{AreListed, units_left};
 ghost use Rattle.mrt_body.specs.Selections.{is_selected, takes_peer};
@@ -9,12 +10,12 @@ ghost use Rattle.std.specs.List.{filter};
 ghost use Rattle.mrt_body.specs.RibDumps.{heard_of};
 ghost use Rattle.mrt_body.specs.declared.rib_rule.RibRule.TheVariants.{Replace};
 
-use crate::lent::{BytesRef, LentUnit, LentUnitOf};
 use crate::record_place::RecordAt;
 use crate::rib::{ListedEntry, list_entries, rib_head_at};
 use crate::rib_dumps::RibDumps;
 use crate::selection::Selection;
 use crate::unit::{Payload, PeerAddr, PeerKey, Unit};
+use crate::unit_ref::{BytesRef, PeekedUnit, PeekedUnitOf};
 use bgp_prefix::{Memory, Prefix, RouteKey, Sequence};
 use bgp_update::{AttrError, FamilyMark, Unicast};
 
@@ -67,7 +68,7 @@ impl<F: Unicast> RibRecord<Prefix<F>> {
         peers: &[PeerKey],
         list: &mut Vec<ListedEntry>,
     ) -> Result<RibRecord<Prefix<F>>, AttrError>
-        requires { length body ≤ 16777216 }
+        requires { length body ≤ body_limit }
         ensures units { Gives (units_left F.family peers.now list.new.items) result
             (rib_units_in F.family at add_path (Some peers.now) body) }
         ensures listed { IfOk result (AreListed peers.now list.new.items) }
@@ -150,14 +151,18 @@ impl<F: Unicast> RibRecord<Prefix<F>> {
 
     /// Lends the unit of the next entry, or returns `None` at the end.
     #[inline(always)]
-    pub(crate) fn lend(&self, peers: &[PeerKey], list: &[ListedEntry]) -> Option<LentUnitOf<'_, F>>
+    pub(crate) fn peek(
+        &self,
+        peers: &[PeerKey],
+        list: &[ListedEntry],
+    ) -> Option<PeekedUnitOf<'_, F>>
         requires { AreListed peers.now list.now self.now }
-        ensures lends { IfSome result
-            (λ lent. units_left F.family peers.now list.now self.now
-            ≡ lent.unit ∷ drop 1 (units_left F.family peers.now list.now self.now)) }
+        ensures peeks { IfSome result
+            (λ peeked. units_left F.family peers.now list.now self.now
+            ≡ peeked.unit ∷ drop 1 (units_left F.family peers.now list.now self.now)) }
         ensures none { (result ≡ None → units_left F.family peers.now list.now self.now ≡ [])
             × (units_left F.family peers.now list.now self.now ≡ [] → result ≡ None) }
-        ensures small { IfSome result (λ lent. IsSmallUnit lent.unit) }
+        ensures small { IfSome result (λ peeked. IsSmallUnit peeked.unit) }
     {
         if self.given as usize == list.len() {
             return None;
@@ -182,17 +187,17 @@ impl<F: Unicast> RibRecord<Prefix<F>> {
                 family: FamilyMark::new(),
             },
         };
-        Some(LentUnit {
+        Some(PeekedUnit {
             unit,
             peer_index: Some(entry.peer),
         })
     }
 
-    /// Passes over the next entry, which was returned.
+    /// Leaves the next entry behind, which was returned.
     #[inline(always)]
-    pub(crate) fn pass(&mut self, peers: &[PeerKey], list: &[ListedEntry])
+    pub(crate) fn consume(&mut self, peers: &[PeerKey], list: &[ListedEntry])
         requires { AreListed peers.now list.now self.old }
-        ensures passes { units_left F.family peers.now list.now self.new ≡ drop 1 (units_left F.family peers.now list.now self.old) }
+        ensures consumes { units_left F.family peers.now list.now self.new ≡ drop 1 (units_left F.family peers.now list.now self.old) }
         ensures listed { AreListed peers.now list.now self.new }
     {
         if (self.given as usize) < list.len() {

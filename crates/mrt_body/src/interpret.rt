@@ -5,10 +5,10 @@ ghost use Rattle.bgp_prefix.specs.Prefixes.{IpPrefix};
 ghost use Rattle.bgp_update.specs.Results.{Gives};
 ghost use Rattle.mrt_body.specs.Events.{IsEvent, IsMessageEvent, IsWritableEvent, event_in, message_event_in};
 
-use crate::lent::PayloadRef;
 use crate::meaning::Event;
 use crate::message::message_in;
 use crate::unit::{Payload, PayloadOf};
+use crate::unit_ref::PayloadRef;
 use bgp_prefix::Prefix;
 use bgp_update::{AttrError, Unicast, Width, read_attrs, read_update};
 use std::alloc::Global;
@@ -57,7 +57,7 @@ pub fn event<F: Unicast>(
     // Its route can be packed.
     ensures writable { IfOk result IsWritableEvent }
 {
-    whole_event(alloc, &payload.lend())
+    whole_event(alloc, &payload.as_ref())
 }
 
 #[tactic(auto, unfolding(crate::specs::Events::event_in))]

@@ -1,6 +1,7 @@
 //! The units of BGP4MP records.
 
 ghost use Rattle.std.specs.Prelude.{◌≤◌, ◌≡◌, [], IfOk, length};
+ghost use Rattle.mrt_frame.specs.Cuts.{body_limit};
 ghost use Rattle.mrt_frame.specs.Fields.{Reads};
 ghost use Rattle.mrt_body.specs.Units as units_spec;
 ghost use Rattle.mrt_body.specs.Units.{payload_bytes};
@@ -23,7 +24,7 @@ pub(crate) fn message_unit<F: Unicast>(
     add_path: bool,
     body: Sequence<u8>,
 ) -> Result<SessionUnit<F>, Fault>
-    requires { length body ≤ 16777216 }
+    requires { length body ≤ body_limit }
     ensures reads { Reads (λ unit. unit) result (units_spec.message_unit F.family at is_extended width add_path body) }
     ensures small { IfOk result (λ unit. length (payload_bytes unit.payload) ≤ length body) }
 {
@@ -54,7 +55,7 @@ pub(crate) fn states_unit<F: Unicast>(
     width: Width,
     body: Sequence<u8>,
 ) -> Result<SessionUnit<F>, Fault>
-    requires { length body ≤ 16777216 }
+    requires { length body ≤ body_limit }
     ensures reads { Reads (λ unit. unit) result (units_spec.states_unit rule at is_extended width body) }
     ensures small { IfOk result (λ unit. payload_bytes unit.payload ≡ []) }
 {

@@ -2,6 +2,7 @@
 
 ghost use Rattle.std.specs.Prelude.{◌≡◌, ◌≤◌, ◌+◌, ◌-◌, ◌/◌, IfOk, length, drop, map, max, vec_capacity};
 ghost use Rattle.std.specs.List.{All};
+ghost use Rattle.mrt_frame.specs.Cuts.{body_limit};
 ghost use Rattle.mrt_frame.specs.Fields.{Reads};
 ghost use Rattle.bgp_update.specs.Results.{Gives};
 ghost use Rattle.mrt_body.specs.Listed.{AreNumbered, IsListed, read_listed};
@@ -119,7 +120,7 @@ fn listed_entry(
 ) -> ListedEntry
     requires within { length attributes.now + left ≤ body }
     requires short { length attributes.now ≤ 65535 }
-    requires small { body ≤ 16777216 }
+    requires small { body ≤ body_limit }
     ensures { result ≡ record {
       start = body - left - length attributes.now;
       identifier = identifier;
@@ -156,7 +157,7 @@ pub(crate) fn list_entries(
     list: &mut Vec<ListedEntry>,
 ) -> Result<(), AttrError>
     requires within { start ≤ length body.now }
-    requires small { length body.now ≤ 16777216 }
+    requires small { length body.now ≤ body_limit }
     ensures listed { Gives (λ _. map (read_listed body.now) list.new.items) result
         (many (ribs.read_entry_at add_path peers) count (drop start body.now)) }
     ensures within { All (IsListed peers (length body.now)) list.new.items }

@@ -2,18 +2,19 @@
 
 ghost use Rattle.std.specs.Prelude.{◌≡◌, ◌≤◌, ◌∷◌, ◌++◌, [], drop, length, true, false, ◌↔◌, Some, None, Ok, OnErr, OnOk, IfOk, IfSome, option_to_list};
 ghost use Rattle.bgp_update.specs.Results.{Gives};
+ghost use Rattle.mrt_frame.specs.Cuts.{body_limit};
 ghost use Rattle.mrt_body.specs.Units.{IsSmallUnit, rib_units_in, selected_units};
 ghost use Rattle.mrt_body.specs.Pending.{without_pending};
 ghost use Rattle.mrt_body.specs.RibDumps.{heard_of};
 ghost use Rattle.mrt_body.specs.declared.rib_rule.RibRule.TheVariants.{Replace};
 
 use crate::entries::RibRecord;
-use crate::lent::LentUnitOf;
 use crate::record_place::RecordAt;
 use crate::rib::ListedEntry;
 use crate::rib_dumps::RibDumps;
 use crate::selection::Selection;
 use crate::unit::{PeerKey, UnitOf};
+use crate::unit_ref::PeekedUnitOf;
 use bgp_prefix::{Memory, Prefix, Sequence};
 use bgp_update::{AttrError, Unicast};
 use std::alloc::Global;
@@ -58,7 +59,7 @@ impl<F: Unicast> Index<F> {
         body: Sequence<u8>,
         selection: &Selection<F>,
     ) -> Result<(), AttrError>
-        requires { length body ≤ 16777216 }
+        requires { length body ≤ body_limit }
         ensures units { Gives (λ _. self.new.pending) result
             (selected_units selection.now (rib_units_in F.family at add_path (Some self.old.peers) body)) }
         ensures peers { self.new.peers ≡ self.old.peers }
@@ -117,24 +118,24 @@ impl<F: Unicast> Index<F> {
 
     /// Lends the unit of the next entry, or returns `None` at the end.
     #[inline(always)]
-    pub(crate) fn lend(&self) -> Option<LentUnitOf<'_, F>>
-        ensures lends { IfSome result (λ lent. self.now.pending ≡ lent.unit ∷ drop 1 self.now.pending) }
+    pub(crate) fn peek(&self) -> Option<PeekedUnitOf<'_, F>>
+        ensures peeks { IfSome result (λ peeked. self.now.pending ≡ peeked.unit ∷ drop 1 self.now.pending) }
         ensures none { (result ≡ None → self.now.pending ≡ []) × (self.now.pending ≡ [] → result ≡ None) }
-        ensures small { IfSome result (λ lent. IsSmallUnit lent.unit) }
+        ensures small { IfSome result (λ peeked. IsSmallUnit peeked.unit) }
     {
         match &self.last {
-            Some(record) => record.lend(self.peers.as_slice(), self.list.as_slice()),
+            Some(record) => record.peek(self.peers.as_slice(), self.list.as_slice()),
             None => None,
         }
     }
 
-    /// Passes over the next entry, which was returned.
+    /// Leaves the next entry behind, which was returned.
     #[inline(always)]
-    pub(crate) fn pass(&mut self)
+    pub(crate) fn consume(&mut self)
         ensures { self.new ≡ record { peers = self.old.peers; pending = drop 1 self.old.pending } }
     {
         if let Some(record) = &mut self.last {
-            record.pass(self.peers.as_slice(), self.list.as_slice());
+            record.consume(self.peers.as_slice(), self.list.as_slice());
         }
     }
 
@@ -147,13 +148,13 @@ impl<F: Unicast> Index<F> {
         ensures peers { self.new.peers ≡ self.old.peers }
         ensures small { IfOk result (λ unit. IfSome unit IsSmallUnit) }
     {
-        let Some(lent) = self.lend() else {
+        let Some(peeked) = self.peek() else {
             // The record's body is freed before the next one is read.
             self.leave_out();
             return Ok(None);
         };
-        let unit = lent.unit.to_unit(alloc)?;
-        self.pass();
+        let unit = peeked.unit.to_unit(alloc)?;
+        self.consume();
         Ok(Some(unit))
     }
 }

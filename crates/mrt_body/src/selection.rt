@@ -9,12 +9,12 @@ use crate::choice::{PeerChoice, is_chosen_peer};
 use crate::chosen_prefixes::ChosenPrefixes;
 use crate::decoded_events::DecodedEvents;
 use crate::event_ref::EventRef;
-use crate::lent::PayloadRef;
 use crate::rib_rule::RibRule;
 use crate::session_unit::SessionUnit;
 use crate::share::Share;
 use crate::state_rule::StateRule;
 use crate::unit::{Payload, PeerKey};
+use crate::unit_ref::PayloadRef;
 use bgp_prefix::{Memory, Prefix, RouteKey};
 use bgp_update::Unicast;
 use std::alloc::Global;
@@ -266,7 +266,7 @@ impl<F: Unicast> Selection<F> {
         if self.is_past(unit.unit.time) || !self.takes_peer(&unit.unit.peer) {
             return Ok(false);
         }
-        concerns(alloc, decoded, &self.prefixes, &unit.lend().unit.payload)
+        concerns(alloc, decoded, &self.prefixes, &unit.peek().unit.payload)
     }
 
     /// Whether the entries of a RIB record of this time and prefix are selected, as far as these decide.

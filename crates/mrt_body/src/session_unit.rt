@@ -1,7 +1,7 @@
 //! The unit of a BGP4MP record, which keeps the record's body; or one that clears a table.
 
-use crate::lent::{BytesRef, LentUnit, LentUnitOf};
 use crate::unit::{Payload, Unit, UnitOf};
+use crate::unit_ref::{BytesRef, PeekedUnit, PeekedUnitOf};
 use bgp_prefix::{Memory, Prefix, Sequence};
 use bgp_update::{FamilyMark, Unicast};
 use std::alloc::Global;
@@ -17,6 +17,7 @@ pub(crate) struct SessionUnit<F: Unicast> {
 
 impl<F: Unicast> Model for SessionUnit<F> {
     ghost use Rattle.std.specs.Prelude.{◌≤◌, drop, length};
+    ghost use Rattle.mrt_frame.specs.Cuts.{body_limit};
     ghost use Rattle.mrt_body.specs.Plain.{Unit as ReplayUnit};
     ghost use Rattle.mrt_body.specs.HeldBytes.{BytesMeet, unit_of_held};
 
@@ -24,11 +25,12 @@ impl<F: Unicast> Model for SessionUnit<F> {
 
     ghost view = { λ u. unit_of_held (λ start. drop start u.body) u.unit };
 
-    ghost invariant = { λ u. BytesMeet (λ start. start ≤ length u.body) u.unit.payload × (length u.body ≤ 16777216) };
+    ghost invariant = { λ u. BytesMeet (λ start. start ≤ length u.body) u.unit.payload × (length u.body ≤ body_limit) };
 }
 
 impl<F: Unicast> SessionUnit<F> {
     ghost use Rattle.std.specs.Prelude.{◌≡◌, ◌≤◌, IfOk, length};
+    ghost use Rattle.mrt_frame.specs.Cuts.{body_limit};
     ghost use Rattle.mrt_body.specs.Units.{IsSmallUnit, payload_bytes};
 
     /// Returns the unit with a copy of its bytes.
@@ -36,14 +38,14 @@ impl<F: Unicast> SessionUnit<F> {
         ensures copies { IfOk result (λ unit. unit ≡ self.now) }
         ensures small { IfOk result IsSmallUnit }
     {
-        self.lend().unit.to_unit(alloc)
+        self.peek().unit.to_unit(alloc)
     }
 
     /// The unit's bytes, which are the end of the body.
     #[inline(always)]
     fn bytes(&self) -> &[u8]
         ensures own { result.now ≡ payload_bytes self.now.payload }
-        ensures few { length result.now ≤ 16777216 }
+        ensures few { length result.now ≤ body_limit }
     {
         match &self.unit.payload {
             Payload::Message { bytes, .. } => &self.body.as_slice()[*bytes..],
@@ -53,11 +55,11 @@ impl<F: Unicast> SessionUnit<F> {
     }
 
     /// Lends the unit's bytes.
-    pub(crate) fn lend(&self) -> LentUnitOf<'_, F>
-        ensures lends { result.unit ≡ self.now }
+    pub(crate) fn peek(&self) -> PeekedUnitOf<'_, F>
+        ensures peeks { result.unit ≡ self.now }
         ensures small { IsSmallUnit result.unit }
     {
-        LentUnit {
+        PeekedUnit {
             unit: self.unit.with_bytes(BytesRef::new(self.bytes())),
             peer_index: None,
         }

@@ -2,25 +2,24 @@
 
 mod record;
 
-ghost use Rattle.std.specs.Prelude.{◌≡◌, ℕ, List, Option, ◌<◌, ◌≤◌, ◌≢◌, true, ◌+◌, ◌^◌, ◌∷◌, None, [], map, take, drop, false, ◌↔◌, Ok, Err, IfOk, IfErr, IfSome, OnOk, length, option_to_list};
+ghost use Rattle.std.specs.Prelude.{◌≡◌, ℕ, List, Option, ◌<◌, ◌≤◌, ◌≢◌, true, ◌+◌, ◌^◌, ◌∷◌, None, [], take, drop, false, ◌↔◌, Ok, IfOk, IfErr, IfSome, length, option_to_list};
+ghost use Rattle.mrt_frame.specs.declared.read_state.ReadState.TheVariants.{Reading};
 ghost use Rattle.mrt_body.specs.Units.{IsSmall, IsSmallUnit, all_cuts, found_in};
-ghost use Rattle.mrt_frame.specs.Frames.{StandsAt, KeepsUnlessRead};
-ghost use Rattle.mrt_body.specs.ToCome.{UnitsState, GivesPending, CutsOne, TakesFound, NothingToCome, HasEnded, FailsInRecord, GivesAllBefore, Steps, StopsAt, Stops, KeepsPlan, as_found, answers_left, refusals, units_left, unit_count, cuts_to_come, found_to_come, steps_left, fresh_units, standing_after};
-ghost use Rattle.mrt_body.specs.declared.standing.Standing.TheVariants as standings;
+ghost use Rattle.mrt_body.specs.ToCome.{UnitsState, GivesPending, TakesFound, Steps, KeepsPlan, as_found, refusals, units_left, cuts_to_come, found_to_come, fresh_units};
+ghost use Rattle.mrt_body.specs.Readings.{Gives, Ends, Stops, Stays, IsBounded, GivesCut, Lowers, StopsInFile, GoesOn, WantsMemory, StaysHere};
 
 use crate::body_kind::{body_kind_of, is_extended};
 use crate::decoded_events::DecodedEvents;
-use crate::lent::LentUnitOf;
 use crate::record_place::RecordAt;
 use crate::remarks::{Remarker, Remarks};
 use crate::rib_dumps::RibDumps;
 use crate::rib_reader::Index;
 use crate::selection::Selection;
-use crate::standing::Standing;
 use crate::unit::{Damage, Found, FoundOf, UnitOf};
+use crate::unit_ref::PeekedUnitOf;
 use crate::waiting::Waiting;
 use bgp_update::Unicast;
-use mrt_frame::{Cut, FrameReader, ReplayError, Source};
+use mrt_frame::{Cut, FrameReader, ReadState, ReplayError, Source};
 use record::refused;
 use std::alloc::Global;
 use std::marker::Model;
@@ -35,7 +34,7 @@ pub struct Units<F: Unicast = u32> {
     dumps: RibDumps,
     /// What is to be returned before the entries of the record cut last.
     waiting: Waiting<F>,
-    /// The memory of a record whose units were passed over, into which the next one is read.
+    /// The memory of a record whose units were consumed, into which the next one is read.
     spare: Option<Vec<u8>>,
     selection: Selection<F>,
     /// Where messages are decoded that are only selected by their prefixes. What is there has no meaning.
@@ -43,7 +42,7 @@ pub struct Units<F: Unicast = u32> {
     max_records: u64,
     records: u64,
     aside: u64,
-    standing: Standing,
+    state: ReadState,
     remarker: Remarker,
 }
 
@@ -64,10 +63,10 @@ impl<F: Unicast> Model for Units<F> {
       max_records = u.max_records;
       records = u.records;
       aside = u.aside;
-      standing = u.standing;
+      state = u.state;
     } };
 
-    ghost invariant = { λ u. StandsWithin u.count u.file u.frames u.max_records u.records u.aside u.standing };
+    ghost invariant = { λ u. StandsWithin u.count u.file u.frames u.max_records u.records u.aside u.state };
 }
 
 impl<F: Unicast> Units<F> {
@@ -93,7 +92,7 @@ impl<F: Unicast> Units<F> {
             max_records,
             records: 0,
             aside: 0,
-            standing: Standing::Going,
+            state: ReadState::Reading,
             remarker: Remarker::new(),
         }
     }
@@ -133,43 +132,13 @@ impl<F: Unicast> Units<F> {
         files: &mut [R],
     ) -> Result<Option<FoundOf<F>>, ReplayError>
         requires { length files.old ≡ self.old.count }
-        // It is the first of what is still to come, and leaves the rest.
-        ensures found { IfOk result
-            (λ found. TakesFound self.old (map R.remaining files.old) self.new (map R.remaining files.new)
-            (option_to_list found)) }
-        // None is returned only if nothing is to come.
-        ensures ended { IfOk result (λ found. found ≡ None → NothingToCome self.old (map R.remaining files.old)) }
-        // It is returned at the end of the last file.
-        ensures at_end { IfOk result (λ found. found ≡ None → self.new.file ≡ self.new.count) }
-        // After None each call returns None, changes nothing and reads nothing.
-        ensures ends { IfOk result (λ found. found ≡ None → HasEnded self.new) }
-        ensures stays_ended { HasEnded self.old → (result ≡ Ok None) × (self.new ≡ self.old) × (files.new ≡ files.old) }
-        // Each result lowers the number of those that can still come, whatever the readers return.
-        ensures fewer { IfOk result
-            (λ found. answers_left self.new + length (option_to_list found) ≤ answers_left self.old) }
-        // Each unit lowers the number of units that can still come.
-        ensures units { IfOk result (λ found. units_left self.new + unit_count found ≤ units_left self.old) }
-        // A result that is no error lets the reading go on.
-        ensures going { IfOk result (λ _. self.new.standing ≡ standings.Going) }
-        // An error has its cause, which persists.
-        ensures cause { IfErr result
-            (Stops self.old (map R.remaining files.old) self.new
-            (map R.failure_count files.old) (map R.failure_count files.new)) }
-        ensures spent { self.old.standing ≡ standings.Spent → (result ≡ Err ReplayError.Spent) × (self.new ≡ self.old) }
-        // After Read each call returns the same Read, and reads nothing.
-        ensures again { self.old.standing ≡ standings.Failed →
-            (result ≡ Err (ReplayError.Read self.old.file)) × (self.new ≡ self.old) × (files.new ≡ files.old) }
-        ensures sound { OnOk result (map R.failure_count files.new ≡ map R.failure_count files.old) }
-        // Before Read nothing is skipped that comes before the record at which the read failed.
-        ensures before { self.old.standing ≡ standings.Going → IfErr result
-            (GivesAllBefore self.old (map R.remaining files.old) self.new (map R.remaining files.new)) }
-        // An error other than Read comes without a failure of a reader.
-        ensures unfailed { IfErr result
-            (KeepsUnlessRead (map R.failure_count files.old) (map R.failure_count files.new)) }
-        // No file after the current one is read.
-        ensures later { drop (self.new.file + 1) files.new ≡ drop (self.new.file + 1) files.old }
-        ensures plan { KeepsPlan self.old self.new }
-        // A unit has at most 16,777,216 bytes.
+        ensures gives { IfOk result (λ found. Gives R.remaining R.failure_count self.old files.old
+            self.new files.new (option_to_list found)) }
+        ensures ends { IfOk result (λ found. found ≡ None → Ends R.remaining self.old files.old self.new) }
+        ensures stops { IfErr result
+            (Stops R.remaining R.failure_count self.old files.old self.new files.new) }
+        ensures stays { Stays self.old files.old self.new files.new result }
+        ensures bounds { IsBounded self.old files.old self.new files.new }
         ensures small { IfOk result (λ found. IfSome found IsSmall) }
     {
         match self.advance(alloc, files) {
@@ -182,7 +151,7 @@ impl<F: Unicast> Units<F> {
         }
     }
 
-    /// Reads on to the next unit, which `lend` then lends, or to the next record that is refused, which it returns.
+    /// Reads on to the next unit, which `peek` then returns, or to the next record that is refused, which it returns.
     /// Returns `None` where a unit is to be returned: at once while one is left. At the end of the last file it returns
     /// `None` as well, and no unit is left. Errors are those of `next`.
     pub fn advance<R: Source>(
@@ -191,37 +160,21 @@ impl<F: Unicast> Units<F> {
         files: &mut [R],
     ) -> Result<Option<Damage>, ReplayError>
         requires { length files.old ≡ self.old.count }
-        ensures found { IfOk result
-            (λ refused. TakesFound self.old (map R.remaining files.old) self.new (map R.remaining files.new)
-            (refusals refused)) }
-        ensures ended { IfOk result
-            (λ refused. refused ≡ None → self.new.pending ≡ [] → NothingToCome self.old (map R.remaining files.old)) }
-        ensures at_end { IfOk result
-            (λ refused. refused ≡ None → self.new.pending ≡ [] → self.new.file ≡ self.new.count) }
-        ensures ends { IfOk result (λ refused. refused ≡ None → self.new.pending ≡ [] → HasEnded self.new) }
-        ensures stays_ended { HasEnded self.old → (result ≡ Ok None) × (self.new ≡ self.old) × (files.new ≡ files.old) }
-        ensures fewer { IfOk result
-            (λ refused. answers_left self.new + length (option_to_list refused) ≤ answers_left self.old) }
-        ensures units { IfOk result (λ _. units_left self.new ≤ units_left self.old) }
-        ensures going { IfOk result (λ _. self.new.standing ≡ standings.Going) }
-        ensures cause { IfErr result
-            (Stops self.old (map R.remaining files.old) self.new
-            (map R.failure_count files.old) (map R.failure_count files.new)) }
-        ensures spent { self.old.standing ≡ standings.Spent → (result ≡ Err ReplayError.Spent) × (self.new ≡ self.old) }
-        ensures again { self.old.standing ≡ standings.Failed →
-            (result ≡ Err (ReplayError.Read self.old.file)) × (self.new ≡ self.old) × (files.new ≡ files.old) }
-        ensures sound { OnOk result (map R.failure_count files.new ≡ map R.failure_count files.old) }
-        ensures before { self.old.standing ≡ standings.Going → IfErr result
-            (GivesAllBefore self.old (map R.remaining files.old) self.new (map R.remaining files.new)) }
-        ensures unfailed { IfErr result
-            (KeepsUnlessRead (map R.failure_count files.old) (map R.failure_count files.new)) }
-        ensures later { drop (self.new.file + 1) files.new ≡ drop (self.new.file + 1) files.old }
-        ensures plan { KeepsPlan self.old self.new }
+        ensures gives { IfOk result (λ refused. Gives R.remaining R.failure_count self.old files.old
+            self.new files.new (refusals refused)) }
+        ensures ends { IfOk result
+            (λ refused. refused ≡ None → self.new.pending ≡ [] → Ends R.remaining self.old files.old self.new) }
+        ensures stops { IfErr result
+            (Stops R.remaining R.failure_count self.old files.old self.new files.new) }
+        ensures stays { Stays self.old files.old self.new files.new result }
+        ensures bounds { IsBounded self.old files.old self.new files.new }
     {
-        match self.standing {
-            Standing::Failed => Err(ReplayError::Read { file: self.file }),
-            Standing::Spent => Err(ReplayError::Spent),
-            Standing::Going => 'files: loop {
+        match self.state {
+            ReadState::Failed => Err(ReplayError::Read { file: self.file }),
+            ReadState::Spent => Err(ReplayError::Spent),
+            // The end is that of the last file, and no state of its own.
+            ReadState::Ended => unreachable!(),
+            ReadState::Reading => 'files: loop {
                 if self.is_pending() {
                     return Ok(None);
                 }
@@ -260,45 +213,44 @@ impl<F: Unicast> Units<F> {
         }
     }
 
-    /// Lends the next unit of the record that was cut last, which is what `next` would return. Returns `None` if all of
-    /// them were returned, or after an error. Whoever is done with the unit calls `pass`, and needs no unit of their
-    /// own.
+    /// Borrows the next pending unit of the record that was cut last, which `next` would return; `consume` leaves it
+    /// behind. `None` if none is pending, or after an error.
     #[inline(always)]
-    pub fn lend(&self) -> Option<LentUnitOf<'_, F>>
-        ensures lends { IfSome result
-            (λ lent. (self.now.standing ≡ standings.Going)
-            × (self.now.pending ≡ lent.unit ∷ drop 1 self.now.pending)) }
-        ensures none { result ≡ None → self.now.standing ≡ standings.Going → self.now.pending ≡ [] }
-        ensures small { IfSome result (λ lent. IsSmallUnit lent.unit) }
+    pub fn peek(&self) -> Option<PeekedUnitOf<'_, F>>
+        ensures peeks { IfSome result
+            (λ peeked. (self.now.state ≡ Reading)
+            × (self.now.pending ≡ peeked.unit ∷ drop 1 self.now.pending)) }
+        ensures none { result ≡ None → self.now.state ≡ Reading → self.now.pending ≡ [] }
+        ensures small { IfSome result (λ peeked. IsSmallUnit peeked.unit) }
     {
-        let Standing::Going = self.standing else {
+        let ReadState::Reading = self.state else {
             return None;
         };
-        if let Some(unit) = self.waiting.lend() {
+        if let Some(unit) = self.waiting.peek() {
             return Some(unit);
         }
         match &self.index {
-            Some(index) => index.lend(),
+            Some(index) => index.peek(),
             None => None,
         }
     }
 
-    /// Whether `lend` lends a unit.
+    /// Whether `peek` returns a unit.
     #[inline(always)]
-    pub fn is_lending(&self) -> bool
-        ensures lends { result ≡ true → (self.now.standing ≡ standings.Going) × (self.now.pending ≢ []) }
-        ensures none { result ≡ false → self.now.standing ≡ standings.Going → self.now.pending ≡ [] }
+    pub fn has_next(&self) -> bool
+        ensures peeks { result ≡ true → (self.now.state ≡ Reading) × (self.now.pending ≢ []) }
+        ensures none { result ≡ false → self.now.state ≡ Reading → self.now.pending ≡ [] }
     {
-        match self.standing {
-            Standing::Going => self.is_pending(),
+        match self.state {
+            ReadState::Reading => self.is_pending(),
             _ => false,
         }
     }
 
-    /// Passes over the unit that `lend` lent, if there is one: `next` returns what comes after it.
+    /// Leaves the unit that `peek` returned, if there is one, behind: `next` returns what comes after it.
     #[inline(always)]
-    pub fn pass(&mut self)
-        ensures passes { GivesPending self.old self.new (take 1 self.old.pending) }
+    pub fn consume(&mut self)
+        ensures consumes { GivesPending self.old self.new (take 1 self.old.pending) }
         ensures found { (known : List (Option (List ℕ))) →
             TakesFound self.old known self.new known (as_found (take 1 self.old.pending)) }
         ensures units { units_left self.new + length (take 1 self.old.pending) ≡ units_left self.old }
@@ -306,11 +258,11 @@ impl<F: Unicast> Units<F> {
     {
         // An entry is the usual case, and `take` would clear the place of a message each time.
         if self.waiting.is_pending() {
-            if let Some(block) = self.waiting.pass() {
+            if let Some(block) = self.waiting.consume() {
                 self.spare = kept_block(block);
             }
         } else if let Some(index) = &mut self.index {
-            index.pass();
+            index.consume();
         }
     }
 
@@ -333,19 +285,18 @@ impl<F: Unicast> Units<F> {
         ensures gives { IfOk result (λ unit. GivesPending self.old self.new (option_to_list unit)) }
         ensures ended { IfOk result (λ unit. unit ≡ None → self.old.pending ≡ []) }
         ensures none { self.old.pending ≡ [] → result ≡ Ok None }
-        ensures want { IfErr result (λ e. (e ≡ ReplayError.Memory) × (self.new.standing ≡ standings.Spent)) }
-        ensures here { self.new.file ≡ self.old.file }
-        ensures plan { KeepsPlan self.old self.new }
+        ensures stops { IfErr result (WantsMemory self.new) }
+        ensures stays { StaysHere self.old self.new }
         ensures small { IfOk result (λ unit. IfSome unit IsSmallUnit) }
     {
         if self.waiting.is_pending() {
             return match self.waiting.copy(alloc) {
                 Ok(unit) => {
-                    self.waiting.pass();
+                    self.waiting.consume();
                     Ok(unit)
                 }
                 Err(_) => {
-                    self.standing = Standing::Spent;
+                    self.state = ReadState::Spent;
                     Err(ReplayError::Memory)
                 }
             };
@@ -356,7 +307,7 @@ impl<F: Unicast> Units<F> {
         match index.next(alloc) {
             Ok(unit) => Ok(unit),
             Err(_) => {
-                self.standing = Standing::Spent;
+                self.state = ReadState::Spent;
                 Err(ReplayError::Memory)
             }
         }
@@ -364,21 +315,13 @@ impl<F: Unicast> Units<F> {
 
     /// Cuts the current file once. At its end the next file becomes the current one.
     fn cut<R: Source>(&mut self, alloc: Global, reader: &mut R) -> Result<Option<Cut>, ReplayError>
-        requires going { self.old.standing ≡ standings.Going }
+        requires reading { self.old.state ≡ Reading }
         requires within { self.old.file < self.old.count }
-        ensures cuts { IfOk result (CutsOne self.old (R.remaining reader.old) self.new (R.remaining reader.new)) }
+        ensures gives { IfOk result (GivesCut R.remaining R.failure_count self.old reader.old self.new reader.new) }
+        ensures stops { IfErr result
+            (StopsInFile R.remaining R.failure_count self.old reader.old self.new reader.new) }
+        ensures bounds { GoesOn self.old self.new }
         ensures counted { self.old.aside ≤ self.old.records }
-        ensures onward { self.old.file ≤ self.new.file }
-        ensures before { IfErr result
-            (FailsInRecord self.old (R.remaining reader.old) self.new (R.remaining reader.new)) }
-        ensures cause { IfErr result
-            (StopsAt self.old (R.remaining reader.old) self.new
-            (R.failure_count reader.old) (R.failure_count reader.new)) }
-        ensures sound { OnOk result (R.failure_count reader.new ≡ R.failure_count reader.old) }
-        ensures unfailed { IfErr result (KeepsUnlessRead (R.failure_count reader.old) (R.failure_count reader.new)) }
-        ensures plan { KeepsPlan self.old self.new }
-        ensures fewer { IfOk result (λ _. steps_left self.new < steps_left self.old) }
-        ensures place { IfOk result (λ cut. IfSome cut (StandsAt self.old.frames.offset)) }
     {
         let block = match self.spare.take() {
             Some(block) => block,
@@ -387,7 +330,7 @@ impl<F: Unicast> Units<F> {
         match self.frames.next_into(block, reader) {
             Ok(Some(Cut::Whole(record))) => {
                 if self.records == self.max_records {
-                    self.standing = Standing::Spent;
+                    self.state = ReadState::Spent;
                     return Err(ReplayError::Records);
                 }
                 self.records += 1;
@@ -403,7 +346,7 @@ impl<F: Unicast> Units<F> {
                 Ok(end)
             }
             Err(error) => {
-                self.standing = standing_after(error);
+                self.state = ReadState::after(error);
                 Err(error)
             }
         }
@@ -416,26 +359,15 @@ impl<F: Unicast> Units<F> {
         alloc: Global,
         reader: &mut R,
     ) -> Result<Option<Damage>, ReplayError>
-        requires going { self.old.standing ≡ standings.Going }
+        requires reading { self.old.state ≡ Reading }
         requires within { self.old.file < self.old.count }
         requires given { self.old.pending ≡ [] }
-        ensures units { IfOk result (λ _. units_left self.new ≤ units_left self.old) }
-        ensures fewer_answers { IfOk result
-            (λ refused. answers_left self.new + length (option_to_list refused) ≤ answers_left self.old) }
-        ensures steps { IfOk result
-            (λ refused. Steps self.old (R.remaining reader.old) self.new (R.remaining reader.new)
-            (refusals refused)) }
-        ensures fewer { IfOk result (λ _. steps_left self.new < steps_left self.old) }
-        ensures going { IfOk result (λ _. self.new.standing ≡ standings.Going) }
-        ensures onward { self.old.file ≤ self.new.file }
-        ensures before { IfErr result
-            (FailsInRecord self.old (R.remaining reader.old) self.new (R.remaining reader.new)) }
-        ensures cause { IfErr result
-            (StopsAt self.old (R.remaining reader.old) self.new
-            (R.failure_count reader.old) (R.failure_count reader.new)) }
-        ensures sound { OnOk result (R.failure_count reader.new ≡ R.failure_count reader.old) }
-        ensures unfailed { IfErr result (KeepsUnlessRead (R.failure_count reader.old) (R.failure_count reader.new)) }
-        ensures plan { KeepsPlan self.old self.new }
+        ensures gives { IfOk result (λ refused. Steps self.old (R.remaining reader.old)
+            self.new (R.remaining reader.new) (refusals refused)) }
+        ensures lowers { IfOk result (Lowers R.failure_count self.old reader.old self.new reader.new) }
+        ensures stops { IfErr result
+            (StopsInFile R.remaining R.failure_count self.old reader.old self.new reader.new) }
+        ensures bounds { GoesOn self.old self.new }
     {
         self.is_known();
         let file = self.file;
@@ -473,14 +405,4 @@ fn kept_block(block: Vec<u8>) -> Option<Vec<u8>> {
         return None;
     }
     Some(block)
-}
-
-/// Returns the state of a reading after this error.
-fn standing_after(error: ReplayError) -> Standing
-    ensures { result ≡ standing_after error }
-{
-    match error {
-        ReplayError::Read { .. } => Standing::Failed,
-        _ => Standing::Spent,
-    }
 }

@@ -3,10 +3,10 @@
 ghost use Rattle.std.specs.Prelude.{◌≡◌, ◌∷◌, ◌++◌, ◌↔◌, [], IfOk, IfSome, None, Ok, drop, false, map, option_to_list};
 ghost use Rattle.mrt_body.specs.Units.{IsSmallUnit, clear_unit};
 
-use crate::lent::LentUnitOf;
 use crate::record_place::RecordAt;
 use crate::session_unit::SessionUnit;
 use crate::unit::{Payload, PeerKey, Unit, UnitOf};
+use crate::unit_ref::PeekedUnitOf;
 use bgp_prefix::{Memory, Sequence};
 use bgp_update::Unicast;
 use std::alloc::Global;
@@ -131,18 +131,18 @@ impl<F: Unicast> Waiting<F> {
 
     /// Lends the next unit.
     #[inline(always)]
-    pub(crate) fn lend(&self) -> Option<LentUnitOf<'_, F>>
-        ensures lends { IfSome result (λ lent. self.now ≡ lent.unit ∷ drop 1 self.now) }
+    pub(crate) fn peek(&self) -> Option<PeekedUnitOf<'_, F>>
+        ensures peeks { IfSome result (λ peeked. self.now ≡ peeked.unit ∷ drop 1 self.now) }
         ensures none { result ≡ None → self.now ≡ [] }
-        ensures small { IfSome result (λ lent. IsSmallUnit lent.unit) }
+        ensures small { IfSome result (λ peeked. IsSmallUnit peeked.unit) }
     {
         match &self.first {
-            Some(unit) => Some(unit.lend()),
+            Some(unit) => Some(unit.peek()),
             None => None,
         }
     }
 
-    /// Returns the next unit with a copy of its bytes, and doesn't pass over it.
+    /// Returns the next unit with a copy of its bytes, and doesn't consume it.
     pub(crate) fn copy(&self, alloc: Global) -> Result<Option<UnitOf<F>>, Memory>
         ensures copies { IfOk result (λ unit. IfSome unit (λ unit. self.now ≡ unit ∷ drop 1 self.now)) }
         ensures none { IfOk result (λ unit. unit ≡ None → self.now ≡ []) }
@@ -155,13 +155,15 @@ impl<F: Unicast> Waiting<F> {
         }
     }
 
-    /// Passes over the next unit, and returns the memory of its record.
+    /// Leaves the next unit behind, and returns the memory of its record.
     #[inline(always)]
-    pub(crate) fn pass(&mut self) -> Option<Vec<u8>>
+    pub(crate) fn consume(&mut self) -> Option<Vec<u8>>
         ensures { self.new ≡ drop 1 self.old }
     {
         let unit = self.first.take()?;
-        self.first = next_clear(self.alloc, &self.at, &mut self.cleared);
+        if !self.cleared.is_empty() {
+            self.first = pop_clear(self.alloc, &self.at, &mut self.cleared);
+        }
         Some(unit.into_body().into_vec())
     }
 }

@@ -1,7 +1,8 @@
 // Records, one by one, from a reader.
-ghost use Rattle.std.specs.Prelude.{◌≡◌, ◌<◌, ◌≤◌, ◌≢◌, ◌+◌, ◌^◌, ℕ, List, Option, Some, None, IfOk, IfErr, IfSome, OnOk, OnErr, Ok, Err, option_to_list, length, vec_len};
+ghost use Rattle.std.specs.Prelude.{◌≡◌, ◌<◌, ◌≤◌, ◌+◌, Option, Some, None, IfOk, IfErr, IfSome, OnOk, OnErr, Ok, Err, length, vec_len};
 ghost use Rattle.std.specs.Io.KnownBytes.{Consumes, IsAtEnd};
-ghost use Rattle.mrt_frame.specs.Frames.{Position, IsFirstCut, TakesCuts, ReadsFewer, ReadsNoMoreThan, ReadsPart, StandsAt, IsReadCause, HasCause, KeepsUnlessRead, Repeats, phase_after, start_of};
+ghost use Rattle.mrt_frame.specs.Cuts.{record_limit};
+ghost use Rattle.mrt_frame.specs.Frames.{Position, IsFirstCut, ReadsFewer, ReadsNoMoreThan, ReadsPart, StandsAt, IsReadCause, Gives, Stops, Stays, IsBounded, start_of};
 
 use crate::cut::{Cut, Record};
 use crate::device::Source;
@@ -9,7 +10,7 @@ use crate::error::ReplayError;
 use crate::fault::Fault;
 use crate::filling::read_full;
 use crate::header::{HEADER_SIZE, Header, is_within_limits};
-use crate::phase::Phase;
+use crate::read_state::ReadState;
 use bgp_prefix::Sequence;
 use std::alloc::Global;
 use std::marker::Model;
@@ -19,18 +20,19 @@ use std::marker::Model;
 pub struct FrameReader {
     file: usize,
     offset: u64,
-    phase: Phase,
+    state: ReadState,
 }
 
 impl Model for FrameReader {
-    ghost use Rattle.std.specs.Prelude.{◌≤◌, ◌^◌};
+    ghost use Rattle.std.specs.Prelude.{◌≤◌};
+    ghost use Rattle.mrt_frame.specs.Cuts.{file_limit};
     ghost use Rattle.mrt_frame.specs.Frames.{Position};
 
     ghost Value = { Position };
 
-    ghost view = { λ r. record { file = r.file; offset = r.offset; phase = r.phase } };
+    ghost view = { λ r. record { file = r.file; offset = r.offset; state = r.state } };
 
-    ghost invariant = { λ r. r.offset ≤ 2 ^ 62 };
+    ghost invariant = { λ r. r.offset ≤ file_limit };
 }
 
 impl FrameReader {
@@ -41,7 +43,7 @@ impl FrameReader {
         FrameReader {
             file,
             offset: 0,
-            phase: Phase::Reading,
+            state: ReadState::Reading,
         }
     }
 
@@ -51,61 +53,36 @@ impl FrameReader {
         alloc: Global,
         reader: &mut R,
     ) -> Result<Option<Cut>, ReplayError>
-        ensures first { IfOk result
-            (λ cut. TakesCuts self.old (R.remaining reader.old) self.new (R.remaining reader.new)
-            (option_to_list cut)) }
-        ensures phase { IfOk result (λ cut. self.new.phase ≡ phase_after cut) }
-        ensures place { IfOk result (λ cut. IfSome cut (StandsAt self.old.offset)) }
-        ensures cause { IfErr result
-            (HasCause self.old self.new (R.failure_count reader.old) (R.failure_count reader.new)) }
-        ensures counted { OnOk result (R.failure_count reader.new ≡ R.failure_count reader.old) }
-        // A failed read took no whole record, and the record's offset stays.
-        ensures part { self.old.phase ≡ Phase.Reading → IfErr result
-            (λ e. (self.new.offset ≡ self.old.offset) × ReadsPart self.old.offset (R.remaining reader.old)
-            (R.remaining reader.new) e) }
-        // An error other than Read comes without a failure of the device.
-        ensures unfailed { IfErr result (KeepsUnlessRead (R.failure_count reader.old) (R.failure_count reader.new)) }
-        ensures reads { ReadsNoMoreThan (12 + 16777216) (R.remaining reader.old) (R.remaining reader.new) }
-        ensures repeats { self.old.phase ≢ Phase.Reading → (self.new ≡ self.old) × (reader.new ≡ reader.old) ×
-            Repeats self.old result }
-        ensures file { self.new.file ≡ self.old.file }
+        ensures gives { IfOk result
+            (Gives R.remaining R.failure_count self.old reader.old self.new reader.new) }
+        ensures stops { IfErr result
+            (Stops R.remaining R.failure_count self.old reader.old self.new reader.new) }
+        ensures bounds { IsBounded R.remaining self.old reader.old self.new reader.new }
+        ensures stays { Stays self.old reader.old self.new reader.new result }
     {
         self.next_into(Vec::new(alloc), reader)
     }
 
-    /// Returns what `next` returns. The body of a whole record is read into this block of memory, whose contents are
-    /// replaced, and which grows if it is too small. Whoever is done with a record has its body's memory for the next
-    /// one.
+    /// Like `next`, but reads the body into this block of memory, so that one buffer serves all records. Its contents
+    /// are replaced; it grows as needed.
     #[inline(always)]
     pub fn next_into<R: Source>(
         &mut self,
         block: Vec<u8>,
         reader: &mut R,
     ) -> Result<Option<Cut>, ReplayError>
-        ensures first { IfOk result
-            (λ cut. TakesCuts self.old (R.remaining reader.old) self.new (R.remaining reader.new)
-            (option_to_list cut)) }
-        ensures phase { IfOk result (λ cut. self.new.phase ≡ phase_after cut) }
-        ensures place { IfOk result (λ cut. IfSome cut (StandsAt self.old.offset)) }
-        ensures cause { IfErr result
-            (HasCause self.old self.new (R.failure_count reader.old) (R.failure_count reader.new)) }
-        ensures counted { OnOk result (R.failure_count reader.new ≡ R.failure_count reader.old) }
-        // A failed read took no whole record, and the record's offset stays.
-        ensures part { self.old.phase ≡ Phase.Reading → IfErr result
-            (λ e. (self.new.offset ≡ self.old.offset) × ReadsPart self.old.offset (R.remaining reader.old)
-            (R.remaining reader.new) e) }
-        // An error other than Read comes without a failure of the device.
-        ensures unfailed { IfErr result (KeepsUnlessRead (R.failure_count reader.old) (R.failure_count reader.new)) }
-        ensures reads { ReadsNoMoreThan (12 + 16777216) (R.remaining reader.old) (R.remaining reader.new) }
-        ensures repeats { self.old.phase ≢ Phase.Reading → (self.new ≡ self.old) × (reader.new ≡ reader.old) ×
-            Repeats self.old result }
-        ensures file { self.new.file ≡ self.old.file }
+        ensures gives { IfOk result
+            (Gives R.remaining R.failure_count self.old reader.old self.new reader.new) }
+        ensures stops { IfErr result
+            (Stops R.remaining R.failure_count self.old reader.old self.new reader.new) }
+        ensures bounds { IsBounded R.remaining self.old reader.old self.new reader.new }
+        ensures stays { Stays self.old reader.old self.new reader.new result }
     {
-        match self.phase {
-            Phase::Reading => self.advance(block, reader),
-            Phase::Ended => Ok(None),
-            Phase::Failed => Err(ReplayError::Read { file: self.file }),
-            Phase::Spent => Err(ReplayError::Spent),
+        match self.state {
+            ReadState::Reading => self.advance(block, reader),
+            ReadState::Ended => Ok(None),
+            ReadState::Failed => Err(ReplayError::Read { file: self.file }),
+            ReadState::Spent => Err(ReplayError::Spent),
         }
     }
 
@@ -114,29 +91,20 @@ impl FrameReader {
         block: Vec<u8>,
         reader: &mut R,
     ) -> Result<Option<Cut>, ReplayError>
-        requires { self.old.phase ≡ Phase.Reading }
-        ensures part { IfErr result (λ e. (self.new.offset ≡ self.old.offset) ×
-            ReadsPart self.old.offset (R.remaining reader.old) (R.remaining reader.new) e) }
-        ensures first { IfOk result
-            (λ cut. TakesCuts self.old (R.remaining reader.old) self.new (R.remaining reader.new)
-            (option_to_list cut)) }
-        ensures phase { IfOk result (λ cut. self.new.phase ≡ phase_after cut) }
-        ensures place { IfOk result (λ cut. IfSome cut (StandsAt self.old.offset)) }
-        ensures cause { IfErr result
-            (HasCause self.old self.new (R.failure_count reader.old) (R.failure_count reader.new)) }
-        ensures counted { OnOk result (R.failure_count reader.new ≡ R.failure_count reader.old) }
-        ensures unfailed { IfErr result (KeepsUnlessRead (R.failure_count reader.old) (R.failure_count reader.new)) }
-        ensures reads { ReadsNoMoreThan (12 + 16777216) (R.remaining reader.old) (R.remaining reader.new) }
-        ensures file { self.new.file ≡ self.old.file }
+        requires { self.old.state ≡ ReadState.Reading }
+        ensures gives { IfOk result
+            (Gives R.remaining R.failure_count self.old reader.old self.new reader.new) }
+        ensures stops { IfErr result
+            (Stops R.remaining R.failure_count self.old reader.old self.new reader.new) }
+        ensures bounds { IsBounded R.remaining self.old reader.old self.new reader.new }
     {
         let result = read_cut(block, self.file, self.offset, reader);
         match &result {
             Ok(Some(Cut::Whole(record))) => {
                 self.offset += u64::from(HEADER_SIZE) + record.body.as_slice().len() as u64;
             }
-            Ok(_) => self.phase = Phase::Ended,
-            Err(ReplayError::Read { .. }) => self.phase = Phase::Failed,
-            Err(_) => self.phase = Phase::Spent,
+            Ok(_) => self.state = ReadState::Ended,
+            Err(error) => self.state = ReadState::after(*error),
         }
         result
     }
@@ -155,7 +123,7 @@ fn read_cut<R: Source>(
     ensures part { IfErr result (ReadsPart offset (R.remaining reader.old) (R.remaining reader.new)) }
     ensures cause { IfErr result (IsReadCause file (R.failure_count reader.old) (R.failure_count reader.new)) }
     ensures counted { OnOk result (R.failure_count reader.new ≡ R.failure_count reader.old) }
-    ensures reads { ReadsNoMoreThan (12 + 16777216) (R.remaining reader.old) (R.remaining reader.new) }
+    ensures reads { ReadsNoMoreThan record_limit (R.remaining reader.old) (R.remaining reader.new) }
 {
     let mut header = [0; 12];
     let Ok(count) = read_full(reader, &mut header) else {

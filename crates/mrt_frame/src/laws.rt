@@ -5,7 +5,7 @@ ghost use Rattle.mrt_frame.specs.Cuts.{cuts};
 ghost use Rattle.mrt_frame.specs.Cutting.{IsCutting, cuts_of};
 ghost use Rattle.mrt_frame.specs.Frames.{Position, TakesCuts, start_of};
 ghost use Rattle.mrt_frame.specs.declared.cut.Cut.{Cut};
-ghost use Rattle.mrt_frame.specs.declared.phase.Phase.TheVariants.{Ended};
+ghost use Rattle.mrt_frame.specs.declared.read_state.ReadState.TheVariants.{Ended};
 
 /// The bytes of a file are cut into records and a rest in exactly one way, and that is what `cuts` yields.
 pub fn cutting_is_unique()
@@ -24,5 +24,5 @@ pub fn readings_give_all_cuts()
         TakesCuts first old second mid taken → TakesCuts second mid third new more →
         TakesCuts first old third new (taken ++ more) }
     ensures whole { (file : ℕ) (last : Position) (bytes : List ℕ) (left : Option (List ℕ)) (taken : List Cut) →
-        TakesCuts (start_of file) (Some bytes) last left taken → last.phase ≡ Ended → taken ≡ cuts 0 bytes }
+        TakesCuts (start_of file) (Some bytes) last left taken → last.state ≡ Ended → taken ≡ cuts 0 bytes }
 {}

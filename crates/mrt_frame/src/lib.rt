@@ -31,7 +31,7 @@ mod filling;
 mod frame_reader;
 mod header;
 mod laws;
-mod phase;
+mod read_state;
 mod writing;
 
 pub use cut::{Cut, Record};
@@ -42,5 +42,5 @@ pub use field::{byte_at, bytes_at, u16_at, u32_at, u128_at};
 pub use frame_reader::FrameReader;
 pub use header::{HEADER_SIZE, Header, is_within_limits};
 pub use laws::{cutting_is_unique, readings_give_all_cuts};
-pub use phase::Phase;
+pub use read_state::ReadState;
 pub use writing::write_full;

@@ -14,7 +14,7 @@ use Rattle.mrt_body.specs.Plain.{Found}
 use Rattle.mrt_body.specs.declared.unit.Found.TheVariants as found
 use Rattle.mrt_body.specs.Plain.{Unit as ReplayUnit}
 use Rattle.mrt_body.specs.Units.{unit_of, damage_of, units_of, refused_of, records_of, aside_of, found_in, all_cuts, is_whole, is_aside}
-use Rattle.mrt_body.specs.ToCome.{UnitsState, TakesFound, NothingToCome, found_to_come, cuts_to_come, units_left, unit_count, fresh_units}
+use Rattle.mrt_body.specs.ToCome.{UnitsState, TakesFound, NothingToCome, found_to_come, cuts_to_come, units_left, fresh_units}
 use Rattle.mrt_replay.specs.Replays.{HasTaken, HasTakenFiles, StopsFiles, StopsReplay}
 
 abbrev Bytes : Type 0
@@ -37,10 +37,6 @@ takes_more a b c first second third taken more p q contents h =
       },
     )
 
-count_of_one : (item : Found) → length (filter_map unit_of (item ∷ [])) ≡ unit_count (Some item)
-count_of_one (found.Unit unit) = refl
-count_of_one (found.Refused damage) = refl
-
 pub none_known : (n : ℕ) (known : List (Option Bytes)) (rest : List Bytes) → length known ≡ n → drop n known ≡ known_all rest → rest ≡ []
 none_known n known [] size e = refl
 none_known n known (bytes ∷ rest) size e =
@@ -58,7 +54,7 @@ module _ {T : Type 0} (Took : T → List ReplayUnit → List Damage → Type 0) 
   }
 
   module _ (start now next : UnitsState) (told left later : List (Option Bytes)) (before t : T) (h : HasTaken Took start now told left before t) where
-    pub taken_more : (item : Found) (t' : T) → TakesFound now left next later (item ∷ []) → units_left next + unit_count (Some item) ≤ units_left now
+    pub taken_more : (item : Found) (t' : T) → TakesFound now left next later (item ∷ []) → length (filter_map unit_of (item ∷ [])) + units_left next ≤ units_left now
         → ((units : List ReplayUnit) (refused : List Damage) → Took t units refused → Took t' (units ++ filter_map unit_of (item ∷ [])) (refused ++ filter_map damage_of (item ∷ [])))
         → HasTaken Took start next told later before t'
     taken_more item t' step fewer took =
@@ -72,7 +68,7 @@ module _ {T : Type 0} (Took : T → List ReplayUnit → List Damage → Type 0) 
               subst (λ l. Took t' l (refused ++ filter_map damage_of items)) (append_assoc units (filter_map unit_of h.items) (filter_map unit_of (item ∷ [])) ∙ ap (λ l. units ++ l) (sym units_are))
               (subst (λ r. Took t' ((units ++ filter_map unit_of h.items) ++ filter_map unit_of (item ∷ [])) r) (append_assoc refused (filter_map damage_of h.items) (filter_map damage_of (item ∷ [])) ∙ ap (λ l. refused ++ l) (sym refused_are))
               (took (units ++ filter_map unit_of h.items) (refused ++ filter_map damage_of h.items) (h.took units refused first)));
-          few = omega (arith, h.few, fewer, count_of_one item, ap length units_are, length-append (filter_map unit_of h.items) (filter_map unit_of (item ∷ [])));
+          few = omega (arith, h.few, fewer, ap length units_are, length-append (filter_map unit_of h.items) (filter_map unit_of (item ∷ [])));
         }
 
     -- at the end of the last file

@@ -9,7 +9,6 @@ use Rattle.std.proofs.lemmas.List.{append-nil}
 use Rattle.std.proofs.lemmas.List.Elements.{filter_map-append}
 use Rattle.mrt_frame.specs.declared.error.ReplayError.{ReplayError}
 use Rattle.mrt_frame.specs.declared.error.ReplayError.TheVariants as errors
-use Rattle.mrt_body.specs.declared.standing.Standing.TheVariants.{Going}
 use Rattle.mrt_body.specs.declared.unit.Damage.{Damage}
 use Rattle.mrt_body.specs.Plain.{Found}
 use Rattle.mrt_body.specs.Plain.{Unit as ReplayUnit}
@@ -18,7 +17,7 @@ use Rattle.mrt_body.specs.ToCome.{UnitsState, cuts_to_come, units_left}
 use Rattle.lane_deal.specs.declared.plan.Plan.{Plan}
 use Rattle.lane_deal.specs.declared.step.Step.{Step}
 use Rattle.lane_deal.specs.declared.step.Step.TheVariants.{Blocked, FullBatch, End}
-use Rattle.lane_deal.specs.declared.state.State.TheVariants.{Running}
+use Rattle.mrt_frame.specs.declared.read_state.ReadState.TheVariants.{Reading}
 use Rattle.lane_deal.specs.Results.{state_of_step}
 use Rattle.lane_deal.specs.Asking.{TakesUnits, StopsReading}
 use Rattle.lane_deal.specs.ToDeal.{to_deal}
@@ -192,7 +191,7 @@ module _ (dealing : ℕ → ℕ → ℕ) (plan : Plan) where
         }
 
 -- why the files can't be taken to their ends
-pub stops_files : (u : UnitsState) (told : Known) (before after : List ℕ) (e : ReplayError) → u.standing ≡ Going → StopsReading u told before after e → StopsFiles u told before after e
+pub stops_files : (u : UnitsState) (told : Known) (before after : List ℕ) (e : ReplayError) → u.state ≡ Reading → StopsReading u told before after e → StopsFiles u told before after e
 stops_files u told before after (errors.Read file) going (inl h) = let failed = h.0 in absurd (cc)
 stops_files u told before after (errors.Read file) going (inr h) = h
 stops_files u told before after errors.Write going h = h
@@ -201,7 +200,7 @@ stops_files u told before after errors.Records going h = h
 stops_files u told before after errors.Spent going h = absurd (cc)
 
 -- a round that isn't the last leaves the replayer running
-pub runs_on : (step : Step) → step ≢ End → state_of_step step ≡ Running
+pub runs_on : (step : Step) → step ≢ End → state_of_step step ≡ Reading
 runs_on Blocked ne = refl
 runs_on FullBatch ne = refl
 runs_on End ne = absurd (ne refl)

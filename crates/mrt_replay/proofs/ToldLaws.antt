@@ -5,11 +5,11 @@ use Rattle.std.specs.List.{count_by}
 use Rattle.mrt_frame.specs.Devices.{HasFailed}
 use Rattle.mrt_frame.specs.declared.error.ReplayError.{ReplayError}
 use Rattle.mrt_frame.specs.declared.error.ReplayError.TheVariants as errors
-use Rattle.mrt_body.specs.declared.standing.Standing.TheVariants.{Going}
+use Rattle.mrt_frame.specs.declared.read_state.ReadState.TheVariants.{Reading}
 use Rattle.mrt_body.specs.declared.unit.Damage.{Damage}
 use Rattle.mrt_body.specs.Plain.{Unit as ReplayUnit}
 use Rattle.mrt_body.specs.Units.{is_whole}
-use Rattle.mrt_body.specs.ToCome.{UnitsState, KeepsPlan, Stops, cuts_to_come}
+use Rattle.mrt_body.specs.ToCome.{UnitsState, KeepsPlan, HasCause, cuts_to_come}
 use Rattle.adj_rib.specs.Churns.{stopped}
 use Rattle.mrt_replay.specs.Replays.{HasTaken, StopsFiles}
 
@@ -19,7 +19,7 @@ counted_more n units u e = let more = length-append units (u ∷ []) in omega (a
 
 -- why a reading stops that took this much
 module _ {T : Type 0} (Took : T → List ReplayUnit → List Damage → Type 0) (start now next : UnitsState) (told left : List (Option (List ℕ))) (before t : T) (h : HasTaken Took start now told left before t) where
-  pub stops_taken : (first counts after : List ℕ) (e : ReplayError) → KeepsPlan start now → now.standing ≡ Going → counts ≡ first → Stops now left next counts after e → StopsFiles start told first after e
+  pub stops_taken : (first counts after : List ℕ) (e : ReplayError) → KeepsPlan start now → now.state ≡ Reading → counts ≡ first → HasCause now left next counts after e → StopsFiles start told first after e
   stops_taken first counts after (errors.Read file) plan going same s =
       elim s.2 [
         | inl failed ↦ absurd (let clash = sym going ∙ failed in cc)

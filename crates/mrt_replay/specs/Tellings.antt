@@ -18,7 +18,7 @@ use Rattle.mrt_replay.specs.declared.told.Told.{Told}
 pub record Tells {M A : Type 0} (choices : List PrefixChoice) (listing : Listing) (told : Told M A)
     (units : List ReplayUnit) (refused : List Damage) : Type 0 where
   pub watches : told.watches ≡ watches_of listing.since choices units
-  pub rows : told.rows.items ≡ history_rows listing choices units
+  pub rows : told.rows.listed ≡ history_rows listing choices units
   pub refused_kept : told.refused.items ≡ refused
   pub counted : told.units ≡ stopped (length units)
 
@@ -33,7 +33,7 @@ watch_routes watches = flat_map (λ p. p.watch.table) watches
 -- The rows are those of what happened to chosen prefixes by the units of the files, which are counted; the watches took
 -- these units.
 pub record IsHistoryOf {M A : Type 0} (listing : Listing) (selection : UnitSelection) (files : List (List ℕ)) (h : History M A) : Type 0 where
-  pub rows : h.told.rows.items ≡ history_rows listing selection.prefixes (units_of selection files)
+  pub rows : h.told.rows.listed ≡ history_rows listing selection.prefixes (units_of selection files)
   pub watches : h.told.watches ≡ watches_of listing.since selection.prefixes (units_of selection files)
   pub refused_kept : h.told.refused.items ≡ refused_of selection files
   pub records_counted : h.records ≡ records_of files

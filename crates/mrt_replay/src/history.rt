@@ -6,7 +6,7 @@ ghost use Rattle.mrt_replay.specs.Replays.{StopsReplay};
 ghost use Rattle.mrt_replay.specs.Tellings.{IsHistoryOf, watch_faults, watch_routes};
 
 use crate::told::{Told, tell};
-use adj_rib::SharedRoute;
+use adj_rib::RouteId;
 use bgp_prefix::PrefixMap;
 use bgp_update::Unicast;
 use mrt_body::{Remarks, Selection, Units};
@@ -16,7 +16,7 @@ use std::alloc::Global;
 
 /// The result of replaying files into rows of what happened, and what was counted.
 #[derive(Drop)]
-pub struct History<M: PrefixMap<SharedRoute>>
+pub struct History<M: PrefixMap<RouteId>>
 where
     M::Addr: Unicast,
 {
@@ -36,7 +36,7 @@ pub fn list_history<F, M, R>(
 ) -> Result<History<M>, ReplayError>
 where
     F: Unicast,
-    M: PrefixMap<SharedRoute, Addr = F> + Drop,
+    M: PrefixMap<RouteId, Addr = F> + Drop,
     R: Source,
     requires { (0 < max_records) × (max_records ≤ 2 ^ 47) }
     // If the readers state their bytes, the rows and watches are those of the units of these.
@@ -64,7 +64,7 @@ where
 }
 
 /// Returns the number of faults: so many refusals, and the damaged units of all peers. Saturates at `u64::MAX`.
-pub fn count_faults<F: Unicast, M: PrefixMap<SharedRoute, Addr = F>>(
+pub fn count_faults<F: Unicast, M: PrefixMap<RouteId, Addr = F>>(
     refusals: u64,
     watches: &[Watched<M>],
 ) -> u64
@@ -78,7 +78,7 @@ pub fn count_faults<F: Unicast, M: PrefixMap<SharedRoute, Addr = F>>(
 }
 
 /// Returns the number of routes of chosen prefixes in the tables of all peers. Saturates at `u64::MAX`.
-pub fn count_routes<F: Unicast, M: PrefixMap<SharedRoute, Addr = F>>(watches: &[Watched<M>]) -> u64
+pub fn count_routes<F: Unicast, M: PrefixMap<RouteId, Addr = F>>(watches: &[Watched<M>]) -> u64
     ensures { result ≡ min (length (watch_routes (map watch_in watches.now))) (2 ^ 64 - 1) }
 {
     let mut count = 0u64;

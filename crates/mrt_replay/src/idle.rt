@@ -1,6 +1,6 @@
 //! The units that changed nothing, since their peers weren't up.
 
-use adj_rib::{RouteId, SharedRoute};
+use adj_rib::RouteId;
 use bgp_prefix::PrefixMap;
 use bgp_update::Unicast;
 use mrt_body::PeerKey;
@@ -67,7 +67,7 @@ pub(crate) fn idle_of_tables<F: Unicast, M: PrefixMap<RouteId, Addr = F>>(
 }
 
 /// Returns the idle units that watches counted.
-pub(crate) fn idle_of_watches<F: Unicast, M: PrefixMap<SharedRoute, Addr = F>>(
+pub(crate) fn idle_of_watches<F: Unicast, M: PrefixMap<RouteId, Addr = F>>(
     watches: &[Watched<M>],
 ) -> Idle {
     let mut idle = Idle::new();

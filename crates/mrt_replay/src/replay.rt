@@ -15,7 +15,7 @@ use crate::idle::{idle_of_tables, idle_of_watches};
 use crate::replayed::replay;
 use crate::summary::Summary;
 use crate::told::Told;
-use adj_rib::{RouteId, SharedRoute};
+use adj_rib::RouteId;
 use bgp_prefix::{Family, PrefixMap};
 use bgp_update::Unicast;
 use lane_deal::{Dealing, Gate, Plan};
@@ -38,7 +38,7 @@ use std::thread::Threads;
 /// Nothing is written before the last record has been read and the report's rows have been made, so `Read`,
 /// `Memory` and `Records` leave nothing written; `Write` leaves a leading part of the report. Workers, ring,
 /// batch and dealing don't affect what is written.
-pub fn run<F, M, N, T, R, W, D, G>(
+pub fn run<F, M, T, R, W, D, G>(
     rt: &T,
     alloc: Global,
     files: &mut [R],
@@ -53,7 +53,6 @@ pub fn run<F, M, N, T, R, W, D, G>(
 where
     F: WrittenAddress + Send + Sync,
     M: PrefixMap<RouteId, Addr = F> + Send + Sync + Drop,
-    N: PrefixMap<SharedRoute, Addr = F> + Drop,
     T: Threads + Sync,
     R: Source + Send,
     W: Sink,
@@ -83,7 +82,7 @@ where
     ensures untouched { IfErr result (λ e. (e ≡ errors.Write → ⊥) → out.new ≡ out.old) }
 {
     match listing_of(request, selection.prefixes()) {
-        Some(listing) => run_history::<F, N, R, W, G>(
+        Some(listing) => run_history::<F, M, R, W, G>(
             alloc, files, request, layout, listing, selection, plan, gate, out,
         ),
         None => run_on_tables::<F, M, T, R, W, D, G>(
@@ -133,7 +132,15 @@ fn listing_of<F: Family>(request: &Request<F>, chosen: &ChosenPrefixes<F>) -> Op
 }
 
 /// Replays the files into tables, by workers in lanes, and writes the report on them.
-fn run_on_tables<F, M, T, R, W, D, G>(
+fn run_on_tables<
+    F: WrittenAddress + Send + Sync,
+    M: PrefixMap<RouteId, Addr = F> + Send + Sync + Drop,
+    T: Threads + Sync,
+    R: Source + Send,
+    W: Sink,
+    D: Dealing + Sync,
+    G: Gate + Sync,
+>(
     rt: &T,
     alloc: Global,
     plan: &Plan,
@@ -145,14 +152,6 @@ fn run_on_tables<F, M, T, R, W, D, G>(
     layout: LayoutOf<F>,
     out: &mut W,
 ) -> Result<Summary, ReplayError>
-where
-    F: WrittenAddress + Send + Sync,
-    M: PrefixMap<RouteId, Addr = F> + Send + Sync + Drop,
-    T: Threads + Sync,
-    R: Source + Send,
-    W: Sink,
-    D: Dealing + Sync,
-    G: Gate + Sync,
     requires plan { IsPlan plan.now }
     requires tables { listing_of (request_of F.bits request.now) selection.prefixes ≡ None }
     ensures promised { IsPromised (run_on R.remaining R.failure_count W.contents W.failure_count W.is_flushed
@@ -203,7 +202,7 @@ fn run_history<F, M, R, W, G>(
 ) -> Result<Summary, ReplayError>
 where
     F: WrittenAddress,
-    M: PrefixMap<SharedRoute, Addr = F> + Drop,
+    M: PrefixMap<RouteId, Addr = F> + Drop,
     R: Source,
     W: Sink,
     G: Gate + Sync,
@@ -248,7 +247,7 @@ where
 }
 
 /// Writes the rows of what happened, or where none is listed the counts of the watches.
-fn write_told<F: WrittenAddress, M: PrefixMap<SharedRoute, Addr = F> + Drop, W: Sink>(
+fn write_told<F: WrittenAddress, M: PrefixMap<RouteId, Addr = F> + Drop, W: Sink>(
     alloc: Global,
     layout: LayoutOf<F>,
     listed: Listed,
@@ -256,12 +255,12 @@ fn write_told<F: WrittenAddress, M: PrefixMap<SharedRoute, Addr = F> + Drop, W: 
     out: &mut W,
 ) -> Result<(), ReplayError>
     ensures ok { OnOk result (Appends (W.contents out.old) (W.contents out.new)
-        (told_lines layout listed told.now.rows.items told.now.watches)) }
+        (told_lines layout listed told.now.rows.listed told.now.watches)) }
     ensures sound { OnOk result (W.failure_count out.new ≡ W.failure_count out.old) }
     ensures errors { IfErr result (λ e. (e ≡ errors.Memory) ⊎ (e ≡ errors.Write)) }
     ensures untouched { result ≡ Err errors.Memory → out.new ≡ out.old }
     ensures front { result ≡ Err errors.Write → WritesFront (W.contents out.old) (W.contents out.new)
-        (told_lines layout listed told.now.rows.items told.now.watches) }
+        (told_lines layout listed told.now.rows.listed told.now.watches) }
     ensures risen { result ≡ Err errors.Write → HasFailed (W.failure_count out.old) (W.failure_count out.new) }
 {
     match listed {
@@ -270,13 +269,13 @@ fn write_told<F: WrittenAddress, M: PrefixMap<SharedRoute, Addr = F> + Drop, W: 
             layout.addresses,
             watched_churn(alloc, told.watches.watched())?.as_slice(),
         ),
-        Listed::Changes => write_history(out, layout.addresses, told.rows.as_slice()),
-        Listed::All => write_history(out, layout.addresses, told.rows.as_slice()),
+        Listed::Changes => write_history(out, layout.addresses, &told.rows),
+        Listed::All => write_history(out, layout.addresses, &told.rows),
     }
 }
 
 /// Reports each listed fault to the gate.
-fn tell_history_faults<F: Unicast, M: PrefixMap<SharedRoute, Addr = F>, G: Gate>(
+fn tell_history_faults<F: Unicast, M: PrefixMap<RouteId, Addr = F>, G: Gate>(
     gate: &G,
     refused: &[Damage],
     watches: &[Watched<M>],

@@ -1,8 +1,7 @@
 //! The replay of files into tables, by workers in lanes.
 
 ghost use Rattle.std.specs.Prelude.{◌≡◌, ◌≢◌, ◌≤◌, true, false, List, ℕ, IfOk, IfErr, OnOk, Some, length, map};
-ghost use Rattle.mrt_body.specs.declared.standing.Standing.TheVariants.{Going};
-ghost use Rattle.lane_deal.specs.declared.state.State.TheVariants.{Running, Ended};
+ghost use Rattle.mrt_frame.specs.declared.read_state.ReadState.TheVariants.{Reading, Ended};
 ghost use Rattle.lane_deal.specs.declared.step.Step.TheVariants.{End};
 ghost use Rattle.lane_deal.specs.Plans.{IsPlan};
 ghost use Rattle.lane_deal.specs.Playing.{shown};
@@ -57,8 +56,8 @@ where
     D: Dealing + Send,
     G: Gate + Sync,
     requires files { length files.old ≡ units.old.count }
-    requires going { units.old.standing ≡ Going }
-    requires running { replayer.old.state ≡ Running }
+    requires reading { units.old.state ≡ Reading }
+    requires running { replayer.old.state ≡ Reading }
     requires plan { IsPlan replayer.old.plan }
     ensures kept { OnOk result ((replayer.new.plan ≡ replayer.old.plan) ×
         (replayer.new.dealer.dealing ≡ replayer.old.dealer.dealing) × (replayer.new.state ≡ Ended)) }

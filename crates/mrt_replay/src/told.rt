@@ -4,35 +4,35 @@ ghost use Rattle.std.specs.Prelude.{◌≡◌, [], ◌∷◌, ◌++◌, IfErr, I
 ghost use Rattle.std.specs.List.{filter_map};
 ghost use Rattle.mrt_body.specs.Units.{damage_of, unit_of};
 ghost use Rattle.mrt_body.specs.Plain.{PrefixChoice as Choice};
-ghost use Rattle.mrt_body.specs.declared.standing.Standing.TheVariants.{Going};
+ghost use Rattle.mrt_frame.specs.declared.read_state.ReadState.TheVariants.{Reading};
 ghost use Rattle.mrt_body.specs.declared.unit.Damage.{Damage as AnyDamage};
 ghost use Rattle.mrt_body.specs.Plain.{Unit as ReplayUnit};
 ghost use Rattle.peer_tables.specs.declared.history.Listing.{Listing as AnyListing};
 ghost use Rattle.mrt_replay.specs.Replays.{HasTakenFiles, StopsFiles};
 ghost use Rattle.mrt_replay.specs.Tellings.{Tells};
 
-use adj_rib::SharedRoute;
+use adj_rib::RouteId;
 use bgp_prefix::{Memory, PrefixMap};
 use bgp_update::Unicast;
 use mrt_body::{ChosenPrefixes, Damage, Found, FoundOf, UnitRef, Units};
 use mrt_frame::{ReplayError, Source};
-use peer_tables::{HistoryRow, Listing, Watches};
+use peer_tables::{HistoryRows, Listing, Watches};
 use std::alloc::Global;
 
 /// What a replay of files into rows leaves: the watches on all peers, the rows, the refusals, and how many units there
 /// were, which stops at `u64::MAX`.
 #[derive(Drop)]
-pub struct Told<M: PrefixMap<SharedRoute>>
+pub struct Told<M: PrefixMap<RouteId>>
 where
     M::Addr: Unicast,
 {
     pub watches: Watches<M>,
-    pub rows: Vec<HistoryRow<M::Addr>>,
+    pub rows: HistoryRows<M::Addr>,
     pub refused: Vec<Damage>,
     pub units: u64,
 }
 
-impl<F: Unicast, M: PrefixMap<SharedRoute, Addr = F> + Drop> Told<M> {
+impl<F: Unicast, M: PrefixMap<RouteId, Addr = F> + Drop> Told<M> {
     ghost use Rattle.std.specs.Prelude.{◌≡◌, [], IfOk};
 
     /// Before the first unit.
@@ -41,7 +41,7 @@ impl<F: Unicast, M: PrefixMap<SharedRoute, Addr = F> + Drop> Told<M> {
     {
         Ok(Told {
             watches: Watches::new(alloc)?,
-            rows: Vec::new(alloc),
+            rows: HistoryRows::new(alloc),
             refused: Vec::new(alloc),
             units: 0,
         })
@@ -88,7 +88,7 @@ impl<F: Unicast, M: PrefixMap<SharedRoute, Addr = F> + Drop> Told<M> {
     {
         match found {
             Found::Unit(unit) => {
-                self.take_unit(alloc, chosen, listing, &unit.lend())?;
+                self.take_unit(alloc, chosen, listing, &unit.as_ref())?;
                 Ok(())
             }
             Found::Refused(damage) => {
@@ -110,10 +110,10 @@ pub fn tell<F, M, R>(
 ) -> Result<(), ReplayError>
 where
     F: Unicast,
-    M: PrefixMap<SharedRoute, Addr = F> + Drop,
+    M: PrefixMap<RouteId, Addr = F> + Drop,
     R: Source,
     requires files { length files.old ≡ units.old.count }
-    requires going { units.old.standing ≡ Going }
+    requires reading { units.old.state ≡ Reading }
     ensures told { OnOk result (HasTakenFiles (Tells chosen.now listing) units.old units.new
         (map R.remaining files.old) told.old told.new) }
     ensures sound { OnOk result (map R.failure_count files.new ≡ map R.failure_count files.old) }

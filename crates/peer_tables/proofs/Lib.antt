@@ -6,4 +6,5 @@ pub mod ShareLaws
 pub mod ChosenLaws
 pub mod HistoryLaws
 pub mod WatchLaws
+pub mod StoredRows
 pub mod PeerPositions

@@ -1,9 +1,10 @@
 -- The watches on all peers, one unit after the other.
-use Rattle.std.proofs.Common.{◌≡◌, ℕ, zero, suc, ◌<◌, ◌||◌, ◌&&◌, not, if◌then◌else◌, Bool, true, false, cond, List, [], ◌∷◌, ◌++◌, map, set, get_or, length, Option, Some, refl, sym, ap, ◌∙◌, subst, append-nil, arith}
+use Rattle.std.proofs.Common.{◌≡◌, ℕ, zero, suc, ◌<◌, ◌||◌, ◌&&◌, not, if◌then◌else◌, Bool, true, false, cond, List, [], ◌∷◌, ◌++◌, map, set, get_or, length, Option, Some, None, refl, sym, ap, ◌∙◌, subst, append-nil, append_assoc, arith}
 use Rattle.std.specs.Prelude.{slice_get}
-use Rattle.std.specs.List.{filter, list_any}
+use Rattle.std.specs.List.{filter, flat_map, fold, list_any}
 use Rattle.std.proofs.Math.Bool.{or-true}
 use Rattle.std.proofs.lemmas.List.{map-append}
+use Rattle.std.proofs.lemmas.List.Concat.{flat_map-cons}
 use Rattle.std.proofs.lemmas.List.Elements.{filter-append}
 use Rattle.std.proofs.lemmas.List.Folds.{list_any-append}
 use Rattle.mrt_frame.specs.Positions.{flat_map_after}
@@ -16,8 +17,10 @@ use Rattle.adj_rib.specs.Histories.{WatchState, is_before, watch_of, unit_notes,
 use Rattle.adj_rib.specs.Selecting.{chooses}
 use Rattle.peer_tables.specs.declared.history.Listing.{Listing}
 use Rattle.peer_tables.specs.Peers.{peer_eq, peers_of, units_of_peer}
-use Rattle.peer_tables.specs.Histories.{PeerWatch, RowState, history_of, history_rows, is_asked, is_listed, row_of, watches_of}
-use Rattle.peer_tables.specs.Watching.{asked_rows, keys_in, listed_rows}
+use Rattle.peer_tables.specs.declared.history.Listed.{Listed}
+use Rattle.peer_tables.specs.declared.history.RowUnit.{RowUnit}
+use Rattle.peer_tables.specs.Histories.{PeerWatch, RowState, by_of, history_of, history_rows, is_asked, is_listed, row_of, watches_of}
+use Rattle.peer_tables.specs.Watching.{RowsState, asked_row, asked_rows, keep_row, keys_in, listed_rows, row_unit}
 use Rattle.peer_tables.proofs.ShareLaws.{same_peer}
 use Rattle.peer_tables.proofs.PeerPositions.{listed_at, other_peer, peer_itself, some_is}
 
@@ -274,6 +277,39 @@ module _ (listing : Listing) (choices : List PrefixChoice) (u : ReplayUnit) wher
         | true ↦ early_rows notes
         | false ↦ chosen_rows notes
       ] refl
+
+-- rows with more notes
+kept_rows : (unit : Option RowUnit) (rows : List RowState) (notes : List Note) → fold keep_row (record { listed = rows; unit = unit }) notes ≡ record { listed = rows ++ flat_map (asked_row unit) notes; unit = unit }
+kept_rows unit rows [] = ap (λ (l : List RowState). record { listed = l; unit = unit }) (sym (append-nil rows))
+kept_rows unit rows (note ∷ notes) =
+    kept_rows unit (rows ++ asked_row unit note) notes
+    ∙ ap (λ (l : List RowState). record { listed = l; unit = unit }) (append_assoc rows (asked_row unit note) (flat_map (asked_row unit) notes) ∙ ap (λ l. rows ++ l) (sym (flat_map-cons (asked_row unit) note notes)))
+
+no_rows : (notes : List Note) → flat_map (asked_row None) notes ≡ []
+no_rows [] = refl
+no_rows (note ∷ notes) = flat_map-cons (asked_row None) note notes ∙ no_rows notes
+
+rows_asked : (listed : Listed) (u : ReplayUnit) (notes : List Note) → flat_map (asked_row (Some (record { time = u.time; by = by_of u.payload; listed = listed; peer = u.peer }))) notes ≡ asked_rows listed u notes
+rows_asked listed u [] = refl
+rows_asked listed u (note ∷ notes) =
+    flat_map-cons (asked_row (Some (record { time = u.time; by = by_of u.payload; listed = listed; peer = u.peer }))) note notes
+    ∙ elim (is_asked listed note.what) as (λ b. (if b then row_of (u, note) ∷ [] else []) ++ flat_map (asked_row (Some (record { time = u.time; by = by_of u.payload; listed = listed; peer = u.peer }))) notes ≡ map (λ n. row_of (u, n)) (cond b (note ∷ filter (λ n. is_asked listed n.what) notes) (filter (λ n. is_asked listed n.what) notes))) [
+      | true ↦ ap (λ (l : List RowState). row_of (u, note) ∷ l) (rows_asked listed u notes)
+      | false ↦ rows_asked listed u notes
+    ]
+
+rows_of_unit : (listing : Listing) (u : ReplayUnit) (notes : List Note) → flat_map (asked_row (row_unit listing u)) notes ≡ listed_rows listing u notes
+rows_of_unit listing u notes =
+    elim (is_before listing.since u.time) as (λ b. flat_map (asked_row (if b then None else Some (record { time = u.time; by = by_of u.payload; listed = listing.listed; peer = u.peer }))) notes ≡ (if b then [] else asked_rows listing.listed u notes)) [
+      | true ↦ no_rows notes
+      | false ↦ rows_asked listing.listed u notes
+    ]
+
+-- the rows after a unit whose notes were kept as its rows
+pub unit_kept : (listing : Listing) (u : ReplayUnit) (begun told : RowsState) (notes : List Note) → begun.unit ≡ row_unit listing u → told ≡ fold keep_row begun notes → told.listed ≡ begun.listed ++ listed_rows listing u notes
+unit_kept listing u begun told notes unit kept =
+    ap (λ (r : RowsState). r.listed) (kept ∙ kept_rows begun.unit begun.listed notes)
+    ∙ ap (λ w. begun.listed ++ flat_map (asked_row w) notes) unit ∙ ap (λ l. begun.listed ++ l) (rows_of_unit listing u notes)
 
 pub rows_after : (listing : Listing) (choices : List PrefixChoice) (before : List ReplayUnit) (u : ReplayUnit) (rows told : List RowState) (notes : List Note) → notes ≡ chosen_notes choices (unit_notes (units_of_peer before u.peer) u) → told ≡ rows ++ listed_rows listing u notes → rows ≡ history_rows listing choices before
     → told ≡ history_rows listing choices (before ++ u ∷ [])

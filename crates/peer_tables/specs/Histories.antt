@@ -12,6 +12,8 @@ use Rattle.adj_rib.specs.declared.note.What.{What}
 use Rattle.adj_rib.specs.declared.note.What.TheVariants.{New, Changed, Same, Gone, Void, Lost}
 use Rattle.adj_rib.specs.Histories.{WatchState, is_before, unit_notes, watch_of}
 use Rattle.adj_rib.specs.Selecting.{chooses}
+use Rattle.bgp_prefix.specs.Prefixes.{IpPrefix}
+use Rattle.peer_tables.specs.declared.history.HistoryRow.{HistoryRow}
 use Rattle.peer_tables.specs.declared.history.By.{By}
 use Rattle.peer_tables.specs.declared.history.By.TheVariants as by
 use Rattle.peer_tables.specs.declared.history.Listed.{Listed}
@@ -50,6 +52,10 @@ pub record RowState : Type 0 where
   pub peer : PeerKey
   pub by : By
   pub note : Note
+
+-- a row as it is read
+abbrev pub row_state : HistoryRow IpPrefix → RowState
+row_state row = record { time = row.time; peer = row.peer; by = row.by; note = record { what = row.what; key = row.key; route = row.route } }
 
 -- the row of what happened
 abbrev pub row_of : ReplayUnit × Note → RowState

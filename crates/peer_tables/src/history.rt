@@ -1,13 +1,15 @@
 //! Rows of what happened.
 
-ghost use Rattle.std.specs.Prelude.{◌≡◌, ◌++◌, IfOk, IfSome, IsNone, None, OnOk, Some};
-ghost use Rattle.peer_tables.specs.Histories.{by_of, is_asked, is_change};
-ghost use Rattle.peer_tables.specs.Watching.{asked_rows, listed_rows};
+ghost use Rattle.std.specs.Prelude.{◌≡◌, ◌<◌, IfOk, List, OnOk, Option, Some, length, slice_get};
+ghost use Rattle.bgp_update.specs.declared.route.Route.{Route};
+ghost use Rattle.adj_rib.specs.Routes.{StaysNamed};
+ghost use Rattle.peer_tables.specs.Histories.{by_of, is_asked, is_change, row_state};
+ghost use Rattle.peer_tables.specs.Watching.{IsStored, row_in, row_unit};
 
 use crate::shared_peer::SharedPeer;
-use adj_rib::{Note, SharedRoute, What, is_before};
+use adj_rib::{Notes, RouteId, Routes, What, is_before};
 use bgp_prefix::{Family, Memory, Prefix, RouteKey};
-use bgp_update::Unicast;
+use bgp_update::{HashedRoute, RouteRef, Unicast};
 use mrt_body::{Payload, PayloadRef, PeerKey, UnitRef};
 use std::alloc::Global;
 use std::marker::Model;
@@ -23,17 +25,31 @@ pub enum By {
     State,
 }
 
-/// What a row holds. Whole dumps have as many rows as routes, so a row of an IPv4 key takes 40 bytes: the fields lie in
-/// an order that leaves no gap, and a row without a route has none.
+/// One thing that happened to a key of a peer.
 #[derive(Drop)]
-enum Held<P = Prefix> {
+pub struct HistoryRow<'a, P = Prefix> {
+    /// In microseconds since 1970 UTC.
+    pub time: u64,
+    pub peer: PeerKey,
+    /// What brought it about.
+    pub by: By,
+    pub what: What,
+    pub key: RouteKey<P>,
+    /// The route that the key has from then on, or the one that went; none of a withdrawal of a key without one.
+    pub route: Option<RouteRef<'a>>,
+}
+
+/// A row as it is kept. Whole dumps have as many rows as routes, so that of an IPv4 key takes 40 bytes: the fields lie
+/// in an order that leaves no gap, and a row without a route has none.
+#[derive(Drop)]
+enum StoredRow<P = Prefix> {
     Routed {
         by: By,
         what: What,
         key: RouteKey<P>,
+        route: RouteId,
         time: u64,
         peer: SharedPeer,
-        route: SharedRoute,
     },
     Routeless {
         by: By,
@@ -42,110 +58,6 @@ enum Held<P = Prefix> {
         time: u64,
         peer: SharedPeer,
     },
-}
-
-/// One thing that happened to a key of a peer.
-#[derive(Drop)]
-pub struct HistoryRow<F: Family = u32> {
-    held: Held<Prefix<F>>,
-}
-
-impl<F: Family> Model for HistoryRow<F> {
-    ghost use Rattle.peer_tables.specs.Histories.{RowState};
-    ghost use Rattle.peer_tables.specs.Watching.{row_in};
-
-    ghost Value = { RowState };
-
-    ghost view = { λ r. row_in r.held };
-}
-
-impl<F: Family> HistoryRow<F> {
-    /// Returns the row of a note on a key of this peer, at this time in microseconds since 1970 UTC.
-    fn new(
-        alloc: Global,
-        time: u64,
-        peer: &SharedPeer,
-        by: By,
-        note: &Note<Prefix<F>>,
-    ) -> Result<HistoryRow<F>, Memory>
-        ensures { IfOk result (λ row. row ≡ record { time = time; peer = peer.now; by = by; note = note.now }) }
-    {
-        let peer = peer.share(alloc)?;
-        let held = match &note.route {
-            Some(route) => Held::Routed {
-                by,
-                what: note.what,
-                key: note.key,
-                time,
-                peer,
-                route: route.share(alloc)?,
-            },
-            None => Held::Routeless {
-                by,
-                what: note.what,
-                key: note.key,
-                time,
-                peer,
-            },
-        };
-        Ok(HistoryRow { held })
-    }
-
-    /// In microseconds since 1970 UTC.
-    pub fn time(&self) -> u64
-        ensures { result ≡ self.now.time }
-    {
-        match &self.held {
-            Held::Routed { time, .. } | Held::Routeless { time, .. } => *time,
-        }
-    }
-
-    /// The peer whose key it happened to.
-    pub fn peer(&self) -> PeerKey
-        ensures { result ≡ self.now.peer }
-    {
-        match &self.held {
-            Held::Routed { peer, .. } | Held::Routeless { peer, .. } => *peer.key(),
-        }
-    }
-
-    /// What brought it about.
-    pub fn by(&self) -> By
-        ensures { result ≡ self.now.by }
-    {
-        match &self.held {
-            Held::Routed { by, .. } | Held::Routeless { by, .. } => *by,
-        }
-    }
-
-    /// What happened.
-    pub fn what(&self) -> What
-        ensures { result ≡ self.now.note.what }
-    {
-        match &self.held {
-            Held::Routed { what, .. } | Held::Routeless { what, .. } => *what,
-        }
-    }
-
-    /// The key that it happened to.
-    pub fn key(&self) -> RouteKey<Prefix<F>>
-        ensures { result ≡ self.now.note.key }
-    {
-        match &self.held {
-            Held::Routed { key, .. } | Held::Routeless { key, .. } => *key,
-        }
-    }
-
-    /// The route that the key has from then on, or the one that went; none of a withdrawal of a key without one.
-    pub fn route(&self) -> Option<&SharedRoute>
-        ensures none { IsNone result → self.now.note.route ≡ None }
-        ensures some { IfSome result (λ route. self.now.note.route ≡ Some route.now) }
-    {
-        match &self.held {
-            Held::Routed { route, .. } => Some(route),
-            Held::Routeless { .. } => None,
-        }
-    }
 }
 
 /// Which of the things that happened have rows.
@@ -200,41 +112,194 @@ fn is_asked(listed: Listed, what: What) -> bool
     }
 }
 
-/// Adds a row of each of the notes that is asked for, on keys of the unit's peer.
-fn list_notes<F: Unicast>(
-    alloc: Global,
+/// A unit whose notes have rows, if they are asked for.
+#[derive(Drop)]
+struct RowUnit {
+    time: u64,
+    by: By,
     listed: Listed,
-    peer: &SharedPeer,
-    unit: &UnitRef<'_, F>,
-    notes: &[Note<Prefix<F>>],
-    rows: &mut Vec<HistoryRow<F>>,
-) -> Result<(), Memory>
-    requires { peer.now ≡ unit.now.peer }
-    ensures { OnOk result (rows.new.items ≡ rows.old.items ++ asked_rows listed unit.now notes.now) }
-{
-    for note in notes {
-        if is_asked(listed, note.what) {
-            let by = by_of(&unit.payload);
-            rows.push(HistoryRow::new(alloc, unit.time, peer, by, note)?)?;
-        }
-    }
-    Ok(())
+    peer: SharedPeer,
 }
 
-/// Adds a row of each of a unit's notes that is listed, on keys of its peer.
-pub(crate) fn list_unit<F: Unicast>(
+/// Returns the row of a note on a unit of this peer, at this time. Its route is put among these, if they don't have it.
+fn stored_row<F: Unicast>(
     alloc: Global,
-    listing: Listing,
-    peer: &SharedPeer,
-    unit: &UnitRef<'_, F>,
-    notes: &[Note<Prefix<F>>],
-    rows: &mut Vec<HistoryRow<F>>,
-) -> Result<(), Memory>
-    requires { peer.now ≡ unit.now.peer }
-    ensures { OnOk result (rows.new.items ≡ rows.old.items ++ listed_rows listing unit.now notes.now) }
+    routes: &mut Routes,
+    unit: &RowUnit,
+    what: What,
+    key: &RouteKey<Prefix<F>>,
+    route: &Option<RouteRef<'_>>,
+) -> Result<StoredRow<Prefix<F>>, Memory>
+    ensures row { IfOk result (λ row. row_in routes.new row ≡ record {
+      time = unit.now.time;
+      peer = unit.now.peer;
+      by = unit.now.by;
+      note = record { what = what; key = key.now; route = route.now };
+    }) }
+    ensures stored { IfOk result (IsStored routes.new) }
+    ensures stays { StaysNamed routes.old routes.new }
 {
-    if is_before(listing.since, unit.time) {
-        return Ok(());
+    let peer = unit.peer.share(alloc)?;
+    let (time, by, key) = (unit.time, unit.by, *key);
+    match route {
+        Some(route) => {
+            let route = routes.intern(alloc, &HashedRoute::new(route.same()))?;
+            Ok(StoredRow::Routed {
+                by,
+                what,
+                key,
+                route,
+                time,
+                peer,
+            })
+        }
+        None => Ok(StoredRow::Routeless {
+            by,
+            what,
+            key,
+            time,
+            peer,
+        }),
     }
-    list_notes(alloc, listing.listed, peer, unit, notes, rows)
+}
+
+/// Rows of what happened, with the routes that they name.
+#[derive(Drop)]
+pub struct HistoryRows<F: Family = u32> {
+    rows: Vec<StoredRow<Prefix<F>>>,
+    routes: Routes,
+    /// The unit of which notes come, if any of them may have a row.
+    unit: Option<RowUnit>,
+}
+
+impl<F: Family> Model for HistoryRows<F> {
+    ghost use Rattle.std.specs.Prelude.{map};
+    ghost use Rattle.std.specs.List.{All};
+    ghost use Rattle.peer_tables.specs.Watching.{IsStored, RowsState, row_in};
+
+    ghost Value = { RowsState };
+
+    ghost view = { λ r. record { listed = map (row_in r.routes) r.rows.items; unit = r.unit } };
+
+    ghost invariant = { λ r. All (IsStored r.routes) r.rows.items };
+}
+
+impl<F: Unicast> HistoryRows<F> {
+    ghost use Rattle.std.specs.Prelude.{[], None};
+
+    /// Returns no row. Allocates nothing.
+    pub fn new(alloc: Global) -> HistoryRows<F>
+        ensures { result ≡ record { listed = []; unit = None } }
+    {
+        HistoryRows {
+            rows: Vec::new(alloc),
+            routes: Routes::new(alloc),
+            unit: None,
+        }
+    }
+
+    /// The notes that come from now on are of this unit of a peer: those that are asked for have a row.
+    pub(crate) fn begin(
+        &mut self,
+        alloc: Global,
+        listing: Listing,
+        peer: &SharedPeer,
+        unit: &UnitRef<'_, F>,
+    ) -> Result<(), Memory>
+        requires { peer.now ≡ unit.now.peer }
+        ensures listed { self.new.listed ≡ self.old.listed }
+        ensures unit { OnOk result (self.new.unit ≡ row_unit listing unit.now) }
+    {
+        if is_before(listing.since, unit.time) {
+            self.unit = None;
+            return Ok(());
+        }
+        self.unit = Some(RowUnit {
+            time: unit.time,
+            by: by_of(&unit.payload),
+            listed: listing.listed,
+            peer: peer.share(alloc)?,
+        });
+        Ok(())
+    }
+
+    /// How many rows there are.
+    pub fn len(&self) -> usize
+        ensures { result ≡ length self.now.listed }
+    {
+        self.rows.len()
+    }
+
+    /// The row at an index.
+    pub fn at(&self, index: usize) -> HistoryRow<'_, Prefix<F>>
+        requires { index < length self.now.listed }
+        ensures { slice_get self.now.listed index ≡ Some (row_state result) }
+    {
+        match &self.rows[index] {
+            StoredRow::Routed {
+                by,
+                what,
+                key,
+                route,
+                time,
+                peer,
+            } => HistoryRow {
+                time: *time,
+                peer: *peer.key(),
+                by: *by,
+                what: *what,
+                key: *key,
+                route: Some(self.routes.route(*route)),
+            },
+            StoredRow::Routeless {
+                by,
+                what,
+                key,
+                time,
+                peer,
+            } => HistoryRow {
+                time: *time,
+                peer: *peer.key(),
+                by: *by,
+                what: *what,
+                key: *key,
+                route: None,
+            },
+        }
+    }
+}
+
+impl<F: Unicast> Notes<F> for HistoryRows<F> {
+    ghost use Rattle.peer_tables.specs.Watching.{RowsState, keep_row};
+
+    ghost Kept = { RowsState };
+
+    ghost kept = { λ r. r };
+
+    ghost keep = { keep_row };
+
+    fn keeps(&self) -> bool {
+        match &self.unit {
+            Some(unit) => unit.listed != Listed::Nothing,
+            None => false,
+        }
+    }
+
+    fn note(
+        &mut self,
+        alloc: Global,
+        what: What,
+        key: &RouteKey<Prefix<F>>,
+        route: &Option<RouteRef<'_>>,
+    ) -> Result<(), Memory> {
+        let Some(unit) = &self.unit else {
+            return Ok(());
+        };
+        if !is_asked(unit.listed, what) {
+            return Ok(());
+        }
+        let row = stored_row(alloc, &mut self.routes, unit, what, key, route)?;
+        self.rows.push(row)?;
+        Ok(())
+    }
 }

@@ -1,5 +1,5 @@
-//! The laws of what tables stand for, of what happened at all peers, and of replays that take some of the peers. Nothing is
-//! computed.
+//! The laws of what tables stand for, of what happened at all peers, and of replays that take some of the peers.
+//! Nothing is computed.
 
 ghost use Rattle.std.specs.Prelude.{◌≡◌, IsPermutation, List, Bool, true};
 ghost use Rattle.mrt_body.specs.declared.unit.Damage.{Damage as ListedFault};

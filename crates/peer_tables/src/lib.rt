@@ -9,11 +9,12 @@
 //! `Tables::retain` leaves the routes of chosen prefixes alone, if any are named, before a report is made: an UPDATE
 //! that concerns a chosen prefix may have announced others.
 //!
-//! `Watches` passes each unit to the watch on its peer, and makes rows of what it did (`HistoryRow`), in the order of
+//! `Watches` passes each unit to the watch on its peer, and makes rows of what it did (`HistoryRows`), in the order of
 //! the units: one thread, no lanes. The watches are those of the units' peers (`watches_of`): each took its peer's own
 //! units, and counts what they did from the same second on. A row is of a note that is listed (`history_rows`), and
 //! what happened at some of the peers is what their units did (`histories_are_of_peers`). A row of an IPv4 key takes 40
-//! bytes: it shares its peer with the watch (`SharedPeer`), and its route with the table.
+//! bytes: it shares its peer with the watch (`SharedPeer`), and names its route by its number in a block that all rows
+//! have (`HistoryRows`), since rows outlive the tables' entries.
 //!
 //! `Peers` numbers the peers of units, for the lanes and for the watches: a peer has the next number when it first
 //! appears (`NumbersPeer`). It is looked for first where the last peer with its index in the index table, or with its
@@ -31,7 +32,7 @@ mod shared_peer;
 mod tables;
 mod watches;
 
-pub use history::{By, HistoryRow, Listed, Listing};
+pub use history::{By, HistoryRow, HistoryRows, Listed, Listing};
 pub use laws::{
     collected_stand_for_units, histories_are_of_peers, lanes_make_no_difference, shares_keep_peers,
     tables_are_of_units,

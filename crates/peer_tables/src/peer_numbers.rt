@@ -14,7 +14,7 @@ use std::marker::Model;
 /// How many slots hold the number of a peer seen before: as many as ten bits can index.
 const RECENT: usize = 1_024;
 
-/// By this number an index of the PEER_INDEX_TABLE is divided: the rest is the peer's slot.
+/// How many slots indexes have: a peer's slot is its index in the PEER_INDEX_TABLE modulo this.
 const INDEX_SLOTS: u16 = 1_024;
 
 /// The different peers so far, each of which has the next number when it first appears. Contracts see the list of

@@ -3,8 +3,8 @@
 mod devices;
 mod dumps;
 mod families;
-mod lent;
 mod lines;
+mod peeked;
 mod remarks;
 mod rows;
 mod sizes;

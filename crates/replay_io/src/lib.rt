@@ -7,10 +7,10 @@
 //!   Standard input is read like a file; a second `-` finds nothing left.
 //! - **`Dump` and `Report` are generic over their device**, and state what they make known by what it does (`run_io`):
 //!   so what is counted, shown and kept on the way is proved to change no byte.
-//! - **The gate sleeps** (`Counter`), since the libraries below have no clock: a worker after ten looks in a row in vain,
-//!   for 20 microseconds at first and 80 at most, and the dealer at once, for one at first and 64 at most. A thread that
-//!   only yields stays ready to run, and two that have work share a processor meanwhile. A sleep ends by itself, so no
-//!   thread waits for another one.
+//! - **The gate sleeps** (`Counter`), since the libraries below have no clock: a worker after ten looks in a row in
+//!   vain, for 20 microseconds at first and 80 at most, and the dealer at once, for one at first and 64 at most. A
+//!   thread that only yields stays ready to run, and two that have work share a processor meanwhile. A sleep ends by
+//!   itself, so no thread waits for another one.
 //! - **`--progress` looks at the clock once per mebibyte** and rewrites its line after 250 ms; its number of routes is
 //!   that after the last round, since counting goes over all sessions. **`--summary`** takes the units and faults of
 //!   each file from the gate (`counts.rt`). Nothing is proved of either but that they are safe.

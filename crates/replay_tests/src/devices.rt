@@ -1,7 +1,7 @@
 //! Rows on devices that fail: at each read, at each write, and past the limit on records.
 
 use crate::harness::{PLAN, full, replay, replay_readers};
-use adj_rib::{RouteId, SharedRoute};
+use adj_rib::RouteId;
 use bgp_prefix::Radix;
 use fixtures::{Dripping, THREE_PEERS, THREE_ROUTES, bytes_of};
 use lane_deal::{ByTurns, NoGate, Plan};
@@ -57,7 +57,7 @@ fn expect_read(
 ) -> Result<(), Fail> {
     let plan = Plan { workers, ..PLAN };
     let mut readers = [Counted::new(Dripping::new(rest, Some(kind)))];
-    let outcome = replay_readers::<Radix<u32, RouteId>, Radix<u32, SharedRoute>, _>(
+    let outcome = replay_readers::<Radix<u32, RouteId>, _>(
         rt,
         alloc,
         &mut readers,
@@ -121,7 +121,7 @@ fn run_into(
 ) -> Result<(Result<Summary, ReplayError>, Vec<u8>), Fail> {
     let mut readers = [Counted::new(bytes)];
     let mut out = Counted::new(writer);
-    let result = run::<_, Radix<u32, RouteId>, Radix<u32, SharedRoute>, _, _, _, _, _>(
+    let result = run::<_, Radix<u32, RouteId>, _, _, _, _, _>(
         rt,
         alloc,
         &mut readers,
@@ -192,7 +192,7 @@ fn a_second_file_that_fails_at_once_is_named(rt: HostRuntime) -> Result<(), Fail
         Counted::new(Dripping::new(bytes.as_slice(), None)),
         Counted::new(Dripping::new(&[], Some(ErrorKind::Other))),
     ];
-    let outcome = replay_readers::<Radix<u32, RouteId>, Radix<u32, SharedRoute>, _>(
+    let outcome = replay_readers::<Radix<u32, RouteId>, _>(
         &rt,
         alloc,
         &mut readers,
@@ -231,9 +231,7 @@ fn one_record_past_the_limit_ends_the_run(rt: HostRuntime) -> Result<(), Fail> {
             max_records,
             ..PLAN
         };
-        let outcome = replay::<Radix<u32, RouteId>, Radix<u32, SharedRoute>>(
-            &rt, alloc, &files, &request, &plan,
-        )?;
+        let outcome = replay::<Radix<u32, RouteId>>(&rt, alloc, &files, &request, &plan)?;
         assert!(rt; outcome.text.as_slice() == text.as_bytes(), "{words}");
         match &outcome.result {
             Err(_) => assert!(rt;

@@ -3,15 +3,15 @@
 //! test, for N = 1, 2 and so on. A growth that is refused to a test itself ends it with an error.
 
 use crate::harness::{PLAN, full};
-use adj_rib::{RouteId, SharedRoute};
+use adj_rib::RouteId;
 use bgp_prefix::{Flat, PrefixMap, Radix};
+use chunked_map::ChunkedMap;
 use command_line::{Asked, Usage, read_words};
 use fixtures::{THREE_PEERS, THREE_ROUTES, bytes_of};
 use lane_deal::{ByBlocks, ByList, ByTurns, Dealing, NoGate, Plan};
 use mrt_body::Selection;
 use mrt_frame::{Counted, ReplayError};
 use mrt_replay::run;
-use prefix_shelf::Shelf;
 use rib_report::Request;
 use std::alloc::Global;
 use std::marker::Sync;
@@ -31,7 +31,7 @@ fn expect_report<M: PrefixMap<RouteId, Addr = u32> + Send + Sync + Drop, D: Deal
     let bytes = bytes_of(alloc, words)?;
     let mut readers = [Counted::new(bytes.as_slice())];
     let mut out = Counted::new(Vec::<u8>::with_capacity(alloc, 1000)?);
-    let result = run::<_, M, Shelf<u32, SharedRoute>, _, _, _, _, _>(
+    let result = run::<_, M, _, _, _, _, _>(
         rt,
         alloc,
         &mut readers,
@@ -59,7 +59,7 @@ fn a_run_by_each_dealing_writes_its_report_or_wants_memory(rt: HostRuntime) -> R
     let blocks = ByBlocks::new(2);
     expect_report::<Flat<u32, _>, _>(&rt, alloc, THREE_PEERS, tables, &ByTurns, THREE_ROUTES)?;
     expect_report::<Radix<u32, _>, _>(&rt, alloc, THREE_PEERS, tables, &blocks, THREE_ROUTES)?;
-    expect_report::<Shelf<u32, _>, _>(&rt, alloc, THREE_PEERS, tables, &list, THREE_ROUTES)
+    expect_report::<ChunkedMap<u32, _>, _>(&rt, alloc, THREE_PEERS, tables, &list, THREE_ROUTES)
 }
 
 /// An index, a RIB record whose second entry is damaged, and an announcement.
@@ -104,7 +104,7 @@ fn a_run_of_each_request_writes_its_report_or_wants_memory(rt: HostRuntime) -> R
         (Request::Match(0x0A00_0001), lines),
         (Request::Faults, "1|56|2|14|BadAttribute(1)\n"),
     ] {
-        expect_report::<Shelf<u32, _>, _>(&rt, alloc, words, &request, &ByTurns, expected)?;
+        expect_report::<ChunkedMap<u32, _>, _>(&rt, alloc, words, &request, &ByTurns, expected)?;
     }
     Ok(())
 }

@@ -1,14 +1,14 @@
 //! Runs rows that stand as text: what files hold, and what each report on them is.
 
-use adj_rib::{RouteId, SharedRoute};
+use adj_rib::RouteId;
 use bgp_prefix::{Flat, PrefixMap, Radix};
+use chunked_map::ChunkedMap;
 use command_line::{Asked, read_address, read_words};
 use fixtures::{Dripping, bytes_of};
 use lane_deal::{ByTurns, NoGate, Plan};
 use mrt_body::{ChosenPrefixes, PeerChoice, PrefixChoice, RibRule, Selection, Share, StateRule};
 use mrt_frame::{Counted, ReplayError, Source};
 use mrt_replay::{Summary, run, status};
-use prefix_shelf::Shelf;
 use rib_report::{AddressForm, AddressForms, Layout, Request};
 use std::alloc::Global;
 use std::marker::Sync;
@@ -51,11 +51,7 @@ impl Outcome {
 }
 
 /// Replays the selected units of these readers by turns, into memory.
-fn replay_selected<
-    M: PrefixMap<RouteId, Addr = u32> + Send + Sync + Drop,
-    N: PrefixMap<SharedRoute, Addr = u32> + Drop,
-    R: Source + Send,
->(
+fn replay_selected<M: PrefixMap<RouteId, Addr = u32> + Send + Sync + Drop, R: Source + Send>(
     rt: &(impl Threads + Abort + Sync),
     alloc: Global,
     readers: &mut [R],
@@ -65,7 +61,7 @@ fn replay_selected<
 ) -> Result<Outcome, Fail> {
     assert!(rt; plan.check());
     let mut out = Counted::new(Vec::<u8>::new(alloc));
-    let result = run::<_, M, N, _, _, _, _, _>(
+    let result = run::<_, M, _, _, _, _, _>(
         rt,
         alloc,
         readers,
@@ -82,11 +78,7 @@ fn replay_selected<
 }
 
 /// Replays these readers by turns, into memory.
-pub fn replay_readers<
-    M: PrefixMap<RouteId, Addr = u32> + Send + Sync + Drop,
-    N: PrefixMap<SharedRoute, Addr = u32> + Drop,
-    R: Source + Send,
->(
+pub fn replay_readers<M: PrefixMap<RouteId, Addr = u32> + Send + Sync + Drop, R: Source + Send>(
     rt: &(impl Threads + Abort + Sync),
     alloc: Global,
     readers: &mut [R],
@@ -94,7 +86,7 @@ pub fn replay_readers<
     plan: &Plan,
 ) -> Result<Outcome, Fail> {
     let all = Selection::all(alloc);
-    replay_selected::<M, N, R>(rt, alloc, readers, request, all, plan)
+    replay_selected::<M, R>(rt, alloc, readers, request, all, plan)
 }
 
 /// Returns readers of files in memory.
@@ -107,10 +99,7 @@ fn readers_of(alloc: Global, files: &[Vec<u8>]) -> Result<Vec<Counted<&[u8]>>, F
 }
 
 /// Replays files in memory.
-pub fn replay<
-    M: PrefixMap<RouteId, Addr = u32> + Send + Sync + Drop,
-    N: PrefixMap<SharedRoute, Addr = u32> + Drop,
->(
+pub fn replay<M: PrefixMap<RouteId, Addr = u32> + Send + Sync + Drop>(
     rt: &(impl Threads + Abort + Sync),
     alloc: Global,
     files: &[Vec<u8>],
@@ -118,7 +107,7 @@ pub fn replay<
     plan: &Plan,
 ) -> Result<Outcome, Fail> {
     let mut readers = readers_of(alloc, files)?;
-    replay_readers::<M, N, _>(rt, alloc, readers.as_mut_slice(), request, plan)
+    replay_readers::<M, _>(rt, alloc, readers.as_mut_slice(), request, plan)
 }
 
 /// A row as far as it was read.
@@ -235,10 +224,7 @@ impl<'a> Row<'a> {
     }
 
     /// Replays the row by a plan with these maps, and compares.
-    fn replay<
-        M: PrefixMap<RouteId, Addr = u32> + Send + Sync + Drop,
-        N: PrefixMap<SharedRoute, Addr = u32> + Drop,
-    >(
+    fn replay<M: PrefixMap<RouteId, Addr = u32> + Send + Sync + Drop>(
         &self,
         rt: &(impl Threads + Abort + Sync),
         alloc: Global,
@@ -248,7 +234,7 @@ impl<'a> Row<'a> {
         let mut readers = readers_of(alloc, self.files.as_slice())?;
         let selection = self.selection(alloc)?;
         let readers = readers.as_mut_slice();
-        let outcome = replay_selected::<M, N, _>(rt, alloc, readers, request, selection, plan)?;
+        let outcome = replay_selected::<M, _>(rt, alloc, readers, request, selection, plan)?;
         self.expect(rt, &outcome);
         Ok(outcome)
     }
@@ -266,7 +252,7 @@ impl<'a> Row<'a> {
         }
         let selection = self.selection(alloc)?;
         let readers = readers.as_mut_slice();
-        let outcome = replay_selected::<Shelf<u32, RouteId>, Shelf<u32, SharedRoute>, _>(
+        let outcome = replay_selected::<ChunkedMap<u32, RouteId>, _>(
             rt, alloc, readers, request, selection, &PLAN,
         )?;
         self.expect(rt, &outcome);
@@ -312,11 +298,9 @@ impl<'a> Row<'a> {
                 batch,
                 ..PLAN
             };
-            let radix = self.replay::<Radix<u32, RouteId>, Radix<u32, SharedRoute>>(
-                rt, alloc, request, &plan,
-            )?;
-            self.replay::<Flat<u32, RouteId>, Flat<u32, SharedRoute>>(rt, alloc, request, &plan)?;
-            self.replay::<Shelf<u32, RouteId>, Shelf<u32, SharedRoute>>(rt, alloc, request, &plan)?;
+            let radix = self.replay::<Radix<u32, RouteId>>(rt, alloc, request, &plan)?;
+            self.replay::<Flat<u32, RouteId>>(rt, alloc, request, &plan)?;
+            self.replay::<ChunkedMap<u32, RouteId>>(rt, alloc, request, &plan)?;
             if workers == 2 && ring == 4 {
                 self.expect_rounds(rt, &radix);
             }

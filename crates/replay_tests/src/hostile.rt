@@ -1,7 +1,7 @@
 //! Rows on truncated, malicious and endless input.
 
 use crate::harness::{PLAN, replay, replay_readers, run_rows};
-use adj_rib::{RouteId, SharedRoute};
+use adj_rib::RouteId;
 use bgp_prefix::Radix;
 use fixtures::{Zeros, bytes_of};
 use lane_deal::Plan;
@@ -52,13 +52,7 @@ fn a_front_of_three_records_is_cut_unless_one_ends_there(rt: HostRuntime) -> Res
     assert_eq!(rt; bytes.len(), 193);
     for k in 0..=bytes.len() {
         let front = [Vec::from_slice(alloc, &bytes.as_slice()[..k])?];
-        let outcome = replay::<Radix<u32, RouteId>, Radix<u32, SharedRoute>>(
-            &rt,
-            alloc,
-            &front,
-            &Request::Tables,
-            &PLAN,
-        )?;
+        let outcome = replay::<Radix<u32, RouteId>>(&rt, alloc, &front, &Request::Tables, &PLAN)?;
         let at_an_end = k == 0 || k == 56 || k == 116 || k == 193;
         let rest = if at_an_end { 0 } else { 1 };
         let entry = if k >= 116 { 1 } else { 0 };
@@ -75,9 +69,7 @@ fn each_prefix_of_the_longest_message_is_taken(rt: HostRuntime) -> Result<(), Fa
     bytes.resize(bytes.len().saturating_add(65_492), 0)?;
     let file = [bytes];
     let request = Request::Churn { since: None };
-    let outcome = replay::<Radix<u32, RouteId>, Radix<u32, SharedRoute>>(
-        &rt, alloc, &file, &request, &PLAN,
-    )?;
+    let outcome = replay::<Radix<u32, RouteId>>(&rt, alloc, &file, &request, &PLAN)?;
     let line = b"65000 192.0.2.1|1|0|65491|0|0|0|0|0|1.000000|1.000000\n";
     assert!(rt; outcome.text.as_slice() == line.as_slice());
     Ok(())
@@ -90,7 +82,7 @@ fn endless_zeros_end_at_the_limit_on_records(rt: HostRuntime) -> Result<(), Fail
         max_records: 5,
         ..PLAN
     };
-    let outcome = replay_readers::<Radix<u32, RouteId>, Radix<u32, SharedRoute>, _>(
+    let outcome = replay_readers::<Radix<u32, RouteId>, _>(
         &rt,
         rt.alloc(),
         &mut readers,

@@ -1,10 +1,10 @@
 //! More peers than two threads count at a time.
 
 use crate::harness::{PLAN, replay};
-use adj_rib::{RouteId, SharedRoute};
+use adj_rib::RouteId;
 use bgp_prefix::Memory;
+use chunked_map::ChunkedMap;
 use lane_deal::Plan;
-use prefix_shelf::Shelf;
 use rib_report::Request;
 use std::alloc::Global;
 use std::test::Fail;
@@ -191,9 +191,7 @@ fn each_of_many_peers_counts_once(rt: HostRuntime) -> Result<(), Fail> {
             (Request::Origins, ORIGINS),
             (Request::Seen, SEEN),
         ] {
-            let outcome = replay::<Shelf<u32, RouteId>, Shelf<u32, SharedRoute>>(
-                &rt, alloc, &files, &request, &plan,
-            )?;
+            let outcome = replay::<ChunkedMap<u32, RouteId>>(&rt, alloc, &files, &request, &plan)?;
             assert!(rt;
                 outcome.text.as_slice() == text.as_bytes(),
                 "{workers} workers"

@@ -23,7 +23,7 @@ fn a_run_whose_first_route_is_refused_writes_nothing(rt: HostRuntime) -> Result<
             Request::Match(0x0A00_0001),
             Request::Faults,
         ] {
-            let outcome = replay::<Refusing, Refusing>(&rt, alloc, &files, &request, &plan)?;
+            let outcome = replay::<Refusing>(&rt, alloc, &files, &request, &plan)?;
             assert!(rt;
                 outcome.failed_with(ReplayError::Memory),
                 "{workers} workers"

@@ -35,11 +35,13 @@ join_range : {X : Type 0} (sep : ℕ) (f : X → List ℕ) (xs : List X) (i j k 
 join_range sep f xs i j k ij jk within =
     sym (join_more sep f (between i j xs) (between j k xs) (omega (arith, length-between xs i j within))) ∙ ap (λ l. join_with_byte sep (map f l)) (between_join xs i j k (omega arith) jk)
 
+between_one : {X : Type 0} (xs : List X) (i : ℕ) (d : X) → i < length xs → between i (i + 1) xs ≡ get_or xs i d ∷ []
+between_one xs i d below = between_more xs i i d (omega arith) below ∙ ap (λ l. l ++ get_or xs i d ∷ []) (between_none xs i)
+
 -- the first of a range, and then each of the others behind the byte
 pub join_first : {X : Type 0} (sep : ℕ) (f : X → List ℕ) (xs : List X) (i k : ℕ) (d : X) → i < k → k ≤ length xs → f (get_or xs i d) ++ flat_map (λ y. sep ∷ f y) (between (i + 1) k xs) ≡ join_with_byte sep (map f (between i k xs))
 join_first sep f xs i k d ik within =
-    let one : between i (i + 1) xs ≡ get_or xs i d ∷ [] = between_more xs i i d (omega arith) (omega arith) ∙ ap (λ l. l ++ get_or xs i d ∷ []) (between_none xs i) in
-    ap (λ l. join_with_byte sep (map f l) ++ flat_map (λ y. sep ∷ f y) (between (i + 1) k xs)) (sym one) ∙ join_range sep f xs i (i + 1) k (omega arith) (omega arith) (omega arith)
+    ap (λ l. join_with_byte sep (map f l) ++ flat_map (λ y. sep ∷ f y) (between (i + 1) k xs)) (sym (between_one xs i d (omega arith))) ∙ join_range sep f xs i (i + 1) k (omega arith) (omega arith) (omega arith)
 
 -- the first ones, and then each of the others behind the byte
 pub join_all : {X : Type 0} (sep : ℕ) (f : X → List ℕ) (xs : List X) (j : ℕ) → 0 < j → j ≤ length xs → join_with_byte sep (map f (between 0 j xs)) ++ flat_map (λ y. sep ∷ f y) (between j (length xs) xs) ≡ join_with_byte sep (map f xs)
@@ -72,6 +74,10 @@ pub Adds_item : {X : Type 0} {s t u : TextState} (f : X → List ℕ) (xs : List
 Adds_item f xs i x below at before one =
     let joined = flat_map_more f [] (take i xs) x in
     Adds_as (joined ∙ ap (λ y. flat_map f (take i xs ++ y ∷ [])) at ∙ sym (ap (flat_map f) (take_more xs i x below))) (Adds_trans before one)
+
+-- the piece of one item, as that of a range
+pub Adds_one : {X : Type 0} {s t : TextState} (f : X → List ℕ) (xs : List X) (i : ℕ) (x : X) → i < length xs → x ≡ get_or xs i x → Adds s t (f x) → Adds s t (flat_map f (between i (i + 1) xs))
+Adds_one f xs i x below at one = Adds_as (sym (ap (flat_map f) (between_one xs i x below ∙ ap (λ y. y ∷ []) (sym at)) ∙ append-nil (f x))) one
 
 -- the same of a block, in a loop that begins at a later item
 pub Formats_later_item : {X : Type 0} {a b c : List ℕ} {at mid end m n : ℕ} (f : X → List ℕ) (xs : List X) (from i : ℕ) (x d : X) → from ≤ i → i < length xs → x ≡ get_or xs i d

@@ -171,8 +171,8 @@ impl TextBuffer {
         self.len = format_end(&mut self.bytes, self.len, &self.shorts, forms, route);
     }
 
-    /// Adds a few numbers of a segment, from one to before another: the first behind one byte, and the others each
-    /// behind another.
+    /// Appends `segment[from..to]` in decimal, `before` in front of the first number and `separator` in front of each
+    /// other. They are at most 255, so that one check for room covers them.
     #[inline(always)]
     pub(crate) fn put_some_numbers<W: Sink>(
         &mut self,

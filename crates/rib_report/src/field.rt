@@ -77,24 +77,24 @@ impl<A: Field, B: Field> Field for (A, B) {
     }
 }
 
-/// The last fields of a line, and its end.
+/// Two fields with nothing between them.
 #[derive(Clone, Copy)]
-pub(crate) struct WithNewline<F>(pub(crate) F);
+pub(crate) struct Joined<A, B>(pub(crate) A, pub(crate) B);
 
-impl<F: Field> Field for WithNewline<F> {
-    ghost text_of = { λ e. F.text_of e.0 ++ 10 ∷ [] };
+impl<A: Field, B: Field> Field for Joined<A, B> {
+    ghost text_of = { λ f. A.text_of f.0 ++ B.text_of f.1 };
 
-    ghost longest = { F.longest + 1 };
+    ghost longest = { A.longest + B.longest };
 
     fn longest() -> usize {
-        F::longest().saturating_add(1)
+        A::longest().saturating_add(B::longest())
     }
 
     #[inline(always)]
     #[tactic(auto, using(ip_text::proofs::FormatLaws::Formats_trans))]
     fn format(self, bytes: &mut [u8], at: usize, shorts: &DecimalTable) -> usize {
         let at = self.0.format(bytes, at, shorts);
-        format_byte(bytes, at, b'\n')
+        self.1.format(bytes, at, shorts)
     }
 }
 
@@ -149,27 +149,6 @@ impl Field for u128 {
         }
         let mut digits = Buffer::new();
         format_text(bytes, at, digits.format(self).as_bytes())
-    }
-}
-
-/// A byte and a number.
-#[derive(Clone, Copy)]
-pub(crate) struct Prefixed(pub(crate) u8, pub(crate) u32);
-
-impl Field for Prefixed {
-    ghost text_of = { λ b. b.0 ∷ decimal b.1 };
-
-    ghost longest = { 13 };
-
-    fn longest() -> usize {
-        13
-    }
-
-    #[inline(always)]
-    #[tactic(auto, using(ip_text::proofs::FormatLaws::Formats_trans))]
-    fn format(self, bytes: &mut [u8], at: usize, shorts: &DecimalTable) -> usize {
-        let at = format_byte(bytes, at, self.0);
-        format_number(bytes, at, shorts, self.1)
     }
 }
 
@@ -373,7 +352,7 @@ fn format_identifier(bytes: &mut [u8], at: usize, shorts: &DecimalTable, id: u32
     ensures { Formats bytes.old at bytes.new result 13 (identifier_text id) }
 {
     if id != 0 {
-        Prefixed(b'#', id).format(bytes, at, shorts)
+        Joined(Byte(b'#'), id).format(bytes, at, shorts)
     } else {
         at
     }

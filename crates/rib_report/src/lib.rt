@@ -14,8 +14,8 @@
 //!   buffers that are allocated before the first byte is written. The calling thread starts them all itself, since each
 //!   level of halves would add two wake-ups to a round, and writes the filled buffers in order: only it has the writer.
 //!   A thread stops before a line for which there may be no room; the calling thread makes those that are left. To a
-//!   thread, its buffer is text on its way to a writer that takes nothing (`null_sink.rt`), so all lines are made by the
-//!   same code.
+//!   thread, its buffer is text on its way to a writer that takes nothing (`null_sink.rt`), so all lines are made by
+//!   the same code.
 //! - A line is made of fields (`field.rt`), values whose text has a limited length. A pair of fields is a field, with a
 //!   bar between the two, and so is an `Option`; so consecutive fields are one value, placed after one check for room.
 //!   A column is one more element of that value, and one more in the definition of the line. Each call is given the
@@ -57,7 +57,7 @@ pub use laws::{
     reports_are_of_units, rows_of_shares, seen_counts_peers, visibility_counts_peers,
 };
 pub use peer_tables::{
-    By, Gathered, HistoryRow, Listed, Listing, Seated, Tables, collect, collected_stand_for_units,
+    By, Gathered, HistoryRows, Listed, Listing, Seated, Tables, collect, collected_stand_for_units,
     lanes_make_no_difference, tables_are_of_units,
 };
 pub use reports::churn::{ChurnRow, churn, watched_churn, write_churn};

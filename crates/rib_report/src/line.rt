@@ -1,6 +1,7 @@
 //! What the rows of all reports have in common: a row has a line.
 
-ghost use Rattle.std.specs.Prelude.{ℕ, List};
+ghost use Rattle.std.specs.Prelude.{◌≡◌, ℕ, ◌+◌, ◌<◌, List, length};
+ghost use Rattle.std.specs.List.{between, flat_map};
 ghost use Rattle.rib_report.specs.Texts.{Writes};
 ghost use Rattle.rib_report.specs.Plain.{AddressForms as Forms};
 
@@ -16,9 +17,62 @@ pub(crate) trait Line<F: Unicast> {
 
     /// Prefetches what the row refers to, if it lies elsewhere in memory, by reading a little of it, and returns
     /// about how many bytes that is.
-    fn prefetch(&self) -> usize;
+    fn prefetch(&self) -> usize {
+        0
+    }
 
     /// Adds the line.
     fn put<W: Sink>(&self, text: &mut TextBuffer, out: &mut W, forms: &AddressFormsOf<F>)
         ensures { Writes W.contents W.failure_count out.old text.old out.new text.new (line forms.now self.now) };
+}
+
+/// Rows of a report, in order, which are reached by their numbers.
+pub(crate) trait RowList<F: Unicast>: Copy {
+    ghost Row: { Type 0 };
+
+    ghost rows: { Self → List Row };
+
+    /// The line of a row, including its end, by the forms of addresses.
+    ghost line_of: { Forms → Row → List ℕ };
+
+    /// The number of rows.
+    fn len(self) -> usize
+        ensures { result ≡ length (rows self) };
+
+    /// Prefetches what a row refers to, as `Line::prefetch`.
+    fn prefetch(self, at: usize) -> usize
+        requires { at < length (rows self) };
+
+    /// Adds the line of a row.
+    fn put<W: Sink>(self, at: usize, text: &mut TextBuffer, out: &mut W, forms: &AddressFormsOf<F>)
+        requires { at < length (rows self) }
+        ensures { Writes W.contents W.failure_count out.old text.old out.new text.new
+            (flat_map (line_of forms.now) (between at (at + 1) (rows self))) };
+}
+
+impl<F: Unicast, R: Line<F>> RowList<F> for &[R] {
+    ghost Row = { R };
+
+    ghost rows = { λ rows. rows.now };
+
+    ghost line_of = { R.line };
+
+    fn len(self) -> usize {
+        <[R]>::len(self)
+    }
+
+    fn prefetch(self, at: usize) -> usize {
+        self[at].prefetch()
+    }
+
+    #[tactic(auto, using(crate::proofs::JoinLaws::Adds_one))]
+    fn put<W: Sink>(
+        self,
+        at: usize,
+        text: &mut TextBuffer,
+        out: &mut W,
+        forms: &AddressFormsOf<F>,
+    ) {
+        self[at].put(text, out, forms);
+    }
 }

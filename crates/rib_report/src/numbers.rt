@@ -7,7 +7,7 @@ ghost use Rattle.ip_text.specs.Formats.{Formats};
 ghost use Rattle.rib_report.specs.Fields.{numbers_text};
 
 use crate::buffer::TextBuffer;
-use crate::field::{Field, Prefixed};
+use crate::field::{Byte, Field, Joined};
 use bgp_update::PackedSegment;
 use ip_text::DecimalTable;
 use mrt_frame::Sink;
@@ -32,9 +32,9 @@ pub(crate) fn format_numbers(
     ensures { Formats bytes.old at bytes.new result (13 * (to - from))
         (before ∷ numbers_text separator (between from to segment.now.numbers)) }
 {
-    let mut end = Prefixed(before, segment.number(from)).format(bytes, at, shorts);
+    let mut end = Joined(Byte(before), segment.number(from)).format(bytes, at, shorts);
     for i in from + 1..to {
-        end = Prefixed(separator, segment.number(i)).format(bytes, end, shorts);
+        end = Joined(Byte(separator), segment.number(i)).format(bytes, end, shorts);
     }
     end
 }
@@ -50,7 +50,7 @@ impl TextBuffer {
         };
         self.put(out, *first);
         for number in rest {
-            self.put(out, Prefixed(separator, *number));
+            self.put(out, Joined(Byte(separator), *number));
         }
     }
 

@@ -1,12 +1,12 @@
 //! The lines of rows written to a sink.
 
-ghost use Rattle.std.specs.Prelude.{◌<◌};
+ghost use Rattle.std.specs.Prelude.{◌<◌, ◌≤◌, length};
 ghost use Rattle.std.specs.List.{flat_map};
 ghost use Rattle.rib_report.specs.Texts.{IsOutput};
 
 use crate::buffer::TextBuffer;
 use crate::forms::AddressFormsOf;
-use crate::line::Line;
+use crate::line::RowList;
 use bgp_update::Unicast;
 use mrt_frame::{Failed, ReplayError, Sink};
 
@@ -28,37 +28,36 @@ pub(crate) fn next_rows(bytes: usize) -> usize
     }
 }
 
-/// Prefetches a little of what each row refers to, and returns how many rows to prefetch next.
-fn prefetch_rows<F: Unicast, R: Line<F>>(rows: &[R]) -> usize {
+/// Prefetches a little of what rows refer to, from one to before another, and returns how many rows to prefetch next.
+fn prefetch_rows<F: Unicast, L: RowList<F>>(rows: L, from: usize, to: usize) -> usize
+    requires { to ≤ length (L.rows rows) }
+{
     let mut bytes = 0usize;
-    for row in rows {
-        bytes = bytes.saturating_add(row.prefetch());
+    for at in from..to {
+        bytes = bytes.saturating_add(rows.prefetch(at));
     }
     next_rows(bytes)
 }
 
 /// Writes a line for each row.
-pub(crate) fn write_lines<F: Unicast, W: Sink, R: Line<F>>(
+pub(crate) fn write_lines<F: Unicast, W: Sink, L: RowList<F>>(
     out: &mut W,
     forms: &AddressFormsOf<F>,
-    rows: &[R],
+    rows: L,
 ) -> Result<(), ReplayError>
     ensures { IsOutput (W.contents out.old) (W.failure_count out.old) (W.contents out.new) (W.failure_count out.new)
-        (flat_map (R.line forms.now) rows.now) result }
+        (flat_map (L.line_of forms.now) (L.rows rows)) result }
 {
     let mut text = TextBuffer::new();
-    let mut ahead = rows;
-    let mut near = 0usize;
+    let count = rows.len();
+    let mut ahead = 0;
     let mut next = NEAR_ROWS;
-    for row in rows {
-        if near == 0 {
-            let (block, later) = ahead.split_at(next.min(ahead.len()));
-            near = block.len();
-            next = prefetch_rows::<F, R>(block);
-            ahead = later;
+    for at in 0..count {
+        if at == ahead {
+            ahead = count.min(at.saturating_add(next));
+            next = prefetch_rows::<F, L>(rows, at, ahead);
         }
-        near = near.saturating_sub(1);
-        row.put(&mut text, out, forms);
+        rows.put(at, &mut text, out, forms);
     }
     match text.finish(out) {
         Ok(()) => Ok(()),

@@ -1,2 +1,1 @@
-mod HeaderLaws
 mod ReaderLaws

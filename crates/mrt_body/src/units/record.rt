@@ -1,13 +1,14 @@
 //! What comes of a whole record: an index in force, its unit, its entries or its refusal.
 
-ghost use Rattle.std.specs.Prelude.{◌≡◌, ◌<◌, ◌≤◌, ◌+◌, ◌++◌, ◌∷◌, Bool, [], IfOk, IfErr, OnOk, false, length, option_to_list};
+ghost use Rattle.std.specs.Prelude.{◌≡◌, ◌<◌, ◌≤◌, ◌+◌, ◌++◌, ◌∷◌, Bool, [], IfOk, IfErr, OnOk, false, length};
+ghost use Rattle.mrt_frame.specs.Cuts.{body_limit};
 ghost use Rattle.mrt_body.specs.declared.unit.Found.TheVariants as found_spec;
 ghost use Rattle.mrt_body.specs.Units.{IsSmallUnit, alone, clears_if, found_units, refused_at, selected_units, time_of, units_or_none};
 ghost use Rattle.mrt_body.specs.RibDumps.{dumps_with, heard_of, may_begin};
 ghost use Rattle.mrt_body.specs.Selections.{is_selected};
-ghost use Rattle.mrt_body.specs.ToCome.{TakesRecord, KeepsPlan, as_found, refusals};
+ghost use Rattle.mrt_body.specs.ToCome.{TakesRecord, as_found, refusals};
 ghost use Rattle.mrt_body.specs.declared.body_kind.BodyKind.TheVariants as content_spec;
-ghost use Rattle.mrt_body.specs.declared.standing.Standing.TheVariants as standings;
+ghost use Rattle.mrt_body.specs.Readings.{GivesFew, WantsMemory, StaysHere};
 
 use super::Units;
 use crate::body_kind::BodyKind;
@@ -19,12 +20,11 @@ use crate::rib_reader::Index;
 use crate::rib_rule::RibRule;
 use crate::selection::Selection;
 use crate::session_unit::SessionUnit;
-use crate::standing::Standing;
 use crate::unit::Damage;
 use crate::waiting::Waiting;
 use bgp_prefix::{Memory, Sequence};
 use bgp_update::{AttrError, Unicast};
-use mrt_frame::{Fault, ReplayError};
+use mrt_frame::{Fault, ReadState, ReplayError};
 use std::alloc::Global;
 
 impl<F: Unicast> Units<F> {
@@ -39,14 +39,11 @@ impl<F: Unicast> Units<F> {
     ) -> Result<Option<Damage>, ReplayError>
         requires given { self.old.pending ≡ [] }
         requires counted { self.old.aside < self.old.records }
-        requires small { length body ≤ 16777216 }
+        requires small { length body ≤ body_limit }
         ensures takes { IfOk result (TakesRecord self.old at is_extended content body self.new) }
-        ensures few { IfOk result
-            (λ refused. (length (option_to_list refused) + length self.new.pending) + length self.new.dumps.heard
-            ≤ 131070 + length self.old.dumps.heard) }
-        ensures want { IfErr result (λ e. (e ≡ ReplayError.Memory) × (self.new.standing ≡ standings.Spent)) }
-        ensures here { self.new.file ≡ self.old.file }
-        ensures plan { KeepsPlan self.old self.new }
+        ensures few { IfOk result (GivesFew self.old self.new) }
+        ensures stops { IfErr result (WantsMemory self.new) }
+        ensures stays { StaysHere self.old self.new }
     {
         self.is_known();
         match content {
@@ -101,17 +98,14 @@ impl<F: Unicast> Units<F> {
         requires small { IfOk unit IsSmallUnit }
         ensures found { IfOk result (λ refused. refusals refused ++ as_found self.new.pending
             ≡ found_units self.old.selection at (alone unit)) }
-        ensures few { IfOk result
-            (λ refused. (length (option_to_list refused) + length self.new.pending) + length self.new.dumps.heard
-            ≤ 131070 + length self.old.dumps.heard) }
+        ensures few { IfOk result (GivesFew self.old self.new) }
         ensures same { OnOk result (self.new ≡ record self.old {
           dumps = dumps_with self.old.selection.ribs false self.old.dumps
               (units_or_none (selected_units self.old.selection (alone unit)));
           pending = self.new.pending;
         }) }
-        ensures want { IfErr result (λ e. (e ≡ ReplayError.Memory) × (self.new.standing ≡ standings.Spent)) }
-        ensures here { self.new.file ≡ self.old.file }
-        ensures plan { KeepsPlan self.old self.new }
+        ensures stops { IfErr result (WantsMemory self.new) }
+        ensures stays { StaysHere self.old self.new }
     {
         match unit {
             Ok(unit) => match self.selects(alloc, &unit) {
@@ -125,13 +119,13 @@ impl<F: Unicast> Units<F> {
                             Ok(None)
                         }
                         Err(_) => {
-                            self.standing = Standing::Spent;
+                            self.state = ReadState::Spent;
                             Err(ReplayError::Memory)
                         }
                     }
                 }
                 Err(_) => {
-                    self.standing = Standing::Spent;
+                    self.state = ReadState::Spent;
                     Err(ReplayError::Memory)
                 }
             },
@@ -150,12 +144,9 @@ impl<F: Unicast> Units<F> {
         requires { self.old.pending ≡ [] }
         ensures takes { (extended : Bool) → IfOk result
             (TakesRecord self.old at extended content_spec.IndexTable body.now self.new) }
-        ensures few { IfOk result
-            (λ refused. (length (option_to_list refused) + length self.new.pending) + length self.new.dumps.heard
-            ≤ 131070 + length self.old.dumps.heard) }
-        ensures want { IfErr result (λ e. (e ≡ ReplayError.Memory) × (self.new.standing ≡ standings.Spent)) }
-        ensures here { self.new.file ≡ self.old.file }
-        ensures plan { KeepsPlan self.old self.new }
+        ensures few { IfOk result (GivesFew self.old self.new) }
+        ensures stops { IfErr result (WantsMemory self.new) }
+        ensures stays { StaysHere self.old self.new }
     {
         self.index = None;
         self.dumps.see_index();
@@ -167,7 +158,7 @@ impl<F: Unicast> Units<F> {
             }
             Err(AttrError::Bad(fault)) => Ok(Some(refused(at, fault))),
             Err(AttrError::Memory) => {
-                self.standing = Standing::Spent;
+                self.state = ReadState::Spent;
                 Err(ReplayError::Memory)
             }
         }
@@ -183,15 +174,12 @@ impl<F: Unicast> Units<F> {
         body: Sequence<u8>,
     ) -> Result<Option<Damage>, ReplayError>
         requires given { self.old.pending ≡ [] }
-        requires small { length body ≤ 16777216 }
+        requires small { length body ≤ body_limit }
         ensures takes { (extended : Bool) → IfOk result
             (TakesRecord self.old at extended (content_spec.Rib add_path) body self.new) }
-        ensures few { IfOk result
-            (λ refused. (length (option_to_list refused) + length self.new.pending) + length self.new.dumps.heard
-            ≤ 131070 + length self.old.dumps.heard) }
-        ensures want { IfErr result (λ e. (e ≡ ReplayError.Memory) × (self.new.standing ≡ standings.Spent)) }
-        ensures here { self.new.file ≡ self.old.file }
-        ensures plan { KeepsPlan self.old self.new }
+        ensures few { IfOk result (GivesFew self.old self.new) }
+        ensures stops { IfErr result (WantsMemory self.new) }
+        ensures stays { StaysHere self.old self.new }
     {
         self.is_known();
         let Some(index) = &mut self.index else {
@@ -201,7 +189,7 @@ impl<F: Unicast> Units<F> {
             Ok(()) => {}
             Err(AttrError::Bad(fault)) => return Ok(Some(refused(at, fault))),
             Err(AttrError::Memory) => {
-                self.standing = Standing::Spent;
+                self.state = ReadState::Spent;
                 return Err(ReplayError::Memory);
             }
         }
@@ -223,7 +211,7 @@ impl<F: Unicast> Units<F> {
                 Ok(None)
             }
             Err(_) => {
-                self.standing = Standing::Spent;
+                self.state = ReadState::Spent;
                 Err(ReplayError::Memory)
             }
         }

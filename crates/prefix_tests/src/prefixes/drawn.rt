@@ -2,7 +2,7 @@
 
 use super::keys::{Tried, entries, paths, prefix};
 use bgp_prefix::*;
-use prefix_shelf::Shelf;
+use chunked_map::ChunkedMap;
 use std::alloc::Global;
 use std::process::Abort;
 use std::test::Fail;
@@ -154,7 +154,7 @@ fn expect_answers<F: Tried, M: PrefixMap<u32, Addr = F>>(
 struct Maps<F: Tried> {
     flat: Flat<F, u32>,
     radix: Radix<F, u32>,
-    shelf: Shelf<F, u32>,
+    shelf: ChunkedMap<F, u32>,
     plain: Plain<F>,
 }
 

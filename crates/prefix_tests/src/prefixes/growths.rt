@@ -3,7 +3,7 @@
 
 use super::keys::{Tried, key_at};
 use bgp_prefix::*;
-use prefix_shelf::Shelf;
+use chunked_map::ChunkedMap;
 use std::alloc::Global;
 use std::process::Abort;
 use std::test::Fail;
@@ -88,7 +88,7 @@ fn a_refused_growth_leaves_the_radix_map(rt: HostRuntime) -> Result<(), Fail> {
 
 #[test]
 fn a_refused_growth_leaves_the_shelf(rt: HostRuntime) -> Result<(), Fail> {
-    grow::<u32, Shelf<u32, usize>>(&rt, rt.alloc(), 0)
+    grow::<u32, ChunkedMap<u32, usize>>(&rt, rt.alloc(), 0)
 }
 
 #[test]
@@ -103,5 +103,5 @@ fn a_refused_growth_leaves_the_radix_map_of_ipv6(rt: HostRuntime) -> Result<(), 
 
 #[test]
 fn a_refused_growth_leaves_the_shelf_of_ipv6(rt: HostRuntime) -> Result<(), Fail> {
-    grow::<Ipv6, Shelf<Ipv6, usize>>(&rt, rt.alloc(), 56)
+    grow::<Ipv6, ChunkedMap<Ipv6, usize>>(&rt, rt.alloc(), 56)
 }

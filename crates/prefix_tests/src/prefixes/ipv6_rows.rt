@@ -3,7 +3,7 @@
 
 use super::keys::prefix;
 use bgp_prefix::{Family, Flat, Ipv6, Prefix, PrefixMap, Radix, RouteKey, shared_len};
-use prefix_shelf::Shelf;
+use chunked_map::ChunkedMap;
 use std::alloc::Global;
 use std::process::Abort;
 
@@ -251,5 +251,5 @@ fn calls_of<M: PrefixMap<u32, Addr = Ipv6> + Drop>(rt: &impl Abort, alloc: Globa
 fn each_map_matches_in_both_halves_of_an_address(rt: HostRuntime) {
     calls_of::<Flat<Ipv6, u32>>(&rt, rt.alloc());
     calls_of::<Radix<Ipv6, u32>>(&rt, rt.alloc());
-    calls_of::<Shelf<Ipv6, u32>>(&rt, rt.alloc());
+    calls_of::<ChunkedMap<Ipv6, u32>>(&rt, rt.alloc());
 }

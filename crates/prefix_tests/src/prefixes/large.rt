@@ -2,7 +2,7 @@
 
 use super::keys::{Tried, key_at, number_at};
 use bgp_prefix::*;
-use prefix_shelf::Shelf;
+use chunked_map::ChunkedMap;
 use std::alloc::Global;
 use std::process::Abort;
 use std::test::Fail;
@@ -87,7 +87,7 @@ fn a_large_radix_map_fills_and_empties(rt: HostRuntime) -> Result<(), Fail> {
 
 #[test]
 fn a_large_shelf_fills_and_empties(rt: HostRuntime) -> Result<(), Fail> {
-    fill_and_empty::<u32, Shelf<u32, u32>>(&rt, rt.alloc(), 0)
+    fill_and_empty::<u32, ChunkedMap<u32, u32>>(&rt, rt.alloc(), 0)
 }
 
 /// After 48 bits the keys differ on both sides of the place where the address's halves meet.
@@ -98,5 +98,5 @@ fn a_large_radix_map_of_ipv6_fills_and_empties(rt: HostRuntime) -> Result<(), Fa
 
 #[test]
 fn a_large_shelf_of_ipv6_fills_and_empties(rt: HostRuntime) -> Result<(), Fail> {
-    fill_and_empty::<Ipv6, Shelf<Ipv6, u32>>(&rt, rt.alloc(), 48)
+    fill_and_empty::<Ipv6, ChunkedMap<Ipv6, u32>>(&rt, rt.alloc(), 48)
 }

@@ -3,7 +3,7 @@
 
 use super::keys::{Tried, number_at, prefix};
 use bgp_prefix::{Flat, Ipv6, Prefix, PrefixMap, Radix, RouteKey};
-use prefix_shelf::Shelf;
+use chunked_map::ChunkedMap;
 use std::alloc::Global;
 use std::process::Abort;
 
@@ -167,7 +167,7 @@ fn calls_of<F: Tried, M: PrefixMap<u32, Addr = F> + Drop>(rt: &impl Abort, alloc
 fn calls_of_each<F: Tried>(rt: &impl Abort, alloc: Global) {
     calls_of::<F, Flat<F, u32>>(rt, alloc);
     calls_of::<F, Radix<F, u32>>(rt, alloc);
-    calls_of::<F, Shelf<F, u32>>(rt, alloc);
+    calls_of::<F, ChunkedMap<F, u32>>(rt, alloc);
 }
 
 #[test]
@@ -225,7 +225,7 @@ fn expect_nested<F: Tried>(rt: &impl Abort, alloc: Global, width: u8) {
     expect_steps::<F>(rt, alloc, width);
     expect_shorter::<F, Flat<F, u32>>(rt, alloc, width);
     expect_shorter::<F, Radix<F, u32>>(rt, alloc, width);
-    expect_shorter::<F, Shelf<F, u32>>(rt, alloc, width);
+    expect_shorter::<F, ChunkedMap<F, u32>>(rt, alloc, width);
 }
 
 #[test]

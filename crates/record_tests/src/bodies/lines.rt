@@ -106,8 +106,8 @@ fn push_next<R: Source>(
     }
 }
 
-/// Adds the line of what is lent next, or of a record that is refused, and answers whether more can come.
-fn push_lent_next<R: Source>(
+/// Adds the line of the unit that comes next, or of a record that is refused, and answers whether more can come.
+fn push_peeked_next<R: Source>(
     rt: &impl Abort,
     alloc: Global,
     text: &mut String,
@@ -121,12 +121,12 @@ fn push_lent_next<R: Source>(
             true
         }
         Ok(None) => {
-            let Some(lent) = units.lend() else {
+            let Some(peeked) = units.peek() else {
                 return false;
             };
-            let unit = lent.unit.to_unit(alloc).expect(rt, "memory for a unit");
+            let unit = peeked.unit.to_unit(alloc).expect(rt, "memory for a unit");
             push_unit(rt, text, &unit);
-            units.pass();
+            units.consume();
             true
         }
         Err(error) => {
@@ -163,8 +163,8 @@ pub fn push_found<R: Source>(
     push_counts(rt, text, &units);
 }
 
-/// Adds the same of units that are lent.
-pub fn push_lent<R: Source>(
+/// Adds the same of units that are looked at and then consumed.
+pub fn push_peeked<R: Source>(
     rt: &impl Abort,
     alloc: Global,
     text: &mut String,
@@ -175,7 +175,7 @@ pub fn push_lent<R: Source>(
     assert!(rt; 0 < most && most <= 1 << 47);
     let mut units = Units::new(alloc, files.len(), most, selection);
     for _ in 0..1000u16 {
-        if !push_lent_next(rt, alloc, text, &mut units, files) {
+        if !push_peeked_next(rt, alloc, text, &mut units, files) {
             break;
         }
     }

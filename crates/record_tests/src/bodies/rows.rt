@@ -1,6 +1,6 @@
 //! Rows that stand as text: what files hold, and what they give.
 
-use super::lines::{push_found, push_lent};
+use super::lines::{push_found, push_peeked};
 use bgp_prefix::Prefix;
 use fixtures::bytes_of;
 use mrt_body::{
@@ -88,7 +88,7 @@ impl<'a> Row<'a> {
         assert!(rt; same, "{name} gave\n{text}");
     }
 
-    /// Reads the files twice: units are returned, and units are lent.
+    /// Reads the files twice: units are returned, and units are looked at before they are consumed.
     fn check(&self, rt: &impl Abort, alloc: Global) {
         let mut readers = readers_of(rt, alloc, self.files.as_slice());
         let mut text = String::new(alloc);
@@ -103,17 +103,17 @@ impl<'a> Row<'a> {
         );
         self.expect(rt, text.as_str());
         let mut again = readers_of(rt, alloc, self.files.as_slice());
-        let mut lent = String::new(alloc);
+        let mut peeked = String::new(alloc);
         let selection = self.selection(rt, alloc);
-        push_lent(
+        push_peeked(
             rt,
             alloc,
-            &mut lent,
+            &mut peeked,
             again.as_mut_slice(),
             self.most,
             selection,
         );
-        self.expect(rt, lent.as_str());
+        self.expect(rt, peeked.as_str());
     }
 }
 

@@ -7,14 +7,14 @@ ghost use Rattle.peer_tables.specs.Watching.{watch_in};
 ghost use Rattle.rib_report.specs.Reports.{churn_rows, watch_churns};
 ghost use Rattle.rib_report.specs.Fields.{field, time_text};
 ghost use Rattle.rib_report.specs.Lines.{churn_line};
-ghost use Rattle.rib_report.specs.Texts.{IsOutput, Writes};
+ghost use Rattle.rib_report.specs.Texts.{IsOutput};
 
 use crate::buffer::TextBuffer;
-use crate::field::{WithNewline, time_field};
+use crate::field::{Byte, Joined, time_field};
 use crate::forms::{AddressFormsOf, ShownPeer};
 use crate::line::Line;
 use crate::write::write_lines;
-use adj_rib::{Churn, RouteId, SharedRoute};
+use adj_rib::{Churn, RouteId};
 use bgp_prefix::{Memory, PrefixMap};
 use bgp_update::Unicast;
 use mrt_body::PeerKey;
@@ -47,7 +47,7 @@ pub fn churn<F: Unicast, M: PrefixMap<RouteId, Addr = F>>(
 }
 
 /// Returns the churn that each watch counted, in the order of the watches.
-pub fn watched_churn<F: Unicast, M: PrefixMap<SharedRoute, Addr = F>>(
+pub fn watched_churn<F: Unicast, M: PrefixMap<RouteId, Addr = F>>(
     alloc: Global,
     watches: &[Watched<M>],
 ) -> Result<Vec<ChurnRow>, Memory>
@@ -66,13 +66,7 @@ pub fn watched_churn<F: Unicast, M: PrefixMap<SharedRoute, Addr = F>>(
 impl<F: Unicast> Line<F> for ChurnRow {
     ghost line = { churn_line };
 
-    fn prefetch(&self) -> usize {
-        0
-    }
-
-    fn put<W: Sink>(&self, text: &mut TextBuffer, out: &mut W, forms: &AddressFormsOf<F>)
-        ensures { Writes W.contents W.failure_count out.old text.old out.new text.new (churn_line forms.now self.now) }
-    {
+    fn put<W: Sink>(&self, text: &mut TextBuffer, out: &mut W, forms: &AddressFormsOf<F>) {
         let churn = self.churn;
         let times = (time_field(churn.first), time_field(churn.last));
         let refused = (churn.refused as u128, times);
@@ -91,7 +85,7 @@ impl<F: Unicast> Line<F> for ChurnRow {
             key: self.peer,
             forms: *forms,
         };
-        text.put(out, WithNewline((peer, counts)));
+        text.put(out, Joined((peer, counts), Byte(b'\n')));
     }
 }
 

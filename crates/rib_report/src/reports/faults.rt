@@ -8,17 +8,17 @@ ghost use Rattle.peer_tables.specs.Tables.{all_faults};
 ghost use Rattle.rib_report.specs.Reports.{fault_rows};
 ghost use Rattle.rib_report.specs.Fields.{field};
 ghost use Rattle.rib_report.specs.Lines.{fault_line};
-ghost use Rattle.rib_report.specs.Texts.{IsOutput, Writes};
+ghost use Rattle.rib_report.specs.Texts.{IsOutput};
 
 use crate::buffer::TextBuffer;
-use crate::field::entry_field;
+use crate::field::{Byte, Field, Joined, entry_field};
 use crate::forms::{AddressForms, AddressFormsOf};
 use crate::line::Line;
 use crate::write::write_lines;
 use adj_rib::RouteId;
 use bgp_prefix::{Memory, PrefixMap};
 use bgp_update::Unicast;
-use ip_text::AddressForm;
+use ip_text::{AddressForm, DecimalTable, format_text};
 use mrt_body::Damage;
 use mrt_frame::{Fault, ReplayError, Sink};
 use peer_tables::Tables;
@@ -50,46 +50,36 @@ pub fn faults<F: Unicast, M: PrefixMap<RouteId, Addr = F>>(
     Ok(rows)
 }
 
-/// Adds the type of an attribute, in parentheses.
-fn put_attribute_type<W: Sink>(text: &mut TextBuffer, out: &mut W, code: u8)
-    ensures { Writes W.contents W.failure_count out.old text.old out.new text.new
-        (codes "(" ++ decimal code ++ codes ")") }
-{
-    text.put_byte(out, b'(');
-    text.put(out, code as u32);
-    text.put_byte(out, b')');
-}
+/// The name of a fault, with the type of a bad attribute in parentheses.
+impl Field for Fault {
+    ghost text_of = { fault_name };
 
-/// Adds the name of a fault.
-fn put_fault<W: Sink>(text: &mut TextBuffer, out: &mut W, fault: Fault)
-    ensures { Writes W.contents W.failure_count out.old text.old out.new text.new (fault_name fault) }
-{
-    text.put_text(out, fault.name().as_bytes());
-    if let Fault::BadAttribute(code) = fault {
-        put_attribute_type(text, out, code);
+    ghost longest = { 46 };
+
+    fn longest() -> usize {
+        46
+    }
+
+    #[tactic(auto, using(ip_text::proofs::FormatLaws::Formats_trans))]
+    fn format(self, bytes: &mut [u8], at: usize, shorts: &DecimalTable) -> usize {
+        let at = format_text(bytes, at, self.name().as_bytes());
+        if let Fault::BadAttribute(code) = self {
+            return Joined(Byte(b'('), Joined(code as u32, Byte(b')'))).format(bytes, at, shorts);
+        }
+        at
     }
 }
 
 impl<F: Unicast> Line<F> for Damage {
     ghost line = { λ _. fault_line };
 
-    fn prefetch(&self) -> usize {
-        0
-    }
-
-    fn put<W: Sink>(&self, text: &mut TextBuffer, out: &mut W, _forms: &AddressFormsOf<F>)
-        ensures { Writes W.contents W.failure_count out.old text.old out.new text.new (fault_line self.now) }
-    {
+    fn put<W: Sink>(&self, text: &mut TextBuffer, out: &mut W, _forms: &AddressFormsOf<F>) {
         let file = self.place.file as u128 + 1;
         let offset = self.place.offset as u128;
         let number = self.fault.number() as u32;
-        text.put(
-            out,
-            (file, (offset, (entry_field(self.place.entry), number))),
-        );
-        text.put_byte(out, b'|');
-        put_fault(text, out, self.fault);
-        text.put_byte(out, b'\n');
+        let entry = entry_field(self.place.entry);
+        let fields = (file, (offset, (entry, (number, self.fault))));
+        text.put(out, Joined(fields, Byte(b'\n')));
     }
 }
 

@@ -3,19 +3,21 @@
 
 ghost use Rattle.std.specs.Prelude.{◌≡◌, ◌∷◌, ◌++◌, codes};
 ghost use Rattle.std.specs.List.{flat_map};
+ghost use Rattle.peer_tables.specs.Histories.{RowState, row_state};
 ghost use Rattle.rib_report.specs.HistoryLines.{by_text, history_line, what_text};
-ghost use Rattle.rib_report.specs.Texts.{IsOutput, Writes};
+ghost use Rattle.rib_report.specs.Texts.{IsOutput};
 
 use crate::buffer::TextBuffer;
 use crate::field::{Field, Microseconds, ShownKey};
 use crate::forms::{AddressFormsOf, ShownPeer};
-use crate::line::Line;
+use crate::line::{Line, RowList};
 use crate::route_line::put_route;
 use crate::write::write_lines;
 use adj_rib::What;
+use bgp_prefix::Prefix;
 use ip_text::{DecimalTable, WrittenAddress, format_text};
 use mrt_frame::{ReplayError, Sink};
-use peer_tables::{By, HistoryRow};
+use peer_tables::{By, HistoryRow, HistoryRows};
 
 impl Field for What {
     ghost text_of = { what_text };
@@ -56,34 +58,57 @@ impl Field for By {
     }
 }
 
-impl<F: WrittenAddress> Line<F> for HistoryRow<F> {
-    ghost line = { history_line };
+impl<F: WrittenAddress> Line<F> for HistoryRow<'_, Prefix<F>> {
+    ghost line = { λ forms row. history_line forms (row_state row) };
 
     fn prefetch(&self) -> usize {
-        match self.route() {
-            Some(route) => route.route().as_bytes().len(),
+        match &self.route {
+            Some(route) => route.as_bytes().len(),
             None => 0,
         }
     }
 
-    fn put<W: Sink>(&self, text: &mut TextBuffer, out: &mut W, forms: &AddressFormsOf<F>)
-        ensures { Writes W.contents W.failure_count out.old text.old out.new text.new
-            (history_line forms.now self.now) }
-    {
+    fn put<W: Sink>(&self, text: &mut TextBuffer, out: &mut W, forms: &AddressFormsOf<F>) {
         let key = ShownKey {
-            key: self.key(),
+            key: self.key,
             forms: *forms,
         };
-        let event = (self.what(), (self.by(), key));
+        let event = (self.what, (self.by, key));
         let peer = ShownPeer {
-            key: self.peer(),
+            key: self.peer,
             forms: *forms,
         };
-        text.put(out, (Microseconds(self.time()), (peer, event)));
-        match self.route() {
-            Some(route) => put_route(text, out, *forms, &route.route().route_ref()),
+        text.put(out, (Microseconds(self.time), (peer, event)));
+        match &self.route {
+            Some(route) => put_route(text, out, *forms, route),
             None => text.put_text(out, b"|-|-|-|-|-|-|-\n"),
         }
+    }
+}
+
+impl<F: WrittenAddress> RowList<F> for &HistoryRows<F> {
+    ghost Row = { RowState };
+
+    ghost rows = { λ rows. rows.now.listed };
+
+    ghost line_of = { history_line };
+
+    fn len(self) -> usize {
+        HistoryRows::len(self)
+    }
+
+    fn prefetch(self, at: usize) -> usize {
+        self.at(at).prefetch()
+    }
+
+    fn put<W: Sink>(
+        self,
+        at: usize,
+        text: &mut TextBuffer,
+        out: &mut W,
+        forms: &AddressFormsOf<F>,
+    ) {
+        self.at(at).put(text, out, forms);
     }
 }
 
@@ -91,10 +116,10 @@ impl<F: WrittenAddress> Line<F> for HistoryRow<F> {
 pub fn write_history<F: WrittenAddress, W: Sink>(
     out: &mut W,
     forms: AddressFormsOf<F>,
-    rows: &[HistoryRow<F>],
+    rows: &HistoryRows<F>,
 ) -> Result<(), ReplayError>
     ensures { IsOutput (W.contents out.old) (W.failure_count out.old) (W.contents out.new) (W.failure_count out.new)
-        (flat_map (history_line forms) rows.now) result }
+        (flat_map (history_line forms) rows.now.listed) result }
 {
     write_lines(out, &forms, rows)
 }

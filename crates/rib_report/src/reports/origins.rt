@@ -6,7 +6,7 @@ ghost use Rattle.std.specs.List.Sorted.{IsStrictlySortedBy};
 ghost use Rattle.rib_report.specs.Runs.{pair_cmp};
 ghost use Rattle.rib_report.specs.Reports.{route_origin, origin_pair, seat_origins, origins_in_order, has_several, grouped_origins, origin_rows};
 ghost use Rattle.rib_report.specs.Lines.{origin_line};
-ghost use Rattle.rib_report.specs.Texts.{IsOutput, Writes};
+ghost use Rattle.rib_report.specs.Texts.{IsOutput};
 ghost use Rattle.peer_tables.specs.Seats.{seat_of};
 
 use crate::buffer::TextBuffer;
@@ -195,13 +195,7 @@ where
 impl<F: WrittenAddress> Line<F> for OriginRow<Prefix<F>> {
     ghost line = { origin_line };
 
-    fn prefetch(&self) -> usize {
-        0
-    }
-
-    fn put<W: Sink>(&self, text: &mut TextBuffer, out: &mut W, forms: &AddressFormsOf<F>)
-        ensures { Writes W.contents W.failure_count out.old text.old out.new text.new (origin_line forms.now self.now) }
-    {
+    fn put<W: Sink>(&self, text: &mut TextBuffer, out: &mut W, forms: &AddressFormsOf<F>) {
         let prefix = ShownPrefix {
             prefix: self.prefix,
             forms: *forms,

@@ -8,10 +8,10 @@ ghost use Rattle.peer_tables.specs.Seats.{seat_of};
 ghost use Rattle.rib_report.specs.Reports.{peer_row, peer_rows};
 ghost use Rattle.rib_report.specs.Fields.{field, time_text};
 ghost use Rattle.rib_report.specs.Lines.{entry_of, file_of, offset_of, peer_line, state_text};
-ghost use Rattle.rib_report.specs.Texts.{IsOutput, Writes};
+ghost use Rattle.rib_report.specs.Texts.{IsOutput};
 
 use crate::buffer::TextBuffer;
-use crate::field::{SessionUp, WithNewline, entry_field, time_field};
+use crate::field::{Byte, Joined, SessionUp, entry_field, time_field};
 use crate::forms::{AddressFormsOf, ShownPeer};
 use crate::line::Line;
 use crate::write::write_lines;
@@ -105,13 +105,7 @@ fn place_entry_field(place: Option<Place>) -> Option<u32>
 impl<F: Unicast> Line<F> for PeerRow {
     ghost line = { peer_line };
 
-    fn prefetch(&self) -> usize {
-        0
-    }
-
-    fn put<W: Sink>(&self, text: &mut TextBuffer, out: &mut W, forms: &AddressFormsOf<F>)
-        ensures { Writes W.contents W.failure_count out.old text.old out.new text.new (peer_line forms.now self.now) }
-    {
+    fn put<W: Sink>(&self, text: &mut TextBuffer, out: &mut W, forms: &AddressFormsOf<F>) {
         let place = (
             file_field(self.place),
             (offset_field(self.place), place_entry_field(self.place)),
@@ -122,10 +116,8 @@ impl<F: Unicast> Line<F> for PeerRow {
             key: self.peer,
             forms: *forms,
         };
-        text.put(
-            out,
-            WithNewline((peer, (SessionUp(self.is_established), counts))),
-        );
+        let fields = (peer, (SessionUp(self.is_established), counts));
+        text.put(out, Joined(fields, Byte(b'\n')));
     }
 }
 

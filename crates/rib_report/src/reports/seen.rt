@@ -8,11 +8,11 @@ ghost use Rattle.rib_report.specs.Merges.{by_key, counted_both};
 ghost use Rattle.rib_report.specs.Reports.{origin_cmp, prefix_origin_cmp, prefix_origin, seat_prefix_origins, seen_among, seen_rows};
 ghost use Rattle.rib_report.specs.Fields.{field};
 ghost use Rattle.rib_report.specs.Lines.{seen_line};
-ghost use Rattle.rib_report.specs.Texts.{IsOutput, Writes};
+ghost use Rattle.rib_report.specs.Texts.{IsOutput};
 ghost use Rattle.peer_tables.specs.Seats.{seat_of};
 
 use crate::buffer::TextBuffer;
-use crate::field::{ShownPrefix, WithNewline};
+use crate::field::{Byte, Joined, ShownPrefix};
 use crate::forms::AddressFormsOf;
 use crate::line::Line;
 use crate::merge::{Listed, Mergeable, list_peers, list_peers_by_few};
@@ -200,21 +200,13 @@ where
 impl<F: WrittenAddress> Line<F> for SeenRow<Prefix<F>> {
     ghost line = { seen_line };
 
-    fn prefetch(&self) -> usize {
-        0
-    }
-
-    fn put<W: Sink>(&self, text: &mut TextBuffer, out: &mut W, forms: &AddressFormsOf<F>)
-        ensures { Writes W.contents W.failure_count out.old text.old out.new text.new (seen_line forms.now self.now) }
-    {
+    fn put<W: Sink>(&self, text: &mut TextBuffer, out: &mut W, forms: &AddressFormsOf<F>) {
         let prefix = ShownPrefix {
             prefix: self.prefix,
             forms: *forms,
         };
-        text.put(
-            out,
-            WithNewline((prefix, (self.origin, self.peers as u128))),
-        );
+        let fields = (prefix, (self.origin, self.peers as u128));
+        text.put(out, Joined(fields, Byte(b'\n')));
     }
 }
 

@@ -9,10 +9,10 @@ ghost use Rattle.rib_report.specs.Merges.{by_key, counted_both};
 ghost use Rattle.rib_report.specs.Runs.{is_last};
 ghost use Rattle.rib_report.specs.Reports.{visible_among, visibility_rows};
 ghost use Rattle.rib_report.specs.Lines.{visibility_line};
-ghost use Rattle.rib_report.specs.Texts.{IsOutput, Writes};
+ghost use Rattle.rib_report.specs.Texts.{IsOutput};
 
 use crate::buffer::TextBuffer;
-use crate::field::{ShownPrefix, WithNewline};
+use crate::field::{Byte, Joined, ShownPrefix};
 use crate::forms::AddressFormsOf;
 use crate::line::Line;
 use crate::merge::{Listed, Mergeable, list_peers, list_peers_by_few};
@@ -142,19 +142,12 @@ where
 impl<F: WrittenAddress> Line<F> for VisibilityRow<Prefix<F>> {
     ghost line = { visibility_line };
 
-    fn prefetch(&self) -> usize {
-        0
-    }
-
-    fn put<W: Sink>(&self, text: &mut TextBuffer, out: &mut W, forms: &AddressFormsOf<F>)
-        ensures { Writes W.contents W.failure_count out.old text.old out.new text.new
-            (visibility_line forms.now self.now) }
-    {
+    fn put<W: Sink>(&self, text: &mut TextBuffer, out: &mut W, forms: &AddressFormsOf<F>) {
         let prefix = ShownPrefix {
             prefix: self.prefix,
             forms: *forms,
         };
-        text.put(out, WithNewline((prefix, self.peers as u128)));
+        text.put(out, Joined((prefix, self.peers as u128), Byte(b'\n')));
     }
 }
 

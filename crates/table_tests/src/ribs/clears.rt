@@ -1,8 +1,9 @@
 //! Clears by RIB dumps that replace what came before them: they end each route, and nothing else is changed or counted.
 
 use super::units::{take_named, unit_of};
-use adj_rib::{Churn, Note, RouteId, Session, SharedRoute, Watch, What};
-use bgp_prefix::{Flat, PrefixMap, Radix};
+use adj_rib::{Churn, Notes, RouteId, Session, Watch, What};
+use bgp_prefix::{Flat, Memory, Prefix, PrefixMap, Radix, RouteKey};
+use bgp_update::RouteRef;
 use mrt_body::{ChosenPrefixes, DecodedEvents};
 use std::alloc::Global;
 use std::process::Abort;
@@ -110,36 +111,72 @@ fn a_clear_ends_the_routes_of_a_session_and_no_more(rt: HostRuntime) {
     expect_cleared::<Radix<u32, RouteId>>(&rt, rt.alloc());
 }
 
+/// A note: what happened to a key, its prefix, path identifier, and whether a route is told.
+type Noted = (What, Prefix, u32, bool);
+
+/// All that happened, as it is told.
+#[derive(Drop)]
+struct Told {
+    notes: Vec<Noted>,
+}
+
+impl Notes<u32> for Told {
+    ghost Kept = { Unit };
+
+    ghost kept = { λ _. tt };
+
+    ghost keep = { λ k _. k };
+
+    fn keeps(&self) -> bool {
+        true
+    }
+
+    fn note(
+        &mut self,
+        _alloc: Global,
+        what: What,
+        key: &RouteKey,
+        route: &Option<RouteRef<'_>>,
+    ) -> Result<(), Memory> {
+        self.notes
+            .push((what, key.prefix, key.id, route.is_some()))?;
+        Ok(())
+    }
+}
+
 /// Takes the unit of a name, of any prefix and counted from the beginning on. Returns the notes.
-fn watch_named<M: PrefixMap<SharedRoute, Addr = u32>>(
+fn watch_named<M: PrefixMap<RouteId, Addr = u32> + Drop>(
     rt: &impl Abort,
     alloc: Global,
     watch: &mut Watch<M>,
     name: &str,
-) -> Vec<Note> {
+) -> Vec<Noted> {
     let unit = unit_of(alloc, name).expect(rt, name);
     let chosen = ChosenPrefixes::all(alloc);
-    let unit = unit.lend();
+    let unit = unit.as_ref();
     let mut events = DecodedEvents::new(alloc);
     events.push(alloc, &unit.payload).expect(rt, name);
-    let mut notes = Vec::new(alloc);
+    let mut told = Told {
+        notes: Vec::new(alloc),
+    };
     watch
-        .take(alloc, &chosen, None, &unit, &events.at(0), &mut notes)
+        .take(alloc, &chosen, None, &unit, events.at(0), &mut told)
         .expect(rt, name);
-    notes
+    told.notes
 }
 
 /// One note of 10.0.0.0/8 with each of these path identifiers.
-fn expect_notes(rt: &impl Abort, notes: &[Note], what: What, identifiers: &[u32]) {
+fn expect_notes(rt: &impl Abort, notes: &[Noted], what: What, identifiers: &[u32]) {
     assert!(rt; notes.len() == identifiers.len(), "notes of {what:?}");
     for (note, identifier) in notes.iter().zip(identifiers.iter()) {
-        assert!(rt; note.what == what && note.key.id == *identifier, "{what:?}");
-        assert!(rt; note.key.prefix.addr() == 0x0A00_0000 && note.key.prefix.len() == 8);
-        assert!(rt; note.route.is_some(), "the route of {what:?}");
+        let (noted, prefix, id, has_route) = *note;
+        assert!(rt; noted == what && id == *identifier, "{what:?}");
+        assert!(rt; prefix.addr() == 0x0A00_0000 && prefix.len() == 8);
+        assert!(rt; has_route, "the route of {what:?}");
     }
 }
 
-fn expect_watch<M: PrefixMap<SharedRoute, Addr = u32>>(
+fn expect_watch<M: PrefixMap<RouteId, Addr = u32>>(
     rt: &impl Abort,
     watch: &Watch<M>,
     routes: usize,
@@ -151,7 +188,7 @@ fn expect_watch<M: PrefixMap<SharedRoute, Addr = u32>>(
     assert!(rt; watch.is_up() == is_up && watch.faults().is_empty());
 }
 
-fn expect_lost<M: PrefixMap<SharedRoute, Addr = u32> + Drop>(rt: &impl Abort, alloc: Global) {
+fn expect_lost<M: PrefixMap<RouteId, Addr = u32> + Drop>(rt: &impl Abort, alloc: Global) {
     let mut watch = Watch::<M>::new(alloc);
     let none = watch_named(rt, alloc, &mut watch, "clear");
     expect_notes(rt, none.as_slice(), What::Lost, &[]);
@@ -178,6 +215,6 @@ fn expect_lost<M: PrefixMap<SharedRoute, Addr = u32> + Drop>(rt: &impl Abort, al
 
 #[test]
 fn a_watch_notes_each_route_that_a_clear_ends(rt: HostRuntime) {
-    expect_lost::<Flat<u32, SharedRoute>>(&rt, rt.alloc());
-    expect_lost::<Radix<u32, SharedRoute>>(&rt, rt.alloc());
+    expect_lost::<Flat<u32, RouteId>>(&rt, rt.alloc());
+    expect_lost::<Radix<u32, RouteId>>(&rt, rt.alloc());
 }

@@ -5,7 +5,7 @@ use Rattle.bgp_update.specs.declared.route.Route.{Route}
 use Rattle.bgp_update.specs.declared.width.Width.TheVariants.{Four}
 use Rattle.bgp_update.specs.Attributes.{route_from}
 use Rattle.bgp_update.specs.Hops.{by_hop}
-use Rattle.bgp_update.specs.Packing.{fields_bytes, route_by}
+use Rattle.bgp_update.specs.Packing.{route_by}
 use Rattle.bgp_update.specs.Values.{kept_value}
 use Rattle.bgp_update.proofs.PackedReadings.{four_route, widths_without}
 use Rattle.bgp_update.proofs.packing.push_four.Goals as goal
@@ -17,8 +17,8 @@ returns-in_ok-extend_from_slice-in-Some-clause-bytes c =
     let old : List ℕ = c.args.out.now.items in
     let path : Some c.in-Some.path.now ≡ kept_value c.args.first.now AsPath = search rules in
     let there : c.is_some.result ≡ true = search rules in
-    let front = c.in_ok-extend_from_slice.ensures.items ∙ ap (λ (t : List ℕ). old ++ t) (c.as_slice.ensures ∙ c.push_front.ensures.bytes) in
-    four_route (kept_value c.args.first.now) r fields (Some c.in-Some.path.now) c.is_some.result old c.extend_from_slice.new.self.items c.extend_from_slice-in-Some.new.self.items
+    let front = c.in_ok-append_to.ensures ∙ ap (λ (t : List ℕ). old ++ t) c.push_front.ensures.bytes in
+    four_route (kept_value c.args.first.now) r fields (Some c.in-Some.path.now) c.is_some.result old c.append_to.new.out.items c.extend_from_slice.new.self.items
     c.requires refl (c.fields_of.ensures c.args.hop.now) path there front c.in_ok-extend_from_slice-in-Some.ensures.items
 
 pub returns-in_ok-extend_from_slice-in-Some-clause-widths : goal.returns-in_ok-extend_from_slice-in-Some-clause-widths
@@ -32,9 +32,9 @@ returns-in-None-clause-bytes c =
     let old : List ℕ = c.args.out.now.items in
     let path : None ≡ kept_value c.args.first.now AsPath = search rules in
     let none : c.is_some.result ≡ false = search rules in
-    let front = c.in_ok-extend_from_slice.ensures.items ∙ ap (λ (t : List ℕ). old ++ t) (c.as_slice.ensures ∙ c.push_front.ensures.bytes) in
-    four_route (kept_value c.args.first.now) r fields None c.is_some.result old c.extend_from_slice.new.self.items c.extend_from_slice.new.self.items
-    c.requires refl (c.fields_of.ensures c.args.hop.now) path none front (sym (append-nil c.extend_from_slice.new.self.items))
+    let front = c.in_ok-append_to.ensures ∙ ap (λ (t : List ℕ). old ++ t) c.push_front.ensures.bytes in
+    four_route (kept_value c.args.first.now) r fields None c.is_some.result old c.append_to.new.out.items c.append_to.new.out.items
+    c.requires refl (c.fields_of.ensures c.args.hop.now) path none front (sym (append-nil c.append_to.new.out.items))
 
 pub returns-in-None-clause-widths : goal.returns-in-None-clause-widths
 returns-in-None-clause-widths c =

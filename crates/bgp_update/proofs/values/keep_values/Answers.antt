@@ -43,10 +43,8 @@ returns-clause-values g c =
 
 pub returns-clause-spelled : goal.returns-clause-spelled
 returns-clause-spelled g c =
-    let none : length c.loop-rest.rest.now ≡ 0 = grind (arith, nat_tests) in
-    keeps_spelled g.F.Unicast.family c.args.carrier c.args.width c.args.bytes.now c.loop-rest.first (λ i. omega (arith, c.type_inv.bytes i)) (ends g.F.Unicast.family c.args.carrier c.args.width c.loop-rest.first c.args.bytes.now c.loop-rest.rest.now none c.loop-rest.invariant.reads)
+    keeps_spelled g.F.Unicast.family c.args.carrier c.args.width c.args.bytes.now c.loop-rest.first (λ i. omega (arith, c.type_inv.bytes i)) (returns-clause-values g c)
 
 pub returns-clause-writable : goal.returns-clause-writable
 returns-clause-writable g c =
-    let none : length c.loop-rest.rest.now ≡ 0 = grind (arith, nat_tests) in
-    keeps_writable g.F.Unicast.family c.args.carrier c.args.width c.args.bytes.now c.loop-rest.first (λ i. omega (arith, c.type_inv.bytes i)) (ends g.F.Unicast.family c.args.carrier c.args.width c.loop-rest.first c.args.bytes.now c.loop-rest.rest.now none c.loop-rest.invariant.reads)
+    keeps_writable g.F.Unicast.family c.args.carrier c.args.width c.args.bytes.now c.loop-rest.first (λ i. omega (arith, c.type_inv.bytes i)) (returns-clause-values g c)

@@ -1,6 +1,6 @@
 use Rattle.std.proofs.Common.{◌∙◌, refl}
 use Rattle.std.proofs.lemmas.Result.{err_from_is_err_and}
-use Rattle.lane_deal.proofs.Asking.{Listed-none, Listed-more, TakesUnits-refused, AskedInVain-from}
+use Rattle.lane_deal.proofs.Asking.{Listed-none, Listed-more, TakesUnits-one, AskedInVain-from}
 use Rattle.lane_deal.proofs.dealer.list_refusals.Goals as goal
 
 pub loop-damage-init : goal.loop-damage-init
@@ -8,15 +8,17 @@ loop-damage-init g c = record { count = refl; listed = Listed-none _ _ _; sound 
 
 pub loop-damage-preserved : goal.loop-damage-preserved
 loop-damage-preserved g c =
-    let one = TakesUnits-refused _ _ _ _ _ c.in_ok-damage.ensures.found c.in_ok-damage.ensures.units c.in_ok-damage.ensures.plan c.in_ok-damage.ensures.going (λ failed. let clash = (c.in_ok-damage.ensures.again failed).0 in cc) in
+    let gives = c.in_ok-damage.ensures.gives in
+    let plan = c.in_ok-damage.ensures.bounds.plan in
+    let one = TakesUnits-one g.R.Source.remaining g.R.Failures.failure_count _ _ _ _ _ gives plan in
     record {
-      count = c.in_ok-damage.ensures.plan.0 ∙ c.loop-damage.invariant.count;
+      count = plan.0 ∙ c.loop-damage.invariant.count;
       listed = Listed-more _ _ _ _ _ _ _ _ _ _ c.loop-damage.invariant.listed (rw c.in-Some.is at one) c.in_ok-push.ensures.items;
-      sound = c.in_ok-damage.ensures.sound ∙ c.loop-damage.invariant.sound;
+      sound = gives.counted ∙ c.loop-damage.invariant.sound;
     }
 
 -- a read failed
 pub returns-in_err-damage-clause-asked : goal.returns-in_err-damage-clause-asked
 returns-in_err-damage-clause-asked g c =
     let p = err_from_is_err_and c.from_residual.result c.from_residual.ensures.1 in
-    rw (p.1, p.2) (λ file e. AskedInVain-from _ _ _ _ _ _ _ _ file c.loop-damage.invariant.listed (λ going. rw e at (c.in_err-damage.ensures.before going)))
+    rw (p.1, p.2) (λ file e. AskedInVain-from _ _ _ _ _ _ _ _ file c.loop-damage.invariant.listed (λ going. rw e at (c.in_err-damage.ensures.stops.before going)))

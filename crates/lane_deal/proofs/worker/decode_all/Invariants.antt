@@ -1,5 +1,5 @@
 use Rattle.std.proofs.Common.{take}
-use Rattle.lane_deal.specs.DecodedBatches.{AreDecoded}
+use Rattle.lane_deal.specs.DecodedUnitLists.{AreDecoded}
 use Rattle.lane_deal.specs.UnitLists.{units_of}
 use Rattle.lane_deal.proofs.worker.decode_all.Given as goal
 

@@ -1,13 +1,13 @@
 use Rattle.std.proofs.Common.{◌≡◌, true, refl, sym, ◌∙◌}
-use Rattle.lane_deal.specs.declared.state.State.{State}
-use Rattle.lane_deal.specs.declared.state.State.TheVariants.{Running, Ended, Failed, Spent}
+use Rattle.mrt_frame.specs.declared.read_state.ReadState.{ReadState}
+use Rattle.mrt_frame.specs.declared.read_state.ReadState.TheVariants.{Reading, Ended, Failed, Spent}
 use Rattle.lane_deal.specs.Results.{is_spent}
 use Rattle.lane_tests.proofs.playing.may_end.Goals as goal
 
-spent_is : (s : State) → is_spent s ≡ true → s ≡ Spent
-spent_is Running e = absurd cc
+spent_is : (s : ReadState) → is_spent s ≡ true → s ≡ Spent
+spent_is Reading e = absurd cc
 spent_is Ended e = absurd cc
-spent_is (Failed file) e = absurd cc
+spent_is Failed e = absurd cc
 spent_is Spent e = refl
 
 pub returns-then-is_spent : goal.returns-then-is_spent

@@ -12,7 +12,7 @@ loop-watched-preserved g c =
     let watched = c.watched-item.result in
     let before = flat_map (λ w. (watch_in w).watch.table) (take c.loop-watched.watched-index c.args.watches.now) in
     let own = (watch_in watched).watch.table in
-    let size : length own ≡ c.len.result = ap length (sym c.table.ensures) ∙ sym (len-entries (g.M.PrefixMap.contents c.table.result.now)) ∙ sym c.len.ensures in
+    let size : length own ≡ c.len.result = ap length (sym c.table.ensures) ∙ sym (len-entries c.table.result.now) ∙ sym c.len.ensures in
     let more = pieces_more (λ w. (watch_in w).watch.table) c.args.watches.now c.loop-watched.watched-index watched before (before ++ own) c.loop-watched-test.true c.watched-item.is refl refl in
     let counted : min (c.loop-watched.count + c.len.result) (2 ^ 64 - 1) ≡ min (length (before ++ own)) (2 ^ 64 - 1) = omega (arith, c.loop-watched.invariant, length-append before own, size) in
     c.saturating_add-count.ensures ∙ counted ∙ ap (λ l. min (length l) (2 ^ 64 - 1)) more

@@ -29,12 +29,12 @@ returns-in-Err-write_told-clause-promised g c =
     (λ files honest s.
     let p = c.in-Ok.ensures.listed files honest.readers_tell in
     subst (WritesFront (g.W.Sink.contents c.args.writer.now) (g.W.Sink.contents c.write_told.new.out))
-    (history_is_report (request_of g.F.Family.bits c.args.request.now) c.args.layout c.args.listing c.args.selection files told.rows.items told.watches c.requires.history p.rows p.watches) (h.front (ap (λ x. Err x) s))))
+    (history_is_report (request_of g.F.Family.bits c.args.request.now) c.args.layout c.args.listing c.args.selection files told.rows.listed told.watches c.requires.history p.rows p.watches) (h.front (ap (λ x. Err x) s))))
 
 pub returns-then-is_err-clause-promised : goal.returns-then-is_err-clause-promised
 returns-then-is_err-clause-promised g c =
     let told = c.in-Ok.history.told in
-    let wrote = Appends-kept (g.W.Sink.contents c.args.writer.now) (g.W.Sink.contents c.write_told.new.out) (g.W.Sink.contents c.flush_all.new.self) (told_lines c.args.layout c.args.listing.listed told.rows.items told.watches) c.in_default.ensures.ok c.flush_all.ensures.bytes in
+    let wrote = Appends-kept (g.W.Sink.contents c.args.writer.now) (g.W.Sink.contents c.write_told.new.out) (g.W.Sink.contents c.flush_all.new.self) (told_lines c.args.layout c.args.listing.listed told.rows.listed told.watches) c.in_default.ensures.ok c.flush_all.ensures.bytes in
     let run =
     run_on g.R.Source.remaining g.R.Failures.failure_count g.W.Sink.contents g.W.Failures.failure_count g.W.Sink.is_flushed (request_of g.F.Family.bits c.args.request.now) c.args.layout c.args.selection c.args.plan.now
     c.args.files.now c.list_history.new.files c.args.writer.now c.flush_all.new.self (Err errors.Write) in
@@ -43,7 +43,7 @@ returns-then-is_err-clause-promised g c =
       λ files honest.
           let p = c.in-Ok.ensures.listed files honest.readers_tell in
           front_whole _ _ _ (subst (Appends (g.W.Sink.contents c.args.writer.now) (g.W.Sink.contents c.flush_all.new.self))
-          (history_is_report (request_of g.F.Family.bits c.args.request.now) c.args.layout c.args.listing c.args.selection files told.rows.items told.watches c.requires.history p.rows p.watches) wrote),
+          (history_is_report (request_of g.F.Family.bits c.args.request.now) c.args.layout c.args.listing c.args.selection files told.rows.listed told.watches c.requires.history p.rows p.watches) wrote),
     )
 
 pub returns-clause-promised : goal.returns-clause-promised
@@ -55,10 +55,10 @@ returns-clause-promised g c = record {
       let since = c.args.listing.since in
       let watches = map watch_in c.watched-watches.result.now in
       let stands : watches ≡ watches_of since until.prefixes (units_of until files) = c.watched-watches.ensures ∙ p.watches in
-      let wrote = Appends-kept (g.W.Sink.contents c.args.writer.now) (g.W.Sink.contents c.write_told.new.out) (g.W.Sink.contents c.flush_all.new.self) (told_lines c.args.layout c.args.listing.listed told.rows.items told.watches) c.in_default.ensures.ok c.flush_all.ensures.bytes in
+      let wrote = Appends-kept (g.W.Sink.contents c.args.writer.now) (g.W.Sink.contents c.write_told.new.out) (g.W.Sink.contents c.flush_all.new.self) (told_lines c.args.layout c.args.listing.listed told.rows.listed told.watches) c.in_default.ensures.ok c.flush_all.ensures.bytes in
       record {
         written = subst (Appends (g.W.Sink.contents c.args.writer.now) (g.W.Sink.contents c.flush_all.new.self))
-            (history_is_report (request_of g.F.Family.bits c.args.request.now) c.args.layout c.args.listing until files told.rows.items told.watches c.requires.history p.rows p.watches) wrote;
+            (history_is_report (request_of g.F.Family.bits c.args.request.now) c.args.layout c.args.listing until files told.rows.listed told.watches c.requires.history p.rows p.watches) wrote;
         counted = record {
           records = p.records_counted;
           units = p.units_counted;

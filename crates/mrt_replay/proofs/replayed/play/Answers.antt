@@ -43,7 +43,7 @@ returns-then-is_end-clause-played g c =
     let up = c.in-Ok.ensures.forks inv.running in
     let is = c.is_end.ensures.end c.if-is_end.true in
     HasPlayed-from _ _ _ _ _ _ _ _ _ _ _ _ _ _ (rw inv.dealing at c.lanes_are_below.ensures) inv.far c.in-Ok.step p p.takes up c.requires.plan is
-    ((c.in-Ok.ensures.reads inv.running).at_end (ap (λ x. Ok x) is)) (length-map c.round.new.files g.R.Source.remaining ∙ c.round.auto.files ∙ inv.files ∙ sym c.in-Ok.ensures.count)
+    (c.in-Ok.ensures.at_end inv.running (ap (λ x. Ok x) is)) (length-map c.round.new.files g.R.Source.remaining ∙ c.round.auto.files ∙ inv.files ∙ sym c.in-Ok.ensures.count)
 
 pub returns-then-is_end-clause-sound : goal.returns-then-is_end-clause-sound
 returns-then-is_end-clause-sound g c = let inv = c.rounds.invariant in (c.in-Ok.ensures.reads inv.running).sound ∙ inv.counts

@@ -1,5 +1,5 @@
 use Rattle.std.proofs.Common.{◌≡◌, length, map}
-use Rattle.lane_deal.specs.declared.state.State.TheVariants.{Running}
+use Rattle.mrt_frame.specs.declared.read_state.ReadState.TheVariants.{Reading}
 use Rattle.lane_deal.specs.Playing.{shown}
 use Rattle.mrt_replay.proofs.RoundsTaken.{SoFar, left_over}
 use Rattle.mrt_replay.proofs.replayed.play.Given as goal
@@ -7,7 +7,7 @@ use Rattle.mrt_replay.proofs.replayed.play.Given as goal
 abbrev pub invariant-rounds : goal.invariant-rounds
 invariant-rounds g l = record {
   files : length l.files ≡ l.units.count;
-  running : l.replayer.state ≡ Running;
+  running : l.replayer.state ≡ Reading;
   plan : l.replayer.plan ≡ l.initial.replayer.plan;
   dealing : l.replayer.dealer.dealing ≡ l.initial.replayer.dealer.dealing;
   counts : map g.R.Failures.failure_count l.files ≡ map g.R.Failures.failure_count l.initial.files;

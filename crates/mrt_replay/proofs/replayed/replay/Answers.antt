@@ -8,8 +8,8 @@ use Rattle.mrt_body.specs.Units.{units_of, refused_of, unit_of}
 use Rattle.peer_tables.specs.Tables.{chosen_tables}
 use Rattle.lane_deal.specs.Playing.{shown}
 use Rattle.lane_deal.specs.Replayers.{ReplayerStandsFor}
-use Rattle.lane_deal.specs.declared.state.State.{State}
-use Rattle.lane_deal.specs.declared.state.State.TheVariants.{Ended, Spent}
+use Rattle.mrt_frame.specs.declared.read_state.ReadState.{ReadState}
+use Rattle.mrt_frame.specs.declared.read_state.ReadState.TheVariants.{Ended, Spent}
 use Rattle.mrt_replay.specs.Replays.{DealtAll}
 use Rattle.mrt_replay.proofs.FilesTaken.{stops_replay, took_files, few_units_of, units_came, records_taken, aside_taken}
 use Rattle.mrt_replay.proofs.LanesTaken.{all_dealt}
@@ -28,7 +28,7 @@ returns-in-Err-clause-cause g c =
     (length-map c.play.new.files g.R.Failures.failure_count ∙ c.play.auto.files ∙ sym (length-map c.args.files.now g.R.Failures.failure_count)) c.in-Err.ensures.cause
 
 -- a replayer at the end isn't spent
-ended_unspent : (state : State) → state ≡ Ended → state ≢ Spent
+ended_unspent : (state : ReadState) → state ≡ Ended → state ≢ Spent
 ended_unspent state ended spent = cc
 
 pub returns-clause-replayed : goal.returns-clause-replayed
@@ -52,7 +52,7 @@ returns-clause-replayed g c contents known =
     let refused = refused_of until contents in
     let new_stands = subst (λ d. ReplayerStandsFor (λ p w. law d.now p w) r.plan.ring [] [] (shown r)) (sym made.plan.1)
     (subst (λ pl. ReplayerStandsFor (λ p w. law c.args.dealing.now p w) pl.ring [] [] (shown r)) (sym made.plan.0) made.stands) in
-    let empty : DealtAll (λ p w. law r.dealer.dealing.now p w) r.plan.ring (shown r) [] [] = record { dealt = []; whole = ap (λ (k : Option ReplayUnit). option_to_list k) (sym made.running.2); stands = new_stands } in
+    let empty : DealtAll (λ p w. law r.dealer.dealing.now p w) r.plan.ring (shown r) [] [] = record { dealt = []; whole = ap (λ (k : Option ReplayUnit). option_to_list k) (sym made.reading.2); stands = new_stands } in
     let took = took_files start _ max until c.new-units.ensures.fresh contents told known (DealtAll (λ p w. law r.dealer.dealing.now p w) r.plan.ring) c.play.new.units (shown r) (shown s) played.taken empty all in
     let few = few_units_of start _ max until c.new-units.ensures.fresh contents told known (DealtAll (λ p w. law r.dealer.dealing.now p w) r.plan.ring) c.play.new.units (shown r) (shown s) played.taken empty all c.requires.max_records.1 in
     let came = units_came start _ max until c.new-units.ensures.fresh contents told known (DealtAll (λ p w. law r.dealer.dealing.now p w) r.plan.ring) c.play.new.units (shown r) (shown s) played.taken empty all in
@@ -72,8 +72,8 @@ returns-clause-replayed g c contents known =
       records_counted = c.records.ensures ∙ records_taken start _ max until c.new-units.ensures.fresh contents told known (DealtAll (λ p w. law r.dealer.dealing.now p w) r.plan.ring) c.play.new.units (shown r) (shown s) played.taken empty cuts;
       units_counted = count;
       aside_counted = c.aside.ensures ∙ aside_taken start _ max until c.new-units.ensures.fresh contents told known (DealtAll (λ p w. law r.dealer.dealing.now p w) r.plan.ring) c.play.new.units (shown r) (shown s) played.taken empty cuts;
-      few_rounds = few_in_all c.args.plan.now r.plan r.rounds s.rounds c.rounds-rounds.result (length (filter_map unit_of played.taken.items)) c.dealt-dealt.result made.plan.0 made.running.1 (played.few made.settled made.running.2) at_most (ap length came ∙ sym count);
-      two_rounds = two_in_all r.rounds s.rounds c.rounds-rounds.result played.played made.running.1 played.some played.counted up;
-      enough_rounds = enough_in_all c.args.plan.now r.plan r.rounds s.rounds c.rounds-rounds.result played.played (length (filter_map unit_of played.taken.items)) c.dealt-dealt.result c.requires made.plan.0 made.running.1 played.counted up
-          (played.batches made.running.2) (ap length came ∙ sym count) (omega (arith, count, few));
+      few_rounds = few_in_all c.args.plan.now r.plan r.rounds s.rounds c.rounds-rounds.result (length (filter_map unit_of played.taken.items)) c.dealt-dealt.result made.plan.0 made.reading.1 (played.few made.settled made.reading.2) at_most (ap length came ∙ sym count);
+      two_rounds = two_in_all r.rounds s.rounds c.rounds-rounds.result played.played made.reading.1 played.some played.counted up;
+      enough_rounds = enough_in_all c.args.plan.now r.plan r.rounds s.rounds c.rounds-rounds.result played.played (length (filter_map unit_of played.taken.items)) c.dealt-dealt.result c.requires made.plan.0 made.reading.1 played.counted up
+          (played.batches made.reading.2) (ap length came ∙ sym count) (omega (arith, count, few));
     }

@@ -1,5 +1,5 @@
 use Rattle.std.proofs.Common.{◌≡◌, length, map}
-use Rattle.mrt_body.specs.declared.standing.Standing.TheVariants.{Going}
+use Rattle.mrt_frame.specs.declared.read_state.ReadState.TheVariants.{Reading}
 use Rattle.mrt_body.specs.ToCome.{KeepsPlan, answers_left}
 use Rattle.mrt_replay.specs.Replays.{HasTaken}
 use Rattle.mrt_replay.specs.Tellings.{Tells}
@@ -8,7 +8,7 @@ use Rattle.mrt_replay.proofs.told.tell.Given as goal
 abbrev pub invariant-files : goal.invariant-files
 invariant-files g l = record {
   files : length l.files ≡ l.units.count;
-  going : l.units.standing ≡ Going;
+  reading : l.units.state ≡ Reading;
   plan : KeepsPlan l.initial.units l.units;
   counts : map g.R.Failures.failure_count l.files ≡ map g.R.Failures.failure_count l.initial.files;
   far : HasTaken (Tells l.chosen l.listing) l.initial.units l.units (map g.R.Source.remaining l.initial.files) (map g.R.Source.remaining l.files) l.initial.told l.told;

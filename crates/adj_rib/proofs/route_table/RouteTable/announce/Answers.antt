@@ -1,6 +1,6 @@
 use Rattle.std.proofs.Common.{◌≡◌, ◌∙◌}
 use Rattle.adj_rib.specs.Steps.{announce}
-use Rattle.adj_rib.specs.Applied.{applied}
+use Rattle.adj_rib.specs.Noting.{applied_noting}
 use Rattle.adj_rib.specs.Routes.{named_routes, route_at}
 use Rattle.adj_rib.proofs.NamedRoutes.{AreNamed-grown, stays}
 use Rattle.adj_rib.proofs.route_table.RouteTable.announce.Goals as goal
@@ -16,4 +16,4 @@ returns g c =
     let before : named_routes c.intern.new.self (g.M.PrefixMap.contents c.self.inside.map) ≡ c.args.self.now =
     stays c.self.inside.routes c.intern.new.self (g.M.PrefixMap.contents c.self.inside.map) c.args.self.now c.intern.ensures.grows c.self.invariant c.self.view_is in
     let route : route_at c.intern.new.self c.in_ok-id.id.at ≡ c.args.hashed.now.route = c.in_ok-id.ensures.names.is in
-    c.in_ok-put_route.ensures.ok ∙ (λ i. applied (before i, c.args.churn.now) (announce c.args.key (route i)))
+    c.in_ok-put_route.ensures.ok ∙ (λ i. applied_noting g.N.Notes.keep ((before i, c.args.churn.now), g.N.Notes.kept c.args.notes.now) (announce c.args.key (route i)))

@@ -1,6 +1,7 @@
-use Rattle.std.proofs.Common.{◌∙◌}
+use Rattle.std.proofs.Common.{◌∙◌, ap}
+use Rattle.adj_rib.specs.Applied.{RibState}
 use Rattle.adj_rib.proofs.WatchLaws.{seen_as, watch_at_start}
 use Rattle.adj_rib.proofs.watch.Watch.new.Goals as goal
 
 pub returns : goal.returns
-returns g c = λ since choices. (λ i. seen_as (c.new-2.ensures i) (c.new.ensures i)) ∙ watch_at_start since choices
+returns g c = λ since choices. ap (λ (k : RibState). seen_as k) c.new.ensures ∙ watch_at_start since choices

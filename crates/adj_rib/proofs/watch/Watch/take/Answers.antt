@@ -1,9 +1,15 @@
-use Rattle.std.proofs.Common.{◌∙◌}
-use Rattle.adj_rib.proofs.WatchLaws.{watch_stands, watch_notes}
+use Rattle.std.proofs.Common.{◌∙◌, ap, refl, sym}
+use Rattle.adj_rib.specs.Applied.{RibState}
+use Rattle.adj_rib.proofs.WatchLaws.{seen_as, watch_notes, watch_stands}
 use Rattle.adj_rib.proofs.watch.Watch.take.Goals as goal
 
 pub returns-clause-stands : goal.returns-clause-stands
-returns-clause-stands g c = λ before h. watch_stands c.args.since c.args.chosen.now before c.args.unit.now _ _ _ _ _ c.clear.ensures.items (rw c.requires at c.in_ok-kind.ensures.watched) (c.self.view_is ∙ h) _ _ _ (rw c.requires at c.in_ok-kind.ensures.kind) c.as_slice.ensures.value c.count_within.ensures
+returns-clause-stands g c = λ before h.
+    let taken = c.in_ok-take.ensures c.args.unit.now (record { place_is = refl; time_is = refl; event_is = sym c.requires }) in
+    ap (λ (k : RibState). seen_as k) c.count_within.ensures
+    ∙ watch_stands c.args.since c.args.chosen.now g.N.Notes.keep before c.args.unit.now _ _ _ _ taken (c.self.view_is ∙ h)
 
 pub returns-clause-notes : goal.returns-clause-notes
-returns-clause-notes g c = λ before h. watch_notes c.args.since c.args.chosen.now before c.args.unit.now _ _ _ _ _ c.clear.ensures.items (rw c.requires at c.in_ok-kind.ensures.watched) (c.self.view_is ∙ h)
+returns-clause-notes g c = λ before h.
+    let taken = c.in_ok-take.ensures c.args.unit.now (record { place_is = refl; time_is = refl; event_is = sym c.requires }) in
+    watch_notes c.args.since c.args.chosen.now g.N.Notes.keep before c.args.unit.now _ _ _ _ taken (c.self.view_is ∙ h)

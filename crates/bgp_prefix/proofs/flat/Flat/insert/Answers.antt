@@ -1,20 +1,16 @@
-use Rattle.std.proofs.Common.{◌≡◌, ◌≤◌, ℕ, List, Some, set, sym, ap, ◌∙◌, subst, T}
+use Rattle.std.proofs.Common.{◌≡◌, ◌≤◌, List, Some, set, sym, ap, ◌∙◌, subst, T}
 use Rattle.std.specs.List.{All}
 use Rattle.std.specs.FinMap.{put}
 use Rattle.bgp_prefix.specs.Prefixes.{IsIpPrefix}
-use Rattle.bgp_prefix.specs.Keys.{key_cmp}
+use Rattle.bgp_prefix.specs.Keys.{key_cmp, RouteKey}
 use Rattle.std.specs.FinMap.Entries.{is_sorted, is_sorted-put}
-use Rattle.bgp_prefix.specs.Keys.{RouteKey}
 use Rattle.bgp_prefix.proofs.KeyLaws.{key_cmp_total}
 use Rattle.bgp_prefix.proofs.SearchLaws.{at_find, at_put, gap_put, gap_absent}
 use Rattle.bgp_prefix.proofs.SortedMaps.{of_put}
 use Rattle.bgp_prefix.proofs.flat.Flat.insert.Goals as goal
 
-known_after : {V : Type 0} (new old : List (RouteKey × V)) (key : RouteKey) (value : V) → new ≡ put key_cmp key value old → IsIpPrefix key.prefix → All (λ e. IsIpPrefix e.0.prefix) old → All (λ e. IsIpPrefix e.0.prefix) new
-known_after new old key value is one all = subst (λ (es : List (RouteKey × _)). All (λ e. IsIpPrefix e.0.prefix) es) (sym is) (of_put (λ k. IsIpPrefix k.prefix) key value old one all)
-
-short_after : {V : Type 0} (w : ℕ) (new old : List (RouteKey × V)) (key : RouteKey) (value : V) → new ≡ put key_cmp key value old → key.prefix.len ≤ w → All (λ e. e.0.prefix.len ≤ w) old → All (λ e. e.0.prefix.len ≤ w) new
-short_after w new old key value is one all = subst (λ (es : List (RouteKey × _)). All (λ e. e.0.prefix.len ≤ w) es) (sym is) (of_put (λ k. k.prefix.len ≤ w) key value old one all)
+after_put : {V : Type 0} (P : RouteKey → Type 0) (new old : List (RouteKey × V)) (key : RouteKey) (value : V) → new ≡ put key_cmp key value old → P key → All (λ e. P e.0) old → All (λ e. P e.0) new
+after_put P new old key value is one all = rw is (of_put P key value old one all)
 
 pub returns-in-Ok-clause-before : goal.returns-in-Ok-clause-before
 returns-in-Ok-clause-before g c =
@@ -33,8 +29,8 @@ returns-in-Ok-clause-sorted g c =
 pub invariant_of-self : goal.invariant_of-self
 invariant_of-self g c = record {
   sorted = returns-in-Ok-clause-sorted g c;
-  known = known_after _ c.args.self.now c.args.key c.args.value (returns-in-Ok-clause-ok g c) c.len.ensures.known (rw c.self.view_is at c.self.invariant.known);
-  short = short_after g.F.Family.WIDTH _ c.args.self.now c.args.key c.args.value (returns-in-Ok-clause-ok g c) (rw c.len.ensures.len at c.len.ensures.short) (rw c.self.view_is at c.self.invariant.short);
+  known = after_put (λ k. IsIpPrefix k.prefix) _ c.args.self.now c.args.key c.args.value (returns-in-Ok-clause-ok g c) c.len.ensures.known (rw c.self.view_is at c.self.invariant.known);
+  short = after_put (λ k. k.prefix.len ≤ g.F.Family.WIDTH) _ c.args.self.now c.args.key c.args.value (returns-in-Ok-clause-ok g c) (rw c.len.ensures.len at c.len.ensures.short) (rw c.self.view_is at c.self.invariant.short);
 }
 
 pub returns-in_ok-insert-in-Err-clause-before : goal.returns-in_ok-insert-in-Err-clause-before
@@ -51,8 +47,8 @@ returns-in_ok-insert-in-Err-clause-sorted g c =
 pub invariant_of-self-in-Err : goal.invariant_of-self-in-Err
 invariant_of-self-in-Err g c = record {
   sorted = returns-in_ok-insert-in-Err-clause-sorted g c;
-  known = known_after _ c.args.self.now c.args.key c.args.value (returns-in_ok-insert-in-Err-clause-ok g c) c.len.ensures.known (rw c.self.view_is at c.self.invariant.known);
-  short = short_after g.F.Family.WIDTH _ c.args.self.now c.args.key c.args.value (returns-in_ok-insert-in-Err-clause-ok g c) (rw c.len.ensures.len at c.len.ensures.short) (rw c.self.view_is at c.self.invariant.short);
+  known = after_put (λ k. IsIpPrefix k.prefix) _ c.args.self.now c.args.key c.args.value (returns-in_ok-insert-in-Err-clause-ok g c) c.len.ensures.known (rw c.self.view_is at c.self.invariant.known);
+  short = after_put (λ k. k.prefix.len ≤ g.F.Family.WIDTH) _ c.args.self.now c.args.key c.args.value (returns-in_ok-insert-in-Err-clause-ok g c) (rw c.len.ensures.len at c.len.ensures.short) (rw c.self.view_is at c.self.invariant.short);
 }
 
 pub invariant_of-self-in_err-insert-in-Err : goal.invariant_of-self-in_err-insert-in-Err

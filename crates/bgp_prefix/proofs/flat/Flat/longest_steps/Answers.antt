@@ -1,7 +1,8 @@
 use Rattle.std.proofs.Common.{◌≡◌, ◌+◌, ◌-◌, ◌∙◌, ap, sym, subst, arith, ℕ}
 use Rattle.bgp_prefix.specs.Prefixes.{IsIpPrefix, network_of}
 use Rattle.bgp_prefix.proofs.LongestLaws.{longest_found, longest_none}
-use Rattle.bgp_prefix.proofs.WalkLaws.{IsWalk, IsWalk-start, IsWalk-skip, IsWalk-match, IsWalk-miss, keys_of_all}
+use Rattle.bgp_prefix.proofs.WalkLaws.{IsWalk, IsWalk-start, IsWalk-skip, IsWalk-match, IsWalk-miss}
+use Rattle.bgp_prefix.proofs.OrderLaws.{AllKeys-from_all}
 use Rattle.bgp_prefix.proofs.flat.Flat.longest_steps.Goals as goal
 
 pub loop-at-init : goal.loop-at-init
@@ -43,11 +44,11 @@ returns-clause-found g c =
     let walk = c.loop-at.invariant in
     let none : c.loop-at.at ≡ 0 = omega arith in
     let es = c.args.self.now in
-    longest_found (g.F.Family.bits c.args.addr) es walk.sorted (keys_of_all (λ k. IsIpPrefix k.prefix) es walk.known) c.loop-at.longest (rw none at walk.found)
+    longest_found (g.F.Family.bits c.args.addr) es walk.sorted (AllKeys-from_all (λ k. IsIpPrefix k.prefix) es walk.known) c.loop-at.longest (rw none at walk.found)
 
 pub returns-clause-none : goal.returns-clause-none
 returns-clause-none g c =
     let walk = c.loop-at.invariant in
     let none : c.loop-at.at ≡ 0 = omega arith in
     let es = c.args.self.now in
-    longest_none (g.F.Family.bits c.args.addr) es walk.sorted (keys_of_all (λ k. IsIpPrefix k.prefix) es walk.known) c.loop-at.longest (rw none at walk.found)
+    longest_none (g.F.Family.bits c.args.addr) es walk.sorted (AllKeys-from_all (λ k. IsIpPrefix k.prefix) es walk.known) c.loop-at.longest (rw none at walk.found)

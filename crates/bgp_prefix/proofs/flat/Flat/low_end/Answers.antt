@@ -1,4 +1,4 @@
-use Rattle.std.proofs.Common.{rules, ◌∙◌, ◌+◌, ◌*◌}
+use Rattle.std.proofs.Common.{rules, ◌∙◌, ◌+◌}
 use Rattle.std.proofs.lemmas.Fn.{always_returns_same}
 use Rattle.bgp_prefix.specs.Prefixes.{leading_bits}
 use Rattle.bgp_prefix.proofs.SplitLaws.{low_first, low_end_is, is_low, by_bit}

@@ -3,9 +3,8 @@ use Rattle.std.specs.Ordering.{eq_by_cmp}
 use Rattle.std.specs.List.{All}
 use Rattle.std.proofs.lemmas.List.Elements.{All-filter}
 use Rattle.bgp_prefix.specs.Prefixes.{IsIpPrefix}
-use Rattle.bgp_prefix.specs.Keys.{key_cmp}
+use Rattle.bgp_prefix.specs.Keys.{key_cmp, RouteKey}
 use Rattle.std.specs.FinMap.Entries.{is_sorted, is_sorted-where_key}
-use Rattle.bgp_prefix.specs.Keys.{RouteKey}
 use Rattle.bgp_prefix.proofs.KeyLaws.{key_cmp_total}
 use Rattle.bgp_prefix.proofs.SearchLaws.{at_find, at_without, gap_absent}
 use Rattle.bgp_prefix.proofs.flat.Flat.remove.Goals as goal

@@ -1,7 +1,6 @@
 use Rattle.std.proofs.Common.{◌≡◌, ℕ, ◌-◌, ◌<◌, ◌≤◌, get_or, length}
 use Rattle.std.specs.declared.cmp.Ordering.TheVariants.{Less}
-use Rattle.bgp_prefix.specs.Keys.{key_cmp}
-use Rattle.bgp_prefix.specs.Keys.{RouteKey}
+use Rattle.bgp_prefix.specs.Keys.{key_cmp, RouteKey}
 use Rattle.bgp_prefix.proofs.flat.Flat.scan.Given as goal
 
 -- each key so far is below

@@ -1,5 +1,4 @@
-use Rattle.std.proofs.Common.{arith, refl, ◌∙◌, ap, cond, sym, ◌+◌, ◌*◌}
-use Rattle.std.proofs.lemmas.Bool.{lt-ltb}
+use Rattle.std.proofs.Common.{arith, ◌+◌}
 use Rattle.bgp_prefix.proofs.Bits.{first_32, next_bit_of, no_bit}
 use Rattle.bgp_prefix.proofs.v4.U32Family.bit_after.Goals as goal
 

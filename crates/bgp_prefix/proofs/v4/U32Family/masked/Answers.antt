@@ -1,4 +1,4 @@
-use Rattle.std.proofs.Common.{arith, refl, ◌*◌, ◌^◌, ◌<◌}
+use Rattle.std.proofs.Common.{arith, ◌*◌, ◌^◌}
 use Rattle.bgp_prefix.proofs.Bits.{network_32, IsIpPrefix-network}
 use Rattle.bgp_prefix.proofs.v4.U32Family.masked.Goals as goal
 

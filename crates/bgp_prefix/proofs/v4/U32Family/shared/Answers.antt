@@ -1,4 +1,4 @@
-use Rattle.std.proofs.Common.{arith, refl, ◌∙◌, sym, ◌+◌}
+use Rattle.std.proofs.Common.{arith, refl, ◌∙◌, sym}
 use Rattle.bgp_prefix.proofs.Bits.{first_32, share_leading, part_after}
 use Rattle.bgp_prefix.proofs.v4.U32Family.shared.Goals as goal
 

@@ -1,4 +1,4 @@
-use Rattle.std.proofs.Common.{◌≡◌, ◌<◌, ◌^◌, rules, arith}
+use Rattle.std.proofs.Common.{◌≡◌, rules, arith}
 use Rattle.bgp_prefix.specs.Prefixes.{network_of}
 use Rattle.bgp_prefix.proofs.Bits.{IsIpPrefix-network}
 use Rattle.bgp_prefix.proofs.v6.Ipv6Family.masked.Goals as goal

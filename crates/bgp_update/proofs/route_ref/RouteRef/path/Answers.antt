@@ -1,4 +1,4 @@
-use Rattle.std.proofs.Common.{◌≡◌, ◌∙◌, refl, sym, ap, subst, List, ℕ, get_or, Some}
+use Rattle.std.proofs.Common.{◌∙◌, refl, sym, ap, subst, List, ℕ, Some}
 use Rattle.bgp_update.specs.declared.route.Route.{Route}
 use Rattle.bgp_update.specs.Paths.{PathSegment}
 use Rattle.bgp_update.specs.Packing.{IsSpelled, spelled_path}

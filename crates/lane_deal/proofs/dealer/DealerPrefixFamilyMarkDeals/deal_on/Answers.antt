@@ -5,8 +5,8 @@ use Rattle.lane_deal.proofs.dealer.DealerPrefixFamilyMarkDeals.deal_on.Goals as 
 
 pub returns : goal.returns
 returns g c = record {
-  count = c.deal.ensures.count;
   lanes = c.deal.ensures.lanes;
-  reads = record { sound = c.deal.ensures.sound; cause = c.deal.ensures.cause; at_end = c.deal.ensures.at_end };
+  reads = c.deal.ensures.reads;
+  at_end = c.deal.ensures.at_end;
   deals = answered_as c.deal.result _ _ (DealsTo-as _ (Dealt _) _ _ _ _ _ c.args.senders.now.items c.deal.new.to.items _ _ _ _ _ _ _ (λ items p. p)) c.deal.ensures.deals;
 }

@@ -42,7 +42,7 @@ returns-in-Err g c =
     let back = c.in-Err.ensures.back in
     record {
       tables = λ units refused stands. tt;
-      back = (state_back c.args.self.dealer c.args.self.senders.items c.args.self.workers.items c.in-Err.workers.items c.in-Err.refused.items (is_spent c.args.self.state) back.1 back.0, refl, refl, refl, refl);
+      back = (state_back c.args.self.dealer c.args.self.senders.items c.args.self.workers.items c.in-Err.workers.items c.in-Err.refused.items (is_spent c.args.self.state) back.1 back.0, refl, refl, refl, refl, refl);
       memory = λ ne. refl;
       spent = λ e. absurd (c.in_default.not-Spent e);
     }

@@ -1,10 +1,10 @@
 use Rattle.std.proofs.Common.{◌≡◌, ◌≢◌, ◌<◌, ℕ, length, refl, subst, arith}
-use Rattle.lane_deal.specs.declared.state.State.TheVariants.{Spent}
+use Rattle.mrt_frame.specs.declared.read_state.ReadState.TheVariants.{Spent}
 use Rattle.lane_deal.proofs.Plays.{answered, answers_follow, PlaysOn-of, some_after}
 use Rattle.lane_deal.proofs.replayer.Replayer.round.Goals as goal
 
 pub run_round-answer-requires-clause-ready : goal.run_round-answer-requires-clause-ready
-run_round-answer-requires-clause-ready g c κs within = c.args.self.now.ready (λ e. let is = c.in-Running.is in cc)
+run_round-answer-requires-clause-ready g c κs within = c.args.self.now.ready (λ e. let is = c.in-Reading.is in cc)
 
 pub invariant_of-self-2 : goal.invariant_of-self-2
 invariant_of-self-2 g c =
@@ -13,7 +13,7 @@ invariant_of-self-2 g c =
     let lanes : c.len-lanes.result ≡ length c.args.self.now.senders.items = omega arith in
     let below : (n : ℕ) → g.D.Dealing.lane_of c.args.self.now.dealer.dealing n (length c.args.self.now.senders.items) < length c.args.self.now.senders.items =
     λ n. subst (λ m. g.D.Dealing.lane_of c.args.self.now.dealer.dealing n m < m) lanes (c.lanes_are_below.ensures n) in
-    let running : c.args.self.now.state ≢ Spent = λ e. (let is = c.in-Running.is in cc) in
+    let running : c.args.self.now.state ≢ Spent = λ e. (let is = c.in-Reading.is in cc) in
     record {
       lanes = (let same = c.run_round-answer.ensures.lanes in omega (arith, some, same));
       ready = λ ne. (answered _ _ c.state_after-self.ensures ne plays).rounded.ready;
@@ -30,6 +30,6 @@ returns-clause-played g c running =
     λ n. subst (λ m. g.D.Dealing.lane_of c.args.self.now.dealer.dealing n m < m) lanes (c.lanes_are_below.ensures n) in
     answers_follow _ _ c.state_after-self.ensures
     (λ unspent p.
-    PlaysOn-of (g.D.Dealing.lane_of c.args.self.now.dealer.dealing) c.args.self.now.plan _ _ _ _ _ _ _ _ _ _ _ _ _ _ _ _ (c.args.self.now.ready (λ e. let is = c.in-Running.is in cc))
+    PlaysOn-of (g.D.Dealing.lane_of c.args.self.now.dealer.dealing) c.args.self.now.plan _ _ _ _ _ _ _ _ _ _ _ _ _ _ _ _ (c.args.self.now.ready (λ e. let is = c.in-Reading.is in cc))
     below refl refl c.limits-limits.ensures unspent p)
     plays

@@ -3,7 +3,7 @@ use Rattle.std.proofs.lemmas.List.{with_items_is}
 use Rattle.mrt_body.specs.Events.{event_in}
 use Rattle.peer_tables.specs.Seats.{seat_of}
 use Rattle.mrt_body.specs.DecodedEvents.{Means, event_of}
-use Rattle.lane_deal.specs.DecodedBatches.{head_of}
+use Rattle.lane_deal.specs.DecodedUnitLists.{head_of}
 use Rattle.lane_deal.specs.Seating.{AreIndexed, SeatFor}
 use Rattle.lane_deal.proofs.SeatLists.{HoldsUnits-taken}
 use Rattle.lane_deal.proofs.seats.SeatsSessions.take.Goals as goal

@@ -1,5 +1,5 @@
 use Rattle.std.proofs.Common.{List, take}
-use Rattle.lane_deal.specs.DecodedBatches.{AreDecoded}
+use Rattle.lane_deal.specs.DecodedUnitLists.{AreDecoded}
 use Rattle.lane_deal.specs.LaneWorkers.{Takes}
 use Rattle.lane_deal.specs.Plain.{PeerUnit}
 use Rattle.lane_deal.proofs.worker.Worker+S+Prefix+F+FamilyMark+F.take_decoded.Given as goal

@@ -6,17 +6,17 @@ use Rattle.mrt_body.specs.ToCome.{UnitsState}
 use Rattle.mrt_body.proofs.StepLaws.{step_broken, step_records}
 use Rattle.mrt_body.proofs.units.Units.step.Goals as goal
 
-pub returns-in-Some-Broken-clause-steps : goal.returns-in-Some-Broken-clause-steps
-returns-in-Some-Broken-clause-steps g c =
+pub returns-in-Some-Broken-clause-gives : goal.returns-in-Some-Broken-clause-gives
+returns-in-Some-Broken-clause-gives g c =
     rw c.refused.ensures (step_broken c.args.self.now c.cut.new.self (g.R.Source.remaining c.args.reader.now) (g.R.Source.remaining c.cut.new.reader) c.self.inside.file c.in-Some-Broken.offset c.in-Some-Broken.fault c.in_ok-cut.field-0
     (ap (λ (u : UnitsState). u.file) c.self.view_is)
     (c.in-Some-Broken.is ∙ ap (λ (x : Cut). Some x) c.in-Some-Broken.field-0-is)
-    (rw c.reuse_record.ensures at c.in_ok-cut.ensures.cuts))
+    (rw c.reuse_record.ensures at c.in_ok-cut.ensures.gives.cuts))
 
-pub returns-in-Some-Whole-clause-steps : goal.returns-in-Some-Whole-clause-steps
-returns-in-Some-Whole-clause-steps g c =
+pub returns-in-Some-Whole-clause-gives : goal.returns-in-Some-Whole-clause-gives
+returns-in-Some-Whole-clause-gives g c =
     step_records c.args.self.now c.self.inside.file c.in-Some-Whole.record c.cut.new.self c.take.new.self (g.R.Source.remaining c.args.reader.now) (g.R.Source.remaining c.cut.new.reader) c.take.result c.in_ok-cut.field-0
     (ap (λ (u : UnitsState). u.file) c.self.view_is)
     (c.in-Some-Whole.is ∙ ap (λ (x : Cut). Some x) c.in-Some-Whole.field-0-is)
-    (rw c.reuse_record.ensures at c.in_ok-cut.ensures.cuts)
+    (rw c.reuse_record.ensures at c.in_ok-cut.ensures.gives.cuts)
     (rw (c.is_extended.ensures, c.body_kind_of-content.ensures ∙ ap (λ (family : FamilyOf). body_kind_of family c.in-Some-Whole.record.kind c.in-Some-Whole.record.subtype) (sym c.is_known.ensures)) at c.take.ensures.takes)

@@ -14,7 +14,7 @@ returns-in_ok-take_unit-in-Unit g c = λ units refused h.
     let taken = c.in_ok-take_unit-in-Unit.ensures units refused h in
     subst (λ (f : Found). after (units ++ filter_map unit_of (f ∷ [])) (refused ++ filter_map damage_of (f ∷ []))) (sym c.in-Unit.is)
     (subst (λ (r : List Damage). after (units ++ c.in-Unit.unit ∷ []) r) (sym (append-nil refused))
-    (subst (λ (u : ReplayUnit). after (units ++ u ∷ []) refused) c.lend.ensures taken))
+    (subst (λ (u : ReplayUnit). after (units ++ u ∷ []) refused) c.as_ref.ensures taken))
 
 pub returns-in_ok-list_refusal-in-Refused : goal.returns-in_ok-list_refusal-in-Refused
 returns-in_ok-list_refusal-in-Refused g c = λ units refused h.

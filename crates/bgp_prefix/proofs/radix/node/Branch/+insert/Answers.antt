@@ -4,16 +4,15 @@ use Rattle.std.proofs.lemmas.Option.{IfSome_then}
 use Rattle.bgp_prefix.proofs.Outcomes.{ok_then, ok_when}
 use Rattle.bgp_prefix.specs.Keys.{key_cmp}
 use Rattle.bgp_prefix.specs.Tries.{IsTrie, IsInserted}
-use Rattle.bgp_prefix.proofs.TrieLaws.{outside_of_fork, find_here, find_in_low, find_in_high}
+use Rattle.bgp_prefix.proofs.TrieLaws.{find_here, find_in_low, find_in_high}
 use Rattle.bgp_prefix.proofs.InsertLaws.{inserted_in_fork, inserted_low, inserted_high}
+use Rattle.bgp_prefix.proofs.ForkLaws.{found_outside}
 use Rattle.bgp_prefix.proofs.radix.node.Branch.+insert.Goals as goal
 
 pub returns-in-Here-clause-before : goal.returns-in-Here-clause-before
 returns-in-Here-clause-before g t c =
-    let f = c.in-Fork.fork.value in
-    let trie = subst IsTrie c.in-Fork.is c.requires.trie in
-    let direction = rw c.deref.ensures at c.in-Here.ensures in
-    rw (c.in-Fork.is, find_here f trie c.args.key.now direction) (rw c.deref_mut.ensures.value at c.exchange.ensures.before)
+    rw (c.in-Fork.is, find_here c.in-Fork.fork.value (subst IsTrie c.in-Fork.is c.requires.trie) c.args.key.now (rw c.deref.ensures at c.in-Here.ensures))
+    (rw c.deref_mut.ensures.value at c.exchange.ensures.before)
 
 pub returns-in-Here-clause-ok : goal.returns-in-Here-clause-ok
 returns-in-Here-clause-ok g t c =
@@ -27,10 +26,8 @@ returns-in-Here-clause-ok g t c =
 
 pub returns-in-Low-clause-before : goal.returns-in-Low-clause-before
 returns-in-Low-clause-before g t c =
-    let f = c.in-Fork.fork.value in
-    let trie = subst IsTrie c.in-Fork.is c.requires.trie in
-    let direction = rw c.deref.ensures at c.in-Low.ensures in
-    rw (c.in-Fork.is, find_in_low f trie c.args.key.now direction) (rw c.deref_mut-in-Low.ensures.value at c.insert.ensures.before)
+    rw (c.in-Fork.is, find_in_low c.in-Fork.fork.value (subst IsTrie c.in-Fork.is c.requires.trie) c.args.key.now (rw c.deref.ensures at c.in-Low.ensures))
+    (rw c.deref_mut-in-Low.ensures.value at c.insert.ensures.before)
 
 pub returns-in-Low-clause-ok : goal.returns-in-Low-clause-ok
 returns-in-Low-clause-ok g t c =
@@ -44,10 +41,8 @@ returns-in-Low-clause-ok g t c =
 
 pub returns-in-High-clause-before : goal.returns-in-High-clause-before
 returns-in-High-clause-before g t c =
-    let f = c.in-Fork.fork.value in
-    let trie = subst IsTrie c.in-Fork.is c.requires.trie in
-    let direction = rw c.deref.ensures at c.in-High.ensures in
-    rw (c.in-Fork.is, find_in_high f trie c.args.key.now direction) (rw c.deref_mut-in-High.ensures.value at c.insert-in-High.ensures.before)
+    rw (c.in-Fork.is, find_in_high c.in-Fork.fork.value (subst IsTrie c.in-Fork.is c.requires.trie) c.args.key.now (rw c.deref.ensures at c.in-High.ensures))
+    (rw c.deref_mut-in-High.ensures.value at c.insert-in-High.ensures.before)
 
 pub returns-in-High-clause-ok : goal.returns-in-High-clause-ok
 returns-in-High-clause-ok g t c =
@@ -61,6 +56,4 @@ returns-in-High-clause-ok g t c =
 
 pub returns-in-Outside-clause-before : goal.returns-in-Outside-clause-before
 returns-in-Outside-clause-before g t c =
-    let trie = subst IsTrie c.in-Fork.is c.requires.trie in
-    let direction = rw c.deref.ensures at c.in-Outside.ensures in
-    rw c.in-Fork.is (ok_when _ (c.insert_outside.ensures.taken ∙ sym (outside_of_fork c.in-Fork.fork.value trie c.args.key.now direction)))
+    ok_when _ (c.insert_outside.ensures.taken ∙ sym (found_outside _ c.in-Fork.fork c.in-Fork.is c.requires.trie c.args.key.now (rw c.deref.ensures at c.in-Outside.ensures)))

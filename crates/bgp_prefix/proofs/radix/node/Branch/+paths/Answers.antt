@@ -8,24 +8,18 @@ use Rattle.bgp_prefix.proofs.radix.node.Branch.+paths.Goals as goal
 
 pub returns-in-Here : goal.returns-in-Here
 returns-in-Here g t c =
-    let f = c.in-Fork.fork.value in
-    let trie = subst IsTrie c.in-Fork.is c.requires in
-    let direction = rw c.deref.ensures at c.in-Here.ensures in
-    rw (c.in-Fork.is, paths_here c.args.prefix.now f trie direction) (rw c.deref-in-Here.ensures at c.paths-in-Here.ensures.paths)
+    rw (c.in-Fork.is, paths_here c.args.prefix.now c.in-Fork.fork.value (subst IsTrie c.in-Fork.is c.requires) (rw c.deref.ensures at c.in-Here.ensures))
+    (rw c.deref-in-Here.ensures at c.paths-in-Here.ensures.paths)
 
 pub returns-in-Low : goal.returns-in-Low
 returns-in-Low g t c =
-    let f = c.in-Fork.fork.value in
-    let trie = subst IsTrie c.in-Fork.is c.requires in
-    let direction = rw c.deref.ensures at c.in-Low.ensures in
-    rw (c.in-Fork.is, paths_in_low c.args.prefix.now f trie direction) (rw c.deref-in-Low.ensures at c.paths-in-Low.ensures)
+    rw (c.in-Fork.is, paths_in_low c.args.prefix.now c.in-Fork.fork.value (subst IsTrie c.in-Fork.is c.requires) (rw c.deref.ensures at c.in-Low.ensures))
+    (rw c.deref-in-Low.ensures at c.paths-in-Low.ensures)
 
 pub returns-in-High : goal.returns-in-High
 returns-in-High g t c =
-    let f = c.in-Fork.fork.value in
-    let trie = subst IsTrie c.in-Fork.is c.requires in
-    let direction = rw c.deref.ensures at c.in-High.ensures in
-    rw (c.in-Fork.is, paths_in_high c.args.prefix.now f trie direction) (rw c.deref-in-High.ensures at c.paths-in-High.ensures)
+    rw (c.in-Fork.is, paths_in_high c.args.prefix.now c.in-Fork.fork.value (subst IsTrie c.in-Fork.is c.requires) (rw c.deref.ensures at c.in-High.ensures))
+    (rw c.deref-in-High.ensures at c.paths-in-High.ensures)
 
 pub returns-in-Outside : goal.returns-in-Outside
 returns-in-Outside g t c =

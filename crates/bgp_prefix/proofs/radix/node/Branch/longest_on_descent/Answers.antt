@@ -1,23 +1,17 @@
 use Rattle.std.proofs.Common.{◌≡◌, cond, Some, None, sym, ◌∙◌, subst, inl, inr, ◌⊎◌, true}
 use Rattle.std.specs.Option.{option_or}
-use Rattle.bgp_prefix.specs.Prefixes.{leading_bits, contains}
+use Rattle.bgp_prefix.specs.Prefixes.{contains}
 use Rattle.bgp_prefix.specs.Keys.{is_nil, last_match}
-use Rattle.bgp_prefix.specs.Tries.{routes, IsTrie, IsUnder}
+use Rattle.bgp_prefix.specs.Tries.{routes, IsTrie}
 use Rattle.bgp_prefix.specs.declared.radix.node.Branch.{Branch}
-use Rattle.bgp_prefix.specs.declared.radix.node.Branch.TheVariants.{Fork}
-use Rattle.bgp_prefix.proofs.TrieLaws.{starts_itself}
-use Rattle.bgp_prefix.proofs.MatchLaws.{no_match, match_below, match_kept, own_kept, own_none, missed}
+use Rattle.bgp_prefix.proofs.MatchLaws.{match_below, match_kept, own_kept, own_none, missed_fork}
 use Rattle.bgp_prefix.proofs.radix.node.Branch.longest_on_descent.Goals as goal
 use Rattle.bgp_prefix.proofs.radix.node.Branch.longest_on_descent.Goals.{then-not-is_empty+else-not-contains, else-not-is_empty}
 
 pub returns-then-not-contains : goal.returns-then-not-contains
 returns-then-not-contains g c =
-    let f = c.in-Fork.fork.value in
-    let trie = subst IsTrie c.in-Fork.is c.loop-at.invariant.0 in
     let out = rw c.deref-then-not-is_empty.ensures at (sym c.contains.ensures ∙ c.if-not-contains.true) in
-    let under : IsUnder f.prefix.len (leading_bits f.prefix.len f.prefix.addr) (Fork c.in-Fork.fork) = starts_itself f.prefix in
-    let none = no_match (g.F.Family.bits c.args.addr) (Fork c.in-Fork.fork) trie _ _ under (missed (g.F.Family.bits c.args.addr) f.prefix out) in
-    rw none.0 at (rw c.in-Fork.is at c.loop-at.invariant.1)
+    rw (missed_fork (g.F.Family.bits c.args.addr) _ c.in-Fork.fork c.in-Fork.is c.loop-at.invariant.0 out).0 at c.loop-at.invariant.1
 
 pub returns-in_default-branch-in-Fork : goal.returns-in_default-branch-in-Fork
 returns-in_default-branch-in-Fork g c =

@@ -1,15 +1,13 @@
 use Rattle.std.proofs.Common.{◌≡◌, ◌+◌, cond, Some, None, sym, ap, ◌∙◌, subst, arith}
 use Rattle.std.specs.Option.{option_or}
-use Rattle.bgp_prefix.specs.Prefixes.{leading_bits}
 use Rattle.bgp_prefix.specs.Keys.{is_nil, last_match, matching_prefixes}
-use Rattle.bgp_prefix.specs.Tries.{routes, IsTrie, IsUnder}
+use Rattle.bgp_prefix.specs.Tries.{routes, IsTrie}
 use Rattle.bgp_prefix.specs.declared.radix.node.Branch.{Branch}
-use Rattle.bgp_prefix.specs.declared.radix.node.Branch.TheVariants.{Leaf, Fork}
+use Rattle.bgp_prefix.specs.declared.radix.node.Branch.TheVariants.{Leaf}
 use Rattle.bgp_prefix.proofs.KeyLaws.{or_none}
 use Rattle.bgp_prefix.proofs.OrderLaws.{keys_known}
 use Rattle.bgp_prefix.proofs.LongestLaws.{last_is}
-use Rattle.bgp_prefix.proofs.MatchLaws.{no_match, match_child, match_kept, own_kept, own_none, missed, longer, under_none}
-use Rattle.bgp_prefix.proofs.TrieLaws.{starts_itself}
+use Rattle.bgp_prefix.proofs.MatchLaws.{match_child, match_kept, own_kept, own_none, longer, under_none, missed_fork}
 use Rattle.bgp_prefix.proofs.radix.node.Branch.longest_steps.Goals as goal
 use Rattle.bgp_prefix.proofs.radix.node.Branch.longest_steps.Goals.{then-not-is_empty, else-not-is_empty}
 
@@ -33,22 +31,13 @@ returns-in-Leaf-clause-bound g c =
 
 pub returns-then-not-contains-clause-prefix : goal.returns-then-not-contains-clause-prefix
 returns-then-not-contains-clause-prefix g c =
-    let f = c.in-Fork.fork.value in
-    let trie = subst IsTrie c.in-Fork.is c.loop-at.invariant.0 in
     let out = rw c.deref.ensures at (sym c.contains.ensures ∙ c.if-not-contains.true) in
-    let under : IsUnder f.prefix.len (leading_bits f.prefix.len f.prefix.addr) (Fork c.in-Fork.fork) = starts_itself f.prefix in
-    let none = no_match (g.F.Family.bits c.args.addr) (Fork c.in-Fork.fork) trie _ _ under (missed (g.F.Family.bits c.args.addr) f.prefix out) in
-    rw none.0 at (rw c.in-Fork.is at c.loop-at.invariant.1)
+    rw (missed_fork (g.F.Family.bits c.args.addr) _ c.in-Fork.fork c.in-Fork.is c.loop-at.invariant.0 out).0 at c.loop-at.invariant.1
 
 pub returns-then-not-contains-clause-enough : goal.returns-then-not-contains-clause-enough
 returns-then-not-contains-clause-enough g c =
-    let f = c.in-Fork.fork.value in
-    let trie = subst IsTrie c.in-Fork.is c.loop-at.invariant.0 in
     let out = rw c.deref.ensures at (sym c.contains.ensures ∙ c.if-not-contains.true) in
-    let under : IsUnder f.prefix.len (leading_bits f.prefix.len f.prefix.addr) (Fork c.in-Fork.fork) = starts_itself f.prefix in
-    let none = no_match (g.F.Family.bits c.args.addr) (Fork c.in-Fork.fork) trie _ _ under (missed (g.F.Family.bits c.args.addr) f.prefix out) in
-    let few = rw c.in-Fork.is at c.loop-at.invariant.2 in
-    omega (arith, few, none.1)
+    omega (arith, c.loop-at.invariant.2, (missed_fork (g.F.Family.bits c.args.addr) _ c.in-Fork.fork c.in-Fork.is c.loop-at.invariant.0 out).1)
 
 pub loop-at-preserved : goal.loop-at-preserved
 loop-at-preserved g c =

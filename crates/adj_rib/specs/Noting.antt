@@ -1,0 +1,68 @@
+-- What one step, and one unit, does to what a session keeps and to what is kept of the notes on it, where the routes of
+-- some keys alone are kept: the rules one at a time, as the code follows them.
+use Rattle.std.specs.Prelude.{Bool, List, [], ◌∷◌, map, Result, Ok, Err}
+use Rattle.std.specs.List.{fold}
+use Rattle.std.specs.FinMap as finite
+use Rattle.bgp_prefix.specs.Keys.{RouteKey}
+use Rattle.mrt_frame.specs.declared.fault.Fault.{Fault}
+use Rattle.mrt_body.specs.Plain.{Event}
+use Rattle.mrt_body.specs.Plain.{Unit as ReplayUnit}
+use Rattle.mrt_body.specs.declared.unit.Place.{Place}
+use Rattle.adj_rib.specs.declared.churn.Churn.{Churn}
+use Rattle.adj_rib.specs.declared.note.What.{What}
+use Rattle.adj_rib.specs.declared.note.What.TheVariants.{New, Changed, Same, Gone, Void, Lost}
+use Rattle.adj_rib.specs.declared.outcome.Outcome.{Outcome}
+use Rattle.adj_rib.specs.declared.outcome.Outcome.TheVariants as outcome
+use Rattle.adj_rib.specs.Plain.{Note}
+use Rattle.adj_rib.specs.Steps.{Step, break, clear, announce, withdraw, reading_steps}
+use Rattle.adj_rib.specs.Churns.{damage_in, reading_of}
+use Rattle.adj_rib.specs.Applied.{RibState, RouteMap, applied, established_after, listed, noted, refused, timed_by, up_after}
+use Rattle.adj_rib.specs.Selecting.{selected_steps}
+use Rattle.adj_rib.specs.Histories.{announced_note, withdrawn_note, lost_note}
+
+-- what happened to a key by a step with this outcome
+abbrev pub what_of : Outcome → What
+what_of outcome.Added = New
+what_of outcome.Changed = Changed
+what_of outcome.Same = Same
+what_of outcome.Gone = Gone
+what_of outcome.Void = Void
+what_of outcome.Reset = Lost
+what_of outcome.Cleared = Lost
+
+-- the notes on a step, beside the table before it
+abbrev pub noted_on : RouteMap → Step → List Note
+noted_on table break = map lost_note (finite.entries table)
+noted_on table clear = map lost_note (finite.entries table)
+noted_on table (announce k route) = announced_note (finite.get table k) k route ∷ []
+noted_on table (withdraw k) = withdrawn_note (finite.get table k) k ∷ []
+
+-- a table with its counts, and what is kept of the notes, after one more step
+abbrev pub applied_noting : {K : Type 0} → (K → Note → K) → (RouteMap × Churn) × K → Step → (RouteMap × Churn) × K
+applied_noting keep seen step = (applied seen.0 step, fold keep seen.1 (noted_on seen.0.0 step))
+
+-- after the steps of a reading on selected keys
+unfoldable pub followed_noting : {K : Type 0} → (K → Note → K) → (RouteKey → Bool) → RibState × K → Result Event Fault → RibState × K
+followed_noting keep selects seen reading =
+    let now = fold (applied_noting keep) ((seen.0.table, noted seen.0.up reading seen.0.churn), seen.1)
+    (selected_steps selects (reading_steps seen.0.up reading)) in (
+      record {
+        up = up_after seen.0.up reading;
+        established = established_after seen.0.established reading;
+        table = now.0.0;
+        churn = now.0.1;
+        faults = seen.0.faults;
+      },
+      now.1,
+    )
+
+-- after a unit at a place, by its reading
+abbrev pub read_noting : {K : Type 0} → (K → Note → K) → (RouteKey → Bool) → RibState × K → Place → Result Event Fault → RibState × K
+read_noting keep selects seen place (Ok e) = followed_noting keep selects seen (Ok e)
+read_noting keep selects seen place (Err fault) = (refused seen.0 (record { place = place; fault = fault }), seen.1)
+
+-- after one more unit
+unfoldable pub taken_noting : {K : Type 0} → (K → Note → K) → (RouteKey → Bool) → RibState × K → ReplayUnit → RibState × K
+taken_noting keep selects seen unit =
+    let after = followed_noting keep selects (record seen.0 { churn = timed_by unit seen.0.churn }, seen.1) (reading_of unit) in
+    (record after.0 { faults = listed seen.0.faults (damage_in unit (reading_of unit)) }, after.1)

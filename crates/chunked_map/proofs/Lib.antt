@@ -1,0 +1,5 @@
+pub mod LeafLaws
+pub mod KeyedLists
+pub mod ChunkedMapLaws
+pub mod LastPrefixes
+pub mod NodeLaws

@@ -1,0 +1,23 @@
+use Rattle.std.proofs.Common.{◌≡◌, ◌<◌, ◌+◌, ◌-◌, ◌∙◌, ap, sym, subst, arith, get_or, ℕ}
+use Rattle.std.specs.declared.cmp.Ordering.TheVariants.{Less}
+use Rattle.bgp_prefix.specs.Keys.{key_cmp}
+use Rattle.chunked_map.proofs.LeafLaws.{gap_between}
+use Rattle.chunked_map.proofs.leaf.Leaf.search.Goals as goal
+use Rattle.chunked_map.proofs.leaf.Leaf.search.Goals.{then-high-len, else-high-len}
+
+pub loop-low-preserved-in-Less : goal.loop-low-preserved-in-Less
+loop-low-preserved-in-Less g c =
+    let at = c.if-high-len.at in
+    let inside : at < c.loop-low.high = elim c.if-high-len.branch [ then-high-len w ↦ omega (arith, w.at-is, c.loop-low-test.true) | else-high-len w ↦ omega (arith, w.at-is, c.loop-low-test.true) ] in
+    record {
+      order = omega (arith, inside);
+      inside = c.loop-low.invariant.inside;
+      below = λ some d. let same : at ≡ at + 1 - 1 = omega arith in subst (λ (n : ℕ). key_cmp (get_or c.args.self.now n d).0 c.args.key.now ≡ Less) same (ap (λ k. key_cmp k c.args.key.now) (sym (c.key_at.ensures d)) ∙ sym c.in-Less.ensures);
+      above = c.loop-low.invariant.above;
+    }
+
+pub returns-clause-absent : goal.returns-clause-absent
+returns-clause-absent g c =
+    let l = c.loop-low in
+    let met : l.high ≡ l.low = omega (arith, c.loop-low-test.false, l.invariant.order) in
+    gap_between c.args.self.now c.args.key.now l.low c.requires (omega (arith, l.invariant.inside, met)) l.invariant.below (rw met at l.invariant.above)

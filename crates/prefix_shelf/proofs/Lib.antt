@@ -1,4 +1,0 @@
-pub mod ChunkLaws
-pub mod KeyedLists
-pub mod ShelfLaws
-pub mod LastPrefixes

@@ -1,9 +1,0 @@
-use Rattle.std.proofs.Common.{arith}
-use Rattle.prefix_shelf.proofs.ChunkLaws.{sized, key_is}
-use Rattle.prefix_shelf.proofs.chunk.Chunk.key_at.Goals as goal
-
-pub index-requires : goal.index-requires
-index-requires g c = let a = c.self.inside in omega (arith, c.requires, sized a.keys.items a.ids.items a.values.items c.args.self.now c.self.invariant c.self.view_is)
-
-pub returns : goal.returns
-returns g c = let a = c.self.inside in λ d. key_is a.keys.items a.ids.items a.values.items c.args.self.now c.self.invariant c.self.view_is c.args.at c.index.result.now c.id_at.result d c.requires c.index.ensures c.id_at.ensures

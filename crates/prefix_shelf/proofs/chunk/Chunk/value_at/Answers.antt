@@ -1,9 +1,0 @@
-use Rattle.std.proofs.Common.{arith}
-use Rattle.prefix_shelf.proofs.ChunkLaws.{sized, value_is}
-use Rattle.prefix_shelf.proofs.chunk.Chunk.value_at.Goals as goal
-
-pub index-requires : goal.index-requires
-index-requires g c = let a = c.self.inside in omega (arith, c.requires, c.self.invariant.values, sized a.keys.items a.ids.items a.values.items c.args.self.now c.self.invariant c.self.view_is)
-
-pub returns : goal.returns
-returns g c = let a = c.self.inside in λ d. value_is a.keys.items a.ids.items a.values.items c.args.self.now c.self.invariant c.self.view_is c.args.at c.index.result.now d c.requires c.index.ensures
