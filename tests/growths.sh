@@ -14,8 +14,8 @@ tries() { # CRATE TEST..
 }
 {
   tries prefix_tests prefixes::growths::a_refused_growth_leaves_the_flat_map prefixes::growths::a_refused_growth_leaves_the_radix_map \
-    prefixes::growths::a_refused_growth_leaves_the_shelf prefixes::growths::a_refused_growth_leaves_the_flat_map_of_ipv6 \
-    prefixes::growths::a_refused_growth_leaves_the_radix_map_of_ipv6 prefixes::growths::a_refused_growth_leaves_the_shelf_of_ipv6
+    prefixes::growths::a_refused_growth_leaves_the_chunked_map prefixes::growths::a_refused_growth_leaves_the_flat_map_of_ipv6 \
+    prefixes::growths::a_refused_growth_leaves_the_radix_map_of_ipv6 prefixes::growths::a_refused_growth_leaves_the_chunked_map_of_ipv6
   tries update_tests updates::paths::a_refused_push_leaves_the_path
   tries record_tests bodies::dumps::a_refused_growth_spends_the_units
   tries table_tests ribs::sessions::a_session_is_spent_after_a_refused_growth

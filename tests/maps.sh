@@ -15,7 +15,7 @@ wanted=36; out=$(dirname "$work")/bgp_replay_bench/map_calls
 [ -z "${UNPROVED:-}" ] || out=$work/copy
 mkdir -p "$out/crates/map_calls/src" && rm -rf "$out/crates/bgp_prefix" "$out/crates/chunked_map" &&
   cp -a "$top/crates/bgp_prefix" "$top/crates/chunked_map" "$out/crates/" && cp "$top/HANDLES" "$out/" || exit 2
-printf 'bgp_prefix:\nprefix_shelf: bgp_prefix\nmap_calls: bgp_prefix chunked_map\n' > "$out/crates.txt"
+printf 'bgp_prefix:\nchunked_map: bgp_prefix\nmap_calls: bgp_prefix chunked_map\n' > "$out/crates.txt"
 cp "$top/tests/map_calls.rattle" "$out/crates/map_calls/src/main.rt" && cd "$out/crates/map_calls" || exit 2
 if [ -n "${UNPROVED:-}" ]; then
   rt try --steps 1 --seconds 600 -- "$calls" "$@" > "$work/lines" 2> "$work/log"

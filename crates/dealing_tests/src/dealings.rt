@@ -175,7 +175,7 @@ fn three_hundred_peers_have_the_same_tables_in_tries(rt: HostRuntime) -> Result<
 }
 
 #[test]
-fn three_hundred_peers_have_the_same_tables_in_shelves(rt: HostRuntime) -> Result<(), Fail> {
+fn three_hundred_peers_have_the_same_tables_in_chunked_maps(rt: HostRuntime) -> Result<(), Fail> {
     check_three_hundred::<ChunkedMap<u32, RouteId>>(&rt, rt.alloc())
 }
 

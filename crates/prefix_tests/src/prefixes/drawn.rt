@@ -154,7 +154,7 @@ fn expect_answers<F: Tried, M: PrefixMap<u32, Addr = F>>(
 struct Maps<F: Tried> {
     flat: Flat<F, u32>,
     radix: Radix<F, u32>,
-    shelf: ChunkedMap<F, u32>,
+    chunked: ChunkedMap<F, u32>,
     plain: Plain<F>,
 }
 
@@ -163,7 +163,7 @@ impl<F: Tried> Maps<F> {
         Maps {
             flat: PrefixMap::new(alloc),
             radix: PrefixMap::new(alloc),
-            shelf: PrefixMap::new(alloc),
+            chunked: PrefixMap::new(alloc),
             plain: Plain {
                 entries: Vec::new(alloc),
             },
@@ -180,7 +180,7 @@ impl<F: Tried> Maps<F> {
         let before = self.plain.insert(key, value)?;
         assert!(rt; PrefixMap::insert(&mut self.flat, alloc, &key, value)? == before);
         assert!(rt; self.radix.insert(alloc, &key, value)? == before);
-        assert!(rt; self.shelf.insert(alloc, &key, value)? == before);
+        assert!(rt; self.chunked.insert(alloc, &key, value)? == before);
         Ok(())
     }
 
@@ -188,14 +188,14 @@ impl<F: Tried> Maps<F> {
         let before = self.plain.remove(key);
         assert!(rt; self.flat.remove(key) == before);
         assert!(rt; self.radix.remove(key) == before);
-        assert!(rt; self.shelf.remove(key) == before);
+        assert!(rt; self.chunked.remove(key) == before);
     }
 
     fn clear(&mut self) {
         self.plain.entries.clear();
         self.flat.clear();
         self.radix.clear();
-        self.shelf.clear();
+        self.chunked.clear();
     }
 
     fn compare(
@@ -210,7 +210,7 @@ impl<F: Tried> Maps<F> {
         assert!(rt; self.flat.longest_steps(addr).0 == wanted.longest);
         expect_answers(rt, alloc, &self.flat, key, addr, &wanted)?;
         expect_answers(rt, alloc, &self.radix, key, addr, &wanted)?;
-        expect_answers(rt, alloc, &self.shelf, key, addr, &wanted)
+        expect_answers(rt, alloc, &self.chunked, key, addr, &wanted)
     }
 
     fn compare_entries(&mut self, rt: &impl Abort, alloc: Global) -> Result<(), Memory> {
@@ -218,7 +218,7 @@ impl<F: Tried> Maps<F> {
         let all = self.plain.entries.as_slice();
         expect_entries(rt, alloc, &self.flat, all)?;
         expect_entries(rt, alloc, &self.radix, all)?;
-        expect_entries(rt, alloc, &self.shelf, all)
+        expect_entries(rt, alloc, &self.chunked, all)
     }
 }
 

@@ -20,7 +20,7 @@ const FIRST_KEYS: [(u32, u8, u32); 9] = [
     (0x0A02_0000, 16, 4),
 ];
 
-/// More keys than a leaf of the trie or a chunk of the shelf has, so that leaves become forks, and chunks two.
+/// More keys than a leaf of the trie or of the chunked map has, so that the one becomes a fork, and the other two.
 const GROWING: usize = 200;
 
 /// The key of a place after `from` bits that are 0: after those of the table, prefixes of 24 bits by turns in two
@@ -87,7 +87,7 @@ fn a_refused_growth_leaves_the_radix_map(rt: HostRuntime) -> Result<(), Fail> {
 }
 
 #[test]
-fn a_refused_growth_leaves_the_shelf(rt: HostRuntime) -> Result<(), Fail> {
+fn a_refused_growth_leaves_the_chunked_map(rt: HostRuntime) -> Result<(), Fail> {
     grow::<u32, ChunkedMap<u32, usize>>(&rt, rt.alloc(), 0)
 }
 
@@ -102,6 +102,6 @@ fn a_refused_growth_leaves_the_radix_map_of_ipv6(rt: HostRuntime) -> Result<(), 
 }
 
 #[test]
-fn a_refused_growth_leaves_the_shelf_of_ipv6(rt: HostRuntime) -> Result<(), Fail> {
+fn a_refused_growth_leaves_the_chunked_map_of_ipv6(rt: HostRuntime) -> Result<(), Fail> {
     grow::<Ipv6, ChunkedMap<Ipv6, usize>>(&rt, rt.alloc(), 56)
 }

@@ -1,4 +1,4 @@
-//! Maps of more keys than a row of the shelf has.
+//! Maps of more keys than a branch of the chunked map has.
 
 use super::keys::{Tried, key_at, number_at};
 use bgp_prefix::*;
@@ -7,7 +7,7 @@ use std::alloc::Global;
 use std::process::Abort;
 use std::test::Fail;
 
-/// Keys in order that fill a row of the shelf, and begin another.
+/// Keys in order that fill a branch of the chunked map, and begin another.
 const IN_ORDER: u32 = 128 * 128 + 200;
 
 /// The key of a place, in the order of the places, after `from` bits that are 0.
@@ -86,7 +86,7 @@ fn a_large_radix_map_fills_and_empties(rt: HostRuntime) -> Result<(), Fail> {
 }
 
 #[test]
-fn a_large_shelf_fills_and_empties(rt: HostRuntime) -> Result<(), Fail> {
+fn a_large_chunked_map_fills_and_empties(rt: HostRuntime) -> Result<(), Fail> {
     fill_and_empty::<u32, ChunkedMap<u32, u32>>(&rt, rt.alloc(), 0)
 }
 
@@ -97,6 +97,6 @@ fn a_large_radix_map_of_ipv6_fills_and_empties(rt: HostRuntime) -> Result<(), Fa
 }
 
 #[test]
-fn a_large_shelf_of_ipv6_fills_and_empties(rt: HostRuntime) -> Result<(), Fail> {
+fn a_large_chunked_map_of_ipv6_fills_and_empties(rt: HostRuntime) -> Result<(), Fail> {
     fill_and_empty::<Ipv6, ChunkedMap<Ipv6, u32>>(&rt, rt.alloc(), 48)
 }
