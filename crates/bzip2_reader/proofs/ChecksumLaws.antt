@@ -3,7 +3,6 @@ use Rattle.std.proofs.Common.{◌≡◌, ℕ, ◌+◌, ◌-◌, ◌*◌, ◌/◌
 use Rattle.std.specs.Int.Bits.{bit_xor, xor_assoc, xor_zero_l, xor_zero_r}
 use Rattle.std.proofs.lemmas.Nat.{xor_comm, xor_shr, xor_mod, xor_block}
 use Rattle.std.proofs.lemmas.Grind.{common_steps}
-use Rattle.std.proofs.Math.Seq.{take-add}
 use Rattle.byteorder.specs.Endian.{big_from}
 use Rattle.bzip2_reader.specs.Checksums.{crc_bit, crc_bits, crc, IsTable}
 
@@ -214,16 +213,14 @@ table_next t i before v low high is e p =
     ∙ sym (bits_more (8 * ((i - 256) / 256) + 8) 8 ((i - 256) % 256 * 2 ^ 24))
     ∙ ap (λ (n : ℕ). crc_bits n ((i - 256) % 256 * 2 ^ 24)) row ∙ ap (λ (n : ℕ). crc_bits (8 * (i / 256) + 8) (n * 2 ^ 24)) column
 
-pub crc_more : (r v u at n : ℕ) (bs : List ℕ) → v ≡ crc r (take at bs) → u ≡ crc v (take n (drop at bs)) → u ≡ crc r (take (at + n) bs)
-crc_more r v u at n bs p q =
-    q ∙ ap (λ (x : ℕ). crc x (take n (drop at bs))) p ∙ sym (crc_append r (take at bs) (take n (drop at bs)))
-    ∙ ap (crc r) (sym (take-add at n bs))
+-- the register after the first of the bytes that are left
+pub crc_front : (v u : ℕ) (front rest all : List ℕ) → front ++ rest ≡ all → u ≡ crc v front → crc u rest ≡ crc v all
+crc_front v u front rest all split e = ap (λ (n : ℕ). crc n rest) e ∙ sym (crc_append v front rest) ∙ ap (crc v) split
 
-pub crc_one : (r v u at : ℕ) (bs : List ℕ) → at < length bs → v ≡ crc r (take at bs) → u ≡ crc_bits 8 (bit_xor v (slice_index bs at * 2 ^ 24)) → u ≡ crc r (take (at + 1) bs)
+-- the same of one byte
+pub crc_one : (v u i : ℕ) (bs : List ℕ) → i < length bs → u ≡ crc_bits 8 (bit_xor v (slice_index bs i * 2 ^ 24)) → crc u (drop (i + 1) bs) ≡ crc v (drop i bs)
 unfolding crc
-crc_one r v u at bs inside p q =
-    let front : take 1 (drop at bs) ≡ slice_index bs at ∷ [] = grind (arith, common_steps, drop-cons bs at 0 inside) in
-    crc_more r v u at 1 bs p (q ∙ ap (crc v) (sym front))
+crc_one v u i bs inside e = crc_front v u (slice_index bs i ∷ []) (drop (i + 1) bs) (drop i bs) (grind (arith, common_steps, drop-cons bs i 0 inside)) e
 
 pub look_up : (t : List ℕ) (x : ℕ) → x < 2 ^ 32 → IsTable 256 t → bit_xor (x * 256 % 2 ^ 32) (slice_index t (x / 2 ^ 24)) ≡ crc_bits 8 x
 look_up t x fits is =

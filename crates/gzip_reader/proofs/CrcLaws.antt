@@ -1,9 +1,8 @@
 -- CRC-32 is linear, so a byte's share of it can be looked up.
-use Rattle.std.proofs.Common.{◌≡◌, ℕ, ◌+◌, ◌-◌, ◌*◌, ◌/◌, ◌%◌, ◌^◌, ◌<◌, ◌≤◌, zero, suc, List, [], ◌∷◌, ◌++◌, length, slice_index, slice_set, take, drop, drop-cons, refl, sym, ◌∙◌, ap, arith}
+use Rattle.std.proofs.Common.{◌≡◌, ℕ, ◌+◌, ◌-◌, ◌*◌, ◌/◌, ◌%◌, ◌^◌, ◌<◌, ◌≤◌, zero, suc, List, [], ◌∷◌, ◌++◌, length, slice_index, slice_set, drop, drop-cons, refl, sym, ◌∙◌, ap, arith}
 use Rattle.std.specs.Int.Bits.{bit_xor, xor_assoc, xor_zero_l, xor_zero_r}
 use Rattle.std.proofs.lemmas.Nat.{xor_comm, xor_shr, xor_mod, xor_block}
 use Rattle.std.proofs.lemmas.Grind.{common_steps}
-use Rattle.std.proofs.Math.Seq.{take-add}
 use Rattle.byteorder.specs.Endian.{little_from}
 use Rattle.gzip_reader.specs.Crc.{crc_bit, crc_bits, crc, IsTable}
 
@@ -216,16 +215,14 @@ eight_look_ups t bs r w is fits long small e =
     ∙ sym (bits_eight w _ _ _ _ _ _ _ refl refl refl refl refl refl refl)
     ∙ sym (crc_eight r w bs long small e)
 
-pub crc_more : (r v u at n : ℕ) (bs : List ℕ) → v ≡ crc r (take at bs) → u ≡ crc v (take n (drop at bs)) → u ≡ crc r (take (at + n) bs)
-crc_more r v u at n bs p q =
-    q ∙ ap (λ (x : ℕ). crc x (take n (drop at bs))) p ∙ sym (crc_append r (take at bs) (take n (drop at bs)))
-    ∙ ap (crc r) (sym (take-add at n bs))
+-- the register after the first of the bytes that are left
+pub crc_front : (v u : ℕ) (front rest all : List ℕ) → front ++ rest ≡ all → u ≡ crc v front → crc u rest ≡ crc v all
+crc_front v u front rest all split e = ap (λ (n : ℕ). crc n rest) e ∙ sym (crc_append v front rest) ∙ ap (crc v) split
 
-pub crc_one : (r v u at : ℕ) (bs : List ℕ) → at < length bs → v ≡ crc r (take at bs) → u ≡ crc_bits 8 (bit_xor v (slice_index bs at)) → u ≡ crc r (take (at + 1) bs)
+-- the same of one byte
+pub crc_one : (v u i : ℕ) (bs : List ℕ) → i < length bs → u ≡ crc_bits 8 (bit_xor v (slice_index bs i)) → crc u (drop (i + 1) bs) ≡ crc v (drop i bs)
 unfolding crc
-crc_one r v u at bs inside p q =
-    let front : take 1 (drop at bs) ≡ slice_index bs at ∷ [] = grind (arith, common_steps, drop-cons bs at 0 inside) in
-    crc_more r v u at 1 bs p (q ∙ ap (crc v) (sym front))
+crc_one v u i bs inside e = crc_front v u (slice_index bs i ∷ []) (drop (i + 1) bs) (drop i bs) (grind (arith, common_steps, drop-cons bs i 0 inside)) e
 
 pub step_look_up : (s t : List ℕ) (mixed : ℕ) → s ≡ t → IsTable 2048 t → bit_xor (mixed / 256) (slice_index s (mixed % 256)) ≡ crc_bits 8 mixed
 step_look_up s t mixed same is =

@@ -32,14 +32,13 @@ impl CrcTables {
         ensures { result ≡ crc register bytes.now }
     {
         let mut value = register;
-        let mut at = 0;
-        while 8 <= bytes.len() - at {
-            value = self.eight(value, &bytes[at..at + 8]);
-            at += 8;
+        let mut rest = bytes;
+        while let Some((word, more)) = rest.split_at_checked(8) {
+            value = self.eight(value, word);
+            rest = more;
         }
-        while at < bytes.len() {
-            value = self.step(value, bytes[at]);
-            at += 1;
+        for byte in rest {
+            value = self.step(value, *byte);
         }
         value
     }

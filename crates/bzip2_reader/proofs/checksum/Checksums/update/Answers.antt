@@ -1,23 +1,25 @@
-use Rattle.std.proofs.Common.{◌≡◌, ◌+◌, ◌-◌, ℕ, refl, ◌∙◌, ap, arith, take, drop}
+use Rattle.std.proofs.Common.{◌≡◌, refl, sym, ap, ◌∙◌, [], ◌++◌, take, drop, take-append-drop, arith}
+use Rattle.std.proofs.lemmas.Grind.{common_steps}
 use Rattle.bzip2_reader.specs.Checksums.{crc}
-use Rattle.bzip2_reader.proofs.ChecksumLaws.{crc_more, crc_one}
+use Rattle.bzip2_reader.proofs.ChecksumLaws.{crc_front, crc_one}
 use Rattle.bzip2_reader.proofs.checksum.Checksums.update.Goals as goal
 
-pub loop-at-init : goal.loop-at-init
+pub loop-word-init : goal.loop-word-init
+loop-word-init c = refl
+
+pub loop-word-preserved : goal.loop-word-preserved
+loop-word-preserved c =
+    let split = c.in-Some.ensures.cases in
+    crc_front c.loop-word.value _ c.in-Some.word.now c.in-Some.more.now c.loop-word.rest.now
+    (ap (λ l. l ++ c.in-Some.more.now) split.1 ∙ ap (λ l. take 8 c.loop-word.rest.now ++ l) split.2 ∙ take-append-drop 8 c.loop-word.rest.now)
+    c.eight-value.ensures
+    ∙ c.loop-word.invariant
+
+pub loop-byte-preserved : goal.loop-byte-preserved
+loop-byte-preserved c = crc_one c.loop-byte.value _ c.loop-byte.byte-index c.loop-word.rest.now c.loop-byte-test.true c.step-value.ensures ∙ c.loop-byte.invariant
+
+pub returns : goal.returns
 unfolding crc
-loop-at-init c = record { within = omega arith; sum = refl }
-
-pub loop-at-preserved : goal.loop-at-preserved
-loop-at-preserved c =
-    let eight : c.loop-at.at + 8 - c.loop-at.at ≡ 8 = omega arith in
-    record {
-      within = omega arith;
-      sum = crc_more c.args.register c.loop-at.value _ c.loop-at.at 8 c.args.bytes.now c.loop-at.invariant.sum
-          (c.eight-value.ensures ∙ ap (λ (n : ℕ). crc c.loop-at.value (take n (drop c.loop-at.at c.args.bytes.now))) eight);
-    }
-
-pub loop-at-2-preserved : goal.loop-at-2-preserved
-loop-at-2-preserved c = record {
-  within = omega arith;
-  sum = crc_one c.args.register c.loop-at-2.value _ c.loop-at-2.at c.args.bytes.now (omega arith) c.loop-at-2.invariant.sum c.step-value.ensures;
-}
+returns c =
+    let none : drop c.loop-byte.byte-index c.loop-word.rest.now ≡ [] = grind (arith, common_steps) in
+    ap (crc c.loop-byte.value) (sym none) ∙ c.loop-byte.invariant

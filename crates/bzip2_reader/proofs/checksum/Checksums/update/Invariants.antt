@@ -1,15 +1,13 @@
-use Rattle.std.proofs.Common.{length, ◌-◌, ◌≤◌, ◌≡◌, take}
+use Rattle.std.proofs.Common.{length, ◌≡◌, drop}
 use Rattle.bzip2_reader.specs.Checksums.{crc}
 use Rattle.bzip2_reader.proofs.checksum.Checksums.update.Given as goal
 
-abbrev pub invariant-loop-at : goal.invariant-loop-at
-invariant-loop-at l = record { within : l.at ≤ length l.bytes; sum : l.value ≡ crc l.register (take l.at l.bytes) }
+-- what is left of the bytes makes the register that all make
+abbrev pub invariant-loop-word : goal.invariant-loop-word
+invariant-loop-word l = crc l.value l.rest ≡ crc l.register l.bytes
 
-abbrev pub decreases-loop-at : goal.decreases-loop-at
-decreases-loop-at l = length l.bytes - l.at
+abbrev pub decreases-loop-word : goal.decreases-loop-word
+decreases-loop-word l = length l.rest
 
-abbrev pub invariant-loop-at-2 : goal.invariant-loop-at-2
-invariant-loop-at-2 l = record { within : l.at ≤ length l.bytes; sum : l.value ≡ crc l.register (take l.at l.bytes) }
-
-abbrev pub decreases-loop-at-2 : goal.decreases-loop-at-2
-decreases-loop-at-2 l = length l.bytes - l.at
+abbrev pub invariant-loop-byte : goal.invariant-loop-byte
+invariant-loop-byte l = crc l.value (drop l.byte-index l.byte-items) ≡ crc l.register l.bytes
