@@ -118,6 +118,12 @@ class Tables:
         return self.fail(f"an unknown value {word}")
 
     def struct(self, name):
+        if self.peek() == ("sign", "("):
+            self.expect("(")
+            values = self.items(")", self.value)
+            if len(values) != len(FIELDS[name]):
+                self.fail(f"a {name} of {len(values)} values")
+            return dict(zip(FIELDS[name], values))
         self.expect("{")
         fields = dict(self.items("}", self.field))
         if list(fields) != FIELDS[name]:

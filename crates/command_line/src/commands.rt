@@ -1,6 +1,6 @@
 //! The program's command line, made from the tables of options and commands.
 
-use crate::options::{COMMANDS, CommandRow, OPTIONS, OptionRow, Takes};
+use crate::options::{COMMANDS, ColumnRow, CommandRow, OPTIONS, OptionRow, Takes};
 use clap::{Arg, ArgAction, Command, value_parser};
 use std::alloc::{AllocError, Global};
 
@@ -48,8 +48,9 @@ fn closing_of(alloc: Global, row: &CommandRow) -> Result<String, AllocError> {
     let mut text = String::new(alloc);
     text.push_str("Columns, split by '|'; '-' stands for what isn't there:\n")?;
     for column in row.columns {
-        push_name(&mut text, column.name)?;
-        text.push_str(column.meaning)?;
+        let ColumnRow(name, meaning) = *column;
+        push_name(&mut text, name)?;
+        text.push_str(meaning)?;
         text.push('\n')?;
     }
     text.push_str(row.order)?;

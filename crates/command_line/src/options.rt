@@ -32,12 +32,9 @@ pub struct OptionRow {
     pub meaning: &'static str,
 }
 
-/// A column of a report.
+/// A column of a report: its name, and what it says.
 #[derive(Clone, Copy)]
-pub struct ColumnRow {
-    pub name: &'static str,
-    pub meaning: &'static str,
-}
+pub struct ColumnRow(pub &'static str, pub &'static str);
 
 /// A command.
 #[derive(Clone, Copy)]
@@ -243,52 +240,34 @@ pub static OPTIONS: [OptionRow; 19] = [
     },
 ];
 
-const PEER: ColumnRow = ColumnRow {
-    name: "peer",
-    meaning: "the peer's AS, a space, its address",
-};
+const PEER: ColumnRow = ColumnRow("peer", "the peer's AS, a space, its address");
 
-const KEY: ColumnRow = ColumnRow {
-    name: "prefix",
-    meaning: "ADDRESS/LENGTH, and #ID behind it where the route has a path identifier (ADD-PATH)",
-};
+const KEY: ColumnRow = ColumnRow(
+    "prefix",
+    "ADDRESS/LENGTH, and #ID behind it where the route has a path identifier (ADD-PATH)",
+);
 
-const ORIGIN: ColumnRow = ColumnRow {
-    name: "origin",
-    meaning: "IGP, EGP or INCOMPLETE",
-};
+const ORIGIN: ColumnRow = ColumnRow("origin", "IGP, EGP or INCOMPLETE");
 
-const MED: ColumnRow = ColumnRow {
-    name: "med",
-    meaning: "MULTI_EXIT_DISC",
-};
+const MED: ColumnRow = ColumnRow("med", "MULTI_EXIT_DISC");
 
-const LOCAL_PREF: ColumnRow = ColumnRow {
-    name: "local_pref",
-    meaning: "LOCAL_PREF",
-};
+const LOCAL_PREF: ColumnRow = ColumnRow("local_pref", "LOCAL_PREF");
 
-const ATOMIC: ColumnRow = ColumnRow {
-    name: "atomic",
-    meaning: "`atomic` where the route has ATOMIC_AGGREGATE",
-};
+const ATOMIC: ColumnRow = ColumnRow("atomic", "`atomic` where the route has ATOMIC_AGGREGATE");
 
-const AGGREGATOR: ColumnRow = ColumnRow {
-    name: "aggregator",
-    meaning: "its AS, a space, its address",
-};
+const AGGREGATOR: ColumnRow = ColumnRow("aggregator", "its AS, a space, its address");
 
 const ROUTE_COLUMNS: &[ColumnRow] = &[
     PEER,
     KEY,
-    ColumnRow {
-        name: "as_path",
-        meaning: "AS numbers; a set is {1,2}, a confederation's sequence (1 2) and its set [1,2]",
-    },
-    ColumnRow {
-        name: "next_hop",
-        meaning: "an IPv4 or IPv6 address, or a global and a link-local IPv6 address",
-    },
+    ColumnRow(
+        "as_path",
+        "AS numbers; a set is {1,2}, a confederation's sequence (1 2) and its set [1,2]",
+    ),
+    ColumnRow(
+        "next_hop",
+        "an IPv4 or IPv6 address, or a global and a link-local IPv6 address",
+    ),
     ORIGIN,
     MED,
     LOCAL_PREF,
@@ -297,145 +276,103 @@ const ROUTE_COLUMNS: &[ColumnRow] = &[
 ];
 
 const VISIBILITY_COLUMNS: &[ColumnRow] = &[
-    ColumnRow {
-        name: "prefix",
-        meaning: "ADDRESS/LENGTH",
-    },
-    ColumnRow {
-        name: "peers",
-        meaning: "how many peers' tables have a route to it",
-    },
+    ColumnRow("prefix", "ADDRESS/LENGTH"),
+    ColumnRow("peers", "how many peers' tables have a route to it"),
 ];
 
 const ORIGINS_COLUMNS: &[ColumnRow] = &[
-    ColumnRow {
-        name: "prefix",
-        meaning: "ADDRESS/LENGTH",
-    },
-    ColumnRow {
-        name: "origins",
-        meaning: "the ASes that end the paths to it, ascending, split by a space; two at least",
-    },
+    ColumnRow("prefix", "ADDRESS/LENGTH"),
+    ColumnRow(
+        "origins",
+        "the ASes that end the paths to it, ascending, split by a space; two at least",
+    ),
 ];
 
 const SEEN_COLUMNS: &[ColumnRow] = &[
-    ColumnRow {
-        name: "prefix",
-        meaning: "ADDRESS/LENGTH",
-    },
-    ColumnRow {
-        name: "origin",
-        meaning: "the AS that ends the paths to it, or '-' for routes without one",
-    },
-    ColumnRow {
-        name: "peers",
-        meaning: "how many peers' tables have a route to it with this origin AS",
-    },
+    ColumnRow("prefix", "ADDRESS/LENGTH"),
+    ColumnRow(
+        "origin",
+        "the AS that ends the paths to it, or '-' for routes without one",
+    ),
+    ColumnRow(
+        "peers",
+        "how many peers' tables have a route to it with this origin AS",
+    ),
 ];
 
 const CHURN_COLUMNS: &[ColumnRow] = &[
     PEER,
-    ColumnRow {
-        name: "new",
-        meaning: "announcements of what the table didn't have",
-    },
-    ColumnRow {
-        name: "changed",
-        meaning: "announcements that put another route in place of the one that it had",
-    },
-    ColumnRow {
-        name: "same",
-        meaning: "announcements of the very route that it had",
-    },
-    ColumnRow {
-        name: "gone",
-        meaning: "withdrawals of what the table had",
-    },
-    ColumnRow {
-        name: "void",
-        meaning: "withdrawals of what it didn't have",
-    },
-    ColumnRow {
-        name: "resets",
-        meaning: "changes of the session's state that empty the table",
-    },
-    ColumnRow {
-        name: "idle",
-        meaning: "updates and table entries while the session wasn't up",
-    },
-    ColumnRow {
-        name: "refused",
-        meaning: "damaged messages and entries",
-    },
-    ColumnRow {
-        name: "first",
-        meaning: "seconds since 1970 UTC of the peer's first record that counts, with six digits behind the point",
-    },
-    ColumnRow {
-        name: "last",
-        meaning: "those of its last one",
-    },
+    ColumnRow("new", "announcements of what the table didn't have"),
+    ColumnRow(
+        "changed",
+        "announcements that put another route in place of the one that it had",
+    ),
+    ColumnRow("same", "announcements of the very route that it had"),
+    ColumnRow("gone", "withdrawals of what the table had"),
+    ColumnRow("void", "withdrawals of what it didn't have"),
+    ColumnRow(
+        "resets",
+        "changes of the session's state that empty the table",
+    ),
+    ColumnRow(
+        "idle",
+        "updates and table entries while the session wasn't up",
+    ),
+    ColumnRow("refused", "damaged messages and entries"),
+    ColumnRow(
+        "first",
+        "seconds since 1970 UTC of the peer's first record that counts, with six digits behind the point",
+    ),
+    ColumnRow("last", "those of its last one"),
 ];
 
 const PEERS_COLUMNS: &[ColumnRow] = &[
     PEER,
-    ColumnRow {
-        name: "state",
-        meaning: "`up`, or `down` where the last recorded change of the session's state led out of Established",
-    },
-    ColumnRow {
-        name: "routes",
-        meaning: "how many routes its table has",
-    },
-    ColumnRow {
-        name: "units",
-        meaning: "how many messages, state changes and table entries it has, damaged ones among them",
-    },
-    ColumnRow {
-        name: "first",
-        meaning: "seconds since 1970 UTC of the first of these, with six digits behind the point",
-    },
-    ColumnRow {
-        name: "last",
-        meaning: "those of the last one",
-    },
-    ColumnRow {
-        name: "file",
-        meaning: "the number of the file, from 1, that has the first of these",
-    },
-    ColumnRow {
-        name: "offset",
-        meaning: "where its record begins, in bytes from the file's start",
-    },
-    ColumnRow {
-        name: "entry",
-        meaning: "its number in a table record, from 1",
-    },
+    ColumnRow(
+        "state",
+        "`up`, or `down` where the last recorded change of the session's state led out of Established",
+    ),
+    ColumnRow("routes", "how many routes its table has"),
+    ColumnRow(
+        "units",
+        "how many messages, state changes and table entries it has, damaged ones among them",
+    ),
+    ColumnRow(
+        "first",
+        "seconds since 1970 UTC of the first of these, with six digits behind the point",
+    ),
+    ColumnRow("last", "those of the last one"),
+    ColumnRow(
+        "file",
+        "the number of the file, from 1, that has the first of these",
+    ),
+    ColumnRow(
+        "offset",
+        "where its record begins, in bytes from the file's start",
+    ),
+    ColumnRow("entry", "its number in a table record, from 1"),
 ];
 
 const HISTORY_COLUMNS: &[ColumnRow] = &[
-    ColumnRow {
-        name: "time",
-        meaning: "seconds since 1970 UTC, with six digits behind the point",
-    },
+    ColumnRow(
+        "time",
+        "seconds since 1970 UTC, with six digits behind the point",
+    ),
     PEER,
-    ColumnRow {
-        name: "what",
-        meaning: "`new`, `changed` or `same`: announced, where the table had no route, another one or this one; `gone` or `void`: withdrawn, where it had a route or none; `lost`: taken by a change of the session's state, or by a RIB dump under --rib replace",
-    },
-    ColumnRow {
-        name: "by",
-        meaning: "`rib`: an entry of a table, or, of what is lost, a RIB dump; `update`: a message; `state`: a change of the session's state",
-    },
+    ColumnRow(
+        "what",
+        "`new`, `changed` or `same`: announced, where the table had no route, another one or this one; `gone` or `void`: withdrawn, where it had a route or none; `lost`: taken by a change of the session's state, or by a RIB dump under --rib replace",
+    ),
+    ColumnRow(
+        "by",
+        "`rib`: an entry of a table, or, of what is lost, a RIB dump; `update`: a message; `state`: a change of the session's state",
+    ),
     KEY,
-    ColumnRow {
-        name: "as_path",
-        meaning: "that of the route after it, or, where it is gone or lost, of the route before; the columns behind are of the same route",
-    },
-    ColumnRow {
-        name: "next_hop",
-        meaning: "as of tables",
-    },
+    ColumnRow(
+        "as_path",
+        "that of the route after it, or, where it is gone or lost, of the route before; the columns behind are of the same route",
+    ),
+    ColumnRow("next_hop", "as of tables"),
     ORIGIN,
     MED,
     LOCAL_PREF,
@@ -444,26 +381,17 @@ const HISTORY_COLUMNS: &[ColumnRow] = &[
 ];
 
 const FAULTS_COLUMNS: &[ColumnRow] = &[
-    ColumnRow {
-        name: "file",
-        meaning: "the number of the file, from 1",
-    },
-    ColumnRow {
-        name: "offset",
-        meaning: "where the damaged record begins, in bytes from the file's start",
-    },
-    ColumnRow {
-        name: "entry",
-        meaning: "the damaged entry of a table record, from 1",
-    },
-    ColumnRow {
-        name: "number",
-        meaning: "the fault's number, 1 to 15",
-    },
-    ColumnRow {
-        name: "fault",
-        meaning: "its name; behind BadAttribute stands the attribute's type",
-    },
+    ColumnRow("file", "the number of the file, from 1"),
+    ColumnRow(
+        "offset",
+        "where the damaged record begins, in bytes from the file's start",
+    ),
+    ColumnRow("entry", "the damaged entry of a table record, from 1"),
+    ColumnRow("number", "the fault's number, 1 to 15"),
+    ColumnRow(
+        "fault",
+        "its name; behind BadAttribute stands the attribute's type",
+    ),
 ];
 
 pub static COMMANDS: [CommandRow; 9] = [
