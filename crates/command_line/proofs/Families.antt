@@ -5,6 +5,6 @@ use Rattle.command_line.specs.declared.address_family.AddressFamily.TheVariants.
 use Rattle.command_line.specs.Families.{SpellsIn, IsNoAddressIn}
 
 -- no bits are spelled, so the text is no address of the family
-pub no_address : (Spells : List ℕ → ℕ → Type 0) (family : AddressFamily) → ((text : List ℕ) (bits : ℕ) → (SpellsIn family text bits → Spells text bits) × (Spells text bits → SpellsIn family text bits)) → (text : List ℕ) → ((bits : ℕ) → Spells text bits → ⊥) → IsNoAddressIn family text
-no_address Spells Ipv4 law text none = λ number a. none (number * 2 ^ 96) ((law text (number * 2 ^ 96)).0 (record { number = number; spelled = a; placed = refl }))
-no_address Spells Ipv6 law text none = λ number a. none number ((law text number).0 a)
+pub no_address : (family : AddressFamily) (text : List ℕ) → ((bits : ℕ) → SpellsIn family text bits → ⊥) → IsNoAddressIn family text
+no_address Ipv4 text none = λ number a. none (number * 2 ^ 96) (record { number = number; spelled = a; placed = refl })
+no_address Ipv6 text none = none

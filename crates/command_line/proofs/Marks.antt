@@ -53,24 +53,6 @@ last_apart xs ys x y e =
     let same : x ≡ y = sym (get_or-append_seam xs x [] 0) ∙ ap (λ l. get_or l (length xs) 0) e ∙ ap (λ k. get_or (ys ++ y ∷ []) k 0) long ∙ get_or-append_seam ys y [] 0 in
     (append_cancel_right xs ys (y ∷ []) (ap (λ b. xs ++ b ∷ []) (sym same) ∙ e), same)
 
--- where the last byte is no mark, nothing is split off
-pub no_mark : (text rest : List ℕ) (last : ℕ) → text ≡ rest ++ last ∷ [] → (last ≡ 43 → ⊥) → (last ≡ 45 → ⊥) → (front : List ℕ) (reach : Reach) → text ≡ front ++ mark_of reach → (front ≡ text) × (reach ≡ Exact)
-no_mark text rest last e plus minus front Exact w = (sym (w ∙ append-nil front), refl)
-no_mark text rest last e plus minus front Inside w = absurd (plus (last_apart rest front last 43 (sym e ∙ w)).1)
-no_mark text rest last e plus minus front Around w = absurd (minus (last_apart rest front last 45 (sym e ∙ w)).1)
-
--- nothing is split off no text
-pub empty_mark : (text front : List ℕ) (reach : Reach) → length text ≡ 0 → text ≡ front ++ mark_of reach → (front ≡ text) × (reach ≡ Exact)
-empty_mark text front Exact none w = (sym (w ∙ append-nil front), refl)
-empty_mark text front Inside none w =
-    let long = length-append front (43 ∷ []) in
-    let whole = ap length w in
-    absurd (omega (arith, long, whole))
-empty_mark text front Around none w =
-    let long = length-append front (45 ∷ []) in
-    let whole = ap length w in
-    absurd (omega (arith, long, whole))
-
 -- where the last byte is a mark, it is split off
 pub one_mark : (text rest : List ℕ) (last : ℕ) (found : Reach) → text ≡ rest ++ last ∷ [] → mark_of found ≡ last ∷ [] → (front : List ℕ) (reach : Reach) → EndsInNoMark front → text ≡ front ++ mark_of reach → (front ≡ rest) × (reach ≡ found)
 one_mark text rest last Exact e m front reach ends w = absurd cc

@@ -5,6 +5,7 @@ ghost use Rattle.std.specs.Fmt.{decimal};
 ghost use Rattle.bgp_prefix.specs.Prefixes.{IpPrefix};
 ghost use Rattle.mrt_body.specs.declared.choice.Reach.{Reach};
 ghost use Rattle.command_line.specs.Choices.{IsPrefixWithin, SpellsPrefix, SpellsReach, SpellsChoice, IsNoChoice, EndsInNoMark, mark_of};
+ghost use Rattle.command_line.specs.Families.{SpellsIn};
 
 use crate::address::octet;
 use crate::address_text::AddressText;
@@ -43,16 +44,16 @@ fn first_slash(text: &[u8]) -> Option<usize>
 
 /// Returns the prefix of an address alone, of full length.
 fn host_prefix<F: AddressText>(text: &[u8]) -> Option<Prefix<F>>
-    ensures some { IfSome result (λ p. F.spells text.now p.addr × (p.len ≡ F.WIDTH)) }
-    ensures none { IfNone result ((bits : ℕ) → F.spells text.now bits → ⊥) }
+    ensures some { IfSome result (λ p. SpellsIn F.FAMILY text.now p.addr × (p.len ≡ F.WIDTH)) }
+    ensures none { IfNone result ((bits : ℕ) → SpellsIn F.FAMILY text.now bits → ⊥) }
 {
     Prefix::new(F::address_in(text)?, F::WIDTH)
 }
 
 /// Returns the prefix of an address and a length.
 fn sized_prefix<F: AddressText>(front: &[u8], back: &[u8]) -> Option<Prefix<F>>
-    ensures some { IfSome result (λ p. F.spells front.now p.addr × (back.now ≡ decimal p.len) × IsPrefixWithin F.WIDTH p) }
-    ensures none { IfNone result ((p : IpPrefix) → F.spells front.now p.addr → back.now ≡ decimal p.len → IsPrefixWithin F.WIDTH p → ⊥) }
+    ensures some { IfSome result (λ p. SpellsIn F.FAMILY front.now p.addr × (back.now ≡ decimal p.len) × IsPrefixWithin F.WIDTH p) }
+    ensures none { IfNone result ((p : IpPrefix) → SpellsIn F.FAMILY front.now p.addr → back.now ≡ decimal p.len → IsPrefixWithin F.WIDTH p → ⊥) }
 {
     F::texts_spell_one_address();
     let addr = F::address_in(front)?;
@@ -63,8 +64,8 @@ fn sized_prefix<F: AddressText>(front: &[u8], back: &[u8]) -> Option<Prefix<F>>
 /// Returns the prefix of this text, as `192.0.2.0/24` or `2001:db8::/32`, with no bit past its length; an address alone
 /// has full length. Returns `None` for any other text.
 pub fn read_prefix<F: AddressText>(text: &[u8]) -> Option<Prefix<F>>
-    ensures some { IfSome result (SpellsPrefix F.spells F.WIDTH text.now) }
-    ensures none { IfNone result ((p : IpPrefix) → SpellsPrefix F.spells F.WIDTH text.now p → ⊥) }
+    ensures some { IfSome result (SpellsPrefix (SpellsIn F.FAMILY) F.WIDTH text.now) }
+    ensures none { IfNone result ((p : IpPrefix) → SpellsPrefix (SpellsIn F.FAMILY) F.WIDTH text.now p → ⊥) }
 {
     F::texts_spell_one_address();
     match first_slash(text) {
@@ -102,8 +103,8 @@ fn split_reach(text: &[u8]) -> (&[u8], Reach)
 /// Returns the prefix of this text and how far its mark says that it reaches: a prefix alone, with `+` itself and more
 /// specifics, with `-` itself and less specifics. Returns `None` for any other text.
 pub fn read_reach<F: AddressText>(text: &[u8]) -> Option<(Prefix<F>, Reach)>
-    ensures some { IfSome result (λ r. SpellsReach F.spells F.WIDTH text.now r.0 r.1) }
-    ensures none { IfNone result ((p : IpPrefix) (reach : Reach) → SpellsReach F.spells F.WIDTH text.now p reach → ⊥) }
+    ensures some { IfSome result (λ r. SpellsReach (SpellsIn F.FAMILY) F.WIDTH text.now r.0 r.1) }
+    ensures none { IfNone result ((p : IpPrefix) (reach : Reach) → SpellsReach (SpellsIn F.FAMILY) F.WIDTH text.now p reach → ⊥) }
 {
     F::texts_spell_one_address();
     let (text, reach) = split_reach(text);
@@ -113,8 +114,8 @@ pub fn read_reach<F: AddressText>(text: &[u8]) -> Option<(Prefix<F>, Reach)>
 
 /// Returns what these bytes choose.
 pub(crate) fn choice_in<F: AddressText>(text: &[u8]) -> Option<PrefixChoice<Prefix<F>>>
-    ensures some { IfSome result (SpellsChoice F.spells F.WIDTH text.now) }
-    ensures none { IfNone result (IsNoChoice F.spells F.WIDTH text.now) }
+    ensures some { IfSome result (SpellsChoice (SpellsIn F.FAMILY) F.WIDTH text.now) }
+    ensures none { IfNone result (IsNoChoice (SpellsIn F.FAMILY) F.WIDTH text.now) }
 {
     let (prefix, reach) = read_reach::<F>(text)?;
     Some(PrefixChoice { prefix, reach })
@@ -123,8 +124,8 @@ pub(crate) fn choice_in<F: AddressText>(text: &[u8]) -> Option<PrefixChoice<Pref
 /// Returns what `--prefix` chooses: a prefix alone, with `+` itself and more specifics, with `-` itself and less
 /// specifics. Returns `None` for any other text.
 pub fn read_choice<F: AddressText>(text: &str) -> Option<PrefixChoice<Prefix<F>>>
-    ensures some { IfSome result (SpellsChoice F.spells F.WIDTH text.now) }
-    ensures none { IfNone result (IsNoChoice F.spells F.WIDTH text.now) }
+    ensures some { IfSome result (SpellsChoice (SpellsIn F.FAMILY) F.WIDTH text.now) }
+    ensures none { IfNone result (IsNoChoice (SpellsIn F.FAMILY) F.WIDTH text.now) }
 {
     choice_in(text.as_bytes())
 }
@@ -133,12 +134,12 @@ pub fn read_choice<F: AddressText>(text: &str) -> Option<PrefixChoice<Prefix<F>>
 pub fn fault_of_reach<F: AddressText>(text: &[u8]) -> &'static str {
     let (text, _) = split_reach(text);
     let Some(slash) = first_slash(text) else {
-        return F::NO_ADDRESS;
+        return F::WORDS.no_address;
     };
     if F::address_in(&text[..slash]).is_none() {
-        F::NO_ADDRESS_BEFORE
+        F::WORDS.no_address_before
     } else if read_len::<F>(&text[slash + 1..]).is_none() {
-        F::NO_LENGTH
+        F::WORDS.no_length
     } else {
         "its address has bits past its length"
     }

@@ -5,6 +5,7 @@ ghost use Rattle.bgp_prefix.specs.Prefixes.{IpPrefix, IsIpPrefix};
 ghost use Rattle.mrt_body.specs.declared.choice.Reach.{Reach};
 ghost use Rattle.ip_text.specs.Spellings.{IsIpv6Text};
 ghost use Rattle.command_line.specs.Choices.{SpellsPrefix, SpellsReach, short_prefix_text};
+ghost use Rattle.command_line.specs.Families.{SpellsIn};
 
 use crate::address_text::AddressText;
 
@@ -16,9 +17,9 @@ pub fn written_prefixes_spell_themselves()
 /// A text spells at most one prefix, and at most one reach beside it.
 pub fn one_prefix_to_a_text<F: AddressText>()
     ensures prefix { (text : List ℕ) (p q : IpPrefix) →
-        SpellsPrefix F.spells F.WIDTH text p → SpellsPrefix F.spells F.WIDTH text q → p ≡ q }
+        SpellsPrefix (SpellsIn F.FAMILY) F.WIDTH text p → SpellsPrefix (SpellsIn F.FAMILY) F.WIDTH text q → p ≡ q }
     ensures reach { (text : List ℕ) (p q : IpPrefix) (r s : Reach) →
-        SpellsReach F.spells F.WIDTH text p r → SpellsReach F.spells F.WIDTH text q s → (p ≡ q) × (r ≡ s) }
+        SpellsReach (SpellsIn F.FAMILY) F.WIDTH text p r → SpellsReach (SpellsIn F.FAMILY) F.WIDTH text q s → (p ≡ q) × (r ≡ s) }
 {
     F::texts_spell_one_address();
 }

@@ -61,7 +61,7 @@ mod wrap;
 
 pub use address::read_address;
 pub use address_family::AddressFamily;
-pub use address_text::AddressText;
+pub use address_text::{AddressText, PrefixWords};
 pub use choice::{fault_of_reach, read_choice, read_prefix, read_reach};
 pub use file_list::{FileListError, fault_of_file_list, read_file_list};
 pub use kind::{FirstBytes, Kind};

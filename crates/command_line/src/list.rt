@@ -4,6 +4,7 @@ ghost use Rattle.std.specs.Prelude.{◌≡◌, ◌<◌, ◌++◌, ◌∷◌, [],
 ghost use Rattle.command_line.specs.Choices.{IsNoChoice};
 ghost use Rattle.command_line.specs.Lists.{IsListError, NameChoices, is_blank, is_passed, lines_of, trimmed};
 ghost use Rattle.command_line.specs.declared.list.ListError.TheVariants.{Memory};
+ghost use Rattle.command_line.specs.Families.{SpellsIn};
 
 use crate::address_text::AddressText;
 use crate::choice::{choice_in, fault_of_reach};
@@ -87,9 +88,9 @@ fn take_line<F: AddressText>(
     choices: &mut Vec<PrefixChoice<Prefix<F>>>,
 ) -> Result<bool, AllocError>
     ensures taken { IfOk result (λ taken. taken ≡ true → (before : List (List ℕ)) →
-        NameChoices F.spells F.WIDTH before choices.old.items → NameChoices F.spells F.WIDTH (before ++ line.now ∷ []) choices.new.items) }
+        NameChoices (SpellsIn F.FAMILY) F.WIDTH before choices.old.items → NameChoices (SpellsIn F.FAMILY) F.WIDTH (before ++ line.now ∷ []) choices.new.items) }
     ensures refused { IfOk result (λ taken. taken ≡ false →
-        (is_passed (trimmed line.now) ≡ false) × IsNoChoice F.spells F.WIDTH (trimmed line.now)) }
+        (is_passed (trimmed line.now) ≡ false) × IsNoChoice (SpellsIn F.FAMILY) F.WIDTH (trimmed line.now)) }
     ensures kept { IfOk result (λ taken. taken ≡ false → choices.new.items ≡ choices.old.items) }
 {
     let text = trimmed(line);
@@ -111,8 +112,8 @@ pub fn read_list<F: AddressText>(
     alloc: Global,
     text: &[u8],
 ) -> Result<Vec<PrefixChoice<Prefix<F>>>, ListError>
-    ensures choices { IfOk result (λ choices. NameChoices F.spells F.WIDTH (lines_of text.now) choices.items) }
-    ensures error { IfErr result (IsListError F.spells F.WIDTH text.now) }
+    ensures choices { IfOk result (λ choices. NameChoices (SpellsIn F.FAMILY) F.WIDTH (lines_of text.now) choices.items) }
+    ensures error { IfErr result (IsListError (SpellsIn F.FAMILY) F.WIDTH text.now) }
 {
     let mut choices = Vec::new(alloc);
     let mut rest = text;
@@ -150,7 +151,7 @@ pub fn fault_of_list<F: AddressText>(
     let line = line_at(text, number);
     let shown = line.escape_ascii();
     let fault = fault_of_reach::<F>(line);
-    let example = F::EXAMPLE;
+    let example = F::WORDS.example;
     let file = FileName(name);
     format!(in alloc;
         "error: invalid line {number} '{shown}' in '--prefixes {file}': {fault}\n  it may be {example}, {example}+ (more specifics too), {example}- (less specifics too) or an address; a line that begins with # is passed over\n"

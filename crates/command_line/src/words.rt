@@ -3,6 +3,7 @@
 ghost use Rattle.std.specs.Prelude.{◌≡◌, ◌<◌, ◌≤◌, ◌+◌, IfErr, IfOk, vec_len};
 ghost use Rattle.command_line.specs.Words.{IsRefusal};
 ghost use Rattle.command_line.specs.declared.words.Usage.TheVariants.{Memory};
+ghost use Rattle.command_line.specs.Families.{SpellsIn};
 
 use crate::address_family::AddressFamily;
 use crate::address_text::AddressText;
@@ -105,7 +106,7 @@ impl<T: Drop> From<AllocFailed<T>> for Usage {
 
 /// Returns the address that the arguments name.
 fn address_of<F: AddressText>(alloc: Global, text: &str) -> Result<F, Usage>
-    ensures number { IfOk result (λ address. F.spells text.now (F.bits address)) }
+    ensures number { IfOk result (λ address. SpellsIn F.FAMILY text.now (F.bits address)) }
     ensures refusal { IfErr result IsRefusal }
 {
     match F::address_in(text.as_bytes()) {
@@ -251,7 +252,7 @@ fn no_choice<F: AddressText>(alloc: Global, text: &str) -> Result<Usage, AllocEr
     ensures { IfOk result IsRefusal }
 {
     let fault = fault_of_reach::<F>(text.as_bytes());
-    let example = F::EXAMPLE;
+    let example = F::WORDS.example;
     Ok(Usage::Words(format!(in alloc;
         "error: invalid value '{text}' for '--prefix <PREFIX>': {fault}\n  it may be {example}, {example}+ (more specifics too), {example}- (less specifics too) or an address\n"
     )?))
