@@ -94,31 +94,25 @@ then_consumes (Some x) None c bytes k s = absurd k
 then_consumes (Some x) (Some y) None bytes k s = absurd s
 then_consumes (Some x) (Some y) (Some z) bytes k s = sym k ∙ s
 
--- the same of a read's result
-pub kept_consumes : {E : Type 0} (a b c : Option (List ℕ)) (result : Result ℕ E) (buffer : List ℕ) → Keeps a b → ReadConsumes b c result buffer → ReadConsumes a c result buffer
-kept_consumes a b c (Ok n) buffer k h = (then_consumes a b c _ k h.0, h.1)
-kept_consumes a b c (Err e) buffer k h = Keeps-trans a b c k h
-
 -- giving no bytes loses none
 none_given : (a b : Option (List ℕ)) (n : ℕ) (buffer : List ℕ) → Consumes a b (take n buffer) → n ≡ 0 → Keeps a b
 none_given None b n buffer h e = tt
 none_given (Some x) None n buffer h e = absurd h
 none_given (Some x) (Some y) n buffer h e = sym (h ∙ ap (λ m. take m buffer ++ y) e)
 
--- where nothing is told, any bytes may come
-pub untold_consumes : (a c : Option (List ℕ)) (bytes : List ℕ) → Keeps a None → Consumes a c bytes
-untold_consumes None c bytes k = tt
-untold_consumes (Some x) c bytes k = absurd k
+-- the same of a read's result
+pub kept_consumes : {E : Type 0} (a b c : Option (List ℕ)) (result : Result ℕ E) (buffer : List ℕ) → Keeps a b → ReadConsumes b c result buffer → ReadConsumes a c result buffer
+kept_consumes a b c (Ok n) buffer k h = (then_consumes a b c _ k h.0, h.1)
+kept_consumes a b c (Err e) buffer k h = Keeps-trans a b c k h
+
+-- the same after a giving of no bytes
+pub none_consumes : {E : Type 0} (a b c : Option (List ℕ)) (n : ℕ) (none buffer : List ℕ) (result : Result ℕ E) → Consumes a b (take n none) → n ≡ 0 → ReadConsumes b c result buffer → ReadConsumes a c result buffer
+none_consumes a b c n none buffer result h e = kept_consumes a b c result buffer (none_given a b n none h e)
 
 -- a read of a file that is read as it is, after what loses nothing
 pub plain_consumes : {D : Type 0} (remaining : D → Option (List ℕ)) (old now : Unpacked D) (blocks : Blocks (HeadFirst D)) (after : Option (List ℕ)) {E : Type 0} (result : Result ℕ E) (buffer : List ℕ) → Keeps (unpacked_remaining remaining old) (unpacked_remaining remaining now) → now.stage ≡ stages.Plain blocks → ReadConsumes (blocks_remaining (first_remaining remaining) blocks) after result buffer → ReadConsumes (unpacked_remaining remaining old) after result buffer
 plain_consumes remaining old now blocks after result buffer k e h =
     kept_consumes _ _ after result buffer (subst (λ stage. Keeps (unpacked_remaining remaining old) (stage_remaining remaining stage)) e k) h
-
--- a file that is read as it is, and that gives no bytes
-pub plain_keeps : {D : Type 0} (remaining : D → Option (List ℕ)) (old : Unpacked D) (blocks : Blocks (HeadFirst D)) (after : Option (List ℕ)) (n : ℕ) (buffer : List ℕ) → old.stage ≡ stages.Plain blocks → Consumes (blocks_remaining (first_remaining remaining) blocks) after (take n buffer) → n ≡ 0 → Keeps (unpacked_remaining remaining old) after
-plain_keeps remaining old blocks after n buffer e h none =
-    subst (λ stage. Keeps (stage_remaining remaining stage) after) (sym e) (none_given _ after n buffer h none)
 
 -- what holds at every error holds of some
 pub at_errors : {E : Type 0} (A B : Type 0) (result : Result ℕ E) → OnErr result B → OnErr result (A → B)

@@ -1,1 +1,1 @@
-mod HeadLaws
+pub mod HeadLaws

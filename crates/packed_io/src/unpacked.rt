@@ -1,8 +1,8 @@
 //! A reader of files that may be packed.
 
-ghost use Rattle.std.specs.Prelude.{◌≡◌, ◌<◌, length, true, IfOk, IsErr, IsOk, OnErr, OnOk};
+ghost use Rattle.std.specs.Prelude.{◌≡◌, ◌<◌, ◌≤◌, length, take, true, IfOk, IsErr, IsOk, OnErr, OnOk};
 ghost use Rattle.std.specs.Io.{ReadsAtMost};
-ghost use Rattle.std.specs.Io.KnownBytes.{Keeps, ReadConsumes};
+ghost use Rattle.std.specs.Io.KnownBytes.{Consumes, Keeps, ReadConsumes};
 ghost use Rattle.packed_io.specs.Formats.{told_of};
 ghost use Rattle.packed_io.specs.Faults.{EndsTheData, FailsReading};
 ghost use Rattle.packed_io.specs.Stages.{IsWhole, Opens, is_told, known_bytes};
@@ -207,29 +207,23 @@ impl<D: Read> Unpacked<D> {
 impl<D: Read + Drop> Unpacked<D> {
     ghost use Rattle.packed_io.specs.Reading.{HasEnded, HasFailed, IsPacked, unpacked_remaining};
 
-    /// Reads the first bytes, or the next block of a plain file, and gives some bytes.
-    #[inline(never)]
-    fn read_on<T: Team>(&mut self, team: &T, buf: &mut [u8]) -> io::Result<usize>
-        requires { T.is_ready team.now }
-        ensures bound { ReadsAtMost result buf.new }
-        ensures bytes { ReadConsumes (unpacked_remaining D.remaining self.old) (unpacked_remaining D.remaining self.new) result buf.new }
-        ensures fails { OnErr result (IsPacked self.new → HasFailed self.new) }
-        ensures ends { result ≡ Ok 0 → 0 < length buf.new → IsPacked self.new → HasEnded self.new }
-        ensures stays_failed { HasFailed self.old → IsErr result × (self.new ≡ self.old) }
-        ensures stays_ended { HasEnded self.old → (result ≡ Ok 0) × (self.new ≡ self.old) }
+    /// Gives bytes of a plain file's block, as many as it has left and as there is room for. Nothing is read: where there
+    /// are none, `read` goes on. Whoever reads a few bytes at a time asks here first, and clears and copies no result with
+    /// its error.
+    #[inline(always)]
+    pub fn take_held(&mut self, buf: &mut [u8]) -> usize
+        ensures bound { result ≤ length buf.new }
+        ensures bytes { Consumes (unpacked_remaining D.remaining self.old) (unpacked_remaining D.remaining self.new) (take result buf.new) }
     {
-        if let Stage::Waiting(_) = &self.stage {
-            self.begin()?;
+        match &mut self.stage {
+            Stage::Plain(blocks) => blocks.take_held(buf),
+            _ => 0,
         }
-        if let Stage::Plain(blocks) = &mut self.stage {
-            return blocks.read(buf);
-        }
-        self.read_packed(team, buf)
     }
 
     /// Reads some bytes, as `read` does. The team decodes blocks of bzip2, and another one may at each read: the bytes
     /// are the same.
-    #[inline(always)]
+    #[inline(never)]
     pub fn read_by<T: Team>(&mut self, team: &T, buf: &mut [u8]) -> io::Result<usize>
         requires { T.is_ready team.now }
         ensures bound { ReadsAtMost result buf.new }
@@ -240,16 +234,11 @@ impl<D: Read + Drop> Unpacked<D> {
         ensures stays_failed { HasFailed self.old → IsErr result × (self.new ≡ self.old) }
         ensures stays_ended { HasEnded self.old → (result ≡ Ok 0) × (self.new ≡ self.old) }
     {
-        // What is left of a plain file's block is given here, and all else by functions that aren't inlined: their many
-        // locals, and the errors in their results, would slow down each read of a plain file.
-        if let Stage::Plain(blocks) = &mut self.stage {
-            let count = blocks.take_held(buf);
-            if count > 0 {
-                return Ok(count);
-            }
+        if let Stage::Waiting(_) = &self.stage {
+            self.begin()?;
         }
-        if let Stage::Waiting(_) | Stage::Plain(_) = &self.stage {
-            return self.read_on(team, buf);
+        if let Stage::Plain(blocks) = &mut self.stage {
+            return blocks.read(buf);
         }
         self.read_packed(team, buf)
     }

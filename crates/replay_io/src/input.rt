@@ -1,6 +1,8 @@
 //! The dumps that are read.
 
-ghost use Rattle.std.specs.Prelude.{◌≡◌};
+ghost use Rattle.std.specs.Prelude.{◌≡◌, ◌≤◌, length, take};
+ghost use Rattle.std.specs.Io.{ReadsAtMost};
+ghost use Rattle.std.specs.Io.KnownBytes.{Consumes, ReadConsumes};
 ghost use Rattle.packed_io.specs.Formats.{told_of};
 ghost use Rattle.replay_io.specs.Devices.{contents_remaining, dump_contents, dump_remaining};
 
@@ -99,6 +101,18 @@ impl<D: Read + Drop> Contents<'_, D> {
         match self {
             Contents::Here(unpacked) => unpacked.fault(),
             Contents::Ahead(_, reader) => reader.fault(),
+        }
+    }
+
+    /// Gives bytes of a plain file's block, without reading: none where it has none, or where the file is packed.
+    #[inline(always)]
+    fn take_held(&mut self, buf: &mut [u8]) -> usize
+        ensures bound { result ≤ length buf.new }
+        ensures bytes { Consumes (contents_remaining D.remaining self.old) (contents_remaining D.remaining self.new) (take result buf.new) }
+    {
+        match self {
+            Contents::Here(unpacked) => unpacked.take_held(buf),
+            Contents::Ahead(_, _) => 0,
         }
     }
 }
@@ -244,13 +258,11 @@ impl<'a, D: Read + Drop> Dump<'a, D> {
         self.error
     }
 
-    /// Counts the bytes that were read, where someone wants to know.
+    /// Counts the bytes that were read for who wants to know.
+    #[inline(never)]
     fn watch(&mut self, bytes: &[u8])
         ensures { dump_contents self.new ≡ dump_contents self.old }
     {
-        if self.watch.is_none() {
-            return;
-        }
         let of_file = match self.packed() {
             Some((_, packed_bytes)) => packed_bytes,
             None => self.bytes,
@@ -288,14 +300,17 @@ impl<'a, D: Read + Drop> Dump<'a, D> {
     {
         self.first.take(bytes);
         self.bytes = self.bytes.saturating_add(bytes.len() as u64);
-        self.watch(bytes);
+        if self.watch.is_some() {
+            self.watch(bytes);
+        }
     }
-}
 
-impl<D: Read + Drop> Read for Dump<'_, D> {
-    ghost remaining = { dump_remaining D.remaining };
-
-    fn read(&mut self, buf: &mut [u8]) -> io::Result<usize> {
+    /// Reads from the device, or from what unpacks it.
+    #[inline(never)]
+    fn read_on(&mut self, buf: &mut [u8]) -> io::Result<usize>
+        ensures bound { ReadsAtMost result buf.new }
+        ensures bytes { ReadConsumes (dump_remaining D.remaining self.old) (dump_remaining D.remaining self.new) result buf.new }
+    {
         self.begin();
         match self.contents.read(buf) {
             Ok(count) => {
@@ -310,6 +325,20 @@ impl<D: Read + Drop> Read for Dump<'_, D> {
                 Err(error)
             }
         }
+    }
+}
+
+impl<D: Read + Drop> Read for Dump<'_, D> {
+    ghost remaining = { dump_remaining D.remaining };
+
+    fn read(&mut self, buf: &mut [u8]) -> io::Result<usize> {
+        // Most reads are of a few bytes that a plain file's block has.
+        let count = self.contents.take_held(buf);
+        if count > 0 {
+            self.note(&buf[..count]);
+            return Ok(count);
+        }
+        self.read_on(buf)
     }
 }
 

@@ -1,33 +1,39 @@
-use Rattle.std.proofs.Common.{subst, sym, arith}
+use Rattle.std.proofs.Common.{◌≡◌, ◌∙◌, IsErr, Ok, subst, sym}
 use Rattle.std.proofs.KnownBytes.{Keeps-refl}
 use Rattle.std.specs.Io.KnownBytes.{Keeps}
-use Rattle.run_io.specs.Readers.{blocks_remaining}
-use Rattle.packed_io.specs.Devices.{first_remaining}
-use Rattle.packed_io.specs.Reading.{unpacked_remaining}
-use Rattle.packed_io.proofs.HeadLaws.{kept_consumes, plain_keeps}
+use Rattle.packed_io.specs.Reading.{HasEnded, HasFailed, unpacked_remaining}
+use Rattle.packed_io.specs.Stages.{StageEnded, StageFailed}
+use Rattle.packed_io.proofs.HeadLaws.{at_errors, kept_consumes, plain_consumes, same_told}
 use Rattle.packed_io.proofs.unpacked.Unpacked.read_by.Goals as goal
-use Rattle.packed_io.proofs.unpacked.Unpacked.read_by.Goals.{in-Plain+else-count-gt0, in_default}
+use Rattle.packed_io.proofs.unpacked.Unpacked.read_by.Goals.{in-Waiting+in_ok-begin, in_default}
 
-pub returns-in-Waiting-clause-bytes : goal.returns-in-Waiting-clause-bytes
-returns-in-Waiting-clause-bytes g c =
+pub returns-in-Plain-clause-bytes : goal.returns-in-Plain-clause-bytes
+returns-in-Plain-clause-bytes g c =
     let remaining = g.D.Read.remaining in
-    let old = c.args.self.now in
-    let kept : Keeps (unpacked_remaining remaining old) (unpacked_remaining remaining c.match-self.self) = elim c.match-self.branch [
-      | in-Plain+else-count-gt0 w ↦
-          let none = plain_keeps remaining old w.in-Plain.blocks (blocks_remaining (first_remaining remaining) w.take_held-count.new.self) _ _ w.in-Plain.is w.take_held-count.ensures.bytes (omega (arith, w.if-count-gt0.false)) in
-          subst (λ u. Keeps (unpacked_remaining remaining old) (unpacked_remaining remaining u)) (sym w.self-is) none
-      | in_default w ↦ subst (λ u. Keeps (unpacked_remaining remaining old) (unpacked_remaining remaining u)) (sym w.self-is) (Keeps-refl (unpacked_remaining remaining old))
+    let kept : Keeps (unpacked_remaining remaining c.args.self.now) (unpacked_remaining remaining c.match-self.self) = elim c.match-self.branch [
+      | in-Waiting+in_ok-begin w ↦ subst (λ u. Keeps (unpacked_remaining remaining c.args.self.now) (unpacked_remaining remaining u)) (sym w.self-is) w.begin.ensures.kept
+      | in_default w ↦ subst (λ u. Keeps (unpacked_remaining remaining c.args.self.now) (unpacked_remaining remaining u)) (sym w.self-is) (Keeps-refl (unpacked_remaining remaining c.args.self.now))
     ] in
-    kept_consumes _ _ _ _ _ kept c.read_on.ensures.bytes
+    plain_consumes remaining c.args.self.now c.match-self.self c.in-Plain.blocks _ _ _ kept c.in-Plain.is c.read.ensures.bytes
 
-pub returns-clause-bytes : goal.returns-clause-bytes
-returns-clause-bytes g c =
+pub returns : goal.returns
+returns g c =
     let remaining = g.D.Read.remaining in
-    let old = c.args.self.now in
-    let kept : Keeps (unpacked_remaining remaining old) (unpacked_remaining remaining c.match-self.self) = elim c.match-self.branch [
-      | in-Plain+else-count-gt0 w ↦
-          let none = plain_keeps remaining old w.in-Plain.blocks (blocks_remaining (first_remaining remaining) w.take_held-count.new.self) _ _ w.in-Plain.is w.take_held-count.ensures.bytes (omega (arith, w.if-count-gt0.false)) in
-          subst (λ u. Keeps (unpacked_remaining remaining old) (unpacked_remaining remaining u)) (sym w.self-is) none
-      | in_default w ↦ subst (λ u. Keeps (unpacked_remaining remaining old) (unpacked_remaining remaining u)) (sym w.self-is) (Keeps-refl (unpacked_remaining remaining old))
+    let kept : Keeps (unpacked_remaining remaining c.args.self.now) (unpacked_remaining remaining c.match-self.self) = elim c.match-self.branch [
+      | in-Waiting+in_ok-begin w ↦ subst (λ u. Keeps (unpacked_remaining remaining c.args.self.now) (unpacked_remaining remaining u)) (sym w.self-is) w.begin.ensures.kept
+      | in_default w ↦ subst (λ u. Keeps (unpacked_remaining remaining c.args.self.now) (unpacked_remaining remaining u)) (sym w.self-is) (Keeps-refl (unpacked_remaining remaining c.args.self.now))
     ] in
-    kept_consumes _ _ _ _ _ kept c.read_packed.ensures.bytes
+    record {
+      bound = c.read_packed.ensures.bound;
+      bytes = kept_consumes _ _ _ _ _ kept c.read_packed.ensures.bytes;
+      fails = at_errors _ _ _ c.read_packed.ensures.fails;
+      ends = λ at_end room _. c.read_packed.ensures.ends at_end room;
+      stays_failed = λ failed. elim c.match-self.branch [
+        | in-Waiting+in_ok-begin w ↦ absurd (subst (λ stage. StageFailed stage) w.in-Waiting.is failed)
+        | in_default w ↦ subst (λ u. IsErr c.read_packed.result × (c.read_packed.new.self ≡ u)) (same_told c.match-self.self _ ∙ w.self-is) (c.read_packed.ensures.stays_failed (subst (λ u. HasFailed u) (sym w.self-is) failed))
+      ];
+      stays_ended = λ ended. elim c.match-self.branch [
+        | in-Waiting+in_ok-begin w ↦ absurd (subst (λ stage. StageEnded stage) w.in-Waiting.is ended)
+        | in_default w ↦ subst (λ u. (c.read_packed.result ≡ Ok 0) × (c.read_packed.new.self ≡ u)) (same_told c.match-self.self _ ∙ w.self-is) (c.read_packed.ensures.stays_ended (subst (λ u. HasEnded u) (sym w.self-is) ended))
+      ];
+    }
