@@ -258,7 +258,7 @@ impl<'a, D: Read + Drop> Dump<'a, D> {
         self.error
     }
 
-    /// Counts the bytes that were read for who wants to know.
+    /// Counts the bytes that were read, for whoever wants to know.
     #[inline(never)]
     fn watch(&mut self, bytes: &[u8])
         ensures { dump_contents self.new ≡ dump_contents self.old }
