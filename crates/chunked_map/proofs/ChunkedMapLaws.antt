@@ -18,7 +18,7 @@ use Rattle.bgp_prefix.proofs.OrderLaws.{sorted_parts, All-parts}
 use Rattle.bgp_prefix.proofs.SearchLaws.{first}
 use Rattle.bgp_prefix.proofs.SortedMaps.{of_put}
 use Rattle.bgp_prefix.proofs.RemoveLaws.{without}
-use Rattle.chunked_map.proofs.KeyedLists.{map_remove, less_past, more_past, All-insert, up_to_pair, up_to_false, each_second, each_weaker, find_below, find_above, put_below, put_above, put_last, each_first, without_below, without_above, each_before, each_below_all, node_read}
+use Rattle.chunked_map.proofs.KeyedLists.{IsNarrowed, narrowed, map_remove, less_past, more_past, All-insert, up_to_pair, up_to_false, each_second, each_weaker, find_below, find_above, put_below, put_above, put_last, each_first, without_below, without_above, each_before, each_below_all, node_read}
 
 module _ {V : Type 0} where
   pub leaves_append : (cs ds : List (List (RouteKey × V))) → in_leaves (cs ++ ds) ≡ in_leaves cs ++ in_leaves ds
@@ -112,26 +112,30 @@ module _ {V : Type 0} where
     keys_after (suc m) h = let one : suc m - 1 ≡ m = omega arith in rw one (keys_from (suc m) h)
 
   -- where the first key before is no greater, and the one after is
-  pub index_of_key : (ks : List RouteKey) (cs : List (List (RouteKey × V))) (key : RouteKey) (n : ℕ) → AreNodes ks cs → 0 < length cs → n ≤ length ks → (0 < n → (d : RouteKey) → key_cmp (get_or ks (n - 1) d) key ≢ Greater) → (n < length ks → (d : RouteKey) → key_cmp (get_or ks n d) key ≡ Greater) → IsIndexOfKey cs key (n - 1)
-  index_of_key ks cs key n branches some inside below above =
-      let long : n ≤ length cs = omega (arith, inside, ap length branches.firsts, length-map cs (first_key {V = V})) in
+  pub index_of_key : (ks : List RouteKey) (cs : List (List (RouteKey × V))) (key : RouteKey) (low high : ℕ) → AreNodes ks cs → 0 < length cs → IsNarrowed (λ k. key_cmp k key ≢ Greater) (λ k. key_cmp k key ≡ Greater) ks low high → high ≤ low → IsIndexOfKey cs key (low - 1)
+  index_of_key ks cs key low high branches some left met =
+      let n = narrowed (λ k. key_cmp k key ≢ Greater) (λ k. key_cmp k key ≡ Greater) ks low high left met in
+      let long : low ≤ length cs = omega (arith, n.inside, ap length branches.firsts, length-map cs (first_key {V = V})) in
       record {
         in_range = omega (arith, some, long);
-        before = keys_before ks cs branches (λ j. key_cmp j key ≢ Greater) (λ k. key_cmp k key ≡ Less) (λ k. key_cmp k key ≡ Greater) (less_past key) (more_past key) n long below;
-        after = keys_after ks cs branches (λ j. key_cmp j key ≢ Greater) (λ k. key_cmp k key ≡ Less) (λ k. key_cmp k key ≡ Greater) (less_past key) (more_past key) n above;
+        before = keys_before ks cs branches (λ j. key_cmp j key ≢ Greater) (λ k. key_cmp k key ≡ Less) (λ k. key_cmp k key ≡ Greater) (less_past key) (more_past key) low long n.below;
+        after = keys_after ks cs branches (λ j. key_cmp j key ≢ Greater) (λ k. key_cmp k key ≡ Less) (λ k. key_cmp k key ≡ Greater) (less_past key) (more_past key) low n.above;
       }
 
-  pub index_of_prefix : (ks : List RouteKey) (cs : List (List (RouteKey × V))) (p : IpPrefix) (n : ℕ) → AreNodes ks cs → 0 < length cs → n ≤ length ks → (0 < n → (d : RouteKey) → is_le (prefix_cmp (get_or ks (n - 1) d).prefix p) ≡ true) → (n < length ks → (d : RouteKey) → is_le (prefix_cmp (get_or ks n d).prefix p) ≡ false) → IsIndexOfPrefix cs p (n - 1)
-  index_of_prefix ks cs p n branches some inside below above =
-      let long : n ≤ length cs = omega (arith, inside, ap length branches.firsts, length-map cs (first_key {V = V})) in
+  pub index_of_prefix : (ks : List RouteKey) (cs : List (List (RouteKey × V))) (p : IpPrefix) (low high : ℕ) → AreNodes ks cs → 0 < length cs → IsNarrowed (λ k. is_le (prefix_cmp k.prefix p) ≡ true) (λ k. is_le (prefix_cmp k.prefix p) ≡ false) ks low high → high ≤ low → IsIndexOfPrefix cs p (low - 1)
+  index_of_prefix ks cs p low high branches some left met =
+      let up_to : RouteKey → Type 0 = λ k. is_le (prefix_cmp k.prefix p) ≡ true in
+      let past : RouteKey → Type 0 = λ k. is_le (prefix_cmp k.prefix p) ≡ false in
+      let n = narrowed up_to past ks low high left met in
+      let long : low ≤ length cs = omega (arith, n.inside, ap length branches.firsts, length-map cs (first_key {V = V})) in
       record {
         in_range = omega (arith, some, long);
-        before = keys_before ks cs branches (λ j. is_le (prefix_cmp j.prefix p) ≡ true) (λ k. is_le (prefix_cmp k.prefix p) ≡ true) (λ k. is_le (prefix_cmp k.prefix p) ≡ false) (up_to_pair p) (up_to_false p) n long below;
-        after = keys_after ks cs branches (λ j. is_le (prefix_cmp j.prefix p) ≡ true) (λ k. is_le (prefix_cmp k.prefix p) ≡ true) (λ k. is_le (prefix_cmp k.prefix p) ≡ false) (up_to_pair p) (up_to_false p) n above;
+        before = keys_before ks cs branches up_to up_to past (up_to_pair p) (up_to_false p) low long n.below;
+        after = keys_after ks cs branches up_to up_to past (up_to_pair p) (up_to_false p) low n.above;
         start = λ later d.
             let none = first_key {V = V} [] in
-            let head : get_or ks (n - 1) none ≡ first_key (get_or cs (n - 1) d) = ap (λ (t : List RouteKey). get_or t (n - 1) none) branches.firsts ∙ get_or-map first_key cs (n - 1) d none (omega (arith, some, long)) in
-            subst (λ (k : RouteKey). is_le (prefix_cmp k.prefix p) ≡ true) head (below (omega (arith, later)) none);
+            let head : get_or ks (low - 1) none ≡ first_key (get_or cs (low - 1) d) = ap (λ (t : List RouteKey). get_or t (low - 1) none) branches.firsts ∙ get_or-map first_key cs (low - 1) d none (omega (arith, some, long)) in
+            subst up_to head (n.below (omega (arith, later)) none);
       }
 
   pub put_held : (k : RouteKey) (v : V) (es : List (RouteKey × V)) → is_nil (put key_cmp k v es) ≡ false

@@ -1,5 +1,5 @@
 -- Lists of routes by their keys: what holds of each key, and keys below and above all of them.
-use Rattle.std.proofs.Common.{◌≡◌, ◌≢◌, ℕ, zero, suc, ◌==◌, ◌<◌, Bool, true, false, cond, not, ◌&&◌, T, List, [], ◌∷◌, ◌++◌, length, get_or, take, drop, map, Some, None, Result, Ok, Err, OnOk, OnErr, refl, sym, ap, ◌∙◌, subst, arith}
+use Rattle.std.proofs.Common.{◌≡◌, ◌≢◌, ℕ, zero, suc, ◌==◌, ◌-◌, ◌<◌, ◌≤◌, Bool, true, false, cond, not, ◌&&◌, T, List, [], ◌∷◌, ◌++◌, length, get_or, take, drop, map, Some, None, Result, Ok, Err, OnOk, OnErr, refl, sym, ap, ◌∙◌, subst, arith}
 use Rattle.std.specs.List.{All, insert, remove}
 use Rattle.std.specs.Ordering.{is_lt, is_le, eq_by_cmp}
 use Rattle.std.specs.declared.cmp.Ordering.TheVariants.{Less, Equal, Greater}
@@ -16,6 +16,17 @@ use Rattle.bgp_prefix.proofs.KeyLaws.{key_cmp_total, key_cmp_exact}
 use Rattle.bgp_prefix.proofs.SearchLaws.{turn, first, second, less, tied_less, tied_greater}
 use Rattle.bgp_prefix.proofs.SortedMaps.{less_of}
 use Rattle.bgp_prefix.proofs.RemoveLaws.{without}
+
+-- what a search has left of a list: P holds of the item before, and Q of the one at the end
+pub record IsNarrowed {X : Type 0} (P Q : X → Type 0) (xs : List X) (low high : ℕ) : Type 0 where
+  pub order : low ≤ high
+  pub inside : high ≤ length xs
+  pub below : 0 < low → (d : X) → P (get_or xs (low - 1) d)
+  pub above : high < length xs → (d : X) → Q (get_or xs high d)
+
+-- and where nothing is left
+pub narrowed : {X : Type 0} (P Q : X → Type 0) (xs : List X) (low high : ℕ) → IsNarrowed P Q xs low high → high ≤ low → IsNarrowed P Q xs low low
+narrowed P Q xs low high is met = let same : high ≡ low = omega (arith, met, is.order) in subst (IsNarrowed P Q xs low) same is
 
 pub node_read : {A B : Type 0} (f : A → B) (xs : List A) (i : ℕ) (x : A) → i < length xs → x ≡ get_or xs i x → f x ≡ get_or (map f xs) i (f x)
 node_read f xs i x lt read = ap f read ∙ sym (get_or-map f xs i x (f x) lt)

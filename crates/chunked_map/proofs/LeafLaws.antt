@@ -18,6 +18,7 @@ use Rattle.bgp_prefix.proofs.KeyLaws.{key_cmp_total}
 use Rattle.bgp_prefix.proofs.SearchLaws.{sorted_at, turn}
 use Rattle.bgp_prefix.proofs.JumpLaws.{first_up_to}
 use Rattle.bgp_prefix.proofs.ListedLaws.{paths_of-append}
+use Rattle.chunked_map.proofs.KeyedLists.{IsNarrowed, narrowed}
 use lib.ListN.{replicate}
 
 length_zeros : (n : ℕ) → length {A = ℕ} (replicate n 0) ≡ n
@@ -174,26 +175,29 @@ module _ {V : Type 0} where
         rw (rq, rj, rw') (removed_any ps is vs at ok (omega (arith, lt, sized)) ∙ ap (λ t. remove t at) view)
 
 -- where a key would go in a list in order, by its neighbours
-pub gap_between : {V : Type 0} (es : List (RouteKey × V)) (k : RouteKey) (i : ℕ) → T (is_sorted key_cmp es) → i ≤ length es → (0 < i → (d : RouteKey × V) → key_cmp (get_or es (i - 1) d).0 k ≡ Less) → (i < length es → (d : RouteKey × V) → key_cmp (get_or es i d).0 k ≡ Greater) → IsGap key_cmp es k i
-gap_between {V} es k i sorted inside below above = record {
-  in_range = inside;
-  before = λ j d lt. elim (cases_lt j (i - 1)) [
-    | inl less ↦ key_cmp_total.trans (get_or es j d).0 (get_or es (i - 1) d).0 k (sorted_at key_cmp key_cmp_total es j (i - 1) d sorted less (omega (arith, lt, inside))) (below (omega (arith, lt)) d)
-    | inr ge ↦ let same : i - 1 ≡ j = omega (arith, lt, ge) in subst (λ (n : ℕ). key_cmp (get_or es n d).0 k ≡ Less) same (below (omega (arith, lt)) d)
-  ];
-  after = λ j d le lt. elim (cases_lt i j) [
-    | inl less ↦
-        let here = turn key_cmp key_cmp_total (get_or es i d).0 k Greater (above (omega (arith, le, lt)) d) in
-        turn key_cmp key_cmp_total k (get_or es j d).0 Less (key_cmp_total.trans k (get_or es i d).0 (get_or es j d).0 here (sorted_at key_cmp key_cmp_total es i j d sorted less lt))
-    | inr ge ↦ let same : i ≡ j = omega (arith, le, ge) in subst (λ (n : ℕ). key_cmp (get_or es n d).0 k ≡ Greater) same (above (omega (arith, le, lt)) d)
-  ];
-}
+pub gap_between : {V : Type 0} (es : List (RouteKey × V)) (k : RouteKey) (i high : ℕ) → T (is_sorted key_cmp es) → IsNarrowed (λ e. key_cmp e.0 k ≡ Less) (λ e. key_cmp e.0 k ≡ Greater) es i high → high ≤ i → IsGap key_cmp es k i
+gap_between {V} es k i high sorted left met =
+    let n = narrowed (λ (e : RouteKey × V). key_cmp e.0 k ≡ Less) (λ e. key_cmp e.0 k ≡ Greater) es i high left met in
+    record {
+      in_range = n.inside;
+      before = λ j d lt. elim (cases_lt j (i - 1)) [
+        | inl less ↦ key_cmp_total.trans (get_or es j d).0 (get_or es (i - 1) d).0 k (sorted_at key_cmp key_cmp_total es j (i - 1) d sorted less (omega (arith, lt, n.inside))) (n.below (omega (arith, lt)) d)
+        | inr ge ↦ let same : i - 1 ≡ j = omega (arith, lt, ge) in subst (λ (n : ℕ). key_cmp (get_or es n d).0 k ≡ Less) same (n.below (omega (arith, lt)) d)
+      ];
+      after = λ j d le lt. elim (cases_lt i j) [
+        | inl less ↦
+            let here = turn key_cmp key_cmp_total (get_or es i d).0 k Greater (n.above (omega (arith, le, lt)) d) in
+            turn key_cmp key_cmp_total k (get_or es j d).0 Less (key_cmp_total.trans k (get_or es i d).0 (get_or es j d).0 here (sorted_at key_cmp key_cmp_total es i j d sorted less lt))
+        | inr ge ↦ let same : i ≡ j = omega (arith, le, ge) in subst (λ (n : ℕ). key_cmp (get_or es n d).0 k ≡ Greater) same (n.above (omega (arith, le, lt)) d)
+      ];
+    }
 
-pub point_between : {V : Type 0} (es : List (RouteKey × V)) (p : IpPrefix) (i : ℕ) → T (is_sorted key_cmp es) → i ≤ length es → (0 < i → (d : RouteKey × V) → is_le (prefix_cmp (get_or es (i - 1) d).0.prefix p) ≡ true) → (i < length es → (d : RouteKey × V) → is_le (prefix_cmp (get_or es i d).0.prefix p) ≡ false) → IsPartitionPoint (λ e. is_le (prefix_cmp e.0.prefix p) ≡ true) (λ e. is_le (prefix_cmp e.0.prefix p) ≡ false) es i
-point_between {V} es p i sorted inside below above = (
-  λ k d low high. first_up_to es p sorted k (i - 1) d (omega (arith, high)) (omega (arith, high, inside)) (below (omega (arith, high)) d),
-  λ k d low high. untrue (is_le (prefix_cmp (get_or es k d).0.prefix p)) (λ yes. let up = first_up_to es p sorted i k d low high yes in let no = above (omega (arith, low, high)) d in let clash : true ≡ false = sym up ∙ no in clash),
-)
+pub point_between : {V : Type 0} (es : List (RouteKey × V)) (p : IpPrefix) (i high : ℕ) → T (is_sorted key_cmp es) → IsNarrowed (λ e. is_le (prefix_cmp e.0.prefix p) ≡ true) (λ e. is_le (prefix_cmp e.0.prefix p) ≡ false) es i high → high ≤ i → IsPartitionPoint (λ e. is_le (prefix_cmp e.0.prefix p) ≡ true) (λ e. is_le (prefix_cmp e.0.prefix p) ≡ false) es i
+point_between {V} es p i high sorted left met =
+    let n = narrowed (λ (e : RouteKey × V). is_le (prefix_cmp e.0.prefix p) ≡ true) (λ e. is_le (prefix_cmp e.0.prefix p) ≡ false) es i high left met in (
+      λ k d low high. first_up_to es p sorted k (i - 1) d (omega (arith, high)) (omega (arith, high, n.inside)) (n.below (omega (arith, high)) d),
+      λ k d low high. untrue (is_le (prefix_cmp (get_or es k d).0.prefix p)) (λ yes. let up = first_up_to es p sorted i k d low high yes in let no = n.above (omega (arith, low, high)) d in let clash : true ≡ false = sym up ∙ no in clash),
+    )
   where
     untrue : (b : Bool) → (b ≡ true → true ≡ false) → b ≡ false
     untrue true h = h refl

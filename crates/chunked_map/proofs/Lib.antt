@@ -3,3 +3,4 @@ pub mod KeyedLists
 pub mod ChunkedMapLaws
 pub mod LastPrefixes
 pub mod NodeLaws
+pub mod MapInvariant

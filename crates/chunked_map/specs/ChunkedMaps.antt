@@ -1,5 +1,5 @@
 -- Lists of routes in arrays, and in leaves one after another.
-use Rattle.std.specs.Prelude.{◌≡◌, ℕ, zero, suc, ◌-◌, ◌<◌, ◌≤◌, ◌⊎◌, true, false, cond, T, List, [], ◌∷◌, ◌++◌, length, map, take, drop, slice_index_or, Option, Some, None}
+use Rattle.std.specs.Prelude.{◌≡◌, ◌≢◌, ℕ, zero, suc, ◌-◌, ◌<◌, ◌≤◌, ◌⊎◌, true, false, cond, T, List, [], ◌∷◌, ◌++◌, length, map, take, drop, slice_index_or, Option, Some, None}
 use Rattle.std.specs.List.{All, insert, remove}
 use Rattle.std.specs.List.Sorted.{IsPartitionPoint}
 use Rattle.std.specs.Ordering.{is_lt, is_le}
@@ -64,6 +64,13 @@ pub record IsCut {V : Type 0} (es low high : List (RouteKey × V)) : Type 0 wher
 abbrev pub EachKey : {V : Type 0} → (RouteKey → Type 0) → List (RouteKey × V) → Type 0
 EachKey P [] = Unit {0}
 EachKey P (e ∷ es) = P e.0 × EachKey P es
+
+-- the branches of a map with keys of a width, how many routes they have, and a key that none of them comes after
+pub record IsMap {V : Type 0} (width : ℕ) (ks : List RouteKey) (leaves : List (List (RouteKey × V))) (len : ℕ) (last : RouteKey) : Type 0 where
+  pub branches : AreNodes ks leaves
+  pub count : len ≡ length (in_leaves leaves)
+  pub bound : EachKey (λ k. key_cmp k last ≢ Greater) (in_leaves leaves)
+  pub short : EachKey (λ k. k.prefix.len ≤ width) (in_leaves leaves)
 
 -- the index of the leaf in which the key is, or would go
 pub record IsIndexOfKey {V : Type 0} (leaves : List (List (RouteKey × V))) (key : RouteKey) (i : ℕ) : Type 0 where

@@ -39,21 +39,15 @@ pub struct ChunkedMap<F: Family, V> {
 }
 
 impl<F: Family, V> Model for ChunkedMap<F, V> {
-    ghost use Rattle.std.specs.Prelude.{◌≡◌, ◌≢◌, ◌≤◌, List, length, map};
-    ghost use Rattle.std.specs.declared.cmp.Ordering.TheVariants.{Greater};
-    ghost use Rattle.bgp_prefix.specs.Keys.{RouteKey, key_cmp};
-    ghost use Rattle.chunked_map.specs.ChunkedMaps.{routes_of, AreNodes, EachKey};
+    ghost use Rattle.std.specs.Prelude.{List, map};
+    ghost use Rattle.bgp_prefix.specs.Keys.{RouteKey};
+    ghost use Rattle.chunked_map.specs.ChunkedMaps.{routes_of, IsMap};
 
     ghost Value = { List (RouteKey × V) };
 
     ghost view = { λ m. routes_of (λ r. r) m.branches.nodes.items };
 
-    ghost invariant = { λ m. record {
-      branches : AreNodes m.branches.firsts.items (map (λ r. r) m.branches.nodes.items);
-      count : m.len ≡ length (routes_of (λ r. r) m.branches.nodes.items);
-      bound : EachKey (λ k. key_cmp k m.bound ≢ Greater) (routes_of (λ r. r) m.branches.nodes.items);
-      short : EachKey (λ k. k.prefix.len ≤ F.WIDTH) (routes_of (λ r. r) m.branches.nodes.items);
-    } };
+    ghost invariant = { λ m. IsMap F.WIDTH m.branches.firsts.items (map (λ r. r) m.branches.nodes.items) m.len m.bound };
 }
 
 impl<F: Family, V: Drop> ChunkedMap<F, V> {
@@ -140,9 +134,7 @@ impl<F: Family, V: Drop> PrefixMap<V> for ChunkedMap<F, V> {
 
     fn remove(&mut self, key: &RouteKey<Prefix<F>>) -> Option<V> {
         let before = self.branches.remove(key);
-        if before.is_some() {
-            self.len -= 1;
-        }
+        self.len -= before.is_some() as usize;
         before
     }
 
@@ -151,9 +143,7 @@ impl<F: Family, V: Drop> PrefixMap<V> for ChunkedMap<F, V> {
     }
 
     fn longest(&self, addr: F) -> Option<Prefix<F>> {
-        let Some(host) = Prefix::new(addr, F::WIDTH) else {
-            unreachable!()
-        };
+        let host = host_prefix(addr);
         let mut limit = F::WIDTH;
         loop {
             let Some(prefix) = self.branches.last_up_to(&host.shortened(limit)) else {
@@ -186,6 +176,17 @@ impl<F: Family, V: Drop> PrefixMap<V> for ChunkedMap<F, V> {
     fn list<'a>(&'a self, all: &mut Vec<(RouteKey<Prefix<F>>, &'a V)>) {
         self.branches.list(all);
     }
+}
+
+// The prefix of an address alone.
+#[inline]
+fn host_prefix<F: Family>(addr: F) -> Prefix<F>
+    ensures { result ≡ record { addr = F.bits addr; len = F.WIDTH } }
+{
+    let Some(host) = Prefix::new(addr, F::WIDTH) else {
+        unreachable!()
+    };
+    host
 }
 
 // The key that comes before all others.

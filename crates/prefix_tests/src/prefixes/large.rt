@@ -81,22 +81,14 @@ fn fill_and_empty<F: Tried, M: PrefixMap<u32, Addr = F> + Drop>(
 }
 
 #[test]
-fn a_large_radix_map_fills_and_empties(rt: HostRuntime) -> Result<(), Fail> {
-    fill_and_empty::<u32, Radix<u32, u32>>(&rt, rt.alloc(), 0)
-}
-
-#[test]
-fn a_large_chunked_map_fills_and_empties(rt: HostRuntime) -> Result<(), Fail> {
+fn large_maps_fill_and_empty(rt: HostRuntime) -> Result<(), Fail> {
+    fill_and_empty::<u32, Radix<u32, u32>>(&rt, rt.alloc(), 0)?;
     fill_and_empty::<u32, ChunkedMap<u32, u32>>(&rt, rt.alloc(), 0)
 }
 
 /// After 48 bits the keys differ on both sides of the place where the address's halves meet.
 #[test]
-fn a_large_radix_map_of_ipv6_fills_and_empties(rt: HostRuntime) -> Result<(), Fail> {
-    fill_and_empty::<Ipv6, Radix<Ipv6, u32>>(&rt, rt.alloc(), 48)
-}
-
-#[test]
-fn a_large_chunked_map_of_ipv6_fills_and_empties(rt: HostRuntime) -> Result<(), Fail> {
+fn large_maps_of_ipv6_fill_and_empty(rt: HostRuntime) -> Result<(), Fail> {
+    fill_and_empty::<Ipv6, Radix<Ipv6, u32>>(&rt, rt.alloc(), 48)?;
     fill_and_empty::<Ipv6, ChunkedMap<Ipv6, u32>>(&rt, rt.alloc(), 48)
 }

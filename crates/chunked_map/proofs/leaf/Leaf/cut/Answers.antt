@@ -3,10 +3,10 @@ use Rattle.chunked_map.proofs.LeafLaws.{sized, routes_take, routes_drop, arrays_
 use Rattle.chunked_map.proofs.leaf.Leaf.cut.Goals as goal
 
 pub copied_from-requires : goal.copied_from-requires
-copied_from-requires g c = let a = c.self.inside in omega (arith, c.requires, sized a.keys.items a.ids.items a.values.items c.args.self.now c.self.invariant c.self.view_is)
+copied_from-requires g c = omega (arith, c.requires, sized _ _ _ _ c.self.invariant c.self.view_is)
 
 pub split_off-requires : goal.split_off-requires
-split_off-requires g c = let a = c.self.inside in omega (arith, c.requires, c.self.invariant.values, sized a.keys.items a.ids.items a.values.items c.args.self.now c.self.invariant c.self.view_is)
+split_off-requires g c = omega (arith, c.requires, c.self.invariant.values, sized _ _ _ _ c.self.invariant c.self.view_is)
 
 pub invariant_of-result : goal.invariant_of-result
 invariant_of-result g c =

@@ -3,7 +3,7 @@ use Rattle.chunked_map.proofs.LeafLaws.{sized, key_is}
 use Rattle.chunked_map.proofs.leaf.Leaf.key_at.Goals as goal
 
 pub index-requires : goal.index-requires
-index-requires g c = let a = c.self.inside in omega (arith, c.requires, sized a.keys.items a.ids.items a.values.items c.args.self.now c.self.invariant c.self.view_is)
+index-requires g c = omega (arith, c.requires, sized _ _ _ _ c.self.invariant c.self.view_is)
 
 pub returns : goal.returns
-returns g c = let a = c.self.inside in λ d. key_is a.keys.items a.ids.items a.values.items c.args.self.now c.self.invariant c.self.view_is c.args.at c.index.result.now c.id_at.result d c.requires c.index.ensures c.id_at.ensures
+returns g c = λ d. key_is _ _ _ _ c.self.invariant c.self.view_is c.args.at c.index.result.now c.id_at.result d c.requires c.index.ensures c.id_at.ensures

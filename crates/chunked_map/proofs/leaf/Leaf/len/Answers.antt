@@ -3,4 +3,4 @@ use Rattle.chunked_map.proofs.LeafLaws.{sized}
 use Rattle.chunked_map.proofs.leaf.Leaf.len.Goals as goal
 
 pub returns : goal.returns
-returns g c = let a = c.self.inside in omega (arith, c.len.ensures, sized a.keys.items a.ids.items a.values.items c.args.self.now c.self.invariant c.self.view_is)
+returns g c = omega (arith, c.len.ensures, sized _ _ _ _ c.self.invariant c.self.view_is)

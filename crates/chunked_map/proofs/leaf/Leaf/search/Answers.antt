@@ -17,7 +17,4 @@ loop-low-preserved-in-Less g c =
     }
 
 pub returns-clause-absent : goal.returns-clause-absent
-returns-clause-absent g c =
-    let l = c.loop-low in
-    let met : l.high ≡ l.low = omega (arith, c.loop-low-test.false, l.invariant.order) in
-    gap_between c.args.self.now c.args.key.now l.low c.requires (omega (arith, l.invariant.inside, met)) l.invariant.below (rw met at l.invariant.above)
+returns-clause-absent g c = gap_between c.args.self.now c.args.key.now _ _ c.requires c.loop-low.invariant c.loop-low-test.false

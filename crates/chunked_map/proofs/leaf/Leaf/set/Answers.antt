@@ -4,10 +4,10 @@ use Rattle.chunked_map.proofs.LeafLaws.{sized, value_is, routes_set}
 use Rattle.chunked_map.proofs.leaf.Leaf.set.Goals as goal
 
 pub exchange-requires : goal.exchange-requires
-exchange-requires g c = let a = c.self.inside in omega (arith, c.requires, c.self.invariant.values, sized a.keys.items a.ids.items a.values.items c.args.self.now c.self.invariant c.self.view_is)
+exchange-requires g c = omega (arith, c.requires, c.self.invariant.values, sized _ _ _ _ c.self.invariant c.self.view_is)
 
 pub returns-clause-before : goal.returns-clause-before
-returns-clause-before g c = let a = c.self.inside in λ d. value_is a.keys.items a.ids.items a.values.items c.args.self.now c.self.invariant c.self.view_is c.args.at c.exchange.result d c.requires c.exchange.ensures.before
+returns-clause-before g c = λ d. value_is _ _ _ _ c.self.invariant c.self.view_is c.args.at c.exchange.result d c.requires c.exchange.ensures.before
 
 pub returns-clause-set : goal.returns-clause-set
 returns-clause-set g c =
