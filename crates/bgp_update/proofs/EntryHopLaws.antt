@@ -4,6 +4,7 @@ use Rattle.std.specs.Prelude.{IfSome}
 use Rattle.std.proofs.lemmas.Bool.{eqb-true, ltb-false, le-ltb, and_parts, eq-eqb}
 use Rattle.std.proofs.lemmas.List.{nil_from_length}
 use borrow.Author.Tests.{both_ways}
+use Rattle.std.specs.Result.{result_unwrap_or}
 use Rattle.byteorder.specs.Endian.{big_number}
 use Rattle.mrt_frame.specs.declared.fault.Fault.{Fault}
 use Rattle.mrt_frame.specs.Fields.{◌>>=◌, byte_at}
@@ -14,7 +15,7 @@ use Rattle.bgp_update.specs.declared.next_hop.NextHop.{NextHop}
 use Rattle.bgp_update.specs.declared.next_hop.NextHop.TheVariants.{V4, V6, V6Pair}
 use Rattle.bgp_update.specs.Families.{FamilyOf}
 use Rattle.bgp_update.specs.AttributeTypes.{bad_attribute}
-use Rattle.bgp_update.specs.Multiprotocol.{hop_bytes, hop_part, IsEntryHop, SaysEntryHop, is_unicast, hop_at, entry_hop_in, hop_or_none, entry_hop}
+use Rattle.bgp_update.specs.Multiprotocol.{hop_bytes, hop_part, IsEntryHop, SaysEntryHop, is_unicast, hop_at, entry_hop_in, entry_hop}
 use Rattle.bgp_update.specs.Attributes.{HoldsEntryHop}
 use Rattle.bgp_update.proofs.MultiprotocolLaws.{test_ok, hop_takes, hop_part_again}
 
@@ -117,8 +118,8 @@ entry_hop_in-said family value (Some hop) (inr h) =
 
 pub entry_hop-is : (family : FamilyOf) (o : Option (List ℕ)) → IfSome o (HoldsEntryHop false family) → SaysEntryHop family o (entry_hop family o)
 entry_hop-is family None h = refl
-entry_hop-is family (Some value) h = subst (IsEntryHop family value) (sym (ap hop_or_none (entry_hop_in-said family value h.0 h.1))) h.1
+entry_hop-is family (Some value) h = subst (IsEntryHop family value) (sym (ap (λ (r : Result (Option NextHop) Fault). result_unwrap_or r None) (entry_hop_in-said family value h.0 h.1))) h.1
 
 pub entry_hop-said : (family : FamilyOf) (o : Option (List ℕ)) (hop : Option NextHop) → SaysEntryHop family o hop → entry_hop family o ≡ hop
 entry_hop-said family None hop h = sym h
-entry_hop-said family (Some value) hop h = ap hop_or_none (entry_hop_in-said family value hop h)
+entry_hop-said family (Some value) hop h = ap (λ (r : Result (Option NextHop) Fault). result_unwrap_or r None) (entry_hop_in-said family value hop h)

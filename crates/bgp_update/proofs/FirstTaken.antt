@@ -2,6 +2,8 @@
 use Rattle.std.proofs.Common.{◌≡◌, ℕ, Bool, true, false, cond, eqb, List, [], length, Option, Some, None, refl, sym, ap, ◌∙◌, arith}
 use Rattle.std.proofs.lemmas.Bool.{eqb-true}
 use Rattle.std.proofs.lemmas.List.{nil_from_length}
+use Rattle.std.specs.Option.{option_or}
+use Rattle.bgp_prefix.proofs.KeyLaws.{or_none}
 use Rattle.bgp_update.specs.Families.{FamilyOf}
 use Rattle.bgp_update.specs.declared.attribute_type.AttributeType.{AttributeType}
 use Rattle.bgp_update.specs.declared.attribute_type.AttributeType.TheVariants as types
@@ -10,7 +12,7 @@ use Rattle.bgp_update.specs.declared.attribute_context.AttributeContext.{Attribu
 use Rattle.bgp_update.specs.declared.values.FirstValues.{FirstValues}
 use Rattle.bgp_update.specs.AttributeTypes.{type_of, bad_attribute}
 use Rattle.bgp_update.specs.Attributes.{WrittenAttribute, value_fault, refuses_repeat, fault_unless, fault_of_type, fault_beside}
-use Rattle.bgp_update.specs.Values.{kept_value, value_count, value_index, or_value, Takes}
+use Rattle.bgp_update.specs.Values.{kept_value, value_count, value_index, Takes}
 use Rattle.bgp_update.proofs.TypeLaws.{value_index_decides, equal_value_indices}
 use Rattle.bgp_update.proofs.FormedValues.{no_fault}
 
@@ -18,12 +20,8 @@ abbrev Values : Type 0
 Values = AttributeType → Option (List ℕ)
 
 -- the fault of an attribute of a type
-beside : (family : FamilyOf) (carrier : AttributeContext) (width : Width) (value_at : Values) (a : WrittenAttribute) (t : AttributeType) (o : Option (List ℕ)) → type_of a.code ≡ Some t → value_at t ≡ o → fault_beside family carrier width value_at a ≡ fault_of_type family carrier width t o a.value
+pub beside : (family : FamilyOf) (carrier : AttributeContext) (width : Width) (value_at : Values) (a : WrittenAttribute) (t : AttributeType) (o : Option (List ℕ)) → type_of a.code ≡ Some t → value_at t ≡ o → fault_beside family carrier width value_at a ≡ fault_of_type family carrier width t o a.value
 beside family carrier width value_at a t o e h = rw e (ap (λ (x : Option (List ℕ)). fault_of_type family carrier width t x a.value) h)
-
-or_none : (o : Option (List ℕ)) → o ≡ or_value o None
-or_none None = refl
-or_none (Some value) = refl
 
 -- the first of its type
 pub takes_first : (family : FamilyOf) (carrier : AttributeContext) (width : Width) (first later : FirstValues) (a : WrittenAttribute) (t : AttributeType) → type_of a.code ≡ Some t → kept_value first t ≡ None → value_fault family carrier width t a.value ≡ None
@@ -31,26 +29,26 @@ pub takes_first : (family : FamilyOf) (carrier : AttributeContext) (width : Widt
 takes_first family carrier width first later a t e none fine kept =
     record {
       passes = beside family carrier width (kept_value first) a t None e none ∙ fine;
-      kept = λ u. kept u ∙ by_test u (eqb (value_index u) (value_index t)) refl ∙ ap (λ (b : Bool). or_value (kept_value first u) (cond b (Some a.value) None)) (sym (value_index_decides a.code t u e));
+      kept = λ u. kept u ∙ by_test u (eqb (value_index u) (value_index t)) refl ∙ ap (λ (b : Bool). option_or (kept_value first u) (cond b (Some a.value) None)) (sym (value_index_decides a.code t u e));
     }
   where
-    by_test : (u : AttributeType) (b : Bool) → eqb (value_index u) (value_index t) ≡ b → cond b (Some a.value) (kept_value first u) ≡ or_value (kept_value first u) (cond b (Some a.value) None)
-    by_test u false h = or_none (kept_value first u)
-    by_test u true h = ap (λ (o : Option (List ℕ)). or_value o (Some a.value)) (sym (ap (kept_value first) (equal_value_indices u t h) ∙ none))
+    by_test : (u : AttributeType) (b : Bool) → eqb (value_index u) (value_index t) ≡ b → cond b (Some a.value) (kept_value first u) ≡ option_or (kept_value first u) (cond b (Some a.value) None)
+    by_test u false h = sym (or_none (kept_value first u))
+    by_test u true h = ap (λ (o : Option (List ℕ)). option_or o (Some a.value)) (sym (ap (kept_value first) (equal_value_indices u t h) ∙ none))
 
 -- a repeat
 pub takes_again : (family : FamilyOf) (carrier : AttributeContext) (width : Width) (first : FirstValues) (a : WrittenAttribute) (t : AttributeType) (value : List ℕ) → type_of a.code ≡ Some t → Some value ≡ kept_value first t → refuses_repeat carrier t ≡ false → Takes family carrier width first a first
 takes_again family carrier width first a t value e some allowed =
     record {
       passes = beside family carrier width (kept_value first) a t (Some value) e (sym some) ∙ ap (λ (b : Bool). fault_unless (cond b false true) (bad_attribute t)) allowed;
-      kept = λ u. by_test u (eqb (value_index u) (value_index t)) refl ∙ ap (λ (b : Bool). or_value (kept_value first u) (cond b (Some a.value) None)) (sym (value_index_decides a.code t u e));
+      kept = λ u. by_test u (eqb (value_index u) (value_index t)) refl ∙ ap (λ (b : Bool). option_or (kept_value first u) (cond b (Some a.value) None)) (sym (value_index_decides a.code t u e));
     }
   where
-    by_test : (u : AttributeType) (b : Bool) → eqb (value_index u) (value_index t) ≡ b → kept_value first u ≡ or_value (kept_value first u) (cond b (Some a.value) None)
-    by_test u false h = or_none (kept_value first u)
+    by_test : (u : AttributeType) (b : Bool) → eqb (value_index u) (value_index t) ≡ b → kept_value first u ≡ option_or (kept_value first u) (cond b (Some a.value) None)
+    by_test u false h = sym (or_none (kept_value first u))
     by_test u true h =
         let held : Some value ≡ kept_value first u = some ∙ ap (kept_value first) (sym (equal_value_indices u t h)) in
-        sym held ∙ ap (λ (o : Option (List ℕ)). or_value o (Some a.value)) held
+        sym held ∙ ap (λ (o : Option (List ℕ)). option_or o (Some a.value)) held
 
 -- ATOMIC_AGGREGATE has an empty value
 pub atomic_is_empty : (family : FamilyOf) (carrier : AttributeContext) (width : Width) (t : AttributeType) (value : List ℕ) → value_index t ≡ value_count → value_fault family carrier width t value ≡ None → value ≡ []

@@ -2,6 +2,7 @@
 use Rattle.std.proofs.Common.{◌≡◌, ℕ, Bool, true, false, ◌||◌, cond, eqb, List, [], ◌∷◌, length, Some, None, Result, Ok, Err, refl, ap, ◌∙◌, arith, inl, inr, ◌⊎◌}
 use Rattle.std.specs.Prelude.{is_some}
 use Rattle.std.proofs.lemmas.Bool.{eqb-true, ne_eqb, eq-eqb}
+use Rattle.std.specs.Result.{result_err}
 use Rattle.mrt_frame.specs.declared.fault.Fault.{Fault}
 use Rattle.mrt_frame.proofs.FieldLaws.{IsBytes}
 use Rattle.bgp_update.specs.Families.{FamilyOf}
@@ -17,7 +18,7 @@ use Rattle.bgp_update.specs.Segments.{number_len, path_bytes, IsPath, path_in}
 use Rattle.bgp_update.specs.Equality.{origin_number}
 use Rattle.bgp_update.specs.Multiprotocol.{reached_in, unreached_in, entry_hop_in}
 use Rattle.bgp_update.specs.AttributeTypes.{bad_attribute}
-use Rattle.bgp_update.specs.Attributes.{IsFormed, HoldsEntryHop, HoldsReach, HoldsUnreach, origin_of, fault_unless, fault_of, reached_fault, unreached_fault, value_fault}
+use Rattle.bgp_update.specs.Attributes.{IsFormed, HoldsEntryHop, HoldsReach, HoldsUnreach, origin_of, fault_unless, reached_fault, unreached_fault, value_fault}
 use Rattle.bgp_update.proofs.EntryHopLaws.{entry_hop_in-is, entry_hop_in-said}
 use Rattle.bgp_update.proofs.SegmentLaws.{path_in-bytes, path_in-is}
 use Rattle.bgp_update.proofs.MultiprotocolLaws.{reached_in-is, reached_in-bytes, unreached_in-is, unreached_in-bytes}
@@ -28,7 +29,7 @@ no_fault true fault e = refl
 no_fault false fault e = absurd cc
 
 -- a reading without a fault
-no_reading_fault : {A : Type 0} (r : Result A Fault) → fault_of r ≡ None → (x : A) × (r ≡ Ok x)
+no_reading_fault : {A : Type 0} (r : Result A Fault) → result_err r ≡ None → (x : A) × (r ≡ Ok x)
 no_reading_fault (Ok x) e = (x, refl)
 no_reading_fault (Err fault) e = absurd cc
 
@@ -82,15 +83,15 @@ either_passes value fault (inr e) = ap (λ (m : ℕ). fault_unless (eqb m 6 || e
 
 -- ---- MP_REACH_NLRI and MP_UNREACH_NLRI
 
-entry_holds : (own : Bool) (family : FamilyOf) (value : List ℕ) → IsBytes value → cond own None (fault_of (entry_hop_in family value)) ≡ None → HoldsEntryHop own family value
+entry_holds : (own : Bool) (family : FamilyOf) (value : List ℕ) → IsBytes value → cond own None (result_err (entry_hop_in family value)) ≡ None → HoldsEntryHop own family value
 entry_holds true family value fine e = tt
 entry_holds false family value fine e =
     let r = no_reading_fault (entry_hop_in family value) e in
     (r.0, entry_hop_in-is family value r.0 fine r.1)
 
-entry_passes : (own : Bool) (family : FamilyOf) (value : List ℕ) → HoldsEntryHop own family value → cond own None (fault_of (entry_hop_in family value)) ≡ None
+entry_passes : (own : Bool) (family : FamilyOf) (value : List ℕ) → HoldsEntryHop own family value → cond own None (result_err (entry_hop_in family value)) ≡ None
 entry_passes true family value h = refl
-entry_passes false family value h = ap fault_of (entry_hop_in-said family value h.0 h.1)
+entry_passes false family value h = ap result_err (entry_hop_in-said family value h.0 h.1)
 
 holds_reach : (family : FamilyOf) (carrier : AttributeContext) (value : List ℕ) → IsBytes value → reached_fault family carrier value ≡ None → HoldsReach family carrier value
 holds_reach family RibEntry value fine e = entry_holds family.own_fields family value fine e
@@ -114,14 +115,14 @@ unreach_passes family (Message add_path) value h = rw (unreached_in-bytes family
 
 -- ---- all types
 
-path_is : (width : Width) (value : List ℕ) → IsBytes value → fault_of (path_in (number_len width) value) ≡ None → (path : List PathSegment) × IsPath (number_len width) path × (value ≡ path_bytes (number_len width) path)
+path_is : (width : Width) (value : List ℕ) → IsBytes value → result_err (path_in (number_len width) value) ≡ None → (path : List PathSegment) × IsPath (number_len width) path × (value ≡ path_bytes (number_len width) path)
 path_is width value fine e =
     let r = no_reading_fault (path_in (number_len width) value) e in
     let law = path_in-is width value r.0 fine r.1 in
     (r.0, law.1, law.0)
 
-path_passes : (width : Width) (value : List ℕ) (path : List PathSegment) → IsPath (number_len width) path → value ≡ path_bytes (number_len width) path → fault_of (path_in (number_len width) value) ≡ None
-path_passes width value path h e = ap (λ (v : List ℕ). fault_of (path_in (number_len width) v)) e ∙ rw (path_in-bytes width path h) refl
+path_passes : (width : Width) (value : List ℕ) (path : List PathSegment) → IsPath (number_len width) path → value ≡ path_bytes (number_len width) path → result_err (path_in (number_len width) value) ≡ None
+path_passes width value path h e = ap (λ (v : List ℕ). result_err (path_in (number_len width) v)) e ∙ rw (path_in-bytes width path h) refl
 
 pub value_is_formed : (family : FamilyOf) (carrier : AttributeContext) (width : Width) (t : AttributeType) (value : List ℕ) → IsBytes value → value_fault family carrier width t value ≡ None → IsFormed family carrier width t value
 unfolding value_fault

@@ -3,6 +3,7 @@ use Rattle.std.proofs.Common.{◌≡◌, ℕ, ◌^◌, ◌<◌, ◌≤◌, Bool,
 use Rattle.std.proofs.lemmas.Bool.{eqb-true, ltb-false, le-ltb, and_parts, eq-eqb}
 use Rattle.std.proofs.lemmas.List.{take_all, drop_at, take-append-drop, length-drop}
 use borrow.Author.Tests.{both_ways}
+use Rattle.std.specs.Prelude.{option_map}
 use Rattle.byteorder.specs.Endian.{big_number, big_bytes}
 use Rattle.byteorder.specs.Numbers.{big_number-reads_back, length-bytes_high_first, big_from-lt}
 use Rattle.mrt_frame.specs.declared.fault.Fault.{Fault}
@@ -16,7 +17,7 @@ use Rattle.bgp_update.specs.declared.next_hop.NextHop.{NextHop}
 use Rattle.bgp_update.specs.declared.next_hop.NextHop.TheVariants.{V4, V6, V6Pair}
 use Rattle.bgp_update.specs.AttributeTypes.{bad_attribute}
 use Rattle.bgp_update.specs.Keys.{WrittenKey, keys_bytes, with_keys}
-use Rattle.bgp_update.specs.Multiprotocol.{family_bytes, hop_bytes, hop_part, FitsHop, IsOfAnotherFamily, IsReach, IsUnreach, SaysReach, SaysUnreach, is_unicast, is_hop_len, next_hop_of, hop_at, reach_at, reach_in, unreach_in, keys_beside, field_of, hop_of, reached_in, unreached_in, reached_keys, unreached_keys}
+use Rattle.bgp_update.specs.Multiprotocol.{family_bytes, hop_bytes, hop_part, FitsHop, IsOfAnotherFamily, IsReach, IsUnreach, SaysReach, SaysUnreach, is_unicast, is_hop_len, next_hop_of, hop_at, reach_at, reach_in, unreach_in, keys_beside, reached_in, unreached_in, reached_keys, unreached_keys}
 use Rattle.bgp_update.proofs.KeyLaws.{keys_in-bytes, keys_in-is}
 
 -- a test that passed
@@ -183,11 +184,11 @@ reach_parts family value o fine e = by_tests (ltb (length value) 3) (is_unicast 
 
 pub reached_in-is : (family : FamilyOf) (add_path : Bool) (value : List ℕ) (x : Option NextHop × List WrittenKey) → IsBytes value → reached_in family add_path value ≡ Ok x → IsReach family add_path value x.0 x.1
 reached_in-is family add_path value x fine e =
-    let a = bind_ok (reach_in family value) (λ reach. keys_beside (form_of family add_path) (field_of reach) >>= λ keys. Ok (hop_of reach, keys)) x e in
-    let b = bind_ok (keys_beside (form_of family add_path) (field_of a.0)) (λ keys. Ok (hop_of a.0, keys)) x a.2 in
-    subst (λ (y : Option NextHop × List WrittenKey). IsReach family add_path value y.0 y.1) (ok_is (hop_of a.0, b.0) x b.2) (by_parts a.0 b.0 (reach_parts family value a.0 fine a.1) b.1)
+    let a = bind_ok (reach_in family value) (λ reach. keys_beside (form_of family add_path) (option_map (λ (r : NextHop × List ℕ). r.1) reach) >>= λ keys. Ok (option_map (λ (r : NextHop × List ℕ). r.0) reach, keys)) x e in
+    let b = bind_ok (keys_beside (form_of family add_path) (option_map (λ (r : NextHop × List ℕ). r.1) a.0)) (λ keys. Ok (option_map (λ (r : NextHop × List ℕ). r.0) a.0, keys)) x a.2 in
+    subst (λ (y : Option NextHop × List WrittenKey). IsReach family add_path value y.0 y.1) (ok_is (option_map (λ (r : NextHop × List ℕ). r.0) a.0, b.0) x b.2) (by_parts a.0 b.0 (reach_parts family value a.0 fine a.1) b.1)
   where
-    by_parts : (o : Option (NextHop × List ℕ)) (keys : List WrittenKey) → ReachParts family value o → keys_beside (form_of family add_path) (field_of o) ≡ Ok keys → IsReach family add_path value (hop_of o) keys
+    by_parts : (o : Option (NextHop × List ℕ)) (keys : List WrittenKey) → ReachParts family value o → keys_beside (form_of family add_path) (option_map (λ (r : NextHop × List ℕ). r.1) o) ≡ Ok keys → IsReach family add_path value (option_map (λ (r : NextHop × List ℕ). r.0) o) keys
     by_parts None keys parts k = (parts, sym (ok_is [] keys k))
     by_parts (Some reach) keys parts k =
         let law = keys_in-is (form_of family add_path) reach.1 keys parts.0.fine k in

@@ -1,28 +1,27 @@
 -- What is read can be packed: its numbers have their widths, and its path, merged or not, can be written.
 use Rattle.std.proofs.Common.{◌≡◌, ℕ, zero, suc, ◌-◌, ◌^◌, ◌<◌, Bool, true, false, cond, eqb, List, [], ◌∷◌, ◌++◌, length, take, Option, Some, None, Result, Ok, Err, refl, sym, ap, subst, arith}
-use Rattle.std.specs.Prelude.{IfSome, IfOk, nat_le, nat_lt}
+use Rattle.std.specs.Prelude.{IfSome, nat_le, nat_lt}
 use Rattle.std.specs.List.{filter, AllByRecursion}
 use Rattle.std.specs.Option.{option_and_then}
 use Rattle.std.proofs.lemmas.Bool.{ltb-true}
-use Rattle.std.proofs.lemmas.List.{length-take, drop_at}
-use Rattle.std.proofs.lemmas.List.Concat.{flat_map-cons}
+use Rattle.std.proofs.lemmas.List.{length-take}
+use Rattle.std.specs.Result.{result_ok}
 use Rattle.byteorder.specs.Endian.{big_bytes}
 use Rattle.mrt_frame.specs.declared.fault.Fault.{Fault}
-use Rattle.mrt_frame.proofs.FieldLaws.{IsBytes, IsBytes-drop, IsBytes-front}
+use Rattle.mrt_frame.proofs.FieldLaws.{IsBytes, IsBytes-front}
 use Rattle.bgp_update.specs.Families.{FamilyOf}
 use Rattle.bgp_update.specs.declared.attribute_type.AttributeType.{AttributeType}
 use Rattle.bgp_update.specs.declared.attribute_type.AttributeType.TheVariants as types
 use Rattle.bgp_update.specs.declared.width.Width.{Width}
 use Rattle.bgp_update.specs.declared.width.Width.TheVariants.{Two, Four}
-use Rattle.bgp_update.specs.declared.attr_error.AttrError.{AttrError}
 use Rattle.bgp_update.specs.declared.route.Route.{Route}
-use Rattle.bgp_update.specs.Results.{Gives}
 use Rattle.bgp_update.specs.Paths.{PathSegment, is_sequence, has_numbers, is_plain, part_of, part_front, longest_front, segment_length, path_length, merged}
-use Rattle.bgp_update.specs.Segments.{number_len, path_in, well_formed, path_of_value, IsSegment, IsPath}
+use Rattle.bgp_update.specs.Segments.{number_len, path_in, path_of_value, IsSegment, IsPath}
 use Rattle.bgp_update.specs.Merging.{aggregator_of, as4_aggregator_of, as4_path_of, joined_path, is_stale}
-use Rattle.bgp_update.specs.Attributes.{WrittenAttribute, length_len, has_type, value_of, attributes_bytes, attribute_bytes, path_from, route_from, route_of, SaysRoute, route_in}
+use Rattle.bgp_update.specs.Attributes.{WrittenAttribute, value_of, attributes_bytes, path_from, route_from, route_of, SaysRoute, route_in}
 use Rattle.bgp_update.specs.Packing.{IsWritable}
 use Rattle.bgp_update.proofs.SegmentLaws.{path_in-is}
+use Rattle.bgp_update.proofs.AttributeLaws.{bytes_behind, values_fine}
 use Rattle.bgp_update.proofs.UpdateLaws.{route_takes, update_takes}
 use Rattle.bgp_update.specs.Updates.{Update, UpdateForm, update_bytes, update_in}
 
@@ -120,7 +119,7 @@ writable_joined false (Some path) (Some as4) h k = merged_path path as4 h k
 abbrev AreBytes : (AttributeType → Option (List ℕ)) → Type 0
 AreBytes value_at = (t : AttributeType) → IfSome (value_at t) IsBytes
 
-read_path : (width : Width) (value : List ℕ) (r : Result Path Fault) → path_in (number_len width) value ≡ r → IsBytes value → IsWritable (well_formed r)
+read_path : (width : Width) (value : List ℕ) (r : Result Path Fault) → path_in (number_len width) value ≡ r → IsBytes value → IsWritable (result_ok r)
 read_path width value (Ok path) e fine = wide_path width path (path_in-is width value path fine e).1
 read_path width value (Err fault) e fine = tt
 
@@ -146,23 +145,6 @@ pub said_writable : (width : Width) (value_at : AttributeType → Option (List �
 unfolding route_from
 said_writable width value_at fine = path_said width value_at fine
 
--- the values of bytes are bytes
-bytes_behind : (front rest : List ℕ) → IsBytes (front ++ rest) → IsBytes rest
-bytes_behind front rest fine = subst IsBytes (drop_at front rest (length front) refl) (IsBytes-drop (length front) (front ++ rest) fine)
-
-value_fine : (a : WrittenAttribute) → IsBytes (attribute_bytes a) → IsBytes a.value
-value_fine a fine = bytes_behind (big_bytes (length_len a.flags) (length a.value)) a.value (λ i. fine (suc (suc i)))
-
-one_of_two : (b : Bool) (x : List ℕ) (o : Option (List ℕ)) → IsBytes x → IfSome o IsBytes → IfSome (cond b (Some x) o) IsBytes
-one_of_two true x o h k = h
-one_of_two false x o h k = k
-
-pub values_fine : (t : AttributeType) (attributes : List WrittenAttribute) → IsBytes (attributes_bytes attributes) → IfSome (value_of t attributes) IsBytes
-values_fine t [] fine = tt
-values_fine t (a ∷ attributes) fine =
-    let both : IsBytes (attribute_bytes a ++ attributes_bytes attributes) = subst IsBytes (flat_map-cons attribute_bytes a attributes) fine in
-    one_of_two (has_type t a) a.value (value_of t attributes) (value_fine a (IsBytes-front (attribute_bytes a) (attributes_bytes attributes) both)) (values_fine t attributes (bytes_behind (attribute_bytes a) (attributes_bytes attributes) both))
-
 -- another next hop leaves the path as it is
 said_path : (own : Bool) (family : FamilyOf) (width : Width) (attributes : List WrittenAttribute) (route : Route) → SaysRoute own family width attributes route → route.path ≡ (route_of width attributes).path
 said_path true family width attributes route h = ap (λ (r : Route). r.path) h
@@ -173,10 +155,6 @@ route_writable family width bytes route fine e =
     let t = route_takes family width bytes route fine e in
     let written : IsWritable (route_of width t.attributes).path = said_writable width (λ x. value_of x t.attributes) (λ x. values_fine x t.attributes (subst IsBytes t.spelled fine)) in
     subst IsWritable (sym (said_path family.own_fields family width t.attributes route t.said)) written
-
-pub route_is_writable : (family : FamilyOf) (width : Width) (bytes : List ℕ) (r : Result Route AttrError) → IsBytes bytes → Gives (λ route. route) r (route_in family width bytes) → IfOk r (λ route. IsWritable route.path)
-route_is_writable family width bytes (Ok route) fine e = route_writable family width bytes route fine e
-route_is_writable family width bytes (Err error) fine e = tt
 
 attributes_fine : (form : UpdateForm) → IsBytes (update_bytes form) → IsBytes (attributes_bytes form.attributes)
 unfolding update_bytes
@@ -191,7 +169,3 @@ pub update_writable : (family : FamilyOf) (width : Width) (add_path : Bool) (bod
 update_writable family width add_path body update fine e =
     let t = update_takes family width add_path body update fine e in
     subst (λ (r : Route). IsWritable r.path) (sym t.said.route) (said_writable width (λ x. value_of x t.form.attributes) (λ x. values_fine x t.form.attributes (attributes_fine t.form (subst IsBytes t.spelled fine))))
-
-pub update_is_writable : (family : FamilyOf) (width : Width) (add_path : Bool) (body : List ℕ) (r : Result Update AttrError) → IsBytes body → Gives (λ u. u) r (update_in family width add_path body) → IfOk r (λ update. IsWritable update.route.path)
-update_is_writable family width add_path body (Ok update) fine e = update_writable family width add_path body update fine e
-update_is_writable family width add_path body (Err error) fine e = tt

@@ -13,7 +13,7 @@ use Rattle.bgp_update.specs.Segments.{SegmentField, segment_of, segment_bytes, p
 use Rattle.bgp_update.specs.Packing.{spelled_path, IsSpelled}
 use Rattle.bgp_update.proofs.SegmentLoops.{segment_field-takes, segment_of_field, segment_of_fault}
 use Rattle.bgp_update.proofs.SegmentLaws.{segment_again}
-use Rattle.bgp_update.proofs.Packings.{spelled_path-bytes}
+use Rattle.bgp_update.proofs.Packings.{spelled-bytes, spelled_path-bytes}
 
 abbrev pub segment_with : SegmentKind → List ℕ → PathSegment
 segment_with kind numbers = record { kind = kind; numbers = numbers }
@@ -25,9 +25,6 @@ pub record IsNext (bytes : List ℕ) (field : SegmentField) (rest : List ℕ) : 
   pub first : spelled_path bytes ≡ segment_of 4 field ∷ spelled_path rest
   pub spelled : IsSpelled rest
   pub room : field.count * 4 ≤ length field.octets
-
-pub spelled-bytes : (path : List PathSegment) → IsPath 4 path → IsSpelled (path_bytes 4 path)
-spelled-bytes path h = record { fits = subst (IsPath 4) (sym (spelled_path-bytes path h)) h; written = ap (path_bytes 4) (sym (spelled_path-bytes path h)) }
 
 -- the segment that comes first
 first_is : (bytes : List ℕ) (path : List PathSegment) (s : PathSegment) (rest : List ℕ) → IsPath 4 path → bytes ≡ path_bytes 4 path → segment_at 4 bytes ≡ Ok (s, rest) → 0 < length bytes

@@ -1,7 +1,8 @@
 -- Attributes are packed as they stand, where their numbers have four bytes.
-use Rattle.std.proofs.Common.{◌≡◌, ℕ, Bool, List, ◌++◌, Option, Some, None, refl, sym, ap, subst, ◌∙◌, append_assoc}
+use Rattle.std.proofs.Common.{◌≡◌, ℕ, Bool, List, ◌++◌, Option, Some, None, refl, sym, ap, subst, ◌∙◌, []}
 use Rattle.std.specs.Prelude.{IfSome, is_some}
-use Rattle.std.specs.Option.{option_and_then}
+use Rattle.std.specs.Option.{option_and_then, unwrap_or}
+use Rattle.std.specs.Result.{result_ok}
 use Rattle.mrt_frame.proofs.FieldLaws.{IsBytes}
 use Rattle.bgp_update.specs.Families.{FamilyOf}
 use Rattle.bgp_update.specs.declared.attribute_type.AttributeType.{AttributeType}
@@ -14,16 +15,15 @@ use Rattle.bgp_update.specs.declared.attribute_context.AttributeContext.{Attribu
 use Rattle.bgp_update.specs.declared.values.FirstValues.{FirstValues}
 use Rattle.bgp_update.specs.declared.route.Route.{Route}
 use Rattle.bgp_update.specs.Paths.{PathSegment}
-use Rattle.bgp_update.specs.Segments.{path_of_value, well_formed}
+use Rattle.bgp_update.specs.Segments.{path_of_value}
 use Rattle.bgp_update.specs.Attributes.{value_of, IsFormed, next_hop_value, route_from}
-use Rattle.bgp_update.specs.Values.{kept_value, KeepsFirst}
-use Rattle.bgp_update.specs.Packing.{IsSpelled, spelled_path, IsWritable, HaveWidths, without_path, fields_bytes, path_part, bytes_or_none, route_bytes}
+use Rattle.bgp_update.specs.Values.{CanPackKept, kept_route, kept_value, KeepsFirst}
+use Rattle.bgp_update.specs.Packing.{WritesRoute, IsSpelled, spelled_path, IsWritable, HaveWidths, without_path, fields_bytes, path_part}
 use Rattle.bgp_update.proofs.SegmentLaws.{path_in-bytes}
-use Rattle.bgp_update.proofs.AttributeLaws.{attributes_in-is}
+use Rattle.bgp_update.proofs.AttributeLaws.{attributes_in-is, values_fine}
 use Rattle.bgp_update.proofs.FromFirstValues.{route_from_same}
-use Rattle.bgp_update.proofs.Packings.{route_bytes-fields}
-use Rattle.bgp_update.proofs.PackedPaths.{spelled-bytes}
-use Rattle.bgp_update.proofs.Packable.{said_writable, values_fine}
+use Rattle.bgp_update.proofs.Packings.{route_with_path, spelled-bytes}
+use Rattle.bgp_update.proofs.Packable.{said_writable}
 
 spelled_if : (family : FamilyOf) (carrier : AttributeContext) (o : Option (List ℕ)) → IfSome o (IsFormed family carrier Four AsPath) → IfSome o IsSpelled
 spelled_if family carrier None h = tt
@@ -42,7 +42,7 @@ keeps_writable family carrier width bytes first fine keeps =
     subst (λ (r : Route). IsWritable r.path) (sym (route_from_same width (kept_value first) (λ t. value_of t keeps.0) keeps.2)) written
 
 spelled_is : (value : List ℕ) → IsSpelled value → path_of_value 4 value ≡ Some (spelled_path value)
-spelled_is value h = ap (λ (v : List ℕ). path_of_value 4 v) h.written ∙ ap well_formed (path_in-bytes Four (spelled_path value) h.fits)
+spelled_is value h = ap (λ (v : List ℕ). path_of_value 4 v) h.written ∙ ap result_ok (path_in-bytes Four (spelled_path value) h.fits)
 
 -- the path of an AS_PATH, and its bytes
 abbrev four : Option (List ℕ) → Option (List PathSegment)
@@ -52,23 +52,22 @@ four_there : (o : Option (List ℕ)) → IfSome o IsSpelled → is_some o ≡ is
 four_there None h = refl
 four_there (Some value) h = ap is_some (sym (spelled_is value h))
 
-four_bytes : (o : Option (List ℕ)) → IfSome o IsSpelled → bytes_or_none o ≡ path_part (four o)
+four_bytes : (o : Option (List ℕ)) → IfSome o IsSpelled → unwrap_or o [] ≡ path_part (four o)
 four_bytes None h = refl
 four_bytes (Some value) h = h.written ∙ ap path_part (sym (spelled_is value h))
 
 -- the fields are those of the route, and then its path comes
-pub four_route : (value_at : AttributeType → Option (List ℕ)) (r fields : Route) (o : Option (List ℕ)) (b : Bool) (old mid new : List ℕ) → IfSome (value_at AsPath) IsSpelled
-    → r.path ≡ (route_from Four value_at).path → fields ≡ without_path r → o ≡ value_at AsPath → b ≡ is_some o → mid ≡ old ++ fields_bytes fields b → new ≡ mid ++ bytes_or_none o → new ≡ old ++ route_bytes r
+pub four_route : (first : FirstValues) (hop : Option NextHop) (fields : Route) (o : Option (List ℕ)) (b : Bool) (old mid new : List ℕ) → CanPackKept Four first → fields ≡ without_path (by_hop (kept_route Four first) hop) → HaveWidths fields
+    → o ≡ kept_value first AsPath → b ≡ is_some o → mid ≡ old ++ fields_bytes fields b → new ≡ mid ++ unwrap_or o [] → WritesRoute old new (by_hop (kept_route Four first) hop)
 unfolding route_from fields_bytes
-four_route value_at r fields o b old mid new h path-is fields_are o-is b-is first second =
-    let there : b ≡ is_some r.path = b-is ∙ ap is_some o-is ∙ four_there (value_at AsPath) h ∙ ap is_some (sym path-is) in
-    let path : bytes_or_none o ≡ path_part r.path = ap bytes_or_none o-is ∙ four_bytes (value_at AsPath) h ∙ ap path_part (sym path-is) in
-    let front : fields_bytes fields b ≡ fields_bytes r (is_some r.path) = ap (λ (f : Route). fields_bytes f b) fields_are ∙ ap (fields_bytes r) there in
-    second ∙ ap (λ (xs : List ℕ). xs ++ bytes_or_none o) first ∙ append_assoc old (fields_bytes fields b) (bytes_or_none o)
-    ∙ ap (λ (xs : List ℕ). old ++ (xs ++ bytes_or_none o)) front ∙ ap (λ (xs : List ℕ). old ++ (fields_bytes r (is_some r.path) ++ xs)) path ∙ ap (λ (xs : List ℕ). old ++ xs) (route_bytes-fields r)
-
-pub widths_without : (fields r : Route) → fields ≡ without_path r → HaveWidths fields → HaveWidths r
-widths_without fields r e h = let w = subst HaveWidths e h in record { next_hop = w.next_hop; med = w.med; local_pref = w.local_pref; aggregator = w.aggregator }
+four_route first hop fields o b old mid new can fields_are widths o-is b-is start end =
+    let r : Route = by_hop (kept_route Four first) hop in
+    let h : IfSome (kept_value first AsPath) IsSpelled = can.four refl in
+    let there : b ≡ is_some r.path = b-is ∙ ap is_some o-is ∙ four_there (kept_value first AsPath) h in
+    let path : unwrap_or o [] ≡ path_part r.path = ap (λ (x : Option (List ℕ)). unwrap_or x []) o-is ∙ four_bytes (kept_value first AsPath) h in
+    let w = subst HaveWidths fields_are widths in
+    route_with_path r b r.path old mid new (record { next_hop = w.next_hop; med = w.med; local_pref = w.local_pref; aggregator = w.aggregator }) can.writable
+    there refl (start ∙ ap (λ (f : Route). old ++ fields_bytes f b) fields_are) (end ∙ ap (λ (xs : List ℕ). mid ++ xs) path)
 
 -- by the next hop of NEXT_HOP a route is itself
 pub by_own_hop : (width : Width) (value_at : AttributeType → Option (List ℕ)) (hop : Option NextHop) → hop ≡ next_hop_value (value_at AsNextHop) → by_hop (route_from width value_at) hop ≡ route_from width value_at

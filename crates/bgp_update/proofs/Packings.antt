@@ -1,9 +1,11 @@
 -- The bytes of a route spell it: what is packed is unpacked again.
-use Rattle.std.proofs.Common.{◌≡◌, ℕ, suc, ◌+◌, ◌-◌, ◌*◌, ◌/◌, ◌%◌, ◌^◌, ◌<◌, ◌≤◌, Bool, true, false, eqb, List, [], ◌∷◌, ◌++◌, length, get_or, take, drop, Option, Some, None, refl, sym, ap, subst, ◌∙◌, arith, append_assoc}
+use Rattle.std.proofs.Common.{◌≡◌, ℕ, suc, ◌+◌, ◌-◌, ◌*◌, ◌/◌, ◌%◌, ◌^◌, ◌<◌, ◌≤◌, Bool, true, false, eqb, List, [], ◌∷◌, ◌++◌, length, get_or, take, drop, Option, Some, None, refl, sym, ap, subst, ◌∙◌, arith, append_assoc, Result}
 use Rattle.std.specs.Prelude.{is_some, IfSome}
 use Rattle.std.proofs.lemmas.List.{length-append, drop_at, drop-drop, take_rest}
+use Rattle.std.specs.Result.{result_unwrap_or}
 use Rattle.byteorder.specs.Endian.{big_number, big_bytes}
 use Rattle.byteorder.specs.Numbers.{big_number-reads_back, length-bytes_high_first}
+use Rattle.mrt_frame.specs.declared.fault.Fault.{Fault}
 use Rattle.bgp_update.specs.declared.width.Width.TheVariants.{Four}
 use Rattle.bgp_update.specs.declared.next_hop.NextHop.{NextHop}
 use Rattle.bgp_update.specs.declared.next_hop.NextHop.TheVariants.{V4, V6, V6Pair}
@@ -12,10 +14,10 @@ use Rattle.bgp_update.specs.declared.route.Origin.TheVariants.{Igp}
 use Rattle.bgp_update.specs.declared.route.Aggregator.{Aggregator}
 use Rattle.bgp_update.specs.declared.route.Route.{Route}
 use Rattle.bgp_update.specs.Paths.{PathSegment}
-use Rattle.bgp_update.specs.Multiprotocol as multiprotocol
+use Rattle.bgp_update.specs.Multiprotocol.{FitsHop}
 use Rattle.bgp_update.specs.Segments.{path_bytes, IsPath}
 use Rattle.bgp_update.proofs.SegmentLaws.{path_in-bytes}
-use Rattle.bgp_update.specs.Packing.{FitsHop, FitsAggregator, CanPack, flag, origin_code, hop_code, field_flags, hop_bytes, number_bytes, aggregator_bytes, path_part, route_bytes, origin_bits, hop_bits, flag_bit, hop_len, med_at, local_pref_at, aggregator_at, path_at, origin_by, hop_by, number_by, aggregator_by, segments_of, spelled_path, path_by, unpacked, IsPacked, IsSpelled, fields_bytes}
+use Rattle.bgp_update.specs.Packing.{FitsAggregator, HaveWidths, IsWritable, CanPack, WritesRoute, flag, origin_code, hop_code, field_flags, hop_bytes, number_bytes, aggregator_bytes, path_part, route_bytes, origin_bits, hop_bits, flag_bit, hop_len, med_at, local_pref_at, aggregator_at, path_at, origin_by, hop_by, number_by, aggregator_by, spelled_path, path_by, unpacked, IsPacked, IsSpelled, fields_bytes}
 
 -- ---- flags
 
@@ -100,7 +102,10 @@ aggregator_len-is (Some a) = omega (arith, length-append (big_bytes 4 a.asn) (bi
 
 pub spelled_path-bytes : (path : List PathSegment) → IsPath 4 path → spelled_path (path_bytes 4 path) ≡ path
 unfolding spelled_path
-spelled_path-bytes path h = ap segments_of (path_in-bytes Four path h)
+spelled_path-bytes path h = ap (λ (r : Result (List PathSegment) Fault). result_unwrap_or r []) (path_in-bytes Four path h)
+
+pub spelled-bytes : (path : List PathSegment) → IsPath 4 path → IsSpelled (path_bytes 4 path)
+spelled-bytes path h = record { fits = subst (IsPath 4) (sym (spelled_path-bytes path h)) h; written = ap (path_bytes 4) (sym (spelled_path-bytes path h)) }
 
 path_again : (path : Option (List PathSegment)) → IfSome path (IsPath 4) → path_by (flag (is_some path)) (path_part path) ≡ path
 path_again None h = refl
@@ -235,16 +240,19 @@ packed_path bytes h e = by_path (unpacked bytes).path h.fits.path w.path_flag w.
 
     by_path : (path : Option (List PathSegment)) → IfSome path (IsPath 4) → get_or bytes 1 0 ≡ flag (is_some path) → drop (path_at bytes) bytes ≡ path_part path → IsSpelled (drop (path_at bytes) bytes)
     by_path None p f d = absurd (omega (arith, e, f))
-    by_path (Some path) p f d = subst IsSpelled (sym d) (record { fits = subst (IsPath 4) (sym (spelled_path-bytes path p)) p; written = ap (path_bytes 4) (sym (spelled_path-bytes path p)) })
+    by_path (Some path) p f d = subst IsSpelled (sym d) (spelled-bytes path p)
 
 -- the same under a name that an attribute can give
 pub packs_again : (r : Route) (bytes : List ℕ) → CanPack r → bytes ≡ route_bytes r → IsPacked bytes × (unpacked bytes ≡ r)
 packs_again r bytes h e = (packed-bytes r bytes h e, ap unpacked e ∙ unpacked-bytes r h)
 
-pub route_with_path : (r : Route) (b : Bool) (p : Option (List PathSegment)) (old mid new : List ℕ) → b ≡ is_some r.path → r.path ≡ p → mid ≡ old ++ fields_bytes r b → new ≡ mid ++ path_part p → new ≡ old ++ route_bytes r
-route_with_path r b p old mid new flag_is path_is first second =
-    second ∙ ap (λ (xs : List ℕ). xs ++ path_part p) first ∙ append_assoc old (fields_bytes r b) (path_part p)
-    ∙ ap (λ (c : Bool). old ++ (fields_bytes r c ++ path_part p)) flag_is ∙ ap (λ (q : Option (List PathSegment)). old ++ (fields_bytes r (is_some r.path) ++ path_part q)) (sym path_is) ∙ ap (λ (xs : List ℕ). old ++ xs) (route_bytes-fields r)
+-- the fields of a route were added, and then its path
+pub route_with_path : (r : Route) (b : Bool) (p : Option (List PathSegment)) (old mid new : List ℕ) → HaveWidths r → IsWritable r.path → b ≡ is_some r.path → r.path ≡ p → mid ≡ old ++ fields_bytes r b → new ≡ mid ++ path_part p → WritesRoute old new r
+route_with_path r b p old mid new widths writable flag_is path_is first second = record {
+  bytes = second ∙ ap (λ (xs : List ℕ). xs ++ path_part p) first ∙ append_assoc old (fields_bytes r b) (path_part p)
+      ∙ ap (λ (c : Bool). old ++ (fields_bytes r c ++ path_part p)) flag_is ∙ ap (λ (q : Option (List PathSegment)). old ++ (fields_bytes r (is_some r.path) ++ path_part q)) (sym path_is) ∙ ap (λ (xs : List ℕ). old ++ xs) (route_bytes-fields r);
+  packs = record { fields = widths; path = writable };
+}
 
 -- the path of packed bytes, as it is read
 pub path_slice : (bytes inside : List ℕ) (at : ℕ) → bytes ≡ inside → at ≡ path_at bytes → take (length bytes - at) (drop at bytes) ≡ drop (path_at inside) inside
@@ -253,14 +261,3 @@ path_slice bytes inside at same e = take_rest bytes at ∙ ap (λ (n : ℕ). dro
 pub path_there : (bytes : List ℕ) → get_or bytes 1 0 ≡ 1 → Some (spelled_path (drop (path_at bytes) bytes)) ≡ (unpacked bytes).path
 unfolding unpacked
 path_there bytes e = ap (λ (k : ℕ). path_by k (drop (path_at bytes) bytes)) (sym e)
-
--- the same bytes as those of a next hop in an attribute
-pub written_hop : (hop : NextHop) → multiprotocol.hop_bytes hop ≡ hop_bytes (Some hop)
-written_hop (V4 a) = refl
-written_hop (V6 a) = refl
-written_hop (V6Pair a link) = refl
-
-pub hop_fits : (hop : NextHop) → multiprotocol.FitsHop hop → FitsHop hop
-hop_fits (V4 a) h = h
-hop_fits (V6 a) h = h
-hop_fits (V6Pair a link) h = h

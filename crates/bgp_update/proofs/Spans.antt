@@ -12,10 +12,10 @@ use Rattle.bgp_update.specs.declared.next_hop.NextHop.{NextHop}
 use Rattle.bgp_update.specs.declared.route.Route.{Route}
 use Rattle.bgp_update.specs.declared.update.AppendedKeys.{AppendedKeys}
 use Rattle.bgp_update.specs.Hops.{by_hop, IsByHop}
-use Rattle.bgp_update.specs.Packing.{CanPack, IsPacked, route_bytes, unpacked}
+use Rattle.bgp_update.specs.Packing.{WritesRoute, IsPacked, route_bytes, unpacked}
 use Rattle.bgp_update.specs.Updates.{Update}
 use Rattle.bgp_update.proofs.Packings.{packs_again}
-use Rattle.bgp_update.specs.Decoded.{IsGrown, AreKeysOf, AreUpdateSpans, span_of, split_update, IsWithin, route_at, IsRouteAt, hop_at, update_at, IsReachedAt, IsUpdateAt}
+use Rattle.bgp_update.specs.Decoded.{IsGrown, AreKeysOf, AreUpdateSpans, span_of, split_update, IsWithin, route_at, IsRouteAt, AddsRoute, hop_at, update_at, IsReachedAt, IsUpdateAt}
 
 -- ---- growth
 
@@ -132,36 +132,33 @@ have_keys before after n route read k w a u z of_w of_a of_u of_z =
 
 -- ---- the update that was decoded
 
-hop_is : (bytes : List ℕ) (plain : Route) (o : Option RouteSpan) (hop : Option NextHop) → IfSome o (λ (s : RouteSpan). route_at bytes s ≡ by_hop plain hop) → is_some o ≡ is_some hop → hop_at bytes o ≡ hop
-hop_is bytes plain None None h e = refl
-hop_is bytes plain None (Some hop) h e = absurd cc
-hop_is bytes plain (Some s) hop h e = ap (λ (r : Route). r.next_hop) h
+hop_is : (mid bytes : List ℕ) (plain : Route) (o : Option RouteSpan) (hop : Option NextHop) → IfSome o (AddsRoute mid bytes (by_hop plain hop)) → is_some o ≡ is_some hop → hop_at bytes o ≡ hop
+hop_is mid bytes plain None None h e = refl
+hop_is mid bytes plain None (Some hop) h e = absurd cc
+hop_is mid bytes plain (Some s) hop h e = ap (λ (r : Route). r.next_hop) h.is
 
-reached_is : (bytes : List ℕ) (plain : RouteSpan) (route : Route) (o : Option RouteSpan) (hop : Option NextHop) → route_at bytes plain ≡ route → IfSome o (λ (s : RouteSpan). route_at bytes s ≡ by_hop route hop) → IfSome o (IsRouteAt bytes)
-    → IfSome o (IsReachedAt bytes plain)
-reached_is bytes plain route None hop is by there = tt
-reached_is bytes plain route (Some s) hop is by there =
-    let same : by_hop route hop ≡ by_hop (route_at bytes plain) (route_at bytes s).next_hop = ap (by_hop route) (sym (ap (λ (r : Route). r.next_hop) by)) ∙ ap (λ (r : Route). by_hop r (route_at bytes s).next_hop) (sym is) in
-    record { there = there; by = by ∙ same }
+reached_is : (mid bytes : List ℕ) (plain : RouteSpan) (route : Route) (o : Option RouteSpan) (hop : Option NextHop) → route_at bytes plain ≡ route → IfSome o (AddsRoute mid bytes (by_hop route hop)) → IfSome o (IsReachedAt bytes plain)
+reached_is mid bytes plain route None hop is adds = tt
+reached_is mid bytes plain route (Some s) hop is adds =
+    let same : by_hop route hop ≡ by_hop (route_at bytes plain) (route_at bytes s).next_hop = ap (by_hop route) (sym (ap (λ (r : Route). r.next_hop) adds.is)) ∙ ap (λ (r : Route). by_hop r (route_at bytes s).next_hop) (sym is) in
+    record { there = adds.there; by = adds.is ∙ same }
 
 none_is : (o : Option RouteSpan) (hop : Option NextHop) → is_some o ≡ is_some hop → o ≡ None → hop ≡ None
 none_is None None e h = refl
 none_is None (Some hop) e h = absurd cc
 none_is (Some s) hop e h = absurd cc
 
-pub decoded_update : (before after : List RouteKey) (mid bytes : List ℕ) (n : AppendedKeys) (route : Route) (read : Result Update Fault) (r : RouteSpan) (rr : Option RouteSpan) (s : UpdateSpans)
-    → AreKeysOf before after n route read → AreUpdateSpans (length before) n r rr s
-    → route_at mid r ≡ route → IsRouteAt mid r → IsGrown mid bytes
-    → IfSome rr (λ (t : RouteSpan). route_at bytes t ≡ by_hop route n.reached_hop) → IfSome rr (IsRouteAt bytes) → is_some rr ≡ is_some n.reached_hop
+pub decoded_update : (before after : List RouteKey) (old mid bytes : List ℕ) (n : AppendedKeys) (route : Route) (read : Result Update Fault) (r : RouteSpan) (rr : Option RouteSpan) (s : UpdateSpans)
+    → AreKeysOf before after n route read → AreUpdateSpans (length before) n r rr s → AddsRoute old mid route r → IsGrown mid bytes
+    → IfSome rr (AddsRoute mid bytes (by_hop route n.reached_hop)) → is_some rr ≡ is_some n.reached_hop
     → (read ≡ Ok (update_at after bytes s)) × IsUpdateAt after bytes s
-decoded_update before after mid bytes n route read r rr s k spans is there grown by reached_there both =
+decoded_update before after old mid bytes n route read r rr s k spans adds grown reached both =
     let keys = have_keys before after n route read k s.withdrawn s.announced s.unreached s.reached spans.withdrawn spans.announced spans.unreached spans.reached in
-    let own : route_at bytes s.route ≡ route = ap (route_at bytes) spans.route ∙ route_at-grown mid bytes r grown there ∙ is in
-    let own_there : IsRouteAt bytes s.route = subst (IsRouteAt bytes) (sym spans.route) (IsRouteAt-grown mid bytes r grown there) in
-    let by_own : IfSome s.reached_route (λ (t : RouteSpan). route_at bytes t ≡ by_hop route n.reached_hop) = subst (λ (o : Option RouteSpan). IfSome o (λ (t : RouteSpan). route_at bytes t ≡ by_hop route n.reached_hop)) (sym spans.reached_route) by in
-    let some_there : IfSome s.reached_route (IsRouteAt bytes) = subst (λ (o : Option RouteSpan). IfSome o (IsRouteAt bytes)) (sym spans.reached_route) reached_there in
+    let own : route_at bytes s.route ≡ route = ap (route_at bytes) spans.route ∙ route_at-grown mid bytes r grown adds.there ∙ adds.is in
+    let own_there : IsRouteAt bytes s.route = subst (IsRouteAt bytes) (sym spans.route) (IsRouteAt-grown mid bytes r grown adds.there) in
+    let by_own : IfSome s.reached_route (AddsRoute mid bytes (by_hop route n.reached_hop)) = subst (λ (o : Option RouteSpan). IfSome o (AddsRoute mid bytes (by_hop route n.reached_hop))) (sym spans.reached_route) reached in
     let same : is_some s.reached_route ≡ is_some n.reached_hop = ap is_some spans.reached_route ∙ both in
-    let hop : hop_at bytes s.reached_route ≡ n.reached_hop = hop_is bytes route s.reached_route n.reached_hop by_own same in (
+    let hop : hop_at bytes s.reached_route ≡ n.reached_hop = hop_is mid bytes route s.reached_route n.reached_hop by_own same in (
       k.is ∙ ap (λ (u : Update). Ok u) (rw (keys.0.0, keys.1.0, keys.2.0, keys.3.0, own, hop) refl),
       record {
         withdrawn = keys.0.1;
@@ -169,7 +166,7 @@ decoded_update before after mid bytes n route read r rr s k spans is there grown
         unreached = keys.2.1;
         reached = keys.3.1;
         route = own_there;
-        reached_route = reached_is bytes s.route route s.reached_route n.reached_hop own by_own some_there;
+        reached_route = reached_is mid bytes s.route route s.reached_route n.reached_hop own by_own;
         none = λ e. ap (λ (p : Span). p.len) spans.reached ∙ sym k.reached_len ∙ ap length (k.none (none_is s.reached_route n.reached_hop same e));
       },
     )
@@ -184,12 +181,11 @@ split_is after n route read k =
 
 -- ---- a route that was packed behind other bytes
 
-pub packed_behind : (before after : List ℕ) (r : Route) (s : RouteSpan) → CanPack r → after ≡ before ++ route_bytes r → s.bytes.start ≡ length before → s.bytes.start + s.bytes.len ≡ length after
-    → (route_at after s ≡ r) × IsRouteAt after s
-packed_behind before after r s can parts start end =
+pub packed_behind : (before after : List ℕ) (r : Route) (s : RouteSpan) → WritesRoute before after r → s.bytes.start ≡ length before → s.bytes.start + s.bytes.len ≡ length after → AddsRoute before after r s
+packed_behind before after r s writes start end =
     let n = length-append before (route_bytes r) in
-    let own : after ≡ before ++ (route_bytes r ++ []) = parts ∙ ap (λ (t : List ℕ). before ++ t) (sym (append-nil (route_bytes r))) in
-    let len : s.bytes.len ≡ length (route_bytes r) = omega (arith, start, end, ap length parts, n) in
+    let own : after ≡ before ++ (route_bytes r ++ []) = writes.bytes ∙ ap (λ (t : List ℕ). before ++ t) (sym (append-nil (route_bytes r))) in
+    let len : s.bytes.len ≡ length (route_bytes r) = omega (arith, start, end, ap length writes.bytes, n) in
     let mid = span_mid before (route_bytes r) [] after s.bytes own start len in
-    let packed = packs_again r (span_of after s.bytes) can mid.0 in
-    (packed.1, record { within = mid.1; packed = packed.0 })
+    let packed = packs_again r (span_of after s.bytes) writes.packs mid.0 in
+    record { grown = grown_by before after (route_bytes r) writes.bytes; there = record { within = mid.1; packed = packed.0 }; is = packed.1 }

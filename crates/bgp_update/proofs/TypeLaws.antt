@@ -1,6 +1,7 @@
 -- Each type has a code, and an index for its value, of its own.
 use Rattle.std.proofs.Common.{◌≡◌, ℕ, Bool, true, false, cond, eqb, Option, Some, None, refl, sym, ap, ◌∙◌}
 use Rattle.std.proofs.lemmas.Bool.{eqb-true, eq-eqb}
+use Rattle.std.proofs.lemmas.Option.{none-some}
 use borrow.Author.Tests.{both_ways}
 use Rattle.bgp_update.specs.declared.attribute_type.AttributeType.{AttributeType}
 use Rattle.bgp_update.specs.declared.attribute_type.AttributeType.TheVariants as types
@@ -13,36 +14,30 @@ type_again t = refl
 
 -- ---- a code of a type that is looked at
 
-abbrev type_or : AttributeType → Option AttributeType → AttributeType
-type_or t None = t
-type_or t (Some other) = other
-
-some_is : (t u : AttributeType) → Some t ≡ Some u → t ≡ u
-some_is t u e = ap (type_or t) e
-
-some_not : (t : AttributeType) → None ≡ Some t → ⊥
-some_not t e = cc
-
-found : (code : ℕ) (t own : AttributeType) (others : Option AttributeType) → (others ≡ Some t → code ≡ type_code t) → cond (eqb code (type_code own)) (Some own) others ≡ Some t → code ≡ type_code t
-found code t own others more = by_test (eqb code (type_code own)) refl
+-- the first of some codes that a number is
+pub found : {A : Type 0} (code_of : A → ℕ) (code : ℕ) (x own : A) (others : Option A) → (others ≡ Some x → code ≡ code_of x) → cond (eqb code (code_of own)) (Some own) others ≡ Some x → code ≡ code_of x
+found {A} code_of code x own others more = by_test (eqb code (code_of own)) refl
   where
-    by_test : (b : Bool) → eqb code (type_code own) ≡ b → cond b (Some own) others ≡ Some t → code ≡ type_code t
-    by_test true h e = eqb-true code (type_code own) h ∙ ap type_code (some_is own t e)
+    some_is : Some own ≡ Some x → own ≡ x
+    some_is e = cc
+
+    by_test : (b : Bool) → eqb code (code_of own) ≡ b → cond b (Some own) others ≡ Some x → code ≡ code_of x
+    by_test true h e = eqb-true code (code_of own) h ∙ ap code_of (some_is e)
     by_test false h e = more e
 
 pub type_is : (code : ℕ) (t : AttributeType) → type_of code ≡ Some t → code ≡ type_code t
 type_is code t =
-    found code t types.Origin _
-    (found code t types.AsPath _
-    (found code t types.NextHop _
-    (found code t types.MultiExitDisc _
-    (found code t types.LocalPref _
-    (found code t types.AtomicAggregate _
-    (found code t types.Aggregator _
-    (found code t types.MpReachNlri _
-    (found code t types.MpUnreachNlri _
-    (found code t types.As4Path _
-    (found code t types.As4Aggregator None (λ e. absurd (some_not t e))))))))))))
+    found type_code code t types.Origin _
+    (found type_code code t types.AsPath _
+    (found type_code code t types.NextHop _
+    (found type_code code t types.MultiExitDisc _
+    (found type_code code t types.LocalPref _
+    (found type_code code t types.AtomicAggregate _
+    (found type_code code t types.Aggregator _
+    (found type_code code t types.MpReachNlri _
+    (found type_code code t types.MpUnreachNlri _
+    (found type_code code t types.As4Path _
+    (found type_code code t types.As4Aggregator None (λ e. absurd (none-some t e))))))))))))
 
 -- ---- indices of values
 
@@ -70,13 +65,16 @@ same_value_index t u e = sym (type_at_value_index t) ∙ ap type_at e ∙ type_a
 pub value_index_decides : (code : ℕ) (t u : AttributeType) → type_of code ≡ Some t → eqb code (type_code u) ≡ eqb (value_index u) (value_index t)
 value_index_decides code t u e = by_test (eqb (value_index u) (value_index t)) refl
   where
+    some_is : Some t ≡ Some u → t ≡ u
+    some_is h = cc
+
     same : u ≡ t → eqb code (type_code u) ≡ true
     same h = ap (λ (c : ℕ). eqb c (type_code u)) (type_is code t e ∙ ap type_code (sym h)) ∙ eq-eqb (type_code u) (type_code u) refl
 
     is_other : eqb (value_index u) (value_index t) ≡ false → (b : Bool) → eqb code (type_code u) ≡ b → b ≡ false
     is_other h false k = refl
     is_other h true k =
-        let same_types : t ≡ u = some_is t u (sym e ∙ ap type_of (eqb-true code (type_code u) k) ∙ type_again u) in
+        let same_types : t ≡ u = some_is (sym e ∙ ap type_of (eqb-true code (type_code u) k) ∙ type_again u) in
         absurd (both_ways (eqb (value_index u) (value_index t)) h (ap (λ (x : AttributeType). eqb (value_index u) (value_index x)) same_types ∙ eq-eqb (value_index u) (value_index u) refl))
 
     by_test : (b : Bool) → eqb (value_index u) (value_index t) ≡ b → eqb code (type_code u) ≡ b

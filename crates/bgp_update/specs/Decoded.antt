@@ -86,6 +86,12 @@ pub record IsRouteAt (bytes : List ℕ) (s : RouteSpan) : Type 0 where
   pub within : IsWithin (length bytes) s.bytes
   pub packed : IsPacked (span_of bytes s.bytes)
 
+-- the packed bytes of this route were added, and the span has them
+pub record AddsRoute (before after : List ℕ) (route : Route) (s : RouteSpan) : Type 0 where
+  pub grown : IsGrown before after
+  pub there : IsRouteAt after s
+  pub is : route_at after s ≡ route
+
 -- ---- updates
 
 -- the next hop of MP_REACH_NLRI, which the route by it has

@@ -23,14 +23,9 @@ aggregator_eq a b = (a.asn == b.asn) && (a.addr == b.addr)
 -- of one kind, and the same addresses
 abbrev pub hop_eq : NextHop → NextHop → Bool
 hop_eq (V4 a) (V4 b) = a == b
-hop_eq (V4 a) (V6 b) = false
-hop_eq (V4 a) (V6Pair b link) = false
-hop_eq (V6 a) (V4 b) = false
 hop_eq (V6 a) (V6 b) = a == b
-hop_eq (V6 a) (V6Pair b link) = false
-hop_eq (V6Pair a link) (V4 b) = false
-hop_eq (V6Pair a link) (V6 b) = false
 hop_eq (V6Pair a link) (V6Pair b other) = (a == b) && (link == other)
+hop_eq a b = false
 
 unfoldable pub route_eq : Route → Route → Bool
 route_eq a b = option_eq (λ x y. origin_number x == origin_number y) a.origin b.origin

@@ -1,6 +1,7 @@
 -- Families of unicast routes (RFC 4760, section 3), and how their keys are written.
 use Rattle.std.specs.Prelude.{ℕ, ◌^◌, ◌<◌, Bool, true, false}
 use Rattle.std.proofs.Common.{arith}
+use Rattle.bgp_update.specs.declared.unicast.FamilyEncoding.{FamilyEncoding}
 
 -- What a family has of its own: its number, of two bytes; the bits of its addresses; whether an UPDATE's own fields,
 -- withdrawn routes, NLRI and NEXT_HOP (RFC 4271, 4.3), are of this family; and the subtypes of its RIB records (RFC
@@ -19,6 +20,10 @@ ipv4 = record { afi = 1; afi_fits = omega arith; width = 32; own_fields = true; 
 -- only MP_REACH_NLRI and MP_UNREACH_NLRI are of this family (RFC 4760, section 2)
 abbrev pub ipv6 : FamilyOf
 ipv6 = record { afi = 2; afi_fits = omega arith; width = 128; own_fields = false; rib = 4; rib_add_path = 10 }
+
+-- the same, as code has it
+abbrev pub encoding_of : FamilyOf → FamilyEncoding
+encoding_of f = record { afi = f.afi; own_fields = f.own_fields; rib = f.rib; rib_add_path = f.rib_add_path }
 
 -- the longest length of a key's prefix, and whether an identifier stands before it
 pub record KeyForm : Type 0 where

@@ -1,8 +1,8 @@
 -- A route as one list of bytes: a byte of flags, a byte that says whether there is a path, and then the fields that are
 -- there, in a fixed order; the path as segments with numbers of four bytes (RFC 6793, section 3).
-use Rattle.std.specs.Prelude.{◌≡◌, ℕ, ◌+◌, ◌*◌, ◌/◌, ◌%◌, ◌^◌, ◌<◌, Bool, true, false, List, [], ◌∷◌, ◌++◌, drop, length, slice_index, Option, Some, None, Result, Ok, Err, IfSome, IsTrue, is_some, ◌==◌, if◌then◌else◌}
+use Rattle.std.specs.Prelude.{◌≡◌, ℕ, ◌+◌, ◌*◌, ◌/◌, ◌%◌, ◌^◌, ◌<◌, Bool, true, false, List, [], ◌∷◌, ◌++◌, drop, length, slice_index, Option, Some, None, IfSome, IsTrue, is_some, ◌==◌, if◌then◌else◌}
+use Rattle.std.specs.Result.{result_unwrap_or}
 use Rattle.byteorder.specs.Endian.{big_number, big_bytes}
-use Rattle.mrt_frame.specs.declared.fault.Fault.{Fault}
 use Rattle.bgp_update.specs.declared.next_hop.NextHop.{NextHop}
 use Rattle.bgp_update.specs.declared.next_hop.NextHop.TheVariants.{V4, V6, V6Pair}
 use Rattle.bgp_update.specs.declared.route.Origin.{Origin}
@@ -11,16 +11,11 @@ use Rattle.bgp_update.specs.declared.route.Aggregator.{Aggregator}
 use Rattle.bgp_update.specs.declared.route.Route.{Route}
 use Rattle.bgp_update.specs.declared.packed_fields.PlainFields.{PlainFields}
 use Rattle.bgp_update.specs.Paths.{PathSegment}
-use Rattle.bgp_update.specs.Multiprotocol.{is_hop_len, next_hop_of}
+use Rattle.bgp_update.specs.Multiprotocol.{is_hop_len, next_hop_of, FitsHop, hop_bytes as written_hop_bytes}
 use Rattle.bgp_update.specs.Segments.{path_bytes, IsPath, path_in}
 use Rattle.bgp_update.specs.Equality.{origin_number}
 
 -- ---- which routes have such bytes: those whose numbers have their widths, and whose path can be written
-
-abbrev pub FitsHop : NextHop → Type 0
-FitsHop (V4 a) = a < 256 ^ 4
-FitsHop (V6 a) = a < 256 ^ 16
-FitsHop (V6Pair a link) = (a < 256 ^ 16) × (link < 256 ^ 16)
 
 pub record FitsAggregator (a : Aggregator) : Type 0 where
   pub asn : a.asn < 256 ^ 4
@@ -64,9 +59,7 @@ field_flags r =
 
 abbrev pub hop_bytes : Option NextHop → List ℕ
 hop_bytes None = []
-hop_bytes (Some (V4 a)) = big_bytes 4 a
-hop_bytes (Some (V6 a)) = big_bytes 16 a
-hop_bytes (Some (V6Pair a link)) = big_bytes 16 a ++ big_bytes 16 link
+hop_bytes (Some hop) = written_hop_bytes hop
 
 abbrev pub number_bytes : Option ℕ → List ℕ
 number_bytes None = []
@@ -85,6 +78,11 @@ route_bytes r =
     (field_flags r ∷ flag (is_some r.path) ∷ [])
     ++ (hop_bytes r.next_hop ++ (number_bytes r.med
     ++ (number_bytes r.local_pref ++ (aggregator_bytes r.aggregator ++ path_part r.path))))
+
+-- the bytes of this route were added, which can be packed
+pub record WritesRoute (before after : List ℕ) (route : Route) : Type 0 where
+  pub bytes : after ≡ before ++ route_bytes route
+  pub packs : CanPack route
 
 -- ---- the route of bytes
 
@@ -132,13 +130,9 @@ abbrev pub aggregator_by : ℕ → List ℕ → Option Aggregator
 aggregator_by bit bytes =
     if bit == 1 then Some (record { asn = big_number 4 bytes; addr = big_number 4 (drop 4 bytes) }) else None
 
-abbrev pub segments_of : Result (List PathSegment) Fault → List PathSegment
-segments_of (Ok path) = path
-segments_of (Err fault) = []
-
 -- the segments that bytes spell; none where they spell no path
 unfoldable pub spelled_path : List ℕ → List PathSegment
-spelled_path bytes = segments_of (path_in 4 bytes)
+spelled_path bytes = result_unwrap_or (path_in 4 bytes) []
 
 abbrev pub path_by : ℕ → List ℕ → Option (List PathSegment)
 path_by bit bytes = if bit == 1 then Some (spelled_path bytes) else None
@@ -191,7 +185,3 @@ route_by fields hop = record {
 -- a route but for its path
 abbrev pub without_path : Route → Route
 without_path r = record r { path = None }
-
-abbrev pub bytes_or_none : Option (List ℕ) → List ℕ
-bytes_or_none None = []
-bytes_or_none (Some bytes) = bytes

@@ -1,6 +1,7 @@
 //! A path attribute as it stands in a field, what is wrong with a value of its type, and which repeats are refused.
 
 ghost use Rattle.std.specs.Prelude.{◌≡◌, ℕ, ◌≤◌, ◌<◌, Bool, true, IsTrue, List, Ok, Err, IfOk, IfErr, length};
+ghost use Rattle.std.specs.Result.{result_err};
 ghost use Rattle.mrt_frame.specs.declared.fault.Fault.TheVariants.{ShortAttribute};
 ghost use Rattle.mrt_frame.specs.Fields as fields;
 ghost use Rattle.mrt_frame.specs.Fields.{Reads};
@@ -8,7 +9,7 @@ ghost use Rattle.bgp_update.specs.Families.{form_of};
 ghost use Rattle.bgp_update.specs.Keys.{keys_in};
 ghost use Rattle.bgp_update.specs.Segments.{number_len, path_in};
 ghost use Rattle.bgp_update.specs.Attributes as attributes;
-ghost use Rattle.bgp_update.specs.Attributes.{length_len, fault_of};
+ghost use Rattle.bgp_update.specs.Attributes.{length_len};
 
 use crate::attribute_context::AttributeContext;
 use crate::attribute_type::AttributeType;
@@ -66,7 +67,7 @@ fn fault_unless(is_formed: bool, fault: Fault) -> Option<Fault>
 /// Returns the fault of a field of keys.
 #[tactic(auto, using(crate::proofs::Counts::counted_fault), unfolding(crate::specs::Keys::key_count_in))]
 fn keys_fault<F: Unicast>(bytes: &[u8], add_path: bool) -> Option<Fault>
-    ensures { result ≡ fault_of (keys_in (form_of F.family add_path) bytes.now) }
+    ensures { result ≡ result_err (keys_in (form_of F.family add_path) bytes.now) }
 {
     key_count::<F>(bytes, add_path).err()
 }
@@ -74,18 +75,18 @@ fn keys_fault<F: Unicast>(bytes: &[u8], add_path: bool) -> Option<Fault>
 /// Returns the fault of AS_PATH.
 #[tactic(auto, using(crate::proofs::Counts::counted_fault), unfolding(crate::specs::Segments::segment_count_in))]
 fn path_fault(value: &[u8], width: Width) -> Option<Fault>
-    ensures { result ≡ fault_of (path_in (number_len width) value.now) }
+    ensures { result ≡ result_err (path_in (number_len width) value.now) }
 {
     segment_count(value, width).err()
 }
 
 /// Returns the fault of MP_REACH_NLRI.
-#[tactic(auto, using(crate::proofs::Counts::fault_of_mapped))]
+#[tactic(auto, using(crate::proofs::Counts::err_of_mapped))]
 fn reached_fault<F: Unicast>(carrier: AttributeContext, value: &[u8]) -> Option<Fault>
     ensures { result ≡ attributes.reached_fault F.family carrier value.now }
 {
     match carrier {
-        AttributeContext::RibEntry => if F::OWN_FIELDS {
+        AttributeContext::RibEntry => if F::encoding().own_fields {
             None
         } else {
             entry_hop::<F>(value).err()

@@ -84,7 +84,7 @@ pub fn decode_update<F: Unicast>(
     let mut first = FirstValues::new();
     let appended = read_keys(keys, body, width, add_path, &mut first)?;
     let route = pack_values(alloc, bytes, &first, width)?;
-    let reached_route = pack_reached(alloc, bytes, &first, width, &appended.reached_hop)?;
+    let reached_route = pack_reached(alloc, bytes, &first, width, &appended)?;
     let spans = spans_of(start, &appended, route, reached_route)?;
     Ok(spans)
 }

@@ -29,7 +29,7 @@ fn octets_at<F: Unicast>(len: u8, bytes: &[u8]) -> Result<(&[u8], &[u8]), Fault>
 /// Returns the prefix of this length, at most the family's width, whose first bytes these are.
 #[inline]
 fn prefix_of<F: Unicast>(len: u8, octets: &[u8]) -> Option<Prefix<F>>
-    requires { length octets.now ≤ F.BYTES }
+    requires { length octets.now ≤ div_ceil F.family.width 8 }
     ensures { len ≤ F.family.width → result ≡ Some (keys_spec.prefix_of len octets.now) }
 {
     Prefix::new(F::of_octets(octets), len)

@@ -12,8 +12,8 @@
 //! - Merging AS_PATH and AS4_PATH (RFC 6793, 4.2.3) is stated by a relation, `IsMerged`, and computed, `merged`.
 //!   `AsPath::merge` names both, so that a reader needs to trust only the relation.
 //! - Attributes are found and checked in one pass, which keeps the place of the first value of each type (RFC 7606, 3
-//!   (g)). `FirstValues::take` branches on the type once, and each branch has a copy of the code in which the type is a
-//!   constant.
+//!   (g)). `FirstValues::take_found` branches on the type once, and each branch has a copy of the code in which the
+//!   type is a constant.
 //! - A `PackedRoute` is a route as one block of bytes: two bytes of flags, the fields that are there in a fixed order,
 //!   and the path as segments with four-octet AS numbers, as AS_PATH is written. Contracts see it as its `Route`. Its
 //!   invariant is that these are the bytes of that route and no others; so routes are equal exactly if their bytes are,
@@ -79,7 +79,7 @@ pub use packed_route::PackedRoute;
 pub use path::{AsPath, Segment, SegmentKind};
 pub use route::{Aggregator, Origin, Route, Update};
 pub use route_ref::RouteRef;
-pub use unicast::Unicast;
+pub use unicast::{FamilyEncoding, Unicast};
 pub use update::{read_attrs, read_update};
 pub use update_ref::UpdateRef;
 pub use width::Width;

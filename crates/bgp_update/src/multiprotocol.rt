@@ -21,7 +21,7 @@ fn is_unicast<F: Unicast>(value: &[u8]) -> bool
     requires { 3 ≤ length value.now }
     ensures { result ≡ multiprotocol.is_unicast F.family value.now }
 {
-    BigEndian::read_u16(value) == F::AFI && value[2] == 1
+    BigEndian::read_u16(value) == F::encoding().afi && value[2] == 1
 }
 
 /// Reads a next hop after its length, and returns it with the bytes after it.
@@ -77,12 +77,9 @@ pub fn entry_hop<F: Unicast>(value: &[u8]) -> Result<Option<WrittenHop<'_>>, Fau
 pub fn entry_hop_value<F: Unicast>(value: Option<&[u8]>) -> Option<WrittenHop<'_>>
     ensures { result ≡ multiprotocol.entry_hop F.family (option_map (λ v. v.now) value.entry) }
 {
-    match value {
-        Some(value) => match entry_hop::<F>(value) {
-            Ok(hop) => hop,
-            Err(_) => None,
-        },
-        None => None,
+    match entry_hop::<F>(value?) {
+        Ok(hop) => hop,
+        Err(_) => None,
     }
 }
 
@@ -115,30 +112,8 @@ pub fn unreach_in<F: Unicast>(value: &[u8]) -> Result<Option<&[u8]>, Fault>
     Ok(Some(&value[3..]))
 }
 
-/// Appends the keys of a value of MP_REACH_NLRI to other ones, and returns its next hop.
-#[tactic(auto, unfolding(crate::specs::Multiprotocol::reached_keys, crate::specs::Keys::route_keys_in))]
-fn append_reach<'a, F: Unicast>(
-    keys: &mut Vec<RouteKey<Prefix<F>>>,
-    value: &'a [u8],
-    add_path: bool,
-) -> Result<Option<WrittenHop<'a>>, AttrError>
-    ensures appends { IfOk result
-        (λ hop. AppendsReached keys.old.items keys.new.items hop (reached_keys F.family add_path (Some value.now))) }
-    ensures fault { IfErr result (λ e. Fails e (reached_keys F.family add_path (Some value.now))) }
-    ensures grown { IsGrown keys.old.items keys.new.items }
-{
-    match reach_in::<F>(value) {
-        Ok(Some((hop, field))) => {
-            append_keys(keys, field, add_path)?;
-            Ok(Some(hop))
-        }
-        Ok(None) => Ok(None),
-        Err(fault) => Err(AttrError::Bad(fault)),
-    }
-}
-
 /// Appends the keys in MP_REACH_NLRI, if it is present, to other ones, and returns its next hop.
-#[tactic(auto, unfolding(crate::specs::Multiprotocol::reached_keys))]
+#[tactic(auto, unfolding(crate::specs::Multiprotocol::reached_keys, crate::specs::Keys::route_keys_in))]
 pub fn append_reached<'a, F: Unicast>(
     keys: &mut Vec<RouteKey<Prefix<F>>>,
     value: Option<&'a [u8]>,
@@ -151,33 +126,21 @@ pub fn append_reached<'a, F: Unicast>(
         (λ e. Fails e (reached_keys F.family add_path (option_map (λ v. v.now) value.entry))) }
     ensures grown { IsGrown keys.old.items keys.new.items }
 {
-    match value {
-        Some(value) => append_reach(keys, value, add_path),
-        None => Ok(None),
-    }
-}
-
-/// Appends the keys of a value of MP_UNREACH_NLRI to other ones.
-#[tactic(auto, unfolding(crate::specs::Multiprotocol::unreached_keys, crate::specs::Keys::route_keys_in))]
-fn append_unreach<F: Unicast>(
-    keys: &mut Vec<RouteKey<Prefix<F>>>,
-    value: &[u8],
-    add_path: bool,
-) -> Result<(), AttrError>
-    ensures appends { OnOk result
-        (Appends keys.old.items keys.new.items (unreached_keys F.family add_path (Some value.now))) }
-    ensures fault { IfErr result (λ e. Fails e (unreached_keys F.family add_path (Some value.now))) }
-    ensures grown { IsGrown keys.old.items keys.new.items }
-{
-    match unreach_in::<F>(value) {
-        Ok(Some(field)) => append_keys(keys, field, add_path),
-        Ok(None) => Ok(()),
+    let Some(value) = value else {
+        return Ok(None);
+    };
+    match reach_in::<F>(value) {
+        Ok(Some((hop, field))) => {
+            append_keys(keys, field, add_path)?;
+            Ok(Some(hop))
+        }
+        Ok(None) => Ok(None),
         Err(fault) => Err(AttrError::Bad(fault)),
     }
 }
 
 /// Appends the keys in MP_UNREACH_NLRI, if it is present, to other ones.
-#[tactic(auto, unfolding(crate::specs::Multiprotocol::unreached_keys))]
+#[tactic(auto, unfolding(crate::specs::Multiprotocol::unreached_keys, crate::specs::Keys::route_keys_in))]
 pub fn append_unreached<F: Unicast>(
     keys: &mut Vec<RouteKey<Prefix<F>>>,
     value: Option<&[u8]>,
@@ -190,8 +153,12 @@ pub fn append_unreached<F: Unicast>(
         (λ e. Fails e (unreached_keys F.family add_path (option_map (λ v. v.now) value.entry))) }
     ensures grown { IsGrown keys.old.items keys.new.items }
 {
-    match value {
-        Some(value) => append_unreach(keys, value, add_path),
-        None => Ok(()),
+    let Some(value) = value else {
+        return Ok(());
+    };
+    match unreach_in::<F>(value) {
+        Ok(Some(field)) => append_keys(keys, field, add_path),
+        Ok(None) => Ok(()),
+        Err(fault) => Err(AttrError::Bad(fault)),
     }
 }

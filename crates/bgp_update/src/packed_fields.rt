@@ -4,8 +4,9 @@
 ghost use Rattle.std.specs.Prelude.{◌≡◌, ◌+◌, ◌≤◌, ◌<◌, ◌^◌, [], ◌++◌, Option, IfSome, length};
 ghost use Rattle.bgp_update.specs.Attributes as attributes;
 ghost use Rattle.bgp_update.specs.Hops.{by_hop};
+ghost use Rattle.bgp_update.specs.Multiprotocol.{FitsHop};
 ghost use Rattle.bgp_update.specs.Packing as packing;
-ghost use Rattle.bgp_update.specs.Packing.{FitsHop, FitsAggregator, HaveWidths, without_path, route_by, fields_bytes, hop_bytes, number_bytes, aggregator_bytes};
+ghost use Rattle.bgp_update.specs.Packing.{FitsAggregator, HaveWidths, without_path, route_by, fields_bytes, hop_bytes, number_bytes, aggregator_bytes};
 ghost use Rattle.bgp_update.specs.Values.{kept_value};
 ghost use Rattle.bgp_update.specs.declared.next_hop.NextHop.{NextHop};
 ghost use Rattle.bgp_update.specs.declared.width.Width.TheVariants.{Four};

@@ -1,13 +1,12 @@
 //! Attributes, packed as they are read.
 
-ghost use Rattle.std.specs.Prelude.{◌≡◌, ◌++◌, IfOk, IfSome, OnOk, is_some};
+ghost use Rattle.std.specs.Prelude.{◌≡◌, IfOk, IfSome, OnOk, is_some};
 ghost use Rattle.bgp_update.specs.Attributes as attributes;
-ghost use Rattle.bgp_update.specs.Decoded.{IsGrown, IsRouteAt, route_at};
+ghost use Rattle.bgp_update.specs.Decoded.{AddsRoute, IsGrown};
 ghost use Rattle.bgp_update.specs.Hops.{by_hop};
-ghost use Rattle.bgp_update.specs.Packing.{IsSpelled, IsWritable, HaveWidths, route_bytes};
-ghost use Rattle.bgp_update.specs.Values.{kept_value};
-ghost use Rattle.bgp_update.specs.declared.attribute_type.AttributeType.TheVariants.{AsPath};
-ghost use Rattle.bgp_update.specs.declared.width.Width.TheVariants.{Four};
+ghost use Rattle.bgp_update.specs.Packing.{WritesRoute};
+ghost use Rattle.bgp_update.specs.Values.{CanPackKept, kept_route, kept_value};
+ghost use Rattle.bgp_update.specs.declared.width.Width.TheVariants.{Two, Four};
 
 use crate::attribute_type::AttributeType;
 use crate::decoded::RouteSpan;
@@ -17,6 +16,7 @@ use crate::packed_fields::{fields_of, push_front};
 use crate::route_fields::{next_hop_value, route_from};
 use crate::route_writing::push_route;
 use crate::unicast::Unicast;
+use crate::update::AppendedKeys;
 use crate::values::FirstValues;
 use crate::width::Width;
 use crate::written_hop::{WrittenHop, next_hop_of};
@@ -30,10 +30,8 @@ fn push_four(
     first: &FirstValues<'_>,
     hop: &Option<WrittenHop<'_>>,
 ) -> Result<(), Memory>
-    requires { IfSome (kept_value first.now AsPath) IsSpelled }
-    ensures bytes { OnOk result (out.new.items
-        ≡ out.old.items ++ route_bytes (by_hop (attributes.route_from Four (kept_value first.now)) hop.now)) }
-    ensures widths { OnOk result (HaveWidths (by_hop (attributes.route_from Four (kept_value first.now)) hop.now)) }
+    requires { CanPackKept Four first.now }
+    ensures { OnOk result (WritesRoute out.old.items out.new.items (by_hop (kept_route Four first.now) hop.now)) }
 {
     let path = first.value(AttributeType::AsPath);
     let mut front = FrontBytes::new();
@@ -54,15 +52,12 @@ fn push_two(
     alloc: Global,
     out: &mut Vec<u8>,
     first: &FirstValues<'_>,
-    width: Width,
     hop: &Option<WrittenHop<'_>>,
 ) -> Result<(), Memory>
-    requires { IsWritable (attributes.route_from width (kept_value first.now)).path }
-    ensures bytes { OnOk result (out.new.items
-        ≡ out.old.items ++ route_bytes (by_hop (attributes.route_from width (kept_value first.now)) hop.now)) }
-    ensures widths { OnOk result (HaveWidths (by_hop (attributes.route_from width (kept_value first.now)) hop.now)) }
+    requires { CanPackKept Two first.now }
+    ensures { OnOk result (WritesRoute out.old.items out.new.items (by_hop (kept_route Two first.now) hop.now)) }
 {
-    let route = route_from(alloc, first, width)?.with_next_hop(next_hop_of(hop));
+    let route = route_from(alloc, first, Width::Two)?.with_next_hop(next_hop_of(hop));
     push_route(out, &route)?;
     Ok(())
 }
@@ -76,15 +71,12 @@ fn push_by_hop(
     width: Width,
     hop: &Option<WrittenHop<'_>>,
 ) -> Result<(), Memory>
-    requires four { width ≡ Four → IfSome (kept_value first.now AsPath) IsSpelled }
-    requires writable { IsWritable (attributes.route_from width (kept_value first.now)).path }
-    ensures bytes { OnOk result (out.new.items
-        ≡ out.old.items ++ route_bytes (by_hop (attributes.route_from width (kept_value first.now)) hop.now)) }
-    ensures widths { OnOk result (HaveWidths (by_hop (attributes.route_from width (kept_value first.now)) hop.now)) }
+    requires { CanPackKept width first.now }
+    ensures { OnOk result (WritesRoute out.old.items out.new.items (by_hop (kept_route width first.now) hop.now)) }
 {
     match width {
         Width::Four => push_four(out, first, hop),
-        Width::Two => push_two(alloc, out, first, width, hop),
+        Width::Two => push_two(alloc, out, first, hop),
     }
 }
 
@@ -97,12 +89,8 @@ fn pack_by_hop(
     width: Width,
     hop: &Option<WrittenHop<'_>>,
 ) -> Result<RouteSpan, Memory>
-    requires four { width ≡ Four → IfSome (kept_value first.now AsPath) IsSpelled }
-    requires writable { IsWritable (attributes.route_from width (kept_value first.now)).path }
-    ensures route { IfOk result (λ span. route_at out.new.items span
-        ≡ by_hop (attributes.route_from width (kept_value first.now)) hop.now) }
-    ensures there { IfOk result (IsRouteAt out.new.items) }
-    ensures grown { OnOk result (IsGrown out.old.items out.new.items) }
+    requires { CanPackKept width first.now }
+    ensures { IfOk result (AddsRoute out.old.items out.new.items (by_hop (kept_route width first.now) hop.now)) }
 {
     let start = out.len();
     push_by_hop(alloc, out, first, width, hop)?;
@@ -119,34 +107,27 @@ pub(crate) fn pack_values(
     first: &FirstValues<'_>,
     width: Width,
 ) -> Result<RouteSpan, Memory>
-    requires four { width ≡ Four → IfSome (kept_value first.now AsPath) IsSpelled }
-    requires writable { IsWritable (attributes.route_from width (kept_value first.now)).path }
-    ensures route { IfOk result
-        (λ span. route_at out.new.items span ≡ attributes.route_from width (kept_value first.now)) }
-    ensures there { IfOk result (IsRouteAt out.new.items) }
-    ensures grown { OnOk result (IsGrown out.old.items out.new.items) }
+    requires { CanPackKept width first.now }
+    ensures { IfOk result (AddsRoute out.old.items out.new.items (kept_route width first.now)) }
 {
     let hop = next_hop_value(first.value(AttributeType::NextHop));
     pack_by_hop(alloc, out, first, width, &hop)
 }
 
-/// The same apart from the code around it, since most messages of IPv4 have no such next hop.
+/// The same, by the next hop of MP_REACH_NLRI, apart from the code around it: most messages of IPv4 have none.
 #[inline(never)]
 fn pack_apart(
     alloc: Global,
     out: &mut Vec<u8>,
     first: &FirstValues<'_>,
     width: Width,
-    hop: &Option<WrittenHop<'_>>,
+    appended: &AppendedKeys<'_>,
 ) -> Result<RouteSpan, Memory>
-    requires four { width ≡ Four → IfSome (kept_value first.now AsPath) IsSpelled }
-    requires writable { IsWritable (attributes.route_from width (kept_value first.now)).path }
-    ensures route { IfOk result (λ span. route_at out.new.items span
-        ≡ by_hop (attributes.route_from width (kept_value first.now)) hop.now) }
-    ensures there { IfOk result (IsRouteAt out.new.items) }
-    ensures grown { OnOk result (IsGrown out.old.items out.new.items) }
+    requires { CanPackKept width first.now }
+    ensures { IfOk result
+        (AddsRoute out.old.items out.new.items (by_hop (kept_route width first.now) appended.now.reached_hop)) }
 {
-    pack_by_hop(alloc, out, first, width, hop)
+    pack_by_hop(alloc, out, first, width, &appended.reached_hop)
 }
 
 /// Packs the route of these values by the next hop of MP_REACH_NLRI, if there is one.
@@ -156,20 +137,18 @@ pub(crate) fn pack_reached(
     out: &mut Vec<u8>,
     first: &FirstValues<'_>,
     width: Width,
-    hop: &Option<WrittenHop<'_>>,
+    appended: &AppendedKeys<'_>,
 ) -> Result<Option<RouteSpan>, Memory>
-    requires four { width ≡ Four → IfSome (kept_value first.now AsPath) IsSpelled }
-    requires writable { IsWritable (attributes.route_from width (kept_value first.now)).path }
-    ensures route { IfOk result (λ span. IfSome span (λ s. route_at out.new.items s
-        ≡ by_hop (attributes.route_from width (kept_value first.now)) hop.now)) }
-    ensures there { IfOk result (λ span. IfSome span (IsRouteAt out.new.items)) }
-    ensures both { IfOk result (λ span. is_some span ≡ is_some hop.now) }
+    requires { CanPackKept width first.now }
+    ensures route { IfOk result (λ span. IfSome span
+        (AddsRoute out.old.items out.new.items (by_hop (kept_route width first.now) appended.now.reached_hop))) }
+    ensures both { IfOk result (λ span. is_some span ≡ is_some appended.now.reached_hop) }
     ensures grown { OnOk result (IsGrown out.old.items out.new.items) }
 {
-    if hop.is_none() {
+    if appended.reached_hop.is_none() {
         return Ok(None);
     }
-    let span = pack_apart(alloc, out, first, width, hop)?;
+    let span = pack_apart(alloc, out, first, width, appended)?;
     Ok(Some(span))
 }
 
@@ -183,14 +162,11 @@ pub(crate) fn pack_entry<F: Unicast>(
     first: &FirstValues<'_>,
     width: Width,
 ) -> Result<RouteSpan, Memory>
-    requires four { width ≡ Four → IfSome (kept_value first.now AsPath) IsSpelled }
-    requires writable { IsWritable (attributes.route_from width (kept_value first.now)).path }
-    ensures route { IfOk result
-        (λ span. route_at out.new.items span ≡ attributes.entry_route F.family width (kept_value first.now)) }
-    ensures there { IfOk result (IsRouteAt out.new.items) }
-    ensures grown { OnOk result (IsGrown out.old.items out.new.items) }
+    requires { CanPackKept width first.now }
+    ensures { IfOk result
+        (AddsRoute out.old.items out.new.items (attributes.entry_route F.family width (kept_value first.now))) }
 {
-    if F::OWN_FIELDS {
+    if F::encoding().own_fields {
         return pack_values(alloc, out, first, width);
     }
     let hop = entry_hop_value::<F>(first.value(AttributeType::MpReachNlri));

@@ -246,9 +246,6 @@ impl<'a> RouteRef<'a> {
     pub fn origin_as(&self) -> Option<u32>
         ensures { result ≡ option_and_then origin_as_of self.now.path }
     {
-        match self.path() {
-            Some(segments) => segments.origin_as(),
-            None => None,
-        }
+        self.path()?.origin_as()
     }
 }

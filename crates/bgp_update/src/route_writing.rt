@@ -2,8 +2,9 @@
 //! as segments with four-octet AS numbers (RFC 6793, 3).
 
 ghost use Rattle.std.specs.Prelude.{◌≡◌, ◌<◌, ◌^◌, ◌++◌, IfSome, OnOk};
+ghost use Rattle.bgp_update.specs.Multiprotocol.{FitsHop};
 ghost use Rattle.bgp_update.specs.Packing as packing;
-ghost use Rattle.bgp_update.specs.Packing.{FitsHop, FitsAggregator, IsWritable, HaveWidths, CanPack, fields_bytes, hop_bytes, number_bytes, aggregator_bytes, route_bytes};
+ghost use Rattle.bgp_update.specs.Packing.{FitsAggregator, IsWritable, HaveWidths, WritesRoute, fields_bytes, hop_bytes, number_bytes, aggregator_bytes};
 ghost use Rattle.bgp_update.specs.Segments as segments;
 ghost use Rattle.bgp_update.specs.Segments.{IsPath, IsSegment, path_bytes, segment_bytes};
 
@@ -152,8 +153,7 @@ pub(crate) fn push_fields(out: &mut Vec<u8>, route: &Route, has_path: bool) -> R
 /// Writes a route.
 pub(crate) fn push_route(out: &mut Vec<u8>, route: &Route) -> Result<(), Memory>
     requires { IsWritable route.now.path }
-    ensures bytes { OnOk result (out.new.items ≡ out.old.items ++ route_bytes route.now) }
-    ensures packs { OnOk result (CanPack route.now) }
+    ensures { OnOk result (WritesRoute out.old.items out.new.items route.now) }
 {
     push_fields(out, route, route.path.is_some())?;
     match &route.path {

@@ -9,11 +9,9 @@ ghost use Rattle.bgp_update.specs.Attributes.{ReadsAsRoute, route_in};
 ghost use Rattle.bgp_update.specs.Decoded.{Appends, AreKeysOf, IsGrown, split_update};
 ghost use Rattle.bgp_update.specs.Updates as updates;
 ghost use Rattle.bgp_update.specs.Updates.{ReadsAsUpdate, own_keys_in, update_in};
-ghost use Rattle.bgp_update.specs.Packing.{IsSpelled, IsWritable};
-ghost use Rattle.bgp_update.specs.Values.{kept_value, value_count};
+ghost use Rattle.bgp_update.specs.Packing.{IsWritable};
+ghost use Rattle.bgp_update.specs.Values.{CanPackKept, kept_route, kept_value, value_count};
 ghost use Rattle.bgp_update.specs.declared.attribute_type.AttributeType.{AttributeType};
-ghost use Rattle.bgp_update.specs.declared.attribute_type.AttributeType.TheVariants.{AsPath};
-ghost use Rattle.bgp_update.specs.declared.width.Width.TheVariants.{Four};
 
 use crate::attr_error::AttrError;
 use crate::attribute_context::AttributeContext;
@@ -70,7 +68,7 @@ fn append_own_keys<F: Unicast>(
     ensures fault { IfErr result (λ e. Fails e (own_keys_in F.family add_path field.now)) }
     ensures grown { IsGrown keys.old.items keys.new.items }
 {
-    if F::OWN_FIELDS {
+    if F::encoding().own_fields {
         append_keys(keys, field, add_path)
     } else {
         Ok(())
@@ -100,12 +98,11 @@ pub(crate) fn read_keys<'a, F: Unicast>(
     requires whole { length first.old.values ≡ value_count }
     requires none { (t : AttributeType) → kept_value first.old t ≡ None }
     ensures said { IfOk result
-        (λ appended. AreKeysOf keys.old.items keys.new.items appended (attributes.route_from width (kept_value first.new))
+        (λ appended. AreKeysOf keys.old.items keys.new.items appended (kept_route width first.new)
         (update_in F.family width add_path body.now)) }
     ensures fault { IfErr result (λ e. Fails e (update_in F.family width add_path body.now)) }
     ensures grown { IsGrown keys.old.items keys.new.items }
-    ensures spelled { OnOk result (width ≡ Four → IfSome (kept_value first.new AsPath) IsSpelled) }
-    ensures writable { OnOk result (IsWritable (attributes.route_from width (kept_value first.new)).path) }
+    ensures packable { OnOk result (CanPackKept width first.new) }
 {
     let fields = fields_in(body)?;
     let start = keys.len();
@@ -198,7 +195,7 @@ pub(crate) fn entry_route<F: Unicast>(
     ensures { IfOk result (λ route. route ≡ attributes.entry_route F.family width (kept_value first.now)) }
 {
     let plain = route_from(alloc, first, width)?;
-    if F::OWN_FIELDS {
+    if F::encoding().own_fields {
         return Ok(plain);
     }
     let hop = entry_hop_value::<F>(first.value(AttributeType::MpReachNlri));

@@ -1,8 +1,8 @@
 //! Next hops as they are written.
 
 ghost use Rattle.std.specs.Prelude.{◌≡◌, ◌≤◌, ◌<◌, IsTrue, Some, length};
-ghost use Rattle.bgp_update.specs.Multiprotocol.{is_hop_len, next_hop_of};
-ghost use Rattle.bgp_update.specs.Packing.{FitsHop, hop_bytes, hop_code};
+ghost use Rattle.bgp_update.specs.Multiprotocol.{FitsHop, is_hop_len, next_hop_of};
+ghost use Rattle.bgp_update.specs.Packing.{hop_bytes, hop_code};
 
 use crate::next_hop::NextHop;
 use byteorder::{BigEndian, ByteOrder};

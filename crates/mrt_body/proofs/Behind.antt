@@ -2,8 +2,8 @@
 use Rattle.std.proofs.Common.{◌≡◌, ℕ, ◌-◌, ◌≤◌, List, [], ◌∷◌, ◌++◌, length, take, drop, Ok, refl, sym, ap, subst, ◌∙◌, arith, append_assoc}
 use Rattle.std.proofs.lemmas.List.{take-append-drop, length-append, drop_at}
 use Rattle.mrt_frame.specs.declared.fault.Fault.{Fault}
-use Rattle.mrt_frame.specs.Fields.{Reading, ◌>>=◌, byte_at, number_at}
-use Rattle.mrt_frame.proofs.Items.{bind_ok, ok_is}
+use Rattle.mrt_frame.specs.Fields.{byte_at, number_at}
+use Rattle.mrt_frame.proofs.Items.{ok_is}
 use Rattle.mrt_frame.proofs.FieldLaws.{byte_at-takes, number_at-long}
 use Rattle.mrt_body.proofs.ManyLaws.{done}
 
@@ -37,15 +37,6 @@ pub byte_behind : (fault : Fault) (bytes : List ℕ) (x : ℕ × List ℕ) → b
 byte_behind fault bytes x e = record { front = x.0 ∷ []; parts = (byte_at-takes fault bytes x e).0 }
 
 -- ---- readings one after the other
-
-abbrev pub LeavesEnd : {A : Type 0} → (List ℕ → Reading A) → Type 0
-LeavesEnd {A} read = (bytes : List ℕ) (x : A × List ℕ) → read bytes ≡ Ok x → Behind bytes x.1
-
-pub then_behind : {A B : Type 0} (bytes : List ℕ) (r : Reading A) (f : A × List ℕ → Reading B) → ((x : A × List ℕ) → r ≡ Ok x → Behind bytes x.1) → ((x : A × List ℕ) (y : B × List ℕ) → f x ≡ Ok y → Behind x.1 y.1)
-    → (y : B × List ℕ) → (r >>= f) ≡ Ok y → Behind bytes y.1
-then_behind bytes r f first more y e =
-    let a = bind_ok r f y e in
-    behind_more bytes a.0.1 y.1 (first a.0 a.1) (more a.0 y a.2)
 
 pub ok_behind : {B : Type 0} (b : B) (rest : List ℕ) (y : B × List ℕ) → done (b, rest) ≡ Ok y → Behind rest y.1
 ok_behind {B} b rest y e = subst (λ (z : B × List ℕ). Behind rest z.1) (ok_is (b, rest) y e) (behind_all rest)

@@ -1,6 +1,6 @@
 -- Events that are decoded stay what they are when others are decoded behind them.
-use Rattle.std.proofs.Common.{◌≡◌, ℕ, zero, suc, ◌<◌, List, [], ◌∷◌, ◌++◌, length, Result, Ok, Err, OnOk, OnErr, refl, sym, ap, ◌∙◌, arith, slice_index_or}
-use Rattle.std.proofs.lemmas.List.{map-append, get_or-map, length-map}
+use Rattle.std.proofs.Common.{◌≡◌, ℕ, List, [], ◌∷◌, ◌++◌, Result, Ok, Err, OnOk, OnErr, refl, ap, ◌∙◌}
+use Rattle.std.proofs.lemmas.List.{map-append}
 use Rattle.mrt_frame.specs.declared.fault.Fault.{Fault}
 use Rattle.bgp_prefix.specs.Keys.{RouteKey}
 use Rattle.bgp_update.specs.Decoded.{IsGrown}
@@ -60,15 +60,3 @@ pub more_or_none : {X Y : Type 0} (r : Result X Y) (keys more_keys : List RouteK
     → OnOk r (IsOneMore keys bytes es more_keys more_bytes more is) → OnErr r (more ≡ []) → AreEventsAt more_keys more_bytes more
 more_or_none (Ok x) keys more_keys bytes more_bytes es more is before kept none = (kept before).0
 more_or_none (Err y) keys more_keys bytes more_bytes es more is before kept none = rw none tt
-
--- the event at an index
-pub event_by_index : (keys : List RouteKey) (bytes : List ℕ) (es : List DecodedEvent) (at : ℕ) (e : DecodedEvent) (d : Result Event Fault) → at < length (events_at keys bytes es) → e ≡ slice_index_or es at e
-    → slice_index_or (events_at keys bytes es) at d ≡ event_at keys bytes e
-event_by_index keys bytes es at e d within is =
-    let n = length-map es (event_at keys bytes) in
-    get_or-map (event_at keys bytes) es at e d (omega (arith, within, n)) ∙ ap (event_at keys bytes) (sym is)
-
-pub is_event_by_index : (keys : List RouteKey) (bytes : List ℕ) (es : List DecodedEvent) (at : ℕ) (d : DecodedEvent) → at < length es → AreEventsAt keys bytes es → IsEventAt keys bytes (slice_index_or es at d)
-is_event_by_index keys bytes [] at d l h = absurd (omega (arith, l))
-is_event_by_index keys bytes (e ∷ es) zero d l h = h.0
-is_event_by_index keys bytes (e ∷ es) (suc at) d l h = is_event_by_index keys bytes es at d (omega (arith, l)) h.1

@@ -15,6 +15,7 @@ use Rattle.bgp_update.specs.declared.attr_error.AttrError.{AttrError}
 use Rattle.bgp_update.specs.declared.attr_error.AttrError.TheVariants as errors
 use Rattle.bgp_update.specs.Keys.{octets_at, prefix_of}
 use Rattle.bgp_update.specs.Families.{FamilyOf}
+use Rattle.bgp_update.proofs.Readings.{mapped_err}
 use Rattle.mrt_body.specs.declared.unit.PeerKey.{PeerKey}
 use Rattle.mrt_body.specs.Plain.{Unit as ReplayUnit}
 use Rattle.mrt_body.specs.declared.record_place.RecordAt.{RecordAt}
@@ -26,7 +27,7 @@ use Rattle.mrt_body.specs.Units.{entry_unit, entry_units, rib_units, rib_units_i
 use Rattle.mrt_body.specs.Listed.{AreNumbered, IsListed, read_listed}
 use Rattle.mrt_body.specs.Pending.{AreListed, read_unit, listed_unit, units_left}
 use Rattle.mrt_body.proofs.Behind.{Behind, behind_more, behind-le, behind-drop, behind_front, number_behind, byte_behind, ok_behind}
-use Rattle.mrt_body.proofs.ManyLaws.{done, seen_ok, seen_err, many-map, many-length}
+use Rattle.mrt_body.proofs.ManyLaws.{done, seen_ok, many-map, many-length}
 
 pub written_entry : (add_path : Bool) (peers : ℕ) (bytes : List ℕ) (e : ReadEntry) (after : List ℕ) → read_entry_at add_path peers bytes ≡ Ok (e, after) → (w : WrittenEntry) × (entry_at add_path peers bytes ≡ Ok (w, after)) × (read_of w ≡ e)
 unfolding read_entry_at
@@ -117,7 +118,7 @@ form_of head entries = record { sequence = head.sequence; len = head.len; octets
 
 head_fails : (family : FamilyOf) (add_path : Bool) (peers : ℕ) (body : List ℕ) (fault : Fault) → read_head_at family body ≡ Err fault → rib_in family add_path peers body ≡ Err fault
 unfolding rib_in read_head_at
-head_fails family add_path peers body fault h = rw (seen_err summary_of (rib_head_at family body) fault h) refl
+head_fails family add_path peers body fault h = rw (mapped_err (rib_head_at family body) (λ head. (summary_of head.0, head.1)) fault h) refl
 
 -- entries that are read as what is kept of them
 read_entries : (add_path : Bool) (peers count : ℕ) (bytes : List ℕ) → many (read_entry_at add_path peers) count bytes ≡ (many (entry_at add_path peers) count bytes >>= λ ws. Ok (map read_of ws))
@@ -127,10 +128,6 @@ read_entries add_path peers count bytes = many-map (entry_at add_path peers) rea
 written_entries : (r : Result (List WrittenEntry) Fault) (es : List ReadEntry) → (r >>= λ ws. Ok (map read_of ws)) ≡ done es → (ws : List WrittenEntry) × (r ≡ Ok ws) × (map read_of ws ≡ es)
 written_entries (Ok ws) es e = (ws, refl, ok_is (map read_of ws) es e)
 written_entries (Err fault) es e = absurd cc
-
-entries_fault : (r : Result (List WrittenEntry) Fault) (fault : Fault) → (r >>= λ ws. Ok (map read_of ws)) ≡ Err fault → r ≡ Err fault
-entries_fault (Ok ws) fault e = absurd cc
-entries_fault (Err other) fault e = cc
 
 -- the units of entries, the first of which has this number
 abbrev read_units : FamilyOf → RecordAt → List PeerKey → IpPrefix → ℕ → List ReadEntry → List ReplayUnit
@@ -169,7 +166,7 @@ module _ (family : FamilyOf) (at : RecordAt) (peers : List PeerKey) (add_path : 
   pub units_fail : (fault : Fault) → read_head_at family body ≡ Ok (summary prefix count, rest) → many (read_entry_at add_path (length peers)) count rest ≡ Err fault → rib_units_in family at add_path (Some peers) body ≡ Err fault
   units_fail fault h e =
       let s = head_is family body prefix count rest h in
-      let broken = entries_fault entries_of fault (sym (read_entries add_path (length peers) count rest) ∙ e) in
+      let broken = mapped_err entries_of (map read_of) fault (sym (read_entries add_path (length peers) count rest) ∙ e) in
       let all : rib_in family add_path (length peers) body ≡ Err fault = rib_by_head s.0 s.1 s.3 ∙ ap (λ (r : Result (List WrittenEntry) Fault). r >>= λ entries. Ok (form_of s.0 entries)) broken in
       ap (λ (r : Result RibForm Fault). r >>= λ form. Ok (rib_units family at (Some peers) form)) all
 

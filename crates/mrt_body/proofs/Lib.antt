@@ -1,7 +1,6 @@
 pub mod IndexLaws
 pub mod Dumps
 pub mod Examples
-pub mod FamilyExamples
 pub mod MessageLaws
 pub mod ManyLaws
 pub mod EntryLaws

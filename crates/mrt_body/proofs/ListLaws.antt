@@ -6,7 +6,7 @@ use Rattle.mrt_body.specs.declared.rib.ListedEntry.{ListedEntry}
 use Rattle.mrt_body.specs.RibRecords.{ReadEntry, read_entry_at}
 use Rattle.mrt_body.specs.Listed.{AreNumbered, IsListed, read_listed}
 use Rattle.mrt_body.proofs.Behind.{Behind, behind-le, behind-drop, behind_more}
-use Rattle.mrt_body.proofs.ManyLaws.{push}
+use Rattle.bgp_update.proofs.Readings.{push}
 use Rattle.mrt_body.proofs.EntryLaws.{entry_takes, written_entry}
 
 -- a part of a body, so many bytes before its end

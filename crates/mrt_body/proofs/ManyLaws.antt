@@ -1,11 +1,12 @@
 -- Items as often as a count says, as a loop reads them.
-use Rattle.std.proofs.Common.{◌≡◌, ℕ, zero, suc, ◌+◌, ◌-◌, ◌<◌, ◌≤◌, Bool, true, false, cond, eqb, List, [], ◌∷◌, ◌++◌, length, map, Result, Ok, Err, refl, sym, ap, subst, ◌∙◌, arith, append-nil, append_assoc, ◌⊎◌, inl, inr}
-use Rattle.std.specs.List.{fold, flat_map, AllByRecursion}
+use Rattle.std.proofs.Common.{◌≡◌, ℕ, zero, suc, ◌+◌, ◌-◌, ◌<◌, ◌≤◌, Bool, true, false, cond, eqb, List, [], ◌∷◌, ◌++◌, length, map, Result, Ok, Err, refl, sym, ap, subst, ◌∙◌, arith, append_assoc, ◌⊎◌, inl, inr}
+use Rattle.std.specs.List.{flat_map, AllByRecursion}
 use Rattle.mrt_frame.specs.declared.fault.Fault.{Fault}
 use Rattle.mrt_frame.specs.declared.fault.Fault.TheVariants.{TrailingBytes}
 use Rattle.mrt_frame.specs.Fields.{Reading, ◌>>=◌}
 use Rattle.mrt_frame.proofs.Items.{bind_ok, ok_is, still}
 use Rattle.mrt_frame.proofs.FieldLaws.{IsBytes}
+use Rattle.bgp_update.proofs.Readings.{push, fold_push, mapped_err}
 use Rattle.mrt_body.specs.Many.{many}
 
 still_cons : {A B : Type 0} (step : B → A → B) (b : B) (x : A) (r : Result (List A) Fault) → still step b (r >>= λ others. Ok (x ∷ others)) ≡ still step (step b x) r
@@ -104,18 +105,7 @@ seen_ok {A} {B} f (Ok x) y after e =
     (x.0, ap (λ (l : List ℕ). done (x.0, l)) rest, ap (λ (p : B × List ℕ). p.0) same)
 seen_ok {A} {B} f (Err fault) y after e = absurd cc
 
-pub seen_err : {A B : Type 0} (f : A → B) (r : Reading A) (fault : Fault) → seen f r ≡ Err fault → r ≡ Err fault
-seen_err f (Ok x) fault e = absurd cc
-seen_err f (Err other) fault e = cc
-
 -- ---- how loops begin
-
-abbrev pub push : {A : Type 0} → List A → A → List A
-push front x = front ++ x ∷ []
-
-fold_push : {A : Type 0} (front xs : List A) → fold push front xs ≡ front ++ xs
-fold_push front [] = sym (append-nil front)
-fold_push front (x ∷ xs) = fold_push (front ++ x ∷ []) xs ∙ append_assoc front (x ∷ []) xs
 
 pub starts : {A : Type 0} (r : Result (List A) Fault) (front : List A) → front ≡ [] → still push front r ≡ r
 starts {A} (Ok xs) front e = ap (λ (l : List A). done l) (fold_push front xs ∙ ap (λ (l : List A). l ++ xs) e)
@@ -135,11 +125,10 @@ module _ {A : Type 0} (read : List ℕ → Reading A) (spell : A → List ℕ) (
 
   many-nil : (bytes : List ℕ) (xs : List A) → many read 0 bytes ≡ Ok xs → (bytes ≡ []) × (xs ≡ [])
   many-nil [] xs e = (refl, sym (ok_is [] xs e))
-  many-nil (b ∷ bytes) xs e = absurd (some (eqb (length (b ∷ bytes)) 0) (grind arith) e)
-    where
-      some : (t : Bool) → t ≡ false → cond t (Ok []) (Err TrailingBytes) ≡ Ok xs → ⊥
-      some true is_false h = absurd cc
-      some false is_false h = absurd cc
+  many-nil (b ∷ bytes) xs e =
+      let some : eqb (length (b ∷ bytes)) 0 ≡ false = grind arith in
+      let h = rw some at e in
+      absurd cc
 
   -- so many items, and nothing behind them
   pub record AreMany (n : ℕ) (bytes : List ℕ) (xs : List A) : Type 0 where
@@ -192,11 +181,10 @@ module _ {A : Type 0} (read : List ℕ → Reading A) (spell : A → List ℕ) (
 
   none-unread : (bytes : List ℕ) (fault : Fault) → many read 0 bytes ≡ Err fault → IsUnread 0 bytes fault
   none-unread [] fault e = absurd cc
-  none-unread (b ∷ bytes) fault e = inr (told (eqb (length (b ∷ bytes)) 0) (grind arith) e, record { items = []; more = b ∷ bytes; good = tt; number = refl; parts = refl; some = omega arith })
-    where
-      told : (t : Bool) → t ≡ false → cond t (Ok []) (Err TrailingBytes) ≡ failed {A = A} fault → fault ≡ TrailingBytes
-      told true is_false h = absurd cc
-      told false is_false h = cc
+  none-unread (b ∷ bytes) fault e =
+      let some : eqb (length (b ∷ bytes)) 0 ≡ false = grind arith in
+      let h = rw some at e in
+      inr (cc, record { items = []; more = b ∷ bytes; good = tt; number = refl; parts = refl; some = omega arith })
 
   more-unread : (n : ℕ) (bytes : List ℕ) (x : A × List ℕ) (fault : Fault) → bytes ≡ spell x.0 ++ x.1 → IsGood x.0 → IsUnread n x.1 fault → IsUnread (suc n) bytes fault
   more-unread n bytes x fault parts good (inl b) = inl (record {
@@ -224,24 +212,13 @@ module _ {A : Type 0} (read : List ℕ → Reading A) (spell : A → List ℕ) (
   many-unread takes zero bytes fault fine e = none-unread bytes fault e
   many-unread takes (suc n) bytes fault fine e = first (λ others f h. many-unread takes n others fault f h) (bind_err (read bytes) (λ x. many read n x.1 >>= λ others. Ok (x.0 ∷ others)) fault e)
     where
-      others_fail : (x : A × List ℕ) → (many read n x.1 >>= λ others. Ok (x.0 ∷ others)) ≡ Err fault → many read n x.1 ≡ Err fault
-      others_fail x h = by_case (many read n x.1) h
-        where
-          by_case : (r : Result (List A) Fault) → (r >>= λ others. Ok (x.0 ∷ others)) ≡ Err fault → r ≡ Err fault
-          by_case (Ok xs) k = absurd cc
-          by_case (Err f) k = cc
-
       first : ((others : List ℕ) → IsBytes others → many read n others ≡ Err fault → IsUnread n others fault) → (read bytes ≡ Err fault) ⊎ ((x : A × List ℕ) × (read bytes ≡ Ok x) × ((many read n x.1 >>= λ others. Ok (x.0 ∷ others)) ≡ Err fault)) → IsUnread (suc n) bytes fault
       first others (inl h) = inl (record { front = []; rest = bytes; good = tt; fewer = omega arith; parts = refl; fine = fine; refused = h })
-      first others (inr h) = let t = takes bytes h.0 fine h.1 in more-unread n bytes h.0 fault t.0 t.1 (others h.0.1 t.2 (others_fail h.0 h.2))
+      first others (inr h) = let t = takes bytes h.0 fine h.1 in more-unread n bytes h.0 fault t.0 t.1 (others h.0.1 t.2 (mapped_err (many read n h.0.1) (λ others. h.0.0 ∷ others) fault h.2))
 
   pub many-goes_on : Again read spell IsGood → (xs : List A) (more : List ℕ) → AllByRecursion IsGood xs → 0 < length more → many read (length xs) (flat_map spell xs ++ more) ≡ Err TrailingBytes
   many-goes_on again [] [] good some = absurd (omega (arith, some))
-  many-goes_on again [] (b ∷ more) good some = told (eqb (length (b ∷ more)) 0) (grind arith)
-    where
-      told : (t : Bool) → t ≡ false → cond t (Ok []) (Err TrailingBytes) ≡ failed {A = A} TrailingBytes
-      told true is_false = absurd cc
-      told false is_false = refl
+  many-goes_on again [] (b ∷ more) good some = let long : eqb (length (b ∷ more)) 0 ≡ false = grind arith in rw long refl
   many-goes_on again (x ∷ xs) more good some =
       ap (λ (l : List ℕ). many read (suc (length xs)) l) (append_assoc (spell x) (flat_map spell xs) more) ∙ rw (again x (flat_map spell xs ++ more) good.0, many-goes_on again xs more good.1 some) refl
 

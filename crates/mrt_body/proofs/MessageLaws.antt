@@ -24,6 +24,7 @@ use Rattle.bgp_update.specs.Updates.{Update, ReadsAsUpdate}
 use Rattle.mrt_body.specs.Plain.{Event}
 use Rattle.mrt_body.specs.declared.meaning.Event.TheVariants as event
 use Rattle.mrt_body.specs.Events.{UPDATE, IsMessageEvent, IsEntryEvent, marker, message_bytes, message_in}
+use Rattle.mrt_body.proofs.ShortFields.{ok_never}
 
 -- a list whose numbers are all 255
 all_ones : (xs : List ℕ) → list_all (λ b. eqb b 255) xs ≡ true → xs ≡ replicate (length xs) 255
@@ -93,17 +94,9 @@ same_message bytes kind other body rest read spelled small =
 
 module _ (family : FamilyOf) (width : Width) (add_path : Bool) (bytes : List ℕ) where
   pub no_event : (fault : Fault) → message_in bytes ≡ Err fault → (e : Event) → IsMessageEvent family width add_path bytes e → done e ≡ Err fault
-  no_event fault read (event.Change update) h = absurd (differ (sym (ap message_in h.1 ∙ message_again UPDATE h.0 h.2) ∙ read))
-    where
-      differ : {x : ℕ × List ℕ} → done x ≡ Err fault → ⊥
-      differ e = cc
-  no_event fault read event.Other h = absurd (differ (sym (ap message_in h.3 ∙ message_again h.0 h.1 h.4) ∙ read))
-    where
-      differ : {x : ℕ × List ℕ} → done x ≡ Err fault → ⊥
-      differ e = cc
-  no_event fault read (event.State old new rule) h = absurd h
-  no_event fault read (event.Rib key route) h = absurd h
-  no_event fault read event.Clear h = absurd h
+  no_event fault read (event.Change update) h = ok_never _ fault (sym (ap message_in h.1 ∙ message_again UPDATE h.0 h.2) ∙ read)
+  no_event fault read event.Other h = ok_never _ fault (sym (ap message_in h.3 ∙ message_again h.0 h.1 h.4) ∙ read)
+  no_event fault read e h = absurd h
 
   pub other_found : (kind : ℕ) (body : List ℕ) → IsBytes bytes → message_in bytes ≡ Ok (kind, body) → kind ≢ UPDATE → IsMessageEvent family width add_path bytes event.Other
   other_found kind body fine read other = let t = message_takes bytes (kind, body) fine read in (kind, body, other, t.spelled, t.small)
@@ -111,9 +104,7 @@ module _ (family : FamilyOf) (width : Width) (add_path : Bool) (bytes : List ℕ
   pub other_only : (kind : ℕ) (body : List ℕ) → message_in bytes ≡ Ok (kind, body) → kind ≢ UPDATE → (e : Event) → IsMessageEvent family width add_path bytes e → done e ≡ Ok event.Other
   other_only kind body read other (event.Change update) h = absurd (other (same_message bytes kind UPDATE body h.0 read h.1 h.2).0)
   other_only kind body read other event.Other h = refl
-  other_only kind body read other (event.State old new rule) h = absurd h
-  other_only kind body read other (event.Rib key route) h = absurd h
-  other_only kind body read other event.Clear h = absurd h
+  other_only kind body read other e h = absurd h
 
   pub change_found : (kind : ℕ) (body : List ℕ) (update : Update) → IsBytes bytes → message_in bytes ≡ Ok (kind, body) → kind ≡ UPDATE → ReadsAsUpdate family width add_path body update → IsMessageEvent family width add_path bytes (event.Change update)
   change_found kind body update fine read same reads =
@@ -126,9 +117,7 @@ module _ (family : FamilyOf) (width : Width) (add_path : Bool) (bytes : List ℕ
       let m = same_message bytes kind UPDATE body h.0 read h.1 h.2 in
       (update, refl, subst (λ (b : List ℕ). ReadsAsUpdate family width add_path b update) (sym m.1) h.3)
   change_only kind body read same event.Other h = absurd (h.2 (sym (same_message bytes kind h.0 body h.1 read h.3 h.4).0 ∙ same))
-  change_only kind body read same (event.State old new rule) h = absurd h
-  change_only kind body read same (event.Rib key route) h = absurd h
-  change_only kind body read same event.Clear h = absurd h
+  change_only kind body read same e h = absurd h
 
   pub change_given : (kind : ℕ) (body : List ℕ) (r : Result Update AttrError) → message_in bytes ≡ Ok (kind, body) → kind ≡ UPDATE
       → ((update : Update) → ReadsAsUpdate family width add_path body update → Gives (λ u. u) r (Ok update)) → (e : Event) → IsMessageEvent family width add_path bytes e → Gives (λ u. event.Change u) r (Ok e)
@@ -147,7 +136,4 @@ pub entry_given : (family : FamilyOf) (key : RouteKey) (attrs : List ℕ) (r : R
 entry_given family key attrs (Ok route) only (event.Rib other said) h = let same = only said h.1 in let key_is = h.0 in cc
 entry_given family key attrs (Err errors.Memory) only (event.Rib other said) h = tt
 entry_given family key attrs (Err (errors.Bad fault)) only (event.Rib other said) h = let same = only said h.1 in absurd cc
-entry_given family key attrs r only (event.Change update) h = absurd h
-entry_given family key attrs r only (event.State old new rule) h = absurd h
-entry_given family key attrs r only event.Other h = absurd h
-entry_given family key attrs r only event.Clear h = absurd h
+entry_given family key attrs r only e h = absurd h

@@ -1,17 +1,18 @@
 -- Which fault an index table has.
-use Rattle.std.proofs.Common.{◌≡◌, ◌⊎◌, inl, inr, ℕ, ◌<◌, ◌^◌, List, ◌++◌, length, Result, Ok, Err, refl, sym, ap, subst, ◌∙◌, append_assoc}
+use Rattle.std.proofs.Common.{◌≡◌, ◌⊎◌, inl, inr, ℕ, ◌<◌, ◌^◌, List, ◌++◌, length, Ok, Err, refl, sym, ap, subst, ◌∙◌, append_assoc}
 use Rattle.std.specs.List.{flat_map}
 use Rattle.mrt_frame.specs.declared.fault.Fault.{Fault}
 use Rattle.mrt_frame.specs.declared.fault.Fault.TheVariants.{ShortRecord, TrailingBytes}
 use Rattle.mrt_frame.specs.Fields.{◌>>=◌, byte_at, number_at, bytes_at}
 use Rattle.mrt_frame.proofs.FieldLaws.{IsBytes}
+use Rattle.bgp_update.proofs.Readings.{mapped_err}
 use Rattle.mrt_body.specs.declared.unit.PeerKey.{PeerKey}
 use Rattle.mrt_body.specs.Many.{many}
-use Rattle.mrt_body.specs.Indexes.{addr_at, asn_at, WrittenPeer, has_ipv6, asn_width, peer_bytes, FitsPeer, IndexForm, index_bytes, FitsIndex, written_peer_at, IndexHead, index_head_at, index_in, peers_of, peers_in}
+use Rattle.mrt_body.specs.Indexes.{addr_at, asn_at, has_ipv6, asn_width, peer_bytes, FitsPeer, IndexForm, index_bytes, FitsIndex, written_peer_at, IndexHead, index_head_at, index_in, peers_of, peers_in}
 use Rattle.mrt_body.specs.Agreement.{IsIndexBody}
-use Rattle.mrt_body.proofs.ManyLaws.{BreaksOff, GoesOn, bind_err, many-unread, many-goes_on}
+use Rattle.mrt_body.proofs.ManyLaws.{BreaksOff, GoesOn, many-unread, many-goes_on}
 use Rattle.mrt_body.proofs.ShortFields.{IsShort, then_short, only_short, ok_never, byte_short, number_short, bytes_short, addr_short, asn_short}
-use Rattle.mrt_body.proofs.PeerForms.{TakesHead, head_with, head_bytes, head_takes, head_again, peer_takes, peer_again}
+use Rattle.mrt_body.proofs.PeerForms.{head_with, head_bytes, head_takes, head_again, peer_takes, peer_again}
 
 peer_short : (bytes : List ℕ) → IsShort (written_peer_at bytes)
 unfolding written_peer_at
@@ -42,13 +43,13 @@ pub record IndexAndMore (body : List ℕ) : Type 0 where
 behind_head : (head : IndexHead) (front more : List ℕ) → head_bytes head (front ++ more) ≡ head_bytes head front ++ more
 behind_head head front more = sym (simp append_assoc)
 
-abbrev read_table : IndexHead → List WrittenPeer → Result IndexForm Fault
-read_table head peers = Ok (record { collector = head.collector; view = head.view; peers = peers })
-
 index_refused : (body : List ℕ) (fault : Fault) → IsBytes body → index_in body ≡ Err fault → ((fault ≡ TrailingBytes) × IndexAndMore body) ⊎ (fault ≡ ShortRecord)
 unfolding index_in
 index_refused body fault fine e =
-    then_short (index_head_at body) (λ head. many written_peer_at head.0.count head.1 >>= λ peers. Ok (record { collector = head.0.collector; view = head.0.view; peers = peers })) fault (head_short body) (λ h h_is he. by_step h (head_takes body h fine h_is) (bind_err (many written_peer_at h.0.count h.1) (λ peers. Ok (record { collector = h.0.collector; view = h.0.view; peers = peers })) fault he)) e
+    then_short (index_head_at body) (λ head. many written_peer_at head.0.count head.1 >>= λ peers. Ok (record { collector = head.0.collector; view = head.0.view; peers = peers })) fault (head_short body) (λ h h_is he.
+    let t = head_takes body h fine h_is in
+    let unread = mapped_err (many written_peer_at h.0.count h.1) (λ peers. record { collector = h.0.collector; view = h.0.view; peers = peers }) fault he in
+    by_peers h t.parts t.collector t.view t.count (many-unread written_peer_at peer_bytes FitsPeer peer_takes h.0.count h.1 fault t.fine unread)) e
   where
     by_peers : (h : IndexHead × List ℕ) → body ≡ head_bytes h.0 h.1 → h.0.collector < 256 ^ 4 → length h.0.view < 256 ^ 2 → h.0.count < 256 ^ 2 → BreaksOff written_peer_at peer_bytes FitsPeer h.0.count h.1 fault ⊎ ((fault ≡ TrailingBytes) × GoesOn written_peer_at peer_bytes FitsPeer h.0.count h.1) → ((fault ≡ TrailingBytes) × IndexAndMore body) ⊎ (fault ≡ ShortRecord)
     by_peers h parts k v n (inl b) = inr (peer_short b.rest fault b.refused)
@@ -63,10 +64,6 @@ index_refused body fault fine e =
       },
     )
 
-    by_step : (h : IndexHead × List ℕ) → TakesHead body h.0 h.1 → (many written_peer_at h.0.count h.1 ≡ Err fault) ⊎ ((ps : List WrittenPeer) × (many written_peer_at h.0.count h.1 ≡ Ok ps) × (read_table h.0 ps ≡ Err fault)) → ((fault ≡ TrailingBytes) × IndexAndMore body) ⊎ (fault ≡ ShortRecord)
-    by_step h t (inl r) = by_peers h t.parts t.collector t.view t.count (many-unread written_peer_at peer_bytes FitsPeer peer_takes h.0.count h.1 fault t.fine r)
-    by_step h t (inr r) = ok_never (record { collector = h.0.collector; view = h.0.view; peers = r.0 }) fault r.2
-
 index_goes_on : (form : IndexForm) (more : List ℕ) → FitsIndex form → 0 < length more → index_in (index_bytes form ++ more) ≡ Err TrailingBytes
 unfolding index_in
 index_goes_on form more h some =
@@ -78,11 +75,7 @@ index_goes_on form more h some =
 
 pub peers_refused : (body : List ℕ) (fault : Fault) → IsBytes body → peers_in body ≡ Err fault → ((fault ≡ TrailingBytes) × IndexAndMore body) ⊎ (fault ≡ ShortRecord)
 unfolding peers_in
-peers_refused body fault fine e = by_step (bind_err (index_in body) (λ form. Ok (peers_of form)) fault e)
-  where
-    by_step : (index_in body ≡ Err fault) ⊎ ((form : IndexForm) × (index_in body ≡ Ok form) × (Ok (peers_of form) ≡ Err fault)) → ((fault ≡ TrailingBytes) × IndexAndMore body) ⊎ (fault ≡ ShortRecord)
-    by_step (inl r) = index_refused body fault fine r
-    by_step (inr r) = ok_never (peers_of r.0) fault r.2
+peers_refused body fault fine e = index_refused body fault fine (mapped_err (index_in body) peers_of fault e)
 
 pub peers_go_on : (front more : List ℕ) (peers : List PeerKey) → IsIndexBody front peers → 0 < length more → peers_in (front ++ more) ≡ Err TrailingBytes
 unfolding peers_in

@@ -2,10 +2,10 @@
 use Rattle.std.proofs.Common.{◌≡◌, ◌⊎◌, inl, inr, ℕ, Bool, List, [], ◌∷◌, ◌++◌, length, Option, Some, None, Result, Ok, Err, refl, sym, ap, subst, ◌∙◌}
 use Rattle.mrt_frame.specs.declared.fault.Fault.{Fault}
 use Rattle.mrt_frame.specs.declared.fault.Fault.TheVariants.{ShortRecord, TrailingBytes, BadFamily, NoPeerIndex, BadPeerIndex, BadPrefix}
-use Rattle.mrt_frame.specs.Fields.{◌>>=◌}
 use Rattle.mrt_frame.proofs.FieldLaws.{IsBytes}
 use Rattle.bgp_update.specs.declared.width.Width.{Width}
 use Rattle.bgp_update.specs.Families.{FamilyOf}
+use Rattle.bgp_update.proofs.Readings.{mapped_err}
 use Rattle.mrt_body.specs.declared.record_place.RecordAt.{RecordAt}
 use Rattle.mrt_body.specs.declared.body_kind.BodyKind.{BodyKind}
 use Rattle.mrt_body.specs.declared.body_kind.BodyKind.TheVariants as content
@@ -13,8 +13,8 @@ use Rattle.mrt_body.specs.declared.state_rule.StateRule.{StateRule}
 use Rattle.mrt_body.specs.declared.unit.PeerKey.{PeerKey}
 use Rattle.mrt_body.specs.Plain.{Unit as ReplayUnit}
 use Rattle.mrt_body.specs.Indexes.{index_bytes, peers_of, peers_in}
-use Rattle.mrt_body.specs.RibRecords.{RibForm, rib_bytes, rib_in}
-use Rattle.mrt_body.specs.Units.{alone, units_in, rib_units, message_unit, states_unit}
+use Rattle.mrt_body.specs.RibRecords.{rib_bytes, rib_in}
+use Rattle.mrt_body.specs.Units.{units_in, rib_units, message_unit, states_unit}
 use Rattle.mrt_body.specs.Agreement.{IsRibBody}
 use Rattle.mrt_body.specs.Refusals.{HasRibFault, HasFault, IsRefused}
 use Rattle.mrt_body.proofs.PeerFaults.{IndexAndMore, peers_refused, peers_go_on}
@@ -24,10 +24,6 @@ use Rattle.mrt_body.proofs.AgreementLaws.{agrees, is_read}
 
 abbrev Units : Type 0
 Units = List ReplayUnit
-
-alone_err : (r : Result ReplayUnit Fault) (fault : Fault) → alone r ≡ Err fault → r ≡ Err fault
-alone_err (Ok unit) fault e = absurd cc
-alone_err (Err other) fault e = cc
 
 module _ (family : FamilyOf) (rule : StateRule) (at : RecordAt) (extended : Bool) where
   -- ---- what is refused has a fault, or a field that runs past it
@@ -46,12 +42,11 @@ module _ (family : FamilyOf) (rule : StateRule) (at : RecordAt) (extended : Bool
     },
   )
 
+  abbrev no_units : Units
+  no_units = []
+
   index_refused : (index : Option (List PeerKey)) (body : List ℕ) (fault : Fault) → IsBytes body → units_in family rule at extended index content.IndexTable body ≡ Err fault → HasFault family rule at extended index content.IndexTable body fault ⊎ (fault ≡ ShortRecord)
-  index_refused index body fault fine e = by_peers (peers_in body) refl e
-    where
-      by_peers : (r : Result (List PeerKey) Fault) → peers_in body ≡ r → ◌>>=◌ {B = Units} r (λ peers. Ok []) ≡ Err fault → HasFault family rule at extended index content.IndexTable body fault ⊎ (fault ≡ ShortRecord)
-      by_peers (Ok peers) is h = absurd cc
-      by_peers (Err other) is h = let same : other ≡ fault = cc in index_fault index body fault (peers_refused body fault fine (is ∙ ap (λ (f : Fault). Err f) same))
+  index_refused index body fault fine e = index_fault index body fault (peers_refused body fault fine (mapped_err (peers_in body) (λ peers. no_units) fault e))
 
   rib_fault : (add_path : Bool) (peers : List PeerKey) (body : List ℕ) (fault : Fault) → RibFault family add_path (length peers) body fault ⊎ (fault ≡ ShortRecord) → HasRibFault family rule at extended add_path (Some peers) body fault ⊎ (fault ≡ ShortRecord)
   rib_fault add_path peers body fault (inr short) = inr short
@@ -71,11 +66,8 @@ module _ (family : FamilyOf) (rule : StateRule) (at : RecordAt) (extended : Bool
 
   rib_is_refused : (add_path : Bool) (index : Option (List PeerKey)) (body : List ℕ) (fault : Fault) → IsBytes body → units_in family rule at extended index (content.Rib add_path) body ≡ Err fault → HasRibFault family rule at extended add_path index body fault ⊎ (fault ≡ ShortRecord)
   rib_is_refused add_path None body fault fine e = inl cc
-  rib_is_refused add_path (Some peers) body fault fine e = by_form (rib_in family add_path (length peers) body) refl e
-    where
-      by_form : (r : Result RibForm Fault) → rib_in family add_path (length peers) body ≡ r → ◌>>=◌ {B = Units} r (λ form. Ok (rib_units family at (Some peers) form)) ≡ Err fault → HasRibFault family rule at extended add_path (Some peers) body fault ⊎ (fault ≡ ShortRecord)
-      by_form (Ok form) is h = absurd cc
-      by_form (Err other) is h = let same : other ≡ fault = cc in rib_fault add_path peers body fault (rib_refused family add_path (length peers) body fault fine (is ∙ ap (λ (f : Fault). Err f) same))
+  rib_is_refused add_path (Some peers) body fault fine e =
+      rib_fault add_path peers body fault (rib_refused family add_path (length peers) body fault fine (mapped_err (rib_in family add_path (length peers) body) (rib_units family at (Some peers)) fault e))
 
   states_fault : (index : Option (List PeerKey)) (width : Width) (body : List ℕ) (fault : Fault) → ChangeFault rule at extended width body fault ⊎ (fault ≡ ShortRecord) → HasFault family rule at extended index (content.States width) body fault ⊎ (fault ≡ ShortRecord)
   states_fault index width body fault (inr short) = inr short
@@ -95,8 +87,8 @@ module _ (family : FamilyOf) (rule : StateRule) (at : RecordAt) (extended : Bool
   refused : (index : Option (List PeerKey)) (c : BodyKind) (body : List ℕ) (fault : Fault) → IsBytes body → units_in family rule at extended index c body ≡ Err fault → HasFault family rule at extended index c body fault ⊎ (fault ≡ ShortRecord)
   refused index content.IndexTable body fault fine e = index_refused index body fault fine e
   refused index (content.Rib add_path) body fault fine e = rib_is_refused add_path index body fault fine e
-  refused index (content.Message width add_path) body fault fine e = message_refused family at extended width add_path body fault fine (alone_err (message_unit family at extended width add_path body) fault e)
-  refused index (content.States width) body fault fine e = states_fault index width body fault (change_refused rule at extended width body fault fine (alone_err (states_unit rule at extended width body) fault e))
+  refused index (content.Message width add_path) body fault fine e = message_refused family at extended width add_path body fault fine (mapped_err (message_unit family at extended width add_path body) (λ unit. unit ∷ []) fault e)
+  refused index (content.States width) body fault fine e = states_fault index width body fault (change_refused rule at extended width body fault fine (mapped_err (states_unit rule at extended width body) (λ unit. unit ∷ []) fault e))
   refused index content.Aside body fault fine e = absurd cc
 
   -- ---- what has a fault is refused for it

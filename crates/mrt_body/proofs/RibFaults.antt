@@ -10,6 +10,7 @@ use Rattle.mrt_frame.specs.Fields.{Reading, ◌>>=◌, byte_at, number_at, bytes
 use Rattle.mrt_frame.proofs.FieldLaws.{IsBytes, byte_at-takes, byte_at-again, number_takes, number_at-again}
 use Rattle.bgp_update.specs.Keys.{octets_at}
 use Rattle.bgp_update.specs.Families.{FamilyOf}
+use Rattle.bgp_update.proofs.Readings.{mapped_err}
 use Rattle.mrt_body.specs.Many.{many}
 use Rattle.mrt_body.specs.RibRecords.{WrittenEntry, entry_bytes, FitsEntry, RibForm, rib_bytes, FitsRib, peer_index_at, identifier_at, entry_at, RibHead, rib_head_at, rib_in}
 use Rattle.mrt_body.specs.Refusals.{HasBadPrefix, HasUnknownPeer}
@@ -181,13 +182,13 @@ rib_refused family add_path peers body fault fine e = by_head (bind_err (rib_hea
           },
         )))
 
-    by_entries : (h : RibHead × List ℕ) → TakesHead family body h.0 h.1 → (many (entry_at add_path peers) h.0.count h.1 ≡ Err fault) ⊎ ((ws : List WrittenEntry) × (many (entry_at add_path peers) h.0.count h.1 ≡ Ok ws) × (read_rib h.0 ws ≡ Err fault)) → RibFault family add_path peers body fault ⊎ (fault ≡ ShortRecord)
-    by_entries h t (inl r) = of_entries h t (many-unread (entry_at add_path peers) (entry_bytes add_path) (FitsEntry add_path peers) (entry_takes add_path peers) h.0.count h.1 fault t.fine r)
-    by_entries h t (inr r) = ok_never (record { sequence = h.0.sequence; len = h.0.len; octets = h.0.octets; entries = r.0 }) fault r.2
-
     by_head : (rib_head_at family body ≡ Err fault) ⊎ ((h : RibHead × List ℕ) × (rib_head_at family body ≡ Ok h) × ((many (entry_at add_path peers) h.0.count h.1 >>= λ entries. read_rib h.0 entries) ≡ Err fault)) → RibFault family add_path peers body fault ⊎ (fault ≡ ShortRecord)
     by_head (inl r) = of_head (head_refused family body fault fine r)
-    by_head (inr r) = by_entries r.0 (head_takes family body r.0 fine r.1) (bind_err (many (entry_at add_path peers) r.0.0.count r.0.1) (λ entries. read_rib r.0.0 entries) fault r.2)
+    by_head (inr r) =
+        let h = r.0 in
+        let t = head_takes family body h fine r.1 in
+        let unread = mapped_err (many (entry_at add_path peers) h.0.count h.1) (λ entries. record { sequence = h.0.sequence; len = h.0.len; octets = h.0.octets; entries = entries }) fault r.2 in
+        of_entries h t (many-unread (entry_at add_path peers) (entry_bytes add_path) (FitsEntry add_path peers) (entry_takes add_path peers) h.0.count h.1 fault t.fine unread)
 
 -- ---- and what has a fault is refused for it
 

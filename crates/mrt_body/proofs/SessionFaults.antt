@@ -9,6 +9,7 @@ use Rattle.mrt_frame.proofs.FieldLaws.{IsBytes, number_takes, number_at-again}
 use Rattle.bgp_update.specs.declared.width.Width.{Width}
 use Rattle.bgp_update.specs.Segments.{number_len}
 use Rattle.bgp_update.specs.Families.{FamilyOf}
+use Rattle.bgp_update.proofs.Readings.{mapped_err}
 use Rattle.mrt_body.specs.declared.record_place.RecordAt.{RecordAt}
 use Rattle.mrt_body.specs.declared.state_rule.StateRule.{StateRule}
 use Rattle.mrt_body.specs.declared.unit.PeerAddr.{PeerAddr}
@@ -130,16 +131,9 @@ unfolding session_at
 session_other width peer_as local_as interface family rest fa fb fi ff one two =
     rw (number_at-again ShortRecord (number_len width) peer_as (asn_bytes width local_as ++ (big_bytes 2 interface ++ (big_bytes 2 family ++ rest))) fa, number_at-again ShortRecord (number_len width) local_as (big_bytes 2 interface ++ (big_bytes 2 family ++ rest)) fb, number_at-again ShortRecord 2 interface (big_bytes 2 family ++ rest) fi, family_other family rest ff one two) refl
 
-abbrev as_peer : SessionForm × List ℕ → Reading PeerKey
-as_peer s = Ok (session_peer s.0, s.1)
-
 peer_refused : (width : Width) (bytes : List ℕ) (fault : Fault) → IsBytes bytes → session_peer_at width bytes ≡ Err fault → ((fault ≡ BadFamily) × OtherSession width bytes) ⊎ (fault ≡ ShortRecord)
 unfolding session_peer_at
-peer_refused width bytes fault fine e = by_step (bind_err (session_at width bytes) (λ s. Ok (session_peer s.0, s.1)) fault e)
-  where
-    by_step : (session_at width bytes ≡ Err fault) ⊎ ((s : SessionForm × List ℕ) × (session_at width bytes ≡ Ok s) × (as_peer s ≡ Err fault)) → ((fault ≡ BadFamily) × OtherSession width bytes) ⊎ (fault ≡ ShortRecord)
-    by_step (inl h) = session_refused width bytes fault fine h
-    by_step (inr h) = ok_never (session_peer h.0.0, h.0.1) fault h.2
+peer_refused width bytes fault fine e = session_refused width bytes fault fine (mapped_err (session_at width bytes) (λ s. (session_peer s.0, s.1)) fault e)
 
 peer_other : (width : Width) (peer_as local_as interface family : ℕ) (rest : List ℕ) → peer_as < 256 ^ number_len width → local_as < 256 ^ number_len width → interface < 256 ^ 2 → family < 256 ^ 2 → family ≢ 1 → family ≢ 2
     → session_peer_at width (asn_bytes width peer_as ++ (asn_bytes width local_as ++ (big_bytes 2 interface ++ (big_bytes 2 family ++ rest)))) ≡ Err BadFamily
@@ -189,11 +183,7 @@ module _ (family : FamilyOf) (at : RecordAt) (extended : Bool) (width : Width) w
   unfolding message_unit
   message_refused add_path body fault fine e =
       then_short (microseconds_at extended body) (λ m. session_peer_at width m.1 >>= λ peer. Ok (session_unit at m.0 peer.0 (Message peer.1 width add_path family))) fault (microseconds_short extended body) (λ m m_is me.
-      by_peer m m_is (bind_err (session_peer_at width m.1) (λ peer. Ok (session_unit at m.0 peer.0 (Message peer.1 width add_path family))) fault me)) e
-    where
-      by_peer : (m : ℕ × List ℕ) → microseconds_at extended body ≡ Ok m → (session_peer_at width m.1 ≡ Err fault) ⊎ ((p : PeerKey × List ℕ) × (session_peer_at width m.1 ≡ Ok p) × (Ok (session_unit at m.0 p.0 (Message p.1 width add_path family)) ≡ Err fault)) → ((fault ≡ BadFamily) × HasOtherFamily extended width body) ⊎ (fault ≡ ShortRecord)
-      by_peer m m_is (inl h) = other_family extended width body fault m fine m_is h
-      by_peer m m_is (inr h) = ok_never (session_unit at m.0 h.0.0 (Message h.0.1 width add_path family)) fault h.2
+      other_family extended width body fault m fine m_is (mapped_err (session_peer_at width m.1) (λ peer. session_unit at m.0 peer.0 (Message peer.1 width add_path family)) fault me)) e
 
   pub message_other : (add_path : Bool) (body : List ℕ) → HasOtherFamily extended width body → message_unit family at extended width add_path body ≡ Err BadFamily
   unfolding message_unit
@@ -211,30 +201,19 @@ pub record StatesAndMore (bytes : List ℕ) : Type 0 where
   pub parts : bytes ≡ big_bytes 2 from ++ (big_bytes 2 to ++ more)
   pub some : 0 < length more
 
-abbrev done_pair : ℕ × ℕ → Result (ℕ × ℕ) Fault
-done_pair s = Ok s
-
-abbrev failed_pair : Result (ℕ × ℕ) Fault
-failed_pair = Err TrailingBytes
-
 abbrev pair_ended : ℕ × ℕ → List ℕ → Result (ℕ × ℕ) Fault
 pair_ended s rest = ended s rest
 
 pub ended_err : (s : ℕ × ℕ) (rest : List ℕ) (fault : Fault) → pair_ended s rest ≡ Err fault → (fault ≡ TrailingBytes) × (0 < length rest)
 ended_err s [] fault e = absurd cc
-ended_err s (b ∷ rest) fault e = (told (eqb (length (b ∷ rest)) 0) (grind arith) e, omega arith)
-  where
-    told : (t : Bool) → t ≡ false → cond t (done_pair s) (Err TrailingBytes) ≡ Err fault → fault ≡ TrailingBytes
-    told true is_false h = absurd cc
-    told false is_false h = cc
+ended_err s (b ∷ rest) fault e =
+    let some : eqb (length (b ∷ rest)) 0 ≡ false = grind arith in
+    let h = rw some at e in
+    (cc, omega arith)
 
 ended_more : (s : ℕ × ℕ) (rest : List ℕ) → 0 < length rest → pair_ended s rest ≡ Err TrailingBytes
 ended_more s [] some = absurd (omega (arith, some))
-ended_more s (b ∷ rest) some = told (eqb (length (b ∷ rest)) 0) (grind arith)
-  where
-    told : (t : Bool) → t ≡ false → cond t (done_pair s) (Err TrailingBytes) ≡ failed_pair
-    told true is_false = absurd cc
-    told false is_false = refl
+ended_more s (b ∷ rest) some = let long : eqb (length (b ∷ rest)) 0 ≡ false = grind arith in rw long refl
 
 states_refused : (bytes : List ℕ) (fault : Fault) → IsBytes bytes → states_in bytes ≡ Err fault → ((fault ≡ TrailingBytes) × StatesAndMore bytes) ⊎ (fault ≡ ShortRecord)
 unfolding states_in
@@ -297,13 +276,12 @@ module _ (rule : StateRule) (at : RecordAt) (extended : Bool) (width : Width) (b
       then_short (microseconds_at extended body) (λ m. session_peer_at width m.1 >>= λ peer. states_in peer.1 >>= λ s. Ok (session_unit at m.0 peer.0 (State s.0 s.1 rule))) fault (microseconds_short extended body) (λ m m_is me.
       by_peer m m_is (bind_err (session_peer_at width m.1) (λ peer. states_in peer.1 >>= λ s. Ok (session_unit at m.0 peer.0 (State s.0 s.1 rule))) fault me)) e
     where
-      by_states : (m : ℕ × List ℕ) (p : PeerKey × List ℕ) → microseconds_at extended body ≡ Ok m → session_peer_at width m.1 ≡ Ok p → (states_in p.1 ≡ Err fault) ⊎ ((s : ℕ × ℕ) × (states_in p.1 ≡ Ok s) × (Ok (session_unit at m.0 p.0 (State s.0 s.1 rule)) ≡ Err fault)) → ChangeFault fault ⊎ (fault ≡ ShortRecord)
-      by_states m p m_is p_is (inl h) = of_states fault m p fine m_is p_is (states_refused p.1 fault (peer_takes width m.1 p (microseconds_take extended body m fine m_is).fine p_is).takes.fine h)
-      by_states m p m_is p_is (inr h) = ok_never (session_unit at m.0 p.0 (State h.0.0 h.0.1 rule)) fault h.2
-
       by_peer : (m : ℕ × List ℕ) → microseconds_at extended body ≡ Ok m → (session_peer_at width m.1 ≡ Err fault) ⊎ ((p : PeerKey × List ℕ) × (session_peer_at width m.1 ≡ Ok p) × ((states_in p.1 >>= λ s. Ok (session_unit at m.0 p.0 (State s.0 s.1 rule))) ≡ Err fault)) → ChangeFault fault ⊎ (fault ≡ ShortRecord)
       by_peer m m_is (inl h) = of_family fault (other_family extended width body fault m fine m_is h)
-      by_peer m m_is (inr h) = by_states m h.0 m_is h.1 (bind_err (states_in h.0.1) (λ s. Ok (session_unit at m.0 h.0.0 (State s.0 s.1 rule))) fault h.2)
+      by_peer m m_is (inr h) =
+          let p = h.0 in
+          let fine_p = (peer_takes width m.1 p (microseconds_take extended body m fine m_is).fine h.1).takes.fine in
+          of_states fault m p fine m_is h.1 (states_refused p.1 fault fine_p (mapped_err (states_in p.1) (λ s. session_unit at m.0 p.0 (State s.0 s.1 rule)) fault h.2))
 
   pub change_other : HasOtherFamily extended width body → states_unit rule at extended width body ≡ Err BadFamily
   unfolding states_unit

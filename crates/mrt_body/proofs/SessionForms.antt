@@ -2,7 +2,7 @@
 use Rattle.std.proofs.Common.{◌≡◌, ℕ, ◌^◌, ◌<◌, Bool, true, false, cond, eqb, List, [], ◌∷◌, ◌++◌, length, Ok, Err, refl, sym, ap, subst, ◌∙◌, append_assoc, append-nil, arith}
 use Rattle.std.proofs.lemmas.Bool.{eqb-true}
 use Rattle.byteorder.specs.Endian.{big_bytes}
-use Rattle.mrt_frame.specs.declared.fault.Fault.TheVariants.{ShortRecord, BadFamily, TrailingBytes}
+use Rattle.mrt_frame.specs.declared.fault.Fault.TheVariants.{ShortRecord, BadFamily}
 use Rattle.mrt_frame.specs.Fields.{◌>>=◌, number_at}
 use Rattle.mrt_frame.proofs.Items.{bind_ok, ok_is}
 use Rattle.mrt_frame.proofs.FieldLaws.{IsBytes, number_takes, number_at-again}
@@ -165,11 +165,10 @@ pub record TakesStates (bytes : List ℕ) (from to : ℕ) : Type 0 where
 
 ended_is : (s y : ℕ × ℕ) (rest : List ℕ) → ended s rest ≡ Ok y → (rest ≡ []) × (s ≡ y)
 ended_is s y [] e = (refl, ok_is s y e)
-ended_is s y (b ∷ rest) e = absurd (some (eqb (length (b ∷ rest)) 0) (grind arith) e)
-  where
-    some : (t : Bool) → t ≡ false → cond t (Ok s) (Err TrailingBytes) ≡ Ok y → ⊥
-    some true is_false h = absurd cc
-    some false is_false h = absurd cc
+ended_is s y (b ∷ rest) e =
+    let some : eqb (length (b ∷ rest)) 0 ≡ false = grind arith in
+    let h = rw some at e in
+    absurd cc
 
 pub states_take : (bytes : List ℕ) (s : ℕ × ℕ) → IsBytes bytes → states_in bytes ≡ Ok s → TakesStates bytes s.0 s.1
 unfolding states_in

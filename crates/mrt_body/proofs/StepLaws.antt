@@ -15,21 +15,6 @@ use Rattle.mrt_body.specs.RibDumps.{DumpsState}
 use Rattle.mrt_body.specs.Units.{begins, clears_at, dumps_behind, dumps_behind_cuts, found_from, found_at, found_units, units_in, body_kind_of, is_extended, index_with, refused_at, at_record, is_whole, is_aside, aside_count}
 use Rattle.mrt_body.specs.ToCome.{UnitsState, as_found, refusals, CutsOne, TakesRecord, StaysInFile, Steps}
 
--- at the end of a file nothing comes
-pub step_end : (old new : UnitsState) (known left : Option (List ℕ)) → CutsOne old known new left None → Steps old known new left []
-step_end old new known left h bytes is =
-    let e = h.1 bytes is in (
-      e.0,
-      e.1,
-      inr (record {
-        state = h.0;
-        found = ap (found_from old.file old.selection old.index old.dumps) e.2;
-        dumps = ap (dumps_behind_cuts old.file old.selection old.index old.dumps) e.2;
-        records = ap (count_by is_whole) e.2;
-        aside = ap (count_by (is_aside old.selection.family)) e.2;
-      }),
-    )
-
 -- a rest that is no record is refused
 pub step_broken : (old new : UnitsState) (known left : Option (List ℕ)) (file offset : ℕ) (fault : Fault) (cut : Option Cut) → file ≡ old.file → cut ≡ Some (Broken offset fault) → CutsOne old known new left cut → Steps old known new left (refused_at (at_record file offset 0) fault ∷ [])
 unfolding found_at

@@ -12,14 +12,9 @@ use Rattle.mrt_body.specs.Choices.{takes_prefix}
 
 abbrev pub same_reach : Reach → Reach → Bool
 same_reach Exact Exact = true
-same_reach Exact Inside = false
-same_reach Exact Around = false
-same_reach Inside Exact = false
 same_reach Inside Inside = true
-same_reach Inside Around = false
-same_reach Around Exact = false
-same_reach Around Inside = false
 same_reach Around Around = true
+same_reach a b = false
 
 -- the prefixes that are named with this reach
 abbrev pub named_as : Reach → List PrefixChoice → List IpPrefix

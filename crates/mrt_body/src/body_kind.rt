@@ -2,6 +2,7 @@
 
 ghost use Rattle.std.specs.Prelude.{◌≡◌};
 ghost use Rattle.mrt_body.specs.Units as units_spec;
+ghost use Rattle.mrt_body.specs.declared.body_kind.BodyKind.TheVariants.{Message};
 
 use bgp_update::{Unicast, Width};
 
@@ -39,15 +40,22 @@ pub(crate) fn is_extended(kind: u16) -> bool
 fn dump_kind<F: Unicast>(subtype: u16) -> BodyKind
     ensures { result ≡ units_spec.dump_kind F.family subtype }
 {
+    let encoding = F::encoding();
     if subtype == 1 {
         BodyKind::IndexTable
-    } else if subtype == F::RIB {
+    } else if subtype == encoding.rib {
         BodyKind::Rib { add_path: false }
-    } else if subtype == F::RIB_ADD_PATH {
+    } else if subtype == encoding.rib_add_path {
         BodyKind::Rib { add_path: true }
     } else {
         BodyKind::Aside
     }
+}
+
+fn message(width: Width, add_path: bool) -> BodyKind
+    ensures { result ≡ Message width add_path }
+{
+    BodyKind::Message { width, add_path }
 }
 
 fn session_kind(subtype: u16) -> BodyKind
@@ -55,23 +63,11 @@ fn session_kind(subtype: u16) -> BodyKind
 {
     match subtype {
         0 => BodyKind::States { width: Width::Two },
-        1 => BodyKind::Message {
-            width: Width::Two,
-            add_path: false,
-        },
-        4 => BodyKind::Message {
-            width: Width::Four,
-            add_path: false,
-        },
+        1 => message(Width::Two, false),
+        4 => message(Width::Four, false),
         5 => BodyKind::States { width: Width::Four },
-        8 => BodyKind::Message {
-            width: Width::Two,
-            add_path: true,
-        },
-        9 => BodyKind::Message {
-            width: Width::Four,
-            add_path: true,
-        },
+        8 => message(Width::Two, true),
+        9 => message(Width::Four, true),
         _ => BodyKind::Aside,
     }
 }

@@ -106,7 +106,8 @@ impl Remarker {
     /// Takes note of a record of this type and subtype.
     pub(crate) fn see_record<F: Unicast>(&mut self, file: usize, kind: u16, subtype: u16) {
         let is_unicast = kind == 13 && matches!(subtype, 2 | 4 | 8 | 10);
-        if is_unicast && subtype != F::RIB && subtype != F::RIB_ADD_PATH {
+        let encoding = F::encoding();
+        if is_unicast && subtype != encoding.rib && subtype != encoding.rib_add_path {
             self.remarks.other_family.add(file);
         }
     }

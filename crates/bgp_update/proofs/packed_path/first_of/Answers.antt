@@ -12,12 +12,8 @@ segment_of-requires c =
 pub unreachable-requires : goal.unreachable-requires
 unreachable-requires c = no_fault c.args.bytes.now c.in-Err.field-0 c.requires.spelled c.requires.some c.in-Err.ensures
 
-pub returns-clause-first : goal.returns-clause-first
-returns-clause-first c =
+pub returns : goal.returns
+returns c =
     let f = c.in-Ok.field in
-    (field_is_next c.args.bytes.now (field_with f.kind f.count f.octets.now) c.in-Ok.rest.now c.requires.spelled c.in-Ok.ensures).first ∙ ap (λ (s : PathSegment). s ∷ spelled_path c.in-Ok.rest.now) (sym c.segment_of.ensures)
-
-pub returns-clause-rest : goal.returns-clause-rest
-returns-clause-rest c =
-    let f = c.in-Ok.field in
-    (field_is_next c.args.bytes.now (field_with f.kind f.count f.octets.now) c.in-Ok.rest.now c.requires.spelled c.in-Ok.ensures).spelled
+    let next = field_is_next c.args.bytes.now (field_with f.kind f.count f.octets.now) c.in-Ok.rest.now c.requires.spelled c.in-Ok.ensures in
+    record { first = next.first ∙ ap (λ (s : PathSegment). s ∷ spelled_path c.in-Ok.rest.now) (sym c.segment_of.ensures); rest = next.spelled }

@@ -1,24 +1,15 @@
 use Rattle.std.proofs.Common.{◌≡◌, ◌+◌, length, arith}
 use Rattle.std.proofs.lemmas.Grind.{common_steps}
 use Rattle.bgp_update.specs.declared.route.Route.{Route}
-use Rattle.bgp_update.specs.Values.{kept_value}
-use Rattle.bgp_update.specs.Attributes.{route_from}
+use Rattle.bgp_update.specs.Values.{kept_route}
 use Rattle.bgp_update.specs.Hops.{by_hop}
 use Rattle.bgp_update.proofs.Spans.{packed_behind}
 use Rattle.bgp_update.proofs.packing.pack_by_hop.Goals as goal
 
-pub returns-clause-route : goal.returns-clause-route
-returns-clause-route c =
-    let r : Route = by_hop (route_from c.args.width (kept_value c.args.first.now)) c.args.hop.now in
+pub returns : goal.returns
+returns c =
+    let r : Route = by_hop (kept_route c.args.width c.args.first.now) c.args.hop.now in
     let span = c.in_ok-span.span in
     let start : span.bytes.start ≡ length c.args.out.now.items = grind (arith, common_steps) in
     let end : span.bytes.start + span.bytes.len ≡ length c.push_by_hop.new.out.items = grind (arith, common_steps) in
-    (packed_behind c.args.out.now.items c.push_by_hop.new.out.items r span (record { fields = c.in_ok-push_by_hop.ensures.widths; path = c.requires.writable }) c.in_ok-push_by_hop.ensures.bytes start end).0
-
-pub returns-clause-there : goal.returns-clause-there
-returns-clause-there c =
-    let r : Route = by_hop (route_from c.args.width (kept_value c.args.first.now)) c.args.hop.now in
-    let span = c.in_ok-span.span in
-    let start : span.bytes.start ≡ length c.args.out.now.items = grind (arith, common_steps) in
-    let end : span.bytes.start + span.bytes.len ≡ length c.push_by_hop.new.out.items = grind (arith, common_steps) in
-    (packed_behind c.args.out.now.items c.push_by_hop.new.out.items r span (record { fields = c.in_ok-push_by_hop.ensures.widths; path = c.requires.writable }) c.in_ok-push_by_hop.ensures.bytes start end).1
+    packed_behind c.args.out.now.items c.push_by_hop.new.out.items r span c.in_ok-push_by_hop.ensures start end

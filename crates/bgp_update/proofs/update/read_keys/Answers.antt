@@ -3,7 +3,7 @@ use Rattle.std.proofs.lemmas.Grind.{common_steps}
 use Rattle.std.proofs.lemmas.Result.{err_from_is_err_and}
 use Rattle.bgp_update.specs.declared.update.AppendedKeys.{AppendedKeys}
 use Rattle.bgp_update.proofs.Spans.{grown_longer}
-use Rattle.bgp_update.proofs.FromFirstValues.{SoFar, read_keys_are, reached_fails, unreached_fails}
+use Rattle.bgp_update.proofs.FromFirstValues.{so_far_of, read_keys_are, reached_fails, unreached_fails}
 use Rattle.bgp_update.proofs.update.read_keys.Goals as goal
 
 pub returns-in_err-append_unreached-clause-fault : goal.returns-in_err-append_unreached-clause-fault
@@ -12,13 +12,8 @@ returns-in_err-append_unreached-clause-fault g c =
     let f = c.in_ok-fields.fields in
     let own = c.in_ok-append_own_keys.ensures.appends in
     let announced = c.in_ok-append_own_keys-2.ensures.appends in
-    let so_far : SoFar g.F.Unicast.family c.args.width c.args.add_path c.args.body.now c.keep_values.new.first own.added announced.added = record {
-      fields = record { withdrawn = f.withdrawn.now; attributes = f.attributes.now; announced = f.announced.now };
-      fields_are = c.in_ok-fields.ensures;
-      withdrawn_are = own.is;
-      keeps = c.in_ok-keep_values.ensures.values;
-      announced_are = announced.is;
-    } in
+    let so_far = so_far_of g.F.Unicast.family c.args.width c.args.add_path c.args.body.now (record { withdrawn = f.withdrawn.now; attributes = f.attributes.now; announced = f.announced.now }) c.keep_values.new.first
+    c.args.keys.now.items c.append_own_keys.new.keys.items c.append_own_keys-2.new.keys.items c.in_ok-fields.ensures own c.in_ok-keep_values.ensures.values announced in
     rw (p.1, p.2) (unreached_fails g.F.Unicast.family c.args.width c.args.add_path c.args.body.now c.keep_values.new.first own.added announced.added c.in_err-append_unreached.field-0.0 so_far (rw c.value.ensures at c.in_err-append_unreached.ensures.fault))
 
 pub returns-in_err-reached_hop-clause-fault : goal.returns-in_err-reached_hop-clause-fault
@@ -28,13 +23,8 @@ returns-in_err-reached_hop-clause-fault g c =
     let own = c.in_ok-append_own_keys.ensures.appends in
     let announced = c.in_ok-append_own_keys-2.ensures.appends in
     let unreached = rw c.value.ensures at c.in_ok-append_unreached.ensures.appends in
-    let so_far : SoFar g.F.Unicast.family c.args.width c.args.add_path c.args.body.now c.keep_values.new.first own.added announced.added = record {
-      fields = record { withdrawn = f.withdrawn.now; attributes = f.attributes.now; announced = f.announced.now };
-      fields_are = c.in_ok-fields.ensures;
-      withdrawn_are = own.is;
-      keeps = c.in_ok-keep_values.ensures.values;
-      announced_are = announced.is;
-    } in
+    let so_far = so_far_of g.F.Unicast.family c.args.width c.args.add_path c.args.body.now (record { withdrawn = f.withdrawn.now; attributes = f.attributes.now; announced = f.announced.now }) c.keep_values.new.first
+    c.args.keys.now.items c.append_own_keys.new.keys.items c.append_own_keys-2.new.keys.items c.in_ok-fields.ensures own c.in_ok-keep_values.ensures.values announced in
     rw (p.1, p.2) (reached_fails g.F.Unicast.family c.args.width c.args.add_path c.args.body.now c.keep_values.new.first own.added announced.added unreached.added c.in_err-reached_hop.field-0.0 so_far unreached.is (rw c.value-2.ensures at c.in_err-reached_hop.ensures.fault))
 
 pub returns-clause-said : goal.returns-clause-said

@@ -1,4 +1,4 @@
-use Rattle.std.proofs.Common.{rules, ◌≡◌, List, subst}
+use Rattle.std.proofs.Common.{rules, ◌≡◌, subst}
 use Rattle.std.proofs.lemmas.Result.{on_ok_weaker}
 use Rattle.mrt_body.specs.DecodedEvents.{IsOneMore, event_at}
 use Rattle.mrt_body.specs.Events.{entry_event_in, event_in}

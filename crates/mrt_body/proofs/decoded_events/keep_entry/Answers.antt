@@ -4,7 +4,7 @@ use Rattle.bgp_prefix.specs.Keys.{RouteKey as Key}
 use Rattle.bgp_update.specs.Decoded.{IsGrown}
 use Rattle.bgp_update.proofs.Spans.{grown_same}
 use Rattle.mrt_body.specs.declared.decoded_events.DecodedEvent.TheVariants as decoded
-use Rattle.mrt_body.specs.DecodedEvents.{IsEventAt, IsOneMore, event_at}
+use Rattle.mrt_body.specs.DecodedEvents.{event_at}
 use Rattle.mrt_body.specs.Events.{entry_event_in}
 use Rattle.mrt_body.proofs.DecodedLaws.{one_more}
 use Rattle.mrt_body.proofs.decoded_events.keep_entry.Goals as goal

@@ -1,7 +1,8 @@
 use Rattle.std.proofs.Common.{arith}
 use Rattle.mrt_body.specs.Indexes.{peer_at}
 use Rattle.mrt_body.specs.Many.{many}
-use Rattle.mrt_body.proofs.ManyLaws.{push, no_minus, starts, goes_on, fails}
+use Rattle.bgp_update.proofs.Readings.{push}
+use Rattle.mrt_body.proofs.ManyLaws.{no_minus, starts, goes_on, fails}
 use Rattle.mrt_body.proofs.peer_index.peers_of.Goals as goal
 
 pub loop-init : goal.loop-init

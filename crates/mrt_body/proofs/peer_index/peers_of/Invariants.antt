@@ -2,7 +2,7 @@ use Rattle.std.proofs.Common.{◌≡◌, ◌-◌}
 use Rattle.mrt_frame.proofs.Items.{still}
 use Rattle.mrt_body.specs.Indexes.{peer_at}
 use Rattle.mrt_body.specs.Many.{many}
-use Rattle.mrt_body.proofs.ManyLaws.{push}
+use Rattle.bgp_update.proofs.Readings.{push}
 use Rattle.mrt_body.proofs.peer_index.peers_of.Given as goal
 
 abbrev pub invariant-loop : goal.invariant-loop

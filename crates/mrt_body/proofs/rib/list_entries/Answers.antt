@@ -5,7 +5,8 @@ use Rattle.mrt_body.specs.Listed.{IsListed, read_listed}
 use Rattle.mrt_body.specs.Many.{many}
 use Rattle.mrt_body.specs.RibRecords.{ReadEntry, read_entry_at}
 use Rattle.mrt_body.proofs.Behind.{behind_front}
-use Rattle.mrt_body.proofs.ManyLaws.{push, no_minus, starts, goes_on, fails}
+use Rattle.bgp_update.proofs.Readings.{push}
+use Rattle.mrt_body.proofs.ManyLaws.{no_minus, starts, goes_on, fails}
 use Rattle.mrt_body.proofs.ListLaws.{lists, listed_of, listed_more, numbered_more}
 use Rattle.mrt_body.proofs.rib.list_entries.Goals as goal
 

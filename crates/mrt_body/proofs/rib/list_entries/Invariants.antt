@@ -6,7 +6,7 @@ use Rattle.mrt_body.specs.Listed.{AreNumbered, IsListed, read_listed}
 use Rattle.mrt_body.specs.Many.{many}
 use Rattle.mrt_body.specs.RibRecords.{read_entry_at}
 use Rattle.mrt_body.proofs.Behind.{Behind}
-use Rattle.mrt_body.proofs.ManyLaws.{push}
+use Rattle.bgp_update.proofs.Readings.{push}
 use Rattle.mrt_body.proofs.rib.list_entries.Given as goal
 
 abbrev pub invariant-loop-index : goal.invariant-loop-index

@@ -1,7 +1,7 @@
 use Rattle.std.proofs.Common.{rules}
 use Rattle.bgp_update.specs.Values.{as_written}
 use Rattle.bgp_update.proofs.FirstTaken.{takes_first, takes_again, atomic_is_empty}
-use Rattle.bgp_update.proofs.values.FirstValues.take_as.Goals as goal
+use Rattle.bgp_update.proofs.values.FirstValues.take.Goals as goal
 
 pub returns-else-refuses_repeat-clause-ok : goal.returns-else-refuses_repeat-clause-ok
 returns-else-refuses_repeat-clause-ok g c =

@@ -1,1 +1,0 @@
--- Lists that are compared item by item.
