@@ -3,21 +3,21 @@ use Rattle.std.proofs.Common.{◌≡◌, ℕ, ◌+◌, ◌*◌, ◌/◌, ◌%◌
 use Rattle.std.proofs.lemmas.Bool.{cases_eq}
 use Rattle.std.proofs.Math.Nat.{div-one}
 use Rattle.ip_text.specs.Digits.{groups_of}
-use Rattle.ip_text.specs.Ipv6Texts.{zeros_first, longest_run}
+use Rattle.std.specs.Net.Text.{zero_run, longest_zero_run}
 use Rattle.ip_text.specs.ZeroRuns.{bit}
 
 same_test : (g : ℕ) → eqb (bit g) 0 ≡ eqb g 0
 same_test g = elim (cases_eq g 0) [ inl is ↦ rw (eq-eqb g 0 is) refl | inr other ↦ rw (ne_eqb g 0 other) refl ]
 
-same_zeros : (groups : List ℕ) → zeros_first (map bit groups) ≡ zeros_first groups
+same_zeros : (groups : List ℕ) → zero_run (map bit groups) ≡ zero_run groups
 same_zeros [] = refl
-same_zeros (g ∷ groups) = ap (λ t. cond t (1 + zeros_first (map bit groups)) 0) (same_test g) ∙ ap (λ n. cond (eqb g 0) (1 + n) 0) (same_zeros groups)
+same_zeros (g ∷ groups) = ap (λ t. cond t (1 + zero_run (map bit groups)) 0) (same_test g) ∙ ap (λ n. cond (eqb g 0) (1 + n) 0) (same_zeros groups)
 
-pub same_run_of_bits : (groups : List ℕ) → longest_run (map bit groups) ≡ longest_run groups
+pub same_run_of_bits : (groups : List ℕ) → longest_zero_run (map bit groups) ≡ longest_zero_run groups
 same_run_of_bits [] = refl
 same_run_of_bits (g ∷ groups) =
-    ap (λ n. if nat_le (longest_run (map bit groups)).1 n then (0, n) else ((longest_run (map bit groups)).0 + 1, (longest_run (map bit groups)).1)) (same_zeros (g ∷ groups))
-    ∙ ap (λ (later : ℕ × ℕ). if nat_le later.1 (zeros_first (g ∷ groups)) then (0, zeros_first (g ∷ groups)) else (later.0 + 1, later.1)) (same_run_of_bits groups)
+    ap (λ n. if nat_le (longest_zero_run (map bit groups)).1 n then (0, n) else ((longest_zero_run (map bit groups)).0 + 1, (longest_zero_run (map bit groups)).1)) (same_zeros (g ∷ groups))
+    ∙ ap (λ (later : ℕ × ℕ). if nat_le later.1 (zero_run (g ∷ groups)) then (0, zero_run (g ∷ groups)) else (later.0 + 1, later.1)) (same_run_of_bits groups)
 
 bit_small : (g : ℕ) → bit g < 2
 bit_small g = elim (cases_eq g 0) [ inl is ↦ rw (eq-eqb g 0 is) (omega arith) | inr other ↦ rw (ne_eqb g 0 other) (omega arith) ]
@@ -37,7 +37,7 @@ eight_bits a b c d e f g h ha hb hc hd he hf hg hh =
     λ i. one i ∷ two i ∷ three i ∷ four i ∷ five i ∷ six i ∷ seven i ∷ last i ∷ []
 
 pub run_of_mask : (a b c d e f g h : ℕ)
-    → longest_run (groups_of 2 8 (bit a * 128 + bit b * 64 + bit c * 32 + bit d * 16 + bit e * 8 + bit f * 4 + bit g * 2 + bit h)) ≡ longest_run (a ∷ b ∷ c ∷ d ∷ e ∷ f ∷ g ∷ h ∷ [])
+    → longest_zero_run (groups_of 2 8 (bit a * 128 + bit b * 64 + bit c * 32 + bit d * 16 + bit e * 8 + bit f * 4 + bit g * 2 + bit h)) ≡ longest_zero_run (a ∷ b ∷ c ∷ d ∷ e ∷ f ∷ g ∷ h ∷ [])
 run_of_mask a b c d e f g h =
-    ap longest_run (eight_bits (bit a) (bit b) (bit c) (bit d) (bit e) (bit f) (bit g) (bit h) (bit_small a) (bit_small b) (bit_small c) (bit_small d) (bit_small e) (bit_small f) (bit_small g) (bit_small h))
+    ap longest_zero_run (eight_bits (bit a) (bit b) (bit c) (bit d) (bit e) (bit f) (bit g) (bit h) (bit_small a) (bit_small b) (bit_small c) (bit_small d) (bit_small e) (bit_small f) (bit_small g) (bit_small h))
     ∙ same_run_of_bits (a ∷ b ∷ c ∷ d ∷ e ∷ f ∷ g ∷ h ∷ [])

@@ -1,27 +1,16 @@
 -- The text of an address spells the address.
-use Rattle.std.proofs.Common.{◌≡◌, ℕ, zero, suc, ◌+◌, ◌-◌, ◌/◌, ◌%◌, ◌*◌, ◌^◌, ◌<◌, ◌≤◌, List, [], ◌∷◌, ◌++◌, length, get_or, take, drop, replicate, refl, sym, ap, ◌∙◌, subst, arith, inl, inr, nat_le, if◌then◌else◌, lt-ltb, le-ltb, take-add, take-append-drop, length-take-le, length-drop}
+use Rattle.std.proofs.Common.{◌≡◌, ℕ, zero, suc, ◌+◌, ◌-◌, ◌/◌, ◌%◌, ◌*◌, ◌^◌, ◌<◌, ◌≤◌, List, [], ◌∷◌, ◌++◌, length, get_or, take, drop, refl, sym, ap, ◌∙◌, subst, arith, inl, inr, lt-ltb, le-ltb, take-add, take-append-drop, length-take-le, length-drop}
 use Rattle.std.proofs.lemmas.Bool.{cases_lt}
 use Rattle.std.proofs.Math.Seq.{take-length}
 use Rattle.std.proofs.Math.Nat.{div-one, div-div-eq-div-mul, pow-suc}
 use Rattle.std.proofs.NetLemmas.Texts.{AllSegments, AllSegments-take, AllSegments-drop, IsZeroRun-longest_zero_run, longest_zero_run_first}
-use Rattle.std.specs.Net.Text.{zero_run, longest_zero_run}
+use Rattle.std.specs.Net.Text.{longest_zero_run}
 use Rattle.std.specs.List.{fold}
 use Rattle.ip_text.specs.Digits.{groups_of}
-use Rattle.ip_text.specs.Ipv6Texts.{hexadecimal, groups_text, longest_run, shortened_text, short_ipv6_text}
+use Rattle.ip_text.specs.Ipv6Texts.{hexadecimal, groups_text, shortened_text, short_ipv6_text}
 use Rattle.ip_text.specs.Spellings.{number_of_groups, AreGroups, Spells, IsIpv6Text}
-use Rattle.ip_text.specs.ZeroRuns.{IsZeroRun, IsFirstLongest}
+use Rattle.ip_text.specs.ZeroRuns.{IsFirstLongest}
 use Rattle.ip_text.proofs.HexLaws.{IsGroupText-hexadecimal}
-
--- the library's definition
-same_run : (groups : List ℕ) → longest_zero_run groups ≡ longest_run groups
-same_run [] = refl
-same_run (g ∷ groups) = ap (λ (later : ℕ × ℕ). if nat_le later.1 (zero_run (g ∷ groups)) then (0, zero_run (g ∷ groups)) else (later.0 + 1, later.1)) (same_run groups)
-
-pub run_is_zeros : (groups : List ℕ) → ((longest_run groups).0 + (longest_run groups).1 ≤ length groups) × (take (longest_run groups).1 (drop (longest_run groups).0 groups) ≡ replicate (longest_run groups).1 0)
-run_is_zeros groups = subst (λ (r : ℕ × ℕ). (r.0 + r.1 ≤ length groups) × (take r.1 (drop r.0 groups) ≡ replicate r.1 0)) (same_run groups) (IsZeroRun-longest_zero_run groups)
-
-run_is_first : (groups : List ℕ) (s n : ℕ) → IsZeroRun groups s n → (n ≤ (longest_run groups).1) × (n ≡ (longest_run groups).1 → (longest_run groups).0 ≤ s)
-run_is_first groups s n h = subst (λ (r : ℕ × ℕ). (n ≤ r.1) × (n ≡ r.1 → r.0 ≤ s)) (same_run groups) (longest_zero_run_first groups s n (h.within, h.zeros))
 
 AreGroups-groups_text : (groups : List ℕ) → AllSegments groups → AreGroups (groups_text groups) groups
 AreGroups-groups_text [] all = refl
@@ -30,9 +19,9 @@ AreGroups-groups_text (g ∷ next ∷ groups) all = (hexadecimal g, groups_text 
 
 Spells-shortened_text : (groups : List ℕ) → length groups ≡ 8 → AllSegments groups → Spells (shortened_text groups) groups
 Spells-shortened_text groups eight fits =
-    let start = (longest_run groups).0 in
-    let len = (longest_run groups).1 in
-    let (within, zeros) = run_is_zeros groups in
+    let start = (longest_zero_run groups).0 in
+    let len = (longest_zero_run groups).1 in
+    let (within, zeros) = IsZeroRun-longest_zero_run groups in
     let front = length-take-le start groups (omega arith) in
     let back = length-drop (start + len) groups in
     let gap : 8 - length (take start groups) - length (drop (start + len) groups) ≡ len = omega arith in
@@ -82,25 +71,25 @@ IsIpv6Text-short_ipv6_text n h = record {
   value = sym (number_of_groups_of n h);
 }
 
-pub first_longest : (groups : List ℕ) → IsFirstLongest groups (longest_run groups).0 (longest_run groups).1
+pub first_longest : (groups : List ℕ) → IsFirstLongest groups (longest_zero_run groups).0 (longest_zero_run groups).1
 first_longest groups = record {
-  run = record { within = (run_is_zeros groups).0; zeros = (run_is_zeros groups).1 };
-  longest = λ s n h. (run_is_first groups s n h).0;
-  first = λ s n h. (run_is_first groups s n h).1;
+  run = let (within, zeros) = IsZeroRun-longest_zero_run groups in record { within = within; zeros = zeros };
+  longest = λ s n h. (longest_zero_run_first groups s n (h.within, h.zeros)).0;
+  first = λ s n h. (longest_zero_run_first groups s n (h.within, h.zeros)).1;
 }
 
-pub shortened_long : (groups : List ℕ) → 1 < (longest_run groups).1 → shortened_text groups ≡ groups_text (take (longest_run groups).0 groups) ++ 58 ∷ 58 ∷ [] ++ groups_text (drop ((longest_run groups).0 + (longest_run groups).1) groups)
-shortened_long groups long = rw (lt-ltb 1 (longest_run groups).1 long) refl
+pub shortened_long : (groups : List ℕ) → 1 < (longest_zero_run groups).1 → shortened_text groups ≡ groups_text (take (longest_zero_run groups).0 groups) ++ 58 ∷ 58 ∷ [] ++ groups_text (drop ((longest_zero_run groups).0 + (longest_zero_run groups).1) groups)
+shortened_long groups long = rw (lt-ltb 1 (longest_zero_run groups).1 long) refl
 
 -- the pieces on the two sides of `::`, as slices
-pub short_pieces : (addr : ℕ) (groups : List ℕ) (run : ℕ × ℕ) → groups ≡ groups_of 65536 8 addr → run ≡ longest_run groups → 2 ≤ run.1
+pub short_pieces : (addr : ℕ) (groups : List ℕ) (run : ℕ × ℕ) → groups ≡ groups_of 65536 8 addr → run ≡ longest_zero_run groups → 2 ≤ run.1
     → groups_text (take run.0 groups) ++ 58 ∷ 58 ∷ [] ++ groups_text (take (8 - (run.0 + run.1)) (drop (run.0 + run.1) groups)) ≡ short_ipv6_text addr
 short_pieces addr groups run same is long =
     let back = drop (run.0 + run.1) groups in
     let eight : length groups ≡ 8 = ap length same ∙ length-groups_of 65536 8 addr in
     let rest : 8 - (run.0 + run.1) ≡ length back = omega (arith, length-drop (run.0 + run.1) groups, eight) in
     let whole : take (8 - (run.0 + run.1)) back ≡ back = ap (λ k. take k back) rest ∙ take-length back in
-    let more : 1 < (longest_run groups).1 = subst (λ (r : ℕ × ℕ). 2 ≤ r.1) is long in
+    let more : 1 < (longest_zero_run groups).1 = subst (λ (r : ℕ × ℕ). 2 ≤ r.1) is long in
     ap (λ t. groups_text (take run.0 groups) ++ 58 ∷ 58 ∷ [] ++ groups_text t) whole
     ∙ subst (λ (r : ℕ × ℕ). groups_text (take r.0 groups) ++ 58 ∷ 58 ∷ [] ++ groups_text (drop (r.0 + r.1) groups) ≡ shortened_text groups) (sym is) (sym (shortened_long groups more))
     ∙ ap shortened_text same

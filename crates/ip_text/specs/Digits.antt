@@ -1,5 +1,5 @@
 -- Digits, and the numbers that they write.
-use Rattle.std.specs.Prelude.{ℕ, zero, suc, ◌+◌, ◌/◌, ◌%◌, ◌^◌, List, [], ◌∷◌, map, decimal, nat_lt, if◌then◌else◌}
+use Rattle.std.specs.Prelude.{ℕ, zero, suc, ◌+◌, ◌/◌, ◌%◌, ◌^◌, List, [], ◌∷◌, map, decimal}
 use Rattle.std.specs.List.{join_with_byte}
 
 -- the last count digits of n in the base, the highest first
@@ -9,9 +9,6 @@ digits_in glyph base (suc count) n = glyph (n / base ^ count % base) ∷ digits_
 
 abbrev pub decimal_glyph : ℕ → ℕ
 decimal_glyph d = 48 + d
-
-abbrev pub hexadecimal_glyph : ℕ → ℕ
-hexadecimal_glyph d = if nat_lt d 10 then 48 + d else 87 + d
 
 -- the groups of a number, each of size values, the highest first
 abbrev pub groups_of : ℕ → ℕ → ℕ → List ℕ

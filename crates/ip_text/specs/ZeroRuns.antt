@@ -1,7 +1,7 @@
 -- Runs of zeros in a list of groups.
 use Rattle.std.specs.Prelude.{◌≡◌, ℕ, ◌+◌, ◌≤◌, ◌==◌, List, drop, length, take, replicate, if◌then◌else◌}
+use Rattle.std.specs.Net.Text.{longest_zero_run}
 use Rattle.ip_text.specs.Digits.{groups_of}
-use Rattle.ip_text.specs.Ipv6Texts.{longest_run}
 use Rattle.ip_text.specs.declared.zero_run.ZeroRun.{ZeroRun}
 
 -- so many zeros from this place on
@@ -17,8 +17,8 @@ pub record IsFirstLongest (groups : List ℕ) (start len : ℕ) : Type 0 where
 
 -- the longest run of zeros among the eight bits of a number
 pub record IsZeroRunOf (mask : ℕ) (run : ZeroRun) : Type 0 where
-  pub start : (longest_run (groups_of 2 8 mask)).0 ≡ run.start
-  pub len : (longest_run (groups_of 2 8 mask)).1 ≡ run.len
+  pub start : (longest_zero_run (groups_of 2 8 mask)).0 ≡ run.start
+  pub len : (longest_zero_run (groups_of 2 8 mask)).1 ≡ run.len
   pub within : run.start + run.len ≤ 8
 
 -- 0 for 0, and 1 for any other

@@ -24,7 +24,7 @@ pub(crate) struct HexTexts {
 }
 
 /// Returns a digit in lower case.
-fn glyph(digit: u8) -> u8
+pub(crate) fn glyph(digit: u8) -> u8
     requires { digit < 16 }
     ensures { result ≡ digit_glyph false digit }
 {

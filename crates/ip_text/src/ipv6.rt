@@ -1,40 +1,29 @@
 //! IPv6 addresses that are written into a block of bytes, in full or short: each call returns the position after what
 //! it wrote.
 
-ghost use Rattle.std.specs.Prelude.{◌≡◌, ◌+◌, ◌-◌, ◌*◌, ◌<◌, ◌≤◌, [], ◌∷◌, length, take};
+ghost use Rattle.std.specs.Prelude.{◌≡◌, ◌+◌, ◌-◌, ◌*◌, ◌<◌, ◌≤◌, [], ◌∷◌, false, length, take};
+ghost use Rattle.std.specs.Fmt.{digit_glyph};
 ghost use Rattle.ip_text.specs.Formats.{Formats};
-ghost use Rattle.ip_text.specs.Digits.{digits_in, groups_of, hexadecimal_glyph};
+ghost use Rattle.ip_text.specs.Digits.{digits_in, groups_of};
 ghost use Rattle.ip_text.specs.Ipv6Texts.{full_ipv6_text, groups_text, hexadecimal, ipv6_text, short_ipv6_text};
 
 use crate::address_form::AddressForm;
 use crate::format::{format_byte, format_front, format_text};
-use crate::hexadecimal::HexTexts;
+use crate::hexadecimal::{HexTexts, glyph};
 use crate::short::DecimalTable;
 
 // ---- in full
 
-/// Returns a digit in lower case.
-fn hexadecimal_digit(digit: u16) -> u8
-    requires { digit < 16 }
-    ensures { result ≡ hexadecimal_glyph digit }
-{
-    if digit < 10 {
-        b'0' + digit as u8
-    } else {
-        b'a' + (digit - 10) as u8
-    }
-}
-
 /// Writes four hexadecimal digits.
 fn format_full_group(bytes: &mut [u8], at: usize, group: u16) -> usize
     requires { at + 4 ≤ length bytes.old }
-    ensures { Formats bytes.old at bytes.new result 4 (digits_in hexadecimal_glyph 16 4 group) }
+    ensures { Formats bytes.old at bytes.new result 4 (digits_in (digit_glyph false) 16 4 group) }
 {
     let digits = [
-        hexadecimal_digit(group / 4_096 % 16),
-        hexadecimal_digit(group / 256 % 16),
-        hexadecimal_digit(group / 16 % 16),
-        hexadecimal_digit(group % 16),
+        glyph((group / 4_096 % 16) as u8),
+        glyph((group / 256 % 16) as u8),
+        glyph((group / 16 % 16) as u8),
+        glyph((group % 16) as u8),
     ];
     format_text(bytes, at, &digits)
 }

@@ -1,7 +1,8 @@
 //! Laws about the definitions: nothing is computed.
 
 ghost use Rattle.std.specs.Prelude.{◌≡◌, ℕ, ◌^◌, ◌<◌, List};
-ghost use Rattle.ip_text.specs.Ipv6Texts.{longest_run, short_ipv6_text};
+ghost use Rattle.ip_text.specs.Ipv6Texts.{short_ipv6_text};
+ghost use Rattle.std.specs.Net.Text.{longest_zero_run};
 ghost use Rattle.ip_text.specs.ZeroRuns.{IsFirstLongest};
 ghost use Rattle.ip_text.specs.Spellings.{IsIpv6Text};
 
@@ -17,5 +18,5 @@ pub fn one_address_to_a_text()
 
 /// What `::` stands for is the longest run of zeros, and the first of those.
 pub fn runs_are_first_and_longest()
-    ensures { (groups : List ℕ) → IsFirstLongest groups (longest_run groups).0 (longest_run groups).1 }
+    ensures { (groups : List ℕ) → IsFirstLongest groups (longest_zero_run groups).0 (longest_zero_run groups).1 }
 {}

@@ -1,5 +1,6 @@
 //! Addresses of a family, written into a block of bytes.
 
+ghost use Rattle.std.proofs.Common.{arith};
 ghost use Rattle.std.specs.Prelude.{◌+◌, ◌<◌, length};
 ghost use Rattle.ip_text.specs.AddressTexts.{address_text};
 ghost use Rattle.ip_text.specs.Formats.{Formats};
@@ -29,20 +30,12 @@ pub trait WrittenAddress: Unicast {
 }
 
 impl WrittenAddress for u32 {
-    ghost use Rattle.std.proofs.Common.{arith};
-
     ghost MOST_BYTES = { 15 };
 
     const MOST_BYTES: usize = 15;
 
     #[inline(always)]
-    fn format(
-        self,
-        bytes: &mut [u8],
-        at: usize,
-        shorts: &DecimalTable,
-        _form: AddressForm,
-    ) -> usize {
+    fn format(self, bytes: &mut [u8], at: usize, shorts: &DecimalTable, _: AddressForm) -> usize {
         format_ipv4(bytes, at, shorts, self)
     }
 
@@ -50,8 +43,6 @@ impl WrittenAddress for u32 {
 }
 
 impl WrittenAddress for Ipv6 {
-    ghost use Rattle.std.proofs.Common.{arith};
-
     ghost MOST_BYTES = { 39 };
 
     const MOST_BYTES: usize = 39;

@@ -1,8 +1,8 @@
 //! The longest run of zeros of eight groups.
 
 ghost use Rattle.std.specs.Prelude.{◌≡◌, ℕ, ◌+◌, ◌<◌, ◌≤◌, [], ◌∷◌, slice_index_or};
+ghost use Rattle.std.specs.Net.Text.{longest_zero_run};
 ghost use Rattle.ip_text.specs.Digits.{groups_of};
-ghost use Rattle.ip_text.specs.Ipv6Texts.{longest_run};
 ghost use Rattle.ip_text.specs.ZeroRuns.{IsZeroRunOf, bit};
 ghost use Rattle.ip_text.specs.declared.zero_run.ZeroRun.{ZeroRun};
 
@@ -15,8 +15,8 @@ pub(crate) struct ZeroRun {
 
 /// The longest run of zeros, the first of equal ones.
 fn find_run(groups: &[u16; 8]) -> ZeroRun
-    ensures run { (longest_run groups.now).0 ≡ result.start }
-    ensures len { (longest_run groups.now).1 ≡ result.len }
+    ensures run { (longest_zero_run groups.now).0 ≡ result.start }
+    ensures len { (longest_zero_run groups.now).1 ≡ result.len }
     ensures within { result.start + result.len ≤ 8 }
 {
     let mut start = 8;
@@ -80,7 +80,7 @@ fn bit_of(group: u16) -> u8
 /// One bit for each group that is not 0.
 #[inline(always)]
 fn mask_of(a: u16, b: u16, c: u16, d: u16, e: u16, f: u16, g: u16, h: u16) -> u8
-    ensures { longest_run (groups_of 2 8 result) ≡ longest_run (a ∷ b ∷ c ∷ d ∷ e ∷ f ∷ g ∷ h ∷ []) }
+    ensures { longest_zero_run (groups_of 2 8 result) ≡ longest_zero_run (a ∷ b ∷ c ∷ d ∷ e ∷ f ∷ g ∷ h ∷ []) }
 {
     bit_of(a) * 128
         + bit_of(b) * 64
@@ -104,8 +104,8 @@ impl ZeroRuns {
     /// The longest run of zeros, the first of equal ones.
     #[inline(always)]
     pub(crate) fn longest(&self, groups: &[u16; 8]) -> ZeroRun
-        ensures start { (longest_run groups.now).0 ≡ result.start }
-        ensures len { (longest_run groups.now).1 ≡ result.len }
+        ensures start { (longest_zero_run groups.now).0 ≡ result.start }
+        ensures len { (longest_zero_run groups.now).1 ≡ result.len }
         ensures within { result.start + result.len ≤ 8 }
     {
         let mask = mask_of(
