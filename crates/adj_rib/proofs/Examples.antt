@@ -94,63 +94,6 @@ churn_with _ first last = record { added = 0; changed = 0; same = 0; gone = 0; v
 abbrev so_many : ℕ → Arrivals
 so_many count = record { units = count; first = Some somewhere }
 
-announced_twice : session_of (announcement ∷ announcement ∷ []) ≡ record { up = true; established = true; table = (ten, plain_route) ∷ []; churn = churn_with (1 ∷ 0 ∷ 1 ∷ 0 ∷ 0 ∷ 0 ∷ 0 ∷ 0 ∷ []) 1 1; arrivals = so_many 2; faults = []; spent = false }
-unfolding items_after attribute_at attributes_in value_fault route_from entry_route route_in path_in segment_at segment_field_at written_key_at keys_in route_keys_in key_at reach_in reach_at hop_at unreach_in next_hop_of reached_keys unreached_keys fields_in said_update update_in message_in message_event_in event_in unit_steps steps_of route_eq outcomes_of churn_of arrivals_of damaged_of table_of session_of
-announced_twice = refl
-
-withdrawn_twice : session_of (announcement ∷ withdrawal ∷ withdrawal ∷ []) ≡ record { up = true; established = true; table = []; churn = churn_with (1 ∷ 0 ∷ 0 ∷ 1 ∷ 1 ∷ 0 ∷ 0 ∷ 0 ∷ []) 1 2; arrivals = so_many 3; faults = []; spent = false }
-unfolding items_after attribute_at attributes_in value_fault route_from entry_route route_in path_in segment_at segment_field_at written_key_at keys_in route_keys_in key_at reach_in reach_at hop_at unreach_in next_hop_of reached_keys unreached_keys fields_in said_update update_in message_in message_event_in event_in unit_steps steps_of route_eq outcomes_of churn_of arrivals_of damaged_of table_of session_of
-withdrawn_twice = refl
-
--- an announcement while the peer isn't up is idle
-left_established : session_of (announcement ∷ state_change 6 1 ∷ announcement ∷ []) ≡ record { up = false; established = false; table = []; churn = churn_with (1 ∷ 0 ∷ 0 ∷ 0 ∷ 0 ∷ 1 ∷ 1 ∷ 0 ∷ []) 1 1; arrivals = so_many 3; faults = []; spent = false }
-unfolding items_after attribute_at attributes_in value_fault route_from entry_route route_in path_in segment_at segment_field_at written_key_at keys_in route_keys_in key_at reach_in reach_at hop_at unreach_in next_hop_of reached_keys unreached_keys fields_in said_update update_in message_in message_event_in event_in unit_steps steps_of route_eq outcomes_of churn_of arrivals_of damaged_of table_of session_of
-left_established = refl
-
-came_back : session_of (announcement ∷ state_change 6 1 ∷ announcement ∷ state_change 5 6 ∷ announcement ∷ []) ≡ record { up = true; established = true; table = (ten, plain_route) ∷ []; churn = churn_with (2 ∷ 0 ∷ 0 ∷ 0 ∷ 0 ∷ 2 ∷ 1 ∷ 0 ∷ []) 1 1; arrivals = so_many 5; faults = []; spent = false }
-unfolding items_after attribute_at attributes_in value_fault route_from entry_route route_in path_in segment_at segment_field_at written_key_at keys_in route_keys_in key_at reach_in reach_at hop_at unreach_in next_hop_of reached_keys unreached_keys fields_in said_update update_in message_in message_event_in event_in unit_steps steps_of route_eq outcomes_of churn_of arrivals_of damaged_of table_of session_of
-came_back = refl
-
-stayed_established : session_of (announcement ∷ state_change 6 6 ∷ []) ≡ record { up = true; established = true; table = (ten, plain_route) ∷ []; churn = churn_with (1 ∷ 0 ∷ 0 ∷ 0 ∷ 0 ∷ 0 ∷ 0 ∷ 0 ∷ []) 1 2; arrivals = so_many 2; faults = []; spent = false }
-unfolding items_after attribute_at attributes_in value_fault route_from entry_route route_in path_in segment_at segment_field_at written_key_at keys_in route_keys_in key_at reach_in reach_at hop_at unreach_in next_hop_of reached_keys unreached_keys fields_in said_update update_in message_in message_event_in event_in unit_steps steps_of route_eq outcomes_of churn_of arrivals_of damaged_of table_of session_of
-stayed_established = refl
-
-four_changes : session_of (state_change 5 6 ∷ state_change 6 6 ∷ state_change 6 0 ∷ state_change 0 0 ∷ []) ≡ record { up = false; established = false; table = []; churn = churn_with (0 ∷ 0 ∷ 0 ∷ 0 ∷ 0 ∷ 3 ∷ 0 ∷ 0 ∷ []) 2 2; arrivals = so_many 4; faults = []; spent = false }
-unfolding items_after attribute_at attributes_in value_fault route_from entry_route route_in path_in segment_at segment_field_at written_key_at keys_in route_keys_in key_at reach_in reach_at hop_at unreach_in next_hop_of reached_keys unreached_keys fields_in said_update update_in message_in message_event_in event_in unit_steps steps_of route_eq outcomes_of churn_of arrivals_of damaged_of table_of session_of
-four_changes = refl
-
--- FRR's end of a connection that lost a collision, behind the Established of the one that stays; by Established it is
--- no break
-lost_collision : session_of (by_established 5 6 ∷ announcement ∷ by_established 3 8 ∷ announcement ∷ []) ≡ record { up = true; established = true; table = (ten, plain_route) ∷ []; churn = churn_with (1 ∷ 0 ∷ 1 ∷ 0 ∷ 0 ∷ 1 ∷ 0 ∷ 0 ∷ []) 2 1; arrivals = so_many 4; faults = []; spent = false }
-unfolding items_after attribute_at attributes_in value_fault route_from entry_route route_in path_in segment_at segment_field_at written_key_at keys_in route_keys_in key_at reach_in reach_at hop_at unreach_in next_hop_of reached_keys unreached_keys fields_in said_update update_in message_in message_event_in event_in unit_steps steps_of route_eq outcomes_of churn_of arrivals_of damaged_of table_of session_of
-lost_collision = refl
-
-lost_as_recorded : session_of (state_change 5 6 ∷ announcement ∷ state_change 3 8 ∷ announcement ∷ []) ≡ record { up = false; established = false; table = []; churn = churn_with (1 ∷ 0 ∷ 0 ∷ 0 ∷ 0 ∷ 2 ∷ 1 ∷ 0 ∷ []) 2 1; arrivals = so_many 4; faults = []; spent = false }
-unfolding items_after attribute_at attributes_in value_fault route_from entry_route route_in path_in segment_at segment_field_at written_key_at keys_in route_keys_in key_at reach_in reach_at hop_at unreach_in next_hop_of reached_keys unreached_keys fields_in said_update update_in message_in message_event_in event_in unit_steps steps_of route_eq outcomes_of churn_of arrivals_of damaged_of table_of session_of
-lost_as_recorded = refl
-
--- a session that ended, and an announcement behind that
-ended_by_established : session_of (announcement ∷ by_established 6 1 ∷ announcement ∷ []) ≡ record { up = true; established = false; table = (ten, plain_route) ∷ []; churn = churn_with (2 ∷ 0 ∷ 0 ∷ 0 ∷ 0 ∷ 1 ∷ 0 ∷ 0 ∷ []) 1 1; arrivals = so_many 3; faults = []; spent = false }
-unfolding items_after attribute_at attributes_in value_fault route_from entry_route route_in path_in segment_at segment_field_at written_key_at keys_in route_keys_in key_at reach_in reach_at hop_at unreach_in next_hop_of reached_keys unreached_keys fields_in said_update update_in message_in message_event_in event_in unit_steps steps_of route_eq outcomes_of churn_of arrivals_of damaged_of table_of session_of
-ended_by_established = refl
-
--- what is reached is not withdrawn, and goes by the next hop of MP_REACH_NLRI
-reached : session_of (announcement ∷ reaching ∷ []) ≡ record { up = true; established = true; table = (ten, record plain_route { next_hop = Some (hop.V4 0xC0000209) }) ∷ (key 0x0C000000 0, plain_route) ∷ []; churn = churn_with (2 ∷ 1 ∷ 0 ∷ 0 ∷ 1 ∷ 0 ∷ 0 ∷ 0 ∷ []) 1 2; arrivals = so_many 2; faults = []; spent = false }
-unfolding items_after attribute_at attributes_in value_fault route_from entry_route route_in path_in segment_at segment_field_at written_key_at keys_in route_keys_in key_at reach_in reach_at hop_at unreach_in next_hop_of reached_keys unreached_keys fields_in said_update update_in message_in message_event_in event_in unit_steps steps_of route_eq outcomes_of churn_of arrivals_of damaged_of table_of session_of
-reached = refl
-
-by_two_paths : session_of (two_paths ∷ announcement ∷ []) ≡ record { up = true; established = true; table = (ten, plain_route) ∷ (key 0x0A000000 3, plain_route) ∷ (key 0x0A000000 7, plain_route) ∷ []; churn = churn_with (3 ∷ 0 ∷ 0 ∷ 0 ∷ 0 ∷ 0 ∷ 0 ∷ 0 ∷ []) 1 1; arrivals = so_many 2; faults = []; spent = false }
-unfolding items_after attribute_at attributes_in value_fault route_from entry_route route_in path_in segment_at segment_field_at written_key_at keys_in route_keys_in key_at reach_in reach_at hop_at unreach_in next_hop_of reached_keys unreached_keys fields_in said_update update_in message_in message_event_in event_in unit_steps steps_of route_eq outcomes_of churn_of arrivals_of damaged_of table_of session_of
-by_two_paths = refl
-
-damaged_unit : session_of (damaged ∷ []) ≡ record { up = true; established = true; table = []; churn = churn_with (0 ∷ 0 ∷ 0 ∷ 0 ∷ 0 ∷ 0 ∷ 0 ∷ 1 ∷ []) 1 1; arrivals = so_many 1; faults = record { place = somewhere; fault = BadAttribute 1 } ∷ []; spent = false }
-unfolding items_after attribute_at attributes_in value_fault route_from entry_route route_in path_in segment_at segment_field_at written_key_at keys_in route_keys_in key_at reach_in reach_at hop_at unreach_in next_hop_of reached_keys unreached_keys fields_in said_update update_in message_in message_event_in event_in unit_steps steps_of route_eq outcomes_of churn_of arrivals_of damaged_of table_of session_of
-damaged_unit = refl
-
-entry_of_key : session_of (unit_of 3 (Entry (key 0x0A000000 5) plain_attributes ipv4) ∷ announcement ∷ []) ≡ record { up = true; established = true; table = (ten, plain_route) ∷ (key 0x0A000000 5, plain_route) ∷ []; churn = churn_with (2 ∷ 0 ∷ 0 ∷ 0 ∷ 0 ∷ 0 ∷ 0 ∷ 0 ∷ []) 3 1; arrivals = so_many 2; faults = []; spent = false }
-unfolding items_after attribute_at attributes_in value_fault route_from entry_route route_in path_in segment_at segment_field_at written_key_at keys_in route_keys_in key_at reach_in reach_at hop_at unreach_in next_hop_of reached_keys unreached_keys fields_in said_update update_in message_in message_event_in event_in unit_steps steps_of route_eq outcomes_of churn_of arrivals_of damaged_of table_of session_of
-entry_of_key = refl
-
 -- ---- IPv6
 
 -- an UPDATE of second 1 that announces 2001:db8::/32 by the next hop 2001:db8::2
@@ -164,10 +107,45 @@ wide_withdrawal = message_of ipv6 2 false (hex (codes "0022 02 0000 000B 800F08 
 abbrev documentation : RouteKey
 documentation = record { prefix = record { addr = 0x20010DB8 * 2 ^ 96; len = 32 }; id = 0 }
 
-wide_announced_twice : session_of (wide_announcement ∷ wide_announcement ∷ []) ≡ record { up = true; established = true; table = (documentation, record plain_route { next_hop = Some (hop.V6 0x20010DB8000000000000000000000002) }) ∷ []; churn = churn_with (1 ∷ 0 ∷ 1 ∷ 0 ∷ 0 ∷ 0 ∷ 0 ∷ 0 ∷ []) 1 1; arrivals = so_many 2; faults = []; spent = false }
-unfolding items_after attribute_at attributes_in value_fault route_from entry_route route_in path_in segment_at segment_field_at written_key_at keys_in route_keys_in key_at reach_in reach_at hop_at unreach_in next_hop_of reached_keys unreached_keys fields_in said_update update_in message_in message_event_in event_in unit_steps steps_of route_eq outcomes_of churn_of arrivals_of damaged_of table_of session_of
-wide_announced_twice = refl
+-- ---- what sessions are
 
-wide_withdrawn_twice : session_of (wide_announcement ∷ wide_withdrawal ∷ wide_withdrawal ∷ []) ≡ record { up = true; established = true; table = []; churn = churn_with (1 ∷ 0 ∷ 0 ∷ 1 ∷ 1 ∷ 0 ∷ 0 ∷ 0 ∷ []) 1 2; arrivals = so_many 3; faults = []; spent = false }
+examples : record {
+  announced_twice : session_of (announcement ∷ announcement ∷ []) ≡ record { up = true; established = true; table = (ten, plain_route) ∷ []; churn = churn_with (1 ∷ 0 ∷ 1 ∷ 0 ∷ 0 ∷ 0 ∷ 0 ∷ 0 ∷ []) 1 1; arrivals = so_many 2; faults = []; spent = false };
+  withdrawn_twice : session_of (announcement ∷ withdrawal ∷ withdrawal ∷ []) ≡ record { up = true; established = true; table = []; churn = churn_with (1 ∷ 0 ∷ 0 ∷ 1 ∷ 1 ∷ 0 ∷ 0 ∷ 0 ∷ []) 1 2; arrivals = so_many 3; faults = []; spent = false };
+  -- an announcement while the peer isn't up is idle
+  left_established : session_of (announcement ∷ state_change 6 1 ∷ announcement ∷ []) ≡ record { up = false; established = false; table = []; churn = churn_with (1 ∷ 0 ∷ 0 ∷ 0 ∷ 0 ∷ 1 ∷ 1 ∷ 0 ∷ []) 1 1; arrivals = so_many 3; faults = []; spent = false };
+  came_back : session_of (announcement ∷ state_change 6 1 ∷ announcement ∷ state_change 5 6 ∷ announcement ∷ []) ≡ record { up = true; established = true; table = (ten, plain_route) ∷ []; churn = churn_with (2 ∷ 0 ∷ 0 ∷ 0 ∷ 0 ∷ 2 ∷ 1 ∷ 0 ∷ []) 1 1; arrivals = so_many 5; faults = []; spent = false };
+  stayed_established : session_of (announcement ∷ state_change 6 6 ∷ []) ≡ record { up = true; established = true; table = (ten, plain_route) ∷ []; churn = churn_with (1 ∷ 0 ∷ 0 ∷ 0 ∷ 0 ∷ 0 ∷ 0 ∷ 0 ∷ []) 1 2; arrivals = so_many 2; faults = []; spent = false };
+  four_changes : session_of (state_change 5 6 ∷ state_change 6 6 ∷ state_change 6 0 ∷ state_change 0 0 ∷ []) ≡ record { up = false; established = false; table = []; churn = churn_with (0 ∷ 0 ∷ 0 ∷ 0 ∷ 0 ∷ 3 ∷ 0 ∷ 0 ∷ []) 2 2; arrivals = so_many 4; faults = []; spent = false };
+  -- FRR's end of a connection that lost a collision, behind the Established of the one that stays; by Established it is
+  -- no break
+  lost_collision : session_of (by_established 5 6 ∷ announcement ∷ by_established 3 8 ∷ announcement ∷ []) ≡ record { up = true; established = true; table = (ten, plain_route) ∷ []; churn = churn_with (1 ∷ 0 ∷ 1 ∷ 0 ∷ 0 ∷ 1 ∷ 0 ∷ 0 ∷ []) 2 1; arrivals = so_many 4; faults = []; spent = false };
+  lost_as_recorded : session_of (state_change 5 6 ∷ announcement ∷ state_change 3 8 ∷ announcement ∷ []) ≡ record { up = false; established = false; table = []; churn = churn_with (1 ∷ 0 ∷ 0 ∷ 0 ∷ 0 ∷ 2 ∷ 1 ∷ 0 ∷ []) 2 1; arrivals = so_many 4; faults = []; spent = false };
+  -- a session that ended, and an announcement behind that
+  ended_by_established : session_of (announcement ∷ by_established 6 1 ∷ announcement ∷ []) ≡ record { up = true; established = false; table = (ten, plain_route) ∷ []; churn = churn_with (2 ∷ 0 ∷ 0 ∷ 0 ∷ 0 ∷ 1 ∷ 0 ∷ 0 ∷ []) 1 1; arrivals = so_many 3; faults = []; spent = false };
+  -- what is reached is not withdrawn, and goes by the next hop of MP_REACH_NLRI
+  reached : session_of (announcement ∷ reaching ∷ []) ≡ record { up = true; established = true; table = (ten, record plain_route { next_hop = Some (hop.V4 0xC0000209) }) ∷ (key 0x0C000000 0, plain_route) ∷ []; churn = churn_with (2 ∷ 1 ∷ 0 ∷ 0 ∷ 1 ∷ 0 ∷ 0 ∷ 0 ∷ []) 1 2; arrivals = so_many 2; faults = []; spent = false };
+  by_two_paths : session_of (two_paths ∷ announcement ∷ []) ≡ record { up = true; established = true; table = (ten, plain_route) ∷ (key 0x0A000000 3, plain_route) ∷ (key 0x0A000000 7, plain_route) ∷ []; churn = churn_with (3 ∷ 0 ∷ 0 ∷ 0 ∷ 0 ∷ 0 ∷ 0 ∷ 0 ∷ []) 1 1; arrivals = so_many 2; faults = []; spent = false };
+  damaged_unit : session_of (damaged ∷ []) ≡ record { up = true; established = true; table = []; churn = churn_with (0 ∷ 0 ∷ 0 ∷ 0 ∷ 0 ∷ 0 ∷ 0 ∷ 1 ∷ []) 1 1; arrivals = so_many 1; faults = record { place = somewhere; fault = BadAttribute 1 } ∷ []; spent = false };
+  entry_of_key : session_of (unit_of 3 (Entry (key 0x0A000000 5) plain_attributes ipv4) ∷ announcement ∷ []) ≡ record { up = true; established = true; table = (ten, plain_route) ∷ (key 0x0A000000 5, plain_route) ∷ []; churn = churn_with (2 ∷ 0 ∷ 0 ∷ 0 ∷ 0 ∷ 0 ∷ 0 ∷ 0 ∷ []) 3 1; arrivals = so_many 2; faults = []; spent = false };
+  wide_announced_twice : session_of (wide_announcement ∷ wide_announcement ∷ []) ≡ record { up = true; established = true; table = (documentation, record plain_route { next_hop = Some (hop.V6 0x20010DB8000000000000000000000002) }) ∷ []; churn = churn_with (1 ∷ 0 ∷ 1 ∷ 0 ∷ 0 ∷ 0 ∷ 0 ∷ 0 ∷ []) 1 1; arrivals = so_many 2; faults = []; spent = false };
+  wide_withdrawn_twice : session_of (wide_announcement ∷ wide_withdrawal ∷ wide_withdrawal ∷ []) ≡ record { up = true; established = true; table = []; churn = churn_with (1 ∷ 0 ∷ 0 ∷ 1 ∷ 1 ∷ 0 ∷ 0 ∷ 0 ∷ []) 1 2; arrivals = so_many 3; faults = []; spent = false };
+}
 unfolding items_after attribute_at attributes_in value_fault route_from entry_route route_in path_in segment_at segment_field_at written_key_at keys_in route_keys_in key_at reach_in reach_at hop_at unreach_in next_hop_of reached_keys unreached_keys fields_in said_update update_in message_in message_event_in event_in unit_steps steps_of route_eq outcomes_of churn_of arrivals_of damaged_of table_of session_of
-wide_withdrawn_twice = refl
+examples = record {
+  announced_twice = refl;
+  withdrawn_twice = refl;
+  left_established = refl;
+  came_back = refl;
+  stayed_established = refl;
+  four_changes = refl;
+  lost_collision = refl;
+  lost_as_recorded = refl;
+  ended_by_established = refl;
+  reached = refl;
+  by_two_paths = refl;
+  damaged_unit = refl;
+  entry_of_key = refl;
+  wide_announced_twice = refl;
+  wide_withdrawn_twice = refl;
+}

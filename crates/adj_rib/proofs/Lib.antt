@@ -1,3 +1,4 @@
+pub mod Positions
 pub mod After
 pub mod TableLaws
 pub mod HeldPairs
@@ -17,3 +18,4 @@ pub mod RetainLaws
 pub mod NotingLaws
 pub mod WatchLaws
 pub mod WindowLaws
+pub mod SessionLaws

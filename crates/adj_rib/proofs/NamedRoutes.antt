@@ -15,7 +15,7 @@ use Rattle.bgp_update.specs.Decoded.{IsGrown}
 use Rattle.adj_rib.specs.Routes.{IsNamed, route_at, named_routes, AreNamed}
 use Rattle.bgp_update.specs.Equality.{route_eq}
 use Rattle.adj_rib.specs.declared.outcome.Outcome.TheVariants.{Same, Changed, Gone, Void}
-use Rattle.adj_rib.specs.declared.note.What.TheVariants as whats
+use Rattle.adj_rib.specs.declared.outcome.What.TheVariants as whats
 use Rattle.adj_rib.specs.Plain.{Note}
 use Rattle.adj_rib.specs.Histories.{announced_note, withdrawn_note, what_over, what_without}
 use Rattle.adj_rib.specs.Noting.{applied_noting, what_of}
@@ -49,9 +49,6 @@ pub AreNamed-remove : (bytes : List ℕ) (before after : finite.FinMap key_cmp R
 AreNamed-remove bytes before after key e h k =
     let is : finite.get after k ≡ cond (eq_by_cmp key_cmp k key) None (finite.get before k) = ap (λ (m : finite.FinMap key_cmp RouteId). finite.get m k) e ∙ finite.get-remove key_cmp_total before key k in
     subst (λ (o : Option RouteId). IfSome o (IsId bytes)) (sym is) (if_cond bytes (eq_by_cmp key_cmp k key) None (finite.get before k) tt (h k))
-
-pub AreNamed-same : (bytes : List ℕ) (before after : finite.FinMap key_cmp RouteId) → after ≡ before → AreNamed bytes before → AreNamed bytes after
-AreNamed-same bytes before after e h = subst (AreNamed bytes) (sym e) h
 
 more_named : (before after : List ℕ) (o : Option RouteId) → IsGrown before after → IfSome o (IsId before) → IfSome o (IsId after)
 more_named before after None g h = tt

@@ -1,9 +1,8 @@
--- What is kept of notes beside a table and its counts: it changes neither, and where every key is selected they are
--- those of a session.
-use Rattle.std.proofs.Common.{◌≡◌, ℕ, Bool, true, List, [], ◌∷◌, ◌++◌, map, Result, Ok, Err, refl, sym, ap, ◌∙◌, append_assoc, append-nil, if◌then◌else◌}
+-- What is kept of notes beside a table and its counts: it changes neither.
+use Rattle.std.proofs.Common.{◌≡◌, ℕ, Bool, List, [], ◌∷◌, ◌++◌, map, Result, Ok, Err, refl, sym, ap, ◌∙◌, if◌then◌else◌}
 use Rattle.std.specs.List.{fold}
 use Rattle.std.proofs.lemmas.List.Sums.{fold-append}
-use Rattle.std.specs.FinMap as finite
+use Rattle.std.proofs.lemmas.List.Elements.{filter-append}
 use Rattle.bgp_prefix.specs.Keys.{RouteKey}
 use Rattle.mrt_frame.specs.declared.fault.Fault.{Fault}
 use Rattle.mrt_body.specs.Plain.{Event}
@@ -14,24 +13,16 @@ use Rattle.mrt_body.specs.Events.{event_in}
 use Rattle.mrt_body.specs.Units.{is_recorded}
 use Rattle.adj_rib.specs.declared.churn.Churn.{Churn}
 use Rattle.adj_rib.specs.Plain.{Note}
-use Rattle.adj_rib.specs.Steps.{Step, break, clear, announce, withdraw, reading_steps}
+use Rattle.adj_rib.specs.Steps.{Step, break, clear, announce, withdraw}
 use Rattle.adj_rib.specs.Tables.{IsTable}
 use Rattle.adj_rib.specs.Churns.{damage_in, reading_of}
-use Rattle.adj_rib.specs.Applied.{RibState, RouteMap, applied, established_after, followed, listed, noted, refused, taken, timed, timed_by, up_after}
-use Rattle.adj_rib.specs.Selecting.{selected_steps}
+use Rattle.adj_rib.specs.Applied.{RibState, RouteMap, applied, listed, refused, timed, timed_by}
+use Rattle.adj_rib.specs.Selecting.{keeps, selected_steps}
 use Rattle.adj_rib.specs.Histories.{announced_note, lost_note, noted_after, noted_behind, withdrawn_note}
-use Rattle.adj_rib.specs.Noting.{applied_noting, followed_noting, noted_on, read_noting, taken_noting}
+use Rattle.adj_rib.specs.Noting.{Takes, applied_noting, followed_noting, noted_on, read_noting, taken_noting}
 use Rattle.adj_rib.proofs.TableLaws.{entries-IsTable}
 use Rattle.adj_rib.proofs.Stepping.{table_step}
 use Rattle.adj_rib.proofs.Taking.{timed_told}
-
--- every key is selected
-selected_all : (steps : List Step) → selected_steps (λ _. true) steps ≡ steps
-selected_all [] = refl
-selected_all (break ∷ steps) = ap (λ (l : List Step). break ∷ l) (selected_all steps)
-selected_all (clear ∷ steps) = ap (λ (l : List Step). clear ∷ l) (selected_all steps)
-selected_all (announce k route ∷ steps) = ap (λ (l : List Step). announce k route ∷ l) (selected_all steps)
-selected_all (withdraw k ∷ steps) = ap (λ (l : List Step). withdraw k ∷ l) (selected_all steps)
 
 noted_on-is : (steps : List Step) (table : RouteMap) (step : Step) → IsTable steps table → noted_on table step ≡ noted_after steps step
 noted_on-is steps table break h = ap (map lost_note) (entries-IsTable steps table h)
@@ -40,6 +31,13 @@ noted_on-is steps table (announce k route) h = ap (λ old. announced_note old k 
 noted_on-is steps table (withdraw k) h = ap (λ old. withdrawn_note old k ∷ []) (h k)
 
 module _ {K : Type 0} (keep : K → Note → K) where
+  -- some steps, and then more
+  pub takes_both : (selects : RouteKey → Bool) (one two : List Step) (seen between now : (RouteMap × Churn) × K) → Takes keep selects one seen between → Takes keep selects two between now → Takes keep selects (one ++ two) seen now
+  takes_both selects one two seen between now first second =
+      second ∙ ap (λ s. fold (applied_noting keep) s (selected_steps selects two)) first
+      ∙ sym (fold-append (applied_noting keep) seen (selected_steps selects one) (selected_steps selects two))
+      ∙ ap (fold (applied_noting keep) seen) (sym (filter-append (keeps selects) one two))
+
   -- where nothing is kept of a note, nothing is kept of many
   pub kept_same : (kept : K) → ((note : Note) → keep kept note ≡ kept) → (notes : List Note) → fold keep kept notes ≡ kept
   kept_same kept h [] = refl
@@ -58,23 +56,10 @@ module _ {K : Type 0} (keep : K → Note → K) where
       ∙ ap (λ l. fold keep (fold keep kept l) (noted_behind (steps ++ step ∷ []) more)) (noted_on-is steps rib.0 step h)
       ∙ sym (fold-append keep kept (noted_after steps step) (noted_behind (steps ++ step ∷ []) more))
 
-  followed_all : (k : RibState) (kept : K) (reading : Result Event Fault) → (followed_noting keep (λ _. true) (k, kept) reading).0 ≡ followed k reading
-  unfolding followed_noting followed
-  followed_all k kept reading =
-      let steps = reading_steps k.up reading in
-      let rib : RouteMap × Churn = (k.table, noted k.up reading k.churn) in
-      let same : (fold (applied_noting keep) (rib, kept) (selected_steps (λ _. true) steps)).0 ≡ fold applied rib steps = rib_beside (selected_steps (λ _. true) steps) rib kept ∙ ap (fold applied rib) (selected_all steps) in
-      λ i. record { up = up_after k.up reading; established = established_after k.established reading; table = (same i).0; churn = (same i).1; faults = k.faults }
-
-  -- a session of which every key is selected
-  pub taken_all : (k : RibState) (kept : K) (unit : ReplayUnit) → (taken_noting keep (λ _. true) (k, kept) unit).0 ≡ taken k unit
-  unfolding taken_noting taken
-  taken_all k kept unit = ap (λ (after : RibState). record after { faults = listed k.faults (damage_in unit (reading_of unit)) }) (followed_all (record k { churn = timed_by unit k.churn }) kept (reading_of unit))
-
   module _ (selects : RouteKey → Bool) where
     -- a unit is taken as its reading says
     taken_as : (k : RibState) (kept : K) (unit : ReplayUnit) → read_noting keep selects (record k { churn = timed_by unit k.churn }, kept) unit.place (reading_of unit) ≡ taken_noting keep selects (k, kept) unit
-    unfolding taken_noting followed_noting refused followed
+    unfolding taken_noting followed_noting refused
     taken_as k kept unit = elim (reading_of unit) as (λ r. read_noting keep selects (record k { churn = timed_by unit k.churn }, kept) unit.place r ≡ (record (followed_noting keep selects (record k { churn = timed_by unit k.churn }, kept) r).0 { faults = listed k.faults (damage_in unit r) }, (followed_noting keep selects (record k { churn = timed_by unit k.churn }, kept) r).1)) [
       | Ok e ↦ refl
       | Err fault ↦ refl

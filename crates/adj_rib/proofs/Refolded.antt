@@ -9,15 +9,8 @@ use Rattle.std.specs.FinMap.Entries.{find, is_sorted, below_all}
 use Rattle.bgp_prefix.specs.Keys.{key_cmp}
 use Rattle.bgp_prefix.specs.Keys.{RouteKey}
 use Rattle.bgp_prefix.proofs.KeyLaws.{key_cmp_total, key_cmp_exact, tied_same, or_none}
+use Rattle.bgp_prefix.proofs.SearchLaws.{first, second}
 use Rattle.adj_rib.specs.MappedValues.{put_entry}
-
-first_part : (a b : Bool) → T (a && b) → T a
-first_part true b p = tt
-first_part false b p = p
-
-second_part : (a b : Bool) → T (a && b) → T b
-second_part true b p = p
-second_part false b p = absurd p
 
 module _ {V : Type 0} where
   none_below : (q : RouteKey) (es : List (RouteKey × V)) → T (below_all key_cmp q es) → find key_cmp q es ≡ None
@@ -36,8 +29,8 @@ module _ {V : Type 0} where
   get_put_all : (es : List (RouteKey × V)) (m : finite.FinMap key_cmp V) (q : RouteKey) → T (is_sorted key_cmp es) → finite.get (fold put_entry m es) q ≡ option_or (find key_cmp q es) (finite.get m q)
   get_put_all [] m q h = refl
   get_put_all (e ∷ es) m q h =
-      let below : T (below_all key_cmp e.0 es) = first_part (below_all key_cmp e.0 es) (is_sorted key_cmp es) h in
-      let rest : T (is_sorted key_cmp es) = second_part (below_all key_cmp e.0 es) (is_sorted key_cmp es) h in
+      let below : T (below_all key_cmp e.0 es) = first _ _ h in
+      let rest : T (is_sorted key_cmp es) = second _ _ h in
       get_put_all es (put_entry m e) q rest ∙ ap (option_or (find key_cmp q es)) (finite.get-insert key_cmp_total m e.0 e.1 q) ∙ one_put q e es (finite.get m q) (eq_by_cmp key_cmp q e.0) refl below
 
   pub refolded : (m : finite.FinMap key_cmp V) → fold put_entry finite.empty (finite.entries m) ≡ m

@@ -1,17 +1,18 @@
 -- A table from which the keys that aren't selected were removed has the entries of the others.
-use Rattle.std.proofs.Common.{◌≡◌, Bool, true, false, not, cond, ◌||◌, List, [], ◌∷◌, map, Option, Some, None, refl, sym, ap, ◌∙◌}
+use Rattle.std.proofs.Common.{◌≡◌, Bool, true, false, not, cond, ◌&&◌, ◌||◌, List, [], ◌∷◌, map, Option, Some, None, refl, sym, ap, ◌∙◌}
 use Rattle.std.specs.Prelude.{is_some}
 use Rattle.std.specs.List.{filter, fold, list_any}
 use Rattle.std.specs.FinMap as finite
 use Rattle.std.specs.FinMap.Entries.{find, same_entries, find-where_key, is_sorted-where_key, is_some-find}
-use Rattle.std.specs.declared.cmp.Ordering.TheVariants.{Equal}
 use Rattle.std.specs.Ordering.{eq_by_cmp}
 use Rattle.bgp_prefix.specs.Keys.{key_cmp}
 use Rattle.bgp_prefix.specs.Keys.{RouteKey}
 use Rattle.bgp_prefix.proofs.KeyLaws.{key_cmp_total, key_cmp_exact, tied_same}
 use Rattle.bgp_update.specs.declared.route.Route.{Route}
+use Rattle.std.proofs.lemmas.Map.Views.{any-filter_same}
 use Rattle.adj_rib.specs.Applied.{RouteMap}
 use Rattle.adj_rib.specs.Selecting.{selected_entries}
+use Rattle.adj_rib.proofs.Selected.{tied_alike}
 
 both : {A : Type 0} (a b : Bool) (x : Option A) → cond a None (cond b None x) ≡ cond (b || a) None x
 both true true x = refl
@@ -30,37 +31,9 @@ module _ (selects : RouteKey → Bool) where
   abbrev others : List RouteKey → List RouteKey
   others ks = filter (λ k. not (selects k)) ks
 
-  differs : (q k : RouteKey) → selects q ≡ true → selects k ≡ false → eq_by_cmp key_cmp q k ≡ false
-  differs q k h left =
-      elim (eq_by_cmp key_cmp q k) as (λ b. eq_by_cmp key_cmp q k ≡ b → b ≡ false) [
-        | true ↦ λ t. absurd (let same = ap selects (tied_same q k t) in let clash : true ≡ false = sym h ∙ same ∙ left in cc)
-        | false ↦ λ _. refl
-      ] refl
-
-  differs_back : (q k : RouteKey) → selects q ≡ false → selects k ≡ true → eq_by_cmp key_cmp q k ≡ false
-  differs_back q k h taken =
-      elim (eq_by_cmp key_cmp q k) as (λ b. eq_by_cmp key_cmp q k ≡ b → b ≡ false) [
-        | true ↦ λ t. absurd (let same = ap selects (tied_same q k t) in let clash : false ≡ true = sym h ∙ same ∙ taken in cc)
-        | false ↦ λ _. refl
-      ] refl
-
-  -- a selected key isn't among the others
-  not_other : (q : RouteKey) (ks : List RouteKey) → selects q ≡ true → list_any (eq_by_cmp key_cmp q) (others ks) ≡ false
-  not_other q [] h = refl
-  not_other q (k ∷ ks) h =
-      elim (selects k) as (λ b. selects k ≡ b → list_any (eq_by_cmp key_cmp q) (cond (not b) (k ∷ others ks) (others ks)) ≡ false) [
-        | true ↦ λ _. not_other q ks h
-        | false ↦ λ left. ap (λ b. b || list_any (eq_by_cmp key_cmp q) (others ks)) (differs q k h left) ∙ not_other q ks h
-      ] refl
-
-  -- another one is, if it is there
-  is_other : (q : RouteKey) (ks : List RouteKey) → selects q ≡ false → list_any (eq_by_cmp key_cmp q) (others ks) ≡ list_any (eq_by_cmp key_cmp q) ks
-  is_other q [] h = refl
-  is_other q (k ∷ ks) h =
-      elim (selects k) as (λ b. selects k ≡ b → list_any (eq_by_cmp key_cmp q) (cond (not b) (k ∷ others ks) (others ks)) ≡ (eq_by_cmp key_cmp q k || list_any (eq_by_cmp key_cmp q) ks)) [
-        | true ↦ λ taken. is_other q ks h ∙ ap (λ b. b || list_any (eq_by_cmp key_cmp q) ks) (sym (differs_back q k h taken))
-        | false ↦ λ _. ap (λ b. eq_by_cmp key_cmp q k || b) (is_other q ks h)
-      ] refl
+  -- a key is among the others if it is there and isn't selected
+  among_others : (q : RouteKey) (ks : List RouteKey) → list_any (eq_by_cmp key_cmp q) (others ks) ≡ (not (selects q) && list_any (eq_by_cmp key_cmp q) ks)
+  among_others q ks = any-filter_same (eq_by_cmp key_cmp q) (λ k. not (selects k)) (not (selects q)) (λ k t. ap (λ x. not (selects x)) (sym (tied_same q k t))) ks
 
   abbrev keys_of : RouteMap → List RouteKey
   keys_of t = map (λ e. e.0) (finite.entries t)
@@ -74,18 +47,15 @@ module _ (selects : RouteKey → Bool) where
   get-retained : (t : RouteMap) (q : RouteKey) → finite.get (fold finite.remove t (others (keys_of t))) q ≡ cond (selects q) (find key_cmp q (finite.entries t)) None
   get-retained t q =
       get-removed (others (keys_of t)) t q
-      ∙ elim (selects q) as (λ b. selects q ≡ b → cond (list_any (eq_by_cmp key_cmp q) (others (keys_of t))) None (finite.get t q) ≡ cond b (find key_cmp q (finite.entries t)) None) [
-        | true ↦ λ taken. ap (λ b. cond b None (finite.get t q)) (not_other q (keys_of t) taken) ∙ finite.get-entries t q
-        | false ↦ λ left.
-            ap (λ b. cond b None (finite.get t q)) (is_other q (keys_of t) left)
-            ∙ ap (cond (list_any (eq_by_cmp key_cmp q) (keys_of t)) None) (finite.get-entries t q)
+      ∙ ap (λ b. cond b None (finite.get t q)) (among_others q (keys_of t))
+      ∙ elim (selects q) as (λ b. cond (not b && list_any (eq_by_cmp key_cmp q) (keys_of t)) None (finite.get t q) ≡ cond b (find key_cmp q (finite.entries t)) None) [
+        | true ↦ finite.get-entries t q
+        | false ↦
+            ap (cond (list_any (eq_by_cmp key_cmp q) (keys_of t)) None) (finite.get-entries t q)
             ∙ found_only (find key_cmp q (finite.entries t)) (list_any (eq_by_cmp key_cmp q) (keys_of t)) (is_some-find key_cmp q (finite.entries t))
-      ] refl
-
-  tied_alike : (q x : RouteKey) → key_cmp q x ≡ Equal → selects x ≡ selects q
-  tied_alike q x e = ap selects (sym (key_cmp_exact q x e))
+      ]
 
   pub entries-retained : (t : RouteMap) → finite.entries (fold finite.remove t (others (keys_of t))) ≡ selected_entries selects (finite.entries t)
   entries-retained t =
       same_entries key_cmp key_cmp_total key_cmp_exact (finite.entries (fold finite.remove t (others (keys_of t)))) (selected_entries selects (finite.entries t)) (finite.entries_sorted (fold finite.remove t (others (keys_of t)))) (is_sorted-where_key key_cmp selects (finite.entries t) (finite.entries_sorted t))
-      (λ q. sym (finite.get-entries (fold finite.remove t (others (keys_of t))) q) ∙ get-retained t q ∙ sym (find-where_key key_cmp selects q (tied_alike q) (finite.entries t)))
+      (λ q. sym (finite.get-entries (fold finite.remove t (others (keys_of t))) q) ∙ get-retained t q ∙ sym (find-where_key key_cmp selects q (tied_alike selects q) (finite.entries t)))

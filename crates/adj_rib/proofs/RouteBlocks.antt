@@ -1,6 +1,6 @@
 -- Routes in a block of bytes stay what they are when bytes are added at its end.
 use Rattle.std.proofs.Common.{◌≡◌, ℕ, ◌+◌, ◌^◌, ◌<◌, ◌≤◌, Bool, true, false, cond, eqb, nat_lt, List, [], ◌∷◌, ◌++◌, length, get_or, take, drop, refl, sym, ap, subst, ◌∙◌, arith, append_assoc, length-append, length-drop}
-use Rattle.std.proofs.lemmas.List.{take-append-le, drop-append-le, get_or_append_left, append-nil}
+use Rattle.std.proofs.lemmas.List.{take-append-le, drop-append-le, get_or_append_left}
 use Rattle.std.proofs.lemmas.Bool.{ltb-true, ne_eqb}
 use Rattle.std.proofs.Math.Seq.{drop-append_seam, take-length}
 use Rattle.std.proofs.lemmas.List.Elements.{All-weaker}
@@ -16,9 +16,6 @@ use Rattle.adj_rib.specs.Routes.{is_long, head_len, body_len, front_of, head_of,
 pub front_by : (rest : List ℕ) (b : Bool) → is_long rest ≡ b → front_of rest ≡ take (body_len b rest) (drop (head_len b) rest)
 unfolding front_of
 front_by rest b e = ap (λ (c : Bool). take (body_len c rest) (drop (head_len c) rest)) e
-
-pub room_by : (rest : List ℕ) (b : Bool) → is_long rest ≡ b → IsFront rest → head_len b + body_len b rest ≤ length rest
-room_by rest b e h = subst (λ (c : Bool). head_len c + body_len c rest ≤ length rest) e h.room
 
 head_len-pos : (b : Bool) → 1 ≤ head_len b
 head_len-pos true = omega arith

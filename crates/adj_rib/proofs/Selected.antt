@@ -1,5 +1,5 @@
 -- A selection of keys commutes with tables and outcomes, and selecting units early is selecting their steps late.
-use Rattle.std.proofs.Common.{◌≡◌, ℕ, Bool, true, false, not, cond, ◌||◌, List, [], ◌∷◌, ◌++◌, map, Option, Some, None, Result, Ok, Err, refl, sym, ap, ◌∙◌, append-nil}
+use Rattle.std.proofs.Common.{◌≡◌, ℕ, Bool, true, false, not, cond, ◌||◌, List, [], ◌∷◌, ◌++◌, map, Option, Some, None, Result, Ok, Err, refl, sym, ap, ◌∙◌}
 use Rattle.std.specs.Prelude.{unwrap_or}
 use Rattle.std.specs.List.{filter, filter_map, cons_option, last_or}
 use Rattle.std.specs.FinMap.Entries.{same_entries, find-where_key, is_sorted-where_key}
@@ -10,7 +10,6 @@ use Rattle.bgp_prefix.specs.Keys.{RouteKey}
 use Rattle.bgp_prefix.proofs.KeyLaws.{key_cmp_total, key_cmp_exact}
 use Rattle.bgp_prefix.proofs.KeySearches.{same_key}
 use Rattle.mrt_frame.specs.Fields.{◌>>=◌}
-use Rattle.mrt_frame.specs.Positions.{flat_map_after}
 use Rattle.mrt_frame.specs.declared.fault.Fault.{Fault}
 use Rattle.bgp_update.specs.declared.route.Route.{Route}
 use Rattle.bgp_update.specs.Updates.{Update}
@@ -33,72 +32,73 @@ use Rattle.adj_rib.specs.Steps.{Step, break, clear, announce, withdraw, state_sa
 use Rattle.adj_rib.specs.Tables.{said_of, route_at, table_of}
 use Rattle.adj_rib.specs.Churns.{announced_over, outcome_of, outcomes_of}
 use Rattle.adj_rib.specs.Selecting.{keeps, selected_steps, selected_entries, selected_outcomes, chooses, concerned}
+use Rattle.adj_rib.proofs.Positions.{after_filter, filter_after}
 use Rattle.adj_rib.proofs.TableLaws.{find-table_of, is_sorted-table_of}
+
+-- ---- filters
+
+-- what is left out is nothing to f
+filter_map_within : {A B : Type 0} (f : A → Option B) (p : A → Bool) → ((x : A) → p x ≡ false → f x ≡ None) → (xs : List A) → filter_map f (filter p xs) ≡ filter_map f xs
+filter_map_within f p h [] = refl
+filter_map_within f p h (x ∷ xs) =
+    elim (p x) as (λ b. p x ≡ b → filter_map f (cond b (x ∷ filter p xs) (filter p xs)) ≡ cons_option (f x) (filter_map f xs)) [
+      | true ↦ λ _. ap (cons_option (f x)) (filter_map_within f p h xs)
+      | false ↦ λ left. filter_map_within f p h xs ∙ ap (λ y. cons_option y (filter_map f xs)) (sym (h x left))
+    ] refl
+
+-- what is left says None, if anything
+none_said : {A B : Type 0} (f : A → Option (Option B)) (p : A → Bool) → ((x : A) → p x ≡ true → unwrap_or (f x) None ≡ None) → (xs : List A) (o : Option (Option B)) → unwrap_or o None ≡ None → unwrap_or (last_or o (filter_map f (filter p xs))) None ≡ None
+none_said f p h [] o e = e
+none_said f p h (x ∷ xs) o e =
+    elim (p x) as (λ b. p x ≡ b → unwrap_or (last_or o (filter_map f (cond b (x ∷ filter p xs) (filter p xs)))) None ≡ None) [
+      | true ↦ λ taken. elim (f x) as (λ y. unwrap_or y None ≡ None → unwrap_or (last_or o (cons_option y (filter_map f (filter p xs)))) None ≡ None) [
+        | None ↦ λ _. none_said f p h xs o e
+        | Some y ↦ λ is. none_said f p h xs (Some y) is
+      ] (h x taken)
+      | false ↦ λ _. none_said f p h xs o e
+    ] refl
 
 -- ---- tables
 
+never : (b : Bool) → b ≡ not b → ⊥
+never true e = cc
+never false e = cc
+
 module _ (selects : RouteKey → Bool) where
-  apart : (k q : RouteKey) → selects k ≡ true → selects q ≡ false → key_eq k q ≡ false
-  apart k q taken left =
-      elim (key_eq k q) as (λ b. key_eq k q ≡ b → b ≡ false) [
-        | true ↦ λ t. absurd (let same = ap selects (same_key k q t) in let clash : true ≡ false = sym taken ∙ same ∙ left in cc)
+  -- of two keys one is selected
+  apart : (k q : RouteKey) (b : Bool) → selects k ≡ b → selects q ≡ not b → key_eq k q ≡ false
+  apart k q b one other =
+      elim (key_eq k q) as (λ e. key_eq k q ≡ e → e ≡ false) [
+        | true ↦ λ t. absurd (never b (sym one ∙ ap selects (same_key k q t) ∙ other))
         | false ↦ λ _. refl
       ] refl
 
-  apart_back : (k q : RouteKey) → selects k ≡ false → selects q ≡ true → key_eq k q ≡ false
-  apart_back k q left taken =
-      elim (key_eq k q) as (λ b. key_eq k q ≡ b → b ≡ false) [
-        | true ↦ λ t. absurd (let same = ap selects (same_key k q t) in let clash : false ≡ true = sym left ∙ same ∙ taken in cc)
-        | false ↦ λ _. refl
-      ] refl
+  -- a step of a key that isn't selected says nothing of one that is
+  others_silent : (k : RouteKey) → selects k ≡ true → (step : Step) → keeps selects step ≡ false → said_of k step ≡ None
+  others_silent k taken break left = absurd cc
+  others_silent k taken clear left = absurd cc
+  others_silent k taken (announce q r) left = ap (λ b. cond b (Some (Some r)) None) (apart k q true taken left)
+  others_silent k taken (withdraw q) left = ap (λ b. cond b (Some None) None) (apart k q true taken left)
 
-  -- what is left says the same of a selected key
-  same_said : (k : RouteKey) → selects k ≡ true → (steps : List Step) → filter_map (said_of k) (selected_steps selects steps) ≡ filter_map (said_of k) steps
-  same_said k taken [] = refl
-  same_said k taken (break ∷ steps) = ap (λ (l : List (Option Route)). None ∷ l) (same_said k taken steps)
-  same_said k taken (clear ∷ steps) = ap (λ (l : List (Option Route)). None ∷ l) (same_said k taken steps)
-  same_said k taken (announce q r ∷ steps) =
-      elim (selects q) as (λ b. selects q ≡ b → filter_map (said_of k) (cond b (announce q r ∷ selected_steps selects steps) (selected_steps selects steps)) ≡ filter_map (said_of k) (announce q r ∷ steps)) [
-        | true ↦ λ _. ap (cons_option (said_of k (announce q r))) (same_said k taken steps)
-        | false ↦ λ left. same_said k taken steps ∙ ap (λ b. cons_option (cond b (Some (Some r)) None) (filter_map (said_of k) steps)) (sym (apart k q taken left))
-      ] refl
-  same_said k taken (withdraw q ∷ steps) =
-      elim (selects q) as (λ b. selects q ≡ b → filter_map (said_of k) (cond b (withdraw q ∷ selected_steps selects steps) (selected_steps selects steps)) ≡ filter_map (said_of k) (withdraw q ∷ steps)) [
-        | true ↦ λ _. ap (cons_option (said_of k (withdraw q))) (same_said k taken steps)
-        | false ↦ λ left. same_said k taken steps ∙ ap (λ b. cons_option (cond b (Some None) None) (filter_map (said_of k) steps)) (sym (apart k q taken left))
-      ] refl
-
-  -- a key that isn't selected is only said to have left route
-  nothing_said : (k : RouteKey) → selects k ≡ false → (steps : List Step) (o : Option (Option Route)) → unwrap_or o None ≡ None → unwrap_or (last_or o (filter_map (said_of k) (selected_steps selects steps))) None ≡ None
-  nothing_said k left [] o h = h
-  nothing_said k left (break ∷ steps) o h = nothing_said k left steps (Some None) refl
-  nothing_said k left (clear ∷ steps) o h = nothing_said k left steps (Some None) refl
-  nothing_said k left (announce q r ∷ steps) o h =
-      elim (selects q) as (λ b. selects q ≡ b → unwrap_or (last_or o (filter_map (said_of k) (cond b (announce q r ∷ selected_steps selects steps) (selected_steps selects steps)))) None ≡ None) [
-        | true ↦ λ taken. ap (λ b. unwrap_or (last_or o (cons_option (cond b (Some (Some r)) None) (filter_map (said_of k) (selected_steps selects steps)))) None) (apart_back k q left taken) ∙ nothing_said k left steps o h
-        | false ↦ λ _. nothing_said k left steps o h
-      ] refl
-  nothing_said k left (withdraw q ∷ steps) o h =
-      elim (selects q) as (λ b. unwrap_or (last_or o (filter_map (said_of k) (cond b (withdraw q ∷ selected_steps selects steps) (selected_steps selects steps)))) None ≡ None) [
-        | true ↦ elim (key_eq k q) as (λ b. unwrap_or (last_or o (cons_option (cond b (Some None) None) (filter_map (said_of k) (selected_steps selects steps)))) None ≡ None) [
-          | true ↦ nothing_said k left steps (Some None) refl
-          | false ↦ nothing_said k left steps o h
-        ]
-        | false ↦ nothing_said k left steps o h
-      ]
+  -- a key that isn't selected is only said to have left
+  only_left : (k : RouteKey) → selects k ≡ false → (step : Step) → keeps selects step ≡ true → unwrap_or (said_of k step) None ≡ None
+  only_left k left break taken = refl
+  only_left k left clear taken = refl
+  only_left k left (announce q r) taken = ap (λ b. unwrap_or {T = Option Route} (cond b (Some (Some r)) None) None) (apart k q false left taken)
+  only_left k left (withdraw q) taken = elim (key_eq k q) as (λ b. unwrap_or {T = Option Route} (cond b (Some None) None) None ≡ None) [ true ↦ refl | false ↦ refl ]
 
   -- a selected key has the same route
   pub route_at-selected : (steps : List Step) (k : RouteKey) → selects k ≡ true → route_at (selected_steps selects steps) k ≡ route_at steps k
-  route_at-selected steps k taken = ap (λ said. unwrap_or (last_or None said) None) (same_said k taken steps)
+  route_at-selected steps k taken = ap (λ said. unwrap_or (last_or None said) None) (filter_map_within (said_of k) (keeps selects) (others_silent k taken) steps)
 
   route_where : (steps : List Step) (k : RouteKey) → route_at (selected_steps selects steps) k ≡ cond (selects k) (route_at steps k) None
   route_where steps k =
       elim (selects k) as (λ b. selects k ≡ b → route_at (selected_steps selects steps) k ≡ cond b (route_at steps k) None) [
         | true ↦ λ taken. route_at-selected steps k taken
-        | false ↦ λ left. nothing_said k left steps None refl
+        | false ↦ λ left. none_said (said_of k) (keeps selects) (only_left k left) steps None refl
       ] refl
 
-  tied_alike : (q x : RouteKey) → key_cmp q x ≡ Equal → selects x ≡ selects q
+  pub tied_alike : (q x : RouteKey) → key_cmp q x ≡ Equal → selects x ≡ selects q
   tied_alike q x e = ap selects (sym (key_cmp_exact q x e))
 
   -- the table of what is selected is the selection of the table
@@ -115,24 +115,17 @@ module _ (selects : RouteKey → Bool) where
   same_outcome before (announce k route) taken = ap (λ o. announced_over o route) (route_at-selected before k taken)
   same_outcome before (withdraw k) taken = rw (route_at-selected before k taken) refl
 
-  outcomes_from : (before steps : List Step) → flat_map_after (λ b s. outcome_of b s ∷ []) (selected_steps selects before) (selected_steps selects steps) ≡ flat_map_after (λ b s. cond (keeps selects s) (outcome_of b s ∷ []) []) before steps
-  outcomes_from before [] = refl
-  outcomes_from before (step ∷ steps) =
-      let on : selected_steps selects (before ++ step ∷ []) ≡ selected_steps selects before ++ selected_steps selects (step ∷ []) = filter-append (keeps selects) before (step ∷ []) in
-      elim (keeps selects step) as (λ b. keeps selects step ≡ b → flat_map_after (λ b s. outcome_of b s ∷ []) (selected_steps selects before) (cond b (step ∷ selected_steps selects steps) (selected_steps selects steps)) ≡ cond b (outcome_of before step ∷ []) [] ++ flat_map_after (λ b s. cond (keeps selects s) (outcome_of b s ∷ []) []) (before ++ step ∷ []) steps) [
-        | true ↦ λ taken.
-            ap (λ (o : Outcome). o ∷ flat_map_after (λ b s. outcome_of b s ∷ []) (selected_steps selects before ++ step ∷ []) (selected_steps selects steps)) (same_outcome before step taken)
-            ∙ ap (λ l. outcome_of before step ∷ flat_map_after (λ b s. outcome_of b s ∷ []) l (selected_steps selects steps)) (ap (λ b. selected_steps selects before ++ cond b (step ∷ []) []) (sym taken) ∙ sym on)
-            ∙ ap (λ (l : List Outcome). outcome_of before step ∷ l) (outcomes_from (before ++ step ∷ []) steps)
-        | false ↦ λ left.
-            ap (λ l. flat_map_after (λ b s. outcome_of b s ∷ []) l (selected_steps selects steps)) (sym (append-nil (selected_steps selects before)) ∙ ap (λ b. selected_steps selects before ++ cond b (step ∷ []) []) (sym left) ∙ sym on)
-            ∙ outcomes_from (before ++ step ∷ []) steps
+  outcome_taken : (before : List Step) (step : Step) → cond (keeps selects step) (outcome_of (selected_steps selects before) step ∷ []) [] ≡ cond (keeps selects step) (outcome_of before step ∷ []) []
+  outcome_taken before step =
+      elim (keeps selects step) as (λ b. keeps selects step ≡ b → cond b (outcome_of (selected_steps selects before) step ∷ []) [] ≡ cond b (outcome_of before step ∷ []) []) [
+        | true ↦ λ taken. ap (λ (o : Outcome). o ∷ []) (same_outcome before step taken)
+        | false ↦ λ _. refl
       ] refl
 
   -- the outcomes of what is selected are those of its steps among all
   pub outcomes_of-selected : (steps : List Step) → outcomes_of (selected_steps selects steps) ≡ selected_outcomes selects steps
   unfolding outcomes_of selected_outcomes
-  outcomes_of-selected steps = outcomes_from [] steps
+  outcomes_of-selected steps = after_filter (keeps selects) (λ b s. outcome_of b s ∷ []) (λ b s. cond (keeps selects s) (outcome_of b s ∷ []) []) outcome_taken [] steps
 
 -- ---- early and late
 
@@ -156,12 +149,7 @@ module _ (choices : List PrefixChoice) where
     said_in units = filter_map (λ u. state_says says u.payload) units
 
     same_said_in : (units : List ReplayUnit) → said_in (concerned choices units) ≡ said_in units
-    same_said_in [] = refl
-    same_said_in (u ∷ units) =
-        elim (concerns choices u.payload) as (λ b. concerns choices u.payload ≡ b → said_in (cond b (u ∷ concerned choices units) (concerned choices units)) ≡ said_in (u ∷ units)) [
-          | true ↦ λ _. ap (cons_option (state_says says u.payload)) (same_said_in units)
-          | false ↦ λ left. same_said_in units ∙ ap (λ said. cons_option said (said_in units)) (sym (quiet_state u.payload left))
-        ] refl
+    same_said_in units = filter_map_within (λ (u : ReplayUnit). state_says says u.payload) (λ (u : ReplayUnit). concerns choices u.payload) (λ u left. quiet_state u.payload left) units
 
     last_said-concerned : (units : List ReplayUnit) → last_said says (concerned choices units) ≡ last_said says units
     last_said-concerned units = ap (λ (said : List Bool). unwrap_or (last_or None said) true) (same_said_in units)
@@ -226,33 +214,23 @@ module _ (choices : List PrefixChoice) where
   unfolding unit_steps
   quiet_unit up u h = quiet_payload up u.payload h
 
-  abbrev steps_behind : List ReplayUnit → List ReplayUnit → List Step
-  steps_behind before units = flat_map_after (λ b u. unit_steps (is_up b) u) before units
-
-  steps_from : (before units : List ReplayUnit) → kept_steps (steps_behind (concerned choices before) (concerned choices units)) ≡ kept_steps (steps_behind before units)
-  steps_from before [] = refl
-  steps_from before (u ∷ units) =
-      let keep = keeps (chooses choices) in
-      let now = unit_steps (is_up before) u in
-      let on : concerned choices (before ++ u ∷ []) ≡ concerned choices before ++ concerned choices (u ∷ []) = filter-append (λ (unit : ReplayUnit). concerns choices unit.payload) before (u ∷ []) in
-      elim (concerns choices u.payload) as (λ b. concerns choices u.payload ≡ b → kept_steps (steps_behind (concerned choices before) (cond b (u ∷ concerned choices units) (concerned choices units))) ≡ kept_steps (now ++ steps_behind (before ++ u ∷ []) units)) [
-        | true ↦ λ taken.
-            ap (λ up. kept_steps (unit_steps up u ++ steps_behind (concerned choices before ++ u ∷ []) (concerned choices units))) (is_up-concerned before)
-            ∙ ap (λ l. kept_steps (now ++ steps_behind l (concerned choices units))) (ap (λ b. concerned choices before ++ cond b (u ∷ []) []) (sym taken) ∙ sym on)
-            ∙ filter-append keep now (steps_behind (concerned choices (before ++ u ∷ [])) (concerned choices units))
-            ∙ ap (λ l. kept_steps now ++ l) (steps_from (before ++ u ∷ []) units)
-            ∙ sym (filter-append keep now (steps_behind (before ++ u ∷ []) units))
-        | false ↦ λ left.
-            ap (λ l. kept_steps (steps_behind l (concerned choices units))) (sym (append-nil (concerned choices before)) ∙ ap (λ b. concerned choices before ++ cond b (u ∷ []) []) (sym left) ∙ sym on)
-            ∙ steps_from (before ++ u ∷ []) units
-            ∙ ap (λ l. l ++ kept_steps (steps_behind (before ++ u ∷ []) units)) (sym (quiet_unit (is_up before) u left))
-            ∙ sym (filter-append keep now (steps_behind (before ++ u ∷ []) units))
+  -- a unit takes the same steps of chosen prefixes after those that can concern them
+  steps_after : (before : List ReplayUnit) (u : ReplayUnit) → cond (concerns choices u.payload) (kept_steps (unit_steps (is_up (concerned choices before)) u)) [] ≡ kept_steps (unit_steps (is_up before) u)
+  steps_after before u =
+      elim (concerns choices u.payload) as (λ b. concerns choices u.payload ≡ b → cond b (kept_steps (unit_steps (is_up (concerned choices before)) u)) [] ≡ kept_steps (unit_steps (is_up before) u)) [
+        | true ↦ λ _. ap (λ up. kept_steps (unit_steps up u)) (is_up-concerned before)
+        | false ↦ λ left. sym (quiet_unit (is_up before) u left)
       ] refl
 
   -- the units that can concern a chosen prefix take all steps of chosen prefixes
   pub steps_of-concerned : (units : List ReplayUnit) → selected_steps (chooses choices) (steps_of (concerned choices units)) ≡ selected_steps (chooses choices) (steps_of units)
   unfolding steps_of
-  steps_of-concerned units = steps_from [] units
+  steps_of-concerned units =
+      let keep = keeps (chooses choices) in
+      let steps : List ReplayUnit → ReplayUnit → List Step = λ b u. unit_steps (is_up b) u in
+      filter_after keep steps [] (concerned choices units)
+      ∙ after_filter (λ (u : ReplayUnit). concerns choices u.payload) (λ b u. kept_steps (steps b u)) (λ b u. kept_steps (steps b u)) steps_after [] units
+      ∙ sym (filter_after keep steps [] units)
 
   -- so each of them has the same route, whether units are selected early or entries late
   pub table_of-concerned : (units : List ReplayUnit) → selected_entries (chooses choices) (table_of (steps_of (concerned choices units))) ≡ selected_entries (chooses choices) (table_of (steps_of units))

@@ -1,11 +1,11 @@
 -- A route of the table was announced by a unit that came while the peer was up, and after the last break.
-use Rattle.std.proofs.Common.{◌≡◌, ◌⊎◌, Bool, true, false, cond, not, ◌||◌, List, [], ◌∷◌, ◌++◌, map, Option, Some, None, Result, Ok, Err, refl, sym, ap, ◌∙◌, inl, inr, append_assoc, arith}
+use Rattle.std.proofs.Common.{◌≡◌, ◌⊎◌, ℕ, zero, suc, ◌<◌, length, get_or, Bool, true, false, cond, not, ◌||◌, List, [], ◌∷◌, ◌++◌, map, Option, Some, None, Result, Ok, Err, refl, sym, ap, ◌∙◌, inl, inr, append_assoc, arith}
 use Rattle.std.proofs.lemmas.List.{append-nil}
 use Rattle.std.specs.Prelude.{unwrap_or}
 use Rattle.std.specs.List.{Contains, AllByRecursion, filter}
 use Rattle.std.specs.FinMap as finite
 use Rattle.std.specs.FinMap.Entries.{find}
-use Rattle.std.proofs.lemmas.List.Elements.{Contains-append_left, Contains-append_right, Contains-append_cases, Contains-push, Contains-push_cases}
+use Rattle.std.proofs.lemmas.List.Elements.{Contains-append_cases}
 use Rattle.bgp_prefix.specs.Keys.{key_cmp, key_eq, among}
 use Rattle.bgp_prefix.specs.Keys.{RouteKey}
 use Rattle.bgp_prefix.proofs.KeySearches.{same_key}
@@ -28,24 +28,21 @@ use Rattle.adj_rib.proofs.After.{steps_of-push}
 use Rattle.adj_rib.proofs.TableLaws.{route_at-push, find-table_of, IsTable_start, IsTable_break, IsTable_clear, entries-IsTable}
 
 module _ {X : Type 0} where
-  first_item : (x : X) (xs : List X) → Contains (x ∷ xs) x
-  first_item x xs = Contains-append_left (x ∷ []) xs x (Contains-push [] x)
+  pub first_item : (x : X) (xs : List X) → Contains (x ∷ xs) x
+  first_item x xs = (0, omega arith, refl)
 
-  later_item : (y : X) (xs : List X) (x : X) → Contains xs x → Contains (y ∷ xs) x
-  later_item y xs x h = Contains-append_right (y ∷ []) xs x h
+  pub later_item : (y : X) (xs : List X) (x : X) → Contains xs x → Contains (y ∷ xs) x
+  later_item y xs x h = (suc h.0, omega (arith, h.1), h.2)
 
   no_item : (x : X) → Contains [] x → ⊥
   no_item x h = let below = h.1 in omega arith
 
-  item_cases : (y : X) (xs : List X) (x : X) → Contains (y ∷ xs) x → (y ≡ x) ⊎ Contains xs x
-  item_cases y xs x h =
-      elim (Contains-append_cases (y ∷ []) xs x h) [
-        | inl g ↦ elim (Contains-push_cases [] y x g) [
-          | inl never ↦ absurd (no_item x never)
-          | inr same ↦ inl same
-        ]
-        | inr g ↦ inr g
-      ]
+  pub item_cases : (y : X) (xs : List X) (x : X) → Contains (y ∷ xs) x → (y ≡ x) ⊎ Contains xs x
+  item_cases y xs x h = at_index h.0 h.1 h.2
+    where
+      at_index : (k : ℕ) → k < length (y ∷ xs) → get_or (y ∷ xs) k x ≡ x → (y ≡ x) ⊎ Contains xs x
+      at_index zero lt is = inl is
+      at_index (suc k) lt is = inr (k, omega (arith, lt), is)
 
 module _ (p : RouteKey) (route : Route) where
   -- ---- the steps of an event
@@ -213,35 +210,15 @@ no_entries : finite.entries (finite.empty {X = Route} {R = key_cmp}) ≡ []
 unfolding table_of
 no_entries = entries-IsTable [] finite.empty IsTable_start
 
-broken_steps : (b : Bool) → b ≡ true → cond b (break ∷ []) [] ≡ break ∷ []
-broken_steps true broken = refl
-broken_steps false broken = absurd cc
-
--- the one step of what ends routes
-ending_step : (payload : Payload) → Step
-ending_step (State from to rule) = break
-ending_step (Message bytes width add_path family) = break
-ending_step (Entry key attrs family) = break
-ending_step Clear = clear
-
-steps_of_end : (up : Bool) (payload : Payload) → EndsRoutes payload → reading_steps up (event_in payload) ≡ ending_step payload ∷ []
-unfolding event_in ending_step
-steps_of_end up (State from to rule) broken = broken_steps (breaks rule from to) broken
-steps_of_end up (Message bytes width add_path family) broken = absurd broken
-steps_of_end up (Entry key attrs family) broken = absurd broken
-steps_of_end up Clear broken = refl
-
-empty_behind : (steps : List Step) (payload : Payload) → finite.entries (finite.empty {X = Route} {R = key_cmp}) ≡ table_of (steps ++ ending_step payload ∷ [])
-unfolding ending_step
-empty_behind steps (State from to rule) = entries-IsTable (steps ++ break ∷ []) finite.empty (IsTable_break steps)
-empty_behind steps (Message bytes width add_path family) = entries-IsTable (steps ++ break ∷ []) finite.empty (IsTable_break steps)
-empty_behind steps (Entry key attrs family) = entries-IsTable (steps ++ break ∷ []) finite.empty (IsTable_break steps)
-empty_behind steps Clear = entries-IsTable (steps ++ clear ∷ []) finite.empty (IsTable_clear steps)
+emptied_steps : (steps : List Step) (up : Bool) (payload : Payload) → EndsRoutes payload → table_of (steps ++ reading_steps up (event_in payload)) ≡ []
+unfolding event_in
+emptied_steps steps up (State from to rule) broken =
+    ap (λ b. table_of (steps ++ cond b (break ∷ []) [])) broken ∙ sym (entries-IsTable (steps ++ break ∷ []) finite.empty (IsTable_break steps)) ∙ no_entries
+emptied_steps steps up (Message bytes width add_path family) broken = absurd broken
+emptied_steps steps up (Entry key attrs family) broken = absurd broken
+emptied_steps steps up Clear broken = sym (entries-IsTable (steps ++ clear ∷ []) finite.empty (IsTable_clear steps)) ∙ no_entries
 
 -- what ends routes leaves none
 pub emptied_at_end : (units : List ReplayUnit) (unit : ReplayUnit) → EndsRoutes unit.payload → table_of (steps_of (units ++ unit ∷ [])) ≡ []
 unfolding unit_steps
-emptied_at_end units unit broken =
-    ap table_of (steps_of-push units unit ∙ ap (λ s. steps_of units ++ s) (steps_of_end (is_up units) unit.payload broken))
-    ∙ sym (empty_behind (steps_of units) unit.payload)
-    ∙ no_entries
+emptied_at_end units unit broken = ap table_of (steps_of-push units unit) ∙ emptied_steps (steps_of units) (is_up units) unit.payload broken

@@ -2,6 +2,7 @@
 use Rattle.std.proofs.Common.{◌≡◌, ◌≢◌, ◌⊎◌, inl, inr, ℕ, Bool, true, false, not, ◌&&◌, cond, eqb, List, [], ◌∷◌, ◌++◌, Option, Some, None, Result, refl, ap, ◌∙◌, arith}
 use Rattle.std.specs.Prelude.{unwrap_or}
 use Rattle.std.specs.List.{count_by, cons_option, filter_map, last_or}
+use Rattle.std.proofs.lemmas.Bool.{and_parts}
 use Rattle.std.proofs.lemmas.Bool.Decides.{nat_tests}
 use Rattle.std.proofs.lemmas.List.Elements.{All-nil, All-head, All-tail, All-push}
 use Rattle.mrt_frame.specs.Positions.{flat_map_after}
@@ -21,11 +22,6 @@ use Rattle.adj_rib.proofs.Taking.{is_up-push}
 
 -- ---- breaks
 
-both_true : (a b : Bool) → (a && b) ≡ true → (a ≡ true) × (b ≡ true)
-both_true true true h = (refl, refl)
-both_true true false h = absurd cc
-both_true false b h = absurd cc
-
 not_false : (b : Bool) → not b ≡ false → b ≡ true
 not_false true h = refl
 not_false false h = absurd cc
@@ -41,7 +37,7 @@ other_than_six n h = grind (arith, nat_tests)
 
 pub no_break : (from to : ℕ) → breaks Recorded from to ≡ false → (from ≡ ESTABLISHED) × (to ≡ ESTABLISHED)
 no_break from to h =
-    let both = both_true (eqb from ESTABLISHED) (eqb to ESTABLISHED) (not_false (eqb from ESTABLISHED && eqb to ESTABLISHED) h) in
+    let both = and_parts (eqb from ESTABLISHED) (eqb to ESTABLISHED) (not_false (eqb from ESTABLISHED && eqb to ESTABLISHED) h) in
     (is_six from both.0, is_six to both.1)
 
 pub breaks_not : (from to : ℕ) → (from ≡ ESTABLISHED) × (to ≡ ESTABLISHED) → breaks Recorded from to ≡ false

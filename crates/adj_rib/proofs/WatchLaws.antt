@@ -1,5 +1,5 @@
 -- A watch on chosen prefixes has their routes, and notes what the definitions say of them.
-use Rattle.std.proofs.Common.{◌≡◌, ℕ, Option, Bool, true, false, cond, List, [], ◌∷◌, ◌++◌, map, refl, sym, ap, ◌∙◌, append_assoc, append-nil, if◌then◌else◌}
+use Rattle.std.proofs.Common.{◌≡◌, ℕ, Option, Bool, true, false, cond, List, [], ◌∷◌, ◌++◌, map, refl, sym, ap, ◌∙◌, if◌then◌else◌}
 use Rattle.std.specs.List.{filter, fold}
 use Rattle.std.specs.FinMap as finite
 use Rattle.std.proofs.lemmas.List.Elements.{filter-append}
@@ -20,6 +20,7 @@ use Rattle.adj_rib.specs.Noting.{followed_noting, taken_noting}
 use Rattle.adj_rib.proofs.TableLaws.{entries-IsTable, IsTable_start}
 use Rattle.adj_rib.proofs.Stepping.{table_after_steps}
 use Rattle.adj_rib.proofs.After.{steps_of-push}
+use Rattle.adj_rib.proofs.Positions.{after_filter, filter_after}
 use Rattle.adj_rib.proofs.NotingLaws.{kept_behind, rib_beside}
 use Rattle.adj_rib.proofs.Taking.{damaged_of-push, is_up-push, table_from_entries}
 use Rattle.adj_rib.proofs.WindowLaws.{churn_within-push, counted_note, reading_counts, unit_counted}
@@ -55,20 +56,9 @@ module _ (selects : RouteKey → Bool) where
 
   -- what selected steps do is what all steps do to selected keys
   pub noted-selected : (before steps : List Step) → noted_behind (selected_steps selects before) (selected_steps selects steps) ≡ of_selected (noted_behind before steps)
-  noted-selected before [] = refl
-  noted-selected before (step ∷ steps) =
-      let on : selected_steps selects (before ++ step ∷ []) ≡ selected_steps selects before ++ selected_steps selects (step ∷ []) = filter-append (keeps selects) before (step ∷ []) in
-      let rest = noted_behind (before ++ step ∷ []) steps in
-      elim (keeps selects step) as (λ b. keeps selects step ≡ b → noted_behind (selected_steps selects before) (cond b (step ∷ selected_steps selects steps) (selected_steps selects steps)) ≡ cond b (noted_after (selected_steps selects before) step) [] ++ of_selected rest) [
-        | true ↦ λ taken.
-            ap (λ l. noted_after (selected_steps selects before) step ++ noted_behind l (selected_steps selects steps)) (ap (λ b. selected_steps selects before ++ cond b (step ∷ []) []) (sym taken) ∙ sym on)
-            ∙ ap (λ l. noted_after (selected_steps selects before) step ++ l) (noted-selected (before ++ step ∷ []) steps)
-        | false ↦ λ left.
-            ap (λ l. noted_behind l (selected_steps selects steps)) (sym (append-nil (selected_steps selects before)) ∙ ap (λ b. selected_steps selects before ++ cond b (step ∷ []) []) (sym left) ∙ sym on)
-            ∙ noted-selected (before ++ step ∷ []) steps
-      ] refl
-      ∙ ap (λ l. l ++ of_selected rest) (step_notes before step)
-      ∙ sym (filter-append (λ (note : Note). selects note.key) (noted_after before step) rest)
+  noted-selected before steps =
+      after_filter (keeps selects) noted_after (λ b s. of_selected (noted_after b s)) step_notes before steps
+      ∙ sym (filter_after (λ (note : Note). selects note.key) noted_after before steps)
 
 -- ---- a watch
 

@@ -23,8 +23,8 @@ use Rattle.mrt_body.specs.declared.meaning.Event.TheVariants as event
 use Rattle.mrt_body.specs.Plain.{Unit as ReplayUnit}
 use Rattle.adj_rib.specs.declared.churn.Churn.{Churn}
 use Rattle.adj_rib.specs.Plain.{Note}
-use Rattle.adj_rib.specs.declared.note.What.{What}
-use Rattle.adj_rib.specs.declared.note.What.TheVariants.{New, Changed, Same, Gone, Void, Lost}
+use Rattle.adj_rib.specs.declared.outcome.What.{What}
+use Rattle.adj_rib.specs.declared.outcome.What.TheVariants.{New, Changed, Same, Gone, Void, Lost}
 use Rattle.adj_rib.specs.declared.outcome.Outcome.{Outcome}
 use Rattle.adj_rib.specs.declared.outcome.Outcome.TheVariants as outcome
 use Rattle.mrt_body.specs.States.{breaks}
@@ -33,9 +33,10 @@ use Rattle.adj_rib.specs.Steps.{Step, break, clear, announce, withdraw, is_up, w
 use Rattle.adj_rib.specs.Tables.{IsTable, route_at, table_of}
 use Rattle.adj_rib.specs.Selecting.{keeps, selected_steps}
 use Rattle.adj_rib.specs.Churns.{announced_over, outcome_of, outcomes_of, is_outcome, count_of, is_break, is_routing, reading_of, first_time, last_time, stopped, churn_of}
-use Rattle.adj_rib.specs.Applied.{RouteMap, applied, counted, counted_if, noted, outcome_on, timed, timed_by}
+use Rattle.adj_rib.specs.Applied.{RouteMap, applied, counted, counted_if, noted, timed, timed_by}
 use Rattle.adj_rib.specs.Histories.{announced_note, withdrawn_note, lost_note, noted_after, noted_behind, unit_notes, chosen_notes, is_before, units_within, notes_within, idle_within, outcome_noted, is_this, has_outcome, churn_by, churn_within}
 use Rattle.adj_rib.proofs.After.{steps_of-push}
+use Rattle.adj_rib.proofs.Positions.{after_itself, after_twice, counts_after}
 use Rattle.adj_rib.proofs.Stepping.{stopped-count_by-push, table_step}
 use Rattle.adj_rib.proofs.Taking.{first_time-push, last_time-push}
 
@@ -236,22 +237,6 @@ module _ (selects : RouteKey → Bool) where
 
 -- ---- without a second and prefixes
 
-abbrev outcomes_behind : List Step → List Step → List Outcome
-outcomes_behind before steps = flat_map_after (λ b s. outcome_of b s ∷ []) before steps
-
-abbrev steps_behind : List ReplayUnit → List ReplayUnit → List Step
-steps_behind before units = flat_map_after (λ b u. unit_steps (is_up b) u) before units
-
-after_more : {A B : Type 0} (f : List A → A → List B) (before xs ys : List A) → flat_map_after f before (xs ++ ys) ≡ flat_map_after f before xs ++ flat_map_after f (before ++ xs) ys
-after_more f before [] ys = ap (λ b. flat_map_after f b ys) (sym (append-nil before))
-after_more f before (x ∷ xs) ys =
-    ap (λ r. f before x ++ r) (after_more f (before ++ x ∷ []) xs ys)
-    ∙ sym (append_assoc (f before x) (flat_map_after f (before ++ x ∷ []) xs) (flat_map_after f ((before ++ x ∷ []) ++ xs) ys))
-    ∙ ap (λ b. (f before x ++ flat_map_after f (before ++ x ∷ []) xs) ++ flat_map_after f b ys) (append_assoc before (x ∷ []) xs)
-
-count-append : {A : Type 0} (p : A → Bool) (xs ys : List A) → count_by p (xs ++ ys) ≡ count_by p xs + count_by p ys
-count-append p xs ys = sum_by-append (λ x. cond (p x) 1 0) xs ys
-
 all_chosen : (notes : List Note) → chosen_notes [] notes ≡ notes
 all_chosen [] = refl
 all_chosen (note ∷ notes) = ap (λ (l : List Note). note ∷ l) (all_chosen notes)
@@ -259,6 +244,13 @@ all_chosen (note ∷ notes) = ap (λ (l : List Note). note ∷ l) (all_chosen no
 all_within : (units : List ReplayUnit) → units_within None units ≡ units
 all_within [] = refl
 all_within (u ∷ units) = ap (λ (l : List ReplayUnit). u ∷ l) (all_within units)
+
+-- what units do is what their steps do
+all_notes : (units : List ReplayUnit) → notes_within None [] units ≡ noted_behind [] (steps_of units)
+unfolding notes_within unit_notes steps_of
+all_notes units =
+    (λ i. flat_map_after (λ b u. all_chosen (unit_notes b u) i) [] units)
+    ∙ after_twice (λ b u. unit_steps (is_up b) u) noted_after steps_of steps_of-push [] units
 
 -- as many notes have an outcome of announcements or withdrawals as steps have it
 module _ (which : Outcome) (other : is_outcome which outcome.Reset ≡ false) (unclear : is_outcome which outcome.Cleared ≡ false) where
@@ -274,108 +266,63 @@ module _ (which : Outcome) (other : is_outcome which outcome.Reset ≡ false) (u
         | false ↦ refl
       ]
 
-  withdrawn : (old : Option Route) (before : List Step) (k : RouteKey) → route_at before k ≡ old → count_by (has_outcome which) (withdrawn_note old k ∷ []) ≡ count_by (is_outcome which) (outcome_of before (withdraw k) ∷ [])
-  withdrawn None before k h = rw h refl
-  withdrawn (Some old) before k h = rw h refl
+  withdrawn : (old : Option Route) (k : RouteKey) → count_by (has_outcome which) (withdrawn_note old k ∷ []) ≡ count_by (is_outcome which) ((if is_some old then outcome.Gone else outcome.Void) ∷ [])
+  withdrawn None k = refl
+  withdrawn (Some old) k = refl
 
   step_counts : (before : List Step) (step : Step) → count_by (has_outcome which) (noted_after before step) ≡ count_by (is_outcome which) (outcome_of before step ∷ [])
   step_counts before break = none_lost (table_of before) ∙ ap (λ b. 0 + cond b 1 0) (sym other)
   step_counts before clear = none_lost (table_of before) ∙ ap (λ b. 0 + cond b 1 0) (sym unclear)
   step_counts before (announce k route) = announced (route_at before k) k route
-  step_counts before (withdraw k) = withdrawn (route_at before k) before k refl
-
-  steps_counts : (before steps : List Step) → count_by (has_outcome which) (noted_behind before steps) ≡ count_by (is_outcome which) (outcomes_behind before steps)
-  steps_counts before [] = refl
-  steps_counts before (step ∷ steps) =
-      count-append (has_outcome which) (noted_after before step) (noted_behind (before ++ step ∷ []) steps)
-      ∙ (λ i. step_counts before step i + steps_counts (before ++ step ∷ []) steps i)
-      ∙ sym (count-append (is_outcome which) (outcome_of before step ∷ []) (outcomes_behind (before ++ step ∷ []) steps))
-
-  unit_counts : (before : List ReplayUnit) (u : ReplayUnit) → count_by (has_outcome which) (chosen_notes [] (unit_notes before u)) ≡ count_by (is_outcome which) (outcomes_behind (steps_of before) (unit_steps (is_up before) u))
-  unfolding unit_notes
-  unit_counts before u = ap (count_by (has_outcome which)) (all_chosen (unit_notes before u)) ∙ steps_counts (steps_of before) (unit_steps (is_up before) u)
-
-  abbrev notes_behind : List ReplayUnit → List ReplayUnit → List Note
-  notes_behind before units = flat_map_after (λ b u. chosen_notes [] (unit_notes b u)) before units
-
-  units_counts : (before units : List ReplayUnit) → count_by (has_outcome which) (notes_behind before units) ≡ count_by (is_outcome which) (outcomes_behind (steps_of before) (steps_behind before units))
-  units_counts before [] = refl
-  units_counts before (u ∷ units) =
-      let now = unit_steps (is_up before) u in
-      let later = steps_behind (before ++ u ∷ []) units in
-      count-append (has_outcome which) (chosen_notes [] (unit_notes before u)) (notes_behind (before ++ u ∷ []) units)
-      ∙ (λ i. unit_counts before u i + units_counts (before ++ u ∷ []) units i)
-      ∙ ap (λ s. count_by (is_outcome which) (outcomes_behind (steps_of before) now) + count_by (is_outcome which) (outcomes_behind s later)) (steps_of-push before u)
-      ∙ sym (count-append (is_outcome which) (outcomes_behind (steps_of before) now) (outcomes_behind (steps_of before ++ now) later))
-      ∙ ap (count_by (is_outcome which)) (sym (after_more (λ (b : List Step) (s : Step). outcome_of b s ∷ []) (steps_of before) now later))
+  step_counts before (withdraw k) = withdrawn (route_at before k) k
 
   same_count : (units : List ReplayUnit) → count_by (has_outcome which) (notes_within None [] units) ≡ count_of which (outcomes_of (steps_of units))
-  unfolding notes_within outcomes_of steps_of
-  same_count units = units_counts [] units
+  unfolding outcomes_of
+  same_count units = ap (count_by (has_outcome which)) (all_notes units) ∙ counts_after (has_outcome which) (is_outcome which) noted_after (λ b s. outcome_of b s ∷ []) step_counts [] (steps_of units)
 
 -- as many units are breaks as steps are
-abbrev resets : List Step → List Step → ℕ
-resets before steps = count_by (is_outcome outcome.Reset) (outcomes_behind before steps)
+abbrev is_break_step : Step → Bool
+is_break_step step = not (is_quiet step)
 
-no_reset : (old : Option Route) (route : Route) → is_outcome outcome.Reset (announced_over old route) ≡ false
-no_reset None route = refl
-no_reset (Some old) route = elim (route_eq old route) as (λ b. is_outcome outcome.Reset (if b then outcome.Same else outcome.Changed) ≡ false) [ true ↦ refl | false ↦ refl ]
+announcing : (old : Option Route) (route : Route) → is_outcome outcome.Reset (announced_over old route) ≡ false
+announcing None route = refl
+announcing (Some old) route = elim (route_eq old route) as (λ b. is_outcome outcome.Reset (if b then outcome.Same else outcome.Changed) ≡ false) [ true ↦ refl | false ↦ refl ]
 
-none_withdrawn : (old : Option Route) (before : List Step) (k : RouteKey) → route_at before k ≡ old → is_outcome outcome.Reset (outcome_of before (withdraw k)) ≡ false
-none_withdrawn None before k h = rw h refl
-none_withdrawn (Some old) before k h = rw h refl
+withdrawing : (b : Bool) → is_outcome outcome.Reset (if b then outcome.Gone else outcome.Void) ≡ false
+withdrawing true = refl
+withdrawing false = refl
 
-resets-append : (before xs ys : List Step) → resets before (xs ++ ys) ≡ resets before xs + resets (before ++ xs) ys
-resets-append before xs ys =
-    ap (count_by (is_outcome outcome.Reset)) (after_more (λ (b : List Step) (s : Step). outcome_of b s ∷ []) before xs ys)
-    ∙ count-append (is_outcome outcome.Reset) (outcomes_behind before xs) (outcomes_behind (before ++ xs) ys)
+step_breaks : (before : List Step) (step : Step) → count_by is_break_step (step ∷ []) ≡ count_by (is_outcome outcome.Reset) (outcome_of before step ∷ [])
+step_breaks before break = refl
+step_breaks before clear = refl
+step_breaks before (announce k route) = ap (λ b. 0 + cond b 1 0) (sym (announcing (route_at before k) route))
+step_breaks before (withdraw k) = ap (λ b. 0 + cond b 1 0) (sym (withdrawing (is_some (route_at before k))))
 
-announcing : (before : List Step) (route : Route) (keys : List RouteKey) → resets before (map (λ key. announce key route) keys) ≡ 0
-announcing before route [] = refl
-announcing before route (k ∷ keys) =
-    let first : resets before (announce k route ∷ []) ≡ 0 = ap (λ b. 0 + cond b 1 0) (no_reset (route_at before k) route) in
-    resets-append before (announce k route ∷ []) (map (λ key. announce key route) keys)
-    ∙ (λ i. first i + announcing (before ++ announce k route ∷ []) route keys i)
+none_breaks : (steps : List Step) → list_all is_quiet steps ≡ true → count_by is_break_step steps ≡ 0
+none_breaks [] h = refl
+none_breaks (step ∷ steps) h =
+    let parts = and_parts _ _ h in
+    sum_by-append (λ s. cond (is_break_step s) 1 0) (step ∷ []) steps ∙ (λ i. (0 + cond (not (parts.0 i)) 1 0) + none_breaks steps parts.1 i)
 
-withdrawing : (before : List Step) (keys : List RouteKey) → resets before (map withdraw keys) ≡ 0
-withdrawing before [] = refl
-withdrawing before (k ∷ keys) =
-    let first : resets before (withdraw k ∷ []) ≡ 0 = ap (λ b. 0 + cond b 1 0) (none_withdrawn (route_at before k) before k refl) in
-    resets-append before (withdraw k ∷ []) (map withdraw keys)
-    ∙ (λ i. first i + withdrawing (before ++ withdraw k ∷ []) keys i)
-
-updating : (before : List Step) (u : Update) → resets before (update_steps u) ≡ 0
-updating before u =
-    let front = withdrawals u ++ announcements u in
-    resets-append before front (reachings u)
-    ∙ ap (λ n. n + resets (before ++ front) (reachings u)) (resets-append before (withdrawals u) (announcements u))
-    ∙ (λ i. (withdrawing before (filter (λ key. not (among u.announced key || among u.reached key)) u.withdrawn) i + announcing (before ++ withdrawals u) u.route u.announced i) + announcing (before ++ front) (by_hop u.route u.reached_hop) u.reached i)
-
-reading_resets : (before : List Step) (up : Bool) (r : Result Event Fault) → resets before (reading_steps up r) ≡ 0 + cond (is_break r) 1 0
-reading_resets before up (Ok (event.State old new rule)) =
-    elim (breaks rule old new) as (λ b. resets before (if b then break ∷ [] else []) ≡ 0 + cond b 1 0) [ true ↦ refl | false ↦ refl ]
-reading_resets before true (Ok (event.Change update)) = updating before update
-reading_resets before false (Ok (event.Change update)) = refl
-reading_resets before true (Ok (event.Rib key route)) = ap (λ b. 0 + cond b 1 0) (no_reset (route_at before key) route)
-reading_resets before false (Ok (event.Rib key route)) = refl
-reading_resets before up (Ok event.Other) = refl
-reading_resets before up (Ok event.Clear) = refl
-reading_resets before up (Err fault) = refl
-
-breaks_from : (before units : List ReplayUnit) → count_by (λ (u : ReplayUnit). is_break (reading_of u)) units ≡ resets (steps_of before) (steps_behind before units)
-breaks_from before [] = refl
-breaks_from before (u ∷ units) =
-    let now = unit_steps (is_up before) u in
-    let later = steps_behind (before ++ u ∷ []) units in
-    let own : 0 + cond (is_break (reading_of u)) 1 0 ≡ resets (steps_of before) now = (unfold unit_steps in sym (reading_resets (steps_of before) (is_up before) (reading_of u))) in
-    count-append (λ (v : ReplayUnit). is_break (reading_of v)) (u ∷ []) units
-    ∙ (λ i. own i + breaks_from (before ++ u ∷ []) units i)
-    ∙ ap (λ s. resets (steps_of before) now + resets s later) (steps_of-push before u)
-    ∙ sym (resets-append (steps_of before) now later)
+reading_breaks : (up : Bool) (r : Result Event Fault) → count_by is_break_step (reading_steps up r) ≡ 0 + cond (is_break r) 1 0
+reading_breaks up (Ok (event.State old new rule)) =
+    elim (breaks rule old new) as (λ b. count_by is_break_step (if b then break ∷ [] else []) ≡ 0 + cond b 1 0) [ true ↦ refl | false ↦ refl ]
+reading_breaks true (Ok (event.Change update)) = none_breaks (update_steps update) (quiet_update update)
+reading_breaks false (Ok (event.Change update)) = refl
+reading_breaks true (Ok (event.Rib key route)) = refl
+reading_breaks false (Ok (event.Rib key route)) = refl
+reading_breaks up (Ok event.Other) = refl
+reading_breaks up (Ok event.Clear) = refl
+reading_breaks up (Err fault) = refl
 
 breaks_are : (units : List ReplayUnit) → count_by (λ (u : ReplayUnit). is_break (reading_of u)) units ≡ count_of outcome.Reset (outcomes_of (steps_of units))
-unfolding outcomes_of steps_of
-breaks_are units = breaks_from [] units
+unfolding outcomes_of steps_of unit_steps
+breaks_are units =
+    let all = steps_of units in
+    sym (ap (count_by (λ (u : ReplayUnit). is_break (reading_of u))) (after_itself [] units))
+    ∙ sym (counts_after is_break_step (λ (u : ReplayUnit). is_break (reading_of u)) (λ b u. unit_steps (is_up b) u) (λ _ u. u ∷ []) (λ b u. reading_breaks (is_up b) (reading_of u)) [] units)
+    ∙ sym (ap (count_by is_break_step) (after_itself [] all))
+    ∙ counts_after is_break_step (is_outcome outcome.Reset) (λ _ s. s ∷ []) (λ b s. outcome_of b s ∷ []) step_breaks [] all
 
 -- what is counted without a second and prefixes is what is counted of all units
 pub churn_within-all : (units : List ReplayUnit) → churn_within None [] units ≡ churn_of units

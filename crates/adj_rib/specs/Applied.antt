@@ -1,22 +1,21 @@
 -- What one step, and one unit, does to what a session keeps: the rules one at a time, as the code follows them.
 use Rattle.std.specs.Prelude.{ℕ, ◌+◌, Bool, true, not, ◌&&◌, List, [], ◌∷◌, ◌++◌, Option, Some, None, Result, Ok, Err, is_some, is_err, unwrap_or, if◌then◌else◌}
-use Rattle.std.specs.List.{fold}
 use Rattle.std.specs.FinMap as finite
 use Rattle.bgp_prefix.specs.Keys.{key_cmp}
 use Rattle.mrt_frame.specs.declared.fault.Fault.{Fault}
 use Rattle.bgp_update.specs.declared.route.Route.{Route}
 use Rattle.mrt_body.specs.Plain.{Unit as ReplayUnit}
-use Rattle.mrt_body.specs.declared.unit.Place.{Place}
 use Rattle.mrt_body.specs.declared.unit.Damage.{Damage}
 use Rattle.mrt_body.specs.Plain.{Event}
 use Rattle.mrt_body.specs.declared.meaning.Event.TheVariants as event
-use Rattle.mrt_body.specs.States.{established_by, stays_up}
+use Rattle.mrt_body.specs.declared.state_rule.StateRule.{StateRule}
+use Rattle.mrt_body.specs.States.{established_by, up_by}
 use Rattle.mrt_body.specs.Units.{is_recorded}
 use Rattle.adj_rib.specs.declared.churn.Churn.{Churn}
 use Rattle.adj_rib.specs.declared.outcome.Outcome.{Outcome}
 use Rattle.adj_rib.specs.declared.outcome.Outcome.TheVariants.{Added, Changed, Same, Gone, Void, Reset, Cleared}
-use Rattle.adj_rib.specs.Steps.{Step, break, clear, announce, withdraw, reading_steps}
-use Rattle.adj_rib.specs.Churns.{announced_over, is_outcome, is_routing, reading_of, damage_in, stopped}
+use Rattle.adj_rib.specs.Steps.{Step, break, clear, announce, withdraw}
+use Rattle.adj_rib.specs.Churns.{announced_over, is_outcome, is_routing, stopped}
 
 -- one more where the flag says so
 abbrev pub counted_if : Bool → ℕ → ℕ
@@ -71,22 +70,21 @@ noted up reading c = record c {
   refused = counted_if (is_err reading) c.refused;
 }
 
+-- what a reading says by this, if it is a state change and says anything
+abbrev pub said_by : (StateRule → ℕ → ℕ → Option Bool) → Result Event Fault → Option Bool
+said_by says (Ok (event.State old new rule)) = says rule old new
+said_by says (Ok (event.Change update)) = None
+said_by says (Ok (event.Rib key route)) = None
+said_by says (Ok event.Other) = None
+said_by says (Ok event.Clear) = None
+said_by says (Err fault) = None
+
 abbrev pub up_after : Bool → Result Event Fault → Bool
-up_after up (Ok (event.State old new rule)) = stays_up rule new
-up_after up (Ok (event.Change update)) = up
-up_after up (Ok (event.Rib key route)) = up
-up_after up (Ok event.Other) = up
-up_after up (Ok event.Clear) = up
-up_after up (Err fault) = up
+up_after up reading = unwrap_or (said_by up_by reading) up
 
 -- whether the session is established after a reading
 abbrev pub established_after : Bool → Result Event Fault → Bool
-established_after was (Ok (event.State old new rule)) = unwrap_or (established_by rule old new) was
-established_after was (Ok (event.Change update)) = was
-established_after was (Ok (event.Rib key route)) = was
-established_after was (Ok event.Other) = was
-established_after was (Ok event.Clear) = was
-established_after was (Err fault) = was
+established_after was reading = unwrap_or (said_by established_by reading) was
 
 -- what a session keeps beside whether it is spent
 pub record RibState : Type 0 where
@@ -115,18 +113,6 @@ no_churn = record {
 abbrev pub START : RibState
 START = record { up = true; established = true; table = finite.empty; churn = no_churn; faults = [] }
 
--- after the steps of a reading
-unfoldable pub followed : RibState → Result Event Fault → RibState
-followed k reading =
-    let rib = fold applied (k.table, noted k.up reading k.churn) (reading_steps k.up reading) in
-    record {
-      up = up_after k.up reading;
-      established = established_after k.established reading;
-      table = rib.0;
-      churn = rib.1;
-      faults = k.faults;
-    }
-
 -- the faults after one more, if any
 abbrev pub listed : List Damage → Option Damage → List Damage
 listed faults None = faults
@@ -134,10 +120,4 @@ listed faults (Some damage) = faults ++ damage ∷ []
 
 -- after a damaged unit
 unfoldable pub refused : RibState → Damage → RibState
-refused k damage = record (followed k (Err damage.fault)) { faults = k.faults ++ damage ∷ [] }
-
--- after one more unit
-unfoldable pub taken : RibState → ReplayUnit → RibState
-taken k unit =
-    let after = followed (record k { churn = timed_by unit k.churn }) (reading_of unit) in
-    record after { faults = listed k.faults (damage_in unit (reading_of unit)) }
+refused k damage = record k { churn = noted k.up (Err damage.fault) k.churn; faults = k.faults ++ damage ∷ [] }

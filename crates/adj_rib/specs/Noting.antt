@@ -1,6 +1,6 @@
 -- What one step, and one unit, does to what a session keeps and to what is kept of the notes on it, where the routes of
 -- some keys alone are kept: the rules one at a time, as the code follows them.
-use Rattle.std.specs.Prelude.{Bool, List, [], ◌∷◌, map, Result, Ok, Err}
+use Rattle.std.specs.Prelude.{◌≡◌, Bool, List, [], ◌∷◌, map, Result, Ok, Err}
 use Rattle.std.specs.List.{fold}
 use Rattle.std.specs.FinMap as finite
 use Rattle.bgp_prefix.specs.Keys.{RouteKey}
@@ -9,8 +9,8 @@ use Rattle.mrt_body.specs.Plain.{Event}
 use Rattle.mrt_body.specs.Plain.{Unit as ReplayUnit}
 use Rattle.mrt_body.specs.declared.unit.Place.{Place}
 use Rattle.adj_rib.specs.declared.churn.Churn.{Churn}
-use Rattle.adj_rib.specs.declared.note.What.{What}
-use Rattle.adj_rib.specs.declared.note.What.TheVariants.{New, Changed, Same, Gone, Void, Lost}
+use Rattle.adj_rib.specs.declared.outcome.What.{What}
+use Rattle.adj_rib.specs.declared.outcome.What.TheVariants.{New, Changed, Same, Gone, Void, Lost}
 use Rattle.adj_rib.specs.declared.outcome.Outcome.{Outcome}
 use Rattle.adj_rib.specs.declared.outcome.Outcome.TheVariants as outcome
 use Rattle.adj_rib.specs.Plain.{Note}
@@ -41,6 +41,10 @@ noted_on table (withdraw k) = withdrawn_note (finite.get table k) k ∷ []
 abbrev pub applied_noting : {K : Type 0} → (K → Note → K) → (RouteMap × Churn) × K → Step → (RouteMap × Churn) × K
 applied_noting keep seen step = (applied seen.0 step, fold keep seen.1 (noted_on seen.0.0 step))
 
+-- The steps on selected keys were taken.
+abbrev pub Takes : {K : Type 0} → (K → Note → K) → (RouteKey → Bool) → List Step → (RouteMap × Churn) × K → (RouteMap × Churn) × K → Type 0
+Takes keep selects steps seen now = now ≡ fold (applied_noting keep) seen (selected_steps selects steps)
+
 -- after the steps of a reading on selected keys
 unfoldable pub followed_noting : {K : Type 0} → (K → Note → K) → (RouteKey → Bool) → RibState × K → Result Event Fault → RibState × K
 followed_noting keep selects seen reading =
@@ -55,6 +59,10 @@ followed_noting keep selects seen reading =
       },
       now.1,
     )
+
+-- The reading was followed on selected keys.
+abbrev pub Follows : {K : Type 0} → (K → Note → K) → (RouteKey → Bool) → Result Event Fault → RibState × K → RibState × K → Type 0
+Follows keep selects reading seen now = now ≡ followed_noting keep selects seen reading
 
 -- after a unit at a place, by its reading
 abbrev pub read_noting : {K : Type 0} → (K → Note → K) → (RouteKey → Bool) → RibState × K → Place → Result Event Fault → RibState × K

@@ -2,7 +2,7 @@
 use Rattle.std.specs.Prelude.{Option}
 use Rattle.bgp_prefix.specs.Keys.{RouteKey}
 use Rattle.bgp_update.specs.declared.route.Route.{Route}
-use Rattle.adj_rib.specs.declared.note.What.{What}
+use Rattle.adj_rib.specs.declared.outcome.What.{What}
 
 -- one thing that happened to a key: the route is the one that the key has from then on, or the one that went; there is
 -- none where a key without a route is withdrawn

@@ -29,6 +29,7 @@
 
 mod arrivals;
 mod churn;
+mod counted_table;
 mod laws;
 mod note;
 mod outcome;
@@ -37,7 +38,6 @@ mod rib_in;
 mod route_table;
 mod routes;
 mod session;
-mod update;
 mod watch;
 
 pub use arrivals::Arrivals;
@@ -46,7 +46,8 @@ pub use laws::{
     counts_are_of_all_units, early_is_late, established_sessions_decide, notes_are_of_concerned,
     recorded_states_decide, routes_come_while_up, selections_commute, table_has_what_holds,
 };
-pub use note::{Chooses, Notes, What};
+pub use note::{Chooses, Notes};
+pub use outcome::What;
 pub use route_table::RouteTable;
 pub use routes::{RouteId, Routes};
 pub use session::Session;

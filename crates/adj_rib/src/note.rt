@@ -1,45 +1,10 @@
 //! What happens to keys: whose routes are kept, and who is told of them.
 
-ghost use Rattle.std.specs.Prelude.{◌≡◌};
-ghost use Rattle.adj_rib.specs.Noting.{what_of};
-
-use crate::outcome::Outcome;
+use crate::outcome::What;
 use bgp_prefix::{Memory, Prefix, RouteKey};
 use bgp_update::{RouteRef, Unicast};
 use mrt_body::ChosenPrefixes;
 use std::alloc::Global;
-
-/// What happened to a key.
-#[derive(Clone, Copy, Debug, PartialEq, Eq)]
-pub enum What {
-    /// It was announced, and had no route.
-    New,
-    /// It was announced, and had another route.
-    Changed,
-    /// It was announced, and had an equal route.
-    Same,
-    /// It was withdrawn, and had a route.
-    Gone,
-    /// It was withdrawn, and had none.
-    Void,
-    /// A state change emptied the table, which had a route for it.
-    Lost,
-}
-
-/// Returns what happened to a key by a step with this outcome.
-#[inline(always)]
-pub(crate) fn what_of(outcome: Outcome) -> What
-    ensures { result ≡ what_of outcome }
-{
-    match outcome {
-        Outcome::Added => What::New,
-        Outcome::Changed => What::Changed,
-        Outcome::Same => What::Same,
-        Outcome::Gone => What::Gone,
-        Outcome::Void => What::Void,
-        Outcome::Reset | Outcome::Cleared => What::Lost,
-    }
-}
 
 /// Which keys are chosen. The routes of the others aren't kept.
 pub trait Chooses<F: Unicast> {

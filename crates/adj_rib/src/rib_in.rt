@@ -3,11 +3,11 @@
 ghost use Rattle.std.specs.Prelude.{◌≡◌};
 
 use crate::churn::{Churn, is_before};
+use crate::counted_table::CountedTable;
 use crate::note::{Chooses, Notes};
 use crate::outcome::Outcome;
 use crate::route_table::RouteTable;
 use crate::routes::RouteId;
-use crate::update::apply_update;
 use bgp_prefix::{Memory, Prefix, PrefixMap, RouteKey};
 use bgp_update::{HashedRoute, RouteSpan, Unicast, UpdateRef};
 use mrt_body::{Damage, EventRef, Place, StateRule, clears_are_told};
@@ -19,8 +19,7 @@ pub(crate) struct RibIn<M: PrefixMap<RouteId>> {
     pub(crate) up: bool,
     /// Whether the session is established, as far as state changes tell.
     pub(crate) established: bool,
-    pub(crate) table: RouteTable<M>,
-    pub(crate) churn: Churn,
+    pub(crate) counted: CountedTable<M>,
     pub(crate) faults: Vec<Damage>,
 }
 
@@ -32,7 +31,7 @@ impl<F: Unicast, M: PrefixMap<RouteId, Addr = F> + Drop> RibIn<M> {
     ghost use Rattle.bgp_prefix.specs.Keys.{RouteKey as Key};
     ghost use Rattle.adj_rib.specs.Applied.{START, counted_if, refused};
     ghost use Rattle.adj_rib.specs.Histories.{is_before};
-    ghost use Rattle.adj_rib.specs.Noting.{followed_noting, read_noting, taken_noting};
+    ghost use Rattle.adj_rib.specs.Noting.{Follows, read_noting, taken_noting};
     ghost use Rattle.adj_rib.specs.Keeping.{rib_state_in};
     ghost use Rattle.bgp_update.specs.Decoded.{plain_update};
 
@@ -43,8 +42,10 @@ impl<F: Unicast, M: PrefixMap<RouteId, Addr = F> + Drop> RibIn<M> {
         RibIn {
             up: true,
             established: true,
-            table: RouteTable::new(alloc),
-            churn: Churn::new(),
+            counted: CountedTable {
+                table: RouteTable::new(alloc),
+                churn: Churn::new(),
+            },
             faults: Vec::new(alloc),
         }
     }
@@ -59,12 +60,12 @@ impl<F: Unicast, M: PrefixMap<RouteId, Addr = F> + Drop> RibIn<M> {
         new: u16,
         rule: StateRule,
     ) -> Result<(), Memory>
-        ensures { (selects : Key → Bool) → OnOk result ((rib_state_in self.new, N.kept notes.new)
-            ≡ followed_noting N.keep selects (rib_state_in self.old, N.kept notes.old) (Ok (events.State old new rule))) }
+        ensures { (selects : Key → Bool) → OnOk result (Follows N.keep selects (Ok (events.State old new rule))
+            (rib_state_in self.old, N.kept notes.old) (rib_state_in self.new, N.kept notes.new)) }
     {
         if rule.breaks(old, new) {
-            self.table.lose_all(alloc, notes)?;
-            self.churn.count(Outcome::Reset);
+            self.counted.table.lose_all(alloc, notes)?;
+            self.counted.churn.count(Outcome::Reset);
         }
         self.up = rule.stays_up(new);
         if let Some(established) = rule.established_by(old, new) {
@@ -76,18 +77,19 @@ impl<F: Unicast, M: PrefixMap<RouteId, Addr = F> + Drop> RibIn<M> {
     /// Takes the step of a clear, whatever keys are chosen.
     #[tactic(auto, unfolding(crate::specs::Noting::followed_noting, crate::specs::Applied::noted, crate::specs::Applied::counted))]
     fn clear<N: Notes<F>>(&mut self, alloc: Global, notes: &mut N) -> Result<(), Memory>
-        ensures { (selects : Key → Bool) → OnOk result ((rib_state_in self.new, N.kept notes.new)
-            ≡ followed_noting N.keep selects (rib_state_in self.old, N.kept notes.old) (Ok events.Clear)) }
+        ensures { (selects : Key → Bool) → OnOk result (Follows N.keep selects (Ok events.Clear)
+            (rib_state_in self.old, N.kept notes.old) (rib_state_in self.new, N.kept notes.new)) }
     {
-        self.table.lose_all(alloc, notes)
+        self.counted.table.lose_all(alloc, notes)
     }
 
     /// Counts an UPDATE or a RIB entry of a peer that isn't up.
     fn count_idle(&mut self)
-        ensures { self.new
-            ≡ record self.old { churn = record self.old.churn { idle = counted_if true self.old.churn.idle } } }
+        ensures { rib_state_in self.new ≡ record (rib_state_in self.old) {
+          churn = record self.old.counted.churn { idle = counted_if true self.old.counted.churn.idle };
+        } }
     {
-        self.churn.idle = self.churn.idle.saturating_add(1);
+        self.counted.churn.idle = self.counted.churn.idle.saturating_add(1);
     }
 
     /// Takes the steps of an UPDATE on chosen keys.
@@ -100,30 +102,22 @@ impl<F: Unicast, M: PrefixMap<RouteId, Addr = F> + Drop> RibIn<M> {
         notes: &mut N,
         update: &UpdateRef<'_, Prefix<F>>,
     ) -> Result<(), Memory>
-        ensures { OnOk result ((rib_state_in self.new, N.kept notes.new)
-            ≡ followed_noting N.keep (C.is_chosen chosen.now) (rib_state_in self.old, N.kept notes.old)
-            (Ok (events.Change (plain_update update.now)))) }
+        ensures { OnOk result (Follows N.keep (C.is_chosen chosen.now) (Ok (events.Change (plain_update update.now)))
+            (rib_state_in self.old, N.kept notes.old) (rib_state_in self.new, N.kept notes.new)) }
     {
         if !self.up {
             self.count_idle();
             return Ok(());
         }
-        apply_update(
-            alloc,
-            &mut self.table,
-            &mut self.churn,
-            chosen,
-            notes,
-            update,
-        )
+        self.counted.apply_update(alloc, chosen, notes, update)
     }
 
     /// Lists a damaged unit.
-    #[tactic(auto, unfolding(crate::specs::Applied::refused, crate::specs::Applied::followed, crate::specs::Applied::noted))]
+    #[tactic(auto, unfolding(crate::specs::Applied::refused, crate::specs::Applied::noted))]
     fn list_damage(&mut self, damage: Damage) -> Result<(), Memory>
         ensures { OnOk result (rib_state_in self.new ≡ refused (rib_state_in self.old) damage) }
     {
-        self.churn.refused = self.churn.refused.saturating_add(1);
+        self.counted.churn.refused = self.counted.churn.refused.saturating_add(1);
         self.faults.push(damage)?;
         Ok(())
     }
@@ -139,18 +133,16 @@ impl<F: Unicast, M: PrefixMap<RouteId, Addr = F> + Drop> RibIn<M> {
         key: RouteKey<Prefix<F>>,
         hashed: &HashedRoute<'_>,
     ) -> Result<(), Memory>
-        ensures { OnOk result ((rib_state_in self.new, N.kept notes.new)
-            ≡ followed_noting N.keep (C.is_chosen chosen.now) (rib_state_in self.old, N.kept notes.old)
-            (Ok (events.Rib key hashed.now.route))) }
+        ensures { OnOk result (Follows N.keep (C.is_chosen chosen.now) (Ok (events.Rib key hashed.now.route))
+            (rib_state_in self.old, N.kept notes.old) (rib_state_in self.new, N.kept notes.new)) }
     {
         if !self.up {
             self.count_idle();
             return Ok(());
         }
         if chosen.chooses(&key) {
-            return self
-                .table
-                .announce(alloc, &mut self.churn, notes, key, hashed);
+            let (table, churn) = (&mut self.counted.table, &mut self.counted.churn);
+            return table.announce(alloc, churn, notes, key, hashed);
         }
         Ok(())
     }
@@ -183,24 +175,24 @@ impl<F: Unicast, M: PrefixMap<RouteId, Addr = F> + Drop> RibIn<M> {
     /// Puts the counts back that were there before a unit of this time, if it is before this second.
     pub(crate) fn count_within(&mut self, since: Option<u64>, time: u64, before: Churn)
         ensures { rib_state_in self.new ≡ record (rib_state_in self.old) {
-          churn = if is_before since time then before else self.old.churn;
+          churn = if is_before since time then before else self.old.counted.churn;
         } }
     {
         if is_before(since, time) {
-            self.table
-                .note_renewals(self.churn.renewals() != before.renewals());
-            self.churn = before;
+            let some = self.counted.churn.renewals() != before.renewals();
+            self.counted.table.note_renewals(some);
+            self.counted.churn = before;
         }
     }
 
     /// Prefetches the slot where `take` will look for a route.
     pub(crate) fn prefetch_slot(&self, route: RouteSpan) -> usize {
-        self.table.prefetch_slot(route)
+        self.counted.table.prefetch_slot(route)
     }
 
     /// Prefetches the route that `take` will find.
     pub(crate) fn prefetch_route(&self, route: RouteSpan) -> usize {
-        self.table.prefetch_route(route)
+        self.counted.table.prefetch_route(route)
     }
 
     /// Takes the next unit, which stands at this place, has this time and means this, and notes what it does to chosen
@@ -220,8 +212,8 @@ impl<F: Unicast, M: PrefixMap<RouteId, Addr = F> + Drop> RibIn<M> {
             ≡ taken_noting N.keep (C.is_chosen chosen.now) (rib_state_in self.old, N.kept notes.old) unit) }
     {
         clears_are_told();
-        self.table.give_back(alloc, &self.churn)?;
-        self.churn.note_unit(event.is_recorded(), time);
+        self.counted.table.give_back(alloc, &self.counted.churn)?;
+        self.counted.churn.note_unit(event.is_recorded(), time);
         self.follow(alloc, chosen, notes, place, event)
     }
 }

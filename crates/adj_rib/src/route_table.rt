@@ -11,14 +11,13 @@ ghost use Rattle.adj_rib.specs.Routes.{AreNamed, IsNamed, named_routes, route_at
 ghost use Rattle.adj_rib.specs.MappedValues.{put_entry};
 ghost use Rattle.adj_rib.specs.declared.outcome.Outcome.TheVariants.{Gone, Void};
 ghost use Rattle.adj_rib.specs.Steps.{announce, withdraw};
-ghost use Rattle.adj_rib.specs.Selecting.{selected_steps};
 ghost use Rattle.adj_rib.specs.Histories.{lost_note};
-ghost use Rattle.adj_rib.specs.Noting.{applied_noting};
+ghost use Rattle.adj_rib.specs.Noting.{Takes, applied_noting};
 ghost use Rattle.adj_rib.specs.Churns.{announced_over};
 
 use crate::churn::Churn;
-use crate::note::{Chooses, Notes, What, what_of};
-use crate::outcome::Outcome;
+use crate::note::{Chooses, Notes};
+use crate::outcome::{Outcome, What};
 use crate::routes::{RouteId, Routes};
 use bgp_prefix::{Memory, Prefix, PrefixMap, RouteKey};
 use bgp_update::{HashedRoute, RouteRef, RouteSpan, Unicast};
@@ -86,7 +85,7 @@ fn put_route<F: Unicast, M: PrefixMap<RouteId, Addr = F>, N: Notes<F>>(
     let old = table.insert(alloc, &key, id)?;
     let outcome = outcome_over(routes, old, id);
     churn.count(outcome);
-    notes.note(alloc, what_of(outcome), &key, &Some(routes.route(id)))?;
+    notes.note(alloc, outcome.what(), &key, &Some(routes.route(id)))?;
     Ok(())
 }
 
@@ -103,9 +102,10 @@ fn put_chosen<F: Unicast, M: PrefixMap<RouteId, Addr = F>, C: Chooses<F>, N: Not
 ) -> Result<(), Memory>
     requires id { IsNamed routes.now id.at }
     requires all { AreNamed routes.now (M.contents table.old) }
-    ensures ok { OnOk result (((named_routes routes.now (M.contents table.new), churn.new), N.kept notes.new)
-        ≡ fold (applied_noting N.keep) ((named_routes routes.now (M.contents table.old), churn.old), N.kept notes.old)
-        (selected_steps (C.is_chosen chosen.now) (map (λ key. announce key (route_at routes.now id.at)) keys.now))) }
+    ensures ok { OnOk result (Takes N.keep (C.is_chosen chosen.now)
+        (map (λ key. announce key (route_at routes.now id.at)) keys.now)
+        ((named_routes routes.now (M.contents table.old), churn.old), N.kept notes.old)
+        ((named_routes routes.now (M.contents table.new), churn.new), N.kept notes.new)) }
     ensures all { AreNamed routes.now (M.contents table.new) }
 {
     for key in keys {
@@ -255,7 +255,7 @@ impl<F: Unicast, M: PrefixMap<RouteId, Addr = F>> RouteTable<M> {
         Ok(())
     }
 
-    /// Announces each chosen key with a route, counts the effects, and notes them.
+    /// Announces each chosen key, if there are any, with a route, counts the effects, and notes them.
     pub(crate) fn announce_chosen<C: Chooses<F>, N: Notes<F>>(
         &mut self,
         alloc: Global,
@@ -265,10 +265,12 @@ impl<F: Unicast, M: PrefixMap<RouteId, Addr = F>> RouteTable<M> {
         keys: &[RouteKey<Prefix<F>>],
         hashed: &HashedRoute<'_>,
     ) -> Result<(), Memory>
-        ensures { OnOk result (((self.new, churn.new), N.kept notes.new)
-            ≡ fold (applied_noting N.keep) ((self.old, churn.old), N.kept notes.old)
-            (selected_steps (C.is_chosen chosen.now) (map (λ key. announce key hashed.now.route) keys.now))) }
+        ensures { OnOk result (Takes N.keep (C.is_chosen chosen.now) (map (λ key. announce key hashed.now.route) keys.now)
+            ((self.old, churn.old), N.kept notes.old) ((self.new, churn.new), N.kept notes.new)) }
     {
+        if keys.is_empty() {
+            return Ok(());
+        }
         let id = self.routes.intern(alloc, hashed)?;
         put_chosen(
             alloc,
@@ -299,7 +301,7 @@ impl<F: Unicast, M: PrefixMap<RouteId, Addr = F>> RouteTable<M> {
         let outcome = outcome_without(old);
         churn.count(outcome);
         let route = route_of(&self.routes, old);
-        notes.note(alloc, what_of(outcome), key, &route)?;
+        notes.note(alloc, outcome.what(), key, &route)?;
         Ok(())
     }
 

@@ -36,8 +36,8 @@ impl<M: PrefixMap<RouteId>> Model for Session<M> {
     ghost view = { λ s. record {
       up = s.rib.up;
       established = s.rib.established;
-      table = finite.entries s.rib.table;
-      churn = s.rib.churn;
+      table = finite.entries s.rib.counted.table;
+      churn = s.rib.counted.churn;
       arrivals = s.arrivals;
       faults = s.rib.faults.items;
       spent = s.spent;
@@ -139,7 +139,7 @@ impl<F: Unicast, M: PrefixMap<RouteId, Addr = F>> Session<M> {
     pub fn table(&self) -> &RouteTable<M>
         ensures { finite.entries result.now ≡ self.now.table }
     {
-        &self.rib.table
+        &self.rib.counted.table
     }
 
     /// Removes the routes of prefixes that aren't chosen. The session is for reading then: it no longer stands for its
@@ -147,14 +147,14 @@ impl<F: Unicast, M: PrefixMap<RouteId, Addr = F>> Session<M> {
     pub fn retain(&mut self, alloc: Global, chosen: &ChosenPrefixes<F>) -> Result<(), Memory>
         ensures { OnOk result (self.new ≡ chosen_session chosen.now self.old) }
     {
-        retain_chosen(alloc, chosen, &mut self.rib.table)
+        retain_chosen(alloc, chosen, &mut self.rib.counted.table)
     }
 
     /// What the units did to the table.
     pub fn churn(&self) -> Churn
         ensures { result ≡ self.now.churn }
     {
-        self.rib.churn
+        self.rib.counted.churn
     }
 
     /// How many recorded units were taken, and where the first one stands.

@@ -36,8 +36,8 @@ impl<M: PrefixMap<RouteId>> Model for Watch<M> {
 
     ghost view = { λ w. record {
       up = w.rib.up;
-      table = finite.entries w.rib.table;
-      churn = w.rib.churn;
+      table = finite.entries w.rib.counted.table;
+      churn = w.rib.counted.churn;
       faults = w.rib.faults.items;
     } };
 }
@@ -71,7 +71,7 @@ impl<F: Unicast, M: PrefixMap<RouteId, Addr = F> + Drop> Watch<M> {
             OnOk result (N.kept notes.new
             ≡ fold N.keep (N.kept notes.old) (chosen_notes chosen.now (unit_notes before unit.now))) }
     {
-        let counted = self.rib.churn;
+        let counted = self.rib.counted.churn;
         self.rib
             .take(alloc, chosen, notes, unit.place, unit.time, event)?;
         self.rib.count_within(since, unit.time, counted);
@@ -91,14 +91,14 @@ impl<F: Unicast, M: PrefixMap<RouteId, Addr = F>> Watch<M> {
     pub fn table(&self) -> &RouteTable<M>
         ensures { finite.entries result.now ≡ self.now.table }
     {
-        &self.rib.table
+        &self.rib.counted.table
     }
 
     /// What the units did, counted.
     pub fn churn(&self) -> Churn
         ensures { result ≡ self.now.churn }
     {
-        self.rib.churn
+        self.rib.counted.churn
     }
 
     /// The damaged units, in the order in which they were taken.

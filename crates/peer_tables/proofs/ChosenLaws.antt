@@ -2,14 +2,8 @@
 use Rattle.std.proofs.Common.{◌≡◌, true, ℕ, zero, suc, ◌+◌, ◌<◌, List, [], ◌∷◌, map, length, set, get_or, refl, sym, ap, ◌∙◌, arith}
 use Rattle.mrt_body.specs.Plain.{PrefixChoice}
 use Rattle.mrt_body.specs.Choices.{is_open}
-use Rattle.bgp_prefix.specs.Keys.{RouteKey}
-use Rattle.bgp_update.specs.declared.route.Route.{Route}
-use Rattle.adj_rib.specs.Selecting.{chooses, selected_entries}
+use Rattle.adj_rib.proofs.SessionLaws.{open_entries}
 use Rattle.peer_tables.specs.Tables.{Seat, TablesState, chosen_seat, chosen_tables}
-
-open_entries : (table : List (RouteKey × Route)) → selected_entries (chooses []) table ≡ table
-open_entries [] = refl
-open_entries (e ∷ table) = ap (λ (l : List (RouteKey × Route)). e ∷ l) (open_entries table)
 
 open_seats : (seats : List Seat) → map (chosen_seat []) seats ≡ seats
 open_seats [] = refl

@@ -2,7 +2,7 @@
 use Rattle.std.proofs.Common.{◌≡◌, ℕ, ◌+◌, ◌<◌, ◌≤◌, List, [], ◌∷◌, ◌++◌, refl, sym, ap, ◌∙◌, length, get_or, take, take_all, map, Option}
 use Rattle.std.proofs.lemmas.List.{take_more, flat_map_more}
 use Rattle.std.proofs.lemmas.List.Elements.{filter_map-append}
-use Rattle.std.specs.List.{cons_option, flat_map, filter_map}
+use Rattle.std.specs.List.{flat_map, filter_map}
 
 pub map_twice : {X Y Z : Type 0} (f : X → Y) (g : Y → Z) (xs : List X) → map (λ x. g (f x)) xs ≡ map g (map f xs)
 map_twice f g [] = refl
@@ -23,14 +23,6 @@ pieces_of_all f g xs ys n all seen = ap (flat_map (λ x. g (f x))) (take_all n x
 pub pieces_more : {X Y : Type 0} (f : X → List Y) (xs : List X) (i : ℕ) (x : X) (old new : List Y) → i < length xs → x ≡ get_or xs i x → old ≡ flat_map f (take i xs) → new ≡ old ++ f x → new ≡ flat_map f (take (i + 1) xs)
 pieces_more f xs i x old new below at before one =
     one ∙ ap (λ l. l ++ f x) before ∙ flat_map_more f [] (take i xs) x ∙ ap (λ y. flat_map f (take i xs ++ y ∷ [])) at ∙ sym (ap (flat_map f) (take_more xs i x below))
-
-filter_map_twice : {X Y Z : Type 0} (f : X → Y) (g : Y → Option Z) (xs : List X) → filter_map (λ x. g (f x)) xs ≡ filter_map g (map f xs)
-filter_map_twice f g [] = refl
-filter_map_twice f g (x ∷ xs) = ap (cons_option (g (f x))) (filter_map_twice f g xs)
-
--- after a loop, what g gives of each item seen through f
-pub kept_of_all : {X Y Z : Type 0} (f : X → Y) (g : Y → Option Z) (xs : List X) (ys : List Y) (n : ℕ) → length xs ≤ n → map f xs ≡ ys → filter_map (λ x. g (f x)) (take n xs) ≡ filter_map g ys
-kept_of_all f g xs ys n all seen = ap (filter_map (λ x. g (f x))) (take_all n xs all) ∙ filter_map_twice f g xs ∙ ap (filter_map g) seen
 
 -- a loop's step: what h gives of one more item
 pub kept_more : {X Y : Type 0} (h : X → Option Y) (xs : List X) (i : ℕ) (x : X) → i < length xs → x ≡ get_or xs i x → filter_map h (take (i + 1) xs) ≡ filter_map h (take i xs) ++ filter_map h (x ∷ [])

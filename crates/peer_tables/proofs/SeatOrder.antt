@@ -1,5 +1,5 @@
 -- What stands in the order of different numbers is one list.
-use Rattle.std.proofs.Common.{◌≡◌, ◌⊎◌, inl, inr, ℕ, zero, suc, ◌<◌, Bool, true, false, cond, eqb, ltb, List, [], ◌∷◌, refl, sym, ap, ◌∙◌, subst, get_or, length, map, arith}
+use Rattle.std.proofs.Common.{◌≡◌, inl, inr, ℕ, zero, suc, ◌<◌, Bool, true, false, cond, eqb, ltb, List, [], ◌∷◌, refl, sym, ap, ◌∙◌, subst, get_or, length, map, arith}
 use Rattle.std.specs.declared.cmp.Ordering.TheVariants.{Less, Equal, Greater}
 use Rattle.std.specs.Ordering.{nat_cmp}
 use Rattle.std.specs.List.{AllByRecursion, Contains}
@@ -8,6 +8,7 @@ use Rattle.std.proofs.lemmas.Bool.{ltb-true}
 use Rattle.std.proofs.lemmas.List.Sorted.{Contains-permutation, IsPermutation-sym, IsPermutation-trans}
 use Rattle.std.proofs.lemmas.Map.Keys.{sorted_from_strictly_increasing}
 use Rattle.mrt_body.specs.declared.unit.Damage.{Damage}
+use Rattle.adj_rib.proofs.SourceLaws.{item_cases, later_item}
 use Rattle.peer_tables.specs.Tables.{Seat, TablesState, IsCollected}
 
 -- what holds of all holds of each
@@ -43,27 +44,17 @@ module _ {S : Type 0} (key : S → ℕ) where
   below : (n : ℕ) (xs : List S) (z : S) → Above n xs → Contains xs z → n < key z
   below n xs z h m = subst (λ s. n < key s) m.2 (all_at (λ s. n < key s) xs m.0 z m.1 h)
 
-  at_index : (x z : S) (xs : List S) (k : ℕ) → k < length (x ∷ xs) → get_or (x ∷ xs) k z ≡ z → (x ≡ z) ⊎ Contains xs z
-  at_index x z xs zero h e = inl e
-  at_index x z xs (suc k) h e = inr (k, omega (arith, h), e)
-
-  first_or_later : (x z : S) (xs : List S) → Contains (x ∷ xs) z → (x ≡ z) ⊎ Contains xs z
-  first_or_later x z xs m = at_index x z xs m.0 m.1 m.2
-
-  later : (x z : S) (xs : List S) → Contains xs z → Contains (x ∷ xs) z
-  later x z xs m = (suc m.0, omega (arith, m.1), m.2)
-
   one_first : (x y : S) (xs ys : List S) → Above (key x) xs → Above (key y) ys → Contains (y ∷ ys) x → Contains (x ∷ xs) y → x ≡ y
-  one_first x y xs ys hx hy a b = elim (first_or_later y x ys a) [
+  one_first x y xs ys hx hy a b = elim (item_cases y ys x a) [
     | inl e ↦ sym e
-    | inr m ↦ elim (first_or_later x y xs b) [
+    | inr m ↦ elim (item_cases x xs y b) [
       | inl e ↦ e
       | inr n ↦ absurd (omega (arith, below (key y) ys x hy m, below (key x) xs y hx n))
     ]
   ]
 
   in_tail : (x y : S) (xs ys : List S) → x ≡ y → Above (key x) xs → ((z : S) → Contains (x ∷ xs) z → Contains (y ∷ ys) z) → (z : S) → Contains xs z → Contains ys z
-  in_tail x y xs ys is h has z m = elim (first_or_later y z ys (has z (later x z xs m))) [
+  in_tail x y xs ys is h has z m = elim (item_cases y ys z (has z (later_item x xs z m))) [
     | inl e ↦ absurd (omega (arith, below (key x) xs z h m, ap key (is ∙ e)))
     | inr n ↦ n
   ]

@@ -1,13 +1,13 @@
 -- The units of some peers alone give these peers the same tables, in the same order.
-use Rattle.std.proofs.Common.{◌≡◌, Bool, true, false, cond, ◌||◌, List, [], ◌∷◌, ◌++◌, refl, sym, ap, ◌∙◌, append-nil}
+use Rattle.std.proofs.Common.{◌≡◌, Bool, true, false, cond, List, [], ◌∷◌, refl, sym, ap, ◌∙◌}
 use Rattle.std.specs.List.{filter, list_any}
 use Rattle.std.proofs.lemmas.Bool.{and_parts, eqb-true}
-use Rattle.std.proofs.lemmas.List.Elements.{filter-append}
-use Rattle.mrt_frame.specs.Positions.{flat_map_after}
+use Rattle.std.proofs.lemmas.Map.Views.{any-filter_same}
 use Rattle.mrt_body.specs.declared.unit.PeerAddr.{PeerAddr}
 use Rattle.mrt_body.specs.declared.unit.PeerAddr.TheVariants.{V4, V6}
 use Rattle.mrt_body.specs.declared.unit.PeerKey.{PeerKey}
 use Rattle.mrt_body.specs.Plain.{Unit as ReplayUnit}
+use Rattle.adj_rib.proofs.Positions.{after_filter, filter_after}
 use Rattle.peer_tables.specs.Peers.{addr_eq, peer_eq, peers_of, units_of_peer}
 use Rattle.peer_tables.specs.Shares.{units_where}
 
@@ -41,14 +41,6 @@ filter_within p t h (x ∷ xs) =
       | false ↦ λ left. filter_within p t h xs ∙ ap (λ b. cond b (x ∷ filter p xs) (filter p xs)) (sym (misses p t x (h x) left))
     ] refl
 
-any_within : {X : Type 0} (p t : X → Bool) → ((x : X) → p x ≡ true → t x ≡ true) → (xs : List X) → list_any p (filter t xs) ≡ list_any p xs
-any_within p t h [] = refl
-any_within p t h (x ∷ xs) =
-    elim (t x) as (λ b. t x ≡ b → list_any p (cond b (x ∷ filter t xs) (filter t xs)) ≡ (p x || list_any p xs)) [
-      | true ↦ λ _. ap (λ b. p x || b) (any_within p t h xs)
-      | false ↦ λ left. any_within p t h xs ∙ ap (λ b. b || list_any p xs) (sym (misses p t x (h x) left))
-    ] refl
-
 -- ---- some peers
 
 module _ (takes : PeerKey → Bool) where
@@ -70,25 +62,15 @@ module _ (takes : PeerKey → Bool) where
   none_new true q h = refl
   none_new false q h = rw h refl
 
-  peers_from : (before units : List ReplayUnit) → flat_map_after first_peer (units_where takes before) (units_where takes units) ≡ filter takes (flat_map_after first_peer before units)
-  peers_from before [] = refl
-  peers_from before (u ∷ units) =
-      let on : units_where takes (before ++ u ∷ []) ≡ units_where takes before ++ units_where takes (u ∷ []) = filter-append (λ (u : ReplayUnit). takes u.peer) before (u ∷ []) in
-      let rest = flat_map_after first_peer (before ++ u ∷ []) units in
-      elim (takes u.peer) as (λ b. takes u.peer ≡ b → flat_map_after first_peer (units_where takes before) (cond b (u ∷ units_where takes units) (units_where takes units)) ≡ filter takes (first_peer before u) ++ filter takes rest) [
-        | true ↦ λ taken.
-            ap (λ b. cond b [] (u.peer ∷ []) ++ flat_map_after first_peer (units_where takes before ++ u ∷ []) (units_where takes units)) (any_within (λ v. peer_eq v.peer u.peer) (λ v. takes v.peer) (taken_alike u.peer taken) before)
-            ∙ ap (λ l. first_peer before u ++ flat_map_after first_peer l (units_where takes units)) (ap (λ b. units_where takes before ++ cond b (u ∷ []) []) (sym taken) ∙ sym on)
-            ∙ ap (λ l. first_peer before u ++ l) (peers_from (before ++ u ∷ []) units)
-            ∙ ap (λ l. l ++ filter takes rest) (if_new (list_any (λ v. peer_eq v.peer u.peer) before) u.peer taken)
-        | false ↦ λ left.
-            ap (λ l. flat_map_after first_peer l (units_where takes units)) (sym (append-nil (units_where takes before)) ∙ ap (λ b. units_where takes before ++ cond b (u ∷ []) []) (sym left) ∙ sym on)
-            ∙ peers_from (before ++ u ∷ []) units
-            ∙ ap (λ l. l ++ filter takes rest) (none_new (list_any (λ v. peer_eq v.peer u.peer) before) u.peer left)
+  first_taken : (before : List ReplayUnit) (u : ReplayUnit) → cond (takes u.peer) (first_peer (units_where takes before) u) [] ≡ filter takes (first_peer before u)
+  first_taken before u =
+      let seen = list_any (λ (v : ReplayUnit). peer_eq v.peer u.peer) before in
+      elim (takes u.peer) as (λ b. takes u.peer ≡ b → cond b (first_peer (units_where takes before) u) [] ≡ filter takes (first_peer before u)) [
+        | true ↦ λ taken. ap (λ b. cond b [] (u.peer ∷ [])) (any-filter_same (λ (v : ReplayUnit). peer_eq v.peer u.peer) (λ v. takes v.peer) true (taken_alike u.peer taken) before) ∙ if_new seen u.peer taken
+        | false ↦ λ left. none_new seen u.peer left
       ] refl
-      ∙ sym (filter-append takes (first_peer before u) rest)
 
   -- the peers that are taken, in the same order
   pub peers_of-where : (units : List ReplayUnit) → peers_of (units_where takes units) ≡ filter takes (peers_of units)
   unfolding peers_of
-  peers_of-where units = peers_from [] units
+  peers_of-where units = after_filter (λ (u : ReplayUnit). takes u.peer) first_peer (λ b u. filter takes (first_peer b u)) first_taken [] units ∙ sym (filter_after takes first_peer [] units)

@@ -3,12 +3,8 @@ use Rattle.std.proofs.Common.{◌≡◌, ℕ, Some, List, [], ◌∷◌, map, re
 use Rattle.std.specs.List.{All}
 use Rattle.std.proofs.lemmas.List.Elements.{All-head, All-tail, All-weaker}
 use Rattle.bgp_prefix.specs.Prefixes.{IpPrefix}
-use Rattle.bgp_prefix.specs.Keys.{RouteKey}
 use Rattle.bgp_update.specs.declared.route.Route.{Route}
-use Rattle.mrt_body.specs.declared.unit.PeerKey.{PeerKey}
-use Rattle.adj_rib.specs.declared.note.What.{What}
 use Rattle.adj_rib.specs.Routes.{StaysNamed}
-use Rattle.peer_tables.specs.declared.history.By.{By}
 use Rattle.peer_tables.specs.declared.history.StoredRow.{StoredRow}
 use Rattle.peer_tables.specs.declared.history.StoredRow.TheVariants.{Routed, Routeless}
 use Rattle.peer_tables.specs.Histories.{RowState}

@@ -40,66 +40,28 @@ new_peers before units = flat_map_after new_peer before units
 seen-push : (before : List ReplayUnit) (x : ReplayUnit) (q : PeerKey) → is_seen (before ++ x ∷ []) q ≡ (is_seen before q || (peer_eq x.peer q || false))
 seen-push before x q = list_any-append (λ u. peer_eq u.peer q) before (x ∷ [])
 
-seen_still : (before : List ReplayUnit) (x : ReplayUnit) (q : PeerKey) → is_seen before q ≡ true → is_seen (before ++ x ∷ []) q ≡ true
-seen_still before x q seen = seen-push before x q ∙ ap (λ b. b || (peer_eq x.peer q || false)) seen
-
 seen_now : (before : List ReplayUnit) (x : ReplayUnit) → is_seen (before ++ x ∷ []) x.peer ≡ true
 seen_now before x = seen-push before x x.peer ∙ ap (λ b. is_seen before x.peer || (b || false)) (peer_itself x.peer) ∙ or-true (is_seen before x.peer)
 
-any_later : (p : PeerKey → Bool) (xs ys : List PeerKey) → list_any p ys ≡ true → list_any p (xs ++ ys) ≡ true
-any_later p xs ys e = list_any-append p xs ys ∙ ap (λ b. list_any p xs || b) e ∙ or-true (list_any p xs)
-
--- a peer of these units that is new is among their new peers
-listed_when_new : (before xs : List ReplayUnit) (q : PeerKey) → is_seen xs q ≡ true → is_seen before q ≡ false → list_any (peer_eq q) (new_peers before xs) ≡ true
-listed_when_new before [] q seen new = cc
-listed_when_new before (x ∷ xs) q seen new =
-    elim (peer_eq x.peer q) as (λ b. peer_eq x.peer q ≡ b → (b || is_seen xs q) ≡ true → list_any (peer_eq q) (new_peers before (x ∷ xs)) ≡ true) [
-      | true ↦ λ same _.
-          let is : x.peer ≡ q = same_peer x.peer q same in
-          let front : new_peer before x ≡ x.peer ∷ [] = ap (λ b. if b then [] else x.peer ∷ []) (ap (is_seen before) is ∙ new) in
-          ap (λ l. list_any (peer_eq q) (l ++ new_peers (before ++ x ∷ []) xs)) front
-          ∙ ap (λ b. b || list_any (peer_eq q) (new_peers (before ++ x ∷ []) xs)) (ap (peer_eq q) is ∙ peer_itself q)
-      | false ↦ λ apart later.
-          any_later (peer_eq q) (new_peer before x) (new_peers (before ++ x ∷ []) xs)
-          (listed_when_new (before ++ x ∷ []) xs q later (seen-push before x q ∙ ap (λ b. b || (peer_eq x.peer q || false)) new ∙ ap (λ b. b || false) apart))
-    ] refl seen
-
--- a peer of earlier units isn't among the new ones
-known_from : (before xs : List ReplayUnit) (q : PeerKey) → is_seen before q ≡ true → list_any (peer_eq q) (new_peers before xs) ≡ false
-known_from before [] q seen = refl
-known_from before (x ∷ xs) q seen =
-    let rest = new_peers (before ++ x ∷ []) xs in
-    let later = known_from (before ++ x ∷ []) xs q (seen_still before x q seen) in
-    elim (is_seen before x.peer) as (λ b. is_seen before x.peer ≡ b → list_any (peer_eq q) ((if b then [] else x.peer ∷ []) ++ rest) ≡ false) [
-      | true ↦ λ _. later
-      | false ↦ λ new.
-          elim (peer_eq q x.peer) as (λ b. peer_eq q x.peer ≡ b → (b || list_any (peer_eq q) rest) ≡ false) [
-            | true ↦ λ same. absurd (let clash : true ≡ false = sym seen ∙ ap (is_seen before) (same_peer q x.peer same) ∙ new in cc)
-            | false ↦ λ _. later
-          ] refl
+-- the new peers are those of the later units that none of the earlier units has
+listed_new_peers : (before xs : List ReplayUnit) (q : PeerKey) → list_any (peer_eq q) (new_peers before xs) ≡ (not (is_seen before q) && is_seen xs q)
+listed_new_peers before [] q = elim (is_seen before q) as (λ b. false ≡ (not b && false)) [ true ↦ refl | false ↦ refl ]
+listed_new_peers before (x ∷ xs) q =
+    list_any-append (peer_eq q) (new_peer before x) (new_peers (before ++ x ∷ []) xs)
+    ∙ ap (λ b. list_any (peer_eq q) (new_peer before x) || b) (listed_new_peers (before ++ x ∷ []) xs q ∙ ap (λ b. not b && is_seen xs q) (seen-push before x q))
+    ∙ elim (peer_eq x.peer q) as (λ b. peer_eq x.peer q ≡ b → (list_any (peer_eq q) (new_peer before x) || (not (is_seen before q || (b || false)) && is_seen xs q)) ≡ (not (is_seen before q) && (b || is_seen xs q))) [
+      | true ↦ λ same.
+          ap (λ (p : PeerKey). list_any (peer_eq q) (if is_seen before p then [] else p ∷ []) || (not (is_seen before q || true) && is_seen xs q)) (same_peer x.peer q same)
+          ∙ elim (is_seen before q) as (λ b. (list_any (peer_eq q) (if b then [] else q ∷ []) || (not (b || true) && is_seen xs q)) ≡ (not b && true)) [ true ↦ refl | false ↦ ap (λ b. (b || false) || false) (peer_itself q) ]
+      | false ↦ λ apart.
+          let none : list_any (peer_eq q) (new_peer before x) ≡ false = elim (is_seen before x.peer) as (λ b. list_any (peer_eq q) (if b then [] else x.peer ∷ []) ≡ false) [ true ↦ refl | false ↦ ap (λ b. b || false) (other_peer x.peer q apart) ] in
+          ap (λ b. b || (not (is_seen before q || false) && is_seen xs q)) none
+          ∙ elim (is_seen before q) as (λ b. (not (b || false) && is_seen xs q) ≡ (not b && is_seen xs q)) [ true ↦ refl | false ↦ refl ]
     ] refl
-
--- a peer of none of the units is none of their peers
-unseen_from : (before xs : List ReplayUnit) (q : PeerKey) → is_seen xs q ≡ false → list_any (peer_eq q) (new_peers before xs) ≡ false
-unseen_from before [] q e = refl
-unseen_from before (x ∷ xs) q e =
-    elim (peer_eq x.peer q) as (λ b. peer_eq x.peer q ≡ b → (b || is_seen xs q) ≡ false → list_any (peer_eq q) (new_peers before (x ∷ xs)) ≡ false) [
-      | true ↦ λ _ clash. cc
-      | false ↦ λ apart other.
-          let later = unseen_from (before ++ x ∷ []) xs q other in
-          elim (is_seen before x.peer) as (λ b. list_any (peer_eq q) ((if b then [] else x.peer ∷ []) ++ new_peers (before ++ x ∷ []) xs) ≡ false) [
-            | true ↦ later
-            | false ↦ ap (λ b. b || list_any (peer_eq q) (new_peers (before ++ x ∷ []) xs)) (other_peer x.peer q apart) ∙ later
-          ]
-    ] refl e
 
 listed_is_seen : (units : List ReplayUnit) (q : PeerKey) → list_any (peer_eq q) (peers_of units) ≡ is_seen units q
 unfolding peers_of
-listed_is_seen units q =
-    elim (is_seen units q) as (λ b. is_seen units q ≡ b → list_any (peer_eq q) (peers_of units) ≡ b) [
-      | true ↦ λ seen. listed_when_new [] units q seen refl
-      | false ↦ λ unseen. unseen_from [] units q unseen
-    ] refl
+listed_is_seen = listed_new_peers []
 
 peers_of-push : (units : List ReplayUnit) (u : ReplayUnit) → peers_of (units ++ u ∷ []) ≡ peers_of units ++ new_peer units u
 unfolding peers_of
@@ -116,7 +78,7 @@ apart_from before (x ∷ xs) =
     let rest = apart_from (before ++ x ∷ []) xs in
     elim (is_seen before x.peer) as (λ b. Apart ((if b then [] else x.peer ∷ []) ++ new_peers (before ++ x ∷ []) xs)) [
       | true ↦ rest
-      | false ↦ (known_from (before ++ x ∷ []) xs x.peer (seen_now before x), rest)
+      | false ↦ (listed_new_peers (before ++ x ∷ []) xs x.peer ∙ ap (λ b. not b && is_seen xs x.peer) (seen_now before x), rest)
     ]
 
 peers_apart : (units : List ReplayUnit) → Apart (peers_of units)
@@ -126,17 +88,11 @@ peers_apart units = apart_from [] units
 -- ---- the peers that a list of watches is on
 
 differs_at : (keys : List PeerKey) (n : ℕ) (p q : PeerKey) → list_any (peer_eq q) keys ≡ false → slice_get keys n ≡ Some p → peer_eq q p ≡ false
-differs_at [] n p q none e = cc
-differs_at (k ∷ keys) zero p q none e =
-    elim (peer_eq q k) as (λ b. peer_eq q k ≡ b → (b || list_any (peer_eq q) keys) ≡ false → peer_eq q p ≡ false) [
-      | true ↦ λ _ clash. cc
-      | false ↦ λ apart _. subst (λ r. peer_eq q r ≡ false) (some_is k p e) apart
-    ] refl none
-differs_at (k ∷ keys) (suc n) p q none e =
-    elim (peer_eq q k) as (λ b. (b || list_any (peer_eq q) keys) ≡ false → peer_eq q p ≡ false) [
-      | true ↦ λ clash. cc
-      | false ↦ λ later. differs_at keys n p q later e
-    ] none
+differs_at keys n p q none e =
+    elim (peer_eq q p) as (λ b. peer_eq q p ≡ b → b ≡ false) [
+      | true ↦ λ same. sym (listed_at keys n q (e ∙ ap (λ r. Some r) (sym (same_peer q p same)))) ∙ none
+      | false ↦ λ _. refl
+    ] refl
 
 none_passes : {X : Type 0} (p : X → Bool) (xs : List X) → list_any p xs ≡ false → filter p xs ≡ []
 none_passes p [] e = refl

@@ -8,8 +8,8 @@ use Rattle.mrt_body.specs.declared.unit.Payload.TheVariants.{State, Message, Ent
 use Rattle.mrt_body.specs.declared.unit.PeerKey.{PeerKey}
 use Rattle.mrt_body.specs.Plain.{Unit as ReplayUnit}
 use Rattle.adj_rib.specs.Plain.{Note}
-use Rattle.adj_rib.specs.declared.note.What.{What}
-use Rattle.adj_rib.specs.declared.note.What.TheVariants.{New, Changed, Same, Gone, Void, Lost}
+use Rattle.adj_rib.specs.declared.outcome.What.{What}
+use Rattle.adj_rib.specs.declared.outcome.What.TheVariants.{New, Changed, Same, Gone, Void, Lost}
 use Rattle.adj_rib.specs.Histories.{WatchState, is_before, unit_notes, watch_of}
 use Rattle.adj_rib.specs.Selecting.{chooses}
 use Rattle.bgp_prefix.specs.Prefixes.{IpPrefix}
