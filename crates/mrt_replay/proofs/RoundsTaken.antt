@@ -190,15 +190,6 @@ module _ (dealing : ℕ → ℕ → ℕ) (plan : Plan) where
               omega (arith, last.rounds, blocked, full);
         }
 
--- why the files can't be taken to their ends
-pub stops_files : (u : UnitsState) (told : Known) (before after : List ℕ) (e : ReplayError) → u.state ≡ Reading → StopsReading u told before after e → StopsFiles u told before after e
-stops_files u told before after (errors.Read file) going (inl h) = let failed = h.0 in absurd (cc)
-stops_files u told before after (errors.Read file) going (inr h) = h
-stops_files u told before after errors.Write going h = h
-stops_files u told before after errors.Memory going h = tt
-stops_files u told before after errors.Records going h = h
-stops_files u told before after errors.Spent going h = absurd (cc)
-
 -- a round that isn't the last leaves the replayer running
 pub runs_on : (step : Step) → step ≢ End → state_of_step step ≡ Reading
 runs_on Blocked ne = refl

@@ -13,10 +13,6 @@ use Rattle.mrt_body.specs.ToCome.{UnitsState, KeepsPlan, HasCause, cuts_to_come}
 use Rattle.adj_rib.specs.Churns.{stopped}
 use Rattle.mrt_replay.specs.Replays.{HasTaken, StopsFiles}
 
--- one unit more is counted
-pub counted_more : (n : ℕ) (units : List ReplayUnit) (u : ReplayUnit) → n ≡ stopped (length units) → min (n + 1) (2 ^ 64 - 1) ≡ stopped (length (units ++ u ∷ []))
-counted_more n units u e = let more = length-append units (u ∷ []) in omega (arith, e, more)
-
 -- why a reading stops that took this much
 module _ {T : Type 0} (Took : T → List ReplayUnit → List Damage → Type 0) (start now next : UnitsState) (told left : List (Option (List ℕ))) (before t : T) (h : HasTaken Took start now told left before t) where
   pub stops_taken : (first counts after : List ℕ) (e : ReplayError) → KeepsPlan start now → now.state ≡ Reading → counts ≡ first → HasCause now left next counts after e → StopsFiles start told first after e

@@ -59,8 +59,8 @@ pub record DealtAll (dealing : ℕ → ℕ → ℕ) (capacity : ℕ) (r : Replay
   pub whole : units ≡ dealt ++ option_to_list r.blocked_unit
   pub stands : ReplayerStandsFor dealing capacity dealt refused r
 
--- Rounds to the end: the replayer took all that was to come, and no unit is blocked. There were few of them, but enough to
--- deal each unit in a batch; they are counted, up to the greatest count.
+-- Rounds to the end: the replayer took all that was to come, and no unit is blocked. There were few of them, but enough
+-- to deal each unit in a batch; they are counted, up to the greatest count.
 pub record HasPlayed (dealing : ℕ → ℕ → ℕ) (plan : Plan) (before after : ReplayerState) (start now : UnitsState)
     (told : List (Option (List ℕ))) (rounds rounds' : ℕ) : Type 0 where
   pub taken : HasTakenFiles (DealtAll dealing plan.ring) start now told before after

@@ -23,10 +23,9 @@ use mrt_body::{ChosenPrefixes, Damage, Selection};
 use mrt_frame::{ReplayError, Sink, Source};
 use peer_tables::{Listed, Listing, Watched};
 use rib_report::{
-    LayoutOf, Request, Tables, WrittenAddress, churn, faults, list_tables, matches,
-    origins_with_threads, peers, seen_with_threads, visibility_with_threads, watched_churn,
-    write_churn, write_faults, write_history, write_origins, write_peers, write_rows, write_seen,
-    write_visibility,
+    LayoutOf, Request, Tables, WrittenAddress, churn, faults, list_tables, matches, origins, peers,
+    seen, visibility, watched_churn, write_churn, write_faults, write_history, write_origins,
+    write_peers, write_rows, write_seen, write_visibility,
 };
 use std::alloc::Global;
 use std::marker::Sync;
@@ -331,15 +330,15 @@ fn write_report<
     match request {
         Request::Tables => list_tables(rt, alloc, workers, out, forms, tables),
         Request::Visibility => {
-            let rows = visibility_with_threads(rt, alloc, workers, tables)?;
+            let rows = visibility(rt, alloc, workers, tables)?;
             write_visibility(out, forms, rows.as_slice())
         }
         Request::Origins => {
-            let rows = origins_with_threads(rt, alloc, workers, tables)?;
+            let rows = origins(rt, alloc, workers, tables)?;
             write_origins(out, forms, rows.as_slice())
         }
         Request::Seen => {
-            let rows = seen_with_threads(rt, alloc, workers, tables)?;
+            let rows = seen(rt, alloc, workers, tables)?;
             write_seen(out, forms, rows.as_slice())
         }
         Request::Churn { since: _ } => write_churn(out, forms, churn(alloc, tables)?.as_slice()),

@@ -93,7 +93,7 @@ Adds_items f xs n all done = Adds_as (ap (flat_map f) (take_all n xs all)) done
 -- after a failure no item's piece is missed
 pub Adds_failed : {X : Type 0} {s t : TextState} (f : X → List ℕ) (xs : List X) (n : ℕ) → Adds s t (flat_map f (take n xs)) → t.buffer.failed ≡ true → Adds s t (flat_map f xs)
 Adds_failed f xs n done lost =
-    Adds_as (sym (flat_map-append f (take n xs) (drop n xs)) ∙ ap (flat_map f) (take-append-drop n xs)) (Adds_trans done (Adds_dropped lost refl refl lost))
+    Adds_as (sym (flat_map-append f (take n xs) (drop n xs)) ∙ ap (flat_map f) (take-append-drop n xs)) (Adds_trans done (Adds_dropped refl lost refl refl lost))
 
 -- a loop's step: the pieces of a range of items
 pub Adds_range : {X : Type 0} {s t u : TextState} (f : X → List ℕ) (xs : List X) (m n : ℕ) → m ≤ n → Adds s t (flat_map f (take m xs)) → Adds t u (flat_map f (between m n xs)) → Adds s u (flat_map f (take n xs))

@@ -1,18 +1,15 @@
 -- The lines of entries.
 use Rattle.std.proofs.Common.{◌≡◌, ℕ, ◌+◌, ◌<◌, ◌≤◌, List, [], ◌∷◌, ◌++◌, refl, sym, ap, ◌∙◌, subst, map, length, get_or, take, max}
 use Rattle.std.specs.List.{flat_map}
-use Rattle.std.specs.Borrow.{Bor}
 use Rattle.std.proofs.lemmas.List.{take_more}
 use Rattle.std.proofs.lemmas.List.Concat.{flat_map-append}
 use Rattle.std.proofs.lemmas.List.Recursion.{max_push, max_bounds}
-use Rattle.bgp_prefix.specs.Keys.{entries_now}
 use Rattle.bgp_prefix.specs.Keys.{RouteKey}
-use Rattle.bgp_prefix.proofs.ListedLaws.{entries_now-map}
 use Rattle.bgp_update.specs.declared.route.Route.{Route}
 use Rattle.peer_tables.specs.declared.tables.Seated.{Seated}
 use Rattle.peer_tables.specs.Tables.{Seat}
 use Rattle.peer_tables.specs.Seats.{seat_of}
-use Rattle.peer_tables.proofs.RowLaws.{map_twice, flat_map_twice}
+use Rattle.peer_tables.proofs.RowLaws.{flat_map_twice}
 use Rattle.rib_report.specs.Plain.{AddressForms}
 use Rattle.rib_report.specs.Reports.{entry_row, rows_of_seat}
 use Rattle.rib_report.specs.Lines.{route_line}

@@ -6,7 +6,6 @@ use Rattle.std.proofs.lemmas.List.Elements.{All-push}
 use Rattle.std.proofs.lemmas.Grind.{take-set_at}
 use Rattle.std.proofs.lemmas.List.Concat.{flat_map-append}
 use Rattle.std.specs.List.{between, flat_map, All}
-use Rattle.std.specs.Borrow.{Bor}
 use Rattle.std.specs.Io.KnownBytes.{Appends}
 use Rattle.bgp_prefix.specs.Keys.{RouteKey}
 use Rattle.bgp_update.specs.declared.route.Route.{Route}
@@ -17,7 +16,7 @@ use Rattle.rib_report.specs.Texts.{TextState, Adds, empty_buffer}
 use Rattle.rib_report.specs.Reports.{entry_row}
 use Rattle.rib_report.specs.Listings.{reached_lines}
 use Rattle.rib_report.specs.LineBlocks.{AreSuccessive, lines_between, range_of}
-use Rattle.rib_report.proofs.TextLaws.{Adds_trans, Adds_as, Adds_grown, text_begun}
+use Rattle.rib_report.proofs.TextLaws.{Adds_trans, Adds_as, Adds_none, text_begun}
 use Rattle.rib_report.proofs.JoinLaws.{between_join}
 
 -- the lines of a range behind those of the one before
@@ -29,9 +28,9 @@ Adds_next peer entries i j k ij jk f g =
 
 -- no entry has no line
 pub no_lines : {s : TextState} (peer : ShownPeer) (entries : List (RouteKey × Route)) (i : ℕ) → Adds s s (lines_between peer i i entries)
-no_lines {s = s} peer entries i =
+no_lines peer entries i =
     let none : 0 ≡ i - i = omega arith in
-    Adds_as (ap (λ n. reached_lines peer (take n (drop i entries))) none) (Adds_grown refl refl (sym (append-nil s.buffer.waiting)) refl)
+    Adds_as (ap (λ n. reached_lines peer (take n (drop i entries))) none) Adds_none
 
 -- what was added to an empty buffer, where nothing can be written, waits in it
 pub all_waits : {s t : TextState} {p : List ℕ} → s.buffer ≡ empty_buffer → s.contents ≡ Some [] → t.contents ≡ Some [] → t.buffer.failed ≡ false → Adds s t p

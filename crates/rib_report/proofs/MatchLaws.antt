@@ -3,7 +3,7 @@ use Rattle.std.proofs.Common.{◌≡◌, ◌≢◌, ℕ, ◌<◌, Bool, true, fa
 use Rattle.std.specs.Ordering.{eq_by_cmp, is_eq}
 use Rattle.std.specs.List.{AllByRecursion, filter, list_all, list_any}
 use Rattle.std.specs.FinMap as finite
-use Rattle.std.proofs.lemmas.Bool.{le-ltb, lt-ltb, false≢true}
+use Rattle.std.proofs.lemmas.Bool.{le-ltb, lt-ltb, false≢true, and_right}
 use Rattle.std.proofs.lemmas.Cmp.{tied_itself}
 use Rattle.std.proofs.lemmas.List.Folds.{list_any_at}
 use Rattle.bgp_prefix.specs.Prefixes.{IpPrefix, contains, prefix_eq}
@@ -16,13 +16,9 @@ use Rattle.mrt_body.specs.declared.unit.PeerKey.{PeerKey}
 use Rattle.rib_report.specs.Reports.{entry_row, path_row, matches_entry, yields, is_longest}
 use Rattle.rib_report.proofs.OriginLaws.{any_map}
 use Rattle.rib_report.proofs.VisibilityLaws.{own_itself}
-use Rattle.rib_report.proofs.RunLaws.{all_from_index}
+use Rattle.rib_report.proofs.RunLaws.{all_from_index, all_weaker, filter_none}
 
 -- ---- tests of lists
-
-filter_none : {X : Type 0} (p : X → Bool) (xs : List X) → AllByRecursion (λ x. p x ≡ false) xs → filter p xs ≡ []
-filter_none p [] h = refl
-filter_none p (x ∷ xs) h = ap (λ b. cond b (x ∷ filter p xs) (filter p xs)) h.0 ∙ filter_none p xs h.1
 
 filter_same : {X : Type 0} (p q : X → Bool) (xs : List X) → AllByRecursion (λ x. p x ≡ q x) xs → filter p xs ≡ filter q xs
 filter_same p q [] h = refl
@@ -38,16 +34,8 @@ not_all g h fails [] e = absurd (false≢true e)
 not_all g h fails (x ∷ xs) e =
     elim (h x) as (λ b. h x ≡ b → (b || list_any h xs) ≡ true → (g x && list_all g xs) ≡ false) [
       | true ↦ λ is _. ap (λ b. b && list_all g xs) (fails x is)
-      | false ↦ λ _ later. ap (λ b. g x && b) (not_all g h fails xs later) ∙ and_false (g x)
+      | false ↦ λ _ later. ap (λ b. g x && b) (not_all g h fails xs later) ∙ and_right (g x) false refl
     ] refl e
-  where
-    and_false : (b : Bool) → (b && false) ≡ false
-    and_false true = refl
-    and_false false = refl
-
-changed : {X : Type 0} {P Q : X → Type 0} → ((x : X) → P x → Q x) → (xs : List X) → AllByRecursion P xs → AllByRecursion Q xs
-changed f [] h = tt
-changed f (x ∷ xs) h = (f x h.0, changed f xs h.1)
 
 -- ---- the entries of a table
 
@@ -110,7 +98,7 @@ module _ (table : List (RouteKey × Route)) (addr : ℕ) (p : IpPrefix) (is_long
         | true ↦ λ same.
             let is = same_prefix p e.0.prefix same in
             let matched : matches_entry addr e ≡ true = ap (λ q. contains q addr) (sym is) ∙ is_longest_prefix.matches in
-            let all = all_true (yields addr e) table (changed (λ f h. yields_to_longest e f is h) table (entries_held table)) in
+            let all = all_true (yields addr e) table (all_weaker (λ f h. yields_to_longest e f is h) table (entries_held table)) in
             sym (ap (λ b. b && list_all (yields addr e) table) matched ∙ all)
         | false ↦ λ other. elim (matches_entry addr e) as (λ m. matches_entry addr e ≡ m → false ≡ (m && list_all (yields addr e) table)) [
           | true ↦ λ m.
@@ -122,7 +110,7 @@ module _ (table : List (RouteKey × Route)) (addr : ℕ) (p : IpPrefix) (is_long
       ] refl
 
   longest_entries : filter (λ e. prefix_eq p e.0.prefix) table ≡ filter (is_longest addr table) table
-  longest_entries = filter_same (λ e. prefix_eq p e.0.prefix) (is_longest addr table) table (changed same_test table (entries_held table))
+  longest_entries = filter_same (λ e. prefix_eq p e.0.prefix) (is_longest addr table) table (all_weaker same_test table (entries_held table))
 
 rows_of_paths : (peer : PeerKey) (p : IpPrefix) (table : List (RouteKey × Route)) → map (path_row peer p) (paths_of p table) ≡ map (entry_row peer) (filter (λ e. prefix_eq p e.0.prefix) table)
 rows_of_paths peer p [] = refl
@@ -153,7 +141,7 @@ match_found m table peer addr p e found = rows_of_paths peer p table ∙ ap (map
 -- no row where nothing matches
 pub match_none : (m : finite.FinMap key_cmp Route) (table : List (RouteKey × Route)) (peer : PeerKey) (addr : ℕ) → finite.entries m ≡ table → HasNoMatch m addr → map (entry_row peer) (filter (is_longest addr table) table) ≡ []
 match_none m table peer addr e none =
-    ap (map (entry_row peer)) (filter_none (is_longest addr table) table (changed (λ f held. elim (matches_entry addr f) as (λ b. matches_entry addr f ≡ b → (b && list_all (yields addr f) table) ≡ false) [
+    ap (map (entry_row peer)) (filter_none (is_longest addr table) table (all_weaker (λ f held. elim (matches_entry addr f) as (λ b. matches_entry addr f ≡ b → (b && list_all (yields addr f) table) ≡ false) [
       | true ↦ λ matched. absurd (none f.0 (held_is m table e f.0 ∙ held) matched)
       | false ↦ λ _. refl
     ] refl) table (entries_held table)))

@@ -3,7 +3,7 @@ use Rattle.std.proofs.Common.{◌≡◌, Bool, true, false, cond, ◌||◌, List
 use Rattle.std.specs.Prelude.{Some}
 use Rattle.std.specs.declared.cmp.Ordering.{Ordering}
 use Rattle.std.specs.declared.cmp.Ordering.TheVariants.{Less, Equal, Greater}
-use Rattle.std.specs.Ordering.{is_eq, is_lt, eq_by_cmp}
+use Rattle.std.specs.Ordering.{is_lt, eq_by_cmp}
 use Rattle.std.specs.Cmp.{IsTotalOrder}
 use Rattle.std.specs.List.{AllByRecursion, dedup, dedup_from, list_any}
 use Rattle.std.specs.List.Sorted.{IsSorted, IsStrictlySortedBy, IsPermutation}
@@ -13,12 +13,7 @@ use Rattle.std.proofs.lemmas.List.Sorted.{list_any-IsPermutation}
 use Rattle.bgp_prefix.specs.Ordered.{in_order}
 use Rattle.bgp_prefix.proofs.OrderedLaws.{is_sorted-tabulated}
 use Rattle.rib_report.proofs.RunLaws.{set_of, set_same, below_set, put_front}
-use Rattle.rib_report.proofs.MergeLaws.{first_of, second_of}
-
-pub is_less : (r : Ordering) → T (is_lt r) → r ≡ Less
-is_less Less h = refl
-is_less Equal h = absurd h
-is_less Greater h = absurd h
+use Rattle.rib_report.proofs.MergeLaws.{first_of, second_of, is_less, equal_of}
 
 pub twice : (b c : Bool) → (b || c) ≡ (b || (b || c))
 twice true c = refl
@@ -28,11 +23,6 @@ either_way : (a b c : Bool) → (a || (b || c)) ≡ (b || (a || c))
 either_way true true c = refl
 either_way true false c = refl
 either_way false b c = refl
-
-pub equal_of : (r : Ordering) → is_eq r ≡ true → r ≡ Equal
-equal_of Less e = cc
-equal_of Equal e = refl
-equal_of Greater e = cc
 
 abbrev keys_of : {K : Type 0} → List (K × Unit {0}) → List K
 keys_of es = map (λ e. e.0) es

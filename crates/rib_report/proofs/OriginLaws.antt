@@ -1,16 +1,15 @@
 -- Pairs of prefixes and origin ASes, by prefix.
-use Rattle.std.proofs.Common.{◌≡◌, ◌≢◌, ℕ, zero, suc, ◌+◌, ◌<◌, ◌≤◌, ◌^◌, Bool, true, false, cond, ◌&&◌, ◌||◌, eqb, ltb, List, [], ◌∷◌, ◌++◌, refl, sym, ap, ◌∙◌, subst, append-nil, append_assoc, length, get_or, take, drop, take-append-drop, length-drop, length-take-le, map, arith}
-use Rattle.std.specs.declared.cmp.Ordering.{Ordering}
+use Rattle.std.proofs.Common.{◌≡◌, ◌≢◌, ℕ, zero, suc, ◌+◌, ◌<◌, ◌≤◌, ◌^◌, Bool, true, false, cond, ◌&&◌, ◌||◌, eqb, List, [], ◌∷◌, ◌++◌, refl, sym, ap, ◌∙◌, subst, append-nil, append_assoc, length, get_or, take, drop, take-append-drop, length-drop, length-take-le, map, arith}
 use Rattle.std.specs.declared.cmp.Ordering.TheVariants.{Less, Equal, Greater}
 use Rattle.std.specs.Ordering.{nat_cmp, is_eq, eq_by_cmp, ordering_then, ordering_reverse}
-use Rattle.std.specs.Cmp.{IsTotalOrder}
+use Rattle.std.specs.Cmp.{IsTotalOrder, unsigned_ties, both_tied}
 use Rattle.std.specs.List.{AllByRecursion, AllWithin, dedup, filter, flat_map, list_any}
 use Rattle.std.specs.List.Sorted.{IsSorted, IsStrictlySortedBy, IsPermutation}
-use Rattle.std.proofs.lemmas.Bool.{ltb-true, eqb-true, le-leb, lt-leb}
+use Rattle.std.proofs.lemmas.Bool.{le-leb, lt-leb}
 use Rattle.std.proofs.lemmas.Cmp.{on_total, then_total, nat_cmp_total, tied_itself}
 use Rattle.std.proofs.lemmas.List.{length-map, map-append, get_or-take, get_or-drop}
 use Rattle.std.proofs.lemmas.Grind.{flat_map-append}
-use Rattle.std.proofs.lemmas.List.Elements.{filter-append}
+use Rattle.std.proofs.lemmas.List.Elements.{filter-append, All-take, All-drop, All-from_recursion, recursion_from_All}
 use Rattle.std.proofs.lemmas.Map.Lookups.{exact_pairs, exact_unsigned}
 use Rattle.bgp_prefix.specs.Prefixes.{IpPrefix, prefix_cmp, prefix_eq}
 use Rattle.bgp_prefix.specs.Ordered.{in_order}
@@ -20,7 +19,7 @@ use Rattle.rib_report.specs.Plain.{OriginRow}
 use Rattle.rib_report.specs.Merges.{merged}
 use Rattle.rib_report.specs.Runs.{pair_cmp, pair_eq}
 use Rattle.rib_report.specs.Reports.{seat_origins, origins_in_order, table_origins, has_several, origins_among, grouped_origins, origin_rows}
-use Rattle.rib_report.proofs.RunLaws.{set_of, set_same, set_run, below_set, map_same, all_of, all_mapped, all_from_index}
+use Rattle.rib_report.proofs.RunLaws.{set_of, set_same, set_run, below_set, map_same, all_mapped, all_from_index, all_weaker, filter_none}
 use Rattle.rib_report.proofs.MergeLaws.{joined_in_order}
 use Rattle.rib_report.proofs.OrderLaws.{any_in_order, in_order_rises, rising, deduped_in_order}
 use Rattle.rib_report.proofs.VisibilityLaws.{own_itself}
@@ -33,24 +32,8 @@ pair_cmp_total = then_total (on_total (λ (e : IpPrefix × ℕ). e.0) prefix_cmp
 pub pair_cmp_exact : (a b : IpPrefix × ℕ) → pair_cmp a b ≡ Equal → a ≡ b
 pair_cmp_exact a b h = exact_pairs prefix_cmp nat_cmp prefix_cmp_exact exact_unsigned a b h
 
-pub tied_then : (r o : Ordering) → is_eq (ordering_then r o) ≡ (is_eq r && is_eq o)
-tied_then Less o = refl
-tied_then Equal o = refl
-tied_then Greater o = refl
-
-not_tied : (b : Bool) → (b ≡ true → ⊥) → false ≡ b
-not_tied true h = absurd (h refl)
-not_tied false h = refl
-
-pub number_tied : (a b : ℕ) → is_eq (nat_cmp a b) ≡ eqb a b
-number_tied a b =
-    elim (ltb a b) as (λ v. ltb a b ≡ v → is_eq (cond v Less (cond (eqb a b) Equal Greater)) ≡ eqb a b) [
-      | true ↦ λ e. let lt : a < b = ltb-true a b e in not_tied (eqb a b) (λ same. let is : a ≡ b = eqb-true a b same in omega (arith, lt, is))
-      | false ↦ λ e. elim (eqb a b) as (λ v. is_eq (cond v Equal Greater) ≡ v) [ true ↦ refl | false ↦ refl ]
-    ] refl
-
 pub pair_tied : (a b : IpPrefix × ℕ) → pair_eq a b ≡ eq_by_cmp pair_cmp a b
-pair_tied a b = sym (tied_then (prefix_cmp a.0 b.0) (nat_cmp a.1 b.1) ∙ ap (λ v. v && is_eq (nat_cmp a.1 b.1)) (prefix_tied a.0 b.0) ∙ ap (λ v. prefix_eq a.0 b.0 && v) (number_tied a.1 b.1))
+pair_tied a b = both_tied (prefix_eq a.0 b.0) (eqb a.1 b.1) (prefix_cmp a.0 b.0) (nat_cmp a.1 b.1) (sym (prefix_tied a.0 b.0)) (unsigned_ties a.1 b.1)
 
 -- ---- lists with the same pairs
 
@@ -84,7 +67,7 @@ module _ (xs ys : List (IpPrefix × ℕ)) (same : (f : IpPrefix × ℕ → Bool)
   -- what stands in two lists alike is grouped alike
   pub grouped_same : grouped_origins xs ≡ grouped_origins ys
   grouped_same =
-      map_same (origins_among xs) (origins_among ys) (in_order prefix_cmp (prefixes xs)) (all_of origins_same (in_order prefix_cmp (prefixes xs)))
+      (λ i. map (λ p. origins_same p i) (in_order prefix_cmp (prefixes xs)))
       ∙ ap (λ es. map (origins_among ys) (map (λ (e : IpPrefix × Unit {0}). e.0) es)) (set_same prefix_cmp_total prefix_cmp_exact (prefixes xs) (prefixes ys)
       (λ q. any_map (eq_by_cmp prefix_cmp q) (λ (e : IpPrefix × ℕ). e.0) xs ∙ same (λ e. eq_by_cmp prefix_cmp q e.0) ∙ sym (any_map (eq_by_cmp prefix_cmp q) (λ (e : IpPrefix × ℕ). e.0) ys)))
 
@@ -104,18 +87,10 @@ keep_own : (p : IpPrefix) (xs : List (IpPrefix × ℕ)) → AllByRecursion (λ e
 keep_own p [] h = refl
 keep_own p (x ∷ xs) h = ap (λ b. cond b (x ∷ filter (own p) xs) (filter (own p) xs)) (ap (prefix_eq p) h.0 ∙ own_itself p) ∙ ap (λ l. x ∷ l) (keep_own p xs h.1)
 
-drop_others : (p : IpPrefix) (xs : List (IpPrefix × ℕ)) → AllByRecursion (λ e. prefix_eq p e.0 ≡ false) xs → filter (own p) xs ≡ []
-drop_others p [] h = refl
-drop_others p (x ∷ xs) h = ap (λ b. cond b (x ∷ filter (own p) xs) (filter (own p) xs)) h.0 ∙ drop_others p xs h.1
-
-all_changed : {X : Type 0} {P Q : X → Type 0} → ((x : X) → P x → Q x) → (xs : List X) → AllByRecursion P xs → AllByRecursion Q xs
-all_changed f [] h = tt
-all_changed f (x ∷ xs) h = (f x h.0, all_changed f xs h.1)
-
 module _ (s : IpPrefix × ℕ) (same rest : List (IpPrefix × ℕ)) (run : AllByRecursion (λ e. e.0 ≡ s.0) same) (above : AllByRecursion (λ e. prefix_cmp s.0 e.0 ≡ Less) rest) where
   first_origins : IsStrictlySortedBy nat_cmp (numbers (s ∷ same)) → origins_among (s ∷ (same ++ rest)) s.0 ≡ row_of s.0 (numbers (s ∷ same))
   first_origins up =
-      let none = drop_others s.0 rest (all_changed (λ e less. sym (prefix_tied s.0 e.0) ∙ ap is_eq less) rest above) in
+      let none = filter_none (own s.0) rest (all_weaker (λ e less. sym (prefix_tied s.0 e.0) ∙ ap is_eq less) rest above) in
       let kept : filter (own s.0) (s ∷ (same ++ rest)) ≡ s ∷ same =
       filter-append (own s.0) (s ∷ same) rest ∙ ap (λ l. filter (own s.0) (s ∷ same) ++ l) none ∙ append-nil (filter (own s.0) (s ∷ same)) ∙ keep_own s.0 (s ∷ same) (refl, run) in
       ap (λ l. row_of s.0 (in_order nat_cmp (numbers l))) kept ∙ ap (row_of s.0) (rising nat_cmp_total exact_unsigned (numbers (s ∷ same)) up)
@@ -123,7 +98,7 @@ module _ (s : IpPrefix × ℕ) (same rest : List (IpPrefix × ℕ)) (run : AllBy
   later_origins : (q : IpPrefix) → prefix_cmp s.0 q ≡ Less → origins_among (s ∷ (same ++ rest)) q ≡ origins_among rest q
   later_origins q less =
       let apart : prefix_eq q s.0 ≡ false = sym (prefix_tied q s.0) ∙ ap is_eq (prefix_cmp_total.antisymm q s.0 ∙ ap ordering_reverse less) in
-      let none : filter (own q) (s ∷ same) ≡ [] = drop_others q (s ∷ same) (apart, all_changed (λ e is. ap (prefix_eq q) is ∙ apart) same run) in
+      let none : filter (own q) (s ∷ same) ≡ [] = filter_none (own q) (s ∷ same) (apart, all_weaker (λ e is. ap (prefix_eq q) is ∙ apart) same run) in
       ap (λ l. row_of q (in_order nat_cmp (numbers l))) (filter-append (own q) (s ∷ same) rest ∙ ap (λ l. l ++ filter (own q) rest) none)
 
   -- the row of the run, and then the rows of the rest
@@ -143,14 +118,10 @@ module _ (s : IpPrefix × ℕ) (same rest : List (IpPrefix × ℕ)) (run : AllBy
 -- ---- the first run of a list in order
 
 all_taken : {X : Type 0} (P : X → Type 0) (n : ℕ) (xs : List X) → AllByRecursion P xs → AllByRecursion P (take n xs)
-all_taken P zero xs h = tt
-all_taken P (suc n) [] h = tt
-all_taken P (suc n) (x ∷ xs) h = (h.0, all_taken P n xs h.1)
+all_taken P n xs h = recursion_from_All P (take n xs) (All-take P n xs (All-from_recursion P xs h))
 
 all_dropped : {X : Type 0} (P : X → Type 0) (n : ℕ) (xs : List X) → AllByRecursion P xs → AllByRecursion P (drop n xs)
-all_dropped P zero xs h = h
-all_dropped P (suc n) [] h = tt
-all_dropped P (suc n) (x ∷ xs) h = all_dropped P n xs h.1
+all_dropped P n xs h = recursion_from_All P (drop n xs) (All-drop P n xs (All-from_recursion P xs h))
 
 sorted_taken : (n : ℕ) (xs : List (IpPrefix × ℕ)) → IsStrictlySortedBy pair_cmp xs → IsStrictlySortedBy pair_cmp (take n xs)
 unfolding IsStrictlySortedBy
@@ -197,7 +168,7 @@ unfolding IsStrictlySortedBy
 rest_above x [] less up other = tt
 rest_above x (y ∷ rest) less up other =
     let first = first_less x y less.0 (other (omega arith)) in
-    (first, all_changed (λ e after. still_less x.0 y e first after) rest up.0)
+    (first, all_weaker (λ e after. still_less x.0 y e first after) rest up.0)
 
 -- n pairs of the first prefix, and then one of another prefix or the end
 pub first_group : (xs : List (IpPrefix × ℕ)) (p : IpPrefix × ℕ) (n : ℕ) → IsStrictlySortedBy pair_cmp xs → 1 ≤ length xs → p ≡ get_or xs 0 p → n ≤ length xs → AllWithin (λ e. e.0 ≡ p.0) xs 0 n
@@ -245,7 +216,7 @@ single_run xs run later p rows all single groups before =
 -- the pairs of two groups of peers, joined, are those of both
 pub merged_origins : (xs ys : List Seat) → length xs + length ys < 2 ^ 64 → merged pair_cmp (λ x _. x) (origins_in_order xs) (origins_in_order ys) ≡ origins_in_order (xs ++ ys)
 merged_origins xs ys few =
-    joined_in_order pair_cmp_total pair_cmp_exact (flat_map seat_origins xs) (flat_map seat_origins ys) (origins_in_order xs) (origins_in_order ys) refl refl
+    joined_in_order pair_cmp_total pair_cmp_exact (flat_map seat_origins xs) (flat_map seat_origins ys)
     ∙ ap (in_order pair_cmp) (sym (flat_map-append seat_origins xs ys))
 
 -- what lists the pairs of all peers has the order that its runs need, and these are the rows of the report

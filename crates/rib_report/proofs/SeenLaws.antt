@@ -1,10 +1,10 @@
 -- The prefixes and origin ASes of routes, each pair once for each table that has such a route.
-use Rattle.std.proofs.Common.{◌≡◌, ℕ, ◌+◌, ◌<◌, ◌^◌, Bool, true, false, cond, ◌&&◌, ◌||◌, List, [], ◌∷◌, ◌++◌, Option, Some, None, refl, sym, ap, ◌∙◌, map, length}
+use Rattle.std.proofs.Common.{◌≡◌, ℕ, ◌+◌, ◌<◌, ◌^◌, Bool, true, false, cond, ◌||◌, List, [], ◌∷◌, ◌++◌, Option, Some, None, refl, sym, ap, ◌∙◌, subst, map, length}
 use Rattle.std.specs.declared.cmp.Ordering.TheVariants.{Less, Equal}
-use Rattle.std.specs.Ordering.{nat_cmp, is_eq, eq_by_cmp, ordering_then, ordering_reverse}
+use Rattle.std.specs.Ordering.{nat_cmp, is_eq, eq_by_cmp, ordering_then}
 use Rattle.std.specs.Option.{option_eq, option_map}
 use Rattle.std.specs.Prelude.{◌==◌}
-use Rattle.std.specs.Cmp.{IsTotalOrder}
+use Rattle.std.specs.Cmp.{IsTotalOrder, unsigned_tied, both_tied}
 use Rattle.std.specs.List.{AllByRecursion, cons_option, dedup, filter, filter_map, flat_map, list_any}
 use Rattle.std.specs.List.Sorted.{IsSorted, IsStrictlySortedBy, IsPermutation}
 use Rattle.std.proofs.lemmas.Cmp.{on_total, then_total, nat_cmp_total, tied_itself}
@@ -23,33 +23,22 @@ use Rattle.rib_report.specs.Merges.{by_key, counted_both, merged}
 use Rattle.rib_report.specs.Reports.{route_origin, origin_pair, seat_origins, origins_of, origin_cmp, prefix_origin_cmp, prefix_origin_eq, prefix_origin, seat_prefix_origins, seen_of, seen_among, seen_rows, origins_seen}
 use Rattle.rib_report.proofs.OrderLaws.{any_in_order, in_order_rises, in_order_same, rising, deduped_in_order}
 use Rattle.rib_report.proofs.CountLaws.{once_counted, merged_counted}
-use Rattle.rib_report.proofs.OriginLaws.{tied_then, number_tied}
 
 -- ---- the order of prefixes and origin ASes
 
-origin_antisymm : (a b : Option ℕ) → origin_cmp a b ≡ ordering_reverse (origin_cmp b a)
-origin_antisymm (Some a) (Some b) = nat_cmp_total.antisymm a b
-origin_antisymm (Some a) None = refl
-origin_antisymm None (Some b) = refl
-origin_antisymm None None = refl
+-- whether it is none, and then the number
+abbrev ranked : Option ℕ → ℕ × ℕ
+ranked (Some a) = (0, a)
+ranked None = (1, 0)
 
-origin_trans : (a b c : Option ℕ) → origin_cmp a b ≡ Less → origin_cmp b c ≡ Less → origin_cmp a c ≡ Less
-origin_trans (Some a) (Some b) (Some c) p q = nat_cmp_total.trans a b c p q
-origin_trans (Some a) (Some b) None p q = refl
-origin_trans (Some a) None None p q = refl
-origin_trans (Some a) None (Some c) p q = cc
-origin_trans None (Some b) c p q = cc
-origin_trans None None c p q = cc
-
-origin_congr : (a b c : Option ℕ) → origin_cmp a b ≡ Equal → origin_cmp a c ≡ origin_cmp b c
-origin_congr (Some a) (Some b) (Some c) e = nat_cmp_total.congr a b c e
-origin_congr (Some a) (Some b) None e = refl
-origin_congr (Some a) None c e = cc
-origin_congr None (Some b) c e = cc
-origin_congr None None c e = refl
+is_ranked : (a b : Option ℕ) → ordering_then (nat_cmp (ranked a).0 (ranked b).0) (nat_cmp (ranked a).1 (ranked b).1) ≡ origin_cmp a b
+is_ranked (Some a) (Some b) = refl
+is_ranked (Some a) None = refl
+is_ranked None (Some b) = refl
+is_ranked None None = refl
 
 origin_cmp_total : IsTotalOrder origin_cmp
-origin_cmp_total = record { antisymm = origin_antisymm; trans = origin_trans; congr = origin_congr }
+origin_cmp_total = subst IsTotalOrder (λ i a b. is_ranked a b i) (then_total (on_total (λ (a : Option ℕ). (ranked a).0) nat_cmp_total) (on_total (λ (a : Option ℕ). (ranked a).1) nat_cmp_total))
 
 origin_exact : (a b : Option ℕ) → origin_cmp a b ≡ Equal → a ≡ b
 origin_exact (Some a) (Some b) e = ap Some (exact_unsigned a b e)
@@ -58,7 +47,7 @@ origin_exact None (Some b) e = cc
 origin_exact None None e = refl
 
 origin_tied : (a b : Option ℕ) → is_eq (origin_cmp a b) ≡ option_eq (λ m n. m == n) a b
-origin_tied (Some a) (Some b) = number_tied a b
+origin_tied (Some a) (Some b) = unsigned_tied a b
 origin_tied (Some a) None = refl
 origin_tied None (Some b) = refl
 origin_tied None None = refl
@@ -70,9 +59,7 @@ pub prefix_origin_exact : (a b : IpPrefix × Option ℕ) → prefix_origin_cmp a
 prefix_origin_exact a b h = exact_pairs prefix_cmp origin_cmp prefix_cmp_exact origin_exact a b h
 
 pub prefix_origin_tied : (a b : IpPrefix × Option ℕ) → eq_by_cmp prefix_origin_cmp a b ≡ prefix_origin_eq a b
-prefix_origin_tied a b =
-    tied_then (prefix_cmp a.0 b.0) (origin_cmp a.1 b.1) ∙ ap (λ v. v && is_eq (origin_cmp a.1 b.1)) (prefix_tied a.0 b.0)
-    ∙ ap (λ v. prefix_eq a.0 b.0 && v) (origin_tied a.1 b.1)
+prefix_origin_tied a b = sym (both_tied (prefix_eq a.0 b.0) (option_eq (λ m n. m == n) a.1 b.1) (prefix_cmp a.0 b.0) (origin_cmp a.1 b.1) (sym (prefix_tied a.0 b.0)) (sym (origin_tied a.1 b.1)))
 
 -- ---- at how many peers they are seen
 

@@ -38,16 +38,6 @@ pieces_of_share is_in g p own (seat ∷ seats) =
     ∙ ap (λ l. l ++ filter p (flat_map g seats)) (sym (own seat))
     ∙ sym (filter-append p (g seat) (flat_map g seats))
 
--- a row for each seat
-pub rows_of_share : {Y : Type 0} (is_in : PeerKey → Bool) (f : Seat → Y) (p : Y → Bool) → ((seat : Seat) → p (f seat) ≡ is_in seat.key)
-    → (seats : List Seat) → map f (filter (λ seat. is_in seat.key) seats) ≡ filter p (map f seats)
-rows_of_share is_in f p own [] = refl
-rows_of_share is_in f p own (seat ∷ seats) =
-    let later : List Seat = filter (λ s. is_in s.key) seats in
-    elim (is_in seat.key) as (λ b. map f (cond b (seat ∷ later) later) ≡ cond b (f seat ∷ map f later) (map f later)) [ true ↦ refl | false ↦ refl ]
-    ∙ ap (λ l. cond (is_in seat.key) (f seat ∷ l) l) (rows_of_share is_in f p own seats)
-    ∙ ap (λ c. cond c (f seat ∷ filter p (map f seats)) (filter p (map f seats))) (sym (own seat))
-
 -- ---- faults
 
 abbrev one_if : (Damage → Bool) → Damage → ℕ

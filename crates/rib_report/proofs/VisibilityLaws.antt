@@ -1,5 +1,6 @@
 -- The prefixes of tables, each once for each table that has it.
 use Rattle.std.proofs.Common.{◌≡◌, ℕ, ◌+◌, ◌<◌, ◌^◌, Bool, true, false, cond, ◌||◌, List, [], ◌∷◌, ◌++◌, Some, None, refl, sym, ap, ◌∙◌, subst, map, length, T}
+use Rattle.std.specs.Bool.{passes}
 use Rattle.std.specs.declared.cmp.Ordering.{Ordering}
 use Rattle.std.specs.declared.cmp.Ordering.TheVariants.{Less, Equal, Greater}
 use Rattle.std.specs.Ordering.{eq_by_cmp, is_eq, is_lt, ordering_then, ordering_reverse, nat_cmp}
@@ -18,17 +19,14 @@ use Rattle.peer_tables.proofs.RowLaws.{map_twice}
 use Rattle.rib_report.specs.Merges.{by_key, counted_both, merged}
 use Rattle.rib_report.specs.Reports.{HasOrder, seat_prefixes, visibility_of, visible_among, visibility_rows}
 use Rattle.rib_report.specs.Runs.{new_after, without_repeats}
-use Rattle.rib_report.proofs.MergeLaws.{both_of, first_of, second_of, lower_of, below_less}
+use Rattle.rib_report.proofs.MergeLaws.{both_of, first_of, second_of, below_both, is_less}
 use Rattle.rib_report.proofs.StableSort.{Ascends}
 use Rattle.rib_report.proofs.RunLaws.{above_first}
-use Rattle.rib_report.proofs.OrderLaws.{is_less, twice}
+use Rattle.rib_report.proofs.OrderLaws.{twice}
 use Rattle.rib_report.proofs.CountLaws.{one_counted, merged_counted}
 
 pub own_itself : (p : IpPrefix) → prefix_eq p p ≡ true
 own_itself p = sym (prefix_tied p p) ∙ ap is_eq (tied_itself prefix_cmp_total p)
-
-test_of : (b : Bool) → b ≡ true → T b
-test_of b e = subst T (sym e) tt
 
 -- ---- the prefixes of a table in order don't fall
 
@@ -71,9 +69,6 @@ any_without_repeats f (p ∷ ps) = any_new f p ps
 abbrev once : IpPrefix → IpPrefix × ℕ
 once p = (p, 1)
 
-below_later : (x y : IpPrefix) (es : List (IpPrefix × ℕ)) → prefix_cmp x y ≡ Less → T (below_all prefix_cmp y es) → T (below_all prefix_cmp x ((y, 1) ∷ es))
-below_later x y es less h = both_of _ (below_all prefix_cmp x es) (lower_of prefix_cmp_total x y less) (below_less prefix_cmp_total x y es less h)
-
 -- what is new after a prefix in an ascending list rises, above that prefix
 new_rises : (l : IpPrefix) (ps : List IpPrefix) → Ascends lower (l ∷ ps) → T (below_all prefix_cmp l (map once (new_after (Some l) ps))) × T (is_sorted prefix_cmp (map once (new_after (Some l) ps)))
 new_rises l [] h = (tt, tt)
@@ -84,7 +79,7 @@ new_rises l (p ∷ ps) h =
       | true ↦ λ same. (subst (λ k. T (below_all prefix_cmp k kept)) (same_prefix p l same) later.0, later.1)
       | false ↦ λ other.
           let less : prefix_cmp l p ≡ Less = above_first prefix_cmp_total prefix_cmp_exact l p h.0.0 (λ e. false≢true (sym other ∙ ap (λ k. prefix_eq k l) e ∙ own_itself l)) in
-          (below_later l p kept less later.0, both_of _ (is_sorted prefix_cmp kept) later.0 later.1)
+          (below_both prefix_cmp_total l p kept 1 less later.0, both_of _ (is_sorted prefix_cmp kept) later.0 later.1)
     ] refl
 
 once_rises : (ps : List IpPrefix) → Ascends lower ps → T (is_sorted prefix_cmp (map once (without_repeats ps)))
@@ -102,7 +97,7 @@ pub visible_at_one : (s : Seat) → HasOrder s → map (λ p. (p, 1)) (without_r
 visible_at_one s ordered =
     let ps = seat_prefixes s in
     one_counted prefix_cmp_total prefix_cmp_exact prefix_eq prefix_tied seat_prefixes (map once (without_repeats ps)) s
-    (once_rises ps (ascending_prefixes s.session.table (test_of _ ordered)))
+    (once_rises ps (ascending_prefixes s.session.table (passes _ ordered)))
     (λ q. find_once q (without_repeats ps) ∙ ap (λ b. cond b (Some 1) None) (any_without_repeats (eq_by_cmp prefix_cmp q) ps))
 
 -- the prefixes of two groups of peers are those of both

@@ -1,8 +1,8 @@
 -- The lines of what happened.
 use Rattle.std.specs.Prelude.{ℕ, List, [], ◌∷◌, Option, Some, None, codes, decimal}
 use Rattle.bgp_update.specs.declared.route.Route.{Route}
-use Rattle.adj_rib.specs.declared.note.What.{What}
-use Rattle.adj_rib.specs.declared.note.What.TheVariants.{New, Changed, Same, Gone, Void, Lost}
+use Rattle.adj_rib.specs.declared.outcome.What.{What}
+use Rattle.adj_rib.specs.declared.outcome.What.TheVariants.{New, Changed, Same, Gone, Void, Lost}
 use Rattle.peer_tables.specs.declared.history.By.{By}
 use Rattle.peer_tables.specs.declared.history.By.TheVariants.{Rib, Update, State}
 use Rattle.peer_tables.specs.Histories.{RowState}

@@ -8,7 +8,6 @@ pub mod Rows
 pub mod Reports
 pub mod Listings
 pub mod LineBlocks
-pub mod NullSink
 pub mod Lines
 pub mod LineParts
 pub mod UnitReports

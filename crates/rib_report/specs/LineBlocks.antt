@@ -29,4 +29,4 @@ pub record IsFilled (peer : ShownPeer) (entries : List (RouteKey × Route)) (p :
   pub from : p.start ≤ p.done
   pub to : p.done ≤ p.end
   pub within : p.end ≤ length entries
-  pub text : p.text ≡ record { waiting = lines_between peer p.start p.done entries; failed = false }
+  pub text : p.text.buffer ≡ record { waiting = lines_between peer p.start p.done entries; failed = false }

@@ -1,25 +1,25 @@
-//! Text on its way to a writer, through a fixed buffer.
+//! The buffer by way of which text is made, and what is added to it.
 
-ghost use Rattle.std.specs.Prelude.{◌≡◌, ℕ, ◌+◌, ◌-◌, ◌*◌, ◌<◌, ◌≤◌, [], ◌∷◌, ◌++◌, List, Option, OnOk, OnErr, length};
+ghost use Rattle.std.specs.Prelude.{◌≡◌, ◌+◌, ◌-◌, ◌*◌, ◌<◌, ◌≤◌, [], ◌∷◌, ◌++◌, true, length};
 ghost use Rattle.std.specs.List.{between};
 ghost use Rattle.rib_report.specs.Fields.{numbers_text};
 ghost use Rattle.rib_report.specs.LineParts.{line_beginning, line_end};
-ghost use Rattle.rib_report.specs.Texts.{BufferState, empty_buffer, text_state, IsText, IsWritten, IsCutOff, Writes};
+ghost use Rattle.rib_report.specs.Texts.{empty_buffer, Adds};
 
-use crate::field::{Byte, Field, PeerText};
+use crate::field::{Field, PeerText};
 use crate::forms::{AddressFormsOf, ShownPeerOf};
 use crate::numbers::format_numbers;
 use crate::route_line::{END_BYTES, beginning_bytes, format_beginning, format_end};
+use crate::text::Text;
 use bgp_prefix::{Prefix, RouteKey};
 use bgp_update::{PackedSegment, RouteRef, Unicast};
 use ip_text::{DecimalTable, WrittenAddress};
-use mrt_frame::{Failed, Sink, write_full};
 use std::marker::Model;
 
 /// The maximum number of pending bytes.
-const CAPACITY: usize = 65536;
+pub(crate) const CAPACITY: usize = 65536;
 
-/// Text pending for a writer. After a failed write the rest is dropped.
+/// Pending bytes, and whether those before them were lost.
 #[derive(Drop)]
 pub(crate) struct TextBuffer {
     bytes: [u8; CAPACITY],
@@ -52,12 +52,20 @@ impl TextBuffer {
         }
     }
 
-    /// Drops the pending bytes, and forgets that a write failed.
+    /// Drops the pending bytes, and forgets that any were lost.
     pub(crate) fn clear(&mut self)
         ensures { self.new ≡ empty_buffer }
     {
         self.len = 0;
         self.failed = false;
+    }
+
+    /// Drops the pending bytes: they are lost.
+    pub(crate) fn fail(&mut self)
+        ensures { self.new ≡ record { waiting = []; failed = true } }
+    {
+        self.len = 0;
+        self.failed = true;
     }
 
     /// The pending bytes.
@@ -75,7 +83,7 @@ impl TextBuffer {
         CAPACITY - self.len
     }
 
-    /// Whether a write failed.
+    /// Whether bytes were lost.
     #[inline]
     pub(crate) fn has_failed(&self) -> bool
         ensures { result ≡ self.now.failed }
@@ -83,133 +91,8 @@ impl TextBuffer {
         self.failed
     }
 
-    /// Passes on all pending bytes.
-    #[tactic(auto, using(crate::proofs::TextLaws::Adds_dropped, crate::proofs::TextLaws::Adds_handed, crate::proofs::TextLaws::Adds_lost))]
-    fn hand_on<W: Sink>(&mut self, out: &mut W)
-        ensures writes { Writes W.contents W.failure_count out.old self.old out.new self.new [] }
-        ensures empty { self.new.waiting ≡ [] }
-    {
-        let len = self.len;
-        self.len = 0;
-        if self.failed {
-            return;
-        }
-        match write_full(out, &self.bytes[..len]) {
-            Ok(()) => {}
-            Err(Failed) => self.failed = true,
-        }
-    }
-
-    /// Passes on all pending bytes, and then these.
-    pub(crate) fn pass_on<W: Sink>(&mut self, out: &mut W, bytes: &[u8])
-        ensures { Writes W.contents W.failure_count out.old self.old out.new self.new bytes.now }
-    {
-        self.hand_on(out);
-        if self.failed {
-            return;
-        }
-        match write_full(out, bytes) {
-            Ok(()) => {}
-            Err(Failed) => self.failed = true,
-        }
-    }
-
-    /// Makes room for some bytes.
-    #[inline]
-    pub(crate) fn make_room<W: Sink>(&mut self, out: &mut W, count: usize)
-        requires { count ≤ 65536 }
-        ensures writes { Writes W.contents W.failure_count out.old self.old out.new self.new [] }
-        ensures room { length self.new.waiting + count ≤ 65536 }
-    {
-        if count > self.room() {
-            self.hand_on(out);
-        }
-    }
-
-    /// Adds the text of a field.
-    pub(crate) fn put<W: Sink, T: Field>(&mut self, out: &mut W, field: T)
-        requires { T.longest < 65536 }
-        ensures { Writes W.contents W.failure_count out.old self.old out.new self.new (T.text_of field) }
-    {
-        self.make_room(out, T::longest() + 1);
-        self.len = field.format(&mut self.bytes, self.len, &self.shorts);
-    }
-
-    /// Makes a peer's text, which `put_peer_and_key` then adds to many lines.
-    pub(crate) fn peer_text<F: Unicast>(&self, peer: &ShownPeerOf<F>) -> PeerText<F>
-        ensures { result ≡ peer.now }
-    {
-        PeerText::new(peer, &self.shorts)
-    }
-
-    /// Adds what a line begins with: a peer, a bar and a key.
-    #[inline(always)]
-    pub(crate) fn put_peer_and_key<W: Sink, F: WrittenAddress>(
-        &mut self,
-        out: &mut W,
-        peer: &PeerText<F>,
-        key: &RouteKey<Prefix<F>>,
-    )
-        ensures { Writes W.contents W.failure_count out.old self.old out.new self.new
-            (line_beginning peer.now key.now) }
-    {
-        self.make_room(out, beginning_bytes::<F>());
-        self.len = format_beginning(&mut self.bytes, self.len, &self.shorts, peer, key);
-    }
-
-    /// Adds what a line has after the path of its route.
-    #[inline(always)]
-    pub(crate) fn put_attributes<W: Sink, F: Unicast>(
-        &mut self,
-        out: &mut W,
-        forms: AddressFormsOf<F>,
-        route: &RouteRef<'_>,
-    )
-        ensures { Writes W.contents W.failure_count out.old self.old out.new self.new (line_end forms route.now) }
-    {
-        self.make_room(out, END_BYTES);
-        self.len = format_end(&mut self.bytes, self.len, &self.shorts, forms, route);
-    }
-
-    /// Appends `segment[from..to]` in decimal, `before` in front of the first number and `separator` in front of each
-    /// other. They are at most 255, so that one check for room covers them.
-    #[inline(always)]
-    pub(crate) fn put_some_numbers<W: Sink>(
-        &mut self,
-        out: &mut W,
-        before: u8,
-        separator: u8,
-        segment: &PackedSegment<'_>,
-        from: usize,
-        to: usize,
-    )
-        requires { (from < to) × (to ≤ from + 255) × (to ≤ length segment.now.numbers) }
-        ensures { Writes W.contents W.failure_count out.old self.old out.new self.new
-            (before ∷ numbers_text separator (between from to segment.now.numbers)) }
-    {
-        self.make_room(out, 13 * (to - from) + 1);
-        self.len = format_numbers(
-            &mut self.bytes,
-            self.len,
-            &self.shorts,
-            before,
-            separator,
-            segment,
-            from,
-            to,
-        );
-    }
-
-    /// Adds a byte.
-    #[inline]
-    pub(crate) fn put_byte<W: Sink>(&mut self, out: &mut W, byte: u8)
-        ensures { Writes W.contents W.failure_count out.old self.old out.new self.new (byte ∷ []) }
-    {
-        self.put(out, Byte(byte));
-    }
-
     /// Copies the bytes after the pending ones.
-    fn append(&mut self, bytes: &[u8])
+    pub(crate) fn append(&mut self, bytes: &[u8])
         requires { length self.old.waiting + length bytes.now ≤ 65536 }
         ensures { self.new ≡ record { waiting = self.old.waiting ++ bytes.now; failed = self.old.failed } }
     {
@@ -218,29 +101,77 @@ impl TextBuffer {
         self.len = end;
     }
 
-    /// Adds a short text.
-    #[tactic(auto, using(crate::proofs::TextLaws::Adds_trans, crate::proofs::TextLaws::Adds_grown))]
-    pub(crate) fn put_text<W: Sink>(&mut self, out: &mut W, bytes: &[u8])
-        requires { length bytes.now ≤ 65536 }
-        ensures { Writes W.contents W.failure_count out.old self.old out.new self.new bytes.now }
+    /// Makes a peer's text, which `put_peer_and_key` then adds to many lines.
+    pub(crate) fn peer_text<F: Unicast>(&self, peer: &ShownPeerOf<F>) -> PeerText<F>
+        ensures { result ≡ peer.now }
     {
-        self.make_room(out, bytes.len());
-        self.append(bytes);
+        PeerText::new(peer, &self.shorts)
     }
+}
 
-    /// Passes on all pending bytes, and reports whether a write failed.
-    pub(crate) fn finish<W: Sink>(&mut self, out: &mut W) -> Result<(), Failed>
-        ensures ok { (contents : Option (List ℕ)) (failures : ℕ) (text : List ℕ) →
-            IsText contents failures (text_state W.contents W.failure_count out.old self.old) text →
-            OnOk result (IsWritten contents failures (W.contents out.new) (W.failure_count out.new) text) }
-        ensures err { (contents : Option (List ℕ)) (failures : ℕ) (text : List ℕ) →
-            IsText contents failures (text_state W.contents W.failure_count out.old self.old) text →
-            OnErr result (IsCutOff contents failures (W.contents out.new) (W.failure_count out.new) text) }
-    {
-        self.hand_on(out);
-        if self.failed {
-            return Err(Failed);
-        }
-        Ok(())
-    }
+/// Adds the text of a field.
+pub(crate) fn put<T: Text, A: Field>(text: &mut T, field: A)
+    requires { A.longest < 65536 }
+    ensures { Adds (T.state text.old) (T.state text.new) (A.text_of field) }
+{
+    text.make_room(A::longest() + 1);
+    let buffer = text.buffer_mut();
+    buffer.len = field.format(&mut buffer.bytes, buffer.len, &buffer.shorts);
+}
+
+/// Adds what a line begins with: a peer, a bar and a key.
+#[inline(always)]
+pub(crate) fn put_peer_and_key<T: Text, F: WrittenAddress>(
+    text: &mut T,
+    peer: &PeerText<F>,
+    key: &RouteKey<Prefix<F>>,
+)
+    ensures { Adds (T.state text.old) (T.state text.new) (line_beginning peer.now key.now) }
+{
+    text.make_room(beginning_bytes::<F>());
+    let buffer = text.buffer_mut();
+    buffer.len = format_beginning(&mut buffer.bytes, buffer.len, &buffer.shorts, peer, key);
+}
+
+/// Adds what a line has after the path of its route.
+#[inline(always)]
+pub(crate) fn put_attributes<T: Text, F: Unicast>(
+    text: &mut T,
+    forms: AddressFormsOf<F>,
+    route: &RouteRef<'_>,
+)
+    ensures { Adds (T.state text.old) (T.state text.new) (line_end forms route.now) }
+{
+    text.make_room(END_BYTES);
+    let buffer = text.buffer_mut();
+    buffer.len = format_end(&mut buffer.bytes, buffer.len, &buffer.shorts, forms, route);
+}
+
+/// Adds `segment[from..to]` in decimal, `before` in front of the first number and `separator` in front of each other.
+/// They are at most 255, so that one check for room covers them.
+#[inline(always)]
+pub(crate) fn put_some_numbers<T: Text>(
+    text: &mut T,
+    before: u8,
+    separator: u8,
+    segment: &PackedSegment<'_>,
+    from: usize,
+    to: usize,
+)
+    requires { (from < to) × (to ≤ from + 255) × (to ≤ length segment.now.numbers) }
+    ensures { Adds (T.state text.old) (T.state text.new)
+        (before ∷ numbers_text separator (between from to segment.now.numbers)) }
+{
+    text.make_room(13 * (to - from) + 1);
+    let buffer = text.buffer_mut();
+    buffer.len = format_numbers(
+        &mut buffer.bytes,
+        buffer.len,
+        &buffer.shorts,
+        before,
+        separator,
+        segment,
+        from,
+        to,
+    );
 }

@@ -179,20 +179,14 @@ impl Field for Microseconds {
 pub(crate) fn time_field(time: Option<u64>) -> Option<Microseconds>
     ensures { field (λ t. time_text t.0) result ≡ field time_text time }
 {
-    match time {
-        Some(time) => Some(Microseconds(time)),
-        None => None,
-    }
+    time.map(Microseconds)
 }
 
 /// Returns the number of an entry as a field.
 pub(crate) fn entry_field(entry: Option<u16>) -> Option<u32>
     ensures { result ≡ entry }
 {
-    match entry {
-        Some(number) => Some(number as u32),
-        None => None,
-    }
+    entry.map(u32::from)
 }
 
 // ---- peers and keys

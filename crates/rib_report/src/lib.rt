@@ -13,9 +13,8 @@
 //! - The lines of a table of 16,384 entries and more are made by several threads (`reports/tables/parallel.rt`) in
 //!   buffers that are allocated before the first byte is written. The calling thread starts them all itself, since each
 //!   level of halves would add two wake-ups to a round, and writes the filled buffers in order: only it has the writer.
-//!   A thread stops before a line for which there may be no room; the calling thread makes those that are left. To a
-//!   thread, its buffer is text on its way to a writer that takes nothing (`null_sink.rt`), so all lines are made by
-//!   the same code.
+//!   A thread stops before a line for which there may be no room; the calling thread makes those that are left. Lines
+//!   are added to a `Text` (`text.rt`), whether it is on its way to a writer or made ahead of its turn.
 //! - A line is made of fields (`field.rt`), values whose text has a limited length. A pair of fields is a field, with a
 //!   bar between the two, and so is an `Option`; so consecutive fields are one value, placed after one check for room.
 //!   A column is one more element of that value, and one more in the definition of the line. Each call is given the
@@ -39,11 +38,11 @@ mod forms;
 mod laws;
 mod line;
 mod merge;
-mod null_sink;
 mod numbers;
 mod reports;
 mod request;
 mod route_line;
+mod text;
 mod write;
 
 pub use forms::{AddressForms, AddressFormsOf};
@@ -64,11 +63,9 @@ pub use reports::churn::{ChurnRow, churn, watched_churn, write_churn};
 pub use reports::faults::{faults, write_faults};
 pub use reports::history::write_history;
 pub use reports::matches::matches;
-pub use reports::origins::{OriginRow, origins, origins_with_threads, write_origins};
+pub use reports::origins::{OriginRow, origins, write_origins};
 pub use reports::peers::{PeerRow, peers, write_peers};
-pub use reports::seen::{SeenRow, seen, seen_with_threads, write_seen};
+pub use reports::seen::{SeenRow, seen, write_seen};
 pub use reports::tables::{TableRow, list_tables, table_rows, write_rows};
-pub use reports::visibility::{
-    VisibilityRow, visibility, visibility_with_threads, write_visibility,
-};
+pub use reports::visibility::{VisibilityRow, visibility, write_visibility};
 pub use request::{Layout, LayoutOf, Request};

@@ -2,13 +2,12 @@
 
 ghost use Rattle.std.specs.Prelude.{◌≡◌, ℕ, ◌+◌, ◌<◌, List, length};
 ghost use Rattle.std.specs.List.{between, flat_map};
-ghost use Rattle.rib_report.specs.Texts.{Writes};
+ghost use Rattle.rib_report.specs.Texts.{Adds};
 ghost use Rattle.rib_report.specs.Plain.{AddressForms as Forms};
 
-use crate::buffer::TextBuffer;
 use crate::forms::AddressFormsOf;
+use crate::text::Text;
 use bgp_update::Unicast;
-use mrt_frame::Sink;
 
 /// The content of one line of a report on routes of a family.
 pub(crate) trait Line<F: Unicast> {
@@ -22,8 +21,8 @@ pub(crate) trait Line<F: Unicast> {
     }
 
     /// Adds the line.
-    fn put<W: Sink>(&self, text: &mut TextBuffer, out: &mut W, forms: &AddressFormsOf<F>)
-        ensures { Writes W.contents W.failure_count out.old text.old out.new text.new (line forms.now self.now) };
+    fn put<T: Text>(&self, text: &mut T, forms: &AddressFormsOf<F>)
+        ensures { Adds (T.state text.old) (T.state text.new) (line forms.now self.now) };
 }
 
 /// Rows of a report, in order, which are reached by their numbers.
@@ -44,9 +43,9 @@ pub(crate) trait RowList<F: Unicast>: Copy {
         requires { at < length (rows self) };
 
     /// Adds the line of a row.
-    fn put<W: Sink>(self, at: usize, text: &mut TextBuffer, out: &mut W, forms: &AddressFormsOf<F>)
+    fn put<T: Text>(self, at: usize, text: &mut T, forms: &AddressFormsOf<F>)
         requires { at < length (rows self) }
-        ensures { Writes W.contents W.failure_count out.old text.old out.new text.new
+        ensures { Adds (T.state text.old) (T.state text.new)
             (flat_map (line_of forms.now) (between at (at + 1) (rows self))) };
 }
 
@@ -66,13 +65,7 @@ impl<F: Unicast, R: Line<F>> RowList<F> for &[R] {
     }
 
     #[tactic(auto, using(crate::proofs::JoinLaws::Adds_one))]
-    fn put<W: Sink>(
-        self,
-        at: usize,
-        text: &mut TextBuffer,
-        out: &mut W,
-        forms: &AddressFormsOf<F>,
-    ) {
-        self[at].put(text, out, forms);
+    fn put<T: Text>(self, at: usize, text: &mut T, forms: &AddressFormsOf<F>) {
+        self[at].put(text, forms);
     }
 }

@@ -2,15 +2,15 @@
 
 ghost use Rattle.std.specs.Prelude.{◌+◌, ◌-◌, ◌*◌, ◌<◌, ◌≤◌, ◌∷◌, decimal, length};
 ghost use Rattle.std.specs.List.{between};
-ghost use Rattle.rib_report.specs.Texts.{Writes};
+ghost use Rattle.rib_report.specs.Texts.{Adds};
 ghost use Rattle.ip_text.specs.Formats.{Formats};
 ghost use Rattle.rib_report.specs.Fields.{numbers_text};
 
-use crate::buffer::TextBuffer;
+use crate::buffer::{put, put_some_numbers};
 use crate::field::{Byte, Field, Joined};
+use crate::text::Text;
 use bgp_update::PackedSegment;
 use ip_text::DecimalTable;
-use mrt_frame::Sink;
 
 /// How many numbers get room at once. A segment of a packed route has no more.
 const NUMBERS_AT_ONCE: usize = 255;
@@ -39,43 +39,38 @@ pub(crate) fn format_numbers(
     end
 }
 
-impl TextBuffer {
-    /// Adds numbers in decimal, separated by a byte.
-    pub(crate) fn put_numbers<W: Sink>(&mut self, out: &mut W, separator: u8, numbers: &[u32])
-        ensures { Writes W.contents W.failure_count out.old self.old out.new self.new
-            (numbers_text separator numbers.now) }
-    {
-        let [first, rest @ ..] = numbers else {
-            return;
-        };
-        self.put(out, *first);
-        for number in rest {
-            self.put(out, Joined(Byte(separator), *number));
-        }
+/// Adds numbers in decimal, separated by a byte.
+pub(crate) fn put_numbers<T: Text>(text: &mut T, separator: u8, numbers: &[u32])
+    ensures { Adds (T.state text.old) (T.state text.new) (numbers_text separator numbers.now) }
+{
+    let [first, rest @ ..] = numbers else {
+        return;
+    };
+    put(text, *first);
+    for number in rest {
+        put(text, Joined(Byte(separator), *number));
     }
+}
 
-    /// Adds a byte and the numbers of a segment in decimal, separated by another byte.
-    #[inline(always)]
-    pub(crate) fn put_segment_numbers<W: Sink>(
-        &mut self,
-        out: &mut W,
-        before: u8,
-        separator: u8,
-        segment: &PackedSegment<'_>,
-    )
-        ensures { Writes W.contents W.failure_count out.old self.old out.new self.new
-            (before ∷ numbers_text separator segment.now.numbers) }
-    {
-        let count = segment.len();
-        if count == 0 {
-            return self.put_byte(out, before);
-        }
-        let mut done = count.min(NUMBERS_AT_ONCE);
-        self.put_some_numbers(out, before, separator, segment, 0, done);
-        while done < count {
-            let next = count.min(done.saturating_add(NUMBERS_AT_ONCE));
-            self.put_some_numbers(out, separator, separator, segment, done, next);
-            done = next;
-        }
+/// Adds a byte and the numbers of a segment in decimal, separated by another byte.
+#[inline(always)]
+pub(crate) fn put_segment_numbers<T: Text>(
+    text: &mut T,
+    before: u8,
+    separator: u8,
+    segment: &PackedSegment<'_>,
+)
+    ensures { Adds (T.state text.old) (T.state text.new) (before ∷ numbers_text separator segment.now.numbers) }
+{
+    let count = segment.len();
+    if count == 0 {
+        return put(text, Byte(before));
+    }
+    let mut done = count.min(NUMBERS_AT_ONCE);
+    put_some_numbers(text, before, separator, segment, 0, done);
+    while done < count {
+        let next = count.min(done.saturating_add(NUMBERS_AT_ONCE));
+        put_some_numbers(text, separator, separator, segment, done, next);
+        done = next;
     }
 }

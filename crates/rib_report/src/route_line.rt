@@ -1,19 +1,20 @@
 //! The line of a route.
 
 ghost use Rattle.std.specs.Prelude.{◌≡◌, ◌≤◌, ◌+◌, ◌<◌, [], ◌∷◌, ◌++◌, length};
-ghost use Rattle.rib_report.specs.Texts.{Writes};
+ghost use Rattle.rib_report.specs.Texts.{Adds};
 ghost use Rattle.ip_text.specs.Formats.{Formats};
 ghost use Rattle.rib_report.specs.Fields.{field, numbers_text};
 ghost use Rattle.rib_report.specs.Lines.{kind_text, path_text, route_line};
 ghost use Rattle.rib_report.specs.LineParts.{line_beginning, line_end};
 
-use crate::buffer::TextBuffer;
-use crate::field::{Atomic, Field, PeerText, ShownKey, format_next_hop};
+use crate::buffer::{put, put_attributes, put_peer_and_key};
+use crate::field::{Atomic, Byte, Field, PeerText, ShownKey, format_next_hop};
 use crate::forms::AddressFormsOf;
+use crate::numbers::put_segment_numbers;
+use crate::text::Text;
 use bgp_prefix::{Prefix, RouteKey};
 use bgp_update::{PackedSegment, PackedSegments, RouteRef, SegmentKind, Unicast};
 use ip_text::{DecimalTable, WrittenAddress, format_byte};
-use mrt_frame::Sink;
 
 /// Returns the most bytes of what a line begins with, and one more.
 #[inline(always)]
@@ -78,99 +79,93 @@ pub(crate) fn format_end<F: Unicast>(
 
 /// Adds a byte and a segment that is no sequence.
 #[inline(never)]
-fn put_enclosed<W: Sink>(
-    text: &mut TextBuffer,
-    out: &mut W,
+fn put_enclosed<T: Text>(
+    text: &mut T,
     before: u8,
     opening: u8,
     separator: u8,
     segment: &PackedSegment<'_>,
     closing: u8,
 )
-    ensures { Writes W.contents W.failure_count out.old text.old out.new text.new
+    ensures { Adds (T.state text.old) (T.state text.new)
         (before ∷ opening ∷ numbers_text separator segment.now.numbers ++ closing ∷ []) }
 {
-    text.put_byte(out, before);
-    text.put_segment_numbers(out, opening, separator, segment);
-    text.put_byte(out, closing);
+    put(text, Byte(before));
+    put_segment_numbers(text, opening, separator, segment);
+    put(text, Byte(closing));
 }
 
 /// Adds a byte and a segment.
 #[inline(always)]
-fn put_segment<W: Sink>(text: &mut TextBuffer, out: &mut W, before: u8, segment: &PackedSegment<'_>)
-    ensures { Writes W.contents W.failure_count out.old text.old out.new text.new
-        (before ∷ kind_text segment.now.kind segment.now.numbers) }
+fn put_segment<T: Text>(text: &mut T, before: u8, segment: &PackedSegment<'_>)
+    ensures { Adds (T.state text.old) (T.state text.new) (before ∷ kind_text segment.now.kind segment.now.numbers) }
 {
     match segment.kind() {
-        SegmentKind::AsSequence => text.put_segment_numbers(out, before, b' ', segment),
-        SegmentKind::AsSet => put_enclosed(text, out, before, b'{', b',', segment, b'}'),
-        SegmentKind::ConfedSequence => put_enclosed(text, out, before, b'(', b' ', segment, b')'),
-        SegmentKind::ConfedSet => put_enclosed(text, out, before, b'[', b',', segment, b']'),
+        SegmentKind::AsSequence => put_segment_numbers(text, before, b' ', segment),
+        SegmentKind::AsSet => put_enclosed(text, before, b'{', b',', segment, b'}'),
+        SegmentKind::ConfedSequence => put_enclosed(text, before, b'(', b' ', segment, b')'),
+        SegmentKind::ConfedSet => put_enclosed(text, before, b'[', b',', segment, b']'),
     }
 }
 
 /// Adds a space and a segment.
 #[inline(never)]
-fn put_later_segment<W: Sink>(text: &mut TextBuffer, out: &mut W, segment: &PackedSegment<'_>)
-    ensures { Writes W.contents W.failure_count out.old text.old out.new text.new
-        (32 ∷ kind_text segment.now.kind segment.now.numbers) }
+fn put_later_segment<T: Text>(text: &mut T, segment: &PackedSegment<'_>)
+    ensures { Adds (T.state text.old) (T.state text.new) (32 ∷ kind_text segment.now.kind segment.now.numbers) }
 {
-    put_segment(text, out, b' ', segment);
+    put_segment(text, b' ', segment);
 }
 
 /// Adds a bar and the segments of a path. Most paths have one.
 #[inline(always)]
-fn put_segments<W: Sink>(text: &mut TextBuffer, out: &mut W, path: PackedSegments<'_>)
-    ensures { Writes W.contents W.failure_count out.old text.old out.new text.new (124 ∷ path_text path.entry) }
+fn put_segments<T: Text>(text: &mut T, path: PackedSegments<'_>)
+    ensures { Adds (T.state text.old) (T.state text.new) (124 ∷ path_text path.entry) }
 {
     let mut rest = path;
     let Some(first) = rest.next() else {
-        return text.put_text(out, b"|");
+        return text.put_text(b"|");
     };
-    put_segment(text, out, b'|', &first);
+    put_segment(text, b'|', &first);
     while let Some(segment) = rest.next() {
-        put_later_segment(text, out, &segment);
+        put_later_segment(text, &segment);
     }
 }
 
 /// Adds a bar and a path.
 #[inline(always)]
-fn put_path<W: Sink>(text: &mut TextBuffer, out: &mut W, path: Option<PackedSegments<'_>>)
-    ensures { Writes W.contents W.failure_count out.old text.old out.new text.new
-        (124 ∷ field path_text path.entry) }
+fn put_path<T: Text>(text: &mut T, path: Option<PackedSegments<'_>>)
+    ensures { Adds (T.state text.old) (T.state text.new) (124 ∷ field path_text path.entry) }
 {
     match path {
-        Some(path) => put_segments(text, out, path),
-        None => text.put_text(out, b"|-"),
+        Some(path) => put_segments(text, path),
+        None => text.put_text(b"|-"),
     }
 }
 
 /// Adds what a line has after the key: the fields of a route, each behind a bar, and the end of the line.
-pub(crate) fn put_route<W: Sink, F: Unicast>(
-    text: &mut TextBuffer,
-    out: &mut W,
+pub(crate) fn put_route<T: Text, F: Unicast>(
+    text: &mut T,
     forms: AddressFormsOf<F>,
     route: &RouteRef<'_>,
 )
-    ensures { Writes W.contents W.failure_count out.old text.old out.new text.new
+    ensures { Adds (T.state text.old) (T.state text.new)
         ((124 ∷ field path_text route.now.path) ++ line_end forms route.now) }
 {
-    put_path(text, out, route.path());
-    text.put_attributes(out, forms, route);
+    put_path(text, route.path());
+    put_attributes(text, forms, route);
 }
 
 /// Adds the line of a route.
-pub(crate) fn put_row<W: Sink, F: WrittenAddress>(
-    text: &mut TextBuffer,
-    out: &mut W,
+pub(crate) fn put_row<T: Text, F: WrittenAddress>(
+    text: &mut T,
     peer: &PeerText<F>,
     key: &RouteKey<Prefix<F>>,
     route: &RouteRef<'_>,
 )
-    ensures { Writes W.contents W.failure_count out.old text.old out.new text.new
+    ensures { Adds (T.state text.old) (T.state text.new)
         (route_line peer.now.forms (record { peer = peer.now.key; key = key.now; route = route.now })) }
 {
-    text.put_peer_and_key(out, peer, key);
-    put_path(text, out, route.path());
-    text.put_attributes(out, peer.forms(), route);
+    put_peer_and_key(text, peer, key);
+    put_path(text, route.path());
+    put_attributes(text, peer.forms(), route);
 }

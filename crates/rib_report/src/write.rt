@@ -7,8 +7,9 @@ ghost use Rattle.rib_report.specs.Texts.{IsOutput};
 use crate::buffer::TextBuffer;
 use crate::forms::AddressFormsOf;
 use crate::line::RowList;
+use crate::text::{TextWriter, finish};
 use bgp_update::Unicast;
-use mrt_frame::{Failed, ReplayError, Sink};
+use mrt_frame::{ReplayError, Sink};
 
 /// How many rows are prefetched together before their lines are written. Routes lie far apart in memory. Reads
 /// that don't wait for one another overlap, so the lines are then written from the processor's cache.
@@ -48,7 +49,10 @@ pub(crate) fn write_lines<F: Unicast, W: Sink, L: RowList<F>>(
     ensures { IsOutput (W.contents out.old) (W.failure_count out.old) (W.contents out.new) (W.failure_count out.new)
         (flat_map (L.line_of forms.now) (L.rows rows)) result }
 {
-    let mut text = TextBuffer::new();
+    let mut text = TextWriter {
+        buffer: TextBuffer::new(),
+        out,
+    };
     let count = rows.len();
     let mut ahead = 0;
     let mut next = NEAR_ROWS;
@@ -57,10 +61,7 @@ pub(crate) fn write_lines<F: Unicast, W: Sink, L: RowList<F>>(
             ahead = count.min(at.saturating_add(next));
             next = prefetch_rows::<F, L>(rows, at, ahead);
         }
-        rows.put(at, &mut text, out, forms);
+        rows.put(at, &mut text, forms);
     }
-    match text.finish(out) {
-        Ok(()) => Ok(()),
-        Err(Failed) => Err(ReplayError::Write),
-    }
+    finish(&mut text)
 }

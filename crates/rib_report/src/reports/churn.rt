@@ -9,10 +9,11 @@ ghost use Rattle.rib_report.specs.Fields.{field, time_text};
 ghost use Rattle.rib_report.specs.Lines.{churn_line};
 ghost use Rattle.rib_report.specs.Texts.{IsOutput};
 
-use crate::buffer::TextBuffer;
+use crate::buffer::put;
 use crate::field::{Byte, Joined, time_field};
 use crate::forms::{AddressFormsOf, ShownPeer};
 use crate::line::Line;
+use crate::text::Text;
 use crate::write::write_lines;
 use adj_rib::{Churn, RouteId};
 use bgp_prefix::{Memory, PrefixMap};
@@ -66,7 +67,7 @@ pub fn watched_churn<F: Unicast, M: PrefixMap<RouteId, Addr = F>>(
 impl<F: Unicast> Line<F> for ChurnRow {
     ghost line = { churn_line };
 
-    fn put<W: Sink>(&self, text: &mut TextBuffer, out: &mut W, forms: &AddressFormsOf<F>) {
+    fn put<T: Text>(&self, text: &mut T, forms: &AddressFormsOf<F>) {
         let churn = self.churn;
         let times = (time_field(churn.first), time_field(churn.last));
         let refused = (churn.refused as u128, times);
@@ -85,7 +86,7 @@ impl<F: Unicast> Line<F> for ChurnRow {
             key: self.peer,
             forms: *forms,
         };
-        text.put(out, Joined((peer, counts), Byte(b'\n')));
+        put(text, Joined((peer, counts), Byte(b'\n')));
     }
 }
 

@@ -10,10 +10,11 @@ ghost use Rattle.rib_report.specs.Fields.{field};
 ghost use Rattle.rib_report.specs.Lines.{fault_line};
 ghost use Rattle.rib_report.specs.Texts.{IsOutput};
 
-use crate::buffer::TextBuffer;
+use crate::buffer::put;
 use crate::field::{Byte, Field, Joined, entry_field};
 use crate::forms::{AddressForms, AddressFormsOf};
 use crate::line::Line;
+use crate::text::Text;
 use crate::write::write_lines;
 use adj_rib::RouteId;
 use bgp_prefix::{Memory, PrefixMap};
@@ -73,13 +74,13 @@ impl Field for Fault {
 impl<F: Unicast> Line<F> for Damage {
     ghost line = { λ _. fault_line };
 
-    fn put<W: Sink>(&self, text: &mut TextBuffer, out: &mut W, _forms: &AddressFormsOf<F>) {
+    fn put<T: Text>(&self, text: &mut T, _forms: &AddressFormsOf<F>) {
         let file = self.place.file as u128 + 1;
         let offset = self.place.offset as u128;
         let number = self.fault.number() as u32;
         let entry = entry_field(self.place.entry);
         let fields = (file, (offset, (entry, (number, self.fault))));
-        text.put(out, Joined(fields, Byte(b'\n')));
+        put(text, Joined(fields, Byte(b'\n')));
     }
 }
 

@@ -7,11 +7,12 @@ ghost use Rattle.peer_tables.specs.Histories.{RowState, row_state};
 ghost use Rattle.rib_report.specs.HistoryLines.{by_text, history_line, what_text};
 ghost use Rattle.rib_report.specs.Texts.{IsOutput};
 
-use crate::buffer::TextBuffer;
+use crate::buffer::put;
 use crate::field::{Field, Microseconds, ShownKey};
 use crate::forms::{AddressFormsOf, ShownPeer};
 use crate::line::{Line, RowList};
 use crate::route_line::put_route;
+use crate::text::Text;
 use crate::write::write_lines;
 use adj_rib::What;
 use bgp_prefix::Prefix;
@@ -68,7 +69,7 @@ impl<F: WrittenAddress> Line<F> for HistoryRow<'_, Prefix<F>> {
         }
     }
 
-    fn put<W: Sink>(&self, text: &mut TextBuffer, out: &mut W, forms: &AddressFormsOf<F>) {
+    fn put<T: Text>(&self, text: &mut T, forms: &AddressFormsOf<F>) {
         let key = ShownKey {
             key: self.key,
             forms: *forms,
@@ -78,10 +79,10 @@ impl<F: WrittenAddress> Line<F> for HistoryRow<'_, Prefix<F>> {
             key: self.peer,
             forms: *forms,
         };
-        text.put(out, (Microseconds(self.time), (peer, event)));
+        put(text, (Microseconds(self.time), (peer, event)));
         match &self.route {
-            Some(route) => put_route(text, out, *forms, route),
-            None => text.put_text(out, b"|-|-|-|-|-|-|-\n"),
+            Some(route) => put_route(text, *forms, route),
+            None => text.put_text(b"|-|-|-|-|-|-|-\n"),
         }
     }
 }
@@ -101,14 +102,8 @@ impl<F: WrittenAddress> RowList<F> for &HistoryRows<F> {
         self.at(at).prefetch()
     }
 
-    fn put<W: Sink>(
-        self,
-        at: usize,
-        text: &mut TextBuffer,
-        out: &mut W,
-        forms: &AddressFormsOf<F>,
-    ) {
-        self.at(at).put(text, out, forms);
+    fn put<T: Text>(self, at: usize, text: &mut T, forms: &AddressFormsOf<F>) {
+        self.at(at).put(text, forms);
     }
 }
 

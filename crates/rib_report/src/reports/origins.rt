@@ -9,11 +9,13 @@ ghost use Rattle.rib_report.specs.Lines.{origin_line};
 ghost use Rattle.rib_report.specs.Texts.{IsOutput};
 ghost use Rattle.peer_tables.specs.Seats.{seat_of};
 
-use crate::buffer::TextBuffer;
-use crate::field::ShownPrefix;
+use crate::buffer::put;
+use crate::field::{Byte, ShownPrefix};
 use crate::forms::AddressFormsOf;
 use crate::line::Line;
-use crate::merge::{Listed, Mergeable, list_peers, list_peers_by_few};
+use crate::merge::{Listed, Mergeable, list_peers};
+use crate::numbers::put_numbers;
+use crate::text::Text;
 use crate::write::write_lines;
 use adj_rib::RouteId;
 use bgp_prefix::{Family, Memory, Prefix, PrefixMap, RouteKey, Sequence};
@@ -31,6 +33,33 @@ use std::thread::Threads;
 pub struct OriginRow<P = Prefix> {
     pub prefix: P,
     pub origins: Sequence<u32>,
+}
+
+impl<F: WrittenAddress> Line<F> for OriginRow<Prefix<F>> {
+    ghost line = { origin_line };
+
+    fn put<T: Text>(&self, text: &mut T, forms: &AddressFormsOf<F>) {
+        let prefix = ShownPrefix {
+            prefix: self.prefix,
+            forms: *forms,
+        };
+        put(text, prefix);
+        put(text, Byte(b'|'));
+        put_numbers(text, b' ', self.origins.as_slice());
+        put(text, Byte(b'\n'));
+    }
+}
+
+/// Writes the rows of `origins`. If it returns `Write`, a leading part of the text has been written.
+pub fn write_origins<F: WrittenAddress, W: Sink>(
+    out: &mut W,
+    forms: AddressFormsOf<F>,
+    rows: &[OriginRow<Prefix<F>>],
+) -> Result<(), ReplayError>
+    ensures { IsOutput (W.contents out.old) (W.failure_count out.old) (W.contents out.new) (W.failure_count out.new)
+        (flat_map (origin_line forms) rows.now) result }
+{
+    write_lines(out, &forms, rows)
 }
 
 /// Pairs are merged by prefix and number. A pair of both lists is once.
@@ -125,10 +154,7 @@ fn row_of_run<F: Family>(
 ) -> Result<OriginRow<Prefix<F>>, Memory>
     ensures { IfOk result (λ row. row ≡ record { prefix = prefix; origins = map (λ e. e.1) run.now }) }
 {
-    let mut origins = Vec::with_capacity(alloc, run.len())?;
-    for pair in run {
-        origins.push(pair.1)?;
-    }
+    let origins = run.iter().map(|pair| pair.1).collect(alloc)?;
     Ok(OriginRow {
         prefix,
         origins: Sequence::from_vec(origins),
@@ -156,65 +182,16 @@ fn group_runs<F: Family>(
 }
 
 /// Returns the prefixes whose routes have at least two different origin ASes, by prefix, each with its origin
-/// ASes in ascending order.
-pub fn origins<M: PrefixMap<RouteId>>(
-    alloc: Global,
-    tables: &Tables<M>,
-) -> Result<Vec<OriginRow<Prefix<M::Addr>>>, Memory>
-where
-    M::Addr: Unicast,
-    ensures { IfOk result (λ rows. rows.items ≡ origin_rows tables.now) }
-{
-    let pairs = list_peers::<(Prefix<M::Addr>, u32), Seated<M>>(alloc, tables.seats())?;
-    group_runs(alloc, pairs.as_slice())
-}
-
-/// Returns what `origins` returns. With two threads or more, two of them share the work; if no thread can be
+/// ASes in ascending order. With two threads or more, two of them share the work; below that, or if none can be
 /// started, the calling thread does all of it.
-pub fn origins_with_threads<M: PrefixMap<RouteId> + Sync, T: Threads>(
+pub fn origins<M: PrefixMap<RouteId, Addr: Unicast + Send> + Sync, T: Threads>(
     rt: &T,
     alloc: Global,
     threads: usize,
     tables: &Tables<M>,
 ) -> Result<Vec<OriginRow<Prefix<M::Addr>>>, Memory>
-where
-    M::Addr: Unicast + Send,
     ensures { IfOk result (λ rows. rows.items ≡ origin_rows tables.now) }
 {
-    if threads < 2 {
-        return origins(alloc, tables);
-    }
-    let pairs = list_peers_by_few::<(Prefix<M::Addr>, u32), Seated<M>, T>(
-        rt,
-        alloc,
-        tables.seats(),
-    )?;
+    let pairs: Vec<(Prefix<M::Addr>, u32)> = list_peers(rt, alloc, threads, tables.seats())?;
     group_runs(alloc, pairs.as_slice())
-}
-
-impl<F: WrittenAddress> Line<F> for OriginRow<Prefix<F>> {
-    ghost line = { origin_line };
-
-    fn put<W: Sink>(&self, text: &mut TextBuffer, out: &mut W, forms: &AddressFormsOf<F>) {
-        let prefix = ShownPrefix {
-            prefix: self.prefix,
-            forms: *forms,
-        };
-        text.put(out, prefix);
-        text.put_byte(out, b'|');
-        text.put_numbers(out, b' ', self.origins.as_slice());
-        text.put_byte(out, b'\n');
-    }
-}
-
-/// Writes the rows of `origins`. If it returns `Write`, a leading part of the text has been written.
-pub fn write_origins<F: WrittenAddress, W: Sink>(
-    out: &mut W,
-    forms: AddressFormsOf<F>,
-    rows: &[OriginRow<Prefix<F>>],
-) -> Result<(), ReplayError>
-    ensures { IsOutput (W.contents out.old) (W.failure_count out.old) (W.contents out.new) (W.failure_count out.new)
-        (flat_map (origin_line forms) rows.now) result }
-{
-    write_lines(out, &forms, rows)
 }

@@ -10,10 +10,11 @@ ghost use Rattle.rib_report.specs.Fields.{field, time_text};
 ghost use Rattle.rib_report.specs.Lines.{entry_of, file_of, offset_of, peer_line, state_text};
 ghost use Rattle.rib_report.specs.Texts.{IsOutput};
 
-use crate::buffer::TextBuffer;
+use crate::buffer::put;
 use crate::field::{Byte, Joined, SessionUp, entry_field, time_field};
 use crate::forms::{AddressFormsOf, ShownPeer};
 use crate::line::Line;
+use crate::text::Text;
 use crate::write::write_lines;
 use adj_rib::RouteId;
 use bgp_prefix::{Memory, PrefixMap};
@@ -76,36 +77,27 @@ pub fn peers<F: Unicast, M: PrefixMap<RouteId, Addr = F>>(
 fn file_field(place: Option<Place>) -> Option<u128>
     ensures { result ≡ file_of place }
 {
-    match place {
-        Some(place) => Some(place.file as u128 + 1),
-        None => None,
-    }
+    place.map(|place| place.file as u128 + 1)
 }
 
 /// Returns the offset of a place's record, in bytes.
 fn offset_field(place: Option<Place>) -> Option<u128>
     ensures { result ≡ offset_of place }
 {
-    match place {
-        Some(place) => Some(place.offset as u128),
-        None => None,
-    }
+    place.map(|place| place.offset as u128)
 }
 
 /// Returns the number of a place's entry, if it is that of an entry.
 fn place_entry_field(place: Option<Place>) -> Option<u32>
     ensures { result ≡ entry_of place }
 {
-    match place {
-        Some(place) => entry_field(place.entry),
-        None => None,
-    }
+    place.and_then(|place| entry_field(place.entry))
 }
 
 impl<F: Unicast> Line<F> for PeerRow {
     ghost line = { peer_line };
 
-    fn put<W: Sink>(&self, text: &mut TextBuffer, out: &mut W, forms: &AddressFormsOf<F>) {
+    fn put<T: Text>(&self, text: &mut T, forms: &AddressFormsOf<F>) {
         let place = (
             file_field(self.place),
             (offset_field(self.place), place_entry_field(self.place)),
@@ -117,7 +109,7 @@ impl<F: Unicast> Line<F> for PeerRow {
             forms: *forms,
         };
         let fields = (peer, (SessionUp(self.is_established), counts));
-        text.put(out, Joined(fields, Byte(b'\n')));
+        put(text, Joined(fields, Byte(b'\n')));
     }
 }
 

@@ -11,11 +11,12 @@ ghost use Rattle.rib_report.specs.Lines.{seen_line};
 ghost use Rattle.rib_report.specs.Texts.{IsOutput};
 ghost use Rattle.peer_tables.specs.Seats.{seat_of};
 
-use crate::buffer::TextBuffer;
+use crate::buffer::put;
 use crate::field::{Byte, Joined, ShownPrefix};
 use crate::forms::AddressFormsOf;
 use crate::line::Line;
-use crate::merge::{Listed, Mergeable, list_peers, list_peers_by_few};
+use crate::merge::{Listed, Mergeable, list_peers};
+use crate::text::Text;
 use crate::write::write_lines;
 use adj_rib::RouteId;
 use bgp_prefix::{Family, Memory, Prefix, PrefixMap};
@@ -34,6 +35,31 @@ pub struct SeenRow<P = Prefix> {
     pub prefix: P,
     pub origin: Option<u32>,
     pub peers: usize,
+}
+
+impl<F: WrittenAddress> Line<F> for SeenRow<Prefix<F>> {
+    ghost line = { seen_line };
+
+    fn put<T: Text>(&self, text: &mut T, forms: &AddressFormsOf<F>) {
+        let prefix = ShownPrefix {
+            prefix: self.prefix,
+            forms: *forms,
+        };
+        let fields = (prefix, (self.origin, self.peers as u128));
+        put(text, Joined(fields, Byte(b'\n')));
+    }
+}
+
+/// Writes the rows of `seen`. If it returns `Write`, a leading part of the text has been written.
+pub fn write_seen<F: WrittenAddress, W: Sink>(
+    out: &mut W,
+    forms: AddressFormsOf<F>,
+    rows: &[SeenRow<Prefix<F>>],
+) -> Result<(), ReplayError>
+    ensures { IsOutput (W.contents out.old) (W.failure_count out.old) (W.contents out.new) (W.failure_count out.new)
+        (flat_map (seen_line forms) rows.now) result }
+{
+    write_lines(out, &forms, rows)
 }
 
 /// The prefix and the origin AS of a route, which may have none (RFC 6811, 2).
@@ -87,11 +113,10 @@ fn pairs_of_routes<F: Unicast, M: PrefixMap<RouteId, Addr = F>>(
     ensures { IfOk result (λ pairs. pairs.items ≡ seat_prefix_origins (seat_of seat.now)) }
 {
     let entries = seat.session.table().entries(alloc)?;
-    let mut pairs = Vec::with_capacity(alloc, entries.len())?;
-    for entry in entries.as_slice() {
-        pairs.push((entry.0.prefix, entry.1.origin_as()))?;
-    }
-    Ok(pairs)
+    let pairs = entries
+        .iter()
+        .map(|entry| (entry.0.prefix, entry.1.origin_as()));
+    Ok(pairs.collect(alloc)?)
 }
 
 /// Returns the prefixes and origin ASes of one peer's routes in order, each pair once, whatever the path identifiers.
@@ -114,11 +139,7 @@ fn count_once<F: Family>(
 ) -> Result<Vec<(PrefixOrigin<F>, usize)>, Memory>
     ensures { IfOk result (λ counts. counts.items ≡ map (λ e. (e, 1)) pairs.now) }
 {
-    let mut counts = Vec::with_capacity(alloc, pairs.len())?;
-    for pair in pairs {
-        counts.push((*pair, 1))?;
-    }
-    Ok(counts)
+    Ok(pairs.iter().map(|pair| (*pair, 1)).collect(alloc)?)
 }
 
 /// What is listed of peers: the prefixes and origin ASes of their routes in order, each pair with the number of peers
@@ -147,77 +168,27 @@ fn rows_of<F: Family>(
     ensures { IfOk result (λ rows. rows.items ≡
         map (λ e. record { prefix = e.0.0; origin = e.0.1; peers = e.1 }) counts.now) }
 {
-    let mut rows = Vec::with_capacity(alloc, counts.len())?;
-    for count in counts {
-        let ((prefix, origin), peers) = *count;
-        rows.push(SeenRow {
-            prefix,
-            origin,
-            peers,
-        })?;
-    }
-    Ok(rows)
+    let row = |&((prefix, origin), peers)| SeenRow {
+        prefix,
+        origin,
+        peers,
+    };
+    Ok(counts.iter().map(row).collect(alloc)?)
 }
 
 /// Returns, for each prefix and each origin AS of its routes at any peer, the number of peers that have a route of
 /// this prefix with this origin AS: by prefix, then by origin AS, and the routes without one last. A peer counts once
-/// per row, whatever the identifiers of its routes.
-pub fn seen<M: PrefixMap<RouteId>>(
-    alloc: Global,
-    tables: &Tables<M>,
-) -> Result<Vec<SeenRow<Prefix<M::Addr>>>, Memory>
-where
-    M::Addr: Unicast,
-    ensures { IfOk result (λ rows. rows.items ≡ seen_rows tables.now) }
-{
-    let counts = list_peers::<(PrefixOrigin<M::Addr>, usize), Seated<M>>(alloc, tables.seats())?;
-    rows_of(alloc, counts.as_slice())
-}
-
-/// Returns what `seen` returns. With two threads or more, two of them share the work; if no thread can be started, the
-/// calling thread does all of it.
-pub fn seen_with_threads<M: PrefixMap<RouteId> + Sync, T: Threads>(
+/// per row, whatever the identifiers of its routes. With two threads or more, two of them share the work; below that,
+/// or if none can be started, the calling thread does all of it.
+pub fn seen<M: PrefixMap<RouteId, Addr: Unicast + Send> + Sync, T: Threads>(
     rt: &T,
     alloc: Global,
     threads: usize,
     tables: &Tables<M>,
 ) -> Result<Vec<SeenRow<Prefix<M::Addr>>>, Memory>
-where
-    M::Addr: Unicast + Send,
     ensures { IfOk result (λ rows. rows.items ≡ seen_rows tables.now) }
 {
-    if threads < 2 {
-        return seen(alloc, tables);
-    }
-    let counts = list_peers_by_few::<(PrefixOrigin<M::Addr>, usize), Seated<M>, T>(
-        rt,
-        alloc,
-        tables.seats(),
-    )?;
+    let seats = tables.seats();
+    let counts: Vec<(PrefixOrigin<M::Addr>, usize)> = list_peers(rt, alloc, threads, seats)?;
     rows_of(alloc, counts.as_slice())
-}
-
-impl<F: WrittenAddress> Line<F> for SeenRow<Prefix<F>> {
-    ghost line = { seen_line };
-
-    fn put<W: Sink>(&self, text: &mut TextBuffer, out: &mut W, forms: &AddressFormsOf<F>) {
-        let prefix = ShownPrefix {
-            prefix: self.prefix,
-            forms: *forms,
-        };
-        let fields = (prefix, (self.origin, self.peers as u128));
-        text.put(out, Joined(fields, Byte(b'\n')));
-    }
-}
-
-/// Writes the rows of `seen`. If it returns `Write`, a leading part of the text has been written.
-pub fn write_seen<F: WrittenAddress, W: Sink>(
-    out: &mut W,
-    forms: AddressFormsOf<F>,
-    rows: &[SeenRow<Prefix<F>>],
-) -> Result<(), ReplayError>
-    ensures { IsOutput (W.contents out.old) (W.failure_count out.old) (W.contents out.new) (W.failure_count out.new)
-        (flat_map (seen_line forms) rows.now) result }
-{
-    write_lines(out, &forms, rows)
 }

@@ -15,20 +15,21 @@ ghost use Rattle.rib_report.specs.Rows.{table_row};
 ghost use Rattle.rib_report.specs.Reports.{rows_of_seat, route_rows};
 ghost use Rattle.rib_report.specs.Listings.{reached_lines, seat_lines, most_entries};
 ghost use Rattle.rib_report.specs.Lines.{route_line};
-ghost use Rattle.rib_report.specs.Texts.{IsOutput, Writes};
+ghost use Rattle.rib_report.specs.Texts.{Adds, IsOutput};
 
 use crate::buffer::TextBuffer;
 use crate::field::PeerText;
 use crate::forms::{AddressFormsOf, ShownPeer, ShownPeerOf};
 use crate::line::Line;
 use crate::route_line::put_row;
+use crate::text::{Text, TextWriter, finish};
 use crate::write::{NEAR_ROWS, next_rows, write_lines};
 use adj_rib::RouteId;
 use bgp_prefix::{Family, Memory, Prefix, PrefixMap, RouteKey};
 use bgp_update::{RouteRef, Unicast};
 use ip_text::WrittenAddress;
 use mrt_body::PeerKey;
-use mrt_frame::{Failed, ReplayError, Sink};
+use mrt_frame::{ReplayError, Sink};
 use parallel::{LineBlocks, put_all_entries};
 use peer_tables::{Seated, Tables};
 use std::alloc::Global;
@@ -101,40 +102,37 @@ pub(crate) fn prefetch_entries<F: Family>(entries: &[(RouteKey<Prefix<F>>, Route
 }
 
 /// Adds the lines of some entries of one peer.
-fn put_block<W: Sink, F: WrittenAddress>(
-    text: &mut TextBuffer,
-    out: &mut W,
+fn put_block<T: Text, F: WrittenAddress>(
+    text: &mut T,
     peer: &PeerText<F>,
     block: &[(RouteKey<Prefix<F>>, RouteRef<'_>)],
 )
-    ensures { Writes W.contents W.failure_count out.old text.old out.new text.new
-        (reached_lines peer.now block.now) }
+    ensures { Adds (T.state text.old) (T.state text.new) (reached_lines peer.now block.now) }
 {
     for entry in block {
-        put_row(text, out, peer, &entry.0, &entry.1);
+        put_row(text, peer, &entry.0, &entry.1);
     }
 }
 
 /// Adds the lines of the entries of one peer. After a failed write, no more lines are made.
-pub(crate) fn put_entries<W: Sink, F: WrittenAddress>(
-    text: &mut TextBuffer,
-    out: &mut W,
+pub(crate) fn put_entries<T: Text, F: WrittenAddress>(
+    text: &mut T,
     peer: &ShownPeerOf<F>,
     entries: &[(RouteKey<Prefix<F>>, RouteRef<'_>)],
 )
-    ensures { Writes W.contents W.failure_count out.old text.old out.new text.new (reached_lines peer.now entries.now) }
+    ensures { Adds (T.state text.old) (T.state text.new) (reached_lines peer.now entries.now) }
 {
-    let peer_text = text.peer_text(peer);
+    let peer_text = text.buffer().peer_text(peer);
     let mut done = 0;
     let mut near = NEAR_ROWS;
     while done < entries.len() {
-        if text.has_failed() {
+        if text.buffer().has_failed() {
             return;
         }
         let end = entries.len().min(done.saturating_add(near));
         let block = &entries[done..end];
         near = prefetch_entries(block);
-        put_block(text, out, &peer_text, block);
+        put_block(text, &peer_text, block);
         done = end;
     }
 }
@@ -145,13 +143,12 @@ fn put_tables<
     'a,
     F: WrittenAddress + Sync,
     M: PrefixMap<RouteId, Addr = F>,
-    T: Threads + Sync,
-    W: Sink,
+    R: Threads + Sync,
+    T: Text,
 >(
-    rt: &T,
+    rt: &R,
     line_blocks: &mut LineBlocks,
-    text: &mut TextBuffer,
-    out: &mut W,
+    text: &mut T,
     forms: &AddressFormsOf<F>,
     mut ids: Vec<(RouteKey<Prefix<F>>, &'a RouteId)>,
     mut all: Vec<(RouteKey<Prefix<F>>, RouteRef<'a>)>,
@@ -159,8 +156,7 @@ fn put_tables<
 )
     requires ids { most_entries (map seat_of seats.now) ≤ vec_capacity ids }
     requires all { most_entries (map seat_of seats.now) ≤ vec_capacity all }
-    ensures { Writes W.contents W.failure_count out.old text.old out.new text.new
-        (flat_map (seat_lines forms.now) (map seat_of seats.now)) }
+    ensures { Adds (T.state text.old) (T.state text.new) (flat_map (seat_lines forms.now) (map seat_of seats.now)) }
 {
     for seat in seats {
         seat.session.table().list(&mut ids, &mut all);
@@ -168,7 +164,7 @@ fn put_tables<
             key: seat.key,
             forms: *forms,
         };
-        put_all_entries(rt, line_blocks, text, out, &peer, all.as_slice());
+        put_all_entries(rt, line_blocks, text, &peer, all.as_slice());
     }
 }
 
@@ -203,21 +199,12 @@ pub fn list_tables<
     let ids = Vec::with_capacity(alloc, most)?;
     let all = Vec::with_capacity(alloc, most)?;
     let mut line_blocks = LineBlocks::new(alloc, threads, most)?;
-    let mut text = TextBuffer::new();
-    put_tables(
-        rt,
-        &mut line_blocks,
-        &mut text,
+    let mut text = TextWriter {
+        buffer: TextBuffer::new(),
         out,
-        &forms,
-        ids,
-        all,
-        seats,
-    );
-    match text.finish(out) {
-        Ok(()) => Ok(()),
-        Err(Failed) => Err(ReplayError::Write),
-    }
+    };
+    put_tables(rt, &mut line_blocks, &mut text, &forms, ids, all, seats);
+    finish(&mut text)
 }
 
 /// Prefetches a route by reading its first and its last byte, and returns about how many bytes it has.
@@ -239,16 +226,15 @@ impl<F: WrittenAddress> Line<F> for TableRow<'_, Prefix<F>> {
         prefetch_route(&self.route)
     }
 
-    fn put<W: Sink>(&self, text: &mut TextBuffer, out: &mut W, forms: &AddressFormsOf<F>)
-        ensures { Writes W.contents W.failure_count out.old text.old out.new text.new
-            (route_line forms.now (table_row self.now)) }
+    fn put<T: Text>(&self, text: &mut T, forms: &AddressFormsOf<F>)
+        ensures { Adds (T.state text.old) (T.state text.new) (route_line forms.now (table_row self.now)) }
     {
         let peer = ShownPeer {
             key: self.peer,
             forms: *forms,
         };
-        let peer_text = text.peer_text(&peer);
-        put_row(text, out, &peer_text, &self.key, &self.route);
+        let peer_text = text.buffer().peer_text(&peer);
+        put_row(text, &peer_text, &self.key, &self.route);
     }
 }
 

@@ -11,11 +11,12 @@ ghost use Rattle.rib_report.specs.Reports.{visible_among, visibility_rows};
 ghost use Rattle.rib_report.specs.Lines.{visibility_line};
 ghost use Rattle.rib_report.specs.Texts.{IsOutput};
 
-use crate::buffer::TextBuffer;
+use crate::buffer::put;
 use crate::field::{Byte, Joined, ShownPrefix};
 use crate::forms::AddressFormsOf;
 use crate::line::Line;
-use crate::merge::{Listed, Mergeable, list_peers, list_peers_by_few};
+use crate::merge::{Listed, Mergeable, list_peers};
+use crate::text::Text;
 use crate::write::write_lines;
 use adj_rib::RouteId;
 use bgp_prefix::{Family, Memory, Prefix, PrefixMap};
@@ -33,6 +34,30 @@ use std::thread::Threads;
 pub struct VisibilityRow<P = Prefix> {
     pub prefix: P,
     pub peers: usize,
+}
+
+impl<F: WrittenAddress> Line<F> for VisibilityRow<Prefix<F>> {
+    ghost line = { visibility_line };
+
+    fn put<T: Text>(&self, text: &mut T, forms: &AddressFormsOf<F>) {
+        let prefix = ShownPrefix {
+            prefix: self.prefix,
+            forms: *forms,
+        };
+        put(text, Joined((prefix, self.peers as u128), Byte(b'\n')));
+    }
+}
+
+/// Writes the rows of `visibility`. If it returns `Write`, a leading part of the text has been written.
+pub fn write_visibility<F: WrittenAddress, W: Sink>(
+    out: &mut W,
+    forms: AddressFormsOf<F>,
+    rows: &[VisibilityRow<Prefix<F>>],
+) -> Result<(), ReplayError>
+    ensures { IsOutput (W.contents out.old) (W.failure_count out.old) (W.contents out.new) (W.failure_count out.new)
+        (flat_map (visibility_line forms) rows.now) result }
+{
+    write_lines(out, &forms, rows)
 }
 
 /// Prefixes with counts are merged by prefix. Counts are added, and saturate.
@@ -94,71 +119,21 @@ fn rows_of<F: Family>(
 ) -> Result<Vec<VisibilityRow<Prefix<F>>>, Memory>
     ensures { IfOk result (λ rows. rows.items ≡ map (λ e. record { prefix = e.0; peers = e.1 }) counts.now) }
 {
-    let mut rows = Vec::with_capacity(alloc, counts.len())?;
-    for count in counts {
-        let (prefix, peers) = *count;
-        rows.push(VisibilityRow { prefix, peers })?;
-    }
-    Ok(rows)
+    let row = |&(prefix, peers)| VisibilityRow { prefix, peers };
+    Ok(counts.iter().map(row).collect(alloc)?)
 }
 
 /// Returns, for each prefix visible at any peer, the number of peers at which it is visible, by prefix. A peer
-/// counts once per prefix, whatever the identifiers of its routes.
-pub fn visibility<M: PrefixMap<RouteId>>(
-    alloc: Global,
-    tables: &Tables<M>,
-) -> Result<Vec<VisibilityRow<Prefix<M::Addr>>>, Memory>
-where
-    M::Addr: Unicast,
-    ensures { IfOk result (λ rows. rows.items ≡ visibility_rows tables.now) }
-{
-    let counts = list_peers::<(Prefix<M::Addr>, usize), Seated<M>>(alloc, tables.seats())?;
-    rows_of(alloc, counts.as_slice())
-}
-
-/// Returns what `visibility` returns. With two threads or more, two of them share the work; if no thread can be
-/// started, the calling thread does all of it.
-pub fn visibility_with_threads<M: PrefixMap<RouteId> + Sync, T: Threads>(
+/// counts once per prefix, whatever the identifiers of its routes. With two threads or more, two of them share the
+/// work; below that, or if none can be started, the calling thread does all of it.
+pub fn visibility<M: PrefixMap<RouteId, Addr: Unicast + Send> + Sync, T: Threads>(
     rt: &T,
     alloc: Global,
     threads: usize,
     tables: &Tables<M>,
 ) -> Result<Vec<VisibilityRow<Prefix<M::Addr>>>, Memory>
-where
-    M::Addr: Unicast + Send,
     ensures { IfOk result (λ rows. rows.items ≡ visibility_rows tables.now) }
 {
-    if threads < 2 {
-        return visibility(alloc, tables);
-    }
-    let counts = list_peers_by_few::<(Prefix<M::Addr>, usize), Seated<M>, T>(
-        rt,
-        alloc,
-        tables.seats(),
-    )?;
+    let counts: Vec<(Prefix<M::Addr>, usize)> = list_peers(rt, alloc, threads, tables.seats())?;
     rows_of(alloc, counts.as_slice())
-}
-
-impl<F: WrittenAddress> Line<F> for VisibilityRow<Prefix<F>> {
-    ghost line = { visibility_line };
-
-    fn put<W: Sink>(&self, text: &mut TextBuffer, out: &mut W, forms: &AddressFormsOf<F>) {
-        let prefix = ShownPrefix {
-            prefix: self.prefix,
-            forms: *forms,
-        };
-        text.put(out, Joined((prefix, self.peers as u128), Byte(b'\n')));
-    }
-}
-
-/// Writes the rows of `visibility`. If it returns `Write`, a leading part of the text has been written.
-pub fn write_visibility<F: WrittenAddress, W: Sink>(
-    out: &mut W,
-    forms: AddressFormsOf<F>,
-    rows: &[VisibilityRow<Prefix<F>>],
-) -> Result<(), ReplayError>
-    ensures { IsOutput (W.contents out.old) (W.failure_count out.old) (W.contents out.new) (W.failure_count out.new)
-        (flat_map (visibility_line forms) rows.now) result }
-{
-    write_lines(out, &forms, rows)
 }

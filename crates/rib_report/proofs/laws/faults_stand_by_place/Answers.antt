@@ -1,5 +1,5 @@
 use Rattle.peer_tables.specs.Tables.{all_faults}
-use Rattle.rib_report.proofs.DefinedLaws.{faults_sorted, faults_stable}
+use Rattle.rib_report.proofs.ListedLaws.{faults_sorted, faults_stable}
 use Rattle.rib_report.proofs.laws.faults_stand_by_place.Goals as goal
 
 pub returns : goal.returns

@@ -1,6 +1,6 @@
-use Rattle.std.proofs.Common.{◌∷◌, append-nil, refl, sym, ap, List, ℕ, ◌∙◌}
+use Rattle.std.proofs.Common.{◌∷◌, sym, ap, List, ℕ, ◌∙◌}
 use Rattle.std.specs.List.{flat_map}
-use Rattle.rib_report.proofs.TextLaws.{Adds_trans, Adds_as, Adds_grown}
+use Rattle.rib_report.proofs.TextLaws.{Adds_trans, Adds_as, Adds_none}
 use Rattle.rib_report.proofs.JoinLaws.{join-cons}
 use Rattle.bgp_update.specs.Paths.{PathSegment}
 use Rattle.rib_report.specs.Lines.{kind_text, path_text}
@@ -21,6 +21,6 @@ returns-in_default g c = Adds_as (ap (λ p. 124 ∷ path_text p) (sym c.in_defau
 
 pub returns : goal.returns
 returns g c =
-    let none = Adds_as (ap (flat_map behind) (sym c.in_default-next.ensures)) (Adds_grown refl refl (sym (append-nil c.loop-segment.text.waiting)) refl) in
+    let none = Adds_as (ap (flat_map behind) (sym c.in_default-next.ensures)) Adds_none in
     let whole = ap (λ l. 124 ∷ l) (sym (join-cons 32 text c.in-Some.first c.next.new.self) ∙ ap path_text (sym c.in-Some.ensures)) in
     Adds_as whole (Adds_trans c.put_segment.ensures (c.loop-segment.invariant _ none))

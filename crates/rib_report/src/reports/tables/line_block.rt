@@ -1,22 +1,20 @@
 //! The lines of some successive entries of one peer, which a thread makes while another one writes.
 
 ghost use Rattle.std.specs.Prelude.{◌≡◌, ◌<◌, ◌≤◌, ℕ, length, take};
-ghost use Rattle.rib_report.specs.Texts.{empty_buffer, Writes};
+ghost use Rattle.rib_report.specs.Texts.{Adds};
 ghost use Rattle.rib_report.specs.Listings.{reached_lines};
-ghost use Rattle.rib_report.specs.NullSink.{null_sink_contents, null_sink_failures};
 ghost use Rattle.rib_report.specs.LineBlocks.{IsFilled, lines_between, range_of};
 
 use super::{prefetch_entries, put_entries};
 use crate::buffer::TextBuffer;
 use crate::field::PeerText;
 use crate::forms::ShownPeerOf;
-use crate::null_sink::NullSink;
 use crate::route_line::put_row;
+use crate::text::{Text, TextAhead};
 use crate::write::NEAR_ROWS;
 use bgp_prefix::{Prefix, RouteKey};
 use bgp_update::RouteRef;
 use ip_text::WrittenAddress;
-use mrt_frame::Sink;
 
 /// The most bytes of a line without the numbers of its path, and some more.
 const MOST_WITHOUT_PATH: usize = 320;
@@ -30,7 +28,7 @@ pub(crate) struct LineBlock {
     pub(crate) done: usize,
     /// The first entry after its entries.
     pub(crate) end: usize,
-    pub(crate) text: TextBuffer,
+    pub(crate) text: TextAhead,
 }
 
 /// Returns about how many bytes the line of a route takes at most. A line that takes more costs time, and nothing else.
@@ -43,32 +41,29 @@ fn most_bytes(route: &RouteRef<'_>) -> usize {
 }
 
 /// Adds the lines of these entries, in order, while there should be room for one more. Returns how many.
-fn put_fitting<F: WrittenAddress>(
-    text: &mut TextBuffer,
-    null_sink: &mut NullSink,
+fn put_fitting<T: Text, F: WrittenAddress>(
+    text: &mut T,
     peer: &PeerText<F>,
     entries: &[(RouteKey<Prefix<F>>, RouteRef<'_>)],
 ) -> usize
     ensures few { result ≤ length entries.now }
-    ensures lines { Writes null_sink_contents null_sink_failures null_sink.old text.old null_sink.new text.new
-        (reached_lines peer.now (take result entries.now)) }
+    ensures lines { Adds (T.state text.old) (T.state text.new) (reached_lines peer.now (take result entries.now)) }
 {
     for at in 0..entries.len() {
         let entry = &entries[at];
         let route = &entry.1;
-        if text.room() < most_bytes(route) {
+        if text.buffer().room() < most_bytes(route) {
             return at;
         }
-        put_row(text, null_sink, peer, &entry.0, route);
+        put_row(text, peer, &entry.0, route);
     }
     entries.len()
 }
 
 /// Adds the lines of entries from one to before another, while there should be room for one more. Returns the first
 /// entry whose line wasn't added.
-fn put_while_fitting<F: WrittenAddress>(
-    text: &mut TextBuffer,
-    null_sink: &mut NullSink,
+fn put_while_fitting<T: Text, F: WrittenAddress>(
+    text: &mut T,
     peer: &ShownPeerOf<F>,
     entries: &[(RouteKey<Prefix<F>>, RouteRef<'_>)],
     start: usize,
@@ -76,17 +71,16 @@ fn put_while_fitting<F: WrittenAddress>(
 ) -> usize
     requires { (start ≤ end) × (end ≤ length entries.now) }
     ensures within { (start ≤ result) × (result ≤ end) }
-    ensures lines { Writes null_sink_contents null_sink_failures null_sink.old text.old null_sink.new text.new
-        (lines_between peer.now start result entries.now) }
+    ensures lines { Adds (T.state text.old) (T.state text.new) (lines_between peer.now start result entries.now) }
 {
-    let peer_text = text.peer_text(peer);
+    let peer_text = text.buffer().peer_text(peer);
     let mut done = start;
     let mut writing = NEAR_ROWS;
     while done < end {
         let next = end.min(done.saturating_add(writing));
         let block = &entries[done..next];
         writing = prefetch_entries(block);
-        let count = put_fitting(text, null_sink, &peer_text, block);
+        let count = put_fitting(text, &peer_text, block);
         done += count;
         if done < next {
             return done;
@@ -101,7 +95,9 @@ impl LineBlock {
             start: 0,
             done: 0,
             end: 0,
-            text: TextBuffer::new(),
+            text: TextAhead {
+                buffer: TextBuffer::new(),
+            },
         }
     }
 
@@ -115,18 +111,10 @@ impl LineBlock {
         ensures range { range_of self.new ≡ range_of self.old }
         ensures filled { IsFilled peer.now entries.now self.new }
     {
-        let mut null_sink = NullSink::new();
-        self.text.clear();
-        self.done = put_while_fitting(
-            &mut self.text,
-            &mut null_sink,
-            peer,
-            entries,
-            self.start,
-            self.end,
-        );
-        if self.text.has_failed() {
-            self.text.clear();
+        self.text.buffer.clear();
+        self.done = put_while_fitting(&mut self.text, peer, entries, self.start, self.end);
+        if self.text.buffer.has_failed() {
+            self.text.buffer.clear();
             self.done = self.start;
         }
     }
@@ -138,17 +126,16 @@ impl LineBlock {
 }
 
 /// Adds the lines of a block: its text, and then those that it had no room for.
-pub(crate) fn put_line_block<W: Sink, F: WrittenAddress>(
-    text: &mut TextBuffer,
-    out: &mut W,
+pub(crate) fn put_line_block<T: Text, F: WrittenAddress>(
+    text: &mut T,
     peer: &ShownPeerOf<F>,
     entries: &[(RouteKey<Prefix<F>>, RouteRef<'_>)],
     line_block: &LineBlock,
 )
     requires { IsFilled peer.now entries.now line_block.now }
-    ensures { Writes W.contents W.failure_count out.old text.old out.new text.new
+    ensures { Adds (T.state text.old) (T.state text.new)
         (lines_between peer.now line_block.now.start line_block.now.end entries.now) }
 {
-    text.pass_on(out, line_block.text.as_slice());
-    put_entries(text, out, peer, &entries[line_block.done..line_block.end]);
+    text.put_text(line_block.text.buffer.as_slice());
+    put_entries(text, peer, &entries[line_block.done..line_block.end]);
 }

@@ -3,18 +3,17 @@
 ghost use Rattle.std.specs.Prelude.{◌≡◌, ◌<◌, ◌≤◌, length, map};
 ghost use Rattle.std.specs.List.{All};
 ghost use Rattle.std.specs.Thread.{IsSync};
-ghost use Rattle.rib_report.specs.Texts.{Writes};
+ghost use Rattle.rib_report.specs.Texts.{Adds};
 ghost use Rattle.rib_report.specs.Listings.{reached_lines};
 ghost use Rattle.rib_report.specs.LineBlocks.{AreRanges, IsFilled, AreSuccessive, lines_between, range_of};
 
 use super::line_block::{LineBlock, put_line_block};
 use super::put_entries;
-use crate::buffer::TextBuffer;
 use crate::forms::ShownPeerOf;
+use crate::text::Text;
 use bgp_prefix::{Memory, Prefix, RouteKey};
 use bgp_update::RouteRef;
 use ip_text::WrittenAddress;
-use mrt_frame::Sink;
 use std::alloc::Global;
 use std::marker::Sync;
 use std::mem;
@@ -129,9 +128,8 @@ fn fill_each<F: WrittenAddress>(
 }
 
 /// Adds the lines of blocks, in order.
-fn put_line_blocks<W: Sink, F: WrittenAddress>(
-    text: &mut TextBuffer,
-    out: &mut W,
+fn put_line_blocks<T: Text, F: WrittenAddress>(
+    text: &mut T,
     peer: &ShownPeerOf<F>,
     entries: &[(RouteKey<Prefix<F>>, RouteRef<'_>)],
     line_blocks: &[LineBlock],
@@ -140,21 +138,19 @@ fn put_line_blocks<W: Sink, F: WrittenAddress>(
 )
     requires filled { All (IsFilled peer.now entries.now) line_blocks.now }
     requires successive { AreSuccessive start (map range_of line_blocks.now) end }
-    ensures { Writes W.contents W.failure_count out.old text.old out.new text.new
-        (lines_between peer.now start end entries.now) }
+    ensures { Adds (T.state text.old) (T.state text.new) (lines_between peer.now start end entries.now) }
 {
     for line_block in line_blocks {
-        put_line_block(text, out, peer, entries, line_block);
+        put_line_block(text, peer, entries, line_block);
     }
 }
 
 /// Fills the one half of the blocks, a few in each thread if these can be started, and meanwhile adds the lines of the
 /// other one, in the calling thread. It starts every thread itself: a thread that waits for another one ends later.
 #[cycle(threads)]
-fn fill_and_put<T: Threads + Sync, W: Sink, F: WrittenAddress + Sync>(
-    rt: &T,
-    text: &mut TextBuffer,
-    out: &mut W,
+fn fill_and_put<R: Threads + Sync, T: Text, F: WrittenAddress + Sync>(
+    rt: &R,
+    text: &mut T,
     peer: &ShownPeerOf<F>,
     entries: &[(RouteKey<Prefix<F>>, RouteRef<'_>)],
     writing: &[LineBlock],
@@ -165,26 +161,22 @@ fn fill_and_put<T: Threads + Sync, W: Sink, F: WrittenAddress + Sync>(
     requires filled { All (IsFilled peer.now entries.now) writing.now }
     requires successive { AreSuccessive start (map range_of writing.now) end }
     requires next { AreRanges (length entries.now) filling.old }
-    ensures put { Writes W.contents W.failure_count out.old text.old out.new text.new
-        (lines_between peer.now start end entries.now) }
+    ensures put { Adds (T.state text.old) (T.state text.new) (lines_between peer.now start end entries.now) }
     ensures ranges { map range_of filling.new ≡ map range_of filling.old }
     ensures filled { All (IsFilled peer.now entries.now) filling.new }
 {
     if filling.is_empty() {
-        return put_line_blocks(text, out, peer, entries, writing, start, end);
+        return put_line_blocks(text, peer, entries, writing, start, end);
     }
     let (some, others) = filling.split_at_mut(next_share(filling.len()));
-    fill_some_and_put(
-        rt, text, out, peer, entries, writing, some, others, start, end,
-    );
+    fill_some_and_put(rt, text, peer, entries, writing, some, others, start, end);
 }
 
 /// Fills some blocks in a thread of their own, and meanwhile does what `fill_and_put` does with the others.
 #[cycle(threads)]
-fn fill_some_and_put<T: Threads + Sync, W: Sink, F: WrittenAddress + Sync>(
-    rt: &T,
-    text: &mut TextBuffer,
-    out: &mut W,
+fn fill_some_and_put<R: Threads + Sync, T: Text, F: WrittenAddress + Sync>(
+    rt: &R,
+    text: &mut T,
     peer: &ShownPeerOf<F>,
     entries: &[(RouteKey<Prefix<F>>, RouteRef<'_>)],
     writing: &[LineBlock],
@@ -197,8 +189,7 @@ fn fill_some_and_put<T: Threads + Sync, W: Sink, F: WrittenAddress + Sync>(
     requires successive { AreSuccessive start (map range_of writing.now) end }
     requires some { 0 < length some.old }
     requires next { AreRanges (length entries.now) some.old × AreRanges (length entries.now) others.old }
-    ensures put { Writes W.contents W.failure_count out.old text.old out.new text.new
-        (lines_between peer.now start end entries.now) }
+    ensures put { Adds (T.state text.old) (T.state text.new) (lines_between peer.now start end entries.now) }
     ensures some { (map range_of some.new ≡ map range_of some.old) × All (IsFilled peer.now entries.now) some.new }
     ensures others { (map range_of others.new ≡ map range_of others.old) ×
         All (IsFilled peer.now entries.now) others.new }
@@ -209,53 +200,40 @@ fn fill_some_and_put<T: Threads + Sync, W: Sink, F: WrittenAddress + Sync>(
             All (IsFilled peer.entry.now entries.entry.now) some.exit.now }
     { fill_each(peer, entries, some) };
     let mut put = || -> ()
-        requires { IsSync T.row × IsSync F.row × All (IsFilled peer.now entries.now) writing.now ×
+        requires { IsSync R.row × IsSync F.row × All (IsFilled peer.now entries.now) writing.now ×
             AreSuccessive start (map range_of writing.now) end × AreRanges (length entries.now) others.now }
-        ensures { Writes W.contents W.failure_count out.entry.now text.entry.now out.exit.now text.exit.now
+        ensures { Adds (T.state text.entry.now) (T.state text.exit.now)
             (lines_between peer.entry.now start end entries.entry.now) ×
             (map range_of others.exit.now ≡ map range_of others.entry.now) ×
             All (IsFilled peer.entry.now entries.entry.now) others.exit.now }
-    { fill_and_put(rt, text, out, peer, entries, writing, others, start, end) };
+    { fill_and_put(rt, text, peer, entries, writing, others, start, end) };
     join_mut(rt, &mut fill, &mut put);
 }
 
 /// Adds the lines of the entries of one peer. After a failed write, no more lines are made.
-fn put_by_line_blocks<T: Threads + Sync, W: Sink, F: WrittenAddress + Sync>(
-    rt: &T,
+fn put_by_line_blocks<R: Threads + Sync, T: Text, F: WrittenAddress + Sync>(
+    rt: &R,
     writing: &mut Vec<LineBlock>,
     filling: &mut Vec<LineBlock>,
-    text: &mut TextBuffer,
-    out: &mut W,
+    text: &mut T,
     peer: &ShownPeerOf<F>,
     entries: &[(RouteKey<Prefix<F>>, RouteRef<'_>)],
 )
     requires { (0 < length writing.old.items) × (0 < length filling.old.items) }
-    ensures { Writes W.contents W.failure_count out.old text.old out.new text.new
-        (reached_lines peer.now entries.now) }
+    ensures { Adds (T.state text.old) (T.state text.new) (reached_lines peer.now entries.now) }
 {
     let mut size = MOST_ENTRIES;
     let mut start = 0;
     let mut end = deal_entries(writing.as_mut_slice(), 0, size, entries.len());
-    fill_and_put(
-        rt,
-        text,
-        out,
-        peer,
-        entries,
-        &[],
-        writing.as_mut_slice(),
-        0,
-        0,
-    );
+    fill_and_put(rt, text, peer, entries, &[], writing.as_mut_slice(), 0, 0);
     while end < entries.len() {
-        if text.has_failed() {
+        if text.buffer().has_failed() {
             return;
         }
         let next = deal_entries(filling.as_mut_slice(), end, size, entries.len());
         fill_and_put(
             rt,
             text,
-            out,
             peer,
             entries,
             writing.as_slice(),
@@ -268,30 +246,27 @@ fn put_by_line_blocks<T: Threads + Sync, W: Sink, F: WrittenAddress + Sync>(
         start = end;
         end = next;
     }
-    put_line_blocks(text, out, peer, entries, writing.as_slice(), start, end);
+    put_line_blocks(text, peer, entries, writing.as_slice(), start, end);
 }
 
 /// Adds the lines of the entries of one peer, by several threads where there are blocks and it pays.
-pub(crate) fn put_all_entries<T: Threads + Sync, W: Sink, F: WrittenAddress + Sync>(
-    rt: &T,
+pub(crate) fn put_all_entries<R: Threads + Sync, T: Text, F: WrittenAddress + Sync>(
+    rt: &R,
     line_blocks: &mut LineBlocks,
-    text: &mut TextBuffer,
-    out: &mut W,
+    text: &mut T,
     peer: &ShownPeerOf<F>,
     entries: &[(RouteKey<Prefix<F>>, RouteRef<'_>)],
 )
-    ensures { Writes W.contents W.failure_count out.old text.old out.new text.new
-        (reached_lines peer.now entries.now) }
+    ensures { Adds (T.state text.old) (T.state text.new) (reached_lines peer.now entries.now) }
 {
     if line_blocks.writing.is_empty() || line_blocks.filling.is_empty() || entries.len() < LARGE {
-        put_entries(text, out, peer, entries);
+        put_entries(text, peer, entries);
     } else {
         put_by_line_blocks(
             rt,
             &mut line_blocks.writing,
             &mut line_blocks.filling,
             text,
-            out,
             peer,
             entries,
         );

@@ -1,7 +1,5 @@
-use Rattle.std.proofs.Common.{ℕ, List, Option, ◌∙◌, ap, map, [], ◌∷◌, ◌++◌, sym, append_assoc}
-use Rattle.std.specs.Borrow.{Bor}
-use Rattle.bgp_prefix.specs.Prefixes.{IpPrefix}
-use Rattle.std.specs.List.{cons_option, filter_map}
+use Rattle.std.proofs.Common.{List, ◌∙◌, ap, [], ◌∷◌, ◌++◌, sym, append_assoc}
+use Rattle.std.specs.List.{filter_map}
 use Rattle.std.proofs.lemmas.List.{take_all}
 use Rattle.bgp_prefix.specs.Keys.{RouteKey}
 use Rattle.bgp_update.specs.declared.route.Route.{Route}

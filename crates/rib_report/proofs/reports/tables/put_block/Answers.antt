@@ -1,7 +1,5 @@
-use Rattle.std.proofs.Common.{ap}
 use Rattle.rib_report.specs.Lines.{route_line}
 use Rattle.rib_report.specs.Reports.{entry_row}
-use Rattle.rib_report.proofs.TextLaws.{Adds_as}
 use Rattle.rib_report.proofs.JoinLaws.{Adds_item, Adds_items}
 use Rattle.rib_report.proofs.reports.tables.put_block.Goals as goal
 

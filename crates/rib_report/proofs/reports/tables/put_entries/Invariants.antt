@@ -1,6 +1,6 @@
 -- the lines so far
 use Rattle.std.proofs.Common.{◌<◌, ◌≤◌, ◌-◌, length, take}
-use Rattle.rib_report.specs.Texts.{Writes}
+use Rattle.rib_report.specs.Texts.{Adds}
 use Rattle.rib_report.specs.Listings.{reached_lines}
 use Rattle.rib_report.proofs.reports.tables.put_entries.Given as goal
 
@@ -8,7 +8,7 @@ abbrev pub invariant-loop-done : goal.invariant-loop-done
 invariant-loop-done g l = record {
   within : l.done ≤ length l.entries;
   goes_on : 0 < l.near;
-  written : Writes g.W.Sink.contents g.W.Failures.failure_count l.initial.out l.initial.text l.out l.text (reached_lines l.peer (take l.done l.entries));
+  written : Adds (g.T.Text.state l.initial.text) (g.T.Text.state l.text) (reached_lines l.peer (take l.done l.entries));
 }
 
 abbrev pub decreases-loop-done : goal.decreases-loop-done

@@ -1,4 +1,4 @@
-use Rattle.std.proofs.Common.{◌≡◌, ◌≤◌, ◌∙◌, length, arith, rules}
+use Rattle.std.proofs.Common.{◌≡◌, ◌∙◌, rules}
 use Rattle.mrt_frame.specs.Faults.{kind_name, fault_name}
 use Rattle.ip_text.proofs.FormatLaws.{Formats_as, Formats_within}
 use Rattle.rib_report.proofs.reports.faults.FaultField.format.Goals as goal

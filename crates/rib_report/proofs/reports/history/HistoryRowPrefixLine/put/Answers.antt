@@ -1,9 +1,9 @@
-use Rattle.std.proofs.Common.{◌≡◌, ◌∷◌, ◌++◌, List, ℕ, Option, Some, None, refl, sym, ap, ◌∙◌, arith}
+use Rattle.std.proofs.Common.{◌∷◌, ◌++◌, List, ℕ, Option, sym, ap, ◌∙◌, arith}
 use Rattle.bgp_prefix.specs.Keys.{RouteKey}
 use Rattle.bgp_update.specs.declared.route.Route.{Route}
 use Rattle.mrt_body.specs.declared.unit.PeerKey.{PeerKey}
 use Rattle.rib_report.specs.Plain.{AddressForms}
-use Rattle.adj_rib.specs.declared.note.What.{What}
+use Rattle.adj_rib.specs.declared.outcome.What.{What}
 use Rattle.peer_tables.specs.declared.history.By.{By}
 use Rattle.rib_report.specs.Fields.{time_text}
 use Rattle.rib_report.specs.Lines.{peer_text, key_text}

@@ -6,4 +6,4 @@ pub put-requires : goal.put-requires
 put-requires g c = let few = g.met.F.WrittenAddress.few in omega (arith, few)
 
 pub returns : goal.returns
-returns g c = rw (← c.as_slice.ensures) (Adds_trans (Adds_trans c.put.ensures (Adds_trans c.put_byte.ensures c.put_numbers.ensures)) c.put_byte-2.ensures)
+returns g c = rw (← c.as_slice.ensures) (Adds_trans (Adds_trans c.put.ensures (Adds_trans c.put-2.ensures c.put_numbers.ensures)) c.put-3.ensures)

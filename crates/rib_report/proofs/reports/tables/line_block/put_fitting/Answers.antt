@@ -1,7 +1,5 @@
-use Rattle.std.proofs.Common.{ap}
 use Rattle.rib_report.specs.Lines.{route_line}
 use Rattle.rib_report.specs.Reports.{entry_row}
-use Rattle.rib_report.proofs.TextLaws.{Adds_as}
 use Rattle.rib_report.proofs.JoinLaws.{Adds_item}
 use Rattle.rib_report.proofs.reports.tables.line_block.put_fitting.Goals as goal
 

@@ -1,7 +1,6 @@
 -- the lines so far
 use Rattle.std.proofs.Common.{◌<◌, ◌≤◌, ◌-◌}
-use Rattle.rib_report.specs.Texts.{Writes}
-use Rattle.rib_report.specs.NullSink.{null_sink_contents, null_sink_failures}
+use Rattle.rib_report.specs.Texts.{Adds}
 use Rattle.rib_report.specs.LineBlocks.{lines_between}
 use Rattle.rib_report.proofs.reports.tables.line_block.put_while_fitting.Given as goal
 
@@ -10,7 +9,7 @@ invariant-loop-done g l = record {
   from : l.start ≤ l.done;
   to : l.done ≤ l.end;
   goes_on : 0 < l.writing;
-  written : Writes null_sink_contents null_sink_failures l.initial.null_sink l.initial.text l.null_sink l.text (lines_between l.peer l.start l.done l.entries);
+  written : Adds (g.T.Text.state l.initial.text) (g.T.Text.state l.text) (lines_between l.peer l.start l.done l.entries);
 }
 
 abbrev pub decreases-loop-done : goal.decreases-loop-done

@@ -16,7 +16,7 @@ returns-then-has_failed g c =
     let start = c.loop-end.start in
     let so_far = Adds_next c.args.peer.now entries 0 0 start (omega arith) (omega arith) c.fill_and_put.ensures.put c.loop-end.invariant.written in
     Adds_failed (λ e. route_line c.args.peer.now.forms (entry_row c.args.peer.now.key e)) entries start
-    (Adds_as (ap (reached_lines c.args.peer.now) (between_from_start entries start)) so_far) (sym c.has_failed.ensures ∙ c.if-has_failed.true)
+    (Adds_as (ap (reached_lines c.args.peer.now) (between_from_start entries start)) so_far) cc
 
 pub loop-end-init : goal.loop-end-init
 loop-end-init g c =

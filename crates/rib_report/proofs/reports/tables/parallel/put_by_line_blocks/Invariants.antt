@@ -1,7 +1,7 @@
 -- the blocks that are filled come next
 use Rattle.std.proofs.Common.{◌<◌, ◌≤◌, ◌-◌, map, length}
 use Rattle.std.specs.List.{All}
-use Rattle.rib_report.specs.Texts.{Writes}
+use Rattle.rib_report.specs.Texts.{Adds}
 use Rattle.rib_report.specs.LineBlocks.{AreSuccessive, IsFilled, lines_between, range_of}
 use Rattle.rib_report.proofs.reports.tables.parallel.put_by_line_blocks.Given as goal
 
@@ -14,7 +14,7 @@ invariant-loop-end g l = record {
   within : l.end ≤ length l.entries;
   filled : All (IsFilled l.peer l.entries) l.writing.items;
   successive : AreSuccessive l.start (map range_of l.writing.items) l.end;
-  written : Writes g.W.Sink.contents g.W.Failures.failure_count l.initial.out l.initial.text l.out l.text (lines_between l.peer 0 l.start l.entries);
+  written : Adds (g.T.Text.state l.initial.text) (g.T.Text.state l.text) (lines_between l.peer 0 l.start l.entries);
 }
 
 abbrev pub decreases-loop-end : goal.decreases-loop-end

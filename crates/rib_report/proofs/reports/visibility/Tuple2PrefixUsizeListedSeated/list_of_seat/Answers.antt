@@ -6,7 +6,6 @@ use Rattle.bgp_prefix.specs.Keys.{RouteKey}
 use Rattle.bgp_update.specs.declared.route.Route.{Route}
 use Rattle.bgp_prefix.specs.Prefixes.{IpPrefix}
 use Rattle.rib_report.specs.Runs.{is_last, new_after, without_repeats}
-use Rattle.peer_tables.proofs.RowLaws.{map_twice}
 use Rattle.peer_tables.specs.Seats.{seat_of}
 use Rattle.rib_report.specs.Reports.{HasOrder}
 use Rattle.rib_report.proofs.VisibilityLaws.{visible_at_one}
