@@ -207,13 +207,14 @@ impl<D: Read> Unpacked<D> {
 impl<D: Read + Drop> Unpacked<D> {
     ghost use Rattle.packed_io.specs.Reading.{HasEnded, HasFailed, IsPacked, unpacked_remaining};
 
-    /// Gives bytes of a plain file's block, as many as it has left and as there is room for. Nothing is read: where there
-    /// are none, `read` goes on. Whoever reads a few bytes at a time asks here first, and clears and copies no result with
-    /// its error.
+    /// Gives bytes of a plain file's block, as many as it has left and as there is room for. Nothing is read: where
+    /// there are none, `read` goes on. Whoever reads a few bytes at a time asks here first, and clears and copies no
+    /// result with its error.
     #[inline(always)]
     pub fn take_held(&mut self, buf: &mut [u8]) -> usize
         ensures bound { result ≤ length buf.new }
         ensures bytes { Consumes (unpacked_remaining D.remaining self.old) (unpacked_remaining D.remaining self.new) (take result buf.new) }
+        ensures packed { IsPacked self.old → (result ≡ 0) × (self.new ≡ self.old) }
     {
         match &mut self.stage {
             Stage::Plain(blocks) => blocks.take_held(buf),

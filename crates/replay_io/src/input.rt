@@ -4,7 +4,7 @@ ghost use Rattle.std.specs.Prelude.{◌≡◌, ◌≤◌, length, take};
 ghost use Rattle.std.specs.Io.{ReadsAtMost};
 ghost use Rattle.std.specs.Io.KnownBytes.{Consumes, ReadConsumes};
 ghost use Rattle.packed_io.specs.Formats.{told_of};
-ghost use Rattle.replay_io.specs.Devices.{contents_remaining, dump_contents, dump_remaining};
+ghost use Rattle.replay_io.specs.Devices.{AreContentsPacked, contents_remaining, dump_contents, dump_remaining};
 
 use crate::counts::Counts;
 use crate::files::{Device, Files};
@@ -109,6 +109,7 @@ impl<D: Read + Drop> Contents<'_, D> {
     fn take_held(&mut self, buf: &mut [u8]) -> usize
         ensures bound { result ≤ length buf.new }
         ensures bytes { Consumes (contents_remaining D.remaining self.old) (contents_remaining D.remaining self.new) (take result buf.new) }
+        ensures packed { AreContentsPacked self.old → (result ≡ 0) × (self.new ≡ self.old) }
     {
         match self {
             Contents::Here(unpacked) => unpacked.take_held(buf),
