@@ -1,18 +1,15 @@
 -- The tables of what a settled replayer was dealt.
-use Rattle.std.proofs.Common.{◌≡◌, ℕ, zero, suc, ◌+◌, ◌<◌, ◌≤◌, Bool, false, List, [], ◌∷◌, ◌++◌, length, map, get_or, nat_eq, refl, sym, ap, ◌∙◌, subst, arith}
+use Rattle.std.proofs.Common.{◌≡◌, ℕ, ◌+◌, ◌<◌, ◌≤◌, Bool, false, List, [], ◌∷◌, ◌++◌, length, map, get_or, nat_eq, refl, sym, ap, ◌∙◌, subst, arith}
 use Rattle.std.proofs.Math.ListN.{get_or-map}
 use Rattle.std.proofs.Math.Logic.{∥∥₁_elim}
-use Rattle.std.specs.List.{flat_map, IsDistinct, AllByRecursion, range_with_len, enumerate_from}
+use Rattle.std.specs.List.{flat_map, IsDistinct}
 use Rattle.std.specs.List.Sorted.{IsPermutation, IsStrictlyIncreasing}
-use Rattle.std.proofs.lemmas.Bool.{ne_eqb}
 use Rattle.std.proofs.lemmas.List.Sorted.{IsPermutation-map, IsPermutation-sym}
 use Rattle.std.proofs.lemmas.Map.Keys.{IsDistinct-IsPermutation, IsDistinct-prop}
 use Rattle.std.proofs.lemmas.Cmp.{nat_eq_equiv}
-use Rattle.std.proofs.lemmas.Simd.{map-map}
 use Rattle.lane_deal.specs.UnitRings.{sent, known_free, received, known_items, ring_capacity, IsPair}
 use Rattle.mrt_body.specs.declared.unit.Damage.{Damage}
 use Rattle.mrt_body.specs.Plain.{Unit as ReplayUnit}
-use Rattle.peer_tables.specs.Peers.{peers_of}
 use Rattle.peer_tables.specs.Seats.{seat_of}
 use Rattle.peer_tables.specs.Tables.{Seat, TablesState, tables_of}
 use Rattle.bgp_prefix.specs.declared.family.Family.{Ghosts as AddressGhosts}
@@ -26,33 +23,17 @@ use Rattle.lane_deal.specs.LaneRings.{AreReady}
 use Rattle.lane_deal.specs.Replayers.{LaneState, ReplayerState, ReplayerStandsFor, StandsForSome}
 use Rattle.lane_deal.specs.Rounds.{IsSettled}
 use Rattle.lane_deal.specs.Shown.{lane_state, lane_states, state_at}
-use Rattle.lane_deal.proofs.Numbering.{numbers_of_positions}
+use Rattle.lane_deal.proofs.Rising.{distinct}
 use Rattle.lane_deal.proofs.SeatLaws.{numbers_rise}
 use Rattle.lane_deal.proofs.SettledLaws.{settled_seats}
 use Rattle.lane_deal.proofs.Bridges.{length-lane_states}
 
 -- ---- numbers
 
-below_differ : (a b n : ℕ) → a < b → AllByRecursion (λ y. nat_eq a y ≡ false) (range_with_len b n)
-below_differ a b zero h = tt
-below_differ a b (suc n) h = (ne_eqb a b (λ e. omega (arith, h, e)), below_differ a (b + 1) n (omega (arith, h)))
-
-range_differs : (a n : ℕ) → IsDistinct nat_eq (range_with_len a n)
-unfolding IsDistinct
-range_differs a zero = tt
-range_differs a (suc n) = (below_differ a (a + 1) n (omega arith), range_differs (a + 1) n)
-
-table_numbers : (units : List ReplayUnit) (refused : List Damage) → map (λ s. s.number) (tables_of units refused).seats ≡ range_with_len 0 (length (peers_of units))
-unfolding tables_of
-table_numbers units refused = map-map (λ (s : Seat). s.number) _ (enumerate_from 0 (peers_of units)) ∙ numbers_of_positions 0 (peers_of units)
-
-pub tables_differ : (units : List ReplayUnit) (refused : List Damage) → IsDistinct nat_eq (map (λ s. s.number) (tables_of units refused).seats)
-tables_differ units refused = subst (IsDistinct nat_eq) (sym (table_numbers units refused)) (range_differs 0 (length (peers_of units)))
-
 pub settled_differ : (dealing : ℕ → ℕ → ℕ) (capacity : ℕ) (units : List ReplayUnit) (refused : List Damage) (r : ReplayerState) → ((number : ℕ) → dealing number (length r.lanes) < length r.lanes)
     → ReplayerStandsFor dealing capacity units refused r → IsSettled r → IsDistinct nat_eq (map (λ s. s.number) (flat_map (λ lane. lane.seats) r.lanes))
 settled_differ dealing capacity units refused r below stands settled =
-    IsDistinct-IsPermutation nat_eq nat_eq_equiv.symm _ _ (IsPermutation-map (λ (s : Seat). s.number) _ _ (IsPermutation-sym _ _ (settled_seats dealing capacity units refused r below stands settled))) (tables_differ units refused)
+    IsDistinct-IsPermutation nat_eq nat_eq_equiv.symm _ _ (IsPermutation-map (λ (s : Seat). s.number) _ _ (IsPermutation-sym _ _ (settled_seats dealing capacity units refused r below stands settled))) (distinct _ (numbers_rise units refused))
 
 pub tables_same : (units : List ReplayUnit) (refused : List Damage) → record { seats = (tables_of units refused).seats; refused = refused } ≡ tables_of units refused
 unfolding tables_of

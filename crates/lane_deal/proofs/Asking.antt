@@ -12,10 +12,10 @@ use Rattle.std.proofs.lemmas.List.{append-nil, map-append}
 use Rattle.mrt_body.specs.declared.unit.Damage.{Damage}
 use Rattle.mrt_body.specs.Plain.{Found}
 use Rattle.mrt_body.specs.declared.unit.Found.TheVariants as found
-use Rattle.mrt_body.specs.ToCome.{UnitsState, KeepsPlan, NothingToCome, HasEnded, GivesAllBefore, found_to_come, HasCause}
+use Rattle.mrt_body.specs.ToCome.{UnitsState, KeepsPlan, GivesAllBefore, found_to_come}
 use Rattle.mrt_body.specs.Readings.{Gives}
 use Rattle.lane_deal.specs.Results.{IfAnswered}
-use Rattle.lane_deal.specs.Asking.{TakesUnits, StopsReading, StopsBehind, as_refused, GivesFront, GivesAll, Asked, AskedInVain}
+use Rattle.lane_deal.specs.Asking.{TakesUnits, StopsReading, StopsBehind, as_refused, GivesFront, GivesAll, AskedInVain}
 
 abbrev Known : Type 0
 Known = List (Option (List ℕ))
@@ -77,14 +77,6 @@ stops_later u u' k k' given before now after errors.Records p same h = λ conten
     omega arith
 stops_later u u' k k' given before now after errors.Spent p same h = sym p.state ∙ h
 
--- why one call of the reading stops it
-pub stops_one : (u u' : UnitsState) (k : Known) (before after : List ℕ) (e : ReplayError) → (u.state ≡ states.Failed → u' ≡ u) → HasCause u k u' before after e → StopsReading u k before after e
-stops_one u u' k before after (errors.Read file) same h = elim h.2 [ inl f ↦ inl (f, sym h.0 ∙ ap (λ (v : UnitsState). v.file) (same f)) | inr rose ↦ inr rose ]
-stops_one u u' k before after errors.Write same h = h
-stops_one u u' k before after errors.Memory same h = tt
-stops_one u u' k before after errors.Records same h = h.3
-stops_one u u' k before after errors.Spent same h = h.0
-
 -- ---- what stands before a failed read
 
 -- one call of the reading whose read failed
@@ -127,10 +119,6 @@ pub all_more_given : (a b : UnitsState) (k k' : Known) (given more : List Found)
 all_more_given a b k k' given more p q contents h =
     let x = p.found contents h in x.2.found ∙ ap (λ l. given ++ l) (q x.0 x.1)
 
-pub all_given : (a b : UnitsState) (k k' : Known) (given : List Found) → TakesUnits a k b k' given → NothingToCome b k' → GivesAll a k given
-all_given a b k k' given p none contents h =
-    let x = p.found contents h in x.2.found ∙ ap (λ l. given ++ l) (none x.0 x.1) ∙ append-nil given
-
 -- these refusals were listed so far
 pub record Listed (r r' : List Damage) (u : UnitsState) (k : Known) (u' : UnitsState) (k' : Known) : Type 0 where
   pub listed : List Damage
@@ -146,17 +134,6 @@ Listed-more r r' r'' a b c k k' k'' damage p q e =
       listed = p.listed ++ damage ∷ [];
       refused = e ∙ ap (λ l. l ++ damage ∷ []) p.refused ∙ append_assoc r p.listed (damage ∷ []);
       takes = subst (TakesUnits a k c k'') (sym (map-append (λ d. found.Refused d) p.listed (damage ∷ []))) (TakesUnits-more a b c k k' k'' (as_refused p.listed) (found.Refused damage ∷ []) p.takes q);
-    }
-
-pub Asked-listed : (r r' : List Damage) (a b c : UnitsState) (k k' k'' : Known) → Listed r r' a k b k' → TakesUnits b k' c k'' [] → c.state ≡ states.Reading → (c.pending ≡ [] → NothingToCome b k') → (c.pending ≡ [] → HasEnded c) → Asked r r' a k c k''
-Asked-listed r r' a b c k k' k'' p q reading none ended =
-    record {
-      listed = p.listed;
-      refused = p.refused;
-      takes = subst (TakesUnits a k c k'') (append-nil (as_refused p.listed)) (TakesUnits-more a b c k k' k'' _ _ p.takes q);
-      state = reading;
-      ended = λ e. all_given a b k k' _ p.takes (none e);
-      at_end = λ e. (ended e).1;
     }
 
 pub AskedInVain-from : (r r' : List Damage) (a b c : UnitsState) (k k' k'' : Known) (file : ℕ) → Listed r r' a k b k' → (b.state ≡ states.Reading → GivesAllBefore b k' c k'' (errors.Read file)) → AskedInVain r r' a k c k''

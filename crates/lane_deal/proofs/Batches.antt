@@ -25,8 +25,3 @@ decoded_at batch items at d p within =
       head = λ e. ap (λ hs. slice_index_or hs at e) p.heads ∙ get_or-map head_of items at d e l;
       event = λ e. ap (λ es. slice_index_or es at e) p.events ∙ get_or-map (λ (i : PeerUnit). event_in i.unit.payload) items at d e l;
     }
-
--- an item of a list that has one at this index
-pub some_item : {X : Type 0} (xs : List X) (i : ℕ) → i < length xs → X
-some_item [] i l = absurd (omega arith)
-some_item (x ∷ xs) i l = x

@@ -1,5 +1,5 @@
 -- Lanes of numbered units, and lanes as definitions see them.
-use Rattle.std.proofs.Common.{◌≡◌, ℕ, zero, suc, ◌<◌, ◌≤◌, ◌||◌, Bool, true, false, cond, eqb, List, [], ◌∷◌, ◌++◌, length, map, get_or, Some, refl, sym, ap, ◌∙◌, subst, arith}
+use Rattle.std.proofs.Common.{◌≡◌, ℕ, zero, suc, ◌<◌, ◌≤◌, ◌||◌, Bool, true, false, cond, eqb, List, [], ◌∷◌, ◌++◌, length, get_or, Some, refl, sym, ap, ◌∙◌, subst, arith}
 use Rattle.std.specs.Prelude.{slice_get}
 use Rattle.std.specs.List.{filter, list_any, AllByRecursion}
 use Rattle.std.proofs.lemmas.List.{length-map, map-append}
@@ -21,20 +21,13 @@ use Rattle.lane_deal.specs.Numbers.{with_number, with_numbers, units_in}
 use Rattle.lane_deal.specs.Replayers.{LaneState, LaneStandsFor}
 use Rattle.lane_deal.specs.Seating.{seat_by, seats_by}
 use Rattle.lane_deal.specs.Shown.{lane_state, lane_states, SeatsHold}
-use Rattle.lane_deal.proofs.Peers.{is_seen, listed_peer, numbers_stay, all_more}
+use Rattle.lane_deal.proofs.Lists.{all_both, all_filtered, all_mapped, all_more, all_of, all_unmapped, back_of, filter_mapped, front_of, map_alike}
+use Rattle.lane_deal.proofs.Peers.{is_seen, listed_peer, numbers_stay}
 use Rattle.peer_tables.proofs.PeerPositions.{listed_gets, some_is}
-use Rattle.lane_deal.proofs.SeatLists.{front_of, back_of, seen_more}
-use Rattle.lane_deal.proofs.SettledLaws.{all_peers, all_filtered, map_alike}
+use Rattle.lane_deal.proofs.SeatLists.{seen_more}
+use Rattle.lane_deal.proofs.SettledLaws.{all_peers}
 
 -- ---- lists
-
-pub filter_mapped : {X Y : Type 0} (p : Y → Bool) (f : X → Y) (xs : List X) → filter p (map f xs) ≡ map f (filter (λ x. p (f x)) xs)
-filter_mapped p f [] = refl
-filter_mapped p f (x ∷ xs) =
-    elim (p (f x)) as (λ b. cond b (f x ∷ filter p (map f xs)) (filter p (map f xs)) ≡ map f (cond b (x ∷ filter (λ x. p (f x)) xs) (filter (λ x. p (f x)) xs))) [
-      | true ↦ ap (λ l. f x ∷ l) (filter_mapped p f xs)
-      | false ↦ filter_mapped p f xs
-    ]
 
 any_filtered : {X : Type 0} (p r : X → Bool) (xs : List X) → list_any p (filter r xs) ≡ true → list_any p xs ≡ true
 any_filtered p r [] e = e
@@ -43,22 +36,6 @@ any_filtered p r (x ∷ xs) e =
       | true ↦ λ h. elim (p x) as (λ b. (b || list_any p (filter r xs)) ≡ true → (b || list_any p xs) ≡ true) [ true ↦ λ _. refl | false ↦ λ k. any_filtered p r xs k ] h
       | false ↦ λ h. ap (λ b. p x || b) (any_filtered p r xs h) ∙ or-true (p x)
     ] e
-
-all_mapped : {X Y : Type 0} (f : X → Y) (P : Y → Type 0) (xs : List X) → AllByRecursion (λ x. P (f x)) xs → AllByRecursion P (map f xs)
-all_mapped f P [] h = tt
-all_mapped f P (x ∷ xs) h = (h.0, all_mapped f P xs h.1)
-
-all_unmapped : {X Y : Type 0} (f : X → Y) (P : Y → Type 0) (xs : List X) → AllByRecursion P (map f xs) → AllByRecursion (λ x. P (f x)) xs
-all_unmapped f P [] h = tt
-all_unmapped f P (x ∷ xs) h = (h.0, all_unmapped f P xs h.1)
-
-all_refl : (keys : List PeerKey) (units : List ReplayUnit) → AllByRecursion (λ u. with_number keys u ≡ with_number keys u) units
-all_refl keys [] = tt
-all_refl keys (u ∷ units) = (refl, all_refl keys units)
-
-all_both : {X : Type 0} (P Q R : X → Type 0) (xs : List X) → ((x : X) → P x → Q x → R x) → AllByRecursion P xs → AllByRecursion Q xs → AllByRecursion R xs
-all_both P Q R [] f h k = tt
-all_both P Q R (x ∷ xs) f h k = (f x h.0 k.0, all_both P Q R xs f h.1 k.1)
 
 -- ---- numbers
 
@@ -130,7 +107,7 @@ module _ {M A : Type 0} {g : Ghosts M RouteId A} {a : AddressGhosts A} (lane_of 
       let keys = peers_of units in
       let waits = sent f.producer in
       let whole : h.taken ++ waits ≡ with_numbers keys own = h.whole ∙ lane_items lane_of units lane in
-      let proper = subst (AllByRecursion (λ x. with_number keys x.unit ≡ x)) (sym whole) (all_mapped (with_number keys) (λ x. with_number keys x.unit ≡ x) own (all_refl keys own)) in
+      let proper = subst (AllByRecursion (λ x. with_number keys x.unit ≡ x)) (sym whole) (all_mapped (with_number keys) (λ x. with_number keys x.unit ≡ x) own (all_of own (λ u. refl))) in
       let taken_is = renumbered keys h.taken (front_of (λ x. with_number keys x.unit ≡ x) h.taken waits proper) in
       let sent_is = renumbered keys waits (back_of (λ x. with_number keys x.unit ≡ x) h.taken waits proper) in
       let units_whole : units_in h.taken ++ units_in waits ≡ own = sym (map-append (λ x. x.unit) h.taken waits) ∙ ap units_in whole ∙ units_numbered keys own in

@@ -1,38 +1,18 @@
 -- Lists of the items of each class, put together.
-use Rattle.std.proofs.Common.{◌≡◌, ◌≢◌, ℕ, zero, suc, ◌+◌, ◌<◌, ◌≤◌, inl, inr, ◌||◌, Bool, true, false, cond, eqb, List, [], ◌∷◌, ◌++◌, refl, sym, ap, ◌∙◌, arith}
+use Rattle.std.proofs.Common.{◌≡◌, ◌≢◌, ℕ, zero, suc, ◌+◌, ◌<◌, ◌≤◌, inl, inr, Bool, true, false, cond, eqb, List, [], ◌∷◌, ◌++◌, refl, sym, ap, ◌∙◌, arith}
 use Rattle.std.specs.List.{filter, flat_map, list_any, range_with_len, AllByRecursion}
 use Rattle.std.proofs.lemmas.Bool.{eq-eqb, ne_eqb, cases_lt}
 use Rattle.std.proofs.lemmas.List.{append-nil}
 use Rattle.std.proofs.lemmas.List.Elements.{filter-append}
+use Rattle.std.proofs.lemmas.Map.Views.{any-filter_same}
+use Rattle.lane_deal.proofs.Lists.{all_more, all_pass, all_push, none_pass}
 use Rattle.lane_deal.proofs.Classes.{of_class}
 
 -- ---- filters
 
--- what a test keeps passes it
-pub kept_pass : {X : Type 0} (P : X → Type 0) (p : X → Bool) (xs : List X) → ((x : X) → p x ≡ true → P x) → AllByRecursion P (filter p xs)
-kept_pass P p [] h = tt
-kept_pass P p (x ∷ xs) h =
-    elim (p x) as (λ b. p x ≡ b → AllByRecursion P (cond b (x ∷ filter p xs) (filter p xs))) [ true ↦ λ e. (h x e, kept_pass P p xs h) | false ↦ λ _. kept_pass P p xs h ] refl
-
-pub all_pass : {X : Type 0} (p : X → Bool) (xs : List X) → AllByRecursion (λ x. p x ≡ true) xs → filter p xs ≡ xs
-all_pass p [] h = refl
-all_pass p (x ∷ xs) h = ap (λ b. cond b (x ∷ filter p xs) (filter p xs)) h.0 ∙ ap (λ l. x ∷ l) (all_pass p xs h.1)
-
-pub none_pass : {X : Type 0} (p : X → Bool) (xs : List X) → AllByRecursion (λ x. p x ≡ false) xs → filter p xs ≡ []
-none_pass p [] h = refl
-none_pass p (x ∷ xs) h = ap (λ b. cond b (x ∷ filter p xs) (filter p xs)) h.0 ∙ none_pass p xs h.1
-
-any_kept : {X : Type 0} (p : X → Bool) (xs : List X) → list_any p xs ≡ list_any p (filter p xs)
-any_kept p [] = refl
-any_kept p (x ∷ xs) =
-    elim (p x) as (λ b. p x ≡ b → (b || list_any p xs) ≡ list_any p (cond b (x ∷ filter p xs) (filter p xs))) [
-      | true ↦ λ e. sym (ap (λ b. b || list_any p (filter p xs)) e)
-      | false ↦ λ e. any_kept p xs
-    ] refl
-
 -- lists of which a test keeps the same
 pub any_alike : {X : Type 0} (p : X → Bool) (xs ys : List X) → filter p xs ≡ filter p ys → list_any p xs ≡ list_any p ys
-any_alike p xs ys e = any_kept p xs ∙ ap (list_any p) e ∙ sym (any_kept p ys)
+any_alike p xs ys e = sym (any-filter_same p p true (λ x h. h) xs) ∙ ap (list_any p) e ∙ any-filter_same p p true (λ x h. h) ys
 
 -- two tests, one after the other
 pub filters_swapped : {X : Type 0} (c p q : X → Bool) (xs : List X) → ((x : X) → c x ≡ true → p x ≡ q x) → filter p (filter c xs) ≡ filter c (filter q xs)
@@ -57,13 +37,10 @@ filters_swapped c p q (x ∷ xs) h =
 
 module _ {X : Type 0} (class : X → ℕ) where
   all_own : (xs : List X) (c : ℕ) → AllByRecursion (λ x. class x ≡ c) xs → of_class class xs c ≡ xs
-  all_own [] c h = refl
-  all_own (x ∷ xs) c h = ap (λ b. cond b (x ∷ of_class class xs c) (of_class class xs c)) (eq-eqb (class x) c h.0) ∙ ap (λ l. x ∷ l) (all_own xs c h.1)
+  all_own xs c h = all_pass (λ x. eqb (class x) c) xs (all_more xs (λ x e. eq-eqb (class x) c e) h)
 
   none_own : (xs : List X) (c e : ℕ) → c ≢ e → AllByRecursion (λ x. class x ≡ e) xs → of_class class xs c ≡ []
-  none_own [] c e ne h = refl
-  none_own (x ∷ xs) c e ne h =
-      ap (λ b. cond b (x ∷ of_class class xs c) (of_class class xs c)) (let is = h.0 in ne_eqb (class x) c (λ same. ne (sym same ∙ is))) ∙ none_own xs c e ne h.1
+  none_own xs c e ne h = none_pass (λ x. eqb (class x) c) xs (all_more xs (λ x is. ne_eqb (class x) c (λ same. ne (sym same ∙ is))) h)
 
 module _ {X : Type 0} (class : X → ℕ) (lists : ℕ → List X) (own : (c : ℕ) → AllByRecursion (λ x. class x ≡ c) (lists c)) where
   one_more : (first count c : ℕ) → of_class class (flat_map lists (range_with_len first (suc count))) c ≡ of_class class (lists first) c ++ of_class class (flat_map lists (range_with_len (first + 1) count)) c
@@ -97,18 +74,10 @@ module _ {X : Type 0} (class : X → ℕ) (lists : ℕ → List X) (own : (c : �
         | inr l ↦ elsewhere 0 count c (λ e low high is. omega (arith, l, high, is)) ∙ sym (past c l)
       ]
 
-  all_append : (P : X → Type 0) (xs ys : List X) → AllByRecursion P xs → AllByRecursion P ys → AllByRecursion P (xs ++ ys)
-  all_append P [] ys h k = k
-  all_append P (x ∷ xs) ys h k = (h.0, all_append P xs ys h.1 k)
-
-  all_below : (xs : List X) (c bound : ℕ) → c < bound → AllByRecursion (λ x. class x ≡ c) xs → AllByRecursion (λ x. class x < bound) xs
-  all_below [] c bound l h = tt
-  all_below (x ∷ xs) c bound l h = (let is = h.0 in omega (arith, l, is), all_below xs c bound l h.1)
-
   lists_below : (first count bound : ℕ) → first + count ≤ bound → AllByRecursion (λ x. class x < bound) (flat_map lists (range_with_len first count))
   lists_below first zero bound h = tt
   lists_below first (suc count) bound h =
-      all_append (λ x. class x < bound) (lists first) (flat_map lists (range_with_len (first + 1) count)) (all_below (lists first) first bound (omega (arith, h)) (own first)) (lists_below (first + 1) count bound (omega (arith, h)))
+      all_push (λ x. class x < bound) (lists first) (flat_map lists (range_with_len (first + 1) count)) (all_more (lists first) (λ x is. omega (arith, h, is)) (own first)) (lists_below (first + 1) count bound (omega (arith, h)))
 
   -- and no item is of another class
   pub in_lists : (count : ℕ) → AllByRecursion (λ x. class x < count) (flat_map lists (range_with_len 0 count))

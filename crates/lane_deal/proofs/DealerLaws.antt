@@ -9,10 +9,9 @@ use Rattle.std.proofs.lemmas.List.Folds.{list_any-append}
 use Rattle.std.proofs.Math.Bool.{or-true}
 use Rattle.mrt_frame.specs.declared.error.ReplayError.{ReplayError}
 use Rattle.mrt_body.specs.declared.unit.Damage.{Damage}
-use Rattle.mrt_body.specs.Plain.{Found}
+use Rattle.mrt_body.specs.Plain.{Found, Unit as ReplayUnit}
 use Rattle.mrt_body.specs.declared.unit.Found.TheVariants as found
 use Rattle.mrt_body.specs.declared.unit.PeerKey.{PeerKey}
-use Rattle.mrt_body.specs.Plain.{Unit as ReplayUnit}
 use Rattle.mrt_body.specs.Units.{unit_of, damage_of}
 use Rattle.mrt_body.specs.ToCome.{UnitsState, GivesPending, KeepsPlan, TakesFound, as_found, units_left}
 use Rattle.peer_tables.specs.Peers.{peer_eq, peers_of}
@@ -29,7 +28,8 @@ use Rattle.lane_deal.specs.Numbers.{with_number, with_numbers}
 use Rattle.lane_deal.proofs.Asking.{TakesUnits-none, TakesUnits-more, front_from_takes, front_more, all_more_given, behind_more}
 use Rattle.lane_deal.proofs.Numbering.{unlisted}
 use Rattle.peer_tables.proofs.PeerPositions.{listed_now, peer_itself, first_position}
-use Rattle.lane_deal.proofs.Peers.{is_seen, new_peer, peers_of-append, listed_peer, all_more}
+use Rattle.lane_deal.proofs.Lists.{all_more, all_push}
+use Rattle.lane_deal.proofs.Peers.{is_seen, new_peer, peers_of-append, listed_peer}
 
 abbrev Known : Type 0
 Known = List (Option (List ℕ))
@@ -93,10 +93,6 @@ AreListed keys units = AllByRecursion (λ u. list_any (peer_eq u.peer) keys ≡ 
 pub listed_more : (keys more : List PeerKey) (units : List ReplayUnit) → AreListed keys units → AreListed (keys ++ more) units
 listed_more keys more units h =
     all_more units (λ u e. list_any-append (peer_eq u.peer) keys more ∙ ap (λ b. b || list_any (peer_eq u.peer) more) e) h
-
-pub all_push : {X : Type 0} (P : X → Type 0) (xs ys : List X) → AllByRecursion P xs → AllByRecursion P ys → AllByRecursion P (xs ++ ys)
-all_push P [] ys h k = k
-all_push P (x ∷ xs) ys h k = (h.0, all_push P xs ys h.1 k)
 
 -- numbers stay as more peers come
 pub numbered_stay : (keys more : List PeerKey) (units : List ReplayUnit) → AreListed keys units → with_numbers (keys ++ more) units ≡ with_numbers keys units
@@ -173,36 +169,6 @@ module _ {D : Type 0} where
         asks = asks;
         order = ap (λ o. to_deal o (as_refused p.listed)) none;
         refused = p.refused;
-      }
-
-  -- so far
-  pub record SoFar (old new : Dealer D) (u : UnitsState) (k : Known) (u' : UnitsState) (k' : Known) (count : ℕ) : Type 0 where
-    pub given : List Found
-    pub done : List Found
-    pub takes : TakesUnits u k u' k' given
-    pub handles : Handles old new given done
-    pub count_is : length (filter_map unit_of done) ≡ count
-
-  -- the units that were dealt so far, with their numbers
-  abbrev pub dealt_so_far : {old new : Dealer D} {u u' : UnitsState} {k k' : Known} {count : ℕ} → SoFar old new u k u' k' count → List PeerUnit
-  dealt_so_far {old} {new} s = with_numbers new.peers (filter_map unit_of s.done)
-
-  pub SoFar-none : (old : Dealer D) (u : UnitsState) (k : Known) → old.dealt ≡ min (old.dealt + 0) (2 ^ 64 - 1) → SoFar old old u k u k 0
-  SoFar-none old u k bound =
-      record {
-        given = [];
-        done = [];
-        takes = TakesUnits-none u k;
-        handles =
-            record {
-              dealing = refl;
-              order = refl;
-              refused = sym (append-nil old.refused.items);
-              counted = bound;
-              listed = tt;
-              keys = λ before h. h ∙ ap (λ l. peers_of (l ++ option_to_list old.blocked_unit)) (sym (append-nil before));
-            };
-        count_is = refl;
       }
 
   module _ (old mid new : Dealer D) (given done more : List Found) (listed : List Damage) (p : Handles old mid given done) (refused : new.refused.items ≡ mid.refused.items ++ listed) (dealing : new.dealing ≡ mid.dealing) where
@@ -306,128 +272,156 @@ module _ {D : Type 0} where
     pub items_kept : new.peers ≡ mid.peers → with_numbers new.peers (filter_map unit_of (done ++ (as_refused listed ++ []))) ≡ with_numbers mid.peers (filter_map unit_of done)
     items_kept peers = ap (with_numbers new.peers) (units_then [] ∙ append-nil _) ∙ ap (λ (l : List PeerKey). with_numbers l (filter_map unit_of done)) peers
 
-  module _ (old mid asked new : Dealer D) (u u₁ u₂ : UnitsState) (k k₁ k₂ : Known) (count : ℕ) (s : SoFar old mid u k u₁ k₁ count) where
-    -- one unit more
-    module _ (unit : ReplayUnit) (n : ℕ) (next : Next mid asked u₁ k₁ u₂ k₂ (Some unit)) (number : NumbersPeer asked.peers new.peers unit.peer n) (dealing : new.dealing ≡ asked.dealing) (refused : new.refused ≡ asked.refused) where
-      numbers : NumbersPeer mid.peers new.peers unit.peer n
-      numbers = subst (λ l. NumbersPeer l new.peers unit.peer n) next.asks.peers number
+  module _ {K : Type 0} (gets : K → K → List PeerUnit → Type 0) where
+    -- so far, with what was dealt received
+    pub record SoFar (to to' : K) (old new : Dealer D) (u : UnitsState) (k : Known) (u' : UnitsState) (k' : Known) (count : ℕ) : Type 0 where
+      pub given : List Found
+      pub done : List Found
+      pub takes : TakesUnits u k u' k' given
+      pub handles : Handles old new given done
+      pub count_is : length (filter_map unit_of done) ≡ count
+      pub received : gets to to' (with_numbers new.peers (filter_map unit_of done))
 
-      listing : new.refused.items ≡ mid.refused.items ++ next.listed
-      listing = ap (λ o. o.items) refused ∙ next.refused
+    pub SoFar-none : (to : K) (old : Dealer D) (u : UnitsState) (k : Known) → old.dealt ≡ min (old.dealt + 0) (2 ^ 64 - 1) → gets to to [] → SoFar to to old old u k u k 0
+    SoFar-none to old u k bound nothing =
+        record {
+          given = [];
+          done = [];
+          takes = TakesUnits-none u k;
+          handles =
+              record {
+                dealing = refl;
+                order = refl;
+                refused = sym (append-nil old.refused.items);
+                counted = bound;
+                listed = tt;
+                keys = λ before h. h ∙ ap (λ l. peers_of (l ++ option_to_list old.blocked_unit)) (sym (append-nil before));
+              };
+          count_is = refl;
+          received = nothing;
+        }
 
-      pub SoFar-more : new.blocked_unit ≡ asked.blocked_unit → new.dealt ≡ min (asked.dealt + 1) (2 ^ 64 - 1) → SoFar old new u k u₂ k₂ (count + 1)
-      SoFar-more blocked_unit counted =
-          record {
-            given = s.given ++ next.given;
-            done = s.done ++ (as_refused next.listed ++ found.Unit unit ∷ []);
-            takes = TakesUnits-more u u₁ u₂ k k₁ k₂ s.given next.given s.takes next.takes;
-            handles = Handles-dealt old mid new s.given s.done next.given next.listed s.handles listing (dealing ∙ next.asks.dealing) unit n next.order numbers (blocked_unit ∙ next.asks.blocked_unit) (counted ∙ ap (λ m. min (m + 1) (2 ^ 64 - 1)) next.asks.dealt);
-            count_is =
-                ap length (units_then old mid new s.given s.done next.given next.listed s.handles listing (dealing ∙ next.asks.dealing) (found.Unit unit ∷ []))
-                ∙ length-append (filter_map unit_of s.done) (unit ∷ []) ∙ ap (λ m. m + 1) s.count_is;
-          }
+    -- a batch is dealt
+    pub DealsTo-full : (lane_of room : ℕ → ℕ) (batch : ℕ) (to to' : K) (old new : Dealer D) (u u' : UnitsState) (k k' : Known) (count : ℕ) → count ≡ batch → SoFar to to' old new u k u' k' count → DealsTo gets lane_of batch room to to' old new u k u' k' (Ok FullBatch)
+    DealsTo-full lane_of room batch to to' old new u u' k k' count is s =
+        record {
+          deals = record {
+            given = s.given;
+            done = s.done;
+            gives = front_from_takes u u' k k' s.given s.takes;
+            takes = s.takes;
+            handles = s.handles;
+            few = (let n = s.count_is in omega (arith, is));
+            stops = s.count_is ∙ is;
+            nothing_kept = tt;
+            behind = tt;
+          };
+          received = s.received;
+        }
 
-      -- its items
-      pub items_more : (blocked_unit : new.blocked_unit ≡ asked.blocked_unit) (counted : new.dealt ≡ min (asked.dealt + 1) (2 ^ 64 - 1)) → dealt_so_far (SoFar-more blocked_unit counted) ≡ dealt_so_far s ++ record { number = n; unit = unit } ∷ []
-      unfolding SoFar-more
-      items_more blocked_unit counted = items_then old mid new s.given s.done next.given next.listed s.handles listing (dealing ∙ next.asks.dealing) unit n next.order numbers
+    module _ (joined : (a b c : K) (xs ys : List PeerUnit) → gets a b xs → gets b c ys → gets a c (xs ++ ys)) (to to₁ to₂ : K) (old mid asked new : Dealer D) (u u₁ u₂ : UnitsState) (k k₁ k₂ : Known) (count : ℕ) (s : SoFar to to₁ old mid u k u₁ k₁ count) where
+      -- the units that were dealt so far, with their numbers
+      abbrev pub dealt_so_far : List PeerUnit
+      dealt_so_far = with_numbers mid.peers (filter_map unit_of s.done)
 
-      -- the unit came back
-      module _ (lane_of room room₁ : ℕ → ℕ) (batch lane : ℕ) (within : count ≤ batch) (back : ReplayUnit) (blocked_unit : new.blocked_unit ≡ Some back) (same : back ≡ unit) (counted : new.dealt ≡ asked.dealt) (at : lane_of n ≡ lane) (spent : room lane ≤ room₁ lane + length (in_lane lane_of lane (dealt_so_far s))) (full : room₁ lane ≡ 0) where
-        items_before : with_numbers new.peers (filter_map unit_of (s.done ++ (as_refused next.listed ++ []))) ≡ dealt_so_far s
-        items_before = items_still old mid new s.given s.done next.given next.listed s.handles listing (dealing ∙ next.asks.dealing) unit n next.order numbers
+      -- one unit more
+      module _ (unit : ReplayUnit) (n : ℕ) (next : Next mid asked u₁ k₁ u₂ k₂ (Some unit)) (number : NumbersPeer asked.peers new.peers unit.peer n) (dealing : new.dealing ≡ asked.dealing) (refused : new.refused ≡ asked.refused) where
+        numbers : NumbersPeer mid.peers new.peers unit.peer n
+        numbers = subst (λ l. NumbersPeer l new.peers unit.peer n) next.asks.peers number
 
-        pub Deals-blocked : Deals lane_of batch room old new u k u₂ k₂ (Ok Blocked)
-        Deals-blocked =
+        listing : new.refused.items ≡ mid.refused.items ++ next.listed
+        listing = ap (λ o. o.items) refused ∙ next.refused
+
+        pub SoFar-more : new.blocked_unit ≡ asked.blocked_unit → new.dealt ≡ min (asked.dealt + 1) (2 ^ 64 - 1) → gets to₁ to₂ (record { number = n; unit = unit } ∷ []) → SoFar to to₂ old new u k u₂ k₂ (count + 1)
+        SoFar-more blocked_unit counted q =
+            record {
+              given = s.given ++ next.given;
+              done = s.done ++ (as_refused next.listed ++ found.Unit unit ∷ []);
+              takes = TakesUnits-more u u₁ u₂ k k₁ k₂ s.given next.given s.takes next.takes;
+              handles = Handles-dealt old mid new s.given s.done next.given next.listed s.handles listing (dealing ∙ next.asks.dealing) unit n next.order numbers (blocked_unit ∙ next.asks.blocked_unit) (counted ∙ ap (λ m. min (m + 1) (2 ^ 64 - 1)) next.asks.dealt);
+              count_is =
+                  ap length (units_then old mid new s.given s.done next.given next.listed s.handles listing (dealing ∙ next.asks.dealing) (found.Unit unit ∷ []))
+                  ∙ length-append (filter_map unit_of s.done) (unit ∷ []) ∙ ap (λ m. m + 1) s.count_is;
+              received =
+                  subst (gets to to₂) (sym (items_then old mid new s.given s.done next.given next.listed s.handles listing (dealing ∙ next.asks.dealing) unit n next.order numbers))
+                  (joined to to₁ to₂ dealt_so_far (record { number = n; unit = unit } ∷ []) s.received q);
+            }
+
+        -- the unit came back
+        pub DealsTo-blocked : (lane_of room room₁ : ℕ → ℕ) (batch lane : ℕ) → count ≤ batch → (back : ReplayUnit) → new.blocked_unit ≡ Some back → back ≡ unit → new.dealt ≡ asked.dealt → lane_of n ≡ lane → room lane ≤ room₁ lane + length (in_lane lane_of lane dealt_so_far) → gets to₁ to₂ [] → room₁ lane ≡ 0
+            → DealsTo gets lane_of batch room to to₂ old new u k u₂ k₂ (Ok Blocked)
+        DealsTo-blocked lane_of room room₁ batch lane within back blocked_unit same counted at spent q full =
             let blocked' : new.blocked_unit ≡ Some unit = blocked_unit ∙ ap (λ v. Some v) same in
             let takes = TakesUnits-more u u₁ u₂ k k₁ k₂ s.given next.given s.takes next.takes in
             let units : filter_map unit_of (s.done ++ (as_refused next.listed ++ [])) ≡ filter_map unit_of s.done =
             units_then old mid new s.given s.done next.given next.listed s.handles listing (dealing ∙ next.asks.dealing) [] ∙ append-nil _ in
+            let items : with_numbers new.peers (filter_map unit_of (s.done ++ (as_refused next.listed ++ []))) ≡ dealt_so_far =
+            items_still old mid new s.given s.done next.given next.listed s.handles listing (dealing ∙ next.asks.dealing) unit n next.order numbers in
             let lane_is : lane_of (number_in new.peers unit.peer) ≡ lane = ap lane_of (sym numbers.number_is) ∙ at in
             record {
+              deals = record {
+                given = s.given ++ next.given;
+                done = s.done ++ (as_refused next.listed ++ []);
+                gives = front_from_takes u u₂ k k₂ (s.given ++ next.given) takes;
+                takes = takes;
+                handles = Handles-blocked old mid new s.given s.done next.given next.listed s.handles listing (dealing ∙ next.asks.dealing) unit n next.order numbers blocked' (counted ∙ next.asks.dealt);
+                few = (let n = ap length units in let m = s.count_is in omega arith);
+                stops =
+                    record {
+                      unit = unit;
+                      blocked_unit = blocked';
+                      full =
+                          subst (λ m. room m ≤ length (in_lane lane_of m (with_numbers new.peers (filter_map unit_of (s.done ++ (as_refused next.listed ++ [])))))) (sym lane_is)
+                          (subst (λ l. room lane ≤ length (in_lane lane_of lane l)) (sym items) (omega (arith, spent, full)));
+                    };
+                nothing_kept = tt;
+                behind = tt;
+              };
+              received = subst (gets to to₂) (sym items) (subst (gets to to₂) (append-nil dealt_so_far) (joined to to₁ to₂ dealt_so_far [] s.received q));
+            }
+
+      -- no more than so many were dealt
+      few_then : {batch : ℕ} → count ≤ batch → (listed : List Damage) (more : List Found) → new.refused.items ≡ mid.refused.items ++ listed → new.dealing ≡ mid.dealing → length (filter_map unit_of (s.done ++ (as_refused listed ++ []))) ≤ batch
+      few_then within listed more refused dealing =
+          let n = ap length (units_then old mid new s.given s.done more listed s.handles refused dealing [] ∙ append-nil (filter_map unit_of s.done)) in
+          let m = s.count_is in omega arith
+
+      -- the files ended
+      pub DealsTo-end : (lane_of room : ℕ → ℕ) (batch : ℕ) → count ≤ batch → Next mid new u₁ k₁ u₂ k₂ None → DealsTo gets lane_of batch room to to₁ old new u k u₂ k₂ (Ok End)
+      DealsTo-end lane_of room batch within next =
+          let takes = TakesUnits-more u u₁ u₂ k k₁ k₂ s.given next.given s.takes next.takes in
+          record {
+            deals = record {
               given = s.given ++ next.given;
               done = s.done ++ (as_refused next.listed ++ []);
               gives = front_from_takes u u₂ k k₂ (s.given ++ next.given) takes;
               takes = takes;
-              handles = Handles-blocked old mid new s.given s.done next.given next.listed s.handles listing (dealing ∙ next.asks.dealing) unit n next.order numbers blocked' (counted ∙ next.asks.dealt);
-              few = (let n = ap length units in let m = s.count_is in omega arith);
-              stops =
-                  record {
-                    unit = unit;
-                    blocked_unit = blocked';
-                    full =
-                        subst (λ m. room m ≤ length (in_lane lane_of m (with_numbers new.peers (filter_map unit_of (s.done ++ (as_refused next.listed ++ [])))))) (sym lane_is)
-                        (subst (λ l. room lane ≤ length (in_lane lane_of lane l)) (sym items_before) (omega (arith, spent, full)));
-                  };
+              handles = Handles-none old mid new s.given s.done next.given next.listed s.handles next.refused next.asks.dealing (next.order ∙ append-nil _) next.asks.blocked_unit next.asks.dealt next.asks.peers;
+              few = few_then within next.listed next.given next.refused next.asks.dealing;
+              stops = (next.asks.blocked_unit, all_more_given u u₁ k k₁ s.given next.given s.takes (next.ended refl));
               nothing_kept = tt;
               behind = tt;
-            }
-
-        pub items_blocked : with_numbers new.peers (filter_map unit_of Deals-blocked.done) ≡ dealt_so_far s
-        unfolding Deals-blocked
-        items_blocked = items_before
-
-    -- no more than so many were dealt
-    few_then : {batch : ℕ} → count ≤ batch → (listed : List Damage) (more : List Found) → new.refused.items ≡ mid.refused.items ++ listed → new.dealing ≡ mid.dealing → length (filter_map unit_of (s.done ++ (as_refused listed ++ []))) ≤ batch
-    few_then within listed more refused dealing =
-        let n = ap length (units_then old mid new s.given s.done more listed s.handles refused dealing [] ∙ append-nil (filter_map unit_of s.done)) in
-        let m = s.count_is in omega arith
-
-    -- the files ended
-    module _ (lane_of room : ℕ → ℕ) (batch : ℕ) (within : count ≤ batch) (next : Next mid new u₁ k₁ u₂ k₂ None) where
-      pub Deals-end : Deals lane_of batch room old new u k u₂ k₂ (Ok End)
-      Deals-end =
-          let takes = TakesUnits-more u u₁ u₂ k k₁ k₂ s.given next.given s.takes next.takes in
-          record {
-            given = s.given ++ next.given;
-            done = s.done ++ (as_refused next.listed ++ []);
-            gives = front_from_takes u u₂ k k₂ (s.given ++ next.given) takes;
-            takes = takes;
-            handles = Handles-none old mid new s.given s.done next.given next.listed s.handles next.refused next.asks.dealing (next.order ∙ append-nil _) next.asks.blocked_unit next.asks.dealt next.asks.peers;
-            few = few_then within next.listed next.given next.refused next.asks.dealing;
-            stops = (next.asks.blocked_unit, all_more_given u u₁ k k₁ s.given next.given s.takes (next.ended refl));
-            nothing_kept = tt;
-            behind = tt;
+            };
+            received = subst (gets to to₁) (sym (items_kept old mid new s.given s.done next.given next.listed s.handles next.refused next.asks.dealing next.asks.peers)) s.received;
           }
 
-      pub items_end : with_numbers new.peers (filter_map unit_of Deals-end.done) ≡ dealt_so_far s
-      unfolding Deals-end
-      items_end = items_kept old mid new s.given s.done next.given next.listed s.handles next.refused next.asks.dealing next.asks.peers
-
-    -- a read failed
-    module _ (lane_of room : ℕ → ℕ) (batch : ℕ) (error : ReplayError) (within : count ≤ batch) (next : NextInVain mid new u₁ k₁ u₂ k₂) where
-      pub Deals-failed : Deals lane_of batch room old new u k u₂ k₂ (Err error)
-      Deals-failed =
+      -- a read failed
+      pub DealsTo-failed : (lane_of room : ℕ → ℕ) (batch : ℕ) (error : ReplayError) → count ≤ batch → NextInVain mid new u₁ k₁ u₂ k₂ → DealsTo gets lane_of batch room to to₁ old new u k u₂ k₂ (Err error)
+      DealsTo-failed lane_of room batch error within next =
           record {
-            given = s.given ++ next.given;
-            done = s.done ++ (as_refused next.listed ++ []);
-            gives = front_more u u₁ k k₁ s.given next.given s.takes next.gives;
-            takes = tt;
-            handles = Handles-none old mid new s.given s.done next.given next.listed s.handles next.refused next.asks.dealing next.order next.asks.blocked_unit next.asks.dealt next.asks.peers;
-            few = few_then within next.listed next.given next.refused next.asks.dealing;
-            stops = tt;
-            nothing_kept = next.asks.blocked_unit;
-            behind = behind_more u u₁ u₂ k k₁ k₂ s.given next.given s.takes next.behind;
+            deals = record {
+              given = s.given ++ next.given;
+              done = s.done ++ (as_refused next.listed ++ []);
+              gives = front_more u u₁ k k₁ s.given next.given s.takes next.gives;
+              takes = tt;
+              handles = Handles-none old mid new s.given s.done next.given next.listed s.handles next.refused next.asks.dealing next.order next.asks.blocked_unit next.asks.dealt next.asks.peers;
+              few = few_then within next.listed next.given next.refused next.asks.dealing;
+              stops = tt;
+              nothing_kept = next.asks.blocked_unit;
+              behind = behind_more u u₁ u₂ k k₁ k₂ s.given next.given s.takes next.behind;
+            };
+            received = subst (gets to to₁) (sym (items_kept old mid new s.given s.done next.given next.listed s.handles next.refused next.asks.dealing next.asks.peers)) s.received;
           }
-
-      pub items_failed : with_numbers new.peers (filter_map unit_of Deals-failed.done) ≡ dealt_so_far s
-      unfolding Deals-failed
-      items_failed = items_kept old mid new s.given s.done next.given next.listed s.handles next.refused next.asks.dealing next.asks.peers
-
-  -- a batch is dealt
-  pub Deals-full : (lane_of room : ℕ → ℕ) (batch : ℕ) (old new : Dealer D) (u u' : UnitsState) (k k' : Known) (count : ℕ) → count ≡ batch → (s : SoFar old new u k u' k' count) → Deals lane_of batch room old new u k u' k' (Ok FullBatch)
-  Deals-full lane_of room batch old new u u' k k' count is s =
-      record {
-        given = s.given;
-        done = s.done;
-        gives = front_from_takes u u' k k' s.given s.takes;
-        takes = s.takes;
-        handles = s.handles;
-        few = (let n = s.count_is in omega (arith, is));
-        stops = s.count_is ∙ is;
-        nothing_kept = tt;
-        behind = tt;
-      }
 
   -- where there is room for more than a batch, whatever room there is
   unfoldable pub Deals-unblocked : (lane_of room : ℕ → ℕ) (batch most : ℕ) (old new : Dealer D) (u u' : UnitsState) (k k' : Known) (result : Result Step ReplayError) → batch < most → Deals lane_of batch (λ _. most) old new u k u' k' result → Deals lane_of batch room old new u k u' k' result
@@ -446,52 +440,3 @@ module _ {D : Type 0} where
   -- the same, told of what is received otherwise
   pub DealsTo-as : {K L : Type 0} (gets : K → K → List PeerUnit → Type 0) (gets' : L → L → List PeerUnit → Type 0) (lane_of room : ℕ → ℕ) (batch : ℕ) (to to' : K) (s s' : L) (old new : Dealer D) (u u' : UnitsState) (k k' : Known) (result : Result Step ReplayError) → ((items : List PeerUnit) → gets to to' items → gets' s s' items) → DealsTo gets lane_of batch room to to' old new u k u' k' result → DealsTo gets' lane_of batch room s s' old new u k u' k' result
   DealsTo-as gets gets' lane_of room batch to to' s s' old new u u' k k' result f p = record { deals = p.deals; received = f _ p.received }
-
-  module _ {K : Type 0} (gets : K → K → List PeerUnit → Type 0) where
-    -- so far, with what was dealt received
-    pub record SoFarTo (to to' : K) (old new : Dealer D) (u : UnitsState) (k : Known) (u' : UnitsState) (k' : Known) (count : ℕ) : Type 0 where
-      pub far : SoFar old new u k u' k' count
-      pub received : gets to to' (dealt_so_far far)
-
-    pub SoFarTo-none : (to : K) (old : Dealer D) (u : UnitsState) (k : Known) → old.dealt ≡ min (old.dealt + 0) (2 ^ 64 - 1) → gets to to [] → SoFarTo to to old old u k u k 0
-    unfolding SoFar-none
-    SoFarTo-none to old u k bound nothing = record { far = SoFar-none old u k bound; received = nothing }
-
-    module _ (joined : (a b c : K) (xs ys : List PeerUnit) → gets a b xs → gets b c ys → gets a c (xs ++ ys)) (to to₁ to₂ : K) (old mid asked new : Dealer D) (u u₁ u₂ : UnitsState) (k k₁ k₂ : Known) (count : ℕ) (s : SoFarTo to to₁ old mid u k u₁ k₁ count) where
-      pub SoFarTo-more : (unit : ReplayUnit) (n : ℕ) → Next mid asked u₁ k₁ u₂ k₂ (Some unit) → NumbersPeer asked.peers new.peers unit.peer n → new.dealing ≡ asked.dealing → new.blocked_unit ≡ asked.blocked_unit → new.refused ≡ asked.refused → new.dealt ≡ min (asked.dealt + 1) (2 ^ 64 - 1)
-          → gets to₁ to₂ (record { number = n; unit = unit } ∷ []) → SoFarTo to to₂ old new u k u₂ k₂ (count + 1)
-      SoFarTo-more unit n next number dealing blocked_unit refused counted q =
-          record {
-            far = SoFar-more old mid asked new u u₁ u₂ k k₁ k₂ count s.far unit n next number dealing refused blocked_unit counted;
-            received =
-                subst (gets to to₂) (sym (items_more old mid asked new u u₁ u₂ k k₁ k₂ count s.far unit n next number dealing refused blocked_unit counted))
-                (joined to to₁ to₂ (dealt_so_far s.far) (record { number = n; unit = unit } ∷ []) s.received q);
-          }
-
-      pub DealsTo-blocked : (lane_of room room₁ : ℕ → ℕ) (batch : ℕ) → count ≤ batch → (unit back : ReplayUnit) (n lane : ℕ) → Next mid asked u₁ k₁ u₂ k₂ (Some unit) → NumbersPeer asked.peers new.peers unit.peer n → new.dealing ≡ asked.dealing → new.blocked_unit ≡ Some back → back ≡ unit → new.refused ≡ asked.refused → new.dealt ≡ asked.dealt
-          → lane_of n ≡ lane → room lane ≤ room₁ lane + length (in_lane lane_of lane (dealt_so_far s.far)) → gets to₁ to₂ [] → room₁ lane ≡ 0 → DealsTo gets lane_of batch room to to₂ old new u k u₂ k₂ (Ok Blocked)
-      DealsTo-blocked lane_of room room₁ batch within unit back n lane next number dealing blocked_unit same refused counted at spent q full =
-          record {
-            deals = Deals-blocked old mid asked new u u₁ u₂ k k₁ k₂ count s.far unit n next number dealing refused lane_of room room₁ batch lane within back blocked_unit same counted at spent full;
-            received =
-                subst (gets to to₂) (sym (items_blocked old mid asked new u u₁ u₂ k k₁ k₂ count s.far unit n next number dealing refused lane_of room room₁ batch lane within back blocked_unit same counted at spent full))
-                (subst (gets to to₂) (append-nil (dealt_so_far s.far)) (joined to to₁ to₂ (dealt_so_far s.far) [] s.received q));
-          }
-
-      pub DealsTo-end : (lane_of room : ℕ → ℕ) (batch : ℕ) → count ≤ batch → Next mid new u₁ k₁ u₂ k₂ None → DealsTo gets lane_of batch room to to₁ old new u k u₂ k₂ (Ok End)
-      DealsTo-end lane_of room batch within next =
-          record {
-            deals = Deals-end old mid asked new u u₁ u₂ k k₁ k₂ count s.far lane_of room batch within next;
-            received = subst (gets to to₁) (sym (items_end old mid asked new u u₁ u₂ k k₁ k₂ count s.far lane_of room batch within next)) s.received;
-          }
-
-      pub DealsTo-failed : (lane_of room : ℕ → ℕ) (batch : ℕ) (error : ReplayError) → count ≤ batch → NextInVain mid new u₁ k₁ u₂ k₂ → DealsTo gets lane_of batch room to to₁ old new u k u₂ k₂ (Err error)
-      DealsTo-failed lane_of room batch error within next =
-          record {
-            deals = Deals-failed old mid asked new u u₁ u₂ k k₁ k₂ count s.far lane_of room batch error within next;
-            received = subst (gets to to₁) (sym (items_failed old mid asked new u u₁ u₂ k k₁ k₂ count s.far lane_of room batch error within next)) s.received;
-          }
-
-    pub DealsTo-full : (lane_of room : ℕ → ℕ) (batch : ℕ) (to to' : K) (old new : Dealer D) (u u' : UnitsState) (k k' : Known) (count : ℕ) → count ≡ batch → SoFarTo to to' old new u k u' k' count → DealsTo gets lane_of batch room to to' old new u k u' k' (Ok FullBatch)
-    unfolding Deals-full
-    DealsTo-full lane_of room batch to to' old new u u' k k' count is s = record { deals = Deals-full lane_of room batch old new u u' k k' count is s.far; received = s.received }

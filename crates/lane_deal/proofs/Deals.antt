@@ -1,19 +1,11 @@
 -- What the dealer pushed, item by item.
-use Rattle.std.proofs.Common.{◌≡◌, ℕ, zero, suc, ◌+◌, ◌<◌, ◌≤◌, List, [], ◌∷◌, ◌++◌, length, slice_index_or, set, refl, sym, ap, ◌∙◌, append_assoc, arith, length-append}
+use Rattle.std.proofs.Common.{◌≡◌, ℕ, zero, suc, ◌+◌, ◌<◌, ◌≤◌, List, [], ◌∷◌, ◌++◌, length, slice_index_or, set, refl, sym, arith}
 use Rattle.std.proofs.lemmas.List.{append-nil}
 use Rattle.std.proofs.lemmas.List.Elements.{filter-append}
 use Rattle.lane_deal.specs.UnitRings.{known_free, sent}
 use Rattle.lane_deal.specs.Plain.{PeerUnit, LaneSender}
-use Rattle.lane_deal.specs.LaneSenders.{Pushed, Dealt, in_lane, room_of}
-use Rattle.lane_deal.proofs.Batches.{some_item}
-
-pub Pushed-append : (a b c : LaneSender) (xs ys : List PeerUnit) → Pushed a b xs → Pushed b c ys → Pushed a c (xs ++ ys)
-Pushed-append a b c xs ys p q =
-    record {
-      ring = ((q.ring.0.0 ∙ p.ring.0.0, q.ring.0.1 ∙ p.ring.0.1, q.ring.0.2 ∙ p.ring.0.2, q.ring.0.3 ∙ p.ring.0.3), q.ring.1 ∙ p.ring.1);
-      sent = q.sent ∙ (ap (λ s. s ++ ys) p.sent ∙ append_assoc (sent a.producer) xs ys);
-      free = (let f = p.free in let h = q.free in omega (arith, length-append xs ys));
-    }
+use Rattle.lane_deal.specs.LaneSenders.{Dealt, in_lane, room_of}
+use Rattle.lane_deal.proofs.Lists.{some_item}
 
 -- the room of a lane is that of its ring
 pub room_at : (senders : List LaneSender) (lane : ℕ) (d : LaneSender) → lane < length senders → room_of senders lane ≡ known_free (slice_index_or senders lane d).producer
@@ -30,16 +22,6 @@ room_set (first ∷ senders) (suc lane) sender l = room_set senders lane sender 
 module _ (lane_of : ℕ → ℕ) where
   pub in_lane-append : (lane : ℕ) (xs ys : List PeerUnit) → in_lane lane_of lane (xs ++ ys) ≡ in_lane lane_of lane xs ++ in_lane lane_of lane ys
   in_lane-append lane xs ys = filter-append _ xs ys
-
-  pub Dealt-append : (a b c : List LaneSender) (xs ys : List PeerUnit) → Dealt lane_of a b xs → Dealt lane_of b c ys → Dealt lane_of a c (xs ++ ys)
-  Dealt-append a b c xs ys p q =
-      record {
-        lanes = q.lanes ∙ p.lanes;
-        each =
-            λ lane d l.
-            let l' : lane < length b = (let e = p.lanes in omega arith) in
-            rw (in_lane-append lane xs ys) (Pushed-append _ _ _ _ _ (p.each lane d l) (q.each lane d l'));
-      }
 
   pub Dealt-none : (a : List LaneSender) → Dealt lane_of a a []
   Dealt-none a = record { lanes = refl; each = λ lane d l. record { ring = ((refl, refl, refl, refl), refl); sent = sym (append-nil _); free = omega arith } }

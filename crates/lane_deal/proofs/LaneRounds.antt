@@ -72,16 +72,16 @@ module _ {S : Type 0} (stands_for : S → List PeerUnit → Type 0) (capacity : 
 
       pub lanes_ready : AreReady capacity fs₂ ws₂
       lanes_ready = (
-        (let a = lanes_count in let b = renewed.senders_count in let c = renewed.workers_count in omega arith),
+        (let a = lanes_count in let b = renewed.firsts_count in let c = renewed.seconds_count in omega arith),
         (λ lane d e l.
-            let l' : lane < length fs = (let a = renewed.senders_count in let c = dealt.lanes in omega arith) in
+            let l' : lane < length fs = (let a = renewed.firsts_count in let c = dealt.lanes in omega arith) in
             let n = at_both lane d e l' in
             (n.pair, n.fits, n.received, n.known, n.room, n.free)),
       )
 
       pub lanes_stand : (all : List PeerUnit) → LanesStand stands_for lane_of fs ws all → LanesStand stands_for lane_of fs₂ ws₂ (all ++ items)
       lanes_stand all h lane d e l =
-          let l' : lane < length fs = (let a = renewed.senders_count in let c = dealt.lanes in omega arith) in
+          let l' : lane < length fs = (let a = renewed.firsts_count in let c = dealt.lanes in omega arith) in
           rw (in_lane-append lane_of lane all items) (lane_stands _ _ _ _ _ _ _ _ (ready.1 lane d e l') (at_feed lane d l') (at_worker lane e l') (at_both lane d e l') (h lane d e l'))
 
       pub lanes_taken : Worker S → (lane : ℕ) (d : LaneSender) → lane < length fs → length (sent (slice_index_or fs₂ lane d).producer) ≤ length (in_lane lane_of lane items)
@@ -89,13 +89,13 @@ module _ {S : Type 0} (stands_for : S → List PeerUnit → Type 0) (capacity : 
           lane_taken _ _ _ _ _ _ _ (ready.1 lane d e l) (at_feed lane d l) (at_worker lane e l) (at_both lane d e l)
 
       pub lanes_rounded : Rounded stands_for lane_of capacity fs ws fs₂ ws₂ items
-      lanes_rounded = record { count = renewed.senders_count ∙ dealt.lanes; ready = lanes_ready; stands = lanes_stand; taken = lanes_taken }
+      lanes_rounded = record { count = renewed.firsts_count ∙ dealt.lanes; ready = lanes_ready; stands = lanes_stand; taken = lanes_taken }
 
   pub Settled-from : (fs fs₂ : List LaneSender) (ws ws₁ ws₂ : List (Worker S)) → AreReady capacity fs ws → AllZip (Worked stands_for) ws ws₁ → RenewedAll capacity fs ws₁ fs₂ ws₂ → Settled stands_for capacity fs ws fs₂ ws₂
   Settled-from fs fs₂ ws ws₁ ws₂ ready worked renewed =
       let none : (f : ℕ → ℕ) → Dealt f fs fs [] = λ f. Dealt-none f fs in
       record {
-        count = renewed.senders_count;
+        count = renewed.firsts_count;
         ready = lanes_ready (λ n. n) fs fs ws ws₁ [] ready (none (λ n. n)) worked fs₂ ws₂ renewed;
         stands =
             λ f dealt h.
@@ -170,11 +170,11 @@ module _ {S : Type 0} (stands_for : S → List PeerUnit → Type 0) (capacity : 
       taken e (suc lane) d l = absurd (omega arith)
 
   -- what a dealer did in the round, and that the worker alone took it
-  pub alone_plays : {D K : Type 0} (gets : K → K → List PeerUnit → Type 0) (lane_of : ℕ → ℕ) (batch most : ℕ) (to to' : K) (fs fs₁ : List LaneSender) (ws ws₁ rest : List (Worker S)) (w w₁ : Worker S) (old new : Dealer D) (u u' : UnitsState) (k k' : List (Option (List ℕ))) (result : Result Step ReplayError) → batch < most → length fs ≡ 1 → ((number : ℕ) → lane_of number < 1)
-      → Settled stands_for capacity fs ws fs₁ ws₁ → ws₁ ≡ rest ++ w ∷ [] → ((items : List PeerUnit) → gets to to' items → Takes stands_for w w₁ items) → DealsTo gets lane_of batch (λ _. most) to to' old new u k u' k' result → PlaysLanes stands_for lane_of capacity batch fs ws fs₁ (rest ++ w₁ ∷ []) old new u k u' k' result
+  pub alone_plays : {D : Type 0} (lane_of : ℕ → ℕ) (batch most : ℕ) (fs fs₁ : List LaneSender) (ws ws₁ rest : List (Worker S)) (w w₁ : Worker S) (old new : Dealer D) (u u' : UnitsState) (k k' : List (Option (List ℕ))) (result : Result Step ReplayError) → batch < most → length fs ≡ 1 → ((number : ℕ) → lane_of number < 1)
+      → Settled stands_for capacity fs ws fs₁ ws₁ → ws₁ ≡ rest ++ w ∷ [] → DealsTo (Takes stands_for) lane_of batch (λ _. most) w w₁ old new u k u' k' result → PlaysLanes stands_for lane_of capacity batch fs ws fs₁ (rest ++ w₁ ∷ []) old new u k u' k' result
   unfolding Deals-unblocked
-  alone_plays gets lane_of batch most to to' fs fs₁ ws ws₁ rest w w₁ old new u u' k k' result few one below s is took p =
-      record { deals = Deals-unblocked lane_of (room_of fs) batch most old new u u' k k' result few p.deals; rounded = alone_rounded lane_of fs fs₁ ws ws₁ rest w w₁ _ one below s is (took _ p.received) }
+  alone_plays lane_of batch most fs fs₁ ws ws₁ rest w w₁ old new u u' k k' result few one below s is p =
+      record { deals = Deals-unblocked lane_of (room_of fs) batch most old new u u' k k' result few p.deals; rounded = alone_rounded lane_of fs fs₁ ws ws₁ rest w w₁ _ one below s is p.received }
 
 -- a round of as many lanes, said of the lists that were written back
 pub PlaysLanes-as : {S D : Type 0} (stands_for : S → List PeerUnit → Type 0) (lane_of : ℕ → ℕ) (capacity batch : ℕ) (fs fs₁ fs₂ : List LaneSender) (ws ws₁ ws₂ : List (Worker S)) (old new : Dealer D) (u u' : UnitsState) (k k' : List (Option (List ℕ))) (result : Result Step ReplayError) → fs₂ ≡ fs₁ → ws₂ ≡ ws₁ → PlaysLanes stands_for lane_of capacity batch fs ws fs₁ ws₁ old new u k u' k' result → PlaysLanes stands_for lane_of capacity batch fs ws fs₂ ws₂ old new u k u' k' result

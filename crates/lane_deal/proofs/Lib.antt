@@ -1,3 +1,4 @@
+pub mod Lists
 pub mod Classes
 pub mod Peers
 pub mod Numbering

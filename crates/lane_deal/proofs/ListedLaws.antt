@@ -1,9 +1,9 @@
 -- The units of a list, as units are added to it.
-use Rattle.std.proofs.Common.{◌≡◌, ℕ, zero, suc, ◌<◌, ◌≤◌, List, [], ◌∷◌, ◌++◌, length, map, take, drop, refl, sym, ap, ◌∙◌, arith, length-append, length-drop, slice_index_or}
+use Rattle.std.proofs.Common.{◌≡◌, ℕ, ◌<◌, ◌≤◌, List, [], ◌∷◌, ◌++◌, length, map, take, drop, refl, sym, ap, ◌∙◌, arith, length-append, length-drop, slice_index_or}
 use Rattle.std.specs.List.{AllByRecursion}
 use Rattle.std.specs.Prelude.{Result, Ok, Err, OnErr}
-use Rattle.std.proofs.lemmas.List.{map-append, append-nil, drop-append-le, take-append-le, get_or-map, get_or_append_left, length-map}
-use Rattle.std.proofs.Math.Seq.{drop-append_seam, take-append_seam, get_or-append_seam}
+use Rattle.std.proofs.lemmas.List.{map-append, append-nil, drop-append-le, take-append-le, get_or-map, length-map}
+use Rattle.std.proofs.Math.Seq.{drop-append_seam, take-append_seam}
 use Rattle.bgp_prefix.specs.Prefixes.{IpPrefix}
 use Rattle.bgp_update.specs.Families.{FamilyOf}
 use Rattle.bgp_update.specs.Decoded.{IsWithin, span_of}
@@ -18,7 +18,7 @@ use Rattle.lane_deal.specs.Plain.{ListedUnit, UnitList, PeerUnit}
 use Rattle.lane_deal.specs.declared.listed_unit.NumberedPeer.{NumberedPeer}
 use Rattle.lane_deal.specs.ListedUnits.{AreKept, IsListed, IsListedAt, SOME_RECORD, SOME_PEER, unit_in, unit_with}
 use Rattle.lane_deal.specs.UnitLists.{units_of}
-use Rattle.lane_deal.proofs.DealerLaws.{all_push}
+use Rattle.lane_deal.proofs.Lists.{all_push}
 
 -- a payload whose bytes are in the block of its list
 abbrev pub ListedPayload : Type 0
@@ -29,13 +29,6 @@ ListedPayload = PayloadOf Span IpPrefix FamilyOf
 pub kept_alone : {A : Type 0} (xs : List A) → AreKept xs xs
 kept_alone xs = (omega arith, λ d at l. refl)
 
-pub kept_push : {A : Type 0} (xs : List A) (x : A) → AreKept xs (xs ++ x ∷ [])
-kept_push xs x = let n = length-append xs (x ∷ []) in (omega (arith, n), λ d at l. get_or_append_left xs (x ∷ []) d at l)
-
--- the item that was added
-pub listed_last : {A : Type 0} (xs : List A) (x : A) → IsListedAt (xs ++ x ∷ []) (length xs) x
-listed_last xs x = let n = length-append xs (x ∷ []) in (omega (arith, n), λ d. get_or-append_seam xs x [] d)
-
 -- ---- units
 
 -- the unit at an index
@@ -45,12 +38,6 @@ unit_at list at u d within is =
     let shown = unit_in list.records.items list.peers.items list.bytes.items in
     let n = length-map list.listed.items shown in
     get_or-map shown list.listed.items at u d (omega (arith, within, n)) ∙ ap shown (sym is)
-
--- each of a list's units is within it
-pub within_at : (records peers size : ℕ) (listed : List ListedUnit) (at : ℕ) (d : ListedUnit) → AllByRecursion (λ u. IsListed records peers size u) listed → at < length listed → IsListed records peers size (slice_index_or listed at d)
-within_at records peers size [] at d all l = absurd (omega (arith, l))
-within_at records peers size (u ∷ us) zero d all l = all.0
-within_at records peers size (u ∷ us) (suc at) d all l = within_at records peers size us at d all.1 (omega arith)
 
 -- units stay as they are when records and peers are added
 pub listed_kept : (r r' : List ListedRecord) (p p' : List NumberedPeer) (bytes : List ℕ) (listed : List ListedUnit) → AreKept r r' → AreKept p p'

@@ -1,6 +1,5 @@
 -- The lists that were moved to a ring made anew, list by list.
-use Rattle.std.proofs.Common.{◌≡◌, ℕ, ◌+◌, take, drop, List, [], ◌∷◌, ◌++◌, length, refl, sym, ap, ◌∙◌, subst, append_assoc, arith, length-append}
-use Rattle.std.proofs.lemmas.List.{append-nil}
+use Rattle.std.proofs.Common.{◌≡◌, ℕ, ◌+◌, take, drop, List, [], ◌∷◌, ◌++◌, length, sym, ap, ◌∙◌, subst, append_assoc, arith, length-append}
 use Rattle.std.proofs.Math.Seq.{take-add}
 use Rattle.lane_deal.specs.Plain.{UnitList, UnitProducer}
 use Rattle.lane_deal.specs.UnitLists.{units_of, units_of_lists}
@@ -13,9 +12,6 @@ pub record MovedLists (a b : UnitProducer) (lists : List UnitList) : Type 0 wher
   pub sent : sent b ≡ sent a ++ units_of_lists lists
   pub free : known_free a ≡ known_free b + length (units_of_lists lists)
   pub open_list : units_of b.open_list ≡ []
-
-pub MovedLists-none : (a : UnitProducer) → units_of a.open_list ≡ [] → MovedLists a a []
-MovedLists-none a none = record { ring = ((refl, refl, refl, refl), refl); sent = sym (append-nil _); free = omega arith; open_list = none }
 
 pub MovedLists-push : (a b c : UnitProducer) (lists : List UnitList) (x : UnitList) → MovedLists a b lists → SameProducer b c → sent c ≡ sent b ++ units_of x → known_free b ≡ known_free c + length (units_of x) → units_of c.open_list ≡ [] → MovedLists a c (lists ++ x ∷ [])
 MovedLists-push a b c lists x p ring more less none =

@@ -5,6 +5,7 @@ use Rattle.std.specs.List.{filter, list_any, position_or_len, AllByRecursion}
 use Rattle.std.proofs.Math.Bool.{or-true}
 use Rattle.std.proofs.lemmas.List.Elements.{filter-append}
 use Rattle.std.proofs.lemmas.List.Folds.{list_any-append}
+use Rattle.std.proofs.lemmas.Map.Views.{any-filter_same}
 use Rattle.mrt_frame.specs.Positions.{flat_map_after}
 use Rattle.mrt_body.specs.declared.unit.PeerKey.{PeerKey}
 use Rattle.mrt_body.specs.Plain.{Unit as ReplayUnit}
@@ -12,6 +13,7 @@ use Rattle.peer_tables.specs.Peers.{peer_eq, peers_of, units_of_peer}
 use Rattle.peer_tables.proofs.ShareLaws.{same_peer}
 use Rattle.peer_tables.proofs.PeerPositions.{first_position, peer_itself}
 use Rattle.lane_deal.specs.Lanes.{number_of_peer}
+use Rattle.lane_deal.proofs.Lists.{all_more}
 
 -- ---- peers, one unit after the other
 
@@ -78,10 +80,6 @@ seen_after before (x ∷ xs) = (
   subst (λ l. AllByRecursion (λ u. is_seen l u.peer ≡ true) xs) (append_assoc before (x ∷ []) xs) (seen_after (before ++ x ∷ []) xs),
 )
 
-pub all_more : {X : Type 0} {P Q : X → Type 0} (xs : List X) → ((x : X) → P x → Q x) → AllByRecursion P xs → AllByRecursion Q xs
-all_more [] f h = tt
-all_more (x ∷ xs) f h = (f x h.0, all_more xs f h.1)
-
 -- more units leave the numbers of all peers as they are
 pub numbers_stay : (units more : List ReplayUnit) → AllByRecursion (λ u. number_of_peer (units ++ more) u.peer ≡ number_of_peer units u.peer) units
 numbers_stay units more = all_more units (λ u. number_stays units more u.peer) (seen_after [] units)
@@ -100,18 +98,6 @@ filter_within p r (x ∷ xs) h =
           ] refl
     ] refl
 
-any_within : {X : Type 0} (p r : X → Bool) (xs : List X) → ((x : X) → p x ≡ true → r x ≡ true) → list_any p (filter r xs) ≡ list_any p xs
-any_within p r [] h = refl
-any_within p r (x ∷ xs) h =
-    elim (r x) as (λ b. r x ≡ b → list_any p (cond b (x ∷ filter r xs) (filter r xs)) ≡ list_any p (x ∷ xs)) [
-      | true ↦ λ _. ap (λ b. p x || b) (any_within p r xs h)
-      | false ↦ λ out.
-          elim (p x) as (λ b. p x ≡ b → list_any p (filter r xs) ≡ (b || list_any p xs)) [
-            | true ↦ λ passes. let clash : false ≡ true = sym out ∙ h x passes in cc
-            | false ↦ λ _. any_within p r xs h
-          ] refl
-    ] refl
-
 module _ (chosen : PeerKey → Bool) where
   -- the units of the peers that are chosen
   abbrev pub chosen_units : List ReplayUnit → List ReplayUnit
@@ -122,7 +108,7 @@ module _ (chosen : PeerKey → Bool) where
   units_of_chosen units q e = filter_within (λ u. peer_eq u.peer q) (λ u. chosen u.peer) units (λ u same. ap chosen (same_peer u.peer q same) ∙ e)
 
   seen_chosen : (units : List ReplayUnit) (q : PeerKey) → chosen q ≡ true → is_seen (chosen_units units) q ≡ is_seen units q
-  seen_chosen units q e = any_within (λ u. peer_eq u.peer q) (λ u. chosen u.peer) units (λ u same. ap chosen (same_peer u.peer q same) ∙ e)
+  seen_chosen units q e = any-filter_same (λ u. peer_eq u.peer q) (λ u. chosen u.peer) true (λ u same. ap chosen (same_peer u.peer q same) ∙ e) units
 
   one_chosen : (before : List ReplayUnit) (x : ReplayUnit) → chosen x.peer ≡ true → new_peer (chosen_units before) x ≡ filter chosen (new_peer before x)
   one_chosen before x e =

@@ -8,8 +8,7 @@ use Rattle.lane_deal.specs.UnitRings.{known_free, ring_capacity}
 use Rattle.mrt_frame.specs.declared.error.ReplayError.{ReplayError}
 use Rattle.mrt_frame.specs.declared.error.ReplayError.TheVariants.{Read, Write, Memory, Records, Spent as SpentBefore}
 use Rattle.mrt_body.specs.declared.unit.Damage.{Damage}
-use Rattle.mrt_body.specs.Plain.{Found}
-use Rattle.mrt_body.specs.Plain.{Unit as ReplayUnit}
+use Rattle.mrt_body.specs.Plain.{Found, Unit as ReplayUnit}
 use Rattle.mrt_body.specs.Units.{unit_of, damage_of}
 use Rattle.mrt_body.specs.ToCome.{UnitsState}
 use Rattle.peer_tables.specs.Peers.{peers_of}
@@ -40,8 +39,8 @@ use Rattle.lane_deal.specs.Replayers.{LaneState, ReplayerState, LaneStandsFor, R
 use Rattle.std.proofs.Math.Logic.{∥∥₁_map}
 use Rattle.lane_deal.specs.Rounds.{PlaysRound, Stops, Settles, share_of, lane_in}
 use Rattle.lane_deal.specs.Shown.{lane_state, lane_states, state_at, SeatsHold}
-use Rattle.lane_deal.proofs.Bridges.{filter_mapped, dealt_items, dealt_items-append, stands_in, stands_out, length-lane_states, lane_states-at, lane_at}
-use Rattle.lane_deal.proofs.Batches.{some_item}
+use Rattle.lane_deal.proofs.Lists.{filter_mapped, some_item}
+use Rattle.lane_deal.proofs.Bridges.{dealt_items, dealt_items-append, stands_in, stands_out, length-lane_states, lane_states-at, lane_at}
 use Rattle.lane_deal.proofs.Deals.{room_at}
 use Rattle.lane_deal.proofs.DealerLaws.{in_order}
 
@@ -211,27 +210,25 @@ module _ {M A D : Type 0} {g : Ghosts M RouteId A} {a : AddressGhosts A} where
       behind = p.deals.behind;
     }
 
-  -- the same, where the lists are told by what they equal
-  pub PlaysOn-of : (dealing : ℕ → ℕ → ℕ) (plan : Plan) (batch : ℕ) (fs fs' fs₂ : List LaneSender) (ws ws' ws₂ : List (Worker (Seats M A g a))) (old new : Dealer D) (spent spent' : Bool) (u u' : UnitsState) (k k' : List (Option (List ℕ))) (result : Result Step ReplayError)
-      → AreReady plan.ring fs ws → ((n : ℕ) → dealing n (length fs) < length fs) → fs₂ ≡ fs' → ws₂ ≡ ws' → batch ≡ plan.batch → spent' ≡ false
-      → PlaysLanes SeatsHold (λ n. dealing n (length fs)) plan.ring batch fs ws fs' ws' old new u k u' k' result → PlaysOn dealing plan (state_at old fs ws spent) (state_at new fs₂ ws₂ spent') u k u' k' result
-  PlaysOn-of dealing plan batch fs fs' fs₂ ws ws' ws₂ old new spent spent' u u' k k' result ready below e f b unspent p =
-      subst (λ l. PlaysOn dealing plan (state_at old fs ws spent) (state_at new l ws₂ spent') u k u' k' result) (sym e)
-      (subst (λ l. PlaysOn dealing plan (state_at old fs ws spent) (state_at new fs' l spent') u k u' k' result) (sym f)
-      (PlaysOn-from dealing plan fs fs' ws ws' old new spent spent' u u' k k' result ready below unspent
-      (subst (λ n. PlaysLanes SeatsHold (λ m. dealing m (length fs)) plan.ring n fs ws fs' ws' old new u k u' k' result) b p)))
+  -- the same, where the batch is told by what it equals
+  pub PlaysOn-of : (dealing : ℕ → ℕ → ℕ) (plan : Plan) (batch : ℕ) (fs fs' : List LaneSender) (ws ws' : List (Worker (Seats M A g a))) (old new : Dealer D) (spent spent' : Bool) (u u' : UnitsState) (k k' : List (Option (List ℕ))) (result : Result Step ReplayError)
+      → AreReady plan.ring fs ws → ((n : ℕ) → dealing n (length fs) < length fs) → batch ≡ plan.batch → spent' ≡ false
+      → PlaysLanes SeatsHold (λ n. dealing n (length fs)) plan.ring batch fs ws fs' ws' old new u k u' k' result → PlaysOn dealing plan (state_at old fs ws spent) (state_at new fs' ws' spent') u k u' k' result
+  PlaysOn-of dealing plan batch fs fs' ws ws' old new spent spent' u u' k k' result ready below b unspent p =
+      PlaysOn-from dealing plan fs fs' ws ws' old new spent spent' u u' k k' result ready below unspent
+      (subst (λ n. PlaysLanes SeatsHold (λ m. dealing m (length fs)) plan.ring n fs ws fs' ws' old new u k u' k' result) b p)
 
   -- it still stands for some units and refusals
-  pub some_after : (law : D → ℕ → ℕ → ℕ) (plan : Plan) (batch : ℕ) (fs fs' fs₂ : List LaneSender) (ws ws' ws₂ : List (Worker (Seats M A g a))) (old new : Dealer D) (u u' : UnitsState) (k k' : List (Option (List ℕ))) (result : Result Step ReplayError)
-      → AreReady plan.ring fs ws → ((n : ℕ) → law old.dealing n (length fs) < length fs) → fs₂ ≡ fs' → ws₂ ≡ ws' → batch ≡ plan.batch
+  pub some_after : (law : D → ℕ → ℕ → ℕ) (plan : Plan) (batch : ℕ) (fs fs' : List LaneSender) (ws ws' : List (Worker (Seats M A g a))) (old new : Dealer D) (u u' : UnitsState) (k k' : List (Option (List ℕ))) (result : Result Step ReplayError)
+      → AreReady plan.ring fs ws → ((n : ℕ) → law old.dealing n (length fs) < length fs) → batch ≡ plan.batch
       → PlaysLanes SeatsHold (λ n. law old.dealing n (length fs)) plan.ring batch fs ws fs' ws' old new u k u' k' result
-      → ∥ StandsForSome (law old.dealing) plan.ring (state_at old fs ws false) ∥₁ → ∥ StandsForSome (law new.dealing) plan.ring (state_at new fs₂ ws₂ false) ∥₁
-  some_after law plan batch fs fs' fs₂ ws ws' ws₂ old new u u' k k' result ready below e f b p some =
-      let on = PlaysOn-of (law old.dealing) plan batch fs fs' fs₂ ws ws' ws₂ old new false false u u' k k' result ready below e f b refl p in
+      → ∥ StandsForSome (law old.dealing) plan.ring (state_at old fs ws false) ∥₁ → ∥ StandsForSome (law new.dealing) plan.ring (state_at new fs' ws' false) ∥₁
+  some_after law plan batch fs fs' ws ws' old new u u' k k' result ready below b p some =
+      let on = PlaysOn-of (law old.dealing) plan batch fs fs' ws ws' old new false false u u' k k' result ready below b refl p in
       ∥∥₁_map some (λ s. record {
         units = s.units ++ filter_map unit_of on.done;
         refused = s.refused ++ filter_map damage_of on.done;
-        stands = subst (λ d. ReplayerStandsFor (law d) plan.ring (s.units ++ filter_map unit_of on.done) (s.refused ++ filter_map damage_of on.done) (state_at new fs₂ ws₂ false)) (sym p.deals.handles.dealing) ((on.plays []).stands s.units s.refused s.stands);
+        stands = subst (λ d. ReplayerStandsFor (law d) plan.ring (s.units ++ filter_map unit_of on.done) (s.refused ++ filter_map damage_of on.done) (state_at new fs' ws' false)) (sym p.deals.handles.dealing) ((on.plays []).stands s.units s.refused s.stands);
       })
 
   -- ---- a settling

@@ -1,21 +1,22 @@
 -- How many rounds there are: those that fill a ring, and those that deal a batch.
 use Rattle.std.proofs.Common.{◌≡◌, ◌≢◌, ℕ, zero, suc, ◌+◌, ◌*◌, ◌/◌, ◌<◌, ◌≤◌, eqb, List, [], ◌∷◌, Some, refl, sym, ap, ◌∙◌, subst, arith, length, length-append}
-use Rattle.std.specs.Prelude.{slice_get, unwrap_or}
+use Rattle.std.specs.Prelude.{slice_get}
 use Rattle.std.specs.List.{filter_map, count_by, sum_by, position_or_len, AllByRecursion}
 use Rattle.std.proofs.Math.Nat.{add-mul, zero-mul, one-mul}
 use Rattle.std.proofs.lemmas.Nat.{le-div}
 use Rattle.std.proofs.lemmas.List.Sums.{sum_by-cons, length-filter, count_by-le-length}
 use Rattle.std.proofs.lemmas.List.Sorted.{length_permutation}
-use Rattle.mrt_body.specs.Plain.{Found}
-use Rattle.mrt_body.specs.Plain.{Unit as ReplayUnit}
+use Rattle.mrt_body.specs.Plain.{Found, Unit as ReplayUnit}
 use Rattle.mrt_body.specs.Units.{unit_of}
 use Rattle.peer_tables.specs.Peers.{peer_eq}
+use Rattle.peer_tables.proofs.PeerPositions.{some_is}
 use Rattle.lane_deal.specs.declared.plan.Plan.{Plan}
 use Rattle.lane_deal.specs.declared.step.Step.TheVariants.{Blocked, FullBatch, End}
 use Rattle.lane_deal.specs.Plans.{IsPlan}
 use Rattle.lane_deal.specs.Replayers.{LaneState, ReplayerState}
 use Rattle.lane_deal.specs.Rounds.{lane_in, share_of, PlaysRound, IsBlocked, Stops, RoundState, AreRounds, IsSettled, dealt_in}
-use Rattle.lane_deal.proofs.Classes.{of_class, by_class, by_class-IsPermutation, all_of}
+use Rattle.lane_deal.proofs.Lists.{all_of}
+use Rattle.lane_deal.proofs.Classes.{of_class, by_class, by_class-IsPermutation}
 
 -- ---- how many units wait
 
@@ -24,9 +25,6 @@ waiting_at lane = length lane.ring.sent
 
 abbrev pub waiting_in : ReplayerState → ℕ
 waiting_in r = sum_by waiting_at r.lanes
-
-some_is : {A : Type 0} (x y : A) → Some x ≡ Some y → x ≡ y
-some_is x y e = ap (λ o. unwrap_or o x) e
 
 -- one lane's units are among all that wait
 one_waits : (lanes : List LaneState) (lane : ℕ) (state : LaneState) → slice_get lanes lane ≡ Some state → waiting_at state ≤ sum_by waiting_at lanes

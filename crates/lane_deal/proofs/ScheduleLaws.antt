@@ -9,8 +9,9 @@ use Rattle.lane_deal.specs.declared.turn.Turn.{Turn}
 use Rattle.lane_deal.specs.declared.turn.Turn.TheVariants.{Deal, Take}
 use Rattle.lane_deal.specs.Lanes.{lane_of_unit, lane_units}
 use Rattle.lane_deal.specs.Schedules.{LanesState, start, dealt, took, after_turn, after_turns, IsShared}
-use Rattle.lane_deal.proofs.Classes.{filter_alike, of_class}
-use Rattle.lane_deal.proofs.Peers.{all_more, numbers_stay}
+use Rattle.lane_deal.proofs.Lists.{all_more, filter_alike}
+use Rattle.lane_deal.proofs.Classes.{of_class}
+use Rattle.lane_deal.proofs.Peers.{numbers_stay}
 
 module _ (lane_of : ReplayUnit → ℕ) (units : List ReplayUnit) where
   -- the same, by the lanes of the units

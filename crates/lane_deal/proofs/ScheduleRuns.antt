@@ -1,5 +1,5 @@
 -- Lanes on one thread, event by event.
-use Rattle.std.proofs.Common.{◌≡◌, ◌≢◌, ℕ, ◌+◌, ◌-◌, ◌^◌, ◌<◌, ◌≤◌, min, true, false, eqb, if◌then◌else◌, List, [], ◌∷◌, ◌++◌, length, take, drop, get_or, set, Result, Ok, Err, OnOk, refl, sym, ap, ◌∙◌, subst, arith, length-append, length-set, get_or-set_same, get_or-set_other}
+use Rattle.std.proofs.Common.{◌≡◌, ◌≢◌, ℕ, ◌+◌, ◌-◌, ◌^◌, ◌<◌, ◌≤◌, min, true, false, eqb, if◌then◌else◌, List, [], ◌∷◌, ◌++◌, length, take, drop, get_or, set, Result, Ok, Err, OnOk, refl, sym, ap, ◌∙◌, subst, arith, length-append, length-set, get_or-set_same, get_or-set_other, below_more}
 use Rattle.std.proofs.lemmas.List.{append-nil, map-append, get_or_append_left, get_or_push, length_push, take_more}
 use Rattle.std.proofs.lemmas.Bool.{eqb-true, eq-eqb}
 use Rattle.std.specs.List.{list_any, fold}
@@ -18,7 +18,8 @@ use Rattle.lane_deal.specs.Schedules.{LanesState, dealt, took, start}
 use Rattle.lane_deal.specs.Shown.{SeatsHold}
 use Rattle.lane_deal.specs.ShownLanes.{LaneShows, LanesShow}
 use Rattle.peer_tables.proofs.PeerPositions.{listed_now}
-use Rattle.lane_deal.proofs.DealerLaws.{numbered_stay, AreListed, listed_more, all_push, peers_push}
+use Rattle.lane_deal.proofs.Lists.{all_push}
+use Rattle.lane_deal.proofs.DealerLaws.{numbered_stay, AreListed, listed_more, peers_push}
 
 -- ---- numbers
 
@@ -58,14 +59,10 @@ module _ {M A : Type 0} {g : Ghosts M RouteId A} {a : AddressGhosts A} where
 
   pub empty_more : (lanes : List (OneLane M A g a)) (x : OneLane M A g a) → AreEmpty lanes → ((all : List ReplayUnit) → LaneShows all x [] []) → AreEmpty (lanes ++ x ∷ [])
   empty_more lanes x p q = record {
-    each = λ lane d l all.
-        elim (eqb lane (length lanes)) as (λ b. eqb lane (length lanes) ≡ b → LaneShows all (get_or (lanes ++ x ∷ []) lane d) [] []) [
-          | true ↦ λ e. subst (λ y. LaneShows all y [] []) (sym (get_or_push lanes x d lane (sym (eqb-true lane (length lanes) e)))) (q all)
-          | false ↦ λ e.
-              let ne : lane ≢ length lanes = λ same. (let clash : false ≡ true = sym e ∙ eq-eqb lane (length lanes) same in cc) in
-              let inside : lane < length lanes = (let n = length_push lanes x in omega arith) in
-              subst (λ y. LaneShows all y [] []) (sym (get_or_append_left lanes (x ∷ []) d lane inside)) (p.each lane d inside all)
-        ] refl;
+    each = λ lane d l.
+        below_more (λ n. (all : List ReplayUnit) → LaneShows all (get_or (lanes ++ x ∷ []) n d) [] []) (length lanes)
+        (λ n m all. rw (get_or_append_left lanes (x ∷ []) d n m) (p.each n d m all)) (λ all. rw (get_or_push lanes x d (length lanes) refl) (q all))
+        lane (let n = length_push lanes x in omega arith);
   }
 
   pub empty_show : (lanes : List (OneLane M A g a)) → AreEmpty lanes → (all units : List ReplayUnit) → LanesShow all (with_numbers (peers_of all) units) lanes (start units)
@@ -111,10 +108,6 @@ module _ {M A : Type 0} {g : Ghosts M RouteId A} {a : AddressGhosts A} where
               | false ↦ λ t. p.past other beyond
             ] refl;
       }
-
-  pub shows_none : (lane_of : ReplayUnit → ℕ) (all : List ReplayUnit) (q : List PeerUnit) (ls : List (OneLane M A g a)) (s : LanesState) (us : List ReplayUnit) → s.undealt ≡ us → q ≡ [] → LanesShow all q ls s → LanesShow all q ls (dealt lane_of s us)
-  shows_none lane_of all q ls s [] some e p = p
-  shows_none lane_of all q ls s (u ∷ us) some e p = absurd (let clash : [] ≡ with_numbers (peers_of all) (u ∷ us) = sym e ∙ p.rest ∙ ap (with_numbers (peers_of all)) some in cc)
 
   -- ---- a unit is taken
 
@@ -165,10 +158,6 @@ module _ {M A : Type 0} {g : Ghosts M RouteId A} {a : AddressGhosts A} where
           | false ↦ λ t. p.past other beyond
         ] refl;
   }
-
-  pub shows_past : (all : List ReplayUnit) (q : List PeerUnit) (ls : List (OneLane M A g a)) (lane : ℕ) (s : LanesState) (us : List ReplayUnit) → s.ring lane ≡ us → us ≡ [] → LanesShow all q ls s → LanesShow all q ls (took lane s us)
-  shows_past all q ls lane s [] e none p = p
-  shows_past all q ls lane s (u ∷ us) e none p = absurd (cc)
 
   pub took_from : {T E : Type 0} (r : Result T E) (ls : List (OneLane M A g a)) (lane : ℕ) (e x : OneLane M A g a) → lane < length ls
       → OnOk r ((all waiting taken : List ReplayUnit) → LaneShows all (get_or ls lane e) waiting taken → LaneShows all x (drop 1 waiting) (taken ++ take 1 waiting))

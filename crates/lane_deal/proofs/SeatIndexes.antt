@@ -1,9 +1,10 @@
 -- Where sessions are remembered to stand.
-use Rattle.std.proofs.Common.{◌≡◌, ℕ, zero, suc, ◌||◌, inl, inr, Bool, true, false, eqb, List, [], ◌∷◌, ◌++◌, length, map, Option, Some, refl, sym, ap, ◌∙◌}
+use Rattle.std.proofs.Common.{◌≡◌, ℕ, zero, suc, ◌<◌, ◌||◌, inl, inr, Bool, true, false, eqb, List, [], ◌∷◌, ◌++◌, length, map, get_or, Option, Some, refl, sym, ap, ◌∙◌, arith}
 use Rattle.std.specs.Prelude.{slice_get}
 use Rattle.std.specs.List.{list_any, position_or_len}
 use Rattle.std.proofs.lemmas.Bool.{eqb-true, eq-eqb}
-use Rattle.std.proofs.lemmas.List.{length-map, map-append}
+use Rattle.std.proofs.lemmas.List.{length-map, map-append, get_or-map}
+use Rattle.std.proofs.lemmas.Option.{slice_get_within, get_or_from_slice_get}
 use Rattle.peer_tables.specs.Seats.{seat_of}
 use Rattle.peer_tables.specs.Tables.{Seat}
 use Rattle.peer_tables.specs.declared.tables.Seated.{Seated}
@@ -32,6 +33,19 @@ module _ {M A : Type 0} where
   number_at [] at x e = absurd cc
   number_at (s ∷ ss) zero x e = ap (λ y. Some y.number) (some_is (seat_of s) x e)
   number_at (s ∷ ss) (suc at) x e = number_at ss at x e
+
+  -- a session that stands at a place has its number there, in the list as contracts see it
+  pub stands_here : (seats : List (Seated M A)) (at n : ℕ) (d : Seated M A) → at < length seats → (get_or seats at d).number ≡ n
+      → (at < length seats) × ((e : Seat) → (get_or (map seat_of seats) at e).number ≡ n)
+  stands_here seats at n d within same = (within, λ e. ap (λ (s : Seat). s.number) (get_or-map seat_of seats at d e within) ∙ same)
+
+  -- where a number is listed there is a session, which has it
+  pub stands_within : (seats : List (Seated M A)) (at n : ℕ) → slice_get (numbers seats) at ≡ Some n → at < length seats
+  stands_within seats at n there = omega (arith, slice_get_within (numbers seats) at n there, length-map seats (λ (s : Seated M A). s.number))
+
+  pub stands_there : (seats : List (Seated M A)) (at n : ℕ) (d : Seated M A) → slice_get (numbers seats) at ≡ Some n → (get_or seats at d).number ≡ n
+  stands_there seats at n d there =
+      sym (get_or-map (λ (s : Seated M A). s.number) seats at d n (stands_within seats at n there)) ∙ get_or_from_slice_get (numbers seats) at n n there
 
   -- a session of another number is remembered
   pub indexed_kept : (old new : List (Option ℕ)) (seats : List (Seated M A)) (n : ℕ) → AreIndexed old (numbers seats) → has n seats ≡ false

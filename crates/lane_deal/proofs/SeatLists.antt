@@ -1,13 +1,13 @@
 -- The sessions of a lane, unit by unit.
 use Rattle.std.proofs.Common.{◌≡◌, ◌≢◌, ℕ, zero, suc, ◌<◌, ◌||◌, inl, inr, Bool, true, false, cond, eqb, if◌then◌else◌, List, [], ◌∷◌, ◌++◌, length, map, get_or, set, Some, Result, Ok, Err, OnOk, refl, sym, ap, ◌∙◌, subst, arith, get_or-set_same, get_or-set_other}
 use Rattle.std.specs.Prelude.{slice_get}
-use Rattle.std.specs.List.{filter, list_any, AllByRecursion}
-use Rattle.std.proofs.lemmas.List.{append-nil, map-append, length-map, length-set, map-set, get_or-map, ext_get_or, get_or_push}
+use Rattle.std.specs.List.{filter, list_any}
+use Rattle.std.proofs.lemmas.List.{append-nil, set_at, map-append, length-map, length-set, map-set, get_or-map, ext_get_or, get_or_push}
 use Rattle.std.proofs.lemmas.List.Elements.{filter-append}
 use Rattle.std.proofs.lemmas.List.Folds.{list_any-append}
 use Rattle.std.proofs.lemmas.List.FromFn.{get_or-range_with_len}
 use Rattle.std.proofs.lemmas.Bool.{eqb-true, eq-eqb}
-use Rattle.std.proofs.lemmas.Option.{slice_get_within, get_or_from_slice_get}
+use Rattle.std.proofs.lemmas.Option.{slice_get_within, slice_get-get_or, get_or_from_slice_get}
 use Rattle.std.proofs.Math.Bool.{or-true}
 use Rattle.mrt_body.specs.declared.unit.PeerKey.{PeerKey}
 use Rattle.mrt_body.specs.Plain.{Unit as ReplayUnit}
@@ -25,6 +25,7 @@ use Rattle.peer_tables.proofs.ShareLaws.{same_peer}
 use Rattle.peer_tables.proofs.PeerPositions.{peer_itself, listed_at, listed_gets}
 use Rattle.lane_deal.proofs.Peers.{is_seen, listed_peer}
 use Rattle.lane_deal.proofs.DealerLaws.{peers_push, listed_is_seen, seen_last}
+use Rattle.lane_deal.proofs.Lists.{back_of, front_of}
 
 -- ---- lists
 
@@ -42,25 +43,6 @@ map_but_one f g xs i d l h =
           let ne : j ≢ i = λ q. (let clash : false ≡ true = sym e ∙ eq-eqb j i q in cc) in
           get_or-map g xs j d (g d) lj ∙ h j lj ne ∙ sym (get_or-map f xs j d (g d) lj) ∙ sym (get_or-set_other (map f xs) i j v (g d) ne)
     ] refl)
-
-set_last : {X : Type 0} (xs : List X) (y z : X) (i : ℕ) → i ≡ length xs → set (xs ++ y ∷ []) i z ≡ xs ++ z ∷ []
-set_last [] y z zero e = refl
-set_last [] y z (suc i) e = absurd (omega (arith, e))
-set_last (x ∷ xs) y z zero e = absurd (omega (arith, e))
-set_last (x ∷ xs) y z (suc i) e = ap (λ l. x ∷ l) (set_last xs y z i (omega (arith, e)))
-
-gets : {X : Type 0} (xs : List X) (i : ℕ) (d : X) → i < length xs → slice_get xs i ≡ Some (get_or xs i d)
-gets [] i d l = absurd (omega (arith, l))
-gets (x ∷ xs) zero d l = refl
-gets (x ∷ xs) (suc i) d l = gets xs i d (omega (arith, l))
-
-pub front_of : {X : Type 0} (P : X → Type 0) (xs ys : List X) → AllByRecursion P (xs ++ ys) → AllByRecursion P xs
-front_of P [] ys h = tt
-front_of P (x ∷ xs) ys h = (h.0, front_of P xs ys h.1)
-
-pub back_of : {X : Type 0} (P : X → Type 0) (xs ys : List X) → AllByRecursion P (xs ++ ys) → AllByRecursion P ys
-back_of P [] ys h = h
-back_of P (x ∷ xs) ys h = back_of P xs ys h.1
 
 none_passes : {X : Type 0} (p : X → Bool) (xs : List X) → list_any p xs ≡ false → filter p xs ≡ []
 none_passes p [] e = refl
@@ -100,7 +82,7 @@ module _ (number : PeerKey → ℕ) (units : List ReplayUnit) (u : ReplayUnit) w
   seats_found position d l is =
       let ps = peers_of units in
       let k = get_or ps position d in
-      let seen : list_any (peer_eq u.peer) ps ≡ true = ap (λ p. list_any (peer_eq p) ps) is ∙ listed_at ps position k (gets ps position d l) in
+      let seen : list_any (peer_eq u.peer) ps ≡ true = ap (λ p. list_any (peer_eq p) ps) is ∙ listed_at ps position k (slice_get-get_or ps position d l) in
       let same : peers_of (units ++ u ∷ []) ≡ ps = peers_push units u ∙ ap (λ b. ps ++ (if b then [] else u.peer ∷ [])) seen ∙ append-nil ps in
       ap (map (seat_by number (units ++ u ∷ []))) same
       ∙ map_but_one (seat_by number units) (seat_by number (units ++ u ∷ [])) ps position d l (λ j m ne.
@@ -109,7 +91,7 @@ module _ (number : PeerKey → ℕ) (units : List ReplayUnit) (u : ReplayUnit) w
       elim (peer_eq u.peer q) as (λ b. peer_eq u.peer q ≡ b → b ≡ false) [
         | true ↦ λ e.
             let equal : k ≡ q = sym is ∙ same_peer u.peer q e in
-            let clash : j ≡ position = sym (peers_apart units j q (gets ps j d m)) ∙ ap (number_in ps) (sym equal) ∙ peers_apart units position k (gets ps position d l) in absurd (ne clash)
+            let clash : j ≡ position = sym (peers_apart units j q (slice_get-get_or ps j d m)) ∙ ap (number_in ps) (sym equal) ∙ peers_apart units position k (slice_get-get_or ps position d l) in absurd (ne clash)
         | false ↦ λ _. refl
       ] refl in
       ap (λ l. record { number = number q; key = q; session = session_of l }) (other_units q apart))
@@ -177,7 +159,7 @@ module _ (s₀ s₁ s₂ : List Seat) (taken : List PeerUnit) (n position : ℕ)
         let l : position < length ps = (let e = ap length seats_before in let m = length-map ps (seat_by number before) in omega arith) in
         let seat_is : get_or s₀ position d ≡ seat_by number before k = ap (λ l. get_or l position d) (sym seats_before) ∙ get_or-map (seat_by number before) ps position u.peer d l in
         let number_is : number k ≡ n = ap (λ s. s.number) (sym seat_is) ∙ at d in
-        let seen : is_seen (units_in (taken ++ item ∷ [])) k ≡ true = ap (λ l. is_seen l k) one_more ∙ seen_more before (u ∷ []) k (seen_at before position k (gets ps position u.peer l)) in
+        let seen : is_seen (units_in (taken ++ item ∷ [])) k ≡ true = ap (λ l. is_seen l k) one_more ∙ seen_more before (u ∷ []) k (seen_at before position k (slice_get-get_or ps position u.peer l)) in
         let is : u.peer ≡ k = a.apart u.peer k seen_own seen (number_own ∙ sym number_is) in
         let here : get_or s₁ position d ≡ seat_by number before k = ap (λ l. get_or l position d) same ∙ seat_is in
         let took = q (units_of_peer before k) d (ap (λ s. s.session) here) in
@@ -200,7 +182,7 @@ module _ (s₀ s₁ s₂ : List Seat) (taken : List PeerUnit) (n position : ℕ)
         ap (seats_by number) one_more ∙ seats_new number before u new
         ∙ ap (λ l. l ++ record { number = number u.peer; key = u.peer; session = session_of ([] ++ u ∷ []) } ∷ []) seats_before
         ∙ ap (λ m. s₀ ++ record { number = m; key = u.peer; session = session_of ([] ++ u ∷ []) } ∷ []) number_own
-        ∙ sym (set_last s₀ (new_seat n u.peer) (record { number = n; key = u.peer; session = session_of ([] ++ u ∷ []) }) position at)
+        ∙ sym (set_at s₀ (new_seat n u.peer) [] (record { number = n; key = u.peer; session = session_of ([] ++ u ∷ []) }) position (sym at))
         ∙ ap (λ l. set l position (record { number = n; key = u.peer; session = session_of ([] ++ u ∷ []) })) (sym grown)
         ∙ ap (λ s. set s₁ position (record { number = s.number; key = s.key; session = session_of ([] ++ u ∷ []) })) (sym last) ∙ sym took
 

@@ -1,8 +1,8 @@
 -- The sessions of a settled replayer are those of the tables.
-use Rattle.std.proofs.Common.{◌≡◌, ℕ, suc, ◌+◌, ◌<◌, Bool, cond, eqb, true, false, if◌then◌else◌, List, [], ◌∷◌, ◌++◌, Some, refl, sym, ap, ◌∙◌, subst, arith, map, length}
+use Rattle.std.proofs.Common.{◌≡◌, ℕ, suc, ◌+◌, ◌<◌, eqb, true, false, if◌then◌else◌, List, [], ◌∷◌, ◌++◌, Some, refl, sym, ap, ◌∙◌, subst, arith, length}
 use Rattle.std.proofs.lemmas.List.{append-nil}
 use Rattle.std.specs.Prelude.{slice_get, option_to_list}
-use Rattle.std.specs.List.{filter, flat_map, range_with_len, AllByRecursion}
+use Rattle.std.specs.List.{flat_map, range_with_len, AllByRecursion}
 use Rattle.std.specs.List.Sorted.{IsPermutation}
 use Rattle.std.proofs.lemmas.List.Sorted.{IsPermutation-refl, IsPermutation-trans, IsPermutation-sym, IsPermutation-append_left, IsPermutation-append_right}
 use Rattle.mrt_body.specs.declared.unit.Damage.{Damage}
@@ -15,7 +15,8 @@ use Rattle.lane_deal.specs.Lanes.{number_of_peer, lane_units, seats_of_lane}
 use Rattle.lane_deal.specs.Numbers.{with_numbers}
 use Rattle.lane_deal.specs.Replayers.{LaneState, ReplayerState, LaneStandsFor, ReplayerStandsFor}
 use Rattle.lane_deal.specs.Rounds.{IsSettled}
-use Rattle.lane_deal.proofs.Peers.{is_seen, new_peers, all_more, numbers_stay, peers_of_chosen}
+use Rattle.lane_deal.proofs.Lists.{all_filtered, all_more, map_alike}
+use Rattle.lane_deal.proofs.Peers.{is_seen, new_peers, numbers_stay, peers_of_chosen}
 use Rattle.lane_deal.proofs.SeatLaws.{seats_of_lanes}
 
 -- ---- numbers of peers among more units
@@ -29,15 +30,6 @@ all_new P before (x ∷ xs) h =
 pub all_peers : (P : PeerKey → Type 0) (units : List ReplayUnit) → AllByRecursion (λ u. P u.peer) units → AllByRecursion P (peers_of units)
 unfolding peers_of
 all_peers P units h = all_new P [] units h
-
-pub all_filtered : {X : Type 0} (P : X → Type 0) (p : X → Bool) (xs : List X) → AllByRecursion P xs → AllByRecursion P (filter p xs)
-all_filtered P p [] h = tt
-all_filtered P p (x ∷ xs) h =
-    elim (p x) as (λ b. AllByRecursion P (cond b (x ∷ filter p xs) (filter p xs))) [ true ↦ (h.0, all_filtered P p xs h.1) | false ↦ all_filtered P p xs h.1 ]
-
-pub map_alike : {X Y : Type 0} (f g : X → Y) (xs : List X) → AllByRecursion (λ x. f x ≡ g x) xs → map f xs ≡ map g xs
-map_alike f g [] h = refl
-map_alike f g (x ∷ xs) h = ap (λ y. y ∷ map f xs) h.0 ∙ ap (λ l. g x ∷ l) (map_alike f g xs h.1)
 
 -- a lane's seats, numbered among more units
 seats_stay : (lane_of : ℕ → ℕ) (units more : List ReplayUnit) (lane : ℕ) → seats_of_lane (units ++ more) (lane_units lane_of units lane) ≡ seats_of_lane units (lane_units lane_of units lane)

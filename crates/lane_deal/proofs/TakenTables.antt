@@ -26,25 +26,26 @@ use Rattle.lane_deal.specs.Plain.{PeerUnit}
 use Rattle.lane_deal.specs.declared.schedule.OneLane.{OneLane}
 use Rattle.lane_deal.specs.Lanes.{number_of_peer, lane_of_unit, seats_of_lane}
 use Rattle.peer_tables.specs.Numbers.{number_in}
-use Rattle.lane_deal.specs.Numbers.{with_numbers, units_in}
+use Rattle.lane_deal.specs.Numbers.{with_number, with_numbers, units_in}
 use Rattle.lane_deal.specs.OneLanes.{OneLaneState, one_lane_state, seats_of_lanes}
 use Rattle.lane_deal.specs.Schedules.{LanesState, IsShared}
 use Rattle.lane_deal.specs.Seating.{seats_by, HoldsUnits}
 use Rattle.lane_deal.specs.ShownLanes.{LaneShows, LanesShow}
 use Rattle.lane_deal.specs.TakenTables.{units_taken, seats_taken, tables_taken}
 use Rattle.lane_deal.proofs.Bridges.{units_numbered}
-use Rattle.lane_deal.proofs.Classes.{of_class, by_class, by_class-IsPermutation, all_of}
-use Rattle.lane_deal.proofs.ClassLists.{kept_pass, all_pass, none_pass, any_alike, filters_swapped, of_lists, in_lists}
+use Rattle.lane_deal.proofs.Lists.{all_filtered, all_mapped, all_more, all_of, all_pass, front_of, kept_pass, map_alike, none_pass}
+use Rattle.lane_deal.proofs.Classes.{of_class, by_class, by_class-IsPermutation}
+use Rattle.lane_deal.proofs.ClassLists.{any_alike, filters_swapped, of_lists, in_lists}
 use Rattle.lane_deal.proofs.HandingIn.{flat_each}
-use Rattle.lane_deal.proofs.Numbering.{numbered_peers, numbers_of_positions}
+use Rattle.lane_deal.proofs.Numbering.{numbered_peers, numbers_of_positions, range_rises}
 use Rattle.peer_tables.proofs.PeerPositions.{listed_gets, some_is}
 use Rattle.peer_tables.proofs.ShareLaws.{same_peer}
-use Rattle.lane_deal.proofs.Peers.{is_seen, new_peers, peers_of-append, listed_peer, seen_after, all_more, units_of_chosen, peers_of_chosen}
-use Rattle.lane_deal.proofs.Rising.{Rises, range_rises, rises_filtered, increasing, distinct}
+use Rattle.lane_deal.proofs.Peers.{is_seen, new_peers, peers_of-append, listed_peer, seen_after, units_of_chosen, peers_of_chosen}
+use Rattle.lane_deal.proofs.Rising.{rise_filtered, distinct}
 use Rattle.lane_deal.proofs.ScheduleLaws.{lane_units-front}
 use Rattle.lane_deal.proofs.SeatLaws.{map_filtered, flat_map_alike, map_of_lists}
-use Rattle.lane_deal.proofs.SeatLists.{front_of, seen_more}
-use Rattle.lane_deal.proofs.SettledLaws.{all_peers, all_filtered, map_alike}
+use Rattle.lane_deal.proofs.SeatLists.{seen_more}
+use Rattle.lane_deal.proofs.SettledLaws.{all_peers}
 
 -- ---- the peers of a front
 
@@ -151,10 +152,10 @@ module _ (lane_of : ℕ → ℕ) (all : List ReplayUnit) (s : LanesState) (share
         ∙ map_of_lists own_seat (of_class lane_of_peer peers) (range_with_len 0 count) in
         subst (λ l. IsPermutation l (seats_taken all taken)) (sym gathered) (IsPermutation-sym _ _ (IsPermutation-map own_seat _ _ (by_class-IsPermutation lane_of_peer peers count below)))
 
-    numbers_rise : Rises (map (λ x. x.number) (seats_taken all taken))
+    numbers_rise : IsStrictlyIncreasing (map (λ x. x.number) (seats_taken all taken))
     numbers_rise =
         let positions : map (λ q. number_of_peer all q) (peers_of all) ≡ range_with_len 0 (length (peers_of all)) = numbered_peers (λ n _. n) all ∙ numbers_of_positions 0 (peers_of all) in
-        subst Rises (sym (map-map (λ (x : Seat). x.number) own_seat peers)) (rises_filtered (λ q. number_of_peer all q) (is_seen taken) (peers_of all) (subst Rises (sym positions) (range_rises 0 (length (peers_of all)))))
+        subst IsStrictlyIncreasing (sym (map-map (λ (x : Seat). x.number) own_seat peers)) (rise_filtered (λ q. number_of_peer all q) (is_seen taken) (peers_of all) (subst IsStrictlyIncreasing (sym positions) (range_rises 0 (length (peers_of all)))))
 
     module _ (none : s.undealt ≡ []) (idle : (lane : ℕ) → s.ring lane ≡ []) where
       all_taken : (lane : ℕ) → s.taken lane ≡ of_class class all lane
@@ -186,10 +187,6 @@ module _ (lane_of : ℕ → ℕ) (all : List ReplayUnit) (s : LanesState) (share
 
 -- ---- lanes on one thread
 
-numbers_are : (keys : List PeerKey) (units : List ReplayUnit) → AllByRecursion (λ i. number_in keys i.unit.peer ≡ i.number) (with_numbers keys units)
-numbers_are keys [] = tt
-numbers_are keys (u ∷ units) = (refl, numbers_are keys units)
-
 module _ {M A : Type 0} {g : Ghosts M RouteId A} {a : AddressGhosts A} where
   lane_seats : (all waiting taken : List ReplayUnit) (x : OneLane M A g a) → LaneShows all x waiting taken → ((q : PeerKey) → is_seen taken q ≡ true → is_seen all q ≡ true) → map seat_of x.seats.seats.items ≡ seats_of_lane all taken
   lane_seats all waiting taken x p seen =
@@ -197,7 +194,7 @@ module _ {M A : Type 0} {g : Ghosts M RouteId A} {a : AddressGhosts A} where
       let same : units_in (with_numbers keys taken) ≡ taken = units_numbered keys taken in
       let listed : (q : PeerKey) → is_seen (units_in (with_numbers keys taken)) q ≡ true → slice_get keys (number_in keys q) ≡ Some q =
       λ q e. listed_gets keys q (listed_peer all q (seen q (ap (λ l. is_seen l q) (sym same) ∙ e))) in
-      sym (p.seats (number_of_peer all) (record { each = numbers_are keys taken; apart = λ a b seen_a seen_b e. some_is a b (sym (listed a seen_a) ∙ ap (slice_get keys) e ∙ listed b seen_b) }))
+      sym (p.seats (number_of_peer all) (record { each = all_mapped (with_number keys) (λ i. number_in keys i.unit.peer ≡ i.number) taken (all_of taken (λ u. refl)); apart = λ a b seen_a seen_b e. some_is a b (sym (listed a seen_a) ∙ ap (slice_get keys) e ∙ listed b seen_b) }))
       ∙ ap (seats_by (number_of_peer all)) same
 
   module _ (lane_of : ℕ → ℕ) (all : List ReplayUnit) (s : LanesState) (shared : IsShared lane_of all s) (undealt : List PeerUnit) (ls : List (OneLane M A g a)) (p : LanesShow all undealt ls s) where
@@ -217,7 +214,7 @@ module _ {M A : Type 0} {g : Ghosts M RouteId A} {a : AddressGhosts A} where
     handed_in : IsPermutation (seats_of_lanes ls) (seats_taken all (units_taken s count))
     handed_in = subst (λ l. IsPermutation l (seats_taken all (units_taken s count))) (sym seats_shown) (all_seats lane_of all s shared count no_more)
 
-    rise : Rises (map (λ x. x.number) (seats_taken all (units_taken s count)))
+    rise : IsStrictlyIncreasing (map (λ x. x.number) (seats_taken all (units_taken s count)))
     rise = numbers_rise lane_of all s shared count no_more
 
     -- no number stands twice
@@ -226,7 +223,7 @@ module _ {M A : Type 0} {g : Ghosts M RouteId A} {a : AddressGhosts A} where
 
     module _ (tables : TablesState) (only : (seats : List Seat) → IsPermutation (seats_of_lanes ls) seats → IsStrictlyIncreasing (map (λ x. x.number) seats) → tables ≡ record { seats = seats; refused = [] }) where
       pub tables_are_taken : tables ≡ tables_taken all s count
-      tables_are_taken = only (seats_taken all (units_taken s count)) handed_in (increasing _ rise)
+      tables_are_taken = only (seats_taken all (units_taken s count)) handed_in rise
 
       pub tables_are_whole : s.undealt ≡ [] → ((lane : ℕ) → s.ring lane ≡ []) → tables ≡ tables_of all []
       tables_are_whole none idle = tables_are_taken ∙ whole_tables lane_of all s shared count no_more none idle

@@ -2,29 +2,24 @@
 use Rattle.std.proofs.Common.{◌≡◌, ℕ, ◌+◌, ◌-◌, ◌<◌, ◌≤◌, List, [], ◌∷◌, ◌++◌, length, map, take, drop, refl, sym, ap, ◌∙◌, subst, arith, length-append, length-drop, take-append-drop}
 use Rattle.std.specs.List.{AllByRecursion}
 use Rattle.std.proofs.lemmas.List.{append-nil, length-map, map-append, drop-map, drop-drop, drop-append-le}
-use Rattle.std.proofs.lemmas.List.Sums.{sum_by-append}
+use Rattle.std.proofs.lemmas.List.Sums.{sum_by-append, sum_by-cons}
+use Rattle.std.proofs.lemmas.List.Concat.{length-flat_map}
+use Rattle.std.proofs.lemmas.List.Folds.{fold-map}
 use Rattle.std.proofs.lemmas.Grind.{flat_map-append}
 use Rattle.std.proofs.Math.Seq.{drop-append_seam}
 use Rattle.lane_deal.specs.Plain.{UnitList}
 use Rattle.lane_deal.specs.UnitLists.{units_of, units_of_lists, list_length, AreLastLengths, total}
-use Rattle.lane_deal.proofs.DealerLaws.{all_push}
-use Rattle.lane_deal.proofs.SeatLists.{back_of}
+use Rattle.lane_deal.proofs.Lists.{all_push, back_of}
 
 -- ---- lengths
 
-pub total-append : (xs ys : List ℕ) → total (xs ++ ys) ≡ total xs + total ys
-total-append xs ys = sum_by-append (λ n. n) xs ys
-
 pub total-push : (xs : List ℕ) (n : ℕ) → total (xs ++ n ∷ []) ≡ total xs + n
-total-push xs n = let e = total-append xs (n ∷ []) in omega arith
-
-pub total-cons : (x : ℕ) (xs : List ℕ) → total (x ∷ xs) ≡ x + total xs
-total-cons x xs = total-append (x ∷ []) xs ∙ ap (λ n. n + total xs) (omega arith)
+total-push xs n = let e = sum_by-append (λ m. m) xs (n ∷ []) in omega arith
 
 -- no list is empty, so there are no more lists than units
 pub count_le_total : (xs : List ℕ) → AllByRecursion (λ n. 0 < n) xs → length xs ≤ total xs
 count_le_total [] p = omega arith
-count_le_total (x ∷ xs) p = let h = count_le_total xs p.1 in let g = p.0 in let e = total-cons x xs in omega arith
+count_le_total (x ∷ xs) p = let h = count_le_total xs p.1 in let g = p.0 in let e = sum_by-cons (λ n. n) x xs in omega arith
 
 pub all_drop : {X : Type 0} (P : X → Type 0) (k : ℕ) (xs : List X) → AllByRecursion P xs → AllByRecursion P (drop k xs)
 all_drop P k xs p = back_of P (take k xs) (drop k xs) (subst (AllByRecursion P) (sym (take-append-drop k xs)) p)
@@ -71,12 +66,7 @@ pub units_appended : (xs ys : List UnitList) → units_of_lists (xs ++ ys) ≡ u
 units_appended xs ys = flat_map-append (λ list. units_of list) xs ys
 
 pub units_counted : (lists : List UnitList) → length (units_of_lists lists) ≡ total (map (λ list. list_length list) lists)
-units_counted [] = refl
-units_counted (x ∷ xs) =
-    ap length (flat_map-append (λ list. units_of list) (x ∷ []) xs)
-    ∙ (length-append (units_of x ++ []) (units_of_lists xs)
-    ∙ (ap (λ n. n + length (units_of_lists xs)) (ap length (append-nil (units_of x)))
-    ∙ (ap (λ n. list_length x + n) (units_counted xs) ∙ sym (total-cons (list_length x) (map (λ list. list_length list) xs)))))
+units_counted lists = length-flat_map (λ list. units_of list) lists ∙ sym (fold-map (λ n m. n + m) (λ list. list_length list) 0 lists)
 
 -- the lists that are left of those that were received are those whose lengths are kept
 pub waiting_total : (lengths : List ℕ) (lists received known : List UnitList) → AreLastLengths lengths lists → received ++ known ≡ lists → length lengths ≡ length known → length (units_of_lists known) ≡ total lengths

@@ -1,9 +1,8 @@
 -- What a worker took, step by step.
 use Rattle.std.proofs.Common.{◌≡◌, ◌+◌, ◌-◌, ◌^◌, ◌<◌, min, List, [], ◌∷◌, ◌++◌, length, refl, sym, ap, ◌∙◌, subst, append_assoc, arith, length-append}
-use Rattle.std.proofs.lemmas.List.{append-nil, nil_from_length}
+use Rattle.std.proofs.lemmas.List.{append-nil}
 use Rattle.mrt_body.specs.Events.{event_in}
-use Rattle.rtrb.specs.Ring.{SameConsumer}
-use Rattle.rtrb.specs.Ring.{received as received_lists}
+use Rattle.rtrb.specs.Ring.{SameConsumer, received as received_lists}
 use Rattle.lane_deal.specs.Plain.{UnitList, PeerUnit, Worker}
 use Rattle.lane_deal.specs.UnitLists.{IsUnitList, units_of, units_of_lists}
 use Rattle.lane_deal.specs.UnitRings.{received, known_items, known_lists}
@@ -13,16 +12,6 @@ use Rattle.lane_deal.proofs.Batches.{AreDecoded-none, AreDecoded-more}
 use Rattle.lane_deal.specs.LaneWorkers.{Took, TookFront, TookSome, Takes, TakesAhead, Worked}
 
 module _ {S : Type 0} (stands_for : S → List PeerUnit → Type 0) where
-  pub Took-nil : (w : Worker S) → w.taken < 2 ^ 64 → Took stands_for w w []
-  Took-nil w l =
-      record {
-        lane = refl;
-        ring = ((refl, refl, refl, refl), refl);
-        received = sym (append-nil (received w.consumer));
-        counted = omega arith;
-        sessions = λ taken h. rw append-nil h;
-      }
-
   pub Took-append : (a b c : Worker S) (xs ys : List PeerUnit) → Took stands_for a b xs → Took stands_for b c ys → Took stands_for a c (xs ++ ys)
   Took-append a b c xs ys p q =
       record {
@@ -32,9 +21,6 @@ module _ {S : Type 0} (stands_for : S → List PeerUnit → Type 0) where
         counted = (let m = p.counted in let n = q.counted in let k = length-append xs ys in omega arith);
         sessions = λ taken h. rw (← append_assoc) (q.sessions (taken ++ xs) (p.sessions taken h));
       }
-
-  pub TookSome-none : (w : Worker S) → w.taken < 2 ^ 64 → TookSome stands_for w w
-  TookSome-none w l = record { items = []; took = Took-nil w l }
 
   pub TookSome-more : (a b c : Worker S) → TookSome stands_for a b → TookSome stands_for b c → TookSome stands_for a c
   TookSome-more a b c p q =
@@ -67,9 +53,6 @@ module _ {S : Type 0} (stands_for : S → List PeerUnit → Type 0) where
     pub took : Took stands_for a b items
     pub left : known_items a.consumer ≡ items ++ known_items b.consumer
 
-  pub TookKnown-none : (w : Worker S) → w.taken < 2 ^ 64 → TookKnown w w
-  TookKnown-none w l = record { items = []; took = Took-nil w l; left = refl }
-
   pub TookKnown-more : (a b c : Worker S) → TookKnown a b → TookFront stands_for b c → TookKnown a c
   TookKnown-more a b c p q =
       record {
@@ -77,19 +60,6 @@ module _ {S : Type 0} (stands_for : S → List PeerUnit → Type 0) where
         took = Took-append a b c p.items q.items p.took q.took;
         left = p.left ∙ (ap (λ l. p.items ++ l) q.left ∙ sym (append_assoc p.items q.items (known_items c.consumer)));
       }
-
-  -- nothing is left of them
-  pub TookKnown-all : (a b : Worker S) → TookKnown a b → length (known_lists b.consumer) ≡ 0 → Took stands_for a b (known_items a.consumer)
-  TookKnown-all a b p none =
-      let nil = ap units_of_lists (nil_from_length (known_lists b.consumer) none) in
-      subst (Took stands_for a b) (sym (p.left ∙ (ap (λ l. p.items ++ l) nil ∙ append-nil p.items))) p.took
-
-  pub TookSome-front : (a b : Worker S) → TookFront stands_for a b → TookSome stands_for a b
-  TookSome-front a b p = record { items = p.items; took = p.took }
-
-  -- what is taken, item by item
-  pub Takes-none : (w : Worker S) (s : S) → w.taken < 2 ^ 64 → ((taken : List PeerUnit) → stands_for w.sessions taken → stands_for s taken) → Takes stands_for w (record w { sessions = s }) []
-  Takes-none w s l h = record { lane = refl; ring = refl; counted = omega arith; sessions = λ taken g. rw append-nil (h taken g) }
 
   pub Takes-more : (a b c : Worker S) (items : List PeerUnit) (item : PeerUnit) → Takes stands_for a b items → c.lane ≡ b.lane → c.consumer ≡ b.consumer → c.taken ≡ min (b.taken + 1) (2 ^ 64 - 1)
       → ((taken : List PeerUnit) → stands_for b.sessions taken → stands_for c.sessions (taken ++ item ∷ [])) → Takes stands_for a c (items ++ item ∷ [])

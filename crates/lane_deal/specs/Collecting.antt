@@ -1,5 +1,5 @@
 -- Sessions are handed in by the lanes, or given back.
-use Rattle.std.specs.Prelude.{◌≡◌, ℕ, ◌<◌, ◌≤◌, List, map, length, slice_index_or}
+use Rattle.std.specs.Prelude.{◌≡◌, ℕ, List, map}
 use Rattle.std.specs.List.{flat_map}
 use Rattle.peer_tables.specs.declared.tables.Seated.{Seated}
 use Rattle.peer_tables.specs.Seats.{seat_of}
@@ -22,16 +22,6 @@ module _ {L S X : Type 0} (state : L → S) (held : S → List X) (with_held : S
   pub record Exchanged (before after : L) (list list' : List X) : Type 0 where
     pub given : list' ≡ held (state before)
     pub got : state after ≡ with_held (state before) list
-
-  -- the lanes below this one were exchanged, and the others are as they were
-  pub record ExchangedBelow (count : ℕ) (lanes lanes' : List L) (lists lists' : List (List X)) : Type 0 where
-    pub lanes_count : length lanes' ≡ length lanes
-    pub lists_count : length lists' ≡ length lists
-    pub each : (lane : ℕ) (d : L) (e : List X) → lane < count →
-        Exchanged (slice_index_or lanes lane d) (slice_index_or lanes' lane d) (slice_index_or lists lane e)
-        (slice_index_or lists' lane e)
-    pub lanes_rest : (lane : ℕ) (d : L) → count ≤ lane → slice_index_or lanes' lane d ≡ slice_index_or lanes lane d
-    pub lists_rest : (lane : ℕ) (e : List X) → count ≤ lane → slice_index_or lists' lane e ≡ slice_index_or lists lane e
 
 -- ---- workers
 

@@ -2,6 +2,7 @@
 use Rattle.std.specs.Prelude.{◌≡◌, ℕ, ◌+◌, ◌-◌, ◌^◌, ◌<◌, ◌≤◌, min, List, [], ◌++◌, length, slice_index_or}
 use Rattle.lane_deal.specs.Plain.{PeerUnit, LaneSender, Worker}
 use Rattle.lane_deal.specs.LaneSenders.{in_lane}
+use Rattle.lane_deal.specs.Pairs.{ChangedBelow}
 use Rattle.lane_deal.specs.UnitRings.{sent, known_free, received, known_items, ring_capacity, IsPair}
 
 -- the two ends are those of one ring of this capacity, of which the worker knows all units and the dealer how many more
@@ -53,25 +54,9 @@ abbrev pub IsLane : {S : Type 0} → ℕ → LaneSender → Worker S → Type 0
 IsLane capacity sender worker = IsPair sender.producer worker.consumer × (ring_capacity sender.producer ≡ capacity)
 
 -- each lane was renewed
-pub record RenewedAll {S : Type 0} (capacity : ℕ) (senders : List LaneSender) (workers : List (Worker S)) (senders' : List LaneSender)
-    (workers' : List (Worker S)) : Type 0 where
-  pub senders_count : length senders' ≡ length senders
-  pub workers_count : length workers' ≡ length workers
-  pub each : (lane : ℕ) (d : LaneSender) (e : Worker S) → lane < length senders →
-      Renewed capacity (slice_index_or senders lane d) (slice_index_or workers lane e) (slice_index_or senders' lane d)
-      (slice_index_or workers' lane e)
-
--- the lanes below this one were renewed, and the others are as they were
-pub record RenewedBelow {S : Type 0} (capacity count : ℕ) (senders : List LaneSender) (workers : List (Worker S))
-    (senders' : List LaneSender) (workers' : List (Worker S)) : Type 0 where
-  pub senders_count : length senders' ≡ length senders
-  pub workers_count : length workers' ≡ length workers
-  pub each : (lane : ℕ) (d : LaneSender) (e : Worker S) → lane < count →
-      Renewed capacity (slice_index_or senders lane d) (slice_index_or workers lane e) (slice_index_or senders' lane d)
-      (slice_index_or workers' lane e)
-  pub senders_rest : (lane : ℕ) (d : LaneSender) → count ≤ lane → slice_index_or senders' lane d ≡ slice_index_or senders lane d
-  pub workers_rest : (lane : ℕ) (e : Worker S) → count ≤ lane →
-      slice_index_or workers' lane e ≡ slice_index_or workers lane e
+abbrev pub RenewedAll : {S : Type 0} → ℕ → List LaneSender → List (Worker S) → List LaneSender → List (Worker S) → Type 0
+RenewedAll capacity senders workers senders' workers' =
+    ChangedBelow (λ s s' w w'. Renewed capacity s w s' w') (length senders) senders senders' workers workers'
 
 -- a lane to which nothing was dealt
 pub record IsFresh {S : Type 0} (stands_for : S → List PeerUnit → Type 0) (capacity : ℕ) (sender : LaneSender)

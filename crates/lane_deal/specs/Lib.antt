@@ -28,3 +28,4 @@ pub mod Collecting
 pub mod OneLanes
 pub mod ShownLanes
 pub mod TakenTables
+pub mod Pairs

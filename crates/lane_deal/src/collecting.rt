@@ -4,7 +4,8 @@ ghost use Rattle.std.specs.Prelude.{◌≡◌, List, IfOk, IfErr, IsPermutation,
 ghost use Rattle.std.specs.List.{IsDistinct};
 ghost use Rattle.std.specs.List.Sorted.{IsStrictlyIncreasing};
 ghost use Rattle.peer_tables.specs.Tables.{Seat};
-ghost use Rattle.lane_deal.specs.Collecting.{ExchangedBelow, seats_held};
+ghost use Rattle.lane_deal.specs.Collecting.{Exchanged, seats_held};
+ghost use Rattle.lane_deal.specs.Pairs.{ChangedBelow};
 
 use crate::holding::{HoldsSeats, exchange_seats};
 use crate::seats::Seats;
@@ -57,7 +58,7 @@ fn exchange_all<F: Unicast, M: PrefixMap<RouteId, Addr = F> + Drop, L: HoldsSeat
     lists: &mut [Sequence<Seated<M>>],
 )
     requires { length lists.old ≡ length lanes.old }
-    ensures { ExchangedBelow L.state L.held L.with_held (length lanes.old) lanes.old lanes.new lists.old lists.new }
+    ensures { ChangedBelow (Exchanged L.state L.held L.with_held) (length lanes.old) lanes.old lanes.new lists.old lists.new }
 {
     for lane in 0..lanes.len() {
         lanes[lane].exchange(alloc, &mut lists[lane]);

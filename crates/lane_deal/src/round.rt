@@ -1,13 +1,14 @@
 //! One round over all lanes.
 
-ghost use Rattle.std.specs.Prelude.{◌≡◌, ◌<◌, None, Ok, OnOk, length, map};
+ghost use Rattle.std.specs.Prelude.{◌≡◌, ◌<◌, ◌^◌, Ok, OnOk, length, map};
 ghost use Rattle.std.specs.List.{AllZip};
 ghost use Rattle.std.specs.Thread.{IsSync, IsSend};
 ghost use Rattle.lane_deal.specs.Results.{IfAnswered};
 ghost use Rattle.lane_deal.specs.Asking.{ReadsOn};
-ghost use Rattle.lane_deal.specs.DealerSteps.{DealsOn};
+ghost use Rattle.lane_deal.specs.DealerSteps.{DealsOn, DealsTo};
 ghost use Rattle.lane_deal.specs.LaneRings.{AreReady, Settled};
 ghost use Rattle.lane_deal.specs.LaneRounds.{PlaysLanes};
+ghost use Rattle.lane_deal.specs.LaneWorkers.{Takes};
 
 use crate::alone::Alone;
 use crate::dealer::DealerOf;
@@ -39,7 +40,6 @@ fn deal_and_work<
     rt: &T,
     alloc: Global,
     gate: &G,
-    round_over: &AtomicBool,
     limits: RoundLimits,
     dealer: &mut L,
     units: &mut Units<F>,
@@ -55,6 +55,7 @@ fn deal_and_work<
     ensures worked { OnOk result.1 (AllZip W.worked workers.old workers.new) }
 {
     let (batch, looks) = (limits.batch, limits.looks);
+    let round_over = &AtomicBool::new(false);
     let mut deal = || -> Result<Step, ReplayError>
         requires { (0 < length senders.now.items) × (length files.now ≡ units.now.count) }
         ensures { DealsOn (λ number. L.lane_of (L.dealer dealer.entry.now).dealing number (length senders.entry.now.items))
@@ -75,62 +76,33 @@ fn deal_and_work<
     (step, worked)
 }
 
-/// Runs one round of a single worker in this thread: what waits is taken, and then each unit that is dealt.
-fn run_alone<
-    T: Threads + Sync,
-    F: Unicast + Send,
-    D: Dealing + Send,
-    R: Source + Send,
-    S: Sessions<Addr = F> + Send,
-    G: Gate + Sync,
->(
-    rt: &T,
+/// Deals to the only worker, in this thread: it takes the units as they are dealt, and nothing waits for it then.
+fn deal_alone<F: Unicast, D: Dealing, R: Source, S: Sessions<Addr = F>, G: Gate>(
     alloc: Global,
-    capacity: usize,
     gate: &G,
-    limits: RoundLimits,
+    batch: u64,
     dealer: &mut DealerOf<D, F>,
     units: &mut Units<F>,
     files: &mut [R],
-    senders: &mut Vec<LaneSenderOf<F>>,
-    workers: &mut Vec<WorkerOf<S, F>>,
-) -> Result<Step, ReplayError>
-    requires lanes { length senders.old.items ≡ 1 }
-    requires files { length files.old ≡ units.old.count }
-    requires blocked_unit { dealer.old.blocked_unit ≡ None }
-    requires ready { AreReady capacity senders.old.items workers.old.items }
-    ensures lanes { length senders.new.items ≡ length senders.old.items }
+    worker: WorkerOf<S, F>,
+) -> (WorkerOf<S, F>, Result<Step, ReplayError>)
+    requires { length files.old ≡ units.old.count }
     ensures reads { ReadsOn units.old (map R.remaining files.old) (map R.failure_count files.old) units.new
-        (map R.failure_count files.new) result }
-    ensures at_end { result ≡ Ok Step.End → units.new.file ≡ units.new.count }
-    ensures plays { IfAnswered result
-        (PlaysLanes S.stands_for (λ number. D.lane_of dealer.old.dealing number (length senders.old.items)) capacity
-        limits.batch senders.old.items workers.old.items senders.new.items workers.new.items dealer.old dealer.new
-        units.old (map R.remaining files.old) units.new (map R.remaining files.new) result) }
+        (map R.failure_count files.new) result.1 }
+    ensures at_end { result.1 ≡ Ok Step.End → units.new.file ≡ units.new.count }
+    ensures deals { IfAnswered result.1
+        (DealsTo (Takes S.stands_for) (λ number. D.lane_of dealer.old.dealing number 1) batch (λ lane. 2 ^ 64) worker
+        result.0 dealer.old dealer.new units.old (map R.remaining files.old) units.new (map R.remaining files.new)
+        result.1) }
 {
-    dealer.lanes_are_below(1);
-    settle_lanes(rt, alloc, capacity, gate, limits, senders, workers)?;
-    let Some(worker) = workers.pop() else {
-        unreachable!()
-    };
     let mut alone = Alone::new(alloc, worker);
     let round_over = AtomicBool::new(false);
-    let step = dealer.deal(
-        alloc,
-        gate,
-        limits.batch,
-        0,
-        &round_over,
-        units,
-        files,
-        &mut alone,
-    );
+    let step = dealer.deal(alloc, gate, batch, 0, &round_over, units, files, &mut alone);
     let (worker, taken) = alone.into_worker(alloc, gate);
-    workers.push_reserved(worker);
-    let Ok(()) = taken else {
-        return Err(ReplayError::Memory);
-    };
-    step
+    match taken {
+        Ok(()) => (worker, step),
+        Err(_) => (worker, Err(ReplayError::Memory)),
+    }
 }
 
 /// Runs one round over all lanes, whose rings are made anew at its end. A single worker that looks once at an empty
@@ -168,22 +140,17 @@ pub fn run_round<
         units.old (map R.remaining files.old) units.new (map R.remaining files.new) result) }
 {
     if workers.len() < 2 && limits.looks == 1 && dealer.blocked_unit.is_none() {
-        return run_alone(
-            rt, alloc, capacity, gate, limits, dealer, units, files, senders, workers,
-        );
+        settle_lanes(rt, alloc, capacity, gate, limits, senders, workers)?;
+        let Some(worker) = workers.pop() else {
+            unreachable!()
+        };
+        dealer.lanes_are_below(1);
+        let (worker, step) = deal_alone(alloc, gate, limits.batch, dealer, units, files, worker);
+        workers.push_reserved(worker);
+        return step;
     }
-    let round_over = AtomicBool::new(false);
     let (step, worked) = deal_and_work(
-        rt,
-        alloc,
-        gate,
-        &round_over,
-        limits,
-        dealer,
-        units,
-        files,
-        senders,
-        workers,
+        rt, alloc, gate, limits, dealer, units, files, senders, workers,
     );
     let Ok(()) = worked else {
         return Err(ReplayError::Memory);

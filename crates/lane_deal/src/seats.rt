@@ -76,48 +76,6 @@ fn remember(positions: &mut Vec<Option<usize>>, number: usize, at: usize) -> Res
     Ok(())
 }
 
-/// Passes the unit to the session at that position.
-#[inline(always)]
-fn take_there<F: Unicast, M: PrefixMap<RouteId, Addr = F> + Drop>(
-    alloc: Global,
-    seats: &mut [Seated<M>],
-    at: usize,
-    head: &UnitHead,
-    event: EventRef<'_, Prefix<F>>,
-) -> Result<(), Memory>
-    requires within { at < length seats.old }
-    ensures taken { (unit : ReplayUnit) → Means unit head.now.place head.now.time (event_of event.entry) →
-        OnOk result (TakenAt (map seat_of seats.old) (map seat_of seats.new) at unit) }
-    ensures numbers { map (λ seat. seat.number) seats.new ≡ map (λ seat. seat.number) seats.old }
-{
-    seats[at]
-        .session
-        .take_event(alloc, head.place, head.time, event)
-}
-
-/// The same, by code of its own for entries: in common with the other kinds their keys would be moved in pieces, for
-/// which the processor waits when it reads them as a whole.
-#[inline(always)]
-fn take_at<F: Unicast, M: PrefixMap<RouteId, Addr = F> + Drop>(
-    alloc: Global,
-    seats: &mut [Seated<M>],
-    at: usize,
-    head: &UnitHead,
-    event: EventRef<'_, Prefix<F>>,
-) -> Result<(), Memory>
-    requires within { at < length seats.old }
-    ensures taken { (unit : ReplayUnit) → Means unit head.now.place head.now.time (event_of event.entry) →
-        OnOk result (TakenAt (map seat_of seats.old) (map seat_of seats.new) at unit) }
-    ensures numbers { map (λ seat. seat.number) seats.new ≡ map (λ seat. seat.number) seats.old }
-{
-    match event {
-        EventRef::Rib(key, route) => {
-            take_there(alloc, seats, at, head, EventRef::Rib(key, route))
-        }
-        event => take_there(alloc, seats, at, head, event),
-    }
-}
-
 impl<M: PrefixMap<RouteId>> Seats<M> {
     /// Returns the position recorded for this number.
     #[inline(always)]
@@ -221,6 +179,24 @@ impl<F: Unicast, M: PrefixMap<RouteId, Addr = F> + Drop> Seats<M> {
         self.add(alloc, number, *key)
     }
 
+    /// Passes the unit to the session at that position.
+    #[inline(always)]
+    fn take_at(
+        &mut self,
+        alloc: Global,
+        at: usize,
+        head: &UnitHead,
+        event: EventRef<'_, Prefix<F>>,
+    ) -> Result<(), Memory>
+        requires { at < length self.old.seats.items }
+        ensures { (unit : ReplayUnit) → Means unit head.now.place head.now.time (event_of event.entry) →
+            OnOk result (TakenAt (map seat_of self.old.seats.items) (map seat_of self.new.seats.items) at unit) }
+    {
+        self.seats[at]
+            .session
+            .take_event(alloc, head.place, head.time, event)
+    }
+
     /// Prefetches the slots where the routes of the first units would be, and then these routes. The returned number
     /// has no meaning.
     fn touch(&self, batch: &DecodedUnits<F>) -> usize {
@@ -273,6 +249,13 @@ impl<F: Unicast, M: PrefixMap<RouteId, Addr = F> + Drop> Sessions for Seats<M> {
     fn take(&mut self, alloc: Global, batch: &DecodedUnits<F>, at: usize) -> Result<(), Memory> {
         let head = batch.head(at);
         let position = self.position_for(alloc, head.number, &head.peer)?;
-        take_at(alloc, &mut self.seats, position, head, batch.event(at))
+        // Entries have code of their own: in common with the other kinds their keys would be moved in pieces, for which
+        // the processor waits when it reads them as a whole.
+        match batch.event(at) {
+            EventRef::Rib(key, route) => {
+                self.take_at(alloc, position, head, EventRef::Rib(key, route))
+            }
+            event => self.take_at(alloc, position, head, event),
+        }
     }
 }

@@ -1,5 +1,6 @@
 use Rattle.lane_deal.specs.Lanes.{lane_of_unit, number_of_peer}
-use Rattle.lane_deal.proofs.Classes.{by_class-IsPermutation, all_of}
+use Rattle.lane_deal.proofs.Lists.{all_of}
+use Rattle.lane_deal.proofs.Classes.{by_class-IsPermutation}
 use Rattle.lane_deal.proofs.laws.lanes_share_units.Goals as goal
 
 pub returns : goal.returns

@@ -1,4 +1,4 @@
-use Rattle.std.proofs.Common.{◌≡◌, ◌≢◌, ◌<◌, ℕ, length, refl, subst, arith}
+use Rattle.std.proofs.Common.{◌≡◌, ◌≢◌, ◌<◌, ℕ, length, subst, arith}
 use Rattle.mrt_frame.specs.declared.read_state.ReadState.TheVariants.{Spent}
 use Rattle.lane_deal.proofs.Plays.{answered, answers_follow, PlaysOn-of, some_after}
 use Rattle.lane_deal.proofs.replayer.Replayer.round.Goals as goal
@@ -18,7 +18,7 @@ invariant_of-self-2 g c =
       lanes = (let same = c.run_round-answer.ensures.lanes in omega (arith, some, same));
       ready = λ ne. (answered _ _ c.state_after-self.ensures ne plays).rounded.ready;
       stands = λ ne.
-          some_after g.D.Dealing.lane_of c.args.self.now.plan _ _ _ _ _ _ _ _ _ _ _ _ _ _ (c.args.self.now.ready running) below refl refl c.limits-limits.ensures
+          some_after g.D.Dealing.lane_of c.args.self.now.plan _ _ _ _ _ _ _ _ _ _ _ _ (c.args.self.now.ready running) below c.limits-limits.ensures
           (answered _ _ c.state_after-self.ensures ne plays) (c.args.self.now.stands running);
     }
 
@@ -30,6 +30,6 @@ returns-clause-played g c running =
     λ n. subst (λ m. g.D.Dealing.lane_of c.args.self.now.dealer.dealing n m < m) lanes (c.lanes_are_below.ensures n) in
     answers_follow _ _ c.state_after-self.ensures
     (λ unspent p.
-    PlaysOn-of (g.D.Dealing.lane_of c.args.self.now.dealer.dealing) c.args.self.now.plan _ _ _ _ _ _ _ _ _ _ _ _ _ _ _ _ (c.args.self.now.ready (λ e. let is = c.in-Reading.is in cc))
-    below refl refl c.limits-limits.ensures unspent p)
+    PlaysOn-of (g.D.Dealing.lane_of c.args.self.now.dealer.dealing) c.args.self.now.plan _ _ _ _ _ _ _ _ _ _ _ _ _ _ (c.args.self.now.ready (λ e. let is = c.in-Reading.is in cc))
+    below c.limits-limits.ensures unspent p)
     plays

@@ -2,7 +2,8 @@ use Rattle.std.proofs.Common.{◌≡◌, ◌+◌, [], ◌∷◌, ◌++◌, lengt
 use Rattle.std.proofs.lemmas.List.{take_more}
 use Rattle.std.proofs.Math.Seq.{take-length}
 use Rattle.lane_deal.specs.Plain.{PeerUnit}
-use Rattle.lane_deal.proofs.Batches.{decoded_at, decoded_count, some_item}
+use Rattle.lane_deal.proofs.Batches.{decoded_at, decoded_count}
+use Rattle.lane_deal.proofs.Lists.{some_item}
 use Rattle.lane_deal.proofs.Working.{Takes-more}
 use Rattle.lane_deal.proofs.worker.Worker+S+Prefix+F+FamilyMark+F.take_decoded.Goals as goal
 
