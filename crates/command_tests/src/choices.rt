@@ -1,6 +1,8 @@
-//! Rows on prefixes as text.
+//! Rows on prefixes as text, of both families.
 
-use command_line::{Asked, ListError, read_choice, read_list, read_words};
+use crate::asked::asked_of;
+use bgp_prefix::{Ipv6, Prefix};
+use command_line::{AddressText, Asked, ListError, read_choice, read_list};
 use mrt_body::{PrefixChoice, Reach};
 use std::alloc::Global;
 use std::test::Fail;
@@ -86,29 +88,54 @@ fn another_text_is_no_choice(rt: HostRuntime) {
     }
 }
 
+/// A family whose addresses are shown as numbers.
+trait Shown: AddressText {
+    /// The address, or its last group.
+    fn number(self) -> u128;
+}
+
+impl Shown for u32 {
+    fn number(self) -> u128 {
+        self as u128
+    }
+}
+
+impl Shown for Ipv6 {
+    fn number(self) -> u128 {
+        Ipv6::number(&self) % 65_536
+    }
+}
+
 /// Writes each choice as its address, its length and its reach.
-fn show(shown: &mut String, choices: &[PrefixChoice]) -> Result<(), Fail> {
+fn show<F: Shown>(shown: &mut String, choices: &[PrefixChoice<Prefix<F>>]) -> Result<(), Fail> {
     for choice in choices {
         let reach = match choice.reach {
             Reach::Exact => "",
             Reach::Inside => "+",
             Reach::Around => "-",
         };
-        let addr = choice.prefix.addr();
+        let number = choice.prefix.addr().number();
         let len = choice.prefix.len();
-        write!(shown, "{addr}/{len}{reach};")?;
+        write!(shown, "{number}/{len}{reach};")?;
     }
     Ok(())
 }
 
-/// The prefixes of a job, each as its address, its length and its reach.
-fn chosen(alloc: Global, text: &str) -> Result<String, Fail> {
-    let mut words = Vec::new(alloc);
-    for word in text.split(' ') {
-        words.push(String::from_str(alloc, word)?)?;
-    }
+/// What the lines of a text choose, or which line is none.
+fn list_in<F: Shown>(alloc: Global, text: &str) -> Result<String, Fail> {
     let mut shown = String::new(alloc);
-    let asked = read_words(alloc, words.as_slice());
+    match read_list::<F>(alloc, text.as_bytes()) {
+        Ok(choices) => show(&mut shown, &choices)?,
+        Err(ListError::Line(number)) => write!(shown, "line {number}")?,
+        Err(ListError::Memory) => shown.push_str("memory")?,
+    }
+    Ok(shown)
+}
+
+/// The prefixes of a job, each as its address, its length and its reach, and behind them its lists.
+fn chosen(alloc: Global, text: &str) -> Result<String, Fail> {
+    let mut shown = String::new(alloc);
+    let asked = asked_of(alloc, text)?;
     match &asked {
         Ok(Asked::Ipv4(job)) => {
             show(&mut shown, &job.prefixes)?;
@@ -117,7 +144,10 @@ fn chosen(alloc: Global, text: &str) -> Result<String, Fail> {
                 write!(shown, "{name};")?;
             }
         }
-        Ok(Asked::Ipv6(_)) => shown.push_str("IPv6")?,
+        Ok(Asked::Ipv6(job)) => {
+            shown.push_str("IPv6 ")?;
+            show(&mut shown, &job.prefixes)?;
+        }
         Err(_) => shown.push_str("refused")?,
     }
     Ok(shown)
@@ -144,6 +174,19 @@ fn prefixes_add_up(rt: HostRuntime) -> Result<(), Fail> {
         ("churn --prefixes a x", "a;"),
         ("tables --prefix 0.0.0.9,0.0.0.8 x", "refused"),
         ("tables --prefix 0.0.0.9 --prefix 0.0.0.9/31 x", "refused"),
+        ("tables --family ipv6 x", "IPv6 "),
+        (
+            "tables --family ipv6 --prefix 2001:db8::/32+ x",
+            "IPv6 0/32+;",
+        ),
+        (
+            "tables --prefix ::9 --family ipv6 --prefix 2001:db8::8/125- x --prefix=::/0",
+            "IPv6 9/128;8/125-;0/0;",
+        ),
+        (
+            "seen --family ipv6 --prefix ::9 --prefix ::9 x",
+            "IPv6 9/128;9/128;",
+        ),
     ] {
         let shown = chosen(rt.alloc(), text)?;
         assert!(rt; shown.as_str() == expected, "{text}");
@@ -154,7 +197,6 @@ fn prefixes_add_up(rt: HostRuntime) -> Result<(), Fail> {
 /// Each line is a choice or passed over; an error names the first one that is neither.
 #[test]
 fn the_lines_of_a_text_are_choices(rt: HostRuntime) -> Result<(), Fail> {
-    let alloc = rt.alloc();
     for (text, expected) in [
         ("", ""),
         ("\n\n", ""),
@@ -172,12 +214,18 @@ fn the_lines_of_a_text_are_choices(rt: HostRuntime) -> Result<(), Fail> {
         ("0.0.0.9\r0.0.0.8\n", "line 1"),
         ("0.0.0.9\n#\n\n\n-", "line 5"),
     ] {
-        let mut shown = String::new(alloc);
-        match read_list::<u32>(alloc, text.as_bytes()) {
-            Ok(choices) => show(&mut shown, &choices)?,
-            Err(ListError::Line(number)) => write!(shown, "line {number}")?,
-            Err(ListError::Memory) => shown.push_str("memory")?,
-        }
+        let shown = list_in::<u32>(rt.alloc(), text)?;
+        assert!(rt; shown.as_str() == expected, "{text:?}: {shown}");
+    }
+    for (text, expected) in [
+        ("", ""),
+        ("# ::9\n\n::9\n", "9/128;"),
+        ("::9\r\n2001:db8::8/125+ \t\n", "9/128;8/125+;"),
+        ("::9\n\n192.0.2.0/24\n::9/127\n", "line 3"),
+        ("::9/127\n", "line 1"),
+        ("::9\n::9/129\n", "line 2"),
+    ] {
+        let shown = list_in::<Ipv6>(rt.alloc(), text)?;
         assert!(rt; shown.as_str() == expected, "{text:?}: {shown}");
     }
     Ok(())

@@ -1,33 +1,14 @@
 //! Rows on the family whose routes are replayed.
 
-use bgp_prefix::{Ipv6, Prefix};
-use command_line::{
-    AddressFamily, Asked, Job, ListError, Usage, fault_of_list, read_choice, read_list, read_words,
-};
-use mrt_body::{PrefixChoice, Reach};
+use crate::asked::{asked_of, ipv6_job, said_of};
+use bgp_prefix::Ipv6;
+use command_line::{AddressFamily, Asked, Usage, fault_of_list, read_choice};
+use mrt_body::Reach;
 use rib_report::{AddressForm, Request};
-use std::alloc::Global;
 use std::test::Fail;
 
 /// The address of 2001:db8::.
 const NET: u128 = 0x2001_0DB8_0000_0000_0000_0000_0000_0000;
-
-/// What the words, split at blanks, ask for.
-fn asked_of(alloc: Global, text: &str) -> Result<Result<Asked, Usage>, Fail> {
-    let mut words = Vec::new(alloc);
-    for word in text.split(' ') {
-        words.push(String::from_str(alloc, word)?)?;
-    }
-    Ok(read_words(alloc, words.as_slice()))
-}
-
-/// The job on IPv6 routes that the words ask for.
-fn job_of(alloc: Global, text: &str) -> Result<Option<Job<Ipv6>>, Fail> {
-    match asked_of(alloc, text)? {
-        Ok(Asked::Ipv6(job)) => Ok(Some(job)),
-        _ => Ok(None),
-    }
-}
 
 /// Every command has the option; the last one counts, and without it the routes are those of IPv4.
 #[test]
@@ -64,15 +45,11 @@ fn the_family_is_a_word(rt: HostRuntime) -> Result<(), Fail> {
 fn other_words_are_read_beside_it(rt: HostRuntime) -> Result<(), Fail> {
     let alloc = rt.alloc();
     let text = "churn --since 5 --family ipv6 --until 6 --workers 3 --ring 8 --header x";
-    match job_of(alloc, text)? {
-        Some(job) => {
-            let is_churn = matches!(&job.request, Request::Churn { since: Some(5) });
-            assert!(rt; is_churn && job.until == Some(6) && job.workers == 3);
-            assert!(rt; job.ring == 8 && job.header && !job.summary);
-            assert!(rt; job.prefixes.is_empty() && job.files.len() == 1);
-        }
-        None => assert!(rt; false),
-    }
+    let job = ipv6_job(&rt, alloc, text)?;
+    let is_churn = matches!(&job.request, Request::Churn { since: Some(5) });
+    assert!(rt; is_churn && job.until == Some(6) && job.workers == 3);
+    assert!(rt; job.ring == 8 && job.header && !job.summary);
+    assert!(rt; job.prefixes.is_empty() && job.files.len() == 1);
     Ok(())
 }
 
@@ -86,12 +63,10 @@ fn an_address_is_one_of_the_family(rt: HostRuntime) -> Result<(), Fail> {
         ),
         ("match --address :: --family ipv6 x", 0),
     ] {
-        match job_of(alloc, text)? {
-            Some(job) => match job.request {
-                Request::Match(address) => assert!(rt; address.number() == number, "{text}"),
-                _ => assert!(rt; false, "{text}"),
-            },
-            None => assert!(rt; false, "{text}"),
+        let job = ipv6_job(&rt, alloc, text)?;
+        match job.request {
+            Request::Match(address) => assert!(rt; address.number() == number, "{text}"),
+            _ => assert!(rt; false, "{text}"),
         }
     }
     for (text, expected) in [
@@ -157,44 +132,8 @@ fn addresses_of_ipv6_routes_are_short(rt: HostRuntime) -> Result<(), Fail> {
     Ok(())
 }
 
-/// Writes each choice as the last group of its address, its length and its reach.
-fn show(shown: &mut String, choices: &[PrefixChoice<Prefix<Ipv6>>]) -> Result<(), Fail> {
-    for choice in choices {
-        let reach = match choice.reach {
-            Reach::Exact => "",
-            Reach::Inside => "+",
-            Reach::Around => "-",
-        };
-        let group = choice.prefix.addr().number() % 65_536;
-        let len = choice.prefix.len();
-        write!(shown, "{group}/{len}{reach};")?;
-    }
-    Ok(())
-}
-
-/// The prefixes of a job on IPv6 routes.
 #[test]
-fn prefixes_are_those_of_the_family(rt: HostRuntime) -> Result<(), Fail> {
-    let alloc = rt.alloc();
-    for (text, expected) in [
-        ("tables --family ipv6 x", ""),
-        ("tables --family ipv6 --prefix 2001:db8::/32+ x", "0/32+;"),
-        (
-            "tables --prefix ::9 --family ipv6 --prefix 2001:db8::8/125- x --prefix=::/0",
-            "9/128;8/125-;0/0;",
-        ),
-        (
-            "seen --family ipv6 --prefix ::9 --prefix ::9 x",
-            "9/128;9/128;",
-        ),
-    ] {
-        let mut shown = String::new(alloc);
-        match job_of(alloc, text)? {
-            Some(job) => show(&mut shown, &job.prefixes)?,
-            None => shown.push_str("refused")?,
-        }
-        assert!(rt; shown.as_str() == expected, "{text}: {shown}");
-    }
+fn a_choice_is_of_its_family(rt: HostRuntime) {
     match read_choice::<Ipv6>("2001:db8::/32-") {
         Some(choice) => {
             assert!(rt; choice.prefix.addr().number() == NET);
@@ -204,38 +143,6 @@ fn prefixes_are_those_of_the_family(rt: HostRuntime) -> Result<(), Fail> {
     }
     assert!(rt; read_choice::<Ipv6>("192.0.2.0/24").is_none());
     assert!(rt; read_choice::<u32>("2001:db8::/32").is_none());
-    Ok(())
-}
-
-/// Each line is a choice or passed over; an error names the first one that is neither.
-#[test]
-fn the_lines_of_a_text_are_of_the_family(rt: HostRuntime) -> Result<(), Fail> {
-    let alloc = rt.alloc();
-    for (text, expected) in [
-        ("", ""),
-        ("# ::9\n\n::9\n", "9/128;"),
-        ("::9\r\n2001:db8::8/125+ \t\n", "9/128;8/125+;"),
-        ("::9\n\n192.0.2.0/24\n::9/127\n", "line 3"),
-        ("::9/127\n", "line 1"),
-        ("::9\n::9/129\n", "line 2"),
-    ] {
-        let mut shown = String::new(alloc);
-        match read_list::<Ipv6>(alloc, text.as_bytes()) {
-            Ok(choices) => show(&mut shown, &choices)?,
-            Err(ListError::Line(number)) => write!(shown, "line {number}")?,
-            Err(ListError::Memory) => shown.push_str("memory")?,
-        }
-        assert!(rt; shown.as_str() == expected, "{text:?}: {shown}");
-    }
-    Ok(())
-}
-
-/// What is said of refused words, or nothing.
-fn said_of(alloc: Global, text: &str) -> Result<String, Fail> {
-    match asked_of(alloc, text)? {
-        Err(Usage::Words(text)) => Ok(text),
-        _ => Ok(String::new(alloc)),
-    }
 }
 
 #[test]

@@ -11,36 +11,48 @@ use std::test::Fail;
 const RECORDS: &str =
     "rib-ipv4-of-second-7 rib-ipv6-of-second-8 rib-ipv6-of-second-9 ospfv2-of-second-10 message-of-second-11 header-of-too-long-rib-record";
 
+const RIB_IPV4: RecordKind = RecordKind {
+    kind: 13,
+    subtype: 2,
+};
+
+const RIB_IPV6: RecordKind = RecordKind {
+    kind: 13,
+    subtype: 4,
+};
+
+const OSPF: RecordKind = RecordKind {
+    kind: 11,
+    subtype: 0,
+};
+
+/// RIB records of the other family are aside, and the one of OSPFv2.
 #[test]
-fn records_are_counted_whatever_pieces_they_come_in(rt: HostRuntime) -> Result<(), Fail> {
-    let alloc = rt.alloc();
-    let rib = RecordKind {
-        kind: 13,
-        subtype: 4,
-    };
-    let ospf = RecordKind {
-        kind: 11,
-        subtype: 0,
-    };
-    let dump = bytes_of(alloc, RECORDS)?;
+fn records_are_counted_by_family_whatever_pieces_they_come_in(rt: HostRuntime) -> Result<(), Fail> {
+    let dump = bytes_of(rt.alloc(), RECORDS)?;
     assert_eq!(rt; dump.len(), 78);
-    for piece in [1usize, 2, 5, 11, 12, 13, 64, 1000] {
-        let mut records = Records::new(alloc, AddressFamily::Ipv4);
-        for bytes in dump.as_slice().chunks(piece.max(1)) {
-            records.take(bytes);
-        }
-        assert!(rt; records.count() == 5 && records.aside() == 3, "{piece}");
-        assert!(rt; records.whole_bytes() == 66, "{piece}");
-        assert!(rt;
-            records.first() == Some(7) && records.last() == Some(11),
-            "{piece}"
-        );
-        match records.kinds() {
-            [first, second] => {
-                assert!(rt; first.kind == rib && first.count == 2, "{piece}");
-                assert!(rt; second.kind == ospf && second.count == 1, "{piece}");
+    for (family, rib, ribs, aside) in [
+        (AddressFamily::Ipv4, RIB_IPV6, 2, 3),
+        (AddressFamily::Ipv6, RIB_IPV4, 1, 2),
+    ] {
+        for piece in [1usize, 2, 5, 11, 12, 13, 64, 1000] {
+            let mut records = Records::new(rt.alloc(), family);
+            for bytes in dump.as_slice().chunks(piece.max(1)) {
+                records.take(bytes);
             }
-            _ => assert!(rt; false, "{piece}"),
+            assert!(rt; records.count() == 5 && records.aside() == aside, "{piece}");
+            assert!(rt; records.whole_bytes() == 66, "{piece}");
+            assert!(rt;
+                records.first() == Some(7) && records.last() == Some(11),
+                "{piece}"
+            );
+            match records.kinds() {
+                [first, second] => {
+                    assert!(rt; first.kind == rib && first.count == ribs, "{piece}");
+                    assert!(rt; second.kind == OSPF && second.count == 1, "{piece}");
+                }
+                _ => assert!(rt; false, "{piece}"),
+            }
         }
     }
     Ok(())
@@ -89,30 +101,4 @@ fn rib_records_of_the_other_family_are_aside(rt: HostRuntime) {
         assert!(rt; kind.is_aside::<u32>() == !is_ipv4, "{kind}");
         assert!(rt; kind.is_aside::<Ipv6>() == !is_ipv6, "{kind}");
     }
-}
-
-/// The same records, of which those of IPv6 routes are read.
-#[test]
-fn records_are_counted_by_family(rt: HostRuntime) -> Result<(), Fail> {
-    let alloc = rt.alloc();
-    let rib = RecordKind {
-        kind: 13,
-        subtype: 2,
-    };
-    let ospf = RecordKind {
-        kind: 11,
-        subtype: 0,
-    };
-    let dump = bytes_of(alloc, RECORDS)?;
-    let mut records = Records::new(alloc, AddressFamily::Ipv6);
-    records.take(dump.as_slice());
-    assert!(rt; records.count() == 5 && records.aside() == 2);
-    match records.kinds() {
-        [first, second] => {
-            assert!(rt; first.kind == rib && first.count == 1);
-            assert!(rt; second.kind == ospf && second.count == 1);
-        }
-        _ => assert!(rt; false),
-    }
-    Ok(())
 }

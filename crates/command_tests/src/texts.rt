@@ -1,20 +1,8 @@
 //! Rows on what is printed in place of a report.
 
-use command_line::{Usage, read_width, read_words, wrapped};
-use std::alloc::Global;
+use crate::asked::said_of;
+use command_line::{read_width, wrapped};
 use std::test::Fail;
-
-/// What the words, split at blanks, are answered with, but for a job.
-fn said_of(alloc: Global, text: &str) -> Result<String, Fail> {
-    let mut words = Vec::new(alloc);
-    for word in text.split(' ') {
-        words.push(String::from_str(alloc, word)?)?;
-    }
-    match read_words(alloc, words.as_slice()) {
-        Err(Usage::Help(text)) | Err(Usage::Words(text)) => Ok(text),
-        _ => Ok(String::new(alloc)),
-    }
-}
 
 #[test]
 fn the_version_is_two_lines_wherever_it_is_asked_for(rt: HostRuntime) -> Result<(), Fail> {
@@ -81,48 +69,33 @@ fn a_tip_is_given_where_it_helps(rt: HostRuntime) -> Result<(), Fail> {
     Ok(())
 }
 
-/// Whether a text is broken into these lines.
-fn is_broken_into(alloc: Global, text: &str, width: usize, expected: &str) -> Result<bool, Fail> {
-    let lines = wrapped(alloc, text, width)?;
-    Ok(lines.as_str() == expected)
-}
-
+/// What follows a break is indented as the line's second column, and 40 columns are the least. A line of one column is
+/// broken to its first word, and a word never.
 #[test]
-fn short_lines_stay(rt: HostRuntime) -> Result<(), Fail> {
-    let alloc = rt.alloc();
-    for text in ["", "\n", "a line\nand another\n"] {
-        assert!(rt; is_broken_into(alloc, text, 40, text)?);
+fn lines_are_broken_to_a_width(rt: HostRuntime) -> Result<(), Fail> {
+    let columns = "  name  one two three four five six seven eight";
+    let broken = "  name  one two three four five six\n        seven eight";
+    for (width, text, expected) in [
+        (40, "", ""),
+        (40, "\n", "\n"),
+        (40, "a line\nand another\n", "a line\nand another\n"),
+        (40, columns, broken),
+        (1, columns, broken),
+        (80, columns, columns),
+        (
+            40,
+            "   one two three four five six seven eight nine",
+            "   one two three four five six seven\n   eight nine",
+        ),
+        (
+            40,
+            "12345678901234567890123456789012345678901234567890 a",
+            "12345678901234567890123456789012345678901234567890\na",
+        ),
+    ] {
+        let lines = wrapped(rt.alloc(), text, width)?;
+        assert!(rt; lines.as_str() == expected, "{text} in {width} columns");
     }
-    Ok(())
-}
-
-#[test]
-fn what_follows_a_break_is_indented(rt: HostRuntime) -> Result<(), Fail> {
-    let alloc = rt.alloc();
-    let text = "  name  one two three four five six seven eight";
-    let lines = "  name  one two three four five six\n        seven eight";
-    assert!(rt; is_broken_into(alloc, text, 40, lines)?);
-    // 40 columns are the least.
-    assert!(rt; is_broken_into(alloc, text, 1, lines)?);
-    assert!(rt; is_broken_into(alloc, text, 80, text)?);
-    Ok(())
-}
-
-#[test]
-fn a_line_of_one_column_is_broken_to_its_first_word(rt: HostRuntime) -> Result<(), Fail> {
-    let alloc = rt.alloc();
-    let text = "   one two three four five six seven eight nine";
-    let lines = "   one two three four five six seven\n   eight nine";
-    assert!(rt; is_broken_into(alloc, text, 40, lines)?);
-    Ok(())
-}
-
-#[test]
-fn a_word_is_never_broken(rt: HostRuntime) -> Result<(), Fail> {
-    let alloc = rt.alloc();
-    let text = "12345678901234567890123456789012345678901234567890 a";
-    let lines = "12345678901234567890123456789012345678901234567890\na";
-    assert!(rt; is_broken_into(alloc, text, 40, lines)?);
     Ok(())
 }
 

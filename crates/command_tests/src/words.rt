@@ -1,30 +1,13 @@
 //! Rows on words, addresses and statuses.
 
+use crate::asked::{asked_of, ipv4_job};
 use command_line::{
-    Asked, FileListError, FileName, FirstBytes, Job, Kind, Usage, fault_of_file_list, read_address,
-    read_file_list, read_second, read_words,
+    Asked, FileListError, FileName, FirstBytes, Kind, Usage, fault_of_file_list, read_address,
+    read_file_list, read_second,
 };
-use mrt_body::{RibRule, StateRule};
-use rib_report::{AddressForm, Request};
+use rib_report::Request;
 use std::alloc::Global;
 use std::test::Fail;
-
-/// What the words, split at blanks, ask for.
-fn asked_of(alloc: Global, text: &str) -> Result<Result<Asked, Usage>, Fail> {
-    let mut words = Vec::new(alloc);
-    for word in text.split(' ') {
-        words.push(String::from_str(alloc, word)?)?;
-    }
-    Ok(read_words(alloc, words.as_slice()))
-}
-
-/// The job on IPv4 routes that the words, split at blanks, ask for.
-fn job_of(alloc: Global, text: &str) -> Result<Option<Job>, Fail> {
-    match asked_of(alloc, text)? {
-        Ok(Asked::Ipv4(job)) => Ok(Some(job)),
-        _ => Ok(None),
-    }
-}
 
 /// The address that is refused, or which answer it is.
 fn answer_of(answer: &Result<Asked, Usage>) -> &str {
@@ -227,87 +210,54 @@ fn words_ask_for_a_job(rt: HostRuntime) -> Result<(), Fail> {
             "from a;",
         ),
     ] {
-        match job_of(alloc, text)? {
-            Some(job) => {
-                assert!(rt; job.request == request && job.until == until, "{text}");
-                assert!(rt; (job.workers, job.ring) == numbers, "{text}");
-                let mut names = String::new(alloc);
-                for file in &job.files {
-                    names.push_str(file.as_str())?;
-                    names.push(';')?;
-                }
-                for list in &job.file_lists {
-                    let list = list.as_str();
-                    write!(names, "from {list};")?;
-                }
-                assert!(rt; names.as_str() == files, "{text}");
-            }
-            None => assert!(rt; false, "{text}"),
+        let job = ipv4_job(&rt, alloc, text)?;
+        assert!(rt; job.request == request && job.until == until, "{text}");
+        assert!(rt; (job.workers, job.ring) == numbers, "{text}");
+        let mut names = String::new(alloc);
+        for file in &job.files {
+            names.push_str(file.as_str())?;
+            names.push(';')?;
         }
+        for list in &job.file_lists {
+            let list = list.as_str();
+            write!(names, "from {list};")?;
+        }
+        assert!(rt; names.as_str() == files, "{text}");
     }
     Ok(())
 }
 
+/// The rules of state changes and of further RIB dumps, and the forms of the addresses of peers and of routes: of each
+/// the last word counts.
 #[test]
-fn the_rule_of_state_changes_is_a_word(rt: HostRuntime) -> Result<(), Fail> {
+fn rules_and_forms_are_words(rt: HostRuntime) -> Result<(), Fail> {
     let alloc = rt.alloc();
     for (text, expected) in [
-        ("tables x", StateRule::Recorded),
-        ("churn --states recorded x", StateRule::Recorded),
-        ("peers --states established x", StateRule::Established),
+        ("tables x", "Recorded Add Full Full"),
+        ("churn --states recorded x", "Recorded Add Full Full"),
+        ("peers --states established x", "Established Add Full Full"),
         (
             "faults --states recorded x --states established",
-            StateRule::Established,
+            "Established Add Full Full",
         ),
-    ] {
-        match job_of(alloc, text)? {
-            Some(job) => assert!(rt; job.states == expected, "{text}"),
-            None => assert!(rt; false, "{text}"),
-        }
-    }
-    Ok(())
-}
-
-#[test]
-fn the_form_of_addresses_is_a_word(rt: HostRuntime) -> Result<(), Fail> {
-    let alloc = rt.alloc();
-    for (text, expected) in [
-        ("tables x", AddressForm::Full),
-        ("history --addresses full x", AddressForm::Full),
-        ("peers --addresses short x", AddressForm::Short),
-        ("faults x --addresses short", AddressForm::Short),
+        ("history --rib add x", "Recorded Add Full Full"),
+        ("peers --rib replace x", "Recorded Replace Full Full"),
+        ("faults --rib replace x --rib add", "Recorded Add Full Full"),
+        ("history --addresses full x", "Recorded Add Full Full"),
+        ("peers --addresses short x", "Recorded Add Short Short"),
+        ("faults x --addresses short", "Recorded Add Short Short"),
         (
             "match --address 10.0.0.1 --addresses full --addresses short x",
-            AddressForm::Short,
+            "Recorded Add Short Short",
         ),
     ] {
-        match job_of(alloc, text)? {
-            Some(job) => {
-                let forms = &job.layout.addresses;
-                assert!(rt;
-                    forms.peers == expected && forms.routes == expected,
-                    "{text}"
-                );
-            }
-            None => assert!(rt; false, "{text}"),
-        }
-    }
-    Ok(())
-}
-
-#[test]
-fn the_rule_of_further_rib_dumps_is_a_word(rt: HostRuntime) -> Result<(), Fail> {
-    let alloc = rt.alloc();
-    for (text, expected) in [
-        ("tables x", RibRule::Add),
-        ("history --rib add x", RibRule::Add),
-        ("peers --rib replace x", RibRule::Replace),
-        ("faults --rib replace x --rib add", RibRule::Add),
-    ] {
-        match job_of(alloc, text)? {
-            Some(job) => assert!(rt; job.ribs == expected, "{text}"),
-            None => assert!(rt; false, "{text}"),
-        }
+        let job = ipv4_job(&rt, alloc, text)?;
+        let forms = &job.layout.addresses;
+        let found = format!(in alloc;
+            "{:?} {:?} {:?} {:?}",
+            job.states, job.ribs, forms.peers, forms.routes
+        )?;
+        assert!(rt; found.as_str() == expected, "{text}: {found}");
     }
     Ok(())
 }
@@ -321,13 +271,9 @@ fn a_switch_is_on_where_its_word_stands(rt: HostRuntime) -> Result<(), Fail> {
         ("faults --summary --progress -", [false, false, true, true]),
         ("tables x", [false, false, false, false]),
     ] {
-        match job_of(alloc, text)? {
-            Some(job) => {
-                let found = [job.has_workers, job.header, job.summary, job.progress];
-                assert!(rt; found == expected, "{text}");
-            }
-            None => assert!(rt; false, "{text}"),
-        }
+        let job = ipv4_job(&rt, alloc, text)?;
+        let found = [job.has_workers, job.header, job.summary, job.progress];
+        assert!(rt; found == expected, "{text}");
     }
     Ok(())
 }
@@ -351,36 +297,35 @@ fn an_address_is_four_numbers_of_a_byte(rt: HostRuntime) {
     }
 }
 
+/// A bar stands between texts. The last one that is refused is empty.
 #[test]
 fn a_moment_is_a_second_or_a_date_with_its_offset(rt: HostRuntime) {
-    for (text, expected) in [
-        ("0", Some(0)),
-        ("18446744073709551615", Some(u64::MAX)),
-        ("1970-01-01T00:00:00Z", Some(0)),
-        ("2024-01-01T01:00:00Z", Some(1_704_070_800)),
-        ("2024-01-01T02:00:00+01:00", Some(1_704_070_800)),
-        ("2023-12-31T20:30:00-04:30", Some(1_704_070_800)),
-        ("2024-01-01T01:00:00.999Z", Some(1_704_070_800)),
-        ("2024-01-01 01:00:00Z", Some(1_704_070_800)),
-        ("2024-01-01 02:00:00+01:00", Some(1_704_070_800)),
-        ("2024-01-01", Some(1_704_067_200)),
-        ("1970-01-01", Some(0)),
-        ("2024-02-29", Some(1_709_164_800)),
-        ("1969-12-31T23:59:59.5Z", None),
-        ("1969-12-31", None),
-        ("2024-01-01T01:00:00", None),
-        ("2024-01-01 01:00:00", None),
-        ("2024-02-30T01:00:00Z", None),
-        ("2023-02-29", None),
-        ("2024-1-1", None),
-        ("2024-01-1", None),
-        ("2024-01", None),
-        ("01.01.2024", None),
-        ("2024-01-01T", None),
-        ("18446744073709551616", None),
-        ("", None),
+    for (expected, texts) in [
+        (Some(0), "0|1970-01-01T00:00:00Z|1970-01-01"),
+        (Some(u64::MAX), "18446744073709551615"),
+        (
+            Some(1_704_070_800),
+            "2024-01-01T01:00:00Z|2024-01-01T02:00:00+01:00|2023-12-31T20:30:00-04:30",
+        ),
+        (
+            Some(1_704_070_800),
+            "2024-01-01T01:00:00.999Z|2024-01-01 01:00:00Z|2024-01-01 02:00:00+01:00",
+        ),
+        (Some(1_704_067_200), "2024-01-01"),
+        (Some(1_709_164_800), "2024-02-29"),
+        (
+            None,
+            "1969-12-31T23:59:59.5Z|1969-12-31|2024-01-01T01:00:00|2024-01-01 01:00:00",
+        ),
+        (
+            None,
+            "2024-02-30T01:00:00Z|2023-02-29|2024-1-1|2024-01-1|2024-01|01.01.2024",
+        ),
+        (None, "2024-01-01T|18446744073709551616|"),
     ] {
-        assert!(rt; read_second(text) == expected, "{text}");
+        for text in texts.split('|') {
+            assert!(rt; read_second(text) == expected, "{text}");
+        }
     }
 }
 

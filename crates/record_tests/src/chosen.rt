@@ -6,160 +6,58 @@ use std::alloc::Global;
 use std::process::Abort;
 use std::test::Fail;
 
-/// Choices, with prefixes that they take and prefixes that they don't: addresses and lengths.
-struct Case {
-    choices: &'static [(u32, u8, Reach)],
-    taken: &'static [(u32, u8)],
-    others: &'static [(u32, u8)],
-}
-
-static CASES: [Case; 9] = [
+/// Choices, prefixes that they take and prefixes that they don't. Behind a prefix, `+` stands for what is inside it,
+/// and `-` for what is around it.
+const CASES: [(&str, &str, &str); 9] = [
     // Nothing is named.
-    Case {
-        choices: &[],
-        taken: &[(0, 0), (0x0a00_0000, 8), (0xffff_ffff, 32)],
-        others: &[],
-    },
+    ("", "0.0.0.0/0 10.0.0.0/8 255.255.255.255/32", ""),
     // Prefixes alone: nested, equal and adjacent ones, given in no order.
-    Case {
-        choices: &[
-            (0x0a80_0000, 9, Reach::Exact),
-            (0x0a00_0000, 8, Reach::Exact),
-            (0x0a00_0000, 9, Reach::Exact),
-            (0x0a00_0000, 8, Reach::Exact),
-            (0x0a01_0200, 24, Reach::Exact),
-        ],
-        taken: &[
-            (0x0a00_0000, 8),
-            (0x0a00_0000, 9),
-            (0x0a80_0000, 9),
-            (0x0a01_0200, 24),
-        ],
-        others: &[
-            (0, 0),
-            (0x0a00_0000, 7),
-            (0x0a00_0000, 10),
-            (0x0a80_0000, 10),
-            (0x0a01_0000, 24),
-            (0x0a01_0200, 23),
-            (0x0a01_0200, 25),
-            (0x0a01_0300, 24),
-            (0x0b00_0000, 8),
-        ],
-    },
+    (
+        "10.128.0.0/9 10.0.0.0/8 10.0.0.0/9 10.0.0.0/8 10.1.2.0/24",
+        "10.0.0.0/8 10.0.0.0/9 10.128.0.0/9 10.1.2.0/24",
+        "0.0.0.0/0 10.0.0.0/7 10.0.0.0/10 10.128.0.0/10 10.1.0.0/24 10.1.2.0/23 10.1.2.0/25 10.1.3.0/24 11.0.0.0/8",
+    ),
     // More specifics of nested prefixes, of which the outermost take all, and of an equal one.
-    Case {
-        choices: &[
-            (0x0a01_0200, 24, Reach::Inside),
-            (0x0a01_0000, 16, Reach::Inside),
-            (0x0a03_0000, 16, Reach::Inside),
-            (0x0a01_0200, 24, Reach::Inside),
-            (0x0a01_0207, 32, Reach::Inside),
-            (0x0a01_0000, 16, Reach::Inside),
-        ],
-        taken: &[
-            (0x0a01_0000, 16),
-            (0x0a01_0000, 17),
-            (0x0a01_0200, 24),
-            (0x0a01_0207, 32),
-            (0x0a01_ff00, 24),
-            (0x0a01_ffff, 32),
-            (0x0a03_0000, 16),
-            (0x0a03_8000, 17),
-        ],
-        others: &[
-            (0x0a00_0000, 8),
-            (0x0a01_0000, 15),
-            (0x0a00_ffff, 32),
-            (0x0a02_0000, 16),
-            (0x0a02_0200, 24),
-            (0x0a04_0000, 32),
-        ],
-    },
+    (
+        "10.1.2.0/24+ 10.1.0.0/16+ 10.3.0.0/16+ 10.1.2.0/24+ 10.1.2.7/32+ 10.1.0.0/16+",
+        "10.1.0.0/16 10.1.0.0/17 10.1.2.0/24 10.1.2.7/32 10.1.255.0/24 10.1.255.255/32 10.3.0.0/16 10.3.128.0/17",
+        "10.0.0.0/8 10.1.0.0/15 10.0.255.255/32 10.2.0.0/16 10.2.2.0/24 10.4.0.0/32",
+    ),
     // Two halves, whose whole isn't within either.
-    Case {
-        choices: &[
-            (0x0a80_0000, 9, Reach::Inside),
-            (0x0a00_0000, 9, Reach::Inside),
-        ],
-        taken: &[
-            (0x0a00_0000, 9),
-            (0x0a7f_ffff, 32),
-            (0x0a80_0000, 9),
-            (0x0aff_ffff, 32),
-        ],
-        others: &[(0x0a00_0000, 8), (0x09ff_ffff, 32), (0x0b00_0000, 9)],
-    },
+    (
+        "10.128.0.0/9+ 10.0.0.0/9+",
+        "10.0.0.0/9 10.127.255.255/32 10.128.0.0/9 10.255.255.255/32",
+        "10.0.0.0/8 9.255.255.255/32 11.0.0.0/9",
+    ),
     // Less specifics of nested prefixes.
-    Case {
-        choices: &[
-            (0x0a01_0200, 24, Reach::Around),
-            (0xc000_0207, 32, Reach::Around),
-            (0x0a01_0000, 16, Reach::Around),
-        ],
-        taken: &[
-            (0, 0),
-            (0x0a00_0000, 8),
-            (0x0a01_0000, 16),
-            (0x0a01_0200, 23),
-            (0x0a01_0200, 24),
-            (0xc000_0000, 2),
-            (0xc000_0206, 31),
-            (0xc000_0207, 32),
-        ],
-        others: &[
-            (0x0a00_0000, 16),
-            (0x0a01_0000, 23),
-            (0x0a01_0100, 24),
-            (0x0a01_0200, 25),
-            (0x0a01_8000, 17),
-            (0x0b00_0000, 8),
-            (0xc000_0206, 32),
-            (0xc000_0208, 29),
-        ],
-    },
+    (
+        "10.1.2.0/24- 192.0.2.7/32- 10.1.0.0/16-",
+        "0.0.0.0/0 10.0.0.0/8 10.1.0.0/16 10.1.2.0/23 10.1.2.0/24 192.0.0.0/2 192.0.2.6/31 192.0.2.7/32",
+        "10.0.0.0/16 10.1.0.0/23 10.1.1.0/24 10.1.2.0/25 10.1.128.0/17 11.0.0.0/8 192.0.2.6/32 192.0.2.8/29",
+    ),
     // The shortest prefix in each form.
-    Case {
-        choices: &[(0, 0, Reach::Exact)],
-        taken: &[(0, 0)],
-        others: &[(0, 1), (0, 32), (0x8000_0000, 1), (0xffff_ffff, 32)],
-    },
-    Case {
-        choices: &[(0x0a00_0000, 8, Reach::Inside), (0, 0, Reach::Inside)],
-        taken: &[(0, 0), (0, 32), (0x0a00_0000, 7), (0xffff_ffff, 32)],
-        others: &[],
-    },
+    (
+        "0.0.0.0/0",
+        "0.0.0.0/0",
+        "0.0.0.0/1 0.0.0.0/32 128.0.0.0/1 255.255.255.255/32",
+    ),
+    (
+        "10.0.0.0/8+ 0.0.0.0/0+",
+        "0.0.0.0/0 0.0.0.0/32 10.0.0.0/7 255.255.255.255/32",
+        "",
+    ),
     // Lists that end with the last address.
-    Case {
-        choices: &[
-            (0xffff_ffff, 32, Reach::Inside),
-            (0, 0, Reach::Around),
-            (0xffff_fffe, 31, Reach::Around),
-        ],
-        taken: &[
-            (0, 0),
-            (0xffff_fffe, 31),
-            (0xffff_ffff, 32),
-            (0x8000_0000, 1),
-        ],
-        others: &[(0xffff_fffe, 32), (0, 1), (0xffff_fff8, 30), (0, 32)],
-    },
+    (
+        "255.255.255.255/32+ 0.0.0.0/0- 255.255.255.254/31-",
+        "0.0.0.0/0 255.255.255.254/31 255.255.255.255/32 128.0.0.0/1",
+        "255.255.255.254/32 0.0.0.0/1 255.255.255.248/30 0.0.0.0/32",
+    ),
     // All forms at once, of nested prefixes.
-    Case {
-        choices: &[
-            (0x0a00_0000, 8, Reach::Exact),
-            (0x0a01_0000, 16, Reach::Inside),
-            (0x0a01_0200, 24, Reach::Around),
-        ],
-        taken: &[
-            (0, 0),
-            (0x0a00_0000, 8),
-            (0x0a00_0000, 9),
-            (0x0a01_0000, 16),
-            (0x0a01_ff00, 24),
-        ],
-        others: &[(0x0a80_0000, 9), (0x0a02_0000, 16), (0x0a00_0000, 16)],
-    },
+    (
+        "10.0.0.0/8 10.1.0.0/16+ 10.1.2.0/24-",
+        "0.0.0.0/0 10.0.0.0/8 10.0.0.0/9 10.1.0.0/16 10.1.255.0/24",
+        "10.128.0.0/9 10.2.0.0/16 10.0.0.0/16",
+    ),
 ];
 
 fn prefix_of(rt: &impl Abort, addr: u32, len: u8) -> Prefix {
@@ -167,37 +65,64 @@ fn prefix_of(rt: &impl Abort, addr: u32, len: u8) -> Prefix {
     prefix
 }
 
-fn choices_of(
-    rt: &impl Abort,
-    alloc: Global,
-    rows: &[(u32, u8, Reach)],
-) -> Result<Vec<PrefixChoice>, Memory> {
+/// The prefix that a text spells.
+fn prefix_in(rt: &impl Abort, text: &str) -> Prefix {
+    let (addr, len) = text.split_once('/').expect(rt, text);
+    let mut octets = [0u8; 4];
+    for (octet, digits) in octets.iter_mut().zip(addr.split('.')) {
+        *octet = digits.parse::<u8>().expect(rt, text);
+    }
+    let len = len.parse::<u8>().expect(rt, text);
+    prefix_of(rt, u32::from_be_bytes(octets), len)
+}
+
+/// The choice that a text spells.
+fn choice_in(rt: &impl Abort, text: &str) -> PrefixChoice {
+    let (prefix, reach) = if let Some(prefix) = text.strip_suffix('+') {
+        (prefix, Reach::Inside)
+    } else if let Some(prefix) = text.strip_suffix('-') {
+        (prefix, Reach::Around)
+    } else {
+        (text, Reach::Exact)
+    };
+    PrefixChoice {
+        prefix: prefix_in(rt, prefix),
+        reach,
+    }
+}
+
+fn choices_in(rt: &impl Abort, alloc: Global, texts: &str) -> Result<Vec<PrefixChoice>, Memory> {
     let mut choices = Vec::new(alloc);
-    for row in rows {
-        let (addr, len, reach) = *row;
-        let prefix = prefix_of(rt, addr, len);
-        choices.push(PrefixChoice { prefix, reach })?;
+    for text in texts.split_whitespace() {
+        choices.push(choice_in(rt, text))?;
     }
     Ok(choices)
 }
 
+/// Both take each of these prefixes, or neither takes any of them.
+fn expect_taken(
+    rt: &impl Abort,
+    made: &ChosenPrefixes,
+    copied: &ChosenPrefixes,
+    prefixes: &str,
+    expected: bool,
+) {
+    for text in prefixes.split_whitespace() {
+        let prefix = prefix_in(rt, text);
+        assert!(rt; made.takes(&prefix) == expected, "{text}");
+        assert!(rt; copied.takes(&prefix) == expected, "{text}");
+    }
+}
+
 #[test]
 fn chosen_prefixes_take_what_the_rows_say(rt: HostRuntime) -> Result<(), Fail> {
-    for case in &CASES {
-        let choices = choices_of(&rt, rt.alloc(), case.choices).expect(&rt, "memory");
+    for (texts, taken, others) in CASES {
+        let choices = choices_in(&rt, rt.alloc(), texts).expect(&rt, "memory");
         let made = ChosenPrefixes::new(rt.alloc(), choices).expect(&rt, "memory");
         let copied = made.copied(rt.alloc()).expect(&rt, "memory");
-        assert!(rt; made.is_open() == case.choices.is_empty());
-        for row in case.taken {
-            let prefix = prefix_of(&rt, row.0, row.1);
-            assert!(rt; made.takes(&prefix), "{prefix:?}");
-            assert!(rt; copied.takes(&prefix), "{prefix:?}");
-        }
-        for row in case.others {
-            let prefix = prefix_of(&rt, row.0, row.1);
-            assert!(rt; !made.takes(&prefix), "{prefix:?}");
-            assert!(rt; !copied.takes(&prefix), "{prefix:?}");
-        }
+        assert!(rt; made.is_open() == texts.is_empty());
+        expect_taken(&rt, &made, &copied, taken, true);
+        expect_taken(&rt, &made, &copied, others, false);
     }
     Ok(())
 }
@@ -243,8 +168,8 @@ fn chosen_prefixes_take_what_a_scan_takes(rt: HostRuntime) -> Result<(), Fail> {
 /// The same call made again is answered.
 #[test]
 fn a_refused_growth_makes_no_choice(rt: HostRuntime) -> Result<(), Fail> {
-    let case = &CASES[8];
-    let choices = choices_of(&rt, rt.alloc(), case.choices).expect(&rt, "memory");
+    let (texts, taken, others) = CASES[8];
+    let choices = choices_in(&rt, rt.alloc(), texts).expect(&rt, "memory");
     let again = Vec::from_slice(rt.alloc(), choices.as_slice())?;
     let made = match ChosenPrefixes::new(rt.alloc(), choices) {
         Ok(made) => made,
@@ -254,16 +179,7 @@ fn a_refused_growth_makes_no_choice(rt: HostRuntime) -> Result<(), Fail> {
         Ok(copied) => copied,
         Err(_) => made.copied(rt.alloc()).expect(&rt, "memory"),
     };
-    for row in case.taken {
-        let prefix = prefix_of(&rt, row.0, row.1);
-        assert!(rt; made.takes(&prefix) && copied.takes(&prefix), "{prefix:?}");
-    }
-    for row in case.others {
-        let prefix = prefix_of(&rt, row.0, row.1);
-        assert!(rt;
-            !made.takes(&prefix) && !copied.takes(&prefix),
-            "{prefix:?}"
-        );
-    }
+    expect_taken(&rt, &made, &copied, taken, true);
+    expect_taken(&rt, &made, &copied, others, false);
     Ok(())
 }

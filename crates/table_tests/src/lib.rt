@@ -2,6 +2,8 @@
 #![tactic(auto)]
 
 #[cfg(test)]
+mod churns;
+#[cfg(test)]
 mod payloads;
 #[cfg(test)]
 mod reports;

@@ -1,6 +1,6 @@
 //! Readers that give little at a time, that fail, and that never end.
 
-use super::lines::{next_of, push_found};
+use super::lines::{Reading, lines_of, next_of};
 use fixtures::{Dripping, THREE_PEERS, Zeros, bytes_of};
 use mrt_body::{Found, Selection, Units};
 use mrt_frame::{Counted, Failures, ReplayError, Source};
@@ -32,9 +32,8 @@ fn expect_text<R: Source>(
     most: u64,
     expected: &str,
 ) {
-    let mut text = String::new(alloc);
     let all = Selection::all(alloc);
-    push_found(rt, alloc, &mut text, files, most, all);
+    let text = lines_of(rt, alloc, files, most, all, Reading::Returned);
     assert!(rt; text.as_str() == expected, "{text}");
 }
 

@@ -9,7 +9,8 @@ use std::alloc::Global;
 use std::process::Abort;
 use std::test::Fail;
 
-/// Records of seconds 4 and 5 have an entry of 65000 2001:db8::1, without attributes.
+/// A dump begins with clears of the peers before it. Records of seconds 4 and 5 have an entry of 65000 2001:db8::1,
+/// without attributes.
 const BEGINS: &str = "
 row a-second-dump-clears-the-peers-of-the-first
 replace
@@ -87,6 +88,7 @@ file announcement peer-index-table rib-ipv6-of-second-8 rib-record-with-identifi
 > records 5 aside 1
 ";
 
+/// Index tables, further records and refused ones begin no dump.
 const BEGINS_NONE: &str = "
 row index-tables-alone
 replace
@@ -134,6 +136,7 @@ file announcement peer-count-too-large rib-record
 > records 3 aside 0
 ";
 
+/// Selected units alone are cleared.
 const SELECTED: &str = "
 row a-record-past-the-last-second-begins-none
 replace
@@ -203,18 +206,10 @@ most 3
 ";
 
 #[test]
-fn a_dump_begins_with_clears_of_the_peers_before_it(rt: HostRuntime) {
-    assert!(rt; run_rows(&rt, rt.alloc(), BEGINS) == 7);
-}
-
-#[test]
-fn index_tables_further_records_and_refused_ones_begin_no_dump(rt: HostRuntime) {
-    assert!(rt; run_rows(&rt, rt.alloc(), BEGINS_NONE) == 5);
-}
-
-#[test]
-fn selected_units_alone_are_cleared(rt: HostRuntime) {
-    assert!(rt; run_rows(&rt, rt.alloc(), SELECTED) == 8);
+fn dumps_replace_what_the_rows_say(rt: HostRuntime) {
+    for (table, count) in [(BEGINS, 7), (BEGINS_NONE, 5), (SELECTED, 8)] {
+        run_rows(&rt, rt.alloc(), table, count);
+    }
 }
 
 /// Whether the answer is the unit at this place, and clears or doesn't.

@@ -78,6 +78,48 @@ pub fn next_of<R: Source>(
     units.next(alloc, files)
 }
 
+/// What they give next, if they are looked at and then consumed.
+fn peeked_of<R: Source>(
+    rt: &impl Abort,
+    alloc: Global,
+    units: &mut Units,
+    files: &mut [R],
+) -> Result<Option<Found>, ReplayError> {
+    assert!(rt; units.count() == files.len());
+    if let Some(damage) = units.advance(alloc, files)? {
+        return Ok(Some(Found::Refused(damage)));
+    }
+    let Some(peeked) = units.peek() else {
+        return Ok(None);
+    };
+    let unit = peeked.unit.to_unit(alloc).expect(rt, "memory for a unit");
+    units.consume();
+    Ok(Some(Found::Unit(unit)))
+}
+
+/// How units are read.
+#[derive(Clone, Copy)]
+pub enum Reading {
+    /// Each is returned.
+    Returned,
+    /// Each is looked at and then consumed.
+    Peeked,
+}
+
+/// What they give next by this reading.
+fn answer_of<R: Source>(
+    rt: &impl Abort,
+    alloc: Global,
+    units: &mut Units,
+    files: &mut [R],
+    reading: Reading,
+) -> Result<Option<Found>, ReplayError> {
+    match reading {
+        Reading::Returned => next_of(rt, alloc, units, files),
+        Reading::Peeked => peeked_of(rt, alloc, units, files),
+    }
+}
+
 /// Adds the line of what comes next, if anything does, and answers whether more can come. An error
 /// is a line too, and so is what comes behind the end.
 fn push_next<R: Source>(
@@ -86,14 +128,15 @@ fn push_next<R: Source>(
     text: &mut String,
     units: &mut Units,
     files: &mut [R],
+    reading: Reading,
 ) -> bool {
-    match next_of(rt, alloc, units, files) {
+    match answer_of(rt, alloc, units, files, reading) {
         Ok(Some(found)) => {
             push_line(rt, text, &found);
             true
         }
         Ok(None) => {
-            if !matches!(next_of(rt, alloc, units, files), Ok(None)) {
+            if !matches!(answer_of(rt, alloc, units, files, reading), Ok(None)) {
                 text.push_str("more behind the end\n")
                     .expect(rt, "memory for a line");
             }
@@ -106,78 +149,26 @@ fn push_next<R: Source>(
     }
 }
 
-/// Adds the line of the unit that comes next, or of a record that is refused, and answers whether more can come.
-fn push_peeked_next<R: Source>(
+/// What the units of files give up to the end or an error, a line each, and then a line of the counts.
+pub fn lines_of<R: Source>(
     rt: &impl Abort,
     alloc: Global,
-    text: &mut String,
-    units: &mut Units,
     files: &mut [R],
-) -> bool {
-    assert!(rt; units.count() == files.len());
-    match units.advance(alloc, files) {
-        Ok(Some(damage)) => {
-            push_line(rt, text, &Found::Refused(damage));
-            true
-        }
-        Ok(None) => {
-            let Some(peeked) = units.peek() else {
-                return false;
-            };
-            let unit = peeked.unit.to_unit(alloc).expect(rt, "memory for a unit");
-            push_unit(rt, text, &unit);
-            units.consume();
-            true
-        }
-        Err(error) => {
-            writeln!(text, "{error:?}").expect(rt, "memory for an error");
-            false
+    most: u64,
+    selection: Selection,
+    reading: Reading,
+) -> String {
+    assert!(rt; 0 < most && most <= 1 << 47);
+    let mut text = String::new(alloc);
+    let mut units = Units::new(alloc, files.len(), most, selection);
+    for _ in 0..1000u16 {
+        if !push_next(rt, alloc, &mut text, &mut units, files, reading) {
+            break;
         }
     }
-}
-
-fn push_counts(rt: &impl Abort, text: &mut String, units: &Units) {
     writeln!(text, "records {} aside {}", units.records(), units.aside()).expect(
         rt,
         "memory for the counts",
     );
-}
-
-/// Adds what the units of files give up to the end or an error, a line each, and then a line of the
-/// counts.
-pub fn push_found<R: Source>(
-    rt: &impl Abort,
-    alloc: Global,
-    text: &mut String,
-    files: &mut [R],
-    most: u64,
-    selection: Selection,
-) {
-    assert!(rt; 0 < most && most <= 1 << 47);
-    let mut units = Units::new(alloc, files.len(), most, selection);
-    for _ in 0..1000u16 {
-        if !push_next(rt, alloc, text, &mut units, files) {
-            break;
-        }
-    }
-    push_counts(rt, text, &units);
-}
-
-/// Adds the same of units that are looked at and then consumed.
-pub fn push_peeked<R: Source>(
-    rt: &impl Abort,
-    alloc: Global,
-    text: &mut String,
-    files: &mut [R],
-    most: u64,
-    selection: Selection,
-) {
-    assert!(rt; 0 < most && most <= 1 << 47);
-    let mut units = Units::new(alloc, files.len(), most, selection);
-    for _ in 0..1000u16 {
-        if !push_peeked_next(rt, alloc, text, &mut units, files) {
-            break;
-        }
-    }
-    push_counts(rt, text, &units);
+    text
 }

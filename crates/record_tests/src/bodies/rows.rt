@@ -1,6 +1,6 @@
 //! Rows that stand as text: what files hold, and what they give.
 
-use super::lines::{push_found, push_peeked};
+use super::lines::{Reading, lines_of};
 use bgp_prefix::Prefix;
 use fixtures::bytes_of;
 use mrt_body::{
@@ -82,38 +82,19 @@ impl<'a> Row<'a> {
             .by_ribs(self.ribs)
     }
 
-    fn expect(&self, rt: &impl Abort, text: &str) {
-        let same = text == self.expected.as_str();
-        let name = self.name;
-        assert!(rt; same, "{name} gave\n{text}");
-    }
-
     /// Reads the files twice: units are returned, and units are looked at before they are consumed.
     fn check(&self, rt: &impl Abort, alloc: Global) {
-        let mut readers = readers_of(rt, alloc, self.files.as_slice());
-        let mut text = String::new(alloc);
-        let selection = self.selection(rt, alloc);
-        push_found(
-            rt,
-            alloc,
-            &mut text,
-            readers.as_mut_slice(),
-            self.most,
-            selection,
-        );
-        self.expect(rt, text.as_str());
-        let mut again = readers_of(rt, alloc, self.files.as_slice());
-        let mut peeked = String::new(alloc);
-        let selection = self.selection(rt, alloc);
-        push_peeked(
-            rt,
-            alloc,
-            &mut peeked,
-            again.as_mut_slice(),
-            self.most,
-            selection,
-        );
-        self.expect(rt, peeked.as_str());
+        let name = self.name;
+        for reading in [Reading::Returned, Reading::Peeked] {
+            let mut readers = readers_of(rt, alloc, self.files.as_slice());
+            let files = readers.as_mut_slice();
+            let selection = self.selection(rt, alloc);
+            let text = lines_of(rt, alloc, files, self.most, selection, reading);
+            assert!(rt;
+                text.as_str() == self.expected.as_str(),
+                "{name} gave\n{text}"
+            );
+        }
     }
 }
 
@@ -164,18 +145,18 @@ fn readers_of<'a>(rt: &impl Abort, alloc: Global, files: &'a [Vec<u8>]) -> Vec<C
     readers
 }
 
-/// Runs the rows of a table. A line `row NAME` begins a row, `file RECORDS` adds a file, `> LINE` is
-/// a line of what it gives, `until N` leaves out what came later, `peer ASN [ADDRESS]` and `share I/N` other peers,
-/// `prefix ADDRESS/LENGTH` other prefixes, `replace` has RIB dumps replace what came before them, and `most N` is the
-/// greatest number of records.
-pub fn run_rows(rt: &impl Abort, alloc: Global, table: &str) -> usize {
+/// Runs the rows of a table, of which there are so many. A line `row NAME` begins a row, `file RECORDS` adds a file,
+/// `> LINE` is a line of what it gives, `until N` leaves out what came later, `peer ASN [ADDRESS]` and `share I/N`
+/// other peers, `prefix ADDRESS/LENGTH` other prefixes, `replace` has RIB dumps replace what came before them, and
+/// `most N` is the greatest number of records.
+pub fn run_rows(rt: &impl Abort, alloc: Global, table: &str, count: usize) {
     let rows = table.strip_prefix("\nrow ").expect(rt, "a row");
     let mut checked = 0usize;
     for text in rows.split("\nrow ") {
         run_row(rt, alloc, text);
         checked = checked.wrapping_add(1);
     }
-    checked
+    assert!(rt; checked == count, "{checked} rows");
 }
 
 /// Runs a row. Its first line is its name.
@@ -188,6 +169,7 @@ fn run_row(rt: &impl Abort, alloc: Global, text: &str) {
     row.check(rt, alloc);
 }
 
+/// Each file has its own index and its own rest.
 const FILES: &str = "
 row rib-without-index
 file rib-record announcement
@@ -278,6 +260,7 @@ until 1
 > records 2 aside 0
 ";
 
+/// Every form of record gives its units.
 const FORMS: &str = "
 row sessions
 file 00000002 0010 0000 00000014 two-octet-session 0006 0001 00000001 0010 0001 00000023 two-octet-session marker 0013 04 00000001 0010 0004 00000027 session marker 0013 04 established-to-idle 00000001 0010 0008 00000023 two-octet-session marker 0013 04 00000001 0010 0009 00000027 session marker 0013 04
@@ -346,6 +329,7 @@ file table-dump 00000001 000D 0000 00000000 00000001 000D 0004 00000000 00000001
 > records 5 aside 4
 ";
 
+/// Every fault of a body refuses its record.
 const FAULTS: &str = "
 row short-header
 file 000000
@@ -419,8 +403,8 @@ file peer-index-table 00000003 000D 0008 00000011 00000000 080A 0001 0000 000000
 > records 2 aside 0
 ";
 
-/// The peers of the index have the addresses 2001:db8::1 and 192.0.2.2. By the formula of shares the hashes of their AS
-/// numbers and addresses are 54209 and 52333, and that of 65000 192.0.2.1 is 693.
+/// Units are selected by their peers. Those of the index have the addresses 2001:db8::1 and 192.0.2.2. By the formula
+/// of shares the hashes of their AS numbers and addresses are 54209 and 52333, and that of 65000 192.0.2.1 is 693.
 const PEERS: &str = "
 row entries-keep-their-numbers
 file peer-index-table rib-record
@@ -490,21 +474,8 @@ peer 65000
 ";
 
 #[test]
-fn each_file_has_its_own_index_and_its_own_rest(rt: HostRuntime) {
-    assert!(rt; run_rows(&rt, rt.alloc(), FILES) == 15);
-}
-
-#[test]
-fn every_form_of_record_gives_its_units(rt: HostRuntime) {
-    assert!(rt; run_rows(&rt, rt.alloc(), FORMS) == 14);
-}
-
-#[test]
-fn every_fault_of_a_body_refuses_its_record(rt: HostRuntime) {
-    assert!(rt; run_rows(&rt, rt.alloc(), FAULTS) == 17);
-}
-
-#[test]
-fn units_are_selected_by_their_peers(rt: HostRuntime) {
-    assert!(rt; run_rows(&rt, rt.alloc(), PEERS) == 12);
+fn records_give_what_the_rows_say(rt: HostRuntime) {
+    for (table, count) in [(FILES, 15), (FORMS, 14), (FAULTS, 17), (PEERS, 12)] {
+        run_rows(&rt, rt.alloc(), table, count);
+    }
 }

@@ -1,6 +1,6 @@
 //! Cut bodies, and the greatest ones.
 
-use super::lines::{next_of, push_found};
+use super::lines::{Reading, lines_of, next_of};
 use fixtures::{body_of, bytes_of};
 use mrt_body::{Found, Payload, Selection, Units};
 use mrt_frame::{Counted, ReplayError, Source};
@@ -44,15 +44,9 @@ fn expect_fronts_refused(rt: &impl Abort, alloc: Global, kinds: &str, record: &s
 /// Expects that the only answer is the refusal of this body.
 fn expect_fault(rt: &impl Abort, alloc: Global, kinds: &str, body: &[u8], fault: &str) {
     let file = file_with(rt, alloc, kinds, body);
-    let mut text = String::new(alloc);
-    push_found(
-        rt,
-        alloc,
-        &mut text,
-        &mut [Counted::new(file.as_slice())],
-        1000,
-        Selection::all(alloc),
-    );
+    let mut files = [Counted::new(file.as_slice())];
+    let all = Selection::all(alloc);
+    let text = lines_of(rt, alloc, &mut files, 1000, all, Reading::Returned);
     let refusal = text
         .strip_suffix("\nrecords 2 aside 0\n")
         .and_then(|line| line.strip_prefix("0|56|"));

@@ -1,6 +1,6 @@
 //! The lines of rows, each beside its text.
 
-use adj_rib::Churn;
+use crate::churns::churn_of;
 use bgp_prefix::{Prefix, RouteKey, Sequence};
 use bgp_update::{NextHop, PackedRoute, Width, read_attrs};
 use fixtures::bytes_of;
@@ -264,56 +264,29 @@ fn seen_has_a_line_for_each_prefix_and_origin(rt: HostRuntime) {
     assert!(rt; out.device().as_slice() == lines.as_bytes());
 }
 
-/// Counts 1 to 8 in the order of the line, and these times.
-fn counts(first: Option<u64>, last: Option<u64>) -> Churn {
-    Churn {
-        added: 1,
-        changed: 2,
-        same: 3,
-        gone: 4,
-        void: 5,
-        resets: 6,
-        idle: 7,
-        refused: 8,
-        first,
-        last,
-    }
-}
-
 /// A record's microseconds may be past a second, and are then carried over: second 1 and
 /// 4,294,967,295 microseconds are 4295.967295.
 #[test]
 fn churn_has_its_counts_and_times(rt: HostRuntime) {
     let alloc = rt.alloc();
-    let most = u64::MAX;
-    let greatest = Churn {
-        added: most,
-        changed: most,
-        same: most,
-        gone: most,
-        void: most,
-        resets: most,
-        idle: most,
-        refused: most,
-        first: Some(4_294_967_295_000_000 + 4_294_967_295),
-        last: Some(most),
-    };
+    let counts = [1, 2, 3, 4, 5, 6, 7, 8];
+    let greatest = Some(4_294_967_295_000_000 + 4_294_967_295);
     let rows = [
         ChurnRow {
             peer: PEER,
-            churn: counts(None, None),
+            churn: churn_of(counts, None, None),
         },
         ChurnRow {
             peer: PEER,
-            churn: counts(Some(0), Some(1_000_000 + 4_294_967_295)),
+            churn: churn_of(counts, Some(0), Some(1_000_000 + 4_294_967_295)),
         },
         ChurnRow {
             peer: PEER,
-            churn: counts(Some(999_999), Some(1_000_001)),
+            churn: churn_of(counts, Some(999_999), Some(1_000_001)),
         },
         ChurnRow {
             peer: LAST_PEER,
-            churn: greatest,
+            churn: churn_of([u64::MAX; 8], greatest, Some(u64::MAX)),
         },
     ];
     let lines = "65000 192.0.2.1|1|2|3|4|5|6|7|8|-|-

@@ -6,8 +6,9 @@ ghost use Rattle.peer_tables.specs.Gathers.{gathered_seats};
 
 use crate::payloads::message_in;
 use adj_rib::{RouteId, Session};
-use bgp_prefix::{PrefixMap, Sequence};
-use mrt_body::{Damage, PeerAddr, PeerKey, Place, Unit};
+use bgp_prefix::{PrefixMap, RouteKey, Sequence};
+use bgp_update::FamilyMark;
+use mrt_body::{Damage, Payload, PayloadBytes, PeerAddr, PeerKey, Place, Unit};
 use rib_report::{Gathered, Seated, Tables, collect};
 use std::alloc::Global;
 use std::process::Abort;
@@ -20,6 +21,24 @@ pub fn peer_of(number: u32) -> PeerKey {
     PeerKey {
         asn: 65_000,
         addr: PeerAddr::V4(0xC000_0201u32.wrapping_add(number)),
+    }
+}
+
+/// The RIB entry of a route, in second 1.
+pub fn entry_of(number: u32, key: RouteKey, attributes: Vec<u8>) -> Unit {
+    Unit {
+        place: Place {
+            file: 0,
+            offset: 0,
+            entry: Some(1),
+        },
+        time: 1_000_000,
+        peer: peer_of(number),
+        payload: Payload::Entry {
+            key,
+            attrs: PayloadBytes::from_vec(attributes),
+            family: FamilyMark::new(),
+        },
     }
 }
 

@@ -6,9 +6,9 @@ use bgp_prefix::{Flat, PrefixMap, Radix};
 use mrt_body::{Damage, Place};
 use mrt_frame::{Counted, Fault, ReplayError, Sink};
 use rib_report::{
-    AddressForm, AddressForms, Tables, churn, faults, list_tables, matches, origins_with_threads,
-    peers, seen_with_threads, table_rows, visibility_with_threads, write_churn, write_faults,
-    write_origins, write_peers, write_rows, write_seen, write_visibility,
+    AddressForm, AddressForms, Tables, churn, faults, list_tables, matches, origins, peers, seen,
+    table_rows, visibility, write_churn, write_faults, write_origins, write_peers, write_rows,
+    write_seen, write_visibility,
 };
 use std::alloc::Global;
 use std::process::Abort;
@@ -288,15 +288,15 @@ pub fn write_report<M: PrefixMap<RouteId, Addr = u32> + Sync, T: Threads + Sync,
     match report {
         Report::Tables => list_tables(rt, alloc, threads, out, full(), tables),
         Report::Visibility => {
-            let rows = visibility_with_threads(rt, alloc, threads, tables)?;
+            let rows = visibility(rt, alloc, threads, tables)?;
             write_visibility(out, full(), rows.as_slice())
         }
         Report::Origins => {
-            let rows = origins_with_threads(rt, alloc, threads, tables)?;
+            let rows = origins(rt, alloc, threads, tables)?;
             write_origins(out, full(), rows.as_slice())
         }
         Report::Seen => {
-            let rows = seen_with_threads(rt, alloc, threads, tables)?;
+            let rows = seen(rt, alloc, threads, tables)?;
             write_seen(out, full(), rows.as_slice())
         }
         Report::Churn => write_churn(out, full(), churn(alloc, tables)?.as_slice()),

@@ -1,14 +1,13 @@
 //! The report `seen` on routes of several prefixes, origin ASes and path identifiers.
 
-use super::peers::{peer_of, tables_of_sessions};
+use super::peers::{entry_of, tables_of_sessions};
 use super::reports::full;
 use adj_rib::{RouteId, Session};
 use bgp_prefix::{Flat, Memory, Prefix, PrefixMap, Radix, RouteKey};
-use bgp_update::FamilyMark;
 use fixtures::bytes_of;
-use mrt_body::{Payload, PayloadBytes, Place, Unit};
+use mrt_body::Unit;
 use mrt_frame::Counted;
-use rib_report::{Tables, seen, seen_with_threads, write_seen};
+use rib_report::{Tables, seen, write_seen};
 use std::alloc::Global;
 use std::process::Abort;
 use std::thread::Threads;
@@ -70,20 +69,8 @@ fn unit(alloc: Global, number: u32, entry: Entry) -> Result<Unit, Memory> {
     let Some(prefix) = Prefix::new(addr, len.min(32)) else {
         unreachable!()
     };
-    Ok(Unit {
-        place: Place {
-            file: 0,
-            offset: 0,
-            entry: Some(1),
-        },
-        time: 1_000_000,
-        peer: peer_of(number),
-        payload: Payload::Entry {
-            key: RouteKey { prefix, id },
-            attrs: PayloadBytes::from_vec(bytes_of(alloc, attributes)?),
-            family: FamilyMark::new(),
-        },
-    })
+    let key = RouteKey { prefix, id };
+    Ok(entry_of(number, key, bytes_of(alloc, attributes)?))
 }
 
 /// The session of a peer with these routes.
@@ -113,12 +100,8 @@ fn expect_lines<M: PrefixMap<RouteId, Addr = u32> + Sync + Drop, T: Abort + Thre
     alloc: Global,
 ) {
     let tables = tables::<M>(rt, alloc);
-    let rows = seen(alloc, &tables).expect(rt, "rows");
-    let mut out = Counted::new(Vec::<u8>::new(alloc));
-    assert!(rt; write_seen(&mut out, full(), rows.as_slice()).is_ok());
-    assert!(rt; out.device().as_slice() == LINES.as_bytes());
     for threads in [1, 2, 4] {
-        let rows = seen_with_threads(rt, alloc, threads, &tables).expect(rt, "rows");
+        let rows = seen(rt, alloc, threads, &tables).expect(rt, "rows");
         let mut out = Counted::new(Vec::<u8>::new(alloc));
         assert!(rt; write_seen(&mut out, full(), rows.as_slice()).is_ok());
         assert!(rt;

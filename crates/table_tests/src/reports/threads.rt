@@ -1,12 +1,11 @@
 //! Tables that are large enough for several threads to make their lines.
 
-use super::peers::{peer_of, tables_of_sessions};
+use super::peers::{entry_of, tables_of_sessions};
 use super::reports::full;
 use super::writers::Narrow;
 use adj_rib::{RouteId, Session};
 use bgp_prefix::{Memory, Prefix, PrefixMap, Radix, RouteKey};
-use bgp_update::FamilyMark;
-use mrt_body::{Payload, PayloadBytes, Place, Unit};
+use mrt_body::Unit;
 use mrt_frame::{Counted, Failures, ReplayError};
 use rib_report::{Tables, list_tables};
 use std::alloc::Global;
@@ -69,23 +68,11 @@ fn prefix_of(i: u32) -> Prefix {
 
 /// The RIB entry of a route.
 fn entry(alloc: Global, number: u32, i: u32) -> Result<Unit, Memory> {
-    Ok(Unit {
-        place: Place {
-            file: 0,
-            offset: 0,
-            entry: Some(1),
-        },
-        time: 1_000_000,
-        peer: peer_of(number),
-        payload: Payload::Entry {
-            key: RouteKey {
-                prefix: prefix_of(i),
-                id: 0,
-            },
-            attrs: PayloadBytes::from_vec(attributes(alloc, i)?),
-            family: FamilyMark::new(),
-        },
-    })
+    let key = RouteKey {
+        prefix: prefix_of(i),
+        id: 0,
+    };
+    Ok(entry_of(number, key, attributes(alloc, i)?))
 }
 
 /// The session of a peer with so many routes.

@@ -1,6 +1,7 @@
 //! Clears by RIB dumps that replace what came before them: they end each route, and nothing else is changed or counted.
 
 use super::units::{take_named, unit_of};
+use crate::churns::churn_of;
 use adj_rib::{Churn, Notes, RouteId, Session, Watch, What};
 use bgp_prefix::{Flat, Memory, Prefix, PrefixMap, Radix, RouteKey};
 use bgp_update::RouteRef;
@@ -13,12 +14,12 @@ fn expect_session<M: PrefixMap<RouteId, Addr = u32>>(
     rt: &impl Abort,
     session: &Session<M>,
     routes: usize,
-    expected: &Churn,
+    expected: Churn,
     units: u64,
     is_up: bool,
 ) {
     assert!(rt; session.table().len() == routes, "{routes} routes");
-    assert!(rt; session.churn() == *expected, "{expected:?}");
+    assert!(rt; session.churn() == expected, "{expected:?}");
     let arrivals = session.arrivals();
     assert!(rt; arrivals.units == units, "{units} units");
     match arrivals.first {
@@ -30,79 +31,35 @@ fn expect_session<M: PrefixMap<RouteId, Addr = u32>>(
 }
 
 /// What is counted of no unit.
-const NOTHING: Churn = Churn {
-    added: 0,
-    changed: 0,
-    same: 0,
-    gone: 0,
-    void: 0,
-    resets: 0,
-    idle: 0,
-    refused: 0,
-    first: None,
-    last: None,
-};
+fn nothing() -> Churn {
+    churn_of([0; 8], None, None)
+}
 
-/// An entry of second 3 and a message of second 1, before a clear in second 4.
-const ADDED: Churn = Churn {
-    added: 2,
-    changed: 0,
-    same: 0,
-    gone: 0,
-    void: 0,
-    resets: 0,
-    idle: 0,
-    refused: 0,
-    first: Some(3_000_000),
-    last: Some(1_000_000),
-};
-
-/// The same, and what is announced behind the clear.
-const ADDED_AGAIN: Churn = Churn {
-    added: 3,
-    changed: 0,
-    same: 0,
-    gone: 0,
-    void: 0,
-    resets: 0,
-    idle: 0,
-    refused: 0,
-    first: Some(3_000_000),
-    last: Some(1_000_000),
-};
-
-/// The same, then a break in second 2, and an announcement while the peer is down.
-const DOWN: Churn = Churn {
-    added: 3,
-    changed: 0,
-    same: 0,
-    gone: 0,
-    void: 0,
-    resets: 1,
-    idle: 1,
-    refused: 0,
-    first: Some(3_000_000),
-    last: Some(1_000_000),
-};
+/// New routes, breaks, and what came while the peer was down; an entry of second 3 came first, and a message of second
+/// 1 last.
+fn counted(added: u64, resets: u64, idle: u64) -> Churn {
+    let counts = [added, 0, 0, 0, 0, resets, idle, 0];
+    churn_of(counts, Some(3_000_000), Some(1_000_000))
+}
 
 fn expect_cleared<M: PrefixMap<RouteId, Addr = u32> + Drop>(rt: &impl Abort, alloc: Global) {
     let mut session = Session::<M>::new(alloc);
     take_named(rt, alloc, &mut session, "clear");
-    expect_session(rt, &session, 0, &NOTHING, 0, true);
+    expect_session(rt, &session, 0, nothing(), 0, true);
     take_named(rt, alloc, &mut session, "entry");
     take_named(rt, alloc, &mut session, "with-identifier");
-    expect_session(rt, &session, 2, &ADDED, 2, true);
+    expect_session(rt, &session, 2, counted(2, 0, 0), 2, true);
     take_named(rt, alloc, &mut session, "clear");
-    expect_session(rt, &session, 0, &ADDED, 2, true);
+    expect_session(rt, &session, 0, counted(2, 0, 0), 2, true);
     take_named(rt, alloc, &mut session, "clear");
-    expect_session(rt, &session, 0, &ADDED, 2, true);
+    expect_session(rt, &session, 0, counted(2, 0, 0), 2, true);
     take_named(rt, alloc, &mut session, "announcement");
-    expect_session(rt, &session, 1, &ADDED_AGAIN, 3, true);
+    expect_session(rt, &session, 1, counted(3, 0, 0), 3, true);
     // A peer that is down stays down.
     take_named(rt, alloc, &mut session, "established-to-idle");
     take_named(rt, alloc, &mut session, "clear");
     take_named(rt, alloc, &mut session, "announcement");
-    expect_session(rt, &session, 0, &DOWN, 5, false);
+    expect_session(rt, &session, 0, counted(3, 1, 1), 5, false);
 }
 
 #[test]
@@ -180,11 +137,11 @@ fn expect_watch<M: PrefixMap<RouteId, Addr = u32>>(
     rt: &impl Abort,
     watch: &Watch<M>,
     routes: usize,
-    expected: &Churn,
+    expected: Churn,
     is_up: bool,
 ) {
     assert!(rt; watch.table().len() == routes, "{routes} routes");
-    assert!(rt; watch.churn() == *expected, "{expected:?}");
+    assert!(rt; watch.churn() == expected, "{expected:?}");
     assert!(rt; watch.is_up() == is_up && watch.faults().is_empty());
 }
 
@@ -192,17 +149,17 @@ fn expect_lost<M: PrefixMap<RouteId, Addr = u32> + Drop>(rt: &impl Abort, alloc:
     let mut watch = Watch::<M>::new(alloc);
     let none = watch_named(rt, alloc, &mut watch, "clear");
     expect_notes(rt, none.as_slice(), What::Lost, &[]);
-    expect_watch(rt, &watch, 0, &NOTHING, true);
+    expect_watch(rt, &watch, 0, nothing(), true);
     let entry = watch_named(rt, alloc, &mut watch, "entry");
     expect_notes(rt, entry.as_slice(), What::New, &[0]);
     let other = watch_named(rt, alloc, &mut watch, "with-identifier");
     expect_notes(rt, other.as_slice(), What::New, &[7]);
     let lost = watch_named(rt, alloc, &mut watch, "clear");
     expect_notes(rt, lost.as_slice(), What::Lost, &[0, 7]);
-    expect_watch(rt, &watch, 0, &ADDED, true);
+    expect_watch(rt, &watch, 0, counted(2, 0, 0), true);
     let again = watch_named(rt, alloc, &mut watch, "announcement");
     expect_notes(rt, again.as_slice(), What::New, &[0]);
-    expect_watch(rt, &watch, 1, &ADDED_AGAIN, true);
+    expect_watch(rt, &watch, 1, counted(3, 0, 0), true);
     // A peer that is down stays down.
     let ended = watch_named(rt, alloc, &mut watch, "established-to-idle");
     expect_notes(rt, ended.as_slice(), What::Lost, &[0]);
@@ -210,7 +167,7 @@ fn expect_lost<M: PrefixMap<RouteId, Addr = u32> + Drop>(rt: &impl Abort, alloc:
     expect_notes(rt, cleared.as_slice(), What::Lost, &[]);
     let idle = watch_named(rt, alloc, &mut watch, "announcement");
     expect_notes(rt, idle.as_slice(), What::New, &[]);
-    expect_watch(rt, &watch, 0, &DOWN, false);
+    expect_watch(rt, &watch, 0, counted(3, 1, 1), false);
 }
 
 #[test]

@@ -1,7 +1,8 @@
 //! Rows on sessions: the units, and the counts and the table after them, with both maps.
 
 use super::units::take_named;
-use adj_rib::{Churn, RouteId, Session};
+use crate::churns::churn_of;
+use adj_rib::{RouteId, Session};
 use bgp_prefix::{Flat, PrefixMap, Radix};
 use bgp_update::NextHop;
 use std::alloc::Global;
@@ -18,20 +19,6 @@ fn session_after<M: PrefixMap<RouteId, Addr = u32> + Drop>(
         take_named(rt, alloc, &mut session, name);
     }
     session
-}
-
-/// Added, changed, same, gone, void, resets, idle, refused.
-fn counts(churn: &Churn) -> [u64; 8] {
-    [
-        churn.added,
-        churn.changed,
-        churn.same,
-        churn.gone,
-        churn.void,
-        churn.resets,
-        churn.idle,
-        churn.refused,
-    ]
 }
 
 /// Path identifiers of 10.0.0.0/8 in a table, each with its next hop.
@@ -58,7 +45,8 @@ fn expect_table<M: PrefixMap<RouteId, Addr = u32>>(
 
 const HOP: u32 = 0xC000_0201;
 
-/// The units, the counts, the seconds of the first and the last unit, and the table.
+/// The units, the counts (added, changed, same, gone, void, resets, idle, refused), the seconds of the first and the
+/// last unit, and the table.
 const ROWS: [(&str, [u64; 8], u64, u64, Paths); 22] = [
     (
         "announcement announcement",
@@ -212,13 +200,10 @@ fn expect_churn<M: PrefixMap<RouteId, Addr = u32>>(
     seconds: (u64, u64),
     names: &str,
 ) {
-    let churn = session.churn();
-    assert!(rt; counts(&churn) == expected, "{names}");
-    assert!(rt;
-        churn.first == Some(seconds.0.wrapping_mul(1_000_000))
-            && churn.last == Some(seconds.1.wrapping_mul(1_000_000)),
-        "{names}"
-    );
+    let first = Some(seconds.0.wrapping_mul(1_000_000));
+    let last = Some(seconds.1.wrapping_mul(1_000_000));
+    let churn = churn_of(expected, first, last);
+    assert!(rt; session.churn() == churn, "{names}");
     assert!(rt; session.faults().len() as u64 == churn.refused, "{names}");
 }
 

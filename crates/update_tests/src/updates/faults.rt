@@ -13,7 +13,7 @@ fn expect_fault_by_byte(rt: &impl Abort, alloc: Global, at: usize, byte: u8, wan
     if at < body.len() {
         body[at] = byte;
     }
-    let fault = fault_in(rt, alloc, body.as_slice(), Width::Four, false);
+    let fault = fault_in::<u32>(rt, alloc, body.as_slice(), Width::Four, false);
     assert!(rt; fault == Some(want), "at {at}");
 }
 
@@ -50,7 +50,7 @@ fn the_first_fault_from_the_left_is_named(rt: HostRuntime) {
         ("0000 0007 40010103 400401", Fault::BadAttribute(1)),
         ("0000 0007 400302 0000 4001", Fault::BadAttribute(3)),
     ] {
-        expect_fault(&rt, rt.alloc(), text, Some(want));
+        expect_fault::<u32>(&rt, rt.alloc(), text, Some(want));
     }
 }
 
@@ -80,7 +80,7 @@ fn expect_fronts(
 ) {
     let body = update_of(alloc, text).expect(rt, "memory");
     for n in 0..=body.len() {
-        let fault = fault_in(rt, alloc, &body.as_slice()[..n], width, add_path);
+        let fault = fault_in::<u32>(rt, alloc, &body.as_slice()[..n], width, add_path);
         let want = fault_of_front(n, attributes_end, key_ends);
         assert!(rt; fault == want, "at {n} of {text}");
     }

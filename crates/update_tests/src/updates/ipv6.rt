@@ -44,18 +44,17 @@ fn expect_decoded(
     hop: Option<NextHop>,
     reached: &[(u128, u8, u32)],
 ) {
-    let body = update_of(alloc, text).expect(rt, "memory");
     let mut keys = Vec::new(alloc);
     let mut bytes = Vec::new(alloc);
-    let spans = decode_update::<Ipv6>(
+    let spans = spans_of::<Ipv6>(
+        rt,
         alloc,
         &mut keys,
         &mut bytes,
-        body.as_slice(),
+        text,
         Width::Four,
         add_path,
-    )
-    .expect(rt, "an update");
+    );
     let update = spans.update(keys.as_slice(), bytes.as_slice());
     expect_keys_of_ipv6(rt, update.reached, reached, text);
     match &update.reached_route {
@@ -199,16 +198,6 @@ fn an_update_of_both_families_is_read_by_each(rt: HostRuntime) {
     assert!(rt; update.route.next_hop == Some(NextHop::V4(0xC0000201)));
 }
 
-/// What is wrong with an UPDATE of IPv6 unicast.
-fn fault_of_ipv6(rt: &impl Abort, alloc: Global, text: &str) -> Option<Fault> {
-    let body = update_of(alloc, text).expect(rt, "memory");
-    match read_update::<Ipv6>(alloc, body.as_slice(), Width::Four, false).err() {
-        None => None,
-        Some(AttrError::Bad(fault)) => Some(fault),
-        Some(AttrError::Memory) => panic!(rt; "memory"),
-    }
-}
-
 #[test]
 fn damaged_updates_of_ipv6_are_refused(rt: HostRuntime) {
     for (text, want) in [
@@ -247,8 +236,7 @@ fn damaged_updates_of_ipv6_are_refused(rt: HostRuntime) {
         ("0000 0006 400303 C00002", Fault::BadAttribute(3)),
         ("0003 2100", Fault::BadUpdate),
     ] {
-        let fault = fault_of_ipv6(&rt, rt.alloc(), text);
-        assert!(rt; fault == Some(want), "at {text}");
+        expect_fault::<Ipv6>(&rt, rt.alloc(), text, Some(want));
     }
 }
 

@@ -67,7 +67,7 @@ fn keys_stand_with_their_identifiers_and_without_host_bits(rt: HostRuntime) {
 #[test]
 fn an_identifier_past_its_field_is_a_bad_prefix(rt: HostRuntime) {
     let body = update_of(rt.alloc(), "cut-identifier").expect(&rt, "memory");
-    let fault = fault_in(&rt, rt.alloc(), body.as_slice(), Width::Four, true);
+    let fault = fault_in::<u32>(&rt, rt.alloc(), body.as_slice(), Width::Four, true);
     assert!(rt; fault == Some(Fault::BadPrefix));
 }
 

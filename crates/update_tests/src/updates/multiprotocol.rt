@@ -2,7 +2,6 @@
 
 use super::readings::*;
 use bgp_update::*;
-use fixtures::update_of;
 use mrt_frame::Fault;
 use std::alloc::Global;
 use std::process::Abort;
@@ -17,18 +16,9 @@ fn expect_reached(rt: &impl Abort, update: &Update, hop: NextHop) {
 
 /// Decoded, 10.0.0.0/8 has a route with this hop, and the UPDATE's own route has no hop.
 fn expect_reached_decoded(rt: &impl Abort, alloc: Global, text: &str, hop: NextHop) {
-    let body = update_of(alloc, text).expect(rt, "memory");
     let mut keys = Vec::new(alloc);
     let mut bytes = Vec::new(alloc);
-    let spans = decode_update::<u32>(
-        alloc,
-        &mut keys,
-        &mut bytes,
-        body.as_slice(),
-        Width::Four,
-        false,
-    )
-    .expect(rt, "an update");
+    let spans = spans_of::<u32>(rt, alloc, &mut keys, &mut bytes, text, Width::Four, false);
     let update = spans.update(keys.as_slice(), bytes.as_slice());
     expect_keys(rt, update.reached, &[(0x0A000000, 8, 0)]);
     assert!(rt; update.route.route.next_hop().is_none());
@@ -120,6 +110,6 @@ fn repeated_cut_and_misshapen_attributes_14_and_15_are_refused(rt: HostRuntime) 
         ),
         ("0000 0008 800F05 0001 01 090A", Some(Fault::BadPrefix)),
     ] {
-        expect_fault(&rt, rt.alloc(), text, want);
+        expect_fault::<u32>(&rt, rt.alloc(), text, want);
     }
 }

@@ -3,7 +3,6 @@
 use super::readings::*;
 use bgp_prefix::Memory;
 use bgp_update::*;
-use fixtures::update_of;
 use std::alloc::Global;
 use std::process::Abort;
 use std::test::Fail;
@@ -16,18 +15,9 @@ fn expect_decoded_two_octets(
     aggregator: Option<Aggregator>,
     origin: u32,
 ) {
-    let body = update_of(alloc, text).expect(rt, "memory");
     let mut keys = Vec::new(alloc);
     let mut bytes = Vec::new(alloc);
-    let spans = decode_update::<u32>(
-        alloc,
-        &mut keys,
-        &mut bytes,
-        body.as_slice(),
-        Width::Two,
-        false,
-    )
-    .expect(rt, "an update");
+    let spans = spans_of::<u32>(rt, alloc, &mut keys, &mut bytes, text, Width::Two, false);
     let update = spans.update(keys.as_slice(), bytes.as_slice());
     expect_keys(rt, update.announced, &[(0x0A000000, 8, 0)]);
     assert!(rt; update.route.route.origin_as() == Some(origin));

@@ -1,6 +1,8 @@
 //! Readings of messages. A message is what stands behind its header: that of a named record, or digits.
 
-use bgp_prefix::RouteKey;
+ghost use Rattle.bgp_update.specs.Decoded.{IsUpdateAt};
+
+use bgp_prefix::{Prefix, RouteKey};
 use bgp_update::*;
 use fixtures::update_of;
 use mrt_frame::Fault;
@@ -19,15 +21,31 @@ pub fn reading_of(
     read_update(alloc, body.as_slice(), width, add_path).expect(rt, "an update")
 }
 
-/// What is wrong with an UPDATE.
-pub fn fault_in(
+/// Where an UPDATE without fault stands among these keys and bytes, to which it is decoded.
+pub fn spans_of<F: Unicast>(
+    rt: &impl Abort,
+    alloc: Global,
+    keys: &mut Vec<RouteKey<Prefix<F>>>,
+    bytes: &mut Vec<u8>,
+    text: &str,
+    width: Width,
+    add_path: bool,
+) -> UpdateSpans
+    ensures { IsUpdateAt keys.new.items bytes.new.items result }
+{
+    let body = update_of(alloc, text).expect(rt, "memory");
+    decode_update(alloc, keys, bytes, body.as_slice(), width, add_path).expect(rt, "an update")
+}
+
+/// What is wrong with an UPDATE of a family's routes.
+pub fn fault_in<F: Unicast>(
     rt: &impl Abort,
     alloc: Global,
     body: &[u8],
     width: Width,
     add_path: bool,
 ) -> Option<Fault> {
-    match read_update::<u32>(alloc, body, width, add_path).err() {
+    match read_update::<F>(alloc, body, width, add_path).err() {
         None => None,
         Some(AttrError::Bad(fault)) => Some(fault),
         Some(AttrError::Memory) => panic!(rt; "memory"),
@@ -35,9 +53,9 @@ pub fn fault_in(
 }
 
 /// Reading this text as an UPDATE, of four-byte AS numbers and with no path identifiers, finds this fault or none.
-pub fn expect_fault(rt: &impl Abort, alloc: Global, text: &str, want: Option<Fault>) {
+pub fn expect_fault<F: Unicast>(rt: &impl Abort, alloc: Global, text: &str, want: Option<Fault>) {
     let body = update_of(alloc, text).expect(rt, "memory");
-    let fault = fault_in(rt, alloc, body.as_slice(), Width::Four, false);
+    let fault = fault_in::<F>(rt, alloc, body.as_slice(), Width::Four, false);
     assert!(rt; fault == want, "at {text}");
 }
 
