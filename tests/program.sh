@@ -155,7 +155,7 @@ as_nobody ./own tables sample unreadable > out 2> said; judge 'a file without le
 as_nobody ./own tables locked/sample > out 2> said; judge 'a directory without leave' 3 'open failed: file 1' nothing $?
 # All files are opened before any is read: standard input never ends here.
 mkfifo endless; exec 9<> endless
-timeout 10 ./bgp_replay tables - missing < endless > out 2> said; judge 'a missing file behind an endless one' 3 'open failed: file 2' nothing $?
+timeout 60 ./bgp_replay tables - missing < endless > out 2> said; judge 'a missing file behind an endless one' 3 'open failed: file 2' nothing $?
 exec 9>&-
 
 # 3: a file can't be read
@@ -600,7 +600,7 @@ done
 # a file is closed when the next one is begun, though its end wasn't read: whoever writes it is told, and goes on
 mkfifo first second
 timeout 60 bash -c 'exec 6> first 7> second; { printf "\0\0\0\1\0\15\0\1\377\377\377\377"; yes; } >&6 7>&-; echo $? > ended; exec 6>&-; cat eight >&7' 2> none & writer=$!
-timeout 30 ./bgp_replay tables first second > out 2> said; judge 'a pipe that is left' 1 'damaged: 1' whole-eight $?
+timeout 60 ./bgp_replay tables first second > out 2> said; judge 'a pipe that is left' 1 'damaged: 1' whole-eight $?
 wait $writer; if [ "$(cat ended)" = 141 ]; then right; else wrong "who writes a pipe that is left ends with $(cat ended)"; fi
 
 # what isn't MRT is named

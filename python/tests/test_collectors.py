@@ -69,14 +69,13 @@ def machines(tmp_path_factory):
     worker = ["--nthreads", "1", "--no-dashboard", "--no-nanny", "--local-directory", str(folder)]
     started += [start("dask_worker", *worker) for _ in range(2)]
     try:
-        with distributed.Client(scheduler_file=str(contact), timeout=30) as client:
+        with distributed.Client(scheduler_file=str(contact), timeout=120) as client:
             client.wait_for_workers(2)
             yield client
     finally:
-        for process in reversed(started):
-            process.terminate()
-        for process in reversed(started):
-            process.wait(20)
+        for process in started:
+            process.kill()
+            process.wait()
 
 
 @pytest.mark.parametrize("report", REPORTS)
