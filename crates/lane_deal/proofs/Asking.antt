@@ -10,15 +10,20 @@ use Rattle.mrt_frame.specs.declared.read_state.ReadState.TheVariants as states
 use Rattle.mrt_body.specs.Units.{unit_of}
 use Rattle.std.proofs.lemmas.List.{append-nil, map-append}
 use Rattle.mrt_body.specs.declared.unit.Damage.{Damage}
-use Rattle.mrt_body.specs.Plain.{Found}
+use Rattle.mrt_body.specs.Plain.{Found, Unit as ReplayUnit}
 use Rattle.mrt_body.specs.declared.unit.Found.TheVariants as found
-use Rattle.mrt_body.specs.ToCome.{UnitsState, KeepsPlan, GivesAllBefore, found_to_come}
+use Rattle.mrt_body.specs.ToCome.{UnitsState, GivesPending, KeepsPlan, GivesAllBefore, as_found, found_to_come, units_left}
+use Rattle.mrt_body.proofs.FilesLaws.{gives_found}
 use Rattle.mrt_body.specs.Readings.{Gives}
 use Rattle.lane_deal.specs.Results.{IfAnswered}
 use Rattle.lane_deal.specs.Asking.{TakesUnits, StopsReading, StopsBehind, as_refused, GivesFront, GivesAll, AskedInVain}
 
 abbrev Known : Type 0
 Known = List (Option (List ℕ))
+
+pub all_units : (units : List ReplayUnit) → filter_map unit_of (as_found units) ≡ units
+all_units [] = refl
+all_units (u ∷ units) = ap (λ l. u ∷ l) (all_units units)
 
 pub TakesUnits-none : (u : UnitsState) (k : Known) → TakesUnits u k u k []
 TakesUnits-none u k = record {
@@ -61,6 +66,16 @@ TakesUnits-one remaining failures u u' files files' given gives plan = record {
   plan = plan;
   state = gives.state ∙ sym gives.reading;
   idle = λ failed. let reading = gives.reading in absurd (cc);
+}
+
+-- pending units were given
+pub TakesUnits-pending : (u u' : UnitsState) (k : Known) (units : List ReplayUnit) → u.state ≡ states.Reading → GivesPending u u' units → TakesUnits u k u' k (as_found units)
+TakesUnits-pending u u' k units reading gives = record {
+  found = gives_found u u' k units gives;
+  few = (let a = ap units_left gives.0 in let n = ap length gives.1 ∙ length-append units u'.pending in let m = ap length (all_units units) in omega arith);
+  plan = (ap (λ (v : UnitsState). v.count) gives.0, ap (λ (v : UnitsState). v.max_records) gives.0, ap (λ (v : UnitsState). v.selection) gives.0);
+  state = ap (λ (v : UnitsState). v.state) gives.0;
+  idle = λ failed. absurd (cc);
 }
 
 -- what stops a reading later stops it

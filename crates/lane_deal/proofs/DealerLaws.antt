@@ -1,9 +1,11 @@
 -- What the dealer did, unit by unit.
 use Rattle.std.proofs.Common.{◌≡◌, ℕ, ◌+◌, ◌-◌, ◌^◌, ◌≤◌, ◌<◌, ◌||◌, true, false, eqb, if◌then◌else◌, List, [], ◌∷◌, ◌++◌, length, map, take, drop, Option, Some, None, Ok, Err, refl, sym, ap, ◌∙◌, subst, append_assoc, arith, length-append}
-use Rattle.std.specs.Prelude.{option_to_list, min, IfOk, Result}
+use Rattle.std.specs.Prelude.{option_to_list, min, IfOk, IfSome, Result}
+use Rattle.std.specs.Option.{is_some}
 use Rattle.std.specs.List.{list_any, filter_map, AllByRecursion}
 use Rattle.std.proofs.lemmas.List.{append-nil, length-map, map-append}
-use Rattle.std.proofs.lemmas.List.Elements.{filter_map-append}
+use Rattle.std.proofs.Math.Seq.{take-append_seam}
+use Rattle.std.proofs.lemmas.List.Elements.{filter_map-append, filter-append}
 use Rattle.std.proofs.lemmas.List.Sums.{length-filter, count_by-le-length}
 use Rattle.std.proofs.lemmas.List.Folds.{list_any-append}
 use Rattle.std.proofs.Math.Bool.{or-true}
@@ -13,19 +15,20 @@ use Rattle.mrt_body.specs.Plain.{Found, Unit as ReplayUnit}
 use Rattle.mrt_body.specs.declared.unit.Found.TheVariants as found
 use Rattle.mrt_body.specs.declared.unit.PeerKey.{PeerKey}
 use Rattle.mrt_body.specs.Units.{unit_of, damage_of}
-use Rattle.mrt_body.specs.ToCome.{UnitsState, GivesPending, KeepsPlan, TakesFound, as_found, units_left}
+use Rattle.mrt_frame.specs.declared.read_state.ReadState.TheVariants as states
+use Rattle.mrt_body.specs.ToCome.{UnitsState, GivesPending, as_found}
 use Rattle.peer_tables.specs.Peers.{peer_eq, peers_of}
 use Rattle.lane_deal.specs.Dealers.{Dealer}
 use Rattle.lane_deal.specs.Plain.{PeerUnit}
 use Rattle.lane_deal.specs.declared.step.Step.{Step}
 use Rattle.lane_deal.specs.declared.step.Step.TheVariants.{Blocked, FullBatch, End}
-use Rattle.lane_deal.specs.Asking.{TakesUnits, as_refused, Asked, AskedInVain}
-use Rattle.lane_deal.specs.DealerSteps.{Asks, Next, NextInVain, Handles, StopsDealing, Deals, DealsTo}
+use Rattle.lane_deal.specs.Asking.{TakesUnits, GivesAll, as_refused, Asked, AskedInVain}
+use Rattle.lane_deal.specs.DealerSteps.{Handles, HandsOn, DealsUnit, DealsBlocked, DealsFront, IsFull, StopsDealing, Deals, DealsTo}
 use Rattle.lane_deal.specs.LaneSenders.{in_lane}
 use Rattle.lane_deal.specs.ToDeal.{to_deal}
 use Rattle.peer_tables.specs.Numbers.{NumbersPeer, number_in}
 use Rattle.lane_deal.specs.Numbers.{with_number, with_numbers}
-use Rattle.lane_deal.proofs.Asking.{TakesUnits-none, TakesUnits-more, front_from_takes, front_more, all_more_given, behind_more}
+use Rattle.lane_deal.proofs.Asking.{all_units, TakesUnits-none, TakesUnits-more, TakesUnits-pending, front_from_takes, front_more, behind_more}
 use Rattle.lane_deal.proofs.Numbering.{unlisted}
 use Rattle.peer_tables.proofs.PeerPositions.{listed_now, peer_itself, first_position}
 use Rattle.lane_deal.proofs.Lists.{all_more, all_push}
@@ -53,12 +56,6 @@ pub in_order : (k₀ k₁ : Option ReplayUnit) (g₁ g₂ d₁ d₂ : List Found
 in_order k₀ k₁ g₁ g₂ d₁ d₂ p q =
     to_deal-more k₀ g₁ g₂ ∙ ap (λ l. l ++ g₂) p ∙ append_assoc d₁ (to_deal k₁ []) g₂ ∙ ap (λ l. d₁ ++ l) (sym (to_deal-more k₁ [] g₂) ∙ q)
 
--- where refusals alone came, none was blocked
-pub none_blocked : (blocked_unit : Option ReplayUnit) (given : List Found) (listed : List Damage) → to_deal blocked_unit given ≡ as_refused listed → blocked_unit ≡ None
-none_blocked None given listed e = refl
-none_blocked (Some k) given [] e = absurd (cc)
-none_blocked (Some k) given (d ∷ listed) e = absurd (cc)
-
 -- ---- numbers
 
 pub listed_is_seen : (units : List ReplayUnit) (q : PeerKey) → list_any (peer_eq q) (peers_of units) ≡ is_seen units q
@@ -75,17 +72,16 @@ pub seen_last : (units : List ReplayUnit) (u : ReplayUnit) → is_seen (units ++
 seen_last units u = list_any-append (λ x. peer_eq x.peer u.peer) units (u ∷ []) ∙ ap (λ b. is_seen units u.peer || (b || false)) (peer_itself u.peer) ∙ or-true (is_seen units u.peer)
 
 -- the peer of the next unit is numbered
-pub keys_step : (before : List ReplayUnit) (blocked_unit : Option ReplayUnit) (given : List Found) (listed : List Damage) (u : ReplayUnit) (keys keys' : List PeerKey) (n : ℕ) → keys ≡ peers_of (before ++ option_to_list blocked_unit)
-    → to_deal blocked_unit given ≡ as_refused listed ++ found.Unit u ∷ [] → NumbersPeer keys keys' u.peer n → keys' ≡ peers_of (before ++ u ∷ [])
-keys_step before None given listed u keys keys' n h e p =
+pub keys_step : (before : List ReplayUnit) (blocked_unit : Option ReplayUnit) (given : List Found) (u : ReplayUnit) (keys keys' : List PeerKey) (n : ℕ) → keys ≡ peers_of (before ++ option_to_list blocked_unit)
+    → to_deal blocked_unit given ≡ found.Unit u ∷ [] → NumbersPeer keys keys' u.peer n → keys' ≡ peers_of (before ++ u ∷ [])
+keys_step before None given u keys keys' n h e p =
     let same : keys ≡ peers_of before = h ∙ ap peers_of (append-nil before) in
     p.keys ∙ ap (λ l. l ++ (if list_any (peer_eq u.peer) l then [] else u.peer ∷ [])) same ∙ sym (peers_push before u)
-keys_step before (Some k) given [] u keys keys' n h e p =
+keys_step before (Some k) given u keys keys' n h e p =
     let is : k ≡ u = cc in
     let same : keys ≡ peers_of (before ++ u ∷ []) = h ∙ ap (λ v. peers_of (before ++ v ∷ [])) is in
     let seen : list_any (peer_eq u.peer) keys ≡ true = ap (list_any (peer_eq u.peer)) same ∙ listed_peer (before ++ u ∷ []) u.peer (seen_last before u) in
     p.keys ∙ ap (λ b. keys ++ (if b then [] else u.peer ∷ [])) seen ∙ append-nil keys ∙ same
-keys_step before (Some k) given (d ∷ listed) u keys keys' n h e p = absurd (cc)
 
 abbrev pub AreListed : List PeerKey → List ReplayUnit → Type 0
 AreListed keys units = AllByRecursion (λ u. list_any (peer_eq u.peer) keys ≡ true) units
@@ -103,203 +99,247 @@ numbered_stay keys more (u ∷ units) h =
 
 -- ---- the dealer's steps
 
+-- as many units were dealt or blocked as came
+pub passed_count : (blocked_unit : Option ReplayUnit) (given done : List ReplayUnit) → to_deal None (as_found given) ≡ as_found done ++ to_deal blocked_unit [] → length given ≡ length done + length (option_to_list blocked_unit)
+passed_count blocked_unit given done e =
+    let n : length (as_found given) ≡ length (as_found done ++ to_deal blocked_unit []) = ap length e in
+    let a = length-map given (λ u. found.Unit u) in
+    let b = length-append (as_found done) (to_deal blocked_unit []) in
+    let c = length-map done (λ u. found.Unit u) in
+    let d = length-append (map (λ u. found.Unit u) (option_to_list blocked_unit)) [] in
+    let f = length-map (option_to_list blocked_unit) (λ u. found.Unit u) in
+    omega (arith, n, a, b, c, d, f)
+
+pub if_none : {A : Type 0} (P : A → Type 0) (o : Option A) → o ≡ None → IfSome o P
+if_none P None e = tt
+if_none P (Some x) e = absurd (cc)
+
+pub is_none : {A : Type 0} (o : Option A) → false ≡ is_some o → o ≡ None
+is_none None e = refl
+is_none (Some x) e = absurd (cc)
+
+pub where_some : {A : Type 0} {P : Type 0} (o : Option A) → true ≡ is_some o → IfSome o (λ _. P) → P
+where_some None e p = absurd (cc)
+where_some (Some x) e p = p
+
+none_listed : {A : Type 0} (o : Option A) → length (option_to_list o) ≡ 0 → o ≡ None
+none_listed None e = refl
+none_listed (Some x) e = absurd (cc)
+
+no_items : {A : Type 0} (xs : List A) → length xs ≡ 0 → xs ≡ []
+no_items [] e = refl
+no_items (x ∷ xs) e = absurd (cc)
+
+if_some : {A : Type 0} {P : Type 0} (o : Option A) → P → IfSome o (λ _. P)
+if_some None p = tt
+if_some (Some x) p = p
+
 module _ {D : Type 0} where
-  -- the dealer without its blocked unit
-  abbrev pub without_unit : Dealer D → Dealer D
-  without_unit d = record { dealing = d.dealing; peers = d.peers; blocked_unit = None; refused = d.refused; dealt = d.dealt; small = λ x e. absurd (cc) }
-
-  -- the unit that was blocked and taken out is next
-  pub Next-blocked : (old asked : Dealer D) (u u' : UnitsState) (k k' : Known) (unit : ReplayUnit) → old.blocked_unit ≡ Some unit → asked.dealing ≡ old.dealing → asked.peers ≡ old.peers → asked.dealt ≡ old.dealt → asked.refused.items ≡ old.refused.items
-      → TakesUnits u k u' k' [] → Next old (without_unit asked) u k u' k' (Some unit)
-  Next-blocked old asked u u' k k' unit e dealing peers dealt same takes =
+  -- nothing was dealt
+  pub Handles-kept : (old new : Dealer D) → new.dealing ≡ old.dealing → new.peers ≡ old.peers → new.blocked_unit ≡ old.blocked_unit → new.refused ≡ old.refused → new.dealt ≡ old.dealt → old.dealt ≡ min (old.dealt + 0) (2 ^ 64 - 1) → Handles old new [] []
+  Handles-kept old new dealing peers blocked_unit refused dealt bound =
       record {
-        given = [];
-        listed = [];
-        takes = takes;
-        asks = record { dealing = dealing; peers = peers; blocked_unit = refl; dealt = dealt };
-        order = ap (λ o. to_deal o []) e;
-        refused = same ∙ sym (append-nil old.refused.items);
-        ended = λ clash. absurd (cc);
+        dealing = dealing;
+        order = ap (λ o. to_deal o []) (sym blocked_unit);
+        refused = ap (λ o. o.items) refused ∙ sym (append-nil old.refused.items);
+        counted = dealt ∙ bound;
+        listed = tt;
+        more = [];
+        peers = peers ∙ sym (append-nil old.peers);
+        keys = λ before h. peers ∙ h ∙ ap (λ o. peers_of (before ++ option_to_list o)) (sym blocked_unit) ∙ ap (λ l. peers_of (l ++ option_to_list new.blocked_unit)) (sym (append-nil before));
       }
 
-  -- the unit that was looked at and consumed is next
-  pub Next-peeked : (old asked : Dealer D) (u u₁ u' : UnitsState) (k k₁ : Known) (unit : ReplayUnit) → old.blocked_unit ≡ None → Asks old asked → Asked old.refused.items asked.refused.items u k u₁ k₁ → u₁.pending ≡ unit ∷ drop 1 u₁.pending → GivesPending u₁ u' (take 1 u₁.pending)
-      → ((known : Known) → TakesFound u₁ known u' known (as_found (take 1 u₁.pending))) → units_left u' + length (take 1 u₁.pending) ≡ units_left u₁ → KeepsPlan u₁ u' → Next old asked u k u' k₁ (Some unit)
-  Next-peeked old asked u u₁ u' k k₁ unit none asks p peeks consumes taken units plan =
-      let one : take 1 u₁.pending ≡ unit ∷ [] = ap (take 1) peeks in
-      let state = ap (λ (v : UnitsState). v.state) consumes.0 in
-      let given = as_refused p.listed ++ found.Unit unit ∷ [] in
+  -- one step after another
+  pub Handles-more : (old mid new : Dealer D) (given more done later : List Found) → Handles old mid given done → Handles mid new more later → Handles old new (given ++ more) (done ++ later)
+  Handles-more old mid new given more done later p q =
+      let units : filter_map unit_of (done ++ later) ≡ filter_map unit_of done ++ filter_map unit_of later = filter_map-append unit_of done later in
       record {
-        given = given;
-        listed = p.listed;
-        takes = TakesUnits-more u u₁ u' k k₁ k₁ (as_refused p.listed) (found.Unit unit ∷ []) p.takes record {
-          found = subst (λ l. TakesFound u₁ k₁ u' k₁ (as_found l)) one (taken k₁);
-          few = (let n = ap length one in omega arith);
-          plan = plan;
-          state = state;
-          idle = λ e. let reading = p.state in absurd (cc);
-        };
-        asks = asks;
-        order = ap (λ o. to_deal o given) none;
-        refused = p.refused;
-        ended = λ clash. absurd (cc);
+        dealing = q.dealing ∙ p.dealing;
+        order =
+            in_order old.blocked_unit mid.blocked_unit given more done (later ++ to_deal new.blocked_unit []) p.order q.order
+            ∙ sym (append_assoc done later (to_deal new.blocked_unit []));
+        refused =
+            q.refused ∙ ap (λ l. l ++ filter_map damage_of later) p.refused ∙ append_assoc old.refused.items (filter_map damage_of done) (filter_map damage_of later)
+            ∙ ap (λ l. old.refused.items ++ l) (sym (filter_map-append damage_of done later));
+        counted = (let n = ap length units ∙ length-append (filter_map unit_of done) (filter_map unit_of later) in let a = p.counted in let b = q.counted in omega arith);
+        listed =
+            subst (AreListed new.peers) (sym units)
+            (all_push (λ u. list_any (peer_eq u.peer) new.peers ≡ true) (filter_map unit_of done) (filter_map unit_of later)
+            (subst (λ l. AreListed l (filter_map unit_of done)) (sym q.peers) (listed_more mid.peers q.more (filter_map unit_of done) p.listed)) q.listed);
+        more = p.more ++ q.more;
+        peers = q.peers ∙ ap (λ l. l ++ q.more) p.peers ∙ append_assoc old.peers p.more q.more;
+        keys = λ before h.
+            q.keys (before ++ filter_map unit_of done) (p.keys before h)
+            ∙ ap (λ l. peers_of (l ++ option_to_list new.blocked_unit)) (append_assoc before (filter_map unit_of done) (filter_map unit_of later) ∙ ap (λ l. before ++ l) (sym units));
       }
 
-  -- nothing is left
-  pub Next-ended : (old asked : Dealer D) (u u' : UnitsState) (k k' : Known) → old.blocked_unit ≡ None → Asks old asked → Asked old.refused.items asked.refused.items u k u' k' → u'.pending ≡ [] → Next old asked u k u' k' None
-  Next-ended old asked u u' k k' none asks p empty =
+  -- refusals were listed
+  pub Handles-listed : (old new : Dealer D) (listed : List Damage) → old.blocked_unit ≡ None → new.blocked_unit ≡ None → new.dealing ≡ old.dealing → new.peers ≡ old.peers → new.dealt ≡ old.dealt → old.dealt ≡ min (old.dealt + 0) (2 ^ 64 - 1) → new.refused.items ≡ old.refused.items ++ listed
+      → Handles old new (as_refused listed) (as_refused listed)
+  Handles-listed old new listed none none' dealing peers dealt bound refused =
       record {
-        given = as_refused p.listed;
-        listed = p.listed;
-        takes = p.takes;
-        asks = asks;
-        order = ap (λ o. to_deal o (as_refused p.listed)) none ∙ sym (append-nil (as_refused p.listed));
-        refused = p.refused;
-        ended = λ _. p.ended empty;
+        dealing = dealing;
+        order = ap (λ o. to_deal o (as_refused listed)) none ∙ sym (append-nil (as_refused listed)) ∙ ap (λ o. as_refused listed ++ to_deal o []) (sym none');
+        refused = refused ∙ ap (λ l. old.refused.items ++ l) (sym (all_damage listed));
+        counted = dealt ∙ bound ∙ ap (λ l. min (old.dealt + length l) (2 ^ 64 - 1)) (sym (no_units listed));
+        listed = subst (AreListed new.peers) (sym (no_units listed)) tt;
+        more = [];
+        peers = peers ∙ sym (append-nil old.peers);
+        keys = λ before h.
+            peers ∙ h ∙ ap (λ o. peers_of (before ++ option_to_list o)) (none ∙ sym none')
+            ∙ ap (λ l. peers_of (l ++ option_to_list new.blocked_unit)) (sym (append-nil before) ∙ ap (λ l. before ++ l) (sym (no_units listed)));
       }
 
-  -- no more came
-  pub NextInVain-asked : (old asked : Dealer D) (u u' : UnitsState) (k k' : Known) → old.blocked_unit ≡ None → Asks old asked → AskedInVain old.refused.items asked.refused.items u k u' k' → NextInVain old asked u k u' k'
-  NextInVain-asked old asked u u' k k' none asks p =
-      record {
-        given = as_refused p.listed;
-        listed = p.listed;
-        gives = p.gives;
-        behind = p.behind;
-        asks = asks;
-        order = ap (λ o. to_deal o (as_refused p.listed)) none;
-        refused = p.refused;
-      }
-
-  module _ (old mid new : Dealer D) (given done more : List Found) (listed : List Damage) (p : Handles old mid given done) (refused : new.refused.items ≡ mid.refused.items ++ listed) (dealing : new.dealing ≡ mid.dealing) where
-    units_then : (rest : List Found) → filter_map unit_of (done ++ (as_refused listed ++ rest)) ≡ filter_map unit_of done ++ filter_map unit_of rest
-    units_then rest =
-        filter_map-append unit_of done (as_refused listed ++ rest)
-        ∙ ap (λ l. filter_map unit_of done ++ l) (filter_map-append unit_of (as_refused listed) rest ∙ ap (λ l. l ++ filter_map unit_of rest) (no_units listed))
-
-    damage_then : (rest : List Found) → filter_map damage_of rest ≡ [] → new.refused.items ≡ old.refused.items ++ filter_map damage_of (done ++ (as_refused listed ++ rest))
-    damage_then rest none =
-        refused ∙ ap (λ l. l ++ listed) p.refused ∙ append_assoc old.refused.items (filter_map damage_of done) listed
-        ∙ ap (λ l. old.refused.items ++ l)
-        (ap (λ l. filter_map damage_of done ++ l) (sym (append-nil listed) ∙ ap (λ l. listed ++ l) (sym none) ∙ ap (λ l. l ++ filter_map damage_of rest) (sym (all_damage listed)) ∙ sym (filter_map-append damage_of (as_refused listed) rest))
-        ∙ sym (filter_map-append damage_of done (as_refused listed ++ rest)))
-
-    module _ (unit : ReplayUnit) (n : ℕ) (order : to_deal mid.blocked_unit more ≡ as_refused listed ++ found.Unit unit ∷ []) (number : NumbersPeer mid.peers new.peers unit.peer n) where
-      extra : List PeerKey
-      extra = if list_any (peer_eq unit.peer) mid.peers then [] else unit.peer ∷ []
-
-      listed_still : AreListed new.peers (filter_map unit_of done)
-      unfolding extra
-      listed_still = subst (λ l. AreListed l (filter_map unit_of done)) (sym number.keys) (listed_more mid.peers extra (filter_map unit_of done) p.listed)
-
-      numbers_still : with_numbers new.peers (filter_map unit_of done) ≡ with_numbers mid.peers (filter_map unit_of done)
-      unfolding extra
-      numbers_still = ap (λ l. with_numbers l (filter_map unit_of done)) number.keys ∙ numbered_stay mid.peers extra (filter_map unit_of done) p.listed
-
-      item_is : record { number = n; unit = unit } ≡ with_number new.peers unit
-      item_is = ap (λ m. record { number = m; unit = unit }) number.number_is
-
-      -- one item more was dealt
-      pub items_then : with_numbers new.peers (filter_map unit_of (done ++ (as_refused listed ++ found.Unit unit ∷ []))) ≡ with_numbers mid.peers (filter_map unit_of done) ++ record { number = n; unit = unit } ∷ []
-      items_then =
-          ap (with_numbers new.peers) (units_then (found.Unit unit ∷ []))
-          ∙ (map-append (with_number new.peers) (filter_map unit_of done) (unit ∷ [])
-          ∙ (ap (λ l. l ++ with_number new.peers unit ∷ []) numbers_still
-          ∙ ap (λ i. with_numbers mid.peers (filter_map unit_of done) ++ i ∷ []) (sym item_is)))
-
-      -- none was
-      pub items_still : with_numbers new.peers (filter_map unit_of (done ++ (as_refused listed ++ []))) ≡ with_numbers mid.peers (filter_map unit_of done)
-      items_still = ap (with_numbers new.peers) (units_then [] ∙ append-nil _) ∙ numbers_still
-
-      -- the unit was dealt
-      pub Handles-dealt : new.blocked_unit ≡ None → new.dealt ≡ min (mid.dealt + 1) (2 ^ 64 - 1) → Handles old new (given ++ more) (done ++ (as_refused listed ++ found.Unit unit ∷ []))
-      Handles-dealt none counted =
-          let units : filter_map unit_of (done ++ (as_refused listed ++ found.Unit unit ∷ [])) ≡ filter_map unit_of done ++ unit ∷ [] = units_then (found.Unit unit ∷ []) in
-          record {
-            dealing = dealing ∙ p.dealing;
-            order =
-                in_order old.blocked_unit mid.blocked_unit given more done (as_refused listed ++ found.Unit unit ∷ []) p.order order ∙ sym (append-nil _)
-                ∙ append_assoc done (as_refused listed ++ found.Unit unit ∷ []) [] ∙ ap (λ l. done ++ l) (append-nil _)
-                ∙ sym (append-nil _) ∙ ap (λ o. (done ++ (as_refused listed ++ found.Unit unit ∷ [])) ++ to_deal o []) (sym none);
-            refused = damage_then (found.Unit unit ∷ []) refl;
-            counted = (let n = ap length units ∙ length-append (filter_map unit_of done) (unit ∷ []) in let m = p.counted in omega arith);
-            listed =
-                subst (AreListed new.peers) (sym units)
-                (all_push (λ u. list_any (peer_eq u.peer) new.peers ≡ true) (filter_map unit_of done) (unit ∷ []) listed_still (listed_now mid.peers new.peers unit.peer n number, tt));
-            keys = λ before h.
-                keys_step (before ++ filter_map unit_of done) mid.blocked_unit more listed unit mid.peers new.peers n (p.keys before h) order number
-                ∙ ap peers_of (append_assoc before (filter_map unit_of done) (unit ∷ []) ∙ ap (λ l. before ++ l) (sym units) ∙ sym (append-nil _) ∙ ap (λ o. (before ++ filter_map unit_of (done ++ (as_refused listed ++ found.Unit unit ∷ []))) ++ option_to_list o) (sym none));
-          }
-
-      -- the unit came back
-      pub Handles-blocked : new.blocked_unit ≡ Some unit → new.dealt ≡ mid.dealt → Handles old new (given ++ more) (done ++ (as_refused listed ++ []))
-      Handles-blocked blocked_unit counted =
-          let units : filter_map unit_of (done ++ (as_refused listed ++ [])) ≡ filter_map unit_of done = units_then [] ∙ append-nil _ in
-          record {
-            dealing = dealing ∙ p.dealing;
-            order =
-                in_order old.blocked_unit mid.blocked_unit given more done (as_refused listed ++ found.Unit unit ∷ []) p.order order
-                ∙ ap (λ l. done ++ (l ++ found.Unit unit ∷ [])) (sym (append-nil (as_refused listed))) ∙ sym (append_assoc done (as_refused listed ++ []) (found.Unit unit ∷ []))
-                ∙ ap (λ o. (done ++ (as_refused listed ++ [])) ++ to_deal o []) (sym blocked_unit);
-            refused = damage_then [] refl;
-            counted = counted ∙ p.counted ∙ ap (λ l. min (old.dealt + length l) (2 ^ 64 - 1)) (sym units);
-            listed = subst (AreListed new.peers) (sym units) listed_still;
-            keys = λ before h.
-                keys_step (before ++ filter_map unit_of done) mid.blocked_unit more listed unit mid.peers new.peers n (p.keys before h) order number
-                ∙ ap (λ l. peers_of ((before ++ l) ++ unit ∷ [])) (sym units) ∙ ap (λ o. peers_of ((before ++ filter_map unit_of (done ++ (as_refused listed ++ []))) ++ option_to_list o)) (sym blocked_unit);
-          }
-
-    -- no unit came
-    pub Handles-none : to_deal mid.blocked_unit more ≡ as_refused listed → new.blocked_unit ≡ None → new.dealt ≡ mid.dealt → new.peers ≡ mid.peers → Handles old new (given ++ more) (done ++ (as_refused listed ++ []))
-    Handles-none order none counted peers =
-        let units : filter_map unit_of (done ++ (as_refused listed ++ [])) ≡ filter_map unit_of done = units_then [] ∙ append-nil _ in
-        let before_none : mid.blocked_unit ≡ None = none_blocked mid.blocked_unit more listed order in
-        let keys : new.peers ≡ mid.peers = peers in
+  module _ (old new : Dealer D) (given : List Found) (unit : ReplayUnit) (n : ℕ) (order : to_deal old.blocked_unit given ≡ found.Unit unit ∷ []) (number : NumbersPeer old.peers new.peers unit.peer n) (dealing : new.dealing ≡ old.dealing) (refused : new.refused ≡ old.refused) where
+    -- the unit was dealt
+    pub Handles-dealt : new.blocked_unit ≡ None → new.dealt ≡ min (old.dealt + 1) (2 ^ 64 - 1) → Handles old new given (found.Unit unit ∷ [])
+    Handles-dealt none counted =
         record {
-          dealing = dealing ∙ p.dealing;
-          order =
-              in_order old.blocked_unit mid.blocked_unit given more done (as_refused listed) p.order order ∙ ap (λ l. done ++ l) (sym (append-nil (as_refused listed)))
-              ∙ sym (append-nil _) ∙ ap (λ o. (done ++ (as_refused listed ++ [])) ++ to_deal o []) (sym none);
-          refused = damage_then [] refl;
-          counted = counted ∙ p.counted ∙ ap (λ l. min (old.dealt + length l) (2 ^ 64 - 1)) (sym units);
-          listed = subst (λ l. AreListed l (filter_map unit_of (done ++ (as_refused listed ++ [])))) (sym keys) (subst (AreListed mid.peers) (sym units) p.listed);
+          dealing = dealing;
+          order = order ∙ ap (λ o. found.Unit unit ∷ to_deal o []) (sym none);
+          refused = ap (λ o. o.items) refused ∙ sym (append-nil old.refused.items);
+          counted = counted;
+          listed = (listed_now old.peers new.peers unit.peer n number, tt);
+          more = if list_any (peer_eq unit.peer) old.peers then [] else unit.peer ∷ [];
+          peers = number.keys;
           keys = λ before h.
-              keys ∙ p.keys before h ∙ ap (λ l. peers_of ((before ++ l) ++ option_to_list mid.blocked_unit)) (sym units)
-              ∙ ap (λ o. peers_of ((before ++ filter_map unit_of (done ++ (as_refused listed ++ []))) ++ option_to_list o)) (before_none ∙ sym none);
+              keys_step before old.blocked_unit given unit old.peers new.peers n h order number
+              ∙ ap peers_of (sym (append-nil (before ++ unit ∷ []))) ∙ ap (λ o. peers_of ((before ++ unit ∷ []) ++ option_to_list o)) (sym none);
         }
 
-    -- the items that were dealt are the same where no unit came
-    pub items_kept : new.peers ≡ mid.peers → with_numbers new.peers (filter_map unit_of (done ++ (as_refused listed ++ []))) ≡ with_numbers mid.peers (filter_map unit_of done)
-    items_kept peers = ap (with_numbers new.peers) (units_then [] ∙ append-nil _) ∙ ap (λ (l : List PeerKey). with_numbers l (filter_map unit_of done)) peers
+    -- the unit is blocked
+    pub Handles-blocked : new.blocked_unit ≡ Some unit → new.dealt ≡ old.dealt → old.dealt ≡ min (old.dealt + 0) (2 ^ 64 - 1) → Handles old new given []
+    Handles-blocked blocked counted bound =
+        record {
+          dealing = dealing;
+          order = order ∙ ap (λ o. to_deal o []) (sym blocked);
+          refused = ap (λ o. o.items) refused ∙ sym (append-nil old.refused.items);
+          counted = counted ∙ bound;
+          listed = tt;
+          more = if list_any (peer_eq unit.peer) old.peers then [] else unit.peer ∷ [];
+          peers = number.keys;
+          keys = λ before h.
+              keys_step before old.blocked_unit given unit old.peers new.peers n h order number
+              ∙ ap (λ l. peers_of (l ++ unit ∷ [])) (sym (append-nil before)) ∙ ap (λ o. peers_of ((before ++ []) ++ option_to_list o)) (sym blocked);
+        }
 
   module _ {K : Type 0} (gets : K → K → List PeerUnit → Type 0) where
+    pub HandsOn-none : (to : K) (d : Dealer D) → d.dealt ≡ min (d.dealt + 0) (2 ^ 64 - 1) → gets to to [] → HandsOn gets to to d d [] []
+    HandsOn-none to d bound nothing = record { handles = Handles-kept d d refl refl refl refl refl bound; received = nothing }
+
+    module _ (joined : (a b c : K) (xs ys : List PeerUnit) → gets a b xs → gets b c ys → gets a c (xs ++ ys)) (a b c : K) (old mid new : Dealer D) (given more done later : List Found) (p : HandsOn gets a b old mid given done) (q : HandsOn gets b c mid new more later) where
+      -- the numbers of those that were dealt before stay
+      pub items_more : with_numbers new.peers (filter_map unit_of (done ++ later)) ≡ with_numbers mid.peers (filter_map unit_of done) ++ with_numbers new.peers (filter_map unit_of later)
+      items_more =
+          ap (with_numbers new.peers) (filter_map-append unit_of done later)
+          ∙ map-append (with_number new.peers) (filter_map unit_of done) (filter_map unit_of later)
+          ∙ ap (λ l. l ++ with_numbers new.peers (filter_map unit_of later))
+          (ap (λ l. with_numbers l (filter_map unit_of done)) q.handles.peers ∙ numbered_stay mid.peers q.handles.more (filter_map unit_of done) p.handles.listed)
+
+      pub HandsOn-more : HandsOn gets a c old new (given ++ more) (done ++ later)
+      HandsOn-more = record {
+        handles = Handles-more old mid new given more done later p.handles q.handles;
+        received = subst (gets a c) (sym items_more) (joined a b c _ _ p.received q.received);
+      }
+
+      -- the unit that is blocked has no room behind all that was dealt
+      pub IsFull-more : (lane_of room room₀ : ℕ → ℕ) → IsFull lane_of room new (filter_map unit_of later) → ((n : ℕ) → room₀ (lane_of n) ≤ room (lane_of n) + length (in_lane lane_of (lane_of n) (with_numbers mid.peers (filter_map unit_of done)))) → IsFull lane_of room₀ new (filter_map unit_of (done ++ later))
+      IsFull-more lane_of room room₀ full spent =
+          let lane = lane_of (number_in new.peers full.unit.peer) in
+          let before = with_numbers mid.peers (filter_map unit_of done) in
+          let behind = with_numbers new.peers (filter_map unit_of later) in
+          let both : length (in_lane lane_of lane (before ++ behind)) ≡ length (in_lane lane_of lane before) + length (in_lane lane_of lane behind) =
+          ap length (filter-append (λ item. eqb (lane_of item.number) lane) before behind) ∙ length-append (in_lane lane_of lane before) (in_lane lane_of lane behind) in
+          let most = spent (number_in new.peers full.unit.peer) in
+          let some = full.full in
+          record {
+            unit = full.unit;
+            blocked_unit = full.blocked_unit;
+            full = subst (λ l. room₀ lane ≤ length (in_lane lane_of lane l)) (sym items_more) (omega (arith, both, most, some));
+          }
+
+    -- refusals were listed
+    pub HandsOn-listed : (to : K) (old new : Dealer D) (listed : List Damage) → gets to to [] → Handles old new (as_refused listed) (as_refused listed) → HandsOn gets to to old new (as_refused listed) (as_refused listed)
+    HandsOn-listed to old new listed nothing p = record { handles = p; received = subst (gets to to) (sym (ap (with_numbers new.peers) (no_units listed))) nothing }
+
+    -- a unit was dealt or is blocked
+    module _ (lane_of room : ℕ → ℕ) (to to' : K) (old mid : Dealer D) (given : List Found) (unit : ReplayUnit) (order : to_deal old.blocked_unit given ≡ found.Unit unit ∷ []) where
+      pub HandsOn-dealt : (start : Dealer D) → DealsUnit gets lane_of room to to' start mid unit true → start.peers ≡ old.peers → start.dealing ≡ old.dealing → start.refused ≡ old.refused → start.dealt ≡ old.dealt → start.blocked_unit ≡ None → HandsOn gets to to' old mid given (found.Unit unit ∷ [])
+      HandsOn-dealt start p peers dealing refused dealt none =
+          record {
+            handles = Handles-dealt old mid given unit p.number order (subst (λ l. NumbersPeer l mid.peers unit.peer p.number) peers p.numbers) (p.dealing ∙ dealing) (p.refused ∙ refused) (p.blocked_unit ∙ none) (p.counted ∙ ap (λ n. min (n + 1) (2 ^ 64 - 1)) dealt);
+            received = subst (λ i. gets to to' (i ∷ [])) (ap (λ m. record { number = m; unit = unit }) p.numbers.number_is) p.received;
+          }
+
+      pub HandsOn-blocked : (start new : Dealer D) → DealsUnit gets lane_of room to to' start mid unit false → start.peers ≡ old.peers → start.dealing ≡ old.dealing → start.refused ≡ old.refused → start.dealt ≡ old.dealt → new.peers ≡ mid.peers → new.dealing ≡ mid.dealing → new.refused ≡ mid.refused → new.dealt ≡ mid.dealt → (back : ReplayUnit) → new.blocked_unit ≡ Some back → back ≡ unit → old.dealt ≡ min (old.dealt + 0) (2 ^ 64 - 1)
+          → HandsOn gets to to' old new given []
+      HandsOn-blocked start new p peers dealing refused dealt peers' dealing' refused' dealt' back blocked same bound =
+          record {
+            handles = Handles-blocked old new given unit p.number order (subst (λ l. NumbersPeer old.peers l unit.peer p.number) (sym peers') (subst (λ l. NumbersPeer l mid.peers unit.peer p.number) peers p.numbers)) (dealing' ∙ p.dealing ∙ dealing) (refused' ∙ p.refused ∙ refused) (blocked ∙ ap (λ v. Some v) same) (dealt' ∙ p.counted ∙ dealt) bound;
+            received = p.received;
+          }
+
+      -- its lane has no room
+      pub IsFull-blocked : (start new : Dealer D) → DealsUnit gets lane_of room to to' start mid unit false → new.peers ≡ mid.peers → (back : ReplayUnit) → new.blocked_unit ≡ Some back → back ≡ unit → IsFull lane_of room new []
+      IsFull-blocked start new p peers' back blocked same =
+          let none : room (lane_of (number_in mid.peers unit.peer)) ≡ 0 = ap (λ n. room (lane_of n)) (sym p.numbers.number_is) ∙ p.full refl in
+          record {
+            unit = unit;
+            blocked_unit = blocked ∙ ap (λ v. Some v) same;
+            full = subst (λ l. room (lane_of (number_in l unit.peer)) ≤ 0) (sym peers') (omega (arith, none));
+          }
+
+    -- so many of these units were dealt so far
+    pub record Taken (to to' : K) (old new : Dealer D) (units rest : List ReplayUnit) (count : ℕ) : Type 0 where
+      pub given : List ReplayUnit
+      pub parts : units ≡ given ++ rest
+      pub count_is : length given ≡ count
+      pub hands : HandsOn gets to to' old new (as_found given) (as_found given)
+
+    pub Taken-none : (to : K) (d : Dealer D) (units : List ReplayUnit) → d.dealt ≡ min (d.dealt + 0) (2 ^ 64 - 1) → gets to to [] → Taken to to d d units units 0
+    Taken-none to d units bound nothing = record { given = []; parts = refl; count_is = refl; hands = HandsOn-none to d bound nothing }
+
+    module _ (joined : (a b c : K) (xs ys : List PeerUnit) → gets a b xs → gets b c ys → gets a c (xs ++ ys)) (a b c : K) (old mid new : Dealer D) (units rest rest' : List ReplayUnit) (count : ℕ) (unit : ReplayUnit) (next : rest ≡ unit ∷ rest') (p : Taken a b old mid units rest count) where
+      parts_more : units ≡ (p.given ++ unit ∷ []) ++ rest'
+      parts_more = p.parts ∙ ap (λ l. p.given ++ l) next ∙ sym (append_assoc p.given (unit ∷ []) rest')
+
+      found_more : as_found (p.given ++ unit ∷ []) ≡ as_found p.given ++ found.Unit unit ∷ []
+      found_more = map-append (λ u. found.Unit u) p.given (unit ∷ [])
+
+      count_more : length (p.given ++ unit ∷ []) ≡ count + 1
+      count_more = length-append p.given (unit ∷ []) ∙ ap (λ n. n + 1) p.count_is
+
+      -- one more was dealt
+      pub Taken-more : HandsOn gets b c mid new (found.Unit unit ∷ []) (found.Unit unit ∷ []) → Taken a c old new units rest' (count + 1)
+      Taken-more q = record {
+        given = p.given ++ unit ∷ [];
+        parts = parts_more;
+        count_is = count_more;
+        hands = subst (λ l. HandsOn gets a c old new l l) (sym found_more) (HandsOn-more joined a b c old mid new (as_found p.given) (found.Unit unit ∷ []) (as_found p.given) (found.Unit unit ∷ []) p.hands q);
+      }
+
+      -- the next is blocked
+      pub DealsFront-blocked : (lane_of room room₀ : ℕ → ℕ) → HandsOn gets b c mid new (found.Unit unit ∷ []) [] → IsFull lane_of room new [] → ((n : ℕ) → room₀ (lane_of n) ≤ room (lane_of n) + length (in_lane lane_of (lane_of n) (with_numbers mid.peers (filter_map unit_of (as_found p.given))))) → DealsFront gets lane_of room₀ a c old new units (count + 1)
+      DealsFront-blocked lane_of room room₀ q full spent = record {
+        given = p.given ++ unit ∷ [];
+        rest = rest';
+        done = p.given;
+        parts = parts_more;
+        taken_is = count_more;
+        hands = subst (λ l. HandsOn gets a c old new l (as_found p.given)) (sym found_more) (subst (HandsOn gets a c old new (as_found p.given ++ found.Unit unit ∷ [])) (append-nil (as_found p.given)) (HandsOn-more joined a b c old mid new (as_found p.given) (found.Unit unit ∷ []) (as_found p.given) [] p.hands q));
+        full = if_some new.blocked_unit (subst (IsFull lane_of room₀ new) (ap (filter_map unit_of) (append-nil (as_found p.given)) ∙ all_units p.given) (IsFull-more joined a b c old mid new (as_found p.given) (found.Unit unit ∷ []) (as_found p.given) [] p.hands q lane_of room room₀ full spent));
+      }
+
     -- so far, with what was dealt received
     pub record SoFar (to to' : K) (old new : Dealer D) (u : UnitsState) (k : Known) (u' : UnitsState) (k' : Known) (count : ℕ) : Type 0 where
       pub given : List Found
       pub done : List Found
       pub takes : TakesUnits u k u' k' given
-      pub handles : Handles old new given done
+      pub hands : HandsOn gets to to' old new given done
       pub count_is : length (filter_map unit_of done) ≡ count
-      pub received : gets to to' (with_numbers new.peers (filter_map unit_of done))
 
-    pub SoFar-none : (to : K) (old : Dealer D) (u : UnitsState) (k : Known) → old.dealt ≡ min (old.dealt + 0) (2 ^ 64 - 1) → gets to to [] → SoFar to to old old u k u k 0
-    SoFar-none to old u k bound nothing =
-        record {
-          given = [];
-          done = [];
-          takes = TakesUnits-none u k;
-          handles =
-              record {
-                dealing = refl;
-                order = refl;
-                refused = sym (append-nil old.refused.items);
-                counted = bound;
-                listed = tt;
-                keys = λ before h. h ∙ ap (λ l. peers_of (l ++ option_to_list old.blocked_unit)) (sym (append-nil before));
-              };
-          count_is = refl;
-          received = nothing;
-        }
+    unfoldable pub SoFar-none : (to : K) (old : Dealer D) (u : UnitsState) (k : Known) → old.dealt ≡ min (old.dealt + 0) (2 ^ 64 - 1) → gets to to [] → SoFar to to old old u k u k 0
+    SoFar-none to old u k bound nothing = record { given = []; done = []; takes = TakesUnits-none u k; hands = HandsOn-none to old bound nothing; count_is = refl }
 
     -- a batch is dealt
     pub DealsTo-full : (lane_of room : ℕ → ℕ) (batch : ℕ) (to to' : K) (old new : Dealer D) (u u' : UnitsState) (k k' : Known) (count : ℕ) → count ≡ batch → SoFar to to' old new u k u' k' count → DealsTo gets lane_of batch room to to' old new u k u' k' (Ok FullBatch)
@@ -310,118 +350,145 @@ module _ {D : Type 0} where
             done = s.done;
             gives = front_from_takes u u' k k' s.given s.takes;
             takes = s.takes;
-            handles = s.handles;
+            handles = s.hands.handles;
             few = (let n = s.count_is in omega (arith, is));
             stops = s.count_is ∙ is;
             nothing_kept = tt;
             behind = tt;
           };
-          received = s.received;
+          received = s.hands.received;
         }
 
-    module _ (joined : (a b c : K) (xs ys : List PeerUnit) → gets a b xs → gets b c ys → gets a c (xs ++ ys)) (to to₁ to₂ : K) (old mid asked new : Dealer D) (u u₁ u₂ : UnitsState) (k k₁ k₂ : Known) (count : ℕ) (s : SoFar to to₁ old mid u k u₁ k₁ count) where
-      -- the units that were dealt so far, with their numbers
-      abbrev pub dealt_so_far : List PeerUnit
-      dealt_so_far = with_numbers mid.peers (filter_map unit_of s.done)
+    -- a unit is blocked
+    pub DealsTo-blocked : (lane_of room : ℕ → ℕ) (batch : ℕ) (to to' : K) (old new : Dealer D) (u u' : UnitsState) (k k' : Known) (count : ℕ) → count ≤ batch → (s : SoFar to to' old new u k u' k' count) → IsFull lane_of room new (filter_map unit_of s.done) → DealsTo gets lane_of batch room to to' old new u k u' k' (Ok Blocked)
+    DealsTo-blocked lane_of room batch to to' old new u u' k k' count within s full =
+        record {
+          deals = record {
+            given = s.given;
+            done = s.done;
+            gives = front_from_takes u u' k k' s.given s.takes;
+            takes = s.takes;
+            handles = s.hands.handles;
+            few = (let n = s.count_is in omega (arith, within));
+            stops = full;
+            nothing_kept = tt;
+            behind = tt;
+          };
+          received = s.hands.received;
+        }
 
-      -- one unit more
-      module _ (unit : ReplayUnit) (n : ℕ) (next : Next mid asked u₁ k₁ u₂ k₂ (Some unit)) (number : NumbersPeer asked.peers new.peers unit.peer n) (dealing : new.dealing ≡ asked.dealing) (refused : new.refused ≡ asked.refused) where
-        numbers : NumbersPeer mid.peers new.peers unit.peer n
-        numbers = subst (λ l. NumbersPeer l new.peers unit.peer n) next.asks.peers number
+    module _ (joined : (a b c : K) (xs ys : List PeerUnit) → gets a b xs → gets b c ys → gets a c (xs ++ ys)) (to b : K) (old mid : Dealer D) (u u₁ : UnitsState) (k k₁ : Known) (count : ℕ) (s : SoFar to b old mid u k u₁ k₁ count) where
+      -- the files were asked, and refusals listed
+      unfoldable pub SoFar-listed : (new : Dealer D) (u₂ : UnitsState) (k₂ : Known) → gets b b [] → Asked mid.refused.items new.refused.items u₁ k₁ u₂ k₂ → mid.blocked_unit ≡ None → new.blocked_unit ≡ None → new.dealing ≡ mid.dealing → new.peers ≡ mid.peers → new.dealt ≡ mid.dealt → SoFar to b old new u k u₂ k₂ count
+      SoFar-listed new u₂ k₂ nothing p none none' dealing peers dealt =
+          let bound : mid.dealt ≡ min (mid.dealt + 0) (2 ^ 64 - 1) = (let c = s.hands.handles.counted in omega arith) in
+          record {
+            given = s.given ++ as_refused p.listed;
+            done = s.done ++ as_refused p.listed;
+            takes = TakesUnits-more u u₁ u₂ k k₁ k₂ s.given (as_refused p.listed) s.takes p.takes;
+            hands = HandsOn-more joined to b b old mid new s.given (as_refused p.listed) s.done (as_refused p.listed) s.hands (HandsOn-listed b mid new p.listed nothing (Handles-listed mid new p.listed none none' dealing peers dealt bound p.refused));
+            count_is = ap length (filter_map-append unit_of s.done (as_refused p.listed) ∙ ap (λ l. filter_map unit_of s.done ++ l) (no_units p.listed) ∙ append-nil (filter_map unit_of s.done)) ∙ s.count_is;
+          }
 
-        listing : new.refused.items ≡ mid.refused.items ++ next.listed
-        listing = ap (λ o. o.items) refused ∙ next.refused
+      -- the blocked unit was dealt, or is blocked still
+      unfoldable pub SoFar-blocked : (c : K) (new : Dealer D) (lane_of room : ℕ → ℕ) (dealt : ℕ) → DealsBlocked gets lane_of room b c mid new dealt → SoFar to c old new u k u₁ k₁ (count + dealt)
+      SoFar-blocked c new lane_of room dealt p = record {
+        given = s.given ++ [];
+        done = s.done ++ as_found p.done;
+        takes = subst (TakesUnits u k u₁ k₁) (sym (append-nil s.given)) s.takes;
+        hands = HandsOn-more joined to b c old mid new s.given [] s.done (as_found p.done) s.hands p.hands;
+        count_is = ap length (filter_map-append unit_of s.done (as_found p.done) ∙ ap (λ l. filter_map unit_of s.done ++ l) (all_units p.done)) ∙ length-append (filter_map unit_of s.done) p.done ∙ ap (λ n. n + length p.done) s.count_is ∙ ap (λ n. count + n) p.dealt_is;
+      }
 
-        pub SoFar-more : new.blocked_unit ≡ asked.blocked_unit → new.dealt ≡ min (asked.dealt + 1) (2 ^ 64 - 1) → gets to₁ to₂ (record { number = n; unit = unit } ∷ []) → SoFar to to₂ old new u k u₂ k₂ (count + 1)
-        SoFar-more blocked_unit counted q =
-            record {
-              given = s.given ++ next.given;
-              done = s.done ++ (as_refused next.listed ++ found.Unit unit ∷ []);
-              takes = TakesUnits-more u u₁ u₂ k k₁ k₂ s.given next.given s.takes next.takes;
-              handles = Handles-dealt old mid new s.given s.done next.given next.listed s.handles listing (dealing ∙ next.asks.dealing) unit n next.order numbers (blocked_unit ∙ next.asks.blocked_unit) (counted ∙ ap (λ m. min (m + 1) (2 ^ 64 - 1)) next.asks.dealt);
-              count_is =
-                  ap length (units_then old mid new s.given s.done next.given next.listed s.handles listing (dealing ∙ next.asks.dealing) (found.Unit unit ∷ []))
-                  ∙ length-append (filter_map unit_of s.done) (unit ∷ []) ∙ ap (λ m. m + 1) s.count_is;
-              received =
-                  subst (gets to to₂) (sym (items_then old mid new s.given s.done next.given next.listed s.handles listing (dealing ∙ next.asks.dealing) unit n next.order numbers))
-                  (joined to to₁ to₂ dealt_so_far (record { number = n; unit = unit } ∷ []) s.received q);
-            }
+      -- the first of the units that are lent were dealt
+      module _ (c : K) (new : Dealer D) (lane_of room : ℕ → ℕ) (units : List ReplayUnit) (taken : ℕ) (p : DealsFront gets lane_of room b c mid new units taken) where
+        front_is : u₁.pending ≡ units ++ drop (length units) u₁.pending → take taken u₁.pending ≡ p.given
+        front_is lent =
+            ap (λ n. take n u₁.pending) (sym p.taken_is)
+            ∙ ap (take (length p.given)) (lent ∙ ap (λ l. l ++ drop (length units) u₁.pending) p.parts ∙ append_assoc p.given p.rest (drop (length units) u₁.pending))
+            ∙ take-append_seam p.given (p.rest ++ drop (length units) u₁.pending)
 
-        -- the unit came back
-        pub DealsTo-blocked : (lane_of room room₁ : ℕ → ℕ) (batch lane : ℕ) → count ≤ batch → (back : ReplayUnit) → new.blocked_unit ≡ Some back → back ≡ unit → new.dealt ≡ asked.dealt → lane_of n ≡ lane → room lane ≤ room₁ lane + length (in_lane lane_of lane dealt_so_far) → gets to₁ to₂ [] → room₁ lane ≡ 0
-            → DealsTo gets lane_of batch room to to₂ old new u k u₂ k₂ (Ok Blocked)
-        DealsTo-blocked lane_of room room₁ batch lane within back blocked_unit same counted at spent q full =
-            let blocked' : new.blocked_unit ≡ Some unit = blocked_unit ∙ ap (λ v. Some v) same in
-            let takes = TakesUnits-more u u₁ u₂ k k₁ k₂ s.given next.given s.takes next.takes in
-            let units : filter_map unit_of (s.done ++ (as_refused next.listed ++ [])) ≡ filter_map unit_of s.done =
-            units_then old mid new s.given s.done next.given next.listed s.handles listing (dealing ∙ next.asks.dealing) [] ∙ append-nil _ in
-            let items : with_numbers new.peers (filter_map unit_of (s.done ++ (as_refused next.listed ++ []))) ≡ dealt_so_far =
-            items_still old mid new s.given s.done next.given next.listed s.handles listing (dealing ∙ next.asks.dealing) unit n next.order numbers in
-            let lane_is : lane_of (number_in new.peers unit.peer) ≡ lane = ap lane_of (sym numbers.number_is) ∙ at in
+        pub SoFar-front : (u₂ : UnitsState) → u₁.pending ≡ units ++ drop (length units) u₁.pending → u₁.state ≡ states.Reading → GivesPending u₁ u₂ (take taken u₁.pending) → SoFar to c old new u k u₂ k₁ (count + length p.done)
+        SoFar-front u₂ lent reading gives = record {
+          given = s.given ++ as_found p.given;
+          done = s.done ++ as_found p.done;
+          takes = TakesUnits-more u u₁ u₂ k k₁ k₁ s.given (as_found p.given) s.takes (TakesUnits-pending u₁ u₂ k₁ p.given reading (subst (GivesPending u₁ u₂) (front_is lent) gives));
+          hands = HandsOn-more joined to b c old mid new s.given (as_found p.given) s.done (as_found p.done) s.hands p.hands;
+          count_is = ap length (filter_map-append unit_of s.done (as_found p.done) ∙ ap (λ l. filter_map unit_of s.done ++ l) (all_units p.done)) ∙ length-append (filter_map unit_of s.done) p.done ∙ ap (λ n. n + length p.done) s.count_is;
+        }
+
+        -- the files ended, and nothing was lent
+        pub DealsTo-end : (room₀ : ℕ → ℕ) (batch : ℕ) → count ≤ batch → taken ≡ 0 → mid.blocked_unit ≡ None → GivesAll u k s.given → DealsTo gets lane_of batch room₀ to c old new u k u₁ k₁ (Ok End)
+        DealsTo-end room₀ batch within nothing none all =
+            let empty = no_items p.given (p.taken_is ∙ nothing) in
+            let passed = passed_count new.blocked_unit p.given p.done (ap (λ o. to_deal o (as_found p.given)) (sym none) ∙ p.hands.handles.order) in
+            let zero = p.taken_is in
+            let no_unit : length (option_to_list new.blocked_unit) ≡ 0 = omega (arith, passed, zero, nothing) in
+            let q = subst (λ l. HandsOn gets to c old new l (s.done ++ as_found p.done)) (ap (λ l. s.given ++ as_found l) empty ∙ append-nil s.given)
+            (HandsOn-more joined to b c old mid new s.given (as_found p.given) s.done (as_found p.done) s.hands p.hands) in
+            let dealt = ap length (filter_map-append unit_of s.done (as_found p.done) ∙ ap (λ l. filter_map unit_of s.done ++ l) (all_units p.done)) ∙ length-append (filter_map unit_of s.done) p.done in
+            let before = s.count_is in
             record {
               deals = record {
-                given = s.given ++ next.given;
-                done = s.done ++ (as_refused next.listed ++ []);
-                gives = front_from_takes u u₂ k k₂ (s.given ++ next.given) takes;
-                takes = takes;
-                handles = Handles-blocked old mid new s.given s.done next.given next.listed s.handles listing (dealing ∙ next.asks.dealing) unit n next.order numbers blocked' (counted ∙ next.asks.dealt);
-                few = (let n = ap length units in let m = s.count_is in omega arith);
-                stops =
-                    record {
-                      unit = unit;
-                      blocked_unit = blocked';
-                      full =
-                          subst (λ m. room m ≤ length (in_lane lane_of m (with_numbers new.peers (filter_map unit_of (s.done ++ (as_refused next.listed ++ [])))))) (sym lane_is)
-                          (subst (λ l. room lane ≤ length (in_lane lane_of lane l)) (sym items) (omega (arith, spent, full)));
-                    };
+                given = s.given;
+                done = s.done ++ as_found p.done;
+                gives = front_from_takes u u₁ k k₁ s.given s.takes;
+                takes = s.takes;
+                handles = q.handles;
+                few = omega (arith, within, dealt, before, passed, zero, nothing);
+                stops = (none_listed new.blocked_unit no_unit, all);
                 nothing_kept = tt;
                 behind = tt;
               };
-              received = subst (gets to to₂) (sym items) (subst (gets to to₂) (append-nil dealt_so_far) (joined to to₁ to₂ dealt_so_far [] s.received q));
+              received = q.received;
             }
 
-      -- no more than so many were dealt
-      few_then : {batch : ℕ} → count ≤ batch → (listed : List Damage) (more : List Found) → new.refused.items ≡ mid.refused.items ++ listed → new.dealing ≡ mid.dealing → length (filter_map unit_of (s.done ++ (as_refused listed ++ []))) ≤ batch
-      few_then within listed more refused dealing =
-          let n = ap length (units_then old mid new s.given s.done more listed s.handles refused dealing [] ∙ append-nil (filter_map unit_of s.done)) in
-          let m = s.count_is in omega arith
+        -- the next unit is blocked
+        pub DealsTo-full_lane : (u₂ : UnitsState) (room₀ : ℕ → ℕ) (batch : ℕ) → count + taken ≤ batch → mid.blocked_unit ≡ None → u₁.pending ≡ units ++ drop (length units) u₁.pending → u₁.state ≡ states.Reading → GivesPending u₁ u₂ (take taken u₁.pending) → true ≡ is_some new.blocked_unit → ((n : ℕ) → room₀ (lane_of n) ≤ room (lane_of n) + length (in_lane lane_of (lane_of n) (with_numbers mid.peers (filter_map unit_of s.done))))
+            → DealsTo gets lane_of batch room₀ to c old new u k u₂ k₁ (Ok Blocked)
+        unfolding SoFar-front
+        DealsTo-full_lane u₂ room₀ batch within none lent reading gives some spent =
+            let t = SoFar-front u₂ lent reading gives in
+            let passed = passed_count new.blocked_unit p.given p.done (ap (λ o. to_deal o (as_found p.given)) (sym none) ∙ p.hands.handles.order) in
+            let is = p.taken_is in
+            let few : count + length p.done ≤ batch = omega (arith, within, passed, is) in
+            let full = subst (IsFull lane_of room new) (sym (all_units p.done)) (where_some new.blocked_unit some p.full) in
+            DealsTo-blocked lane_of room₀ batch to c old new u u₂ k k₁ (count + length p.done) few t (IsFull-more joined to b c old mid new s.given (as_found p.given) s.done (as_found p.done) s.hands p.hands lane_of room room₀ full spent)
 
-      -- the files ended
-      pub DealsTo-end : (lane_of room : ℕ → ℕ) (batch : ℕ) → count ≤ batch → Next mid new u₁ k₁ u₂ k₂ None → DealsTo gets lane_of batch room to to₁ old new u k u₂ k₂ (Ok End)
-      DealsTo-end lane_of room batch within next =
-          let takes = TakesUnits-more u u₁ u₂ k k₁ k₂ s.given next.given s.takes next.takes in
-          record {
-            deals = record {
-              given = s.given ++ next.given;
-              done = s.done ++ (as_refused next.listed ++ []);
-              gives = front_from_takes u u₂ k k₂ (s.given ++ next.given) takes;
-              takes = takes;
-              handles = Handles-none old mid new s.given s.done next.given next.listed s.handles next.refused next.asks.dealing (next.order ∙ append-nil _) next.asks.blocked_unit next.asks.dealt next.asks.peers;
-              few = few_then within next.listed next.given next.refused next.asks.dealing;
-              stops = (next.asks.blocked_unit, all_more_given u u₁ k k₁ s.given next.given s.takes (next.ended refl));
-              nothing_kept = tt;
-              behind = tt;
-            };
-            received = subst (gets to to₁) (sym (items_kept old mid new s.given s.done next.given next.listed s.handles next.refused next.asks.dealing next.asks.peers)) s.received;
-          }
+        -- where none is blocked, as many were dealt as were taken
+        pub all_dealt : mid.blocked_unit ≡ None → new.blocked_unit ≡ None → length p.done ≡ taken
+        all_dealt none none' =
+            let passed = passed_count new.blocked_unit p.given p.done (ap (λ o. to_deal o (as_found p.given)) (sym none) ∙ p.hands.handles.order) in
+            let is = p.taken_is in
+            let zero : length (option_to_list new.blocked_unit) ≡ 0 = ap (λ o. length (option_to_list o)) none' in
+            omega (arith, passed, is, zero)
 
       -- a read failed
-      pub DealsTo-failed : (lane_of room : ℕ → ℕ) (batch : ℕ) (error : ReplayError) → count ≤ batch → NextInVain mid new u₁ k₁ u₂ k₂ → DealsTo gets lane_of batch room to to₁ old new u k u₂ k₂ (Err error)
-      DealsTo-failed lane_of room batch error within next =
+      pub DealsTo-failed : (new : Dealer D) (u₂ : UnitsState) (k₂ : Known) (lane_of room : ℕ → ℕ) (batch : ℕ) (error : ReplayError) → count ≤ batch → gets b b [] → AskedInVain mid.refused.items new.refused.items u₁ k₁ u₂ k₂ → mid.blocked_unit ≡ None → new.blocked_unit ≡ None → new.dealing ≡ mid.dealing → new.peers ≡ mid.peers → new.dealt ≡ mid.dealt → DealsTo gets lane_of batch room to b old new u k u₂ k₂ (Err error)
+      DealsTo-failed new u₂ k₂ lane_of room batch error within nothing p none none' dealing peers dealt =
+          let bound : mid.dealt ≡ min (mid.dealt + 0) (2 ^ 64 - 1) = (let c = s.hands.handles.counted in omega arith) in
+          let q = HandsOn-more joined to b b old mid new s.given (as_refused p.listed) s.done (as_refused p.listed) s.hands (HandsOn-listed b mid new p.listed nothing (Handles-listed mid new p.listed none none' dealing peers dealt bound p.refused)) in
+          let units = ap length (filter_map-append unit_of s.done (as_refused p.listed) ∙ ap (λ l. filter_map unit_of s.done ++ l) (no_units p.listed) ∙ append-nil (filter_map unit_of s.done)) ∙ s.count_is in
           record {
             deals = record {
-              given = s.given ++ next.given;
-              done = s.done ++ (as_refused next.listed ++ []);
-              gives = front_more u u₁ k k₁ s.given next.given s.takes next.gives;
+              given = s.given ++ as_refused p.listed;
+              done = s.done ++ as_refused p.listed;
+              gives = front_more u u₁ k k₁ s.given (as_refused p.listed) s.takes p.gives;
               takes = tt;
-              handles = Handles-none old mid new s.given s.done next.given next.listed s.handles next.refused next.asks.dealing next.order next.asks.blocked_unit next.asks.dealt next.asks.peers;
-              few = few_then within next.listed next.given next.refused next.asks.dealing;
+              handles = q.handles;
+              few = omega (arith, within, units);
               stops = tt;
-              nothing_kept = next.asks.blocked_unit;
-              behind = behind_more u u₁ u₂ k k₁ k₂ s.given next.given s.takes next.behind;
+              nothing_kept = none';
+              behind = behind_more u u₁ u₂ k k₁ k₂ s.given (as_refused p.listed) s.takes p.behind;
             };
-            received = subst (gets to to₁) (sym (items_kept old mid new s.given s.done next.given next.listed s.handles next.refused next.asks.dealing next.asks.peers)) s.received;
+            received = q.received;
           }
+
+  -- the same by equal lanes
+  pub DealsFront-lanes : {K : Type 0} (received : (ℕ → ℕ) → K → K → List PeerUnit → Type 0) (way : D → ℕ → ℕ → ℕ) (d d' : D) (m m' : ℕ) → d ≡ d' → m ≡ m' → (room : ℕ → ℕ) (to to' : K) (old new : Dealer D) (units : List ReplayUnit) (taken : ℕ) → DealsFront (received (λ n. way d n m)) (λ n. way d n m) room to to' old new units taken
+      → DealsFront (received (λ n. way d' n m')) (λ n. way d' n m') room to to' old new units taken
+  DealsFront-lanes received way d d' m m' e f room to to' old new units taken p =
+      subst (λ k. DealsFront (received (λ n. way d' n k)) (λ n. way d' n k) room to to' old new units taken) f (subst (λ y. DealsFront (received (λ n. way y n m)) (λ n. way y n m) room to to' old new units taken) e p)
 
   -- where there is room for more than a batch, whatever room there is
   unfoldable pub Deals-unblocked : (lane_of room : ℕ → ℕ) (batch most : ℕ) (old new : Dealer D) (u u' : UnitsState) (k k' : Known) (result : Result Step ReplayError) → batch < most → Deals lane_of batch (λ _. most) old new u k u' k' result → Deals lane_of batch room old new u k u' k' result

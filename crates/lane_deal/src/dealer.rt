@@ -1,10 +1,9 @@
 //! The dealing of what files give to the lanes.
 
-ghost use Rattle.std.specs.Prelude.{◌≡◌, ℕ, ◌<◌, ◌∷◌, [], length, map, drop, IfSome, IfOk, OnErr, None};
+ghost use Rattle.std.specs.Prelude.{◌≡◌, ℕ, ◌+◌, ◌-◌, ◌^◌, ◌<◌, ◌≤◌, min, [], length, map, IfOk, None};
 ghost use Rattle.std.specs.Option.{ForSome};
 ghost use Rattle.mrt_body.specs.Units.{IsSmallUnit};
-ghost use Rattle.mrt_frame.specs.declared.read_state.ReadState.TheVariants as states;
-ghost use Rattle.lane_deal.specs.Asking.{Lists, ReadsOn, TakesUnits};
+ghost use Rattle.lane_deal.specs.Asking.{Lists, ReadsOn};
 
 use crate::dealing::Dealing;
 use crate::gate::Gate;
@@ -14,7 +13,7 @@ use crate::receives::Receives;
 use crate::step::Step;
 use bgp_prefix::{Memory, Prefix};
 use bgp_update::{FamilyMark, Unicast};
-use mrt_body::{Damage, PayloadBytes, PeekedUnitOf, PeerKey, Unit, Units};
+use mrt_body::{Damage, Lent, LentUnits, PayloadBytes, PeerKey, Unit, UnitRef, Units};
 use mrt_frame::{ReplayError, Source};
 use peer_tables::Peers;
 use std::alloc::Global;
@@ -56,7 +55,10 @@ fn list_refusals<F: Unicast, R: Source>(
 }
 
 impl<F: Unicast, D: Dealing> Dealer<D, Prefix<F>, FamilyMark<F>> {
-    ghost use Rattle.lane_deal.specs.DealerSteps.{DealsTo};
+    ghost use Rattle.lane_deal.specs.DealerSteps.{DealsBlocked, DealsFront, DealsTo, DealsUnit};
+    ghost use Rattle.mrt_body.specs.Pending.{units_lent};
+    ghost use Rattle.mrt_body.specs.Plain.{Unit as ReplayUnit};
+    ghost use Rattle.mrt_body.specs.declared.lent_units.Lent.TheVariants as Lent;
     ghost use Rattle.lane_deal.specs.Results.{IfAnswered};
     ghost use Rattle.peer_tables.specs.Numbers.{NumbersPeer};
 
@@ -81,49 +83,6 @@ impl<F: Unicast, D: Dealing> Dealer<D, Prefix<F>, FamilyMark<F>> {
         ensures { (number : ℕ) → D.lane_of self.now.dealing number workers < workers }
     {}
 
-    /// Lists what the files refuse, until a unit is to be dealt or they end. The blocked unit is to be dealt at once.
-    #[inline(always)]
-    fn ask<R: Source>(
-        &mut self,
-        alloc: Global,
-        units: &mut Units<F>,
-        files: &mut [R],
-    ) -> Result<(), ReplayError>
-        requires { length files.old ≡ units.old.count }
-        ensures reads { ReadsOn units.old (map R.remaining files.old) (map R.failure_count files.old) units.new
-            (map R.failure_count files.new) result }
-        ensures same { self.new ≡ record self.old { refused = self.new.refused } }
-        ensures waits { IfSome self.old.blocked_unit
-            (λ _. (self.new.refused.items ≡ self.old.refused.items)
-            × TakesUnits units.old (map R.remaining files.old) units.new (map R.remaining files.new) []) }
-        ensures failed { OnErr result (self.old.blocked_unit ≡ None) }
-        ensures asked { self.old.blocked_unit ≡ None → Lists self.old.refused.items self.new.refused.items units.old
-            (map R.remaining files.old) units.new (map R.remaining files.new) result }
-    {
-        if self.blocked_unit.is_some() {
-            return Ok(());
-        }
-        if units.has_next() {
-            return Ok(());
-        }
-        list_refusals(alloc, units, files, &mut self.refused)
-    }
-
-    /// Lends the next unit of the record that was cut last, unless a unit is blocked, which comes before it.
-    #[inline(always)]
-    fn peek<'a>(&self, units: &'a Units<F>) -> Option<PeekedUnitOf<'a, F>>
-        ensures blocked_unit { IfSome result (λ _. self.now.blocked_unit ≡ None) }
-        ensures peeks { IfSome result (λ peeked. units.now.pending ≡ peeked.unit ∷ drop 1 units.now.pending) }
-        ensures none { result ≡ None → self.now.blocked_unit ≡ None → units.now.state ≡ states.Reading →
-            units.now.pending ≡ [] }
-        ensures small { IfSome result (λ peeked. IsSmallUnit peeked.unit) }
-    {
-        match &self.blocked_unit {
-            Some(_) => None,
-            None => units.peek(),
-        }
-    }
-
     /// Returns the number of this peer, which gets the next one if it has none, and the number of its lane. The peer
     /// has this index in the index table if it has one.
     #[inline(always)]
@@ -143,7 +102,125 @@ impl<F: Unicast, D: Dealing> Dealer<D, Prefix<F>, FamilyMark<F>> {
         Ok((number, self.dealing.lane(number, lanes)))
     }
 
-    /// Deals until a lane has no room and still none at this many further looks, a batch is dealt or the files end.
+    /// How many units were dealt is a number of 64 bits. Does nothing.
+    fn is_counted(&self)
+        ensures { self.now.dealt ≡ min (self.now.dealt + 0) (2 ^ 64 - 1) }
+    {
+        let _dealt = self.dealt;
+    }
+
+    /// Deals this unit, unless its lane has no room and still none at this many further looks. Returns whether it was
+    /// dealt. Its peer has this index in the index table if it has one.
+    #[inline(always)]
+    fn deal_unit<G: Gate, K: Receives<Addr = F>>(
+        &mut self,
+        alloc: Global,
+        gate: &G,
+        looks: u32,
+        round_over: &AtomicBool,
+        unit: &UnitRef<'_, F>,
+        index: Option<u16>,
+        to: &mut K,
+    ) -> Result<bool, Memory>
+        requires lanes { 0 < K.count to.old }
+        requires small { IsSmallUnit unit.now }
+        ensures lanes { K.count to.new ≡ K.count to.old }
+        ensures deals { IfOk result
+            (DealsUnit (K.received (λ number. D.lane_of self.old.dealing number (K.count to.old)))
+            (λ number. D.lane_of self.old.dealing number (K.count to.old)) (K.room to.old) to.old to.new self.old self.new
+            unit.now) }
+    {
+        let (number, lane) = self.lane_for(&unit.peer, index, to.lanes())?;
+        to.adds_up();
+        if !to.has_room(gate, lane, looks, round_over) {
+            return Ok(false);
+        }
+        to.receive(alloc, gate, lane, number, unit)?;
+        self.dealt = self.dealt.saturating_add(1);
+        Ok(true)
+    }
+
+    /// Deals the unit that is blocked, if there is one and its lane has room. Returns how many were dealt.
+    #[inline(never)]
+    fn deal_blocked<G: Gate, K: Receives<Addr = F>>(
+        &mut self,
+        alloc: Global,
+        gate: &G,
+        looks: u32,
+        round_over: &AtomicBool,
+        to: &mut K,
+    ) -> Result<u64, Memory>
+        requires lanes { 0 < K.count to.old }
+        ensures lanes { K.count to.new ≡ K.count to.old }
+        ensures deals { IfOk result (λ dealt.
+            DealsBlocked (K.received (λ number. D.lane_of self.old.dealing number (K.count to.old)))
+            (λ number. D.lane_of self.old.dealing number (K.count to.old)) (K.room to.old) to.old to.new self.old self.new
+            dealt) }
+    {
+        to.adds_up();
+        self.is_counted();
+        let Some(unit) = self.blocked_unit.take() else {
+            return Ok(0);
+        };
+        if !self.deal_unit(alloc, gate, looks, round_over, &unit.as_ref(), None, to)? {
+            self.blocked_unit = Some(unit);
+            return Ok(0);
+        }
+        Ok(1)
+    }
+
+    /// Deals at most so many of the units that are lent, until one is blocked. Returns how many were dealt or blocked.
+    #[inline(always)]
+    fn deal_lent<G: Gate, K: Receives<Addr = F>>(
+        &mut self,
+        alloc: Global,
+        gate: &G,
+        most: u64,
+        looks: u32,
+        round_over: &AtomicBool,
+        lent: LentUnits<'_, F>,
+        to: &mut K,
+    ) -> Result<u64, Memory>
+        requires lanes { 0 < K.count to.old }
+        requires free { self.old.blocked_unit ≡ None }
+        requires some { 0 < most }
+        requires small { (unit : ReplayUnit) → lent ≡ Lent.Unit unit → IsSmallUnit unit }
+        ensures lanes { K.count to.new ≡ K.count to.old }
+        ensures deals { IfOk result
+            (DealsFront (K.received (λ number. D.lane_of self.old.dealing number (K.count to.old)))
+            (λ number. D.lane_of self.old.dealing number (K.count to.old)) (K.room to.old) to.old to.new self.old self.new
+            (units_lent lent.entry)) }
+        ensures few { IfOk result (λ taken. taken ≤ most) }
+        ensures some { IfOk result (λ taken. taken ≡ 0 → units_lent lent.entry ≡ []) }
+    {
+        to.adds_up();
+        self.is_counted();
+        match lent {
+            Lent::None => Ok(0),
+            Lent::Unit(unit) => {
+                if !self.deal_unit(alloc, gate, looks, round_over, &unit, None, to)? {
+                    self.blocked_unit = Some(unit.to_unit(alloc)?);
+                }
+                Ok(1)
+            }
+            Lent::Entries(mut entries) => {
+                for taken in 0..most {
+                    let Some((unit, index)) = entries.next() else {
+                        return Ok(taken);
+                    };
+                    let index = Some(index);
+                    if !self.deal_unit(alloc, gate, looks, round_over, &unit, index, to)? {
+                        self.blocked_unit = Some(unit.to_unit(alloc)?);
+                        return Ok(taken + 1);
+                    }
+                }
+                Ok(most)
+            }
+        }
+    }
+
+    /// Deals until a lane has no room and still none at this many further looks, a batch is dealt or the files end. The
+    /// unit that is blocked comes first; then the files are asked for one record after another.
     pub fn deal<R: Source, G: Gate, K: Receives<Addr = F>>(
         &mut self,
         alloc: Global,
@@ -167,35 +244,26 @@ impl<F: Unicast, D: Dealing> Dealer<D, Prefix<F>, FamilyMark<F>> {
             self.new units.old (map R.remaining files.old) units.new (map R.remaining files.new) result) }
     {
         to.adds_up();
-        let _dealt = self.dealt;
-        for dealt in 0..batch {
-            self.ask(alloc, units, files)?;
-            if let Some(peeked) = self.peek(units) {
-                let (number, lane) = self.lane_for(
-                    &peeked.unit.peer,
-                    peeked.peer_index,
-                    to.lanes(),
-                )?;
-                if !to.has_room(gate, lane, looks, round_over) {
-                    self.blocked_unit = Some(peeked.unit.to_unit(alloc)?);
-                    units.consume();
-                    return Ok(Step::Blocked);
-                }
-                to.receive(alloc, gate, lane, number, &peeked.unit)?;
-                units.consume();
-                self.dealt = self.dealt.saturating_add(1);
-                continue;
-            }
-            let Some(unit) = self.blocked_unit.take() else {
+        self.is_counted();
+        if batch == 0 {
+            return Ok(Step::FullBatch);
+        }
+        let mut left = batch - self.deal_blocked(alloc, gate, looks, round_over, to)?;
+        if self.blocked_unit.is_some() {
+            return Ok(Step::Blocked);
+        }
+        while 0 < left {
+            list_refusals(alloc, units, files, &mut self.refused)?;
+            let lent = units.lend();
+            let taken = self.deal_lent(alloc, gate, left, looks, round_over, lent, to)?;
+            if taken == 0 {
                 return Ok(Step::End);
-            };
-            let (number, lane) = self.lane_for(&unit.peer, None, to.lanes())?;
-            if !to.has_room(gate, lane, looks, round_over) {
-                self.blocked_unit = Some(unit);
+            }
+            units.consume(taken as usize);
+            if self.blocked_unit.is_some() {
                 return Ok(Step::Blocked);
             }
-            to.receive(alloc, gate, lane, number, &unit.as_ref())?;
-            self.dealt = self.dealt.saturating_add(1);
+            left -= taken;
         }
         Ok(Step::FullBatch)
     }

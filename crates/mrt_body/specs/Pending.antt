@@ -1,5 +1,5 @@
 -- The index in force, and the entries that are still to be given of the RIB record read beside it.
-use Rattle.std.specs.Prelude.{◌≤◌, ℕ, List, [], map, drop, length, Option, Some, None, ⊤}
+use Rattle.std.specs.Prelude.{◌≤◌, ℕ, List, [], ◌∷◌, map, drop, length, Option, Some, None, ⊤}
 use Rattle.std.specs.List.{All}
 use Rattle.bgp_prefix.specs.Prefixes.{IpPrefix}
 use Rattle.bgp_update.specs.Families.{FamilyOf}
@@ -10,6 +10,8 @@ use Rattle.mrt_body.specs.declared.rib.ListedEntry.{ListedEntry}
 use Rattle.mrt_body.specs.declared.entries.RibRecord.{RibRecord as RibRecordOf}
 use Rattle.mrt_body.specs.RibRecords.{ReadEntry}
 use Rattle.mrt_body.specs.Listed.{IsListed, read_listed}
+use Rattle.mrt_body.specs.declared.lent_units.Lent.{Lent}
+use Rattle.mrt_body.specs.declared.lent_units.Lent.TheVariants as lent
 use Rattle.mrt_body.specs.Units.{rib_unit}
 
 -- peers, and the units that are still to be given
@@ -50,3 +52,9 @@ ArePending peers list (Some r) = AreListed peers list r
 abbrev pub pending_of : FamilyOf → List PeerKey → List ListedEntry → Option RibRecord → List ReplayUnit
 pending_of family peers list None = []
 pending_of family peers list (Some r) = units_left family peers list r
+
+-- the units that are lent
+abbrev pub units_lent : Lent ReplayUnit (List ReplayUnit) → List ReplayUnit
+units_lent lent.None = []
+units_lent (lent.Unit unit) = unit ∷ []
+units_lent (lent.Entries units) = units

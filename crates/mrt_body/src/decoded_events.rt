@@ -65,11 +65,12 @@ fn keep<P: Drop>(events: &mut Vec<DecodedEvent<P>>, event: DecodedEvent<P>) -> R
     ensures kept { OnOk result (events.new.items ≡ events.old.items ++ event ∷ []) }
     ensures none { OnErr result (events.new.items ≡ []) }
 {
-    if let Ok(()) = events.push(event) {
-        return Ok(());
-    }
-    events.clear();
-    Err(Memory)
+    let Ok(()) = events.reserve(1) else {
+        events.clear();
+        return Err(Memory);
+    };
+    events.push_reserved(event);
+    Ok(())
 }
 
 /// Decodes the attributes of a RIB entry (RFC 6396, 4.3.4), and keeps what it means behind other events.

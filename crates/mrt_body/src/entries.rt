@@ -1,23 +1,23 @@
 //! The entries of a RIB record that are still to be returned.
 
-ghost use Rattle.std.specs.Prelude.{◌≡◌, ◌≤◌, ◌+◌, ◌/◌, ◌∷◌, [], length, take, drop, max, vec_capacity, false, ◌↔◌, Some, None, IfOk, IfSome, OnOk, slice_index_or};
+ghost use Rattle.std.specs.Prelude.{◌≡◌, ◌≤◌, ◌/◌, [], length, drop, max, vec_capacity, false, ◌↔◌, Some, IfOk, OnOk, slice_index_or};
 ghost use Rattle.bgp_update.specs.Results.{Gives};
 ghost use Rattle.mrt_frame.specs.Cuts.{body_limit};
-ghost use Rattle.mrt_body.specs.Units.{IsSmallUnit, no_peer, rib_units_in};
+ghost use Rattle.mrt_body.specs.Units.{no_peer, rib_units_in};
 ghost use Rattle.mrt_body.specs.Pending.{AreListed, units_left};
 ghost use Rattle.mrt_body.specs.Selections.{is_selected, takes_peer};
 ghost use Rattle.std.specs.List.{filter};
 ghost use Rattle.mrt_body.specs.RibDumps.{heard_of};
 ghost use Rattle.mrt_body.specs.declared.rib_rule.RibRule.TheVariants.{Replace};
 
+use crate::lent_units::LentEntries;
 use crate::record_place::RecordAt;
 use crate::rib::{ListedEntry, list_entries, rib_head_at};
 use crate::rib_dumps::RibDumps;
 use crate::selection::Selection;
-use crate::unit::{Payload, PeerAddr, PeerKey, Unit};
-use crate::unit_ref::{BytesRef, PeekedUnit, PeekedUnitOf};
-use bgp_prefix::{Memory, Prefix, RouteKey, Sequence};
-use bgp_update::{AttrError, FamilyMark, Unicast};
+use crate::unit::{PeerAddr, PeerKey};
+use bgp_prefix::{Memory, Prefix, Sequence};
+use bgp_update::{AttrError, Unicast};
 
 /// A RIB record along with a list of its entries, which are returned one by one.
 #[derive(Drop)]
@@ -48,14 +48,6 @@ fn keep_taken<F: Unicast>(selection: &Selection<F>, peers: &[PeerKey], list: &mu
         ≡ filter (λ e. takes_peer selection.now (slice_index_or peers.now e.peer no_peer)) list.old.items }
 {
     list.retain(|entry| selection.takes_peer(&peer_at(peers, entry.peer)));
-}
-
-/// Returns this many bytes from a position on.
-fn bytes_from(bytes: &[u8], start: usize, len: usize) -> &[u8]
-    requires { start + len ≤ length bytes.now }
-    ensures { result.now ≡ take len (drop start bytes.now) }
-{
-    &bytes[start..start + len]
 }
 
 impl<F: Unicast> RibRecord<Prefix<F>> {
@@ -149,59 +141,35 @@ impl<F: Unicast> RibRecord<Prefix<F>> {
         Ok(())
     }
 
-    /// Lends the unit of the next entry, or returns `None` at the end.
+    /// Lends the entries that are still to be returned.
     #[inline(always)]
-    pub(crate) fn peek(
-        &self,
-        peers: &[PeerKey],
-        list: &[ListedEntry],
-    ) -> Option<PeekedUnitOf<'_, F>>
+    pub(crate) fn lend<'a>(
+        &'a self,
+        peers: &'a [PeerKey],
+        list: &'a [ListedEntry],
+    ) -> LentEntries<'a, F>
         requires { AreListed peers.now list.now self.now }
-        ensures peeks { IfSome result
-            (λ peeked. units_left F.family peers.now list.now self.now
-            ≡ peeked.unit ∷ drop 1 (units_left F.family peers.now list.now self.now)) }
-        ensures none { (result ≡ None → units_left F.family peers.now list.now self.now ≡ [])
-            × (units_left F.family peers.now list.now self.now ≡ [] → result ≡ None) }
-        ensures small { IfSome result (λ peeked. IsSmallUnit peeked.unit) }
+        ensures { result ≡ units_left F.family peers.now list.now self.now }
     {
-        if self.given as usize == list.len() {
-            return None;
-        }
-        let entry = list[self.given as usize];
-        let attrs = bytes_from(
-            self.body.as_slice(),
-            entry.start as usize,
-            entry.len as usize,
-        );
-        let key = RouteKey {
+        LentEntries {
+            at: self.at,
             prefix: self.prefix,
-            id: entry.identifier,
-        };
-        let unit = Unit {
-            place: self.at.place(Some(entry.number)),
-            time: self.at.time(0),
-            peer: peers[entry.peer as usize],
-            payload: Payload::Entry {
-                key,
-                attrs: BytesRef::new(attrs),
-                family: FamilyMark::new(),
-            },
-        };
-        Some(PeekedUnit {
-            unit,
-            peer_index: Some(entry.peer),
-        })
+            body: self.body.as_slice(),
+            peers,
+            list,
+            given: self.given,
+        }
     }
 
-    /// Leaves the next entry behind, which was returned.
+    /// Leaves so many entries behind, or all that are left.
     #[inline(always)]
-    pub(crate) fn consume(&mut self, peers: &[PeerKey], list: &[ListedEntry])
+    pub(crate) fn consume(&mut self, count: usize, peers: &[PeerKey], list: &[ListedEntry])
         requires { AreListed peers.now list.now self.old }
-        ensures consumes { units_left F.family peers.now list.now self.new ≡ drop 1 (units_left F.family peers.now list.now self.old) }
+        ensures consumes { units_left F.family peers.now list.now self.new
+            ≡ drop count (units_left F.family peers.now list.now self.old) }
         ensures listed { AreListed peers.now list.now self.new }
     {
-        if (self.given as usize) < list.len() {
-            self.given += 1;
-        }
+        let left = list.len() - self.given as usize;
+        self.given += count.min(left) as u16;
     }
 }

@@ -24,9 +24,10 @@
 //!   most one clear, however many dumps there are.
 //! - Bodies are stated by their forms (`Agrees`, `IsRefused`) and by a reading (`units_in`), which a law ties together.
 //!   `Units::next` is proved against the reading.
-//! - Units are looked at in their record (`Units::peek`): the dealer copies the bytes of an entry or a message once,
-//!   from the record to its lane's list. `Units::next` is `advance`, a copy of that, and `consume`. A record is read
-//!   into the memory of the one before it, of which at most 128 KiB are kept.
+//! - Units are looked at in their record (`Units::lend`), all entries of a RIB record together: the dealer copies the
+//!   bytes of an entry or a message once, from the record to its lane's list. `Units::next` is `advance`, a copy of the
+//!   unit that is lent first, and `consume`. A record is read into the memory of the one before it, of which at most
+//!   128 KiB are kept.
 //! - A RIB record's entries are read once, into a list of 16 bytes each (the peer's index, the path identifier, where
 //!   the attributes are, the entry's number), since one broken entry refuses the record. The list gets room for as many
 //!   entries as the record claims, but for no more than its body can hold, so a false count takes no memory. Entries of
@@ -49,6 +50,7 @@ mod entries;
 mod event_ref;
 mod interpret;
 mod laws;
+mod lent_units;
 mod meaning;
 mod message;
 mod payload;
@@ -80,6 +82,7 @@ pub use laws::{
     events_agree_with_their_payloads, readings_give_all_found, units_have_their_family,
     units_have_their_rule,
 };
+pub use lent_units::{Lent, LentEntries, LentUnits};
 pub use meaning::Event;
 pub use payload_bytes::PayloadBytes;
 pub use remarks::{Marked, Remarks};
@@ -90,5 +93,5 @@ pub use state_rule::StateRule;
 pub use unit::{
     Damage, Found, FoundOf, Payload, PayloadOf, PeerAddr, PeerKey, Place, Unit, UnitOf,
 };
-pub use unit_ref::{BytesRef, PayloadRef, PeekedUnit, PeekedUnitOf, UnitRef};
+pub use unit_ref::{BytesRef, PayloadRef, UnitRef};
 pub use units::Units;

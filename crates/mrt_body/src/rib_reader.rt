@@ -1,20 +1,20 @@
 //! The index in force, and what it is still needed for.
 
-ghost use Rattle.std.specs.Prelude.{◌≡◌, ◌≤◌, ◌∷◌, ◌++◌, [], drop, length, true, false, ◌↔◌, Some, None, Ok, OnErr, OnOk, IfOk, IfSome, option_to_list};
+ghost use Rattle.std.specs.Prelude.{◌≡◌, ◌≤◌, [], drop, length, false, ◌↔◌, Some, OnErr, OnOk, MatchOption};
 ghost use Rattle.bgp_update.specs.Results.{Gives};
 ghost use Rattle.mrt_frame.specs.Cuts.{body_limit};
-ghost use Rattle.mrt_body.specs.Units.{IsSmallUnit, rib_units_in, selected_units};
+ghost use Rattle.mrt_body.specs.Units.{rib_units_in, selected_units};
 ghost use Rattle.mrt_body.specs.Pending.{without_pending};
 ghost use Rattle.mrt_body.specs.RibDumps.{heard_of};
 ghost use Rattle.mrt_body.specs.declared.rib_rule.RibRule.TheVariants.{Replace};
 
 use crate::entries::RibRecord;
+use crate::lent_units::LentEntries;
 use crate::record_place::RecordAt;
 use crate::rib::ListedEntry;
 use crate::rib_dumps::RibDumps;
 use crate::selection::Selection;
-use crate::unit::{PeerKey, UnitOf};
-use crate::unit_ref::PeekedUnitOf;
+use crate::unit::PeerKey;
 use bgp_prefix::{Memory, Prefix, Sequence};
 use bgp_update::{AttrError, Unicast};
 use std::alloc::Global;
@@ -88,13 +88,6 @@ impl<F: Unicast> Index<F> {
         }
     }
 
-    /// Skips what is still to be returned.
-    fn leave_out(&mut self)
-        ensures { self.new ≡ without_pending self.old }
-    {
-        self.last = None;
-    }
-
     /// Takes out the memory of the last record, and skips what is still to be returned of it.
     pub(crate) fn take_block(&mut self) -> Option<Vec<u8>>
         ensures { self.new ≡ without_pending self.old }
@@ -116,45 +109,24 @@ impl<F: Unicast> Index<F> {
         }
     }
 
-    /// Lends the unit of the next entry, or returns `None` at the end.
+    /// Lends the entries that are still to be returned, if there is a record of such.
     #[inline(always)]
-    pub(crate) fn peek(&self) -> Option<PeekedUnitOf<'_, F>>
-        ensures peeks { IfSome result (λ peeked. self.now.pending ≡ peeked.unit ∷ drop 1 self.now.pending) }
-        ensures none { (result ≡ None → self.now.pending ≡ []) × (self.now.pending ≡ [] → result ≡ None) }
-        ensures small { IfSome result (λ peeked. IsSmallUnit peeked.unit) }
+    pub(crate) fn lend(&self) -> Option<LentEntries<'_, F>>
+        ensures { MatchOption result (self.now.pending ≡ []) (λ entries. entries ≡ self.now.pending) }
     {
         match &self.last {
-            Some(record) => record.peek(self.peers.as_slice(), self.list.as_slice()),
+            Some(record) => Some(record.lend(self.peers.as_slice(), self.list.as_slice())),
             None => None,
         }
     }
 
-    /// Leaves the next entry behind, which was returned.
+    /// Leaves so many entries behind, or all that are left.
     #[inline(always)]
-    pub(crate) fn consume(&mut self)
-        ensures { self.new ≡ record { peers = self.old.peers; pending = drop 1 self.old.pending } }
+    pub(crate) fn consume(&mut self, count: usize)
+        ensures { self.new ≡ record { peers = self.old.peers; pending = drop count self.old.pending } }
     {
         if let Some(record) = &mut self.last {
-            record.consume(self.peers.as_slice(), self.list.as_slice());
+            record.consume(count, self.peers.as_slice(), self.list.as_slice());
         }
-    }
-
-    /// Returns the unit of the next entry, or `None` at the end.
-    pub(crate) fn next(&mut self, alloc: Global) -> Result<Option<UnitOf<F>>, Memory>
-        ensures gives { IfOk result (λ unit. self.old.pending ≡ option_to_list unit ++ self.new.pending) }
-        ensures ended { IfOk result (λ unit. unit ≡ None → self.old.pending ≡ []) }
-        // At the end no memory is needed.
-        ensures none { self.old.pending ≡ [] → result ≡ Ok None }
-        ensures peers { self.new.peers ≡ self.old.peers }
-        ensures small { IfOk result (λ unit. IfSome unit IsSmallUnit) }
-    {
-        let Some(peeked) = self.peek() else {
-            // The record's body is freed before the next one is read.
-            self.leave_out();
-            return Ok(None);
-        };
-        let unit = peeked.unit.to_unit(alloc)?;
-        self.consume();
-        Ok(Some(unit))
     }
 }

@@ -266,7 +266,7 @@ impl<F: Unicast> Selection<F> {
         if self.is_past(unit.unit.time) || !self.takes_peer(&unit.unit.peer) {
             return Ok(false);
         }
-        concerns(alloc, decoded, &self.prefixes, &unit.peek().unit.payload)
+        concerns(alloc, decoded, &self.prefixes, &unit.lend().payload)
     }
 
     /// Whether the entries of a RIB record of this time and prefix are selected, as far as these decide.

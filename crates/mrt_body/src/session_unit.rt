@@ -1,10 +1,9 @@
 //! The unit of a BGP4MP record, which keeps the record's body; or one that clears a table.
 
-use crate::unit::{Payload, Unit, UnitOf};
-use crate::unit_ref::{BytesRef, PeekedUnit, PeekedUnitOf};
-use bgp_prefix::{Memory, Prefix, Sequence};
+use crate::unit::{Payload, Unit};
+use crate::unit_ref::{BytesRef, UnitRef};
+use bgp_prefix::{Prefix, Sequence};
 use bgp_update::{FamilyMark, Unicast};
-use std::alloc::Global;
 use std::marker::Model;
 
 /// A message or a state change, as the record has it: a message is the end of the body, from a position on. Or a clear,
@@ -29,17 +28,9 @@ impl<F: Unicast> Model for SessionUnit<F> {
 }
 
 impl<F: Unicast> SessionUnit<F> {
-    ghost use Rattle.std.specs.Prelude.{◌≡◌, ◌≤◌, IfOk, length};
+    ghost use Rattle.std.specs.Prelude.{◌≡◌, ◌≤◌, length};
     ghost use Rattle.mrt_frame.specs.Cuts.{body_limit};
     ghost use Rattle.mrt_body.specs.Units.{IsSmallUnit, payload_bytes};
-
-    /// Returns the unit with a copy of its bytes.
-    pub(crate) fn to_unit(&self, alloc: Global) -> Result<UnitOf<F>, Memory>
-        ensures copies { IfOk result (λ unit. unit ≡ self.now) }
-        ensures small { IfOk result IsSmallUnit }
-    {
-        self.peek().unit.to_unit(alloc)
-    }
 
     /// The unit's bytes, which are the end of the body.
     #[inline(always)]
@@ -54,15 +45,13 @@ impl<F: Unicast> SessionUnit<F> {
         }
     }
 
-    /// Lends the unit's bytes.
-    pub(crate) fn peek(&self) -> PeekedUnitOf<'_, F>
-        ensures peeks { result.unit ≡ self.now }
-        ensures small { IsSmallUnit result.unit }
+    /// Lends the unit, with its bytes.
+    #[inline(always)]
+    pub(crate) fn lend(&self) -> UnitRef<'_, F>
+        ensures lends { result ≡ self.now }
+        ensures small { IsSmallUnit result }
     {
-        PeekedUnit {
-            unit: self.unit.with_bytes(BytesRef::new(self.bytes())),
-            peer_index: None,
-        }
+        self.unit.with_bytes(BytesRef::new(self.bytes()))
     }
 
     /// Returns the record's body. Allocates nothing.

@@ -49,18 +49,6 @@ pub type PayloadRef<'a, F> = Payload<BytesRef<'a>, Prefix<F>, FamilyMark<F>>;
 /// A unit of a family whose bytes are borrowed.
 pub type UnitRef<'a, F> = Unit<BytesRef<'a>, Prefix<F>, FamilyMark<F>>;
 
-/// The unit that comes next, with the bytes of its record.
-#[derive(Debug, Drop)]
-pub struct PeekedUnit<'a, P = Prefix, K = FamilyMark> {
-    pub unit: Unit<BytesRef<'a>, P, K>,
-    /// The index of the peer in the PEER_INDEX_TABLE (RFC 6396, 4.3.1), if the unit is an entry. It is no part of the
-    /// unit: a reader that keeps something for each peer can look there first, and then has to compare the peers.
-    pub peer_index: Option<u16>,
-}
-
-/// The unit of a family that comes next.
-pub type PeekedUnitOf<'a, F> = PeekedUnit<'a, Prefix<F>, FamilyMark<F>>;
-
 impl<B, F: Unicast> Payload<B, Prefix<F>, FamilyMark<F>> {
     /// Returns the payload with these bytes in place of its own. A state change and a clear have none.
     #[inline(always)]

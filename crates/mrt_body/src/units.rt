@@ -2,22 +2,26 @@
 
 mod record;
 
-ghost use Rattle.std.specs.Prelude.{◌≡◌, ℕ, List, Option, ◌<◌, ◌≤◌, ◌≢◌, true, ◌+◌, ◌^◌, ◌∷◌, None, [], take, drop, false, ◌↔◌, Ok, IfOk, IfErr, IfSome, length, option_to_list};
+ghost use Rattle.std.specs.Prelude.{◌≡◌, ℕ, List, ◌<◌, ◌≤◌, ◌≢◌, ◌^◌, ◌++◌, ◌-◌, None, [], take, drop, false, ◌↔◌, Ok, IfOk, IfErr, IfSome, length, option_to_list};
+ghost use Rattle.mrt_body.specs.Pending.{units_lent};
+ghost use Rattle.mrt_body.specs.Plain.{Unit as ReplayUnit};
+ghost use Rattle.mrt_body.specs.declared.lent_units.Lent.TheVariants as Lent;
 ghost use Rattle.mrt_frame.specs.declared.read_state.ReadState.TheVariants.{Reading};
 ghost use Rattle.mrt_body.specs.Units.{IsSmall, IsSmallUnit, all_cuts, found_in};
-ghost use Rattle.mrt_body.specs.ToCome.{UnitsState, GivesPending, TakesFound, Steps, KeepsPlan, as_found, refusals, units_left, cuts_to_come, found_to_come, fresh_units};
+ghost use Rattle.mrt_body.specs.ToCome.{UnitsState, GivesPending, Steps, refusals, cuts_to_come, found_to_come, fresh_units, index_peers, index_pending};
 ghost use Rattle.mrt_body.specs.Readings.{Gives, Ends, Stops, Stays, IsBounded, GivesCut, Lowers, StopsInFile, GoesOn, WantsMemory, StaysHere};
 
 use crate::body_kind::{body_kind_of, is_extended};
 use crate::decoded_events::DecodedEvents;
+use crate::lent_units::{Lent, LentUnits};
 use crate::record_place::RecordAt;
 use crate::remarks::{Remarker, Remarks};
 use crate::rib_dumps::RibDumps;
 use crate::rib_reader::Index;
 use crate::selection::Selection;
 use crate::unit::{Damage, Found, FoundOf, UnitOf};
-use crate::unit_ref::PeekedUnitOf;
 use crate::waiting::Waiting;
+use bgp_prefix::Memory;
 use bgp_update::Unicast;
 use mrt_frame::{Cut, FrameReader, ReadState, ReplayError, Source};
 use record::refused;
@@ -151,7 +155,7 @@ impl<F: Unicast> Units<F> {
         }
     }
 
-    /// Reads on to the next unit, which `peek` then returns, or to the next record that is refused, which it returns.
+    /// Reads on to the next unit, which `lend` then lends, or to the next record that is refused, which it returns.
     /// Returns `None` where a unit is to be returned: at once while one is left. At the end of the last file it returns
     /// `None` as well, and no unit is left. Errors are those of `next`.
     pub fn advance<R: Source>(
@@ -213,57 +217,39 @@ impl<F: Unicast> Units<F> {
         }
     }
 
-    /// Borrows the next pending unit of the record that was cut last, which `next` would return; `consume` leaves it
-    /// behind. `None` if none is pending, or after an error.
+    /// Lends the next pending units of the record that was cut last, which `next` would return: all entries that are
+    /// left of a RIB record, or one unit. `consume` leaves them behind. `Lent::None` if none is pending, or after an
+    /// error.
     #[inline(always)]
-    pub fn peek(&self) -> Option<PeekedUnitOf<'_, F>>
-        ensures peeks { IfSome result
-            (λ peeked. (self.now.state ≡ Reading)
-            × (self.now.pending ≡ peeked.unit ∷ drop 1 self.now.pending)) }
-        ensures none { result ≡ None → self.now.state ≡ Reading → self.now.pending ≡ [] }
-        ensures small { IfSome result (λ peeked. IsSmallUnit peeked.unit) }
+    pub fn lend(&self) -> LentUnits<'_, F>
+        ensures lends { self.now.pending ≡ units_lent result ++ drop (length (units_lent result)) self.now.pending }
+        ensures reading { units_lent result ≢ [] → self.now.state ≡ Reading }
+        ensures none { units_lent result ≡ [] → self.now.state ≡ Reading → self.now.pending ≡ [] }
+        ensures all { (units : List ReplayUnit) → result ≡ Lent.Entries units → self.now.pending ≡ units }
+        ensures small { (unit : ReplayUnit) → result ≡ Lent.Unit unit → IsSmallUnit unit }
     {
         let ReadState::Reading = self.state else {
-            return None;
+            return Lent::None;
         };
-        if let Some(unit) = self.waiting.peek() {
-            return Some(unit);
+        if let Some(unit) = self.waiting.lend() {
+            return Lent::Unit(unit.lend());
         }
         match &self.index {
-            Some(index) => index.peek(),
-            None => None,
+            Some(index) => match index.lend() {
+                Some(entries) => Lent::Entries(entries),
+                None => Lent::None,
+            },
+            None => Lent::None,
         }
     }
 
-    /// Whether `peek` returns a unit.
+    /// Leaves so many of the pending units behind, or all if there are fewer: `next` returns what comes after them.
     #[inline(always)]
-    pub fn has_next(&self) -> bool
-        ensures peeks { result ≡ true → (self.now.state ≡ Reading) × (self.now.pending ≢ []) }
-        ensures none { result ≡ false → self.now.state ≡ Reading → self.now.pending ≡ [] }
+    pub fn consume(&mut self, count: usize)
+        ensures consumes { GivesPending self.old self.new (take count self.old.pending) }
     {
-        match self.state {
-            ReadState::Reading => self.is_pending(),
-            _ => false,
-        }
-    }
-
-    /// Leaves the unit that `peek` returned, if there is one, behind: `next` returns what comes after it.
-    #[inline(always)]
-    pub fn consume(&mut self)
-        ensures consumes { GivesPending self.old self.new (take 1 self.old.pending) }
-        ensures found { (known : List (Option (List ℕ))) →
-            TakesFound self.old known self.new known (as_found (take 1 self.old.pending)) }
-        ensures units { units_left self.new + length (take 1 self.old.pending) ≡ units_left self.old }
-        ensures plan { KeepsPlan self.old self.new }
-    {
-        // An entry is the usual case, and `take` would clear the place of a message each time.
-        if self.waiting.is_pending() {
-            if let Some(block) = self.waiting.consume() {
-                self.spare = kept_block(block);
-            }
-        } else if let Some(index) = &mut self.index {
-            index.consume();
-        }
+        let left = consume_waiting(&mut self.waiting, &mut self.spare, count);
+        consume_entries(&mut self.index, left);
     }
 
     /// Keeps the memory of the last RIB record, whose entries were returned, for the next record.
@@ -279,9 +265,27 @@ impl<F: Unicast> Units<F> {
         }
     }
 
+    /// Returns the unit that is lent first, with a copy of its bytes.
+    fn copy_next(&self, alloc: Global) -> Result<Option<UnitOf<F>>, Memory>
+        ensures copies { IfOk result (λ unit. self.now.pending ≡ option_to_list unit ++ drop (length (option_to_list unit)) self.now.pending) }
+        ensures ended { self.now.state ≡ Reading → IfOk result (λ unit. unit ≡ None → self.now.pending ≡ []) }
+        ensures none { self.now.pending ≡ [] → result ≡ Ok None }
+        ensures small { IfOk result (λ unit. IfSome unit IsSmallUnit) }
+    {
+        let unit = match self.lend() {
+            Lent::None => return Ok(None),
+            Lent::Unit(unit) => unit,
+            Lent::Entries(mut entries) => match entries.next() {
+                Some((unit, _)) => unit,
+                None => return Ok(None),
+            },
+        };
+        Ok(Some(unit.to_unit(alloc)?))
+    }
+
     /// Returns the next unit of the record that was cut last.
-    #[tactic(auto, using(crate::proofs::WaitingLaws::both_none))]
     fn next_pending(&mut self, alloc: Global) -> Result<Option<UnitOf<F>>, ReplayError>
+        requires { self.old.state ≡ Reading }
         ensures gives { IfOk result (λ unit. GivesPending self.old self.new (option_to_list unit)) }
         ensures ended { IfOk result (λ unit. unit ≡ None → self.old.pending ≡ []) }
         ensures none { self.old.pending ≡ [] → result ≡ Ok None }
@@ -289,23 +293,11 @@ impl<F: Unicast> Units<F> {
         ensures stays { StaysHere self.old self.new }
         ensures small { IfOk result (λ unit. IfSome unit IsSmallUnit) }
     {
-        if self.waiting.is_pending() {
-            return match self.waiting.copy(alloc) {
-                Ok(unit) => {
-                    self.waiting.consume();
-                    Ok(unit)
-                }
-                Err(_) => {
-                    self.state = ReadState::Spent;
-                    Err(ReplayError::Memory)
-                }
-            };
-        }
-        let Some(index) = &mut self.index else {
-            return Ok(None);
-        };
-        match index.next(alloc) {
-            Ok(unit) => Ok(unit),
+        match self.copy_next(alloc) {
+            Ok(unit) => {
+                self.consume(1);
+                Ok(unit)
+            }
             Err(_) => {
                 self.state = ReadState::Spent;
                 Err(ReplayError::Memory)
@@ -392,6 +384,38 @@ impl<F: Unicast> Units<F> {
                 self.take(alloc, at, is_extended(record.kind), content, record.body)
             }
         }
+    }
+}
+
+/// Leaves so many of the units that wait behind, or all if there are fewer. Keeps the memory of their record. Returns
+/// how many others are then still to be left behind.
+#[inline(always)]
+fn consume_waiting<F: Unicast>(
+    waiting: &mut Waiting<F>,
+    spare: &mut Option<Vec<u8>>,
+    count: usize,
+) -> usize
+    ensures waiting { waiting.new ≡ drop count waiting.old }
+    ensures left { result ≡ count - length waiting.old }
+{
+    let mut left = count;
+    while 0 < left && waiting.is_pending() {
+        if let Some(block) = waiting.consume() {
+            *spare = kept_block(block);
+        }
+        left -= 1;
+    }
+    left
+}
+
+/// Leaves so many of the entries that are still to be returned behind, or all if there are fewer.
+#[inline(always)]
+fn consume_entries<F: Unicast>(index: &mut Option<Index<F>>, count: usize)
+    ensures entries { index_pending index.new ≡ drop count (index_pending index.old) }
+    ensures peers { index_peers index.new ≡ index_peers index.old }
+{
+    if let Some(index) = index {
+        index.consume(count);
     }
 }
 

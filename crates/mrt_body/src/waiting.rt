@@ -1,13 +1,12 @@
 //! The units that are still to be returned, beside the entries of a RIB record.
 
-ghost use Rattle.std.specs.Prelude.{◌≡◌, ◌∷◌, ◌++◌, ◌↔◌, [], IfOk, IfSome, None, Ok, drop, false, map, option_to_list};
-ghost use Rattle.mrt_body.specs.Units.{IsSmallUnit, clear_unit};
+ghost use Rattle.std.specs.Prelude.{◌≡◌, ◌∷◌, ◌++◌, ◌↔◌, [], IfSome, None, drop, false, map, option_to_list};
+ghost use Rattle.mrt_body.specs.Units.{clear_unit};
 
 use crate::record_place::RecordAt;
 use crate::session_unit::SessionUnit;
-use crate::unit::{Payload, PeerKey, Unit, UnitOf};
-use crate::unit_ref::PeekedUnitOf;
-use bgp_prefix::{Memory, Sequence};
+use crate::unit::{Payload, PeerKey, Unit};
+use bgp_prefix::Sequence;
 use bgp_update::Unicast;
 use std::alloc::Global;
 use std::collections::BTreeSet;
@@ -129,30 +128,13 @@ impl<F: Unicast> Waiting<F> {
         self.cleared.clear();
     }
 
-    /// Lends the next unit.
+    /// Lends the next unit, if there is one.
     #[inline(always)]
-    pub(crate) fn peek(&self) -> Option<PeekedUnitOf<'_, F>>
-        ensures peeks { IfSome result (λ peeked. self.now ≡ peeked.unit ∷ drop 1 self.now) }
+    pub(crate) fn lend(&self) -> Option<&SessionUnit<F>>
+        ensures lends { IfSome result (λ unit. self.now ≡ unit.now ∷ drop 1 self.now) }
         ensures none { result ≡ None → self.now ≡ [] }
-        ensures small { IfSome result (λ peeked. IsSmallUnit peeked.unit) }
     {
-        match &self.first {
-            Some(unit) => Some(unit.peek()),
-            None => None,
-        }
-    }
-
-    /// Returns the next unit with a copy of its bytes, and doesn't consume it.
-    pub(crate) fn copy(&self, alloc: Global) -> Result<Option<UnitOf<F>>, Memory>
-        ensures copies { IfOk result (λ unit. IfSome unit (λ unit. self.now ≡ unit ∷ drop 1 self.now)) }
-        ensures none { IfOk result (λ unit. unit ≡ None → self.now ≡ []) }
-        ensures free { self.now ≡ [] → result ≡ Ok None }
-        ensures small { IfOk result (λ unit. IfSome unit IsSmallUnit) }
-    {
-        match &self.first {
-            Some(unit) => Ok(Some(unit.to_unit(alloc)?)),
-            None => Ok(None),
-        }
+        self.first.as_ref()
     }
 
     /// Leaves the next unit behind, and returns the memory of its record.

@@ -1,6 +1,6 @@
 //! What files give, as text.
 
-use mrt_body::{Found, Payload, PeerAddr, Place, Selection, Unit, Units};
+use mrt_body::{Found, Lent, Payload, PeerAddr, Place, Selection, Unit, Units};
 use mrt_frame::{ReplayError, Source};
 use std::alloc::Global;
 use std::process::Abort;
@@ -78,6 +78,16 @@ pub fn next_of<R: Source>(
     units.next(alloc, files)
 }
 
+/// The first unit that is lent, as what is found.
+pub fn lent_first(rt: &impl Abort, alloc: Global, units: &Units) -> Option<Found> {
+    let unit = match units.lend() {
+        Lent::None => return None,
+        Lent::Unit(unit) => unit.to_unit(alloc),
+        Lent::Entries(mut entries) => entries.next()?.0.to_unit(alloc),
+    };
+    Some(Found::Unit(unit.expect(rt, "memory for a unit")))
+}
+
 /// What they give next, if they are looked at and then consumed.
 fn peeked_of<R: Source>(
     rt: &impl Abort,
@@ -89,12 +99,9 @@ fn peeked_of<R: Source>(
     if let Some(damage) = units.advance(alloc, files)? {
         return Ok(Some(Found::Refused(damage)));
     }
-    let Some(peeked) = units.peek() else {
-        return Ok(None);
-    };
-    let unit = peeked.unit.to_unit(alloc).expect(rt, "memory for a unit");
-    units.consume();
-    Ok(Some(Found::Unit(unit)))
+    let found = lent_first(rt, alloc, units);
+    units.consume(1);
+    Ok(found)
 }
 
 /// How units are read.

@@ -1,162 +1,121 @@
-use Rattle.std.proofs.Common.{◌≡◌, ℕ, [], ◌∷◌, ◌∙◌, refl, sym, ap, arith}
+use Rattle.std.proofs.Common.{◌≡◌, ℕ, length, ◌+◌, ◌-◌, ◌≤◌, ◌∙◌, refl, sym, ap, subst, arith}
 use Rattle.std.proofs.lemmas.Result.{err_from_is_err_and}
-use Rattle.lane_deal.proofs.DealerLaws.{without_unit, Next-peeked, Next-blocked, Next-ended, NextInVain-asked, SoFar-none, SoFar-more, DealsTo-blocked, DealsTo-end, DealsTo-failed, DealsTo-full}
-use Rattle.lane_deal.proofs.Asking.{stops_later}
+use Rattle.mrt_body.specs.Pending.{units_lent}
+use Rattle.mrt_body.specs.ToCome.{UnitsState}
+use Rattle.lane_deal.specs.Asking.{as_refused}
+use Rattle.lane_deal.specs.DealerSteps.{IsFull}
+use Rattle.lane_deal.proofs.Asking.{all_units, all_more_given}
+use Rattle.lane_deal.proofs.DealerLaws.{SoFar, SoFar-none, SoFar-blocked, SoFar-listed, SoFar-front, DealsFront-lanes, DealsTo-full, DealsTo-blocked, DealsTo-end, DealsTo-full_lane, DealsTo-failed, all_dealt, is_none, where_some}
 use Rattle.lane_deal.proofs.dealer.Dealer+D+Prefix+F+FamilyMark+F.deal.Goals as goal
 
-pub loop-dealt-init : goal.loop-dealt-init
-loop-dealt-init g c = record { count = refl; lanes = refl; sound = refl; far = SoFar-none _ _ _ _ _ (omega arith) (c.adds_up.ensures.nothing _ c.args.to.now) }
+pub returns-then-batch-eq0-clause-deals : goal.returns-then-batch-eq0-clause-deals
+returns-then-batch-eq0-clause-deals g c =
+    DealsTo-full _ _ _ c.args.batch c.args.to.now c.args.to.now c.args.self.now c.args.self.now _ _ _ _ 0 (sym c.if-batch-eq0.true) (SoFar-none _ c.args.to.now c.args.self.now _ _ c.is_counted.ensures (c.adds_up.ensures.nothing _ c.args.to.now))
 
-pub returns-clause-reads : goal.returns-clause-reads
-returns-clause-reads g c = record { count = c.loop-dealt.invariant.count; sound = c.loop-dealt.invariant.sound; cause = tt }
+-- ---- the unit that was blocked
+
+pub returns-then-is_some-clause-deals : goal.returns-then-is_some-clause-deals
+unfolding SoFar-blocked SoFar-none
+returns-then-is_some-clause-deals g c =
+    let lane_of : ℕ → ℕ = λ number. g.D.Dealing.lane_of c.args.self.now.dealing number (g.K.Receives.count c.args.to.now) in
+    let p = c.in_ok-left.ensures.deals in
+    let room = g.K.Receives.room c.args.to.now in
+    let few = p.few in
+    let some = c.if-batch-eq0.false in
+    let within : 0 + c.in_ok-left.field-0 ≤ c.args.batch = omega (arith, few, some) in
+    let far = SoFar-blocked _ (c.adds_up.ensures.joined lane_of) c.args.to.now c.args.to.now c.args.self.now c.args.self.now c.args.units.now c.args.units.now _ _ 0 (SoFar-none _ c.args.to.now c.args.self.now _ _ c.is_counted.ensures (c.adds_up.ensures.nothing lane_of c.args.to.now)) c.deal_blocked.new.to c.deal_blocked.new.self lane_of room c.in_ok-left.field-0 p in
+    DealsTo-blocked _ lane_of room c.args.batch c.args.to.now c.deal_blocked.new.to c.args.self.now c.deal_blocked.new.self c.args.units.now c.args.units.now _ _ (0 + c.in_ok-left.field-0) within far
+    (subst (IsFull lane_of room c.deal_blocked.new.self) (sym (all_units p.done)) (where_some c.deal_blocked.new.self.blocked_unit (sym c.if-is_some.true ∙ c.is_some.ensures) p.full))
+
+pub loop-left-init : goal.loop-left-init
+loop-left-init g c =
+    let lane_of : ℕ → ℕ = λ number. g.D.Dealing.lane_of c.args.self.now.dealing number (g.K.Receives.count c.args.to.now) in
+    let p = c.in_ok-left.ensures.deals in
+    let few = p.few in
+    let some = c.if-batch-eq0.false in
+    let count : 0 + c.in_ok-left.field-0 ≡ c.args.batch - (c.args.batch - c.in_ok-left.field-0) = omega (arith, few, some) in
+    record {
+      count = refl;
+      lanes = c.in_ok-left.ensures.lanes;
+      sound = refl;
+      none = is_none c.deal_blocked.new.self.blocked_unit (sym c.if-is_some.false ∙ c.is_some.ensures);
+      within = omega arith;
+      far = subst (SoFar (g.K.Receives.received lane_of) c.args.to.now c.deal_blocked.new.to c.args.self.now c.deal_blocked.new.self c.args.units.now _ c.args.units.now _) count
+          (SoFar-blocked _ (c.adds_up.ensures.joined lane_of) c.args.to.now c.args.to.now c.args.self.now c.args.self.now c.args.units.now c.args.units.now _ _ 0 (SoFar-none _ c.args.to.now c.args.self.now _ _ c.is_counted.ensures (c.adds_up.ensures.nothing lane_of c.args.to.now)) c.deal_blocked.new.to c.deal_blocked.new.self lane_of (g.K.Receives.room c.args.to.now) c.in_ok-left.field-0 p);
+    }
+
+-- ---- a record after the other
+
+pub returns-in_err-list_refusals-clause-deals : goal.returns-in_err-list_refusals-clause-deals
+returns-in_err-list_refusals-clause-deals g c =
+    let p = err_from_is_err_and c.from_residual-in_err-list_refusals.result c.from_residual-in_err-list_refusals.ensures.1 in
+    let lane_of : ℕ → ℕ = λ number. g.D.Dealing.lane_of c.args.self.now.dealing number (g.K.Receives.count c.args.to.now) in
+    let i = c.loop-left.invariant in
+    let within : c.args.batch - c.loop-left.left ≤ c.args.batch = omega arith in
+    rw (p.1, p.2) (λ file e. DealsTo-failed _ (c.adds_up.ensures.joined lane_of) c.args.to.now c.loop-left.to c.args.self.now c.loop-left.self c.args.units.now c.loop-left.units _ _ (c.args.batch - c.loop-left.left) i.far _ _ _ lane_of _ c.args.batch _ within (c.adds_up.ensures.nothing lane_of c.loop-left.to) (c.in_err-list_refusals.ensures.asked file e) i.none i.none refl refl refl)
+
+pub returns-then-taken-eq0-clause-deals : goal.returns-then-taken-eq0-clause-deals
+unfolding SoFar-listed
+returns-then-taken-eq0-clause-deals g c =
+    let lane_of : ℕ → ℕ = λ number. g.D.Dealing.lane_of c.args.self.now.dealing number (g.K.Receives.count c.args.to.now) in
+    let i = c.loop-left.invariant in
+    let joined = c.adds_up.ensures.joined lane_of in
+    let asked = c.in_ok-list_refusals.ensures.asked in
+    let units = units_lent c.lend-lent.result in
+    let deals = DealsFront-lanes g.K.Receives.received g.D.Dealing.lane_of c.loop-left.self.dealing c.args.self.now.dealing (g.K.Receives.count c.loop-left.to) (g.K.Receives.count c.args.to.now) i.far.hands.handles.dealing i.lanes (g.K.Receives.room c.loop-left.to) c.loop-left.to c.deal_lent.new.to _ c.deal_lent.new.self units c.in_ok-taken.taken c.in_ok-taken.ensures.deals in
+    let count = c.args.batch - c.loop-left.left in
+    let far = SoFar-listed _ joined c.args.to.now c.loop-left.to c.args.self.now c.loop-left.self c.args.units.now c.loop-left.units _ _ count i.far _ c.list_refusals.new.units _ (c.adds_up.ensures.nothing lane_of c.loop-left.to) asked i.none i.none refl refl refl in
+    let within : count ≤ c.args.batch = omega arith in
+    let empty = c.lend-lent.ensures.none (c.in_ok-taken.ensures.some c.if-taken-eq0.true) asked.state in
+    DealsTo-end _ joined c.args.to.now c.loop-left.to c.args.self.now _ c.args.units.now c.list_refusals.new.units _ _ count far c.deal_lent.new.to c.deal_lent.new.self lane_of (g.K.Receives.room c.loop-left.to) units c.in_ok-taken.taken deals (g.K.Receives.room c.args.to.now) c.args.batch within c.if-taken-eq0.true i.none
+    (all_more_given c.args.units.now c.loop-left.units _ _ i.far.given (as_refused asked.listed) i.far.takes (asked.ended empty))
+
+pub returns-then-is_some-2-clause-deals : goal.returns-then-is_some-2-clause-deals
+unfolding SoFar-listed
+returns-then-is_some-2-clause-deals g c =
+    let lane_of : ℕ → ℕ = λ number. g.D.Dealing.lane_of c.args.self.now.dealing number (g.K.Receives.count c.args.to.now) in
+    let i = c.loop-left.invariant in
+    let joined = c.adds_up.ensures.joined lane_of in
+    let asked = c.in_ok-list_refusals.ensures.asked in
+    let units = units_lent c.lend-lent.result in
+    let deals = DealsFront-lanes g.K.Receives.received g.D.Dealing.lane_of c.loop-left.self.dealing c.args.self.now.dealing (g.K.Receives.count c.loop-left.to) (g.K.Receives.count c.args.to.now) i.far.hands.handles.dealing i.lanes (g.K.Receives.room c.loop-left.to) c.loop-left.to c.deal_lent.new.to _ c.deal_lent.new.self units c.in_ok-taken.taken c.in_ok-taken.ensures.deals in
+    let count = c.args.batch - c.loop-left.left in
+    let far = SoFar-listed _ joined c.args.to.now c.loop-left.to c.args.self.now c.loop-left.self c.args.units.now c.loop-left.units _ _ count i.far _ c.list_refusals.new.units _ (c.adds_up.ensures.nothing lane_of c.loop-left.to) asked i.none i.none refl refl refl in
+    let few = c.in_ok-taken.ensures.few in
+    let left = i.within in
+    let within : count + c.in_ok-taken.taken ≤ c.args.batch = omega (arith, few, left) in
+    DealsTo-full_lane _ joined c.args.to.now c.loop-left.to c.args.self.now _ c.args.units.now c.list_refusals.new.units _ _ count far c.deal_lent.new.to c.deal_lent.new.self lane_of (g.K.Receives.room c.loop-left.to) units c.in_ok-taken.taken deals c.consume.new.self (g.K.Receives.room c.args.to.now) c.args.batch within i.none c.lend-lent.ensures.lends asked.state c.consume.ensures.consumes
+    (sym c.if-is_some-2.true ∙ c.is_some-in-loop-left.ensures)
+    (λ n. c.adds_up.ensures.spent lane_of c.args.to.now c.loop-left.to _ (lane_of n) (g.met.D.Dealing.is_below c.args.self.now.dealing n (g.K.Receives.count c.args.to.now) c.requires.lanes) far.hands.received)
+
+pub loop-left-preserved : goal.loop-left-preserved
+unfolding SoFar-listed
+loop-left-preserved g c =
+    let lane_of : ℕ → ℕ = λ number. g.D.Dealing.lane_of c.args.self.now.dealing number (g.K.Receives.count c.args.to.now) in
+    let i = c.loop-left.invariant in
+    let joined = c.adds_up.ensures.joined lane_of in
+    let asked = c.in_ok-list_refusals.ensures.asked in
+    let units = units_lent c.lend-lent.result in
+    let deals = DealsFront-lanes g.K.Receives.received g.D.Dealing.lane_of c.loop-left.self.dealing c.args.self.now.dealing (g.K.Receives.count c.loop-left.to) (g.K.Receives.count c.args.to.now) i.far.hands.handles.dealing i.lanes (g.K.Receives.room c.loop-left.to) c.loop-left.to c.deal_lent.new.to _ c.deal_lent.new.self units c.in_ok-taken.taken c.in_ok-taken.ensures.deals in
+    let count = c.args.batch - c.loop-left.left in
+    let far = SoFar-listed _ joined c.args.to.now c.loop-left.to c.args.self.now c.loop-left.self c.args.units.now c.loop-left.units _ _ count i.far _ c.list_refusals.new.units _ (c.adds_up.ensures.nothing lane_of c.loop-left.to) asked i.none i.none refl refl refl in
+    let few = c.in_ok-taken.ensures.few in
+    let left = i.within in
+    let none = is_none c.deal_lent.new.self.blocked_unit (sym c.if-is_some-2.false ∙ c.is_some-in-loop-left.ensures) in
+    let dealt = all_dealt _ joined c.args.to.now c.loop-left.to c.args.self.now _ c.args.units.now c.list_refusals.new.units _ _ count far c.deal_lent.new.to c.deal_lent.new.self lane_of (g.K.Receives.room c.loop-left.to) units c.in_ok-taken.taken deals i.none none in
+    let more : count + length deals.done ≡ c.args.batch - (c.loop-left.left - c.in_ok-taken.taken) = omega (arith, few, left, dealt) in
+    record {
+      count = ap (λ (v : UnitsState). v.count) c.consume.ensures.consumes.0 ∙ c.in_ok-list_refusals.ensures.reads.count ∙ i.count;
+      lanes = c.in_ok-taken.ensures.lanes ∙ i.lanes;
+      sound = c.in_ok-list_refusals.ensures.reads.sound ∙ i.sound;
+      none = none;
+      within = omega (arith, left);
+      far = subst (SoFar (g.K.Receives.received lane_of) c.args.to.now c.deal_lent.new.to c.args.self.now c.deal_lent.new.self c.args.units.now _ c.consume.new.self _) more
+          (SoFar-front _ joined c.args.to.now c.loop-left.to c.args.self.now _ c.args.units.now c.list_refusals.new.units _ _ count far c.deal_lent.new.to c.deal_lent.new.self lane_of (g.K.Receives.room c.loop-left.to) units c.in_ok-taken.taken deals c.consume.new.self c.lend-lent.ensures.lends asked.state c.consume.ensures.consumes);
+    }
 
 pub returns-clause-deals : goal.returns-clause-deals
-returns-clause-deals g c = DealsTo-full _ _ _ _ _ c.loop-dealt.to _ _ _ _ _ _ c.loop-dealt.dealt (omega arith) c.loop-dealt.invariant.far
-
--- ---- nothing came
-
-pub returns-in_err-ask-clause-reads : goal.returns-in_err-ask-clause-reads
-returns-in_err-ask-clause-reads g c =
-    let p = err_from_is_err_and c.from_residual.result c.from_residual.ensures.1 in
-    let i = c.loop-dealt.invariant in
-    rw (p.1, p.2) (record { count = c.ask.ensures.reads.count ∙ i.count; sound = tt; cause = stops_later _ _ _ _ _ _ _ _ _ i.far.takes i.sound c.in_err-ask.ensures.reads.cause })
-
-pub returns-in_err-ask-clause-deals : goal.returns-in_err-ask-clause-deals
-returns-in_err-ask-clause-deals g c =
-    let p = err_from_is_err_and c.from_residual.result c.from_residual.ensures.1 in
-    let lane_of : ℕ → ℕ = λ number. g.D.Dealing.lane_of c.args.self.now.dealing number (g.K.Receives.count c.args.to.now) in
-    let same = c.ask.ensures.same in
-    let none = c.in_err-ask.ensures.failed in
-    rw (p.1, p.2) (λ file e. DealsTo-failed _ (c.adds_up.ensures.joined lane_of) _ c.loop-dealt.to c.loop-dealt.to _ _ c.ask.new.self c.ask.new.self _ _ _ _ _ _ _ c.loop-dealt.invariant.far lane_of _ _ _ (let t = c.loop-dealt-test.true in omega arith)
-    (NextInVain-asked _ _ _ _ _ _ none (record { dealing = ap (λ o. o.dealing) same; peers = ap (λ o. o.peers) same; blocked_unit = ap (λ o. o.blocked_unit) same ∙ none; dealt = ap (λ o. o.dealt) same }) (c.in_err-ask.ensures.asked none file e)))
-
-pub returns-in_default-take-clause-reads : goal.returns-in_default-take-clause-reads
-returns-in_default-take-clause-reads g c =
-    record { count = c.ask.ensures.reads.count ∙ c.loop-dealt.invariant.count; sound = c.in_ok-ask.ensures.reads.sound ∙ c.loop-dealt.invariant.sound; cause = tt }
-
-pub returns-in_default-take-clause-at_end : goal.returns-in_default-take-clause-at_end
-returns-in_default-take-clause-at_end g c = λ _.
-    let blocked_unit = sym c.take.ensures.value ∙ c.in_default-take.is in
-    let asked = c.in_ok-ask.ensures.asked (sym (ap (λ o. o.blocked_unit) c.ask.ensures.same) ∙ blocked_unit) in
-    asked.at_end (c.in_default.ensures.none refl blocked_unit asked.state)
-
-pub returns-in_default-take-clause-deals : goal.returns-in_default-take-clause-deals
-returns-in_default-take-clause-deals g c =
-    let lane_of : ℕ → ℕ = λ number. g.D.Dealing.lane_of c.args.self.now.dealing number (g.K.Receives.count c.args.to.now) in
-    let i = c.loop-dealt.invariant in
-    let same = c.ask.ensures.same in
-    let blocked_unit = sym c.take.ensures.value ∙ c.in_default-take.is in
-    let none = sym (ap (λ o. o.blocked_unit) same) ∙ blocked_unit in
-    let empty = c.in_default.ensures.none refl blocked_unit (c.in_ok-ask.ensures.asked none).state in
-    let next =
-    Next-ended _ _ _ _ _ _ none (record { dealing = ap (λ o. o.dealing) same; peers = ap (λ o. o.peers) same; blocked_unit = c.take.ensures.after; dealt = ap (λ o. o.dealt) same }) (c.in_ok-ask.ensures.asked none) empty in
-    DealsTo-end _ (c.adds_up.ensures.joined lane_of) _ c.loop-dealt.to c.loop-dealt.to _ _ c.ask.new.self _ _ _ _ _ _ _ _ i.far lane_of _ _ (let t = c.loop-dealt-test.true in omega arith) next
-
--- ---- a unit that was looked at
-
-pub has_room-requires : goal.has_room-requires
-has_room-requires g c =
-    let lane = c.in_ok-number.ensures.lane in
-    let lanes = c.loop-dealt.invariant.lanes in
-    let shown = c.lanes.ensures in
-    let some = c.requires.lanes in
-    let below = g.met.D.Dealing.is_below c.ask.new.self.dealing c.in_ok-number.number c.lanes.result (omega (arith, lanes, some, shown)) in
-    omega (arith, below, lane, shown)
-
-pub receive-requires-clause-lane : goal.receive-requires-clause-lane
-receive-requires-clause-lane g c =
-    let lane = c.in_ok-number.ensures.lane in
-    let lanes = c.loop-dealt.invariant.lanes in
-    let looked = c.has_room.ensures.lanes in
-    let shown = c.lanes.ensures in
-    let some = c.requires.lanes in
-    let below = g.met.D.Dealing.is_below c.ask.new.self.dealing c.in_ok-number.number c.lanes.result (omega (arith, lanes, some, shown)) in
-    omega (arith, below, lane, looked, shown)
-
-pub returns-then-not-has_room-clause-reads : goal.returns-then-not-has_room-clause-reads
-returns-then-not-has_room-clause-reads g c =
-    record { count = c.consume.ensures.plan.0 ∙ c.ask.ensures.reads.count ∙ c.loop-dealt.invariant.count; sound = c.in_ok-ask.ensures.reads.sound ∙ c.loop-dealt.invariant.sound; cause = tt }
-
-pub returns-then-not-has_room-clause-deals : goal.returns-then-not-has_room-clause-deals
-returns-then-not-has_room-clause-deals g c =
-    let lane_of : ℕ → ℕ = λ number. g.D.Dealing.lane_of c.args.self.now.dealing number (g.K.Receives.count c.args.to.now) in
-    let i = c.loop-dealt.invariant in
-    let unit = c.in-Some.peeked.unit in
-    let asked = c.ask.ensures.same in
-    let blocked_unit = c.in-Some.ensures.blocked_unit in
-    let none = sym (ap (λ o. o.blocked_unit) asked) ∙ blocked_unit in
-    let same = c.lane_for.ensures.same in
-    let next =
-    Next-peeked c.loop-dealt.self c.ask.new.self c.loop-dealt.units c.ask.new.units c.consume.new.self _ _ unit none (record { dealing = ap (λ o. o.dealing) asked; peers = ap (λ o. o.peers) asked; blocked_unit = blocked_unit; dealt = ap (λ o. o.dealt) asked }) (c.in_ok-ask.ensures.asked none) c.in-Some.ensures.peeks
-    c.consume.ensures.consumes c.consume.ensures.found c.consume.ensures.units c.consume.ensures.plan in
-    let alike = i.lanes in
-    let lane : lane_of c.in_ok-number.number ≡ c.in_ok-number.lane = (let e = ap (λ o. o.dealing) asked in let d = i.far.handles.dealing in let l = c.in_ok-number.ensures.lane in let n = c.lanes.ensures in cc) in
-    let below = g.met.D.Dealing.is_below c.args.self.now.dealing c.in_ok-number.number (g.K.Receives.count c.args.to.now) c.requires.lanes in
-    let spent = c.adds_up.ensures.spent lane_of c.args.to.now c.loop-dealt.to _ c.in_ok-number.lane (omega (arith, below, lane)) i.far.received in
-    DealsTo-blocked _ (c.adds_up.ensures.joined lane_of) _ c.loop-dealt.to c.has_room.new.self _ _ c.ask.new.self _ _ _ _ _ _ _ _ i.far unit c.in_ok-number.number next c.in_ok-number.ensures.numbers (ap (λ o. o.dealing) same) (ap (λ o. o.refused) same) lane_of _ (g.K.Receives.room c.loop-dealt.to) _ c.in_ok-number.lane (let t = c.loop-dealt-test.true in omega arith) _ refl c.in_ok-to_unit.ensures.copies (ap (λ o. o.dealt) same)
-    lane spent (c.if-not-has_room.ensures.looked lane_of) (c.if-not-has_room.ensures.full refl)
-
-pub loop-dealt-preserved-in-Some : goal.loop-dealt-preserved-in-Some
-loop-dealt-preserved-in-Some g c =
-    let lane_of : ℕ → ℕ = λ number. g.D.Dealing.lane_of c.args.self.now.dealing number (g.K.Receives.count c.args.to.now) in
-    let i = c.loop-dealt.invariant in
-    let unit = c.in-Some.peeked.unit in
-    let asked = c.ask.ensures.same in
-    let blocked_unit = c.in-Some.ensures.blocked_unit in
-    let none = sym (ap (λ o. o.blocked_unit) asked) ∙ blocked_unit in
-    let same = c.lane_for.ensures.same in
-    let next =
-    Next-peeked c.loop-dealt.self c.ask.new.self c.loop-dealt.units c.ask.new.units c.consume-in-Some.new.self _ _ unit none (record { dealing = ap (λ o. o.dealing) asked; peers = ap (λ o. o.peers) asked; blocked_unit = blocked_unit; dealt = ap (λ o. o.dealt) asked }) (c.in_ok-ask.ensures.asked none)
-    c.in-Some.ensures.peeks c.consume-in-Some.ensures.consumes c.consume-in-Some.ensures.found c.consume-in-Some.ensures.units c.consume-in-Some.ensures.plan in
-    let alike = i.lanes in
-    let lane : lane_of c.in_ok-number.number ≡ c.in_ok-number.lane = (let e = ap (λ o. o.dealing) asked in let d = i.far.handles.dealing in let l = c.in_ok-number.ensures.lane in let n = c.lanes.ensures in cc) in record {
-      count = c.consume-in-Some.ensures.plan.0 ∙ c.ask.ensures.reads.count ∙ i.count;
-      lanes = c.receive.ensures.lanes ∙ c.has_room.ensures.lanes ∙ i.lanes;
-      sound = c.in_ok-ask.ensures.reads.sound ∙ i.sound;
-      far = SoFar-more _ (c.adds_up.ensures.joined lane_of) _ c.loop-dealt.to c.receive.new.self _ _ c.ask.new.self _ _ _ _ _ _ _ _ i.far unit c.in_ok-number.number next c.in_ok-number.ensures.numbers (ap (λ o. o.dealing) same) (ap (λ o. o.refused) same) (ap (λ o. o.blocked_unit) same) (let n = ap (λ o. o.dealt) same in omega arith)
-          (c.adds_up.ensures.joined lane_of c.loop-dealt.to c.has_room.new.self c.receive.new.self [] (record { number = c.in_ok-number.number; unit = unit } ∷ []) (c.if-not-has_room.ensures.looked lane_of) (c.in_ok-receive.ensures.received lane_of lane));
-    }
-
--- ---- a unit that was kept
-
-pub returns-then-not-has_room-2-clause-reads : goal.returns-then-not-has_room-2-clause-reads
-returns-then-not-has_room-2-clause-reads g c =
-    record { count = c.ask.ensures.reads.count ∙ c.loop-dealt.invariant.count; sound = c.in_ok-ask.ensures.reads.sound ∙ c.loop-dealt.invariant.sound; cause = tt }
-
-pub returns-then-not-has_room-2-clause-deals : goal.returns-then-not-has_room-2-clause-deals
-returns-then-not-has_room-2-clause-deals g c =
-    let lane_of : ℕ → ℕ = λ number. g.D.Dealing.lane_of c.args.self.now.dealing number (g.K.Receives.count c.args.to.now) in
-    let i = c.loop-dealt.invariant in
-    let unit = c.in-Some-take.unit in
-    let asking = c.ask.ensures.same in
-    let blocked_unit = sym (ap (λ o. o.blocked_unit) asking) ∙ sym c.take.ensures.value ∙ c.in-Some-take.is in
-    let waits = rw blocked_unit at c.ask.ensures.waits in
-    let same = c.lane_for-in-loop-dealt.ensures.same in
-    let asked = without_unit c.ask.new.self in
-    let next = Next-blocked c.loop-dealt.self c.ask.new.self _ _ _ _ unit blocked_unit (ap (λ o. o.dealing) asking) (ap (λ o. o.peers) asking) (ap (λ o. o.dealt) asking) waits.0 waits.1 in
-    let alike = i.lanes in
-    let lane : lane_of c.in_ok-number-2.number ≡ c.in_ok-number-2.lane = (let e = ap (λ o. o.dealing) asking in let d = i.far.handles.dealing in let l = c.in_ok-number-2.ensures.lane in let n = c.lanes-in-loop-dealt.ensures in cc) in
-    let below = g.met.D.Dealing.is_below c.args.self.now.dealing c.in_ok-number-2.number (g.K.Receives.count c.args.to.now) c.requires.lanes in
-    let spent = c.adds_up.ensures.spent lane_of c.args.to.now c.loop-dealt.to _ c.in_ok-number-2.lane (omega (arith, below, lane)) i.far.received in
-    DealsTo-blocked _ (c.adds_up.ensures.joined lane_of) _ c.loop-dealt.to c.has_room-in-loop-dealt.new.self _ _ asked _ _ _ _ _ _ _ _ i.far unit c.in_ok-number-2.number next c.in_ok-number-2.ensures.numbers (ap (λ o. o.dealing) same) (ap (λ o. o.refused) same) lane_of _ (g.K.Receives.room c.loop-dealt.to) _ c.in_ok-number-2.lane (let t = c.loop-dealt-test.true in omega arith) unit refl refl (ap (λ o. o.dealt) same)
-    lane spent (c.if-not-has_room-2.ensures.looked lane_of) (c.if-not-has_room-2.ensures.full refl)
-
-pub loop-dealt-preserved : goal.loop-dealt-preserved
-loop-dealt-preserved g c =
-    let lane_of : ℕ → ℕ = λ number. g.D.Dealing.lane_of c.args.self.now.dealing number (g.K.Receives.count c.args.to.now) in
-    let i = c.loop-dealt.invariant in
-    let unit = c.in-Some-take.unit in
-    let asking = c.ask.ensures.same in
-    let blocked_unit = sym (ap (λ o. o.blocked_unit) asking) ∙ sym c.take.ensures.value ∙ c.in-Some-take.is in
-    let waits = rw blocked_unit at c.ask.ensures.waits in
-    let same = c.lane_for-in-loop-dealt.ensures.same in
-    let asked = without_unit c.ask.new.self in
-    let next = Next-blocked c.loop-dealt.self c.ask.new.self _ _ _ _ unit blocked_unit (ap (λ o. o.dealing) asking) (ap (λ o. o.peers) asking) (ap (λ o. o.dealt) asking) waits.0 waits.1 in
-    let alike = i.lanes in
-    let lane : lane_of c.in_ok-number-2.number ≡ c.in_ok-number-2.lane = (let e = ap (λ o. o.dealing) asking in let d = i.far.handles.dealing in let l = c.in_ok-number-2.ensures.lane in let n = c.lanes-in-loop-dealt.ensures in cc) in record {
-      count = c.ask.ensures.reads.count ∙ i.count;
-      lanes = c.receive-in-loop-dealt.ensures.lanes ∙ c.has_room-in-loop-dealt.ensures.lanes ∙ i.lanes;
-      sound = c.in_ok-ask.ensures.reads.sound ∙ i.sound;
-      far = SoFar-more _ (c.adds_up.ensures.joined lane_of) _ c.loop-dealt.to c.receive-in-loop-dealt.new.self _ _ asked _ _ _ _ _ _ _ _ i.far unit c.in_ok-number-2.number next c.in_ok-number-2.ensures.numbers (ap (λ o. o.dealing) same) (ap (λ o. o.refused) same) (ap (λ o. o.blocked_unit) same ∙ c.take.ensures.after) (let n = ap (λ o. o.dealt) same in omega arith)
-          (c.adds_up.ensures.joined lane_of c.loop-dealt.to c.has_room-in-loop-dealt.new.self c.receive-in-loop-dealt.new.self [] (record { number = c.in_ok-number-2.number; unit = unit } ∷ []) (c.if-not-has_room-2.ensures.looked lane_of) (rw c.as_ref.ensures at (c.in_ok-receive-2.ensures.received lane_of lane)));
-    }
+returns-clause-deals g c =
+    let none = c.loop-left-test.false in
+    let all : c.args.batch - c.loop-left.left ≡ c.args.batch = omega (arith, none) in
+    DealsTo-full _ _ _ c.args.batch c.args.to.now c.loop-left.to c.args.self.now c.loop-left.self _ _ _ _ (c.args.batch - c.loop-left.left) all c.loop-left.invariant.far
